@@ -1,0 +1,51 @@
+//! How many stripes a map has, and which stripe and bin a key belongs to.
+ghost use Rattle.std.specs.Prelude.{◌≡◌, ◌↔◌, IsSome, IfSome, IsTrue, ◌<◌, ◌^◌, ℕ};
+ghost use Rattle.java_hash.specs.Stripes.{is_stripe_count, stripe_of, bin_of};
+
+use crate::string_hash::{hash, spread};
+
+/// A number of stripes: a power of two from 1 to 256.
+#[derive(Clone, Copy)]
+pub struct StripeCount {
+    count: u16,
+    ghost allowed: { IsTrue (is_stripe_count count) },
+}
+
+impl StripeCount {
+    /// `None` where the number isn't allowed.
+    pub fn new(count: u16) -> Option<StripeCount>
+        ensures allowed { IsSome result ↔ IsTrue (is_stripe_count count) }
+        ensures value { IfSome result (λ stripes. stripes.count ≡ count) }
+    {
+        if matches!(count, 1 | 2 | 4 | 8 | 16 | 32 | 64 | 128 | 256) {
+            Some(StripeCount { count })
+        } else {
+            None
+        }
+    }
+
+    pub fn get(self) -> usize
+        ensures value { result ≡ self.count }
+        ensures allowed { IsTrue (is_stripe_count result) }
+    {
+        usize::from(self.count)
+    }
+}
+
+/// The stripe of the key `text`.
+#[tactic(auto, unfolding(crate::specs::Stripes::stripe_of))]
+pub fn stripe_of(text: &str, stripes: StripeCount) -> usize
+    ensures value { result ≡ stripe_of stripes.count text.now }
+    ensures within { result < stripes.count }
+{
+    spread(hash(text)) as usize & (stripes.get() - 1)
+}
+
+/// The bin of a spread in a stripe with `bins` bins.
+pub fn bin_of(spread: u32, stripes: StripeCount, bins: usize) -> usize
+    requires { (k : ℕ) × (bins ≡ 2 ^ k) }
+    ensures value { result ≡ bin_of stripes.count bins spread }
+    ensures within { result < bins }
+{
+    (spread as usize / stripes.get()) & (bins - 1)
+}

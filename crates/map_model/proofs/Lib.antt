@@ -1,0 +1,4 @@
+pub mod FoldLaws
+pub mod HistoryLaws
+pub mod MapLaws
+pub mod UnionLaws

@@ -1,0 +1,12 @@
+//! What is asked of the map and what it answers: keys, values, commands, reads, replies and refusals.
+#![tactic(auto)]
+
+pub mod commands;
+pub mod keys;
+pub mod refusals;
+pub mod texts;
+
+pub use commands::{Change, Command, Func, FuncError, Question, Read, Reply};
+pub use keys::Key;
+pub use refusals::Refusal;
+pub use texts::{Text, Value};

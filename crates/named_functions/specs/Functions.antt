@@ -1,0 +1,54 @@
+-- The table of the eight named functions of an old value, or absent, and an argument, or absent.
+use Rattle.std.specs.Prelude.{ℕ, ◌+◌, ◌≡◌, Bool, true, false, cond, Option, None, Some, Result, Ok, Err, List, ◌++◌, length, nat_le, ℤ, pos, ◌+ℤ◌, if◌then◌else◌}
+use Rattle.std.specs.Int.{int_max, int_min, int_wrap}
+use Rattle.std.specs.Ordering.{int_eq}
+use mir.Syntax.{w64}
+use Rattle.map_types.specs.declared.commands.Func.{Func}
+use Rattle.map_types.specs.declared.commands.Func.TheVariants.{Const, Drop, Keep, Sum, Max, Min, Concat, SumNonzero}
+use Rattle.map_types.specs.declared.commands.FuncError.{FuncError}
+use Rattle.map_types.specs.declared.commands.FuncError.TheVariants.{WrongKind, TooLong}
+use Rattle.map_types.specs.declared.texts.Value.{Value}
+use Rattle.map_types.specs.declared.texts.Value.TheVariants.{Int, Text}
+
+-- a function of kind Int: where old is absent, the argument stands for the combination; `keep` makes the result of a number
+abbrev pub on_numbers : (ℤ → ℤ → ℤ) → (ℤ → Option Value) → Option Value → Option Value → Result (Option Value) FuncError
+on_numbers combine keep None (Some (Int b)) = Ok (keep b)
+on_numbers combine keep (Some (Int a)) (Some (Int b)) = Ok (keep (combine a b))
+on_numbers combine keep old arg = Err WrongKind
+
+-- a text of at most 4,096 bytes
+abbrev pub bounded_text : List ℕ → Result (Option Value) FuncError
+bounded_text bytes = if nat_le (length bytes) 4096 then Ok (Some (Text bytes)) else Err TooLong
+
+abbrev pub on_texts : Option Value → Option Value → Result (Option Value) FuncError
+on_texts None (Some (Text b)) = Ok (Some (Text b))
+on_texts (Some (Text a)) (Some (Text b)) = bounded_text (a ++ b)
+on_texts old arg = Err WrongKind
+
+abbrev pub some_number : ℤ → Option Value
+some_number n = Some (Int n)
+
+abbrev pub nonzero_number : ℤ → Option Value
+nonzero_number n = if int_eq n (pos 0) then None else Some (Int n)
+
+-- the sum in 64 bits, which wraps
+abbrev pub wrapping_sum : ℤ → ℤ → ℤ
+wrapping_sum a b = int_wrap w64 (a +ℤ b)
+
+-- how a function of kind Int combines two numbers, and what becomes of the result
+abbrev pub combine_of : Func → ℤ → ℤ → ℤ
+combine_of Max a b = int_max a b
+combine_of Min a b = int_min a b
+combine_of f a b = wrapping_sum a b
+
+abbrev pub keep_of : Func → ℤ → Option Value
+keep_of SumNonzero n = nonzero_number n
+keep_of f n = some_number n
+
+-- what function f gives for the old value, or absent, and the argument, or absent
+abbrev pub apply : Func → Option Value → Option Value → Result (Option Value) FuncError
+apply Const old arg = Ok arg
+apply Drop old arg = Ok None
+apply Keep old arg = Ok old
+apply Concat old arg = on_texts old arg
+apply f old arg = on_numbers (combine_of f) (keep_of f) old arg

@@ -1,0 +1,6 @@
+//! The eight named functions of an old value and an argument.
+#![tactic(auto)]
+
+mod functions;
+
+pub use functions::{apply, copied};
