@@ -28,12 +28,12 @@ legal_change h before after c is = record {
   position_is = refl;
   from_first = omega arith;
   command = rw (past_first h.first (length before), is) (get_next before after c);
-  reply_is = ap (λ m. (step m c).reply) (sym (fold_to_front h before (c ∷ after) is))
+  reply_is = ap (λ m. (step m c).reply) (sym (fold_to_front h before (c ∷ after) is));
 }
 
 pub legal_read : (h : History) (before after : List Command) (r : Read) → h.commands ≡ before ++ after → IsLegalRead h (h.first + length before) r (answer (map_after h.opening before) r)
 legal_read h before after r is = record {
   from_first = omega arith;
   within = rw is (omega (arith, length-append before after));
-  reply_is = ap (λ m. answer m r) (sym (fold_to_front h before after is))
+  reply_is = ap (λ m. answer m r) (sym (fold_to_front h before after is));
 }

@@ -7,12 +7,10 @@ pub fn laws_of_parts()
     ensures steps { StepsStayInTheirPart }
     ensures answers { AnswersStayInTheirPart }
     ensures folds { PartsFoldAlone }
-{
-}
+{}
 
 /// A call is legal where it stands, with the answer of the map there.
 pub fn laws_of_histories()
     ensures changes { ChangesAreLegalInPlace }
     ensures reads { ReadsAreLegalInPlace }
-{
-}
+{}

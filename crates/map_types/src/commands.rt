@@ -142,7 +142,15 @@ mod tests {
     fn functions_by_number(rt: HostRuntime) {
         for number in 0..=255u8 {
             let known = Func::of(number).map(|func| func.number());
-            assert_eq!(rt; known, if number >= 1 && number <= 8 { Some(number) } else { None }, "{number}");
+            assert_eq!(rt;
+                known,
+                if number >= 1 && number <= 8 {
+                    Some(number)
+                } else {
+                    None
+                },
+                "{number}"
+            );
         }
     }
 }

@@ -123,7 +123,14 @@ mod tests {
         for (refusal, number, text) in [
             (Refusal::BadFrame, 6, "6 BadFrame"),
             (Refusal::Busy { stripe: 3 }, 8, "8 Busy 3"),
-            (Refusal::Damaged { file: 2, offset: 17 }, 12, "12 Damaged 2 17"),
+            (
+                Refusal::Damaged {
+                    file: 2,
+                    offset: 17,
+                },
+                12,
+                "12 Damaged 2 17",
+            ),
             (Refusal::SeatsSpent, 19, "19 SeatsSpent"),
         ] {
             assert_eq!(rt; refusal.number(), number);

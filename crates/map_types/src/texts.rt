@@ -124,7 +124,12 @@ mod tests {
         let longest = "v".repeat(alloc, 4096)?;
         let longer = "v".repeat(alloc, 4097)?;
         assert_eq!(rt; Text::new(alloc, longest.as_str())?.as_str().len(), 4096);
-        assert!(rt; matches!(Value::text(alloc, longer.as_str()), Err(Refusal::ValueTooLong)));
+        assert!(rt;
+            matches!(
+                Value::text(alloc, longer.as_str()),
+                Err(Refusal::ValueTooLong)
+            )
+        );
         let head = Text::new(alloc, "ab")?;
         let both = head.followed_by(alloc, &Text::new(alloc, "c")?)?;
         assert_eq!(rt; both.as_str(), "abc");

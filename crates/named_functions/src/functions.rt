@@ -41,12 +41,19 @@ pub fn apply(
     }
 }
 
-fn on_numbers(func: Func, old: Option<&Value>, arg: Option<&Value>) -> Result<Option<Value>, FuncError>
+fn on_numbers(
+    func: Func,
+    old: Option<&Value>,
+    arg: Option<&Value>,
+) -> Result<Option<Value>, FuncError>
     ensures { result ≡ functions.on_numbers (functions.combine_of func) (functions.keep_of func) (option_copied old.entry) (option_copied arg.entry) }
 {
     match (old, arg) {
         (None, Some(Value::Int(arg))) => Ok(kept(func, *arg)),
-        (Some(Value::Int(old)), Some(Value::Int(arg))) => Ok(kept(func, combined(func, *old, *arg))),
+        (Some(Value::Int(old)), Some(Value::Int(arg))) => Ok(kept(
+            func,
+            combined(func, *old, *arg),
+        )),
         _ => Err(FuncError::WrongKind),
     }
 }
@@ -91,7 +98,11 @@ fn on_texts(
     }
 }
 
-fn joined(alloc: Global, old: &Text, arg: &Text) -> Result<Result<Option<Value>, FuncError>, Refusal>
+fn joined(
+    alloc: Global,
+    old: &Text,
+    arg: &Text,
+) -> Result<Result<Option<Value>, FuncError>, Refusal>
     ensures ok { IfOk result (λ applied. applied ≡ functions.bounded_text (old.now ++ arg.now)) }
     ensures err { IfErr result (λ refusal. refusal ≡ Refusal.NoMemory) }
 {

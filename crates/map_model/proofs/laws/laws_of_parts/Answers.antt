@@ -8,5 +8,5 @@ returns c = record {
   union = union_of-parts_of;
   steps = λ n s m c. (step-part_of n s m c, step-part_of_other n s m c);
   answers = answer-part_of;
-  folds = part_of-map_after
+  folds = part_of-map_after;
 }
