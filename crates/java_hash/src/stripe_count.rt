@@ -7,8 +7,8 @@ use crate::string_hash::{hash, spread};
 /// A number of stripes: a power of two from 1 to 256.
 #[derive(Clone, Copy)]
 pub struct StripeCount {
-    count: u16,
-    ghost allowed: { IsTrue (is_stripe_count count) },
+    pub count: u16,
+    pub ghost allowed: { IsTrue (is_stripe_count count) },
 }
 
 impl StripeCount {

@@ -1,8 +1,7 @@
 -- A call is legal where it stands.
-use Rattle.std.proofs.Common.{◌≡◌, ℕ, ◌+◌, ◌-◌, ◌≤◌, List, [], ◌∷◌, ◌++◌, length, take, Option, Some, slice_get, refl, sym, ap, ◌∙◌, arith, length-append}
+use Rattle.std.proofs.Common.{◌≡◌, ℕ, ◌+◌, ◌-◌, List, [], ◌∷◌, ◌++◌, length, take, Some, slice_get, refl, sym, ap, arith, length-append}
 use Rattle.map_types.specs.declared.commands.Command.{Command}
 use Rattle.map_types.specs.declared.commands.Read.{Read}
-use Rattle.map_model.specs.Maps.{Map}
 use Rattle.map_model.specs.Steps.{step, answer, map_after}
 use Rattle.map_model.specs.Histories.{History, fold_to, IsLegalChange, IsLegalRead}
 

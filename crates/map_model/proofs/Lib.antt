@@ -1,3 +1,4 @@
+pub mod EntryLaws
 pub mod FoldLaws
 pub mod HistoryLaws
 pub mod MapLaws

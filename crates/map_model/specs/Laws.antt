@@ -1,6 +1,5 @@
 -- Laws of maps, their parts and histories.
-use Rattle.std.specs.Prelude.{◌≡◌, ℕ, ◌+◌, ◌<◌, true, false, List, [], ◌∷◌, ◌++◌, length}
-use Rattle.java_hash.specs.Stripes.{stripe_of}
+use Rattle.std.specs.Prelude.{◌≡◌, ℕ, ◌+◌, ◌<◌, true, false, List, ◌∷◌, ◌++◌, length}
 use Rattle.map_types.specs.declared.commands.Command.{Command}
 use Rattle.map_types.specs.declared.commands.Read.{Read}
 use Rattle.map_model.specs.Maps.{Map}
@@ -8,9 +7,9 @@ use Rattle.map_model.specs.Parts.{part_of, is_in_stripe, union_of, parts_of, com
 use Rattle.map_model.specs.Steps.{step, answer, map_after}
 use Rattle.map_model.specs.Histories.{History, IsLegalChange, IsLegalRead}
 
--- the union of the parts of all stripes is the map
+-- the union of the parts of all stripes, of which there is at least one, is the map
 abbrev pub PartsMakeTheMap : Type 0
-PartsMakeTheMap = (n : ℕ) (m : Map) → ((q : List ℕ) → stripe_of n q < n) → union_of (parts_of n m) ≡ m
+PartsMakeTheMap = (n : ℕ) (m : Map) → 0 < n → union_of (parts_of n m) ≡ m
 
 -- a step on a key of the stripe is the same step on the part, and leaves the parts of the other stripes
 abbrev pub StepsStayInTheirPart : Type 0

@@ -1,6 +1,5 @@
 -- What a change and a read do on a map: the methods of a `ConcurrentMap` of one thread.
-use Rattle.std.specs.Prelude.{◌≡◌, ℕ, Bool, true, false, cond, Option, None, Some, Result, Ok, Err, List, [], ◌∷◌, nat_eq, is_some, if◌then◌else◌}
-use Rattle.std.specs.Ordering.{int_eq}
+use Rattle.std.specs.Prelude.{Bool, false, Option, None, Some, Result, Ok, Err, List, [], ◌∷◌, is_some, if◌then◌else◌}
 use Rattle.std.specs.FinMap as finite
 use Rattle.map_types.specs.declared.commands.Change.{Change}
 use Rattle.map_types.specs.declared.commands.Change.TheVariants.{Put, PutIfAbsent, Remove, RemoveIf, Replace, ReplaceIf, Compute, ComputeIfAbsent, ComputeIfPresent, Merge}
@@ -12,20 +11,15 @@ use Rattle.map_types.specs.declared.commands.Reply.{Reply}
 use Rattle.map_types.specs.declared.commands.Reply.TheVariants.{Was, Now, Did, Fault}
 use Rattle.map_types.specs.declared.commands.FuncError.{FuncError}
 use Rattle.map_types.specs.declared.texts.Value.{Value}
-use Rattle.map_types.specs.declared.texts.Value.TheVariants.{Int, Text}
 use Rattle.map_types.specs.ValueEq.{value_eq}
 use Rattle.named_functions.specs.Functions.{apply}
+pub use Rattle.map_model.specs.declared.outcomes.Outcome.{Outcome}
 use Rattle.map_model.specs.Maps.{Map, assign}
 
 -- there is a value, and it equals v
 abbrev pub is_value : Option Value → Value → Bool
 is_value None v = false
 is_value (Some old) v = value_eq old v
-
--- the key's value after a change, or absent, and the reply
-pub record Outcome : Type 0 where
-  pub value : Option Value
-  pub reply : Reply
 
 -- a fault leaves the old value
 abbrev pub computed : Option Value → Result (Option Value) FuncError → Outcome

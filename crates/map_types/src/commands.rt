@@ -63,7 +63,7 @@ impl Func {
 }
 
 /// What a change does to its key; each is a method of Java 17's `ConcurrentMap`.
-#[derive(Clone, Debug, Drop)]
+#[derive(Clone, Debug, Drop, PartialEq, Eq)]
 pub enum Change {
     Put(Value),
     PutIfAbsent(Value),
@@ -80,14 +80,14 @@ pub enum Change {
 }
 
 /// A change of one key.
-#[derive(Clone, Debug, Drop)]
+#[derive(Clone, Debug, Drop, PartialEq, Eq)]
 pub struct Command {
     pub key: Key,
     pub change: Change,
 }
 
 /// What is asked of one key; each is a method of Java 17's `ConcurrentMap`.
-#[derive(Clone, Debug, Drop)]
+#[derive(Clone, Debug, Drop, PartialEq, Eq)]
 pub enum Question {
     Get,
     GetOrDefault(Value),
@@ -95,7 +95,7 @@ pub enum Question {
 }
 
 /// A question about one key.
-#[derive(Clone, Debug, Drop)]
+#[derive(Clone, Debug, Drop, PartialEq, Eq)]
 pub struct Read {
     pub key: Key,
     pub question: Question,
@@ -122,7 +122,7 @@ impl FuncError {
 }
 
 /// What a change or a read answers.
-#[derive(Clone, Debug, Drop)]
+#[derive(Clone, Debug, Drop, PartialEq, Eq)]
 pub enum Reply {
     /// The value before, or absent.
     Was(Option<Value>),

@@ -40,13 +40,12 @@ impl Key {
         ensures too_long { (result ≡ Err Refusal.KeyTooLong) ↔ (255 < length text.now) }
         ensures no_other { length text.now ≤ 255 → IfErr result (λ refusal. refusal ≡ Refusal.NoMemory) }
     {
-        if text.len() > 255 {
+        if text.len() > Key::MOST_BYTES {
             return Err(Refusal::KeyTooLong);
         }
-        match String::from_str(alloc, text) {
-            Ok(text) => Ok(Key { text }),
-            Err(_) => Err(Refusal::NoMemory),
-        }
+        Ok(Key {
+            text: String::from_str(alloc, text)?,
+        })
     }
 
     pub fn as_str(&self) -> &str

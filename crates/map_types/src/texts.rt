@@ -1,11 +1,12 @@
 //! Values: signed numbers of 64 bits, and texts of at most 4,096 bytes.
 ghost use Rattle.std.specs.Cmp.Lexicographic.{pointwise};
-ghost use Rattle.std.specs.String.{string_bytes};
+ghost use Rattle.std.specs.Cmp.Rules.{comparing};
+ghost use Rattle.std.proofs.Common.{rules};
 ghost use Rattle.map_types.specs.ValueEq.{value_eq};
 ghost use Rattle.std.specs.Prelude.{nat_eq, ◌++◌, ◌≡◌, ◌<◌, ◌≤◌, ◌↔◌, IfOk, IfErr, IsOk, IsTrue, length};
 
 use crate::refusals::Refusal;
-use std::alloc::{AllocError, Global};
+use std::alloc::Global;
 use std::marker::Model;
 
 /// A text of a value, which contracts see as its UTF-8 bytes.
@@ -37,13 +38,12 @@ impl Text {
         ensures too_long { (result ≡ Err Refusal.ValueTooLong) ↔ (4096 < length text.now) }
         ensures no_other { length text.now ≤ 4096 → IfErr result (λ refusal. refusal ≡ Refusal.NoMemory) }
     {
-        if text.len() > 4096 {
+        if text.len() > Text::MOST_BYTES {
             return Err(Refusal::ValueTooLong);
         }
-        match String::from_str(alloc, text) {
-            Ok(text) => Ok(Text { text }),
-            Err(_) => Err(Refusal::NoMemory),
-        }
+        Ok(Text {
+            text: String::from_str(alloc, text)?,
+        })
     }
 
     /// This text followed by `tail`, as Java's `String.concat`; the two have at most 4,096 bytes.
@@ -52,10 +52,9 @@ impl Text {
         ensures ok { IfOk result (λ text. text ≡ self.now ++ tail.now) }
         ensures err { IfErr result (λ refusal. refusal ≡ Refusal.NoMemory) }
     {
-        match joined(alloc, self.as_str(), tail.as_str()) {
-            Ok(text) => Ok(Text { text }),
-            Err(_) => Err(Refusal::NoMemory),
-        }
+        let mut text = String::from_str(alloc, self.as_str())?;
+        text.push_str(tail.as_str())?;
+        Ok(Text { text })
     }
 
     pub fn as_str(&self) -> &str
@@ -74,16 +73,22 @@ impl Text {
     }
 }
 
-fn joined(alloc: Global, head: &str, tail: &str) -> Result<String, AllocError>
-    ensures { IfOk result (λ text. string_bytes text ≡ head.now ++ tail.now) }
-{
-    let mut text = String::from_str(alloc, head)?;
-    text.push_str(tail)?;
-    Ok(text)
+impl PartialEq for Text {
+    ghost eq = { pointwise nat_eq };
+
+    ghost laws = { Prim.search (comparing, rules) };
+
+    fn eq(&self, other: &Text) -> bool {
+        self.is_same(other)
+    }
+}
+
+impl Eq for Text {
+    ghost laws = { Prim.search (comparing, rules) };
 }
 
 /// A value of the map.
-#[derive(Clone, Debug, Drop)]
+#[derive(Clone, Debug, Drop, PartialEq, Eq)]
 pub enum Value {
     Int(i64),
     Text(Text),

@@ -106,7 +106,7 @@ fn joined(
     ensures ok { IfOk result (λ applied. applied ≡ functions.bounded_text (old.now ++ arg.now)) }
     ensures err { IfErr result (λ refusal. refusal ≡ Refusal.NoMemory) }
 {
-    if old.as_str().len() + arg.as_str().len() > 4096 {
+    if old.as_str().len() + arg.as_str().len() > Text::MOST_BYTES {
         return Ok(Err(FuncError::TooLong));
     }
     Ok(Ok(Some(Value::Text(old.followed_by(alloc, arg)?))))

@@ -1,0 +1,5 @@
+mod KeyLaws
+mod DetachLaws
+mod PartLaws
+mod SortLaws
+mod PrepareLaws

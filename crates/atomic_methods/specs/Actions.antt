@@ -1,0 +1,23 @@
+-- What an action does to the map.
+use Rattle.std.specs.Prelude.{◌≡◌, ℕ, Bool, true, false, Option, None, Some, List}
+use Rattle.map_types.specs.declared.texts.Value.{Value}
+use Rattle.atomic_methods.specs.declared.parts.Action.{Action}
+use Rattle.atomic_methods.specs.declared.parts.Action.TheVariants.{Keep, Unmap, Replace, Insert}
+use Rattle.atomic_methods.specs.declared.plans.Effect.{Effect}
+use Rattle.atomic_methods.specs.declared.plans.Effect.TheVariants as effects
+
+abbrev pub change_of : Action → Option (List ℕ × Option Value)
+change_of Keep = None
+change_of (Unmap key) = Some (key, None)
+change_of (Replace key value) = Some (key, Some value)
+change_of (Insert node) = Some (node.value.key, Some node.value.value)
+
+abbrev pub is_in_place : Action → Bool
+is_in_place (Replace key value) = true
+is_in_place action = false
+
+-- the action carries the effect out at a key that is or isn't mapped
+abbrev pub Carries : List ℕ → Bool → Effect → Action → Type 0
+Carries key is_mapped effects.Keep action = change_of action ≡ None
+Carries key is_mapped effects.Unmap action = change_of action ≡ Some (key, None)
+Carries key is_mapped (effects.Store value) action = (change_of action ≡ Some (key, Some value)) × (is_in_place action ≡ is_mapped)

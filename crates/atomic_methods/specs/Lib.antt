@@ -1,0 +1,6 @@
+pub mod Chains
+pub mod PartState
+pub mod Prepared
+pub mod Plans
+pub mod Actions
+pub mod ReadyState

@@ -1,0 +1,12 @@
+//! One stripe's map, and what a change and a read do on it.
+#![tactic(auto)]
+
+mod chains;
+mod parts;
+mod plans;
+mod ready;
+#[cfg(test)]
+mod tests;
+
+pub use parts::{Part, Prepared};
+pub use ready::{Acted, Ready, Unready};

@@ -1,0 +1,18 @@
+//! The program `dchm`.
+#![tactic(auto)]
+
+use map_server::dchm;
+use std::process::ExitCode;
+use std::{env, io};
+
+fn main(rt: HostRuntime) -> io::Result<ExitCode> {
+    let mut words = Vec::new(rt.alloc());
+    for word in env::args(&rt)? {
+        words.push(word)?;
+    }
+    let mut input = rt.reader();
+    let mut output = io::writer(&rt);
+    let mut error = rt.stderr();
+    let status = dchm(rt.alloc(), &words, &mut input, &mut output, &mut error);
+    Ok(ExitCode::from(status))
+}

@@ -1,0 +1,5 @@
+pub mod Agreement
+pub mod Layout
+pub mod Methods
+pub mod Spelling
+pub mod Reading

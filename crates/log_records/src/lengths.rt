@@ -1,0 +1,53 @@
+//! How many bytes a record takes.
+ghost use Rattle.std.specs.Prelude.{◌≡◌, ◌≤◌, length, Some};
+ghost use Rattle.log_records.specs.Layout.{first_layout};
+ghost use Rattle.log_records.specs.Spelling.{value_bytes, argument_bytes, record_bytes};
+
+use crate::reading::{KEY_WIDTH, TEXT_WIDTH};
+use map_types::{Change, Command, Value};
+
+fn value_len(value: &Value) -> usize
+    ensures len { result ≡ length (value_bytes (Some value.now)) }
+    ensures bound { result ≤ 4099 }
+{
+    match value {
+        Value::Int(_) => 9,
+        Value::Text(text) => 1 + TEXT_WIDTH + text.as_str().len(),
+    }
+}
+
+fn argument_len(argument: &Option<Value>) -> usize
+    ensures len { result ≡ length (value_bytes argument.now) }
+    ensures bound { result ≤ 4099 }
+{
+    match argument {
+        None => 1,
+        Some(value) => value_len(value),
+    }
+}
+
+fn arguments_len(change: &Change) -> usize
+    ensures len { result ≡ length (argument_bytes change.now) }
+    ensures bound { result ≤ 8198 }
+{
+    match change {
+        Change::Put(value) => value_len(value),
+        Change::PutIfAbsent(value) => value_len(value),
+        Change::Remove => 0,
+        Change::RemoveIf(value) => value_len(value),
+        Change::Replace(value) => value_len(value),
+        Change::ReplaceIf { old, new } => value_len(old) + value_len(new),
+        Change::Compute(_, argument) => 1 + argument_len(argument),
+        Change::ComputeIfAbsent(_, argument) => 1 + argument_len(argument),
+        Change::ComputeIfPresent(_, argument) => 1 + argument_len(argument),
+        Change::Merge(_, value) => 1 + value_len(value),
+    }
+}
+
+/// How many bytes the record of a command takes.
+pub fn record_len(command: &Command) -> usize
+    ensures len { result ≡ length (record_bytes first_layout command.now) }
+    ensures bound { result ≤ 8455 }
+{
+    1 + KEY_WIDTH + command.key.as_str().len() + arguments_len(&command.change)
+}

@@ -1,0 +1,5 @@
+pub mod Streams
+pub mod Rows
+pub mod Parts
+pub mod Turns
+pub mod Connections

@@ -1,0 +1,22 @@
+use Rattle.std.proofs.Common.{◌≡◌, inl, refl}
+use Rattle.map_server.specs.Connection.{Connection}
+use Rattle.map_server.specs.Program.{Answered, empty_map}
+use Rattle.map_server.proofs.program.mem.Goals as goal
+
+pub returns-in-Ok-serve_connection : goal.returns-in-Ok-serve_connection
+returns-in-Ok-serve_connection g c =
+    inl (record {
+      after = c.serve_connection.new.calls;
+      result = c.serve_connection.result;
+      connection = rw c.in-Ok.ensures.empty at c.serve_connection.ensures;
+      status_is = rw c.in-Ok-serve_connection.is refl;
+    })
+
+pub returns : goal.returns
+returns g c =
+    inl (record {
+      after = c.serve_connection.new.calls;
+      result = c.serve_connection.result;
+      connection = rw c.in-Ok.ensures.empty at c.serve_connection.ensures;
+      status_is = rw c.in-Err.is refl;
+    })

@@ -1,0 +1,5 @@
+pub mod Dialogue
+pub mod Connection
+pub mod Progress
+pub mod Program
+pub mod Served

@@ -1,0 +1,11 @@
+mod Fronts
+mod Legal
+mod Contents
+mod Orders
+mod Knowing
+mod Slots
+mod Watching
+mod Taking
+mod Drawing
+mod Giving
+mod Starts

@@ -1,0 +1,5 @@
+use Rattle.plain_words.specs.Kept.{ArePlaced}
+use Rattle.plain_words.proofs.words.place_all.Given as goal
+
+abbrev pub invariant-loop-part : goal.invariant-loop-part
+invariant-loop-part l = ArePlaced l.yielded l.slots.items

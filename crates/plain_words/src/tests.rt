@@ -1,0 +1,92 @@
+//! Whole calls over plain words.
+ghost use Rattle.std.specs.Prelude.{◌≡◌};
+
+use crate::{At, PlainWords};
+use java_hash::StripeCount;
+use map_types::{Change, Command, Key, Question, Read, Refusal, Reply, Value};
+use std::alloc::Global;
+use std::process::Abort;
+use ticket_order::{Held, Purpose, Released, Steps, release, try_call, try_read};
+
+fn sixteen<R: Abort>(rt: &R) -> StripeCount {
+    StripeCount::new(16).expect(rt, "16 is a count of stripes")
+}
+
+fn put_one(alloc: Global) -> Result<Command, Refusal> {
+    Ok(Command {
+        key: Key::new(alloc, "k")?,
+        change: Change::Put(Value::Int(1)),
+    })
+}
+
+fn position_of(held: &Held) -> u64
+    ensures { result ≡ held.now.position }
+{
+    held.position().number()
+}
+
+fn number_now(reply: &Reply) -> Option<i64> {
+    match reply {
+        Reply::Now(Some(Value::Int(number))) => Some(*number),
+        _ => None,
+    }
+}
+
+#[test]
+fn one_pass_puts_and_reads(rt: HostRuntime) -> Result<(), Refusal> {
+    let alloc = rt.alloc();
+    let mut words = PlainWords::empty(alloc, sixteen(&rt), 0)?;
+    let mut at = At::new(&mut words, 0);
+    let changed = try_call(&mut at, alloc, put_one(alloc)?)?;
+    assert_eq!(rt; position_of(&changed), 1);
+    let get = Read {
+        key: Key::new(alloc, "k")?,
+        question: Question::Get,
+    };
+    let read = try_read(&mut at, get)?;
+    let position = position_of(&read);
+    assert!(rt; position == 1);
+    at.durable(position);
+    match release(&mut at, read) {
+        Released::Reply(position, reply) => {
+            assert_eq!(rt; position.number(), 1);
+            assert_eq!(rt; number_now(&reply), Some(1));
+        }
+        _ => assert!(rt; false, "the reply is durable"),
+    }
+    Ok(())
+}
+
+#[test]
+fn a_reply_waits_until_its_position_is_durable(rt: HostRuntime) -> Result<(), Refusal> {
+    let alloc = rt.alloc();
+    let mut words = PlainWords::empty(alloc, sixteen(&rt), 0)?;
+    let mut at = At::new(&mut words, 0);
+    let changed = try_call(&mut at, alloc, put_one(alloc)?)?;
+    assert!(rt; matches!(release(&mut at, changed), Released::NotYet(_)));
+    Ok(())
+}
+
+#[test]
+fn passes_share_the_words(rt: HostRuntime) -> Result<(), Refusal> {
+    let alloc = rt.alloc();
+    let mut words = PlainWords::empty(alloc, sixteen(&rt), 2)?;
+    assert_eq!(rt; words.stripes().get(), 16);
+    let mut first = At::new(&mut words, 0);
+    let Some(content) = first.take(3) else {
+        assert!(rt; false, "the stripe is free");
+        return Ok(());
+    };
+    let mut second = At::new(&mut words, 1);
+    assert!(rt; second.take(3).is_none());
+    assert!(rt; second.alive());
+    let mut first = At::new(&mut words, 0);
+    first.give(3, content, Purpose::Nothing);
+    let mut keeper = At::new(&mut words, 2);
+    assert!(rt; keeper.take(3).is_some());
+    keeper.fail();
+    let mut second = At::new(&mut words, 1);
+    assert!(rt; !second.alive());
+    words.keeps_one_history();
+    Ok(())
+}

@@ -1,0 +1,219 @@
+//! The words and the stripes, and the steps of a pass on them.
+ghost use Rattle.std.specs.Prelude.{◌≡◌, ◌<◌, None, true, length, IfOk, IfErr};
+ghost use Rattle.std.specs.FinMap as finite;
+ghost use Rattle.ticket_order.specs.declared.record.StepMade.TheVariants as made;
+ghost use Rattle.ticket_order.specs.StepRules.{Takes, take_made, Looks, MayDraw, Draws, MayGive, Gives, MayPublish, Publishes, Sees, Fails, Lives};
+ghost use Rattle.plain_words.specs.Turns.{record_of, started, at_start};
+ghost use Rattle.plain_words.specs.OneHistory.{IsOneHistory, HoldApart, AreParts};
+ghost use Rattle.plain_words.specs.Moves.{BookMoves};
+ghost use Rattle.plain_words.specs.Kept.{ArePlaced, AreEmpty};
+
+use crate::chronicle::{Chronicle, Turn};
+use crate::slot::Slot;
+use atomic_methods::Part;
+use java_hash::StripeCount;
+use map_types::{Command, Refusal};
+use std::alloc::Global;
+use std::marker::Model;
+use std::mem;
+use ticket_order::{Purpose, Stripe, Ticket};
+
+/// The ticket count, the durable count, the failure word, and the stripes, each at home or held by
+/// a pass. Contracts see their book.
+#[derive(Drop)]
+pub struct PlainWords {
+    stripes: StripeCount,
+    tickets: u64,
+    durable: u64,
+    failed: bool,
+    slots: Vec<Slot>,
+    chronicle: Chronicle,
+}
+
+impl Model for PlainWords {
+    ghost use Rattle.plain_words.specs.contracts.book.Book as book_type;
+    ghost use Rattle.plain_words.specs.declared.book.Book.{Book};
+    ghost use Rattle.plain_words.specs.Kept.{IsKept};
+
+    ghost Value = { Book };
+
+    ghost coded = { book_type.the_row.coded };
+
+    ghost view = { λ words. words.chronicle.book };
+
+    ghost invariant = { λ words. IsKept words.stripes.count words.tickets words.durable words.failed words.slots.items words.chronicle.book };
+}
+
+// The stripes with these parts, at home.
+fn place_all(alloc: Global, parts: Vec<Part>) -> Result<Vec<Slot>, Refusal>
+    ensures ok { IfOk result (λ slots. ArePlaced parts.items slots.items) }
+    ensures err { IfErr result (λ refusal. refusal ≡ Refusal.NoMemory) }
+{
+    let mut slots = Vec::new(alloc);
+    for part in parts {
+        slots.push(Slot::Home(Stripe::new(alloc, part)))?;
+    }
+    Ok(slots)
+}
+
+fn empty_parts(alloc: Global, stripes: StripeCount) -> Result<Vec<Part>, Refusal>
+    ensures count { IfOk result (λ parts. length parts.items ≡ stripes.count) }
+    ensures empty { IfOk result (λ parts. AreEmpty parts.items) }
+    ensures err { IfErr result (λ refusal. refusal ≡ Refusal.NoMemory) }
+{
+    let mut parts = Vec::new(alloc);
+    for _stripe in 0..stripes.get() {
+        parts.push(Part::new(stripes))?;
+    }
+    Ok(parts)
+}
+
+impl PlainWords {
+    /// Words that begin with the first `first` changes made, known by the map that the parts make;
+    /// part s has keys of stripe s alone. The passes are numbered: those of the workers from 0 on,
+    /// and then the keeper's.
+    pub fn new(
+        alloc: Global,
+        stripes: StripeCount,
+        parts: Vec<Part>,
+        first: u64,
+        workers: u16,
+    ) -> Result<PlainWords, Refusal>
+        requires count { length parts.items ≡ stripes.count }
+        requires parts { AreParts stripes.count parts.items }
+        ensures ok { IfOk result (λ words. words ≡ at_start first parts.items workers) }
+        ensures err { IfErr result (λ refusal. refusal ≡ Refusal.NoMemory) }
+    {
+        let chronicle = Chronicle::new(first, &parts, workers);
+        let slots = place_all(alloc, parts)?;
+        Ok(PlainWords {
+            stripes,
+            tickets: first,
+            durable: first,
+            failed: false,
+            slots,
+            chronicle,
+        })
+    }
+
+    /// Words with an empty map and no change made.
+    pub fn empty(alloc: Global, stripes: StripeCount, workers: u16) -> Result<PlainWords, Refusal>
+        ensures ok { IfOk result (λ words. words ≡ started (record { first = 0; map = finite.empty }) stripes.count workers) }
+        ensures err { IfErr result (λ refusal. refusal ≡ Refusal.NoMemory) }
+    {
+        let parts = empty_parts(alloc, stripes)?;
+        PlainWords::new(alloc, stripes, parts, 0, workers)
+    }
+
+    /// A law: between any two steps there is one history, and no two passes hold one stripe.
+    pub fn keeps_one_history(&self)
+        ensures one { IsOneHistory self.now }
+        ensures apart { HoldApart self.now }
+    {
+        let _ = &self.stripes;
+    }
+
+    pub fn stripes(&self) -> StripeCount
+        ensures { result.count ≡ self.now.stripes }
+    {
+        self.stripes
+    }
+
+    pub(crate) fn take(&mut self, pass: usize, stripe: usize) -> Option<Stripe>
+        requires pass { pass < length self.old.passes }
+        requires within { stripe < self.old.stripes }
+        requires empty_handed { (record_of pass self.old).holding ≡ None }
+        ensures step { Takes self.old.stripes (record_of pass self.old) stripe result (record_of pass self.new) }
+        ensures moved { BookMoves pass (take_made stripe result) self.old self.new }
+    {
+        let place = &mut self.slots[stripe];
+        match mem::replace(place, Slot::HeldBy(pass)) {
+            Slot::Home(content) => {
+                self.chronicle.note(
+                    pass,
+                    &Turn::Took {
+                        stripe,
+                        content: &content,
+                    },
+                );
+                Some(content)
+            }
+            Slot::HeldBy(holder) => {
+                *place = Slot::HeldBy(holder);
+                self.chronicle.note(pass, &Turn::FoundHeld { stripe });
+                None
+            }
+        }
+    }
+
+    pub(crate) fn give(&mut self, pass: usize, stripe: usize, content: Stripe, purpose: &Purpose)
+        requires pass { pass < length self.old.passes }
+        requires fits { MayGive self.old.stripes (record_of pass self.old) stripe content purpose.now }
+        ensures step { Gives self.old.stripes purpose.now (record_of pass self.old) (record_of pass self.new) }
+        ensures moved { BookMoves pass (made.Gave stripe) self.old self.new }
+    {
+        self.chronicle.note(pass, &Turn::Gave { purpose });
+        self.slots[stripe] = Slot::Home(content);
+    }
+
+    pub(crate) fn ticket(&mut self, pass: usize, command: &Command) -> Ticket
+        requires pass { pass < length self.old.passes }
+        requires fits { MayDraw self.old.stripes (record_of pass self.old) command.now }
+        ensures step { Draws (record_of pass self.old) command.now result (record_of pass self.new) }
+        ensures moved { BookMoves pass (made.Drew result) self.old self.new }
+    {
+        let ticket = Ticket::new(self.tickets);
+        self.chronicle.note(pass, &Turn::Drew { command });
+        self.tickets += 1;
+        ticket
+    }
+
+    pub(crate) fn look(&mut self, pass: usize) -> u64
+        requires pass { pass < length self.old.passes }
+        ensures step { Looks (record_of pass self.old) result (record_of pass self.new) }
+        ensures moved { BookMoves pass (made.Looked result) self.old self.new }
+    {
+        let count = self.tickets;
+        self.chronicle.note(pass, &Turn::Looked);
+        count
+    }
+
+    pub(crate) fn durable(&mut self, pass: usize, number: u64)
+        requires pass { pass < length self.old.passes }
+        requires fits { MayPublish (record_of pass self.old) number }
+        ensures step { Publishes (record_of pass self.old) number (record_of pass self.new) }
+        ensures moved { BookMoves pass (made.Published number) self.old self.new }
+    {
+        self.chronicle.note(pass, &Turn::Published { number });
+        self.durable = self.durable.max(number);
+    }
+
+    pub(crate) fn see(&mut self, pass: usize) -> u64
+        requires pass { pass < length self.old.passes }
+        ensures step { Sees (record_of pass self.old) result (record_of pass self.new) }
+        ensures moved { BookMoves pass (made.Saw result) self.old self.new }
+    {
+        let durable = self.durable;
+        self.chronicle.note(pass, &Turn::Saw);
+        durable
+    }
+
+    pub(crate) fn fail(&mut self, pass: usize)
+        requires pass { pass < length self.old.passes }
+        requires by_keeper { (record_of pass self.old).keeper ≡ true }
+        ensures step { Fails (record_of pass self.old) (record_of pass self.new) }
+        ensures moved { BookMoves pass made.Failed self.old self.new }
+    {
+        self.chronicle.note(pass, &Turn::Failed);
+        self.failed = true;
+    }
+
+    pub(crate) fn alive(&mut self, pass: usize) -> bool
+        requires pass { pass < length self.old.passes }
+        ensures step { Lives (record_of pass self.old) result (record_of pass self.new) }
+        ensures moved { BookMoves pass (made.FoundAlive result) self.old self.new }
+    {
+        self.chronicle.note(pass, &Turn::FoundAlive);
+        !self.failed
+    }
+}

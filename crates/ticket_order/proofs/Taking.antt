@@ -1,0 +1,116 @@
+-- How each step of a sweep and of a capture leads from one standing to the next.
+use Rattle.std.proofs.Common.{◌≡◌, ℕ, ◌+◌, ◌^◌, ◌<◌, ◌≤◌, Bool, true, false, List, [], ◌∷◌, ◌++◌, Option, Some, None, length, append-nil, refl, sym, ap, ◌∙◌, subst, arith}
+use Rattle.std.specs.FinMap as finite
+use Rattle.map_types.specs.declared.commands.Command.{Command}
+use Rattle.map_types.specs.declared.refusals.Refusal.{Refusal}
+use Rattle.map_types.specs.declared.refusals.Refusal.TheVariants as refusal
+use Rattle.map_model.specs.Maps.{Map}
+use Rattle.ticket_order.specs.declared.stripe.Stripe.{Stripe}
+use Rattle.ticket_order.specs.declared.walk.Taken.{Taken}
+use Rattle.ticket_order.specs.declared.capture_walk.Captured.{Captured}
+use Rattle.ticket_order.specs.declared.record.Purpose.TheVariants.{Nothing, Sweep, Capture}
+use Rattle.ticket_order.specs.declared.record.Section.{Section}
+use Rattle.ticket_order.specs.declared.record.Record.{Record}
+use Rattle.ticket_order.specs.Records.{reach, taking, looking, giving, sections_for}
+use Rattle.ticket_order.specs.Legality.{history_of, IsLegalSection}
+use Rattle.ticket_order.specs.StepRules.{Looks, Gives, MayGive, AllLegalSections}
+use Rattle.ticket_order.specs.Calls.{CapturesStripe, HasTaken, HasLookedAt, HasTooMany, GivesBack}
+use Rattle.ticket_order.specs.Walks.{Task, ToSweep, ToCapture, Refuses, HasContent, TookContent, HasSwept, HasCopied, IsRefusing}
+
+pub may_sweep : (n : ℕ) (b p : Record) (task : Task) (t : Taken) (x : Stripe) → HasSwept n b task t p → x.part.map ≡ t.content.part.map → x.outbox.items ≡ [] → MayGive n p t.stripe x Sweep
+may_sweep n b p task t x k part outbox = record {
+  held = record { stripe = t.stripe; part = t.content.part.map; outbox = t.content.outbox.items; has_drawn = false; looked = None };
+  holding = ap (λ (z : Record). z.holding) k.took.is;
+  stripe_is = refl;
+  part_is = part;
+  outbox_is = outbox;
+  suits = (ap (λ (z : Record). z.keeper) k.took.is ∙ k.keeper, refl);
+}
+
+pub swept_back : (n : ℕ) (b p : Record) (task : Task) (t : Taken) → HasSwept n b task t p → IsRefusing n b task t refusal.NoMemory p
+swept_back n b p task t k = record {
+  content = record {
+    held = record { stripe = t.stripe; part = t.content.part.map; outbox = t.content.outbox.items; has_drawn = false; looked = None };
+    holding = ap (λ (z : Record). z.holding) k.took.is;
+    stripe_is = refl;
+    part_is = refl;
+    outbox_is = refl;
+  };
+  refused = subst (λ z. Refuses n b z refusal.NoMemory (giving Nothing p)) (sym k.task_is) (record {
+    holder = p;
+    before = record { part = t.content.part.map; outbox = t.content.outbox.items; taken = k.took.between; is = k.took.is };
+    is = refl;
+    same_calls = append-nil p.calls ∙ ap (λ (z : Record). z.calls) k.took.is;
+  });
+}
+
+-- since b: TAKE of this stripe, which had this content, and LOOK
+pub record Viewed (b : Record) (t : Taken) (p : Record) : Type 0 where
+  pub taken : List Command
+  pub looked : List Command
+  pub is : p ≡ looking (taking b t.stripe t.content.part.map t.content.outbox.items taken) looked
+
+pub viewed : (b p w : Record) (q : ℕ) (t : Taken) → TookContent b t p → Looks p q w → Viewed b t w
+viewed b p w q t k l = record { taken = k.taken; looked = l.between; is = l.is ∙ ap (λ (z : Record). looking z l.between) k.is }
+
+content_viewed : (b p : Record) (t : Taken) → Viewed b t p → HasContent p t
+content_viewed b p t k = record {
+  held = record { stripe = t.stripe; part = t.content.part.map; outbox = t.content.outbox.items; has_drawn = false; looked = Some (b.opening.first + length ((b.seen ++ k.taken) ++ k.looked)) };
+  holding = ap (λ (z : Record). z.holding) k.is;
+  stripe_is = refl;
+  part_is = refl;
+  outbox_is = refl;
+}
+
+looked_at : (b p : Record) (t : Taken) → Viewed b t p → HasLookedAt b t.stripe p
+looked_at b p t k = record { part = t.content.part.map; outbox = t.content.outbox.items; taken = k.taken; looked = k.looked; is = k.is }
+
+same_calls : (b p : Record) (t : Taken) → Viewed b t p → (giving Nothing p).calls ≡ b.calls
+same_calls b p t k = append-nil p.calls ∙ ap (λ (z : Record). z.calls) k.is
+
+pub capture_starved : (n : ℕ) (b p : Record) (task : Task) (t : Taken) (e : Refusal) → task ≡ ToCapture t.stripe → Viewed b t p → e ≡ refusal.NoMemory → IsRefusing n b task t e p
+capture_starved n b p task t e j k starved = record {
+  content = content_viewed b p t k;
+  refused = subst (λ z. Refuses n b task z (giving Nothing p)) (sym starved) (subst (λ z. Refuses n b z refusal.NoMemory (giving Nothing p)) (sym j) (record { holder = p; before = looked_at b p t k; is = refl; same_calls = same_calls b p t k }));
+}
+
+pub capture_full : (n : ℕ) (b p : Record) (task : Task) (t : Taken) → task ≡ ToCapture t.stripe → Viewed b t p → 2 ^ 32 ≤ length (finite.entries t.content.part.map) → IsRefusing n b task t refusal.LogFull p
+unfolding looked_at
+capture_full n b p task t j k many = record {
+  content = content_viewed b p t k;
+  refused = subst (λ z. Refuses n b z refusal.LogFull (giving Nothing p)) (sym j) (record { holder = p; before = record { at = looked_at b p t k; many = many }; is = refl; same_calls = same_calls b p t k });
+}
+
+pub may_capture : (n : ℕ) (b p : Record) (t : Taken) (z : Captured) → HasCopied b t z p → MayGive n p t.stripe t.content Capture
+may_capture n b p t z k =
+    let q : ℕ = b.opening.first + length ((b.seen ++ k.taken) ++ k.looked) in
+    record {
+      held = record { stripe = t.stripe; part = t.content.part.map; outbox = t.content.outbox.items; has_drawn = false; looked = Some q };
+      holding = ap (λ (y : Record). y.holding) k.is;
+      stripe_is = refl;
+      part_is = refl;
+      outbox_is = refl;
+      suits = (q, refl);
+    }
+
+section_at : ℕ → ℕ → Map → Section
+section_at i q m = record { stripe = i; mark = q; part = m }
+
+pub captured_stripe : (n : ℕ) (b p w : Record) (t : Taken) (z : Captured) → HasCopied b t z p → Gives n Capture p w → CapturesStripe n b t.stripe z.mark z.entries.items w
+unfolding section_at
+captured_stripe n b p w t z k g =
+    let number : ℕ = b.opening.first + length ((b.seen ++ k.taken) ++ k.looked) in
+    let mark : z.mark ≡ number = k.mark_is ∙ ap reach k.is in
+    let kept : AllLegalSections n p (section_at t.stripe number t.content.part.map ∷ []) = subst (λ held. AllLegalSections n p (sections_for Capture held)) (ap (λ (y : Record). y.holding) k.is) g.sections in
+    let there : IsLegalSection n (history_of p) (section_at t.stripe z.mark t.content.part.map) = subst (λ q. IsLegalSection n (history_of p) (section_at t.stripe q t.content.part.map)) (sym mark) kept.0 in
+    record {
+      part = t.content.part.map;
+      outbox = t.content.outbox.items;
+      taken = k.taken;
+      looked = k.looked;
+      is = g.is ∙ ap (giving Capture) k.is;
+      mark_is = k.mark_is ∙ sym (ap reach g.is);
+      entries_are = k.entries_are;
+      few = k.few;
+      legal = subst (λ (y : Record). IsLegalSection n (history_of y) (section_at t.stripe z.mark t.content.part.map)) (sym g.is) there;
+    }

@@ -1,0 +1,175 @@
+-- What a whole call leaves of the record of its pass.
+use Rattle.std.specs.Prelude.{◌≡◌, ℕ, ◌+◌, ◌^◌, ◌<◌, ◌≤◌, ◌⊎◌, List, [], ◌∷◌, ◌++◌, length, Option, Some, None, Bool, true, false}
+use Rattle.std.specs.FinMap as finite
+use Rattle.java_hash.specs.Stripes.{stripe_of}
+use Rattle.map_types.specs.declared.texts.Value.{Value}
+use Rattle.map_types.specs.declared.commands.Command.{Command}
+use Rattle.map_types.specs.declared.commands.Read.{Read}
+use Rattle.map_types.specs.declared.commands.Reply as reply_type
+use Rattle.map_types.specs.declared.refusals.Refusal.{Refusal}
+use Rattle.map_types.specs.declared.refusals.Refusal.TheVariants.{Busy, NoMemory, TicketsSpent, LogFull}
+use Rattle.map_types.specs.declared.refusals.Refusal.TheVariants as refusal_type
+use Rattle.map_model.specs.Maps.{Map}
+use Rattle.map_model.specs.Histories.{IsLegalChange, IsLegalRead}
+use Rattle.ticket_order.specs.declared.stripe.Entry.{Entry}
+use Rattle.ticket_order.specs.declared.held.Held.{Held}
+use Rattle.ticket_order.specs.declared.held.Released.{Released}
+use Rattle.ticket_order.specs.declared.held.Released.TheVariants as released
+use Rattle.ticket_order.specs.declared.record.Purpose.TheVariants.{Nothing, Answer, Sweep, Capture}
+use Rattle.ticket_order.specs.declared.record.StepMade.TheVariants.{Took, FoundHeld, Gave, Drew, Looked, Published, Saw, Failed, FoundAlive}
+use Rattle.ticket_order.specs.declared.record.Asked.TheVariants.{Changing, Reading}
+use Rattle.ticket_order.specs.declared.record.Section.{Section}
+use Rattle.ticket_order.specs.declared.record.Record.{Record}
+use Rattle.ticket_order.specs.Records.{ticket_limit, call, reach, past, missing, taking, looking, drawing, giving, living}
+use Rattle.ticket_order.specs.Legality.{history_of, IsLegalSection}
+use Rattle.ticket_order.specs.StepRules.{Rises, Collects, Sees, Lives}
+
+-- the record after TAKE of stripe i with this content, ALIVE that says yes, and LOOK
+abbrev pub walked : Record → ℕ → Map → List Entry → List Command → List Command → Record
+walked v i m es a b = looking (living (taking v i m es a) true) b
+
+-- TAKE, ALIVE, LOOK, TICKET, GIVE: the change is made. The record grew by this call alone, its position is past all that the pass had seen, and it is legal there.
+pub record MakesCall (n : ℕ) (v : Record) (c : Command) (position : ℕ) (reply : reply_type.Reply) (w : Record) : Type 0 where
+  pub part : Map
+  pub outbox : List Entry
+  pub taken : List Command
+  pub looked : List Command
+  pub drawn : List Command
+  pub below : reach (walked v (stripe_of n c.key) part outbox taken looked) < ticket_limit
+  pub is : w ≡ giving Nothing (drawing (walked v (stripe_of n c.key) part outbox taken looked) drawn c)
+  pub position_is : position ≡ reach w
+  pub grew : w.calls ≡ v.calls ++ call position (Changing c) reply ∷ []
+  pub later : reach v < position
+  pub legal : IsLegalChange (history_of w) position c reply
+
+-- TAKE, ALIVE, LOOK, GIVE: the read is made at the count that its LOOK found.
+pub record MakesRead (n : ℕ) (v : Record) (r : Read) (position : ℕ) (reply : reply_type.Reply) (w : Record) : Type 0 where
+  pub part : Map
+  pub outbox : List Entry
+  pub taken : List Command
+  pub looked : List Command
+  pub is : w ≡ giving (Answer r) (walked v (stripe_of n r.key) part outbox taken looked)
+  pub position_is : position ≡ reach w
+  pub grew : w.calls ≡ v.calls ++ call position (Reading r) reply ∷ []
+  pub later : reach v ≤ position
+  pub legal : IsLegalRead (history_of w) position r reply
+
+-- TAKE, and ALIVE that says no
+pub record FindsFailure (v : Record) (i : ℕ) (w : Record) : Type 0 where
+  pub part : Map
+  pub outbox : List Entry
+  pub taken : List Command
+  pub is : w ≡ living (taking v i part outbox taken) false
+
+-- TAKE, ALIVE and LOOK
+pub record LooksAround (v : Record) (i : ℕ) (w : Record) : Type 0 where
+  pub part : Map
+  pub outbox : List Entry
+  pub taken : List Command
+  pub looked : List Command
+  pub is : w ≡ walked v i part outbox taken looked
+
+-- the stripe was given back as it was taken, and no call was added
+pub record GivesBack (v : Record) (Before : Record → Type 0) (w : Record) : Type 0 where
+  pub holder : Record
+  pub before : Before holder
+  pub is : w ≡ giving Nothing holder
+  pub same_calls : w.calls ≡ v.calls
+
+-- what a refused change on stripe i leaves: no call is added
+abbrev pub RefusesChange : Record → ℕ → Refusal → Record → Type 0
+RefusesChange v i (Busy j) w = (j ≡ i) × (w ≡ missing v i)
+RefusesChange v i refusal_type.Failed w = GivesBack v (FindsFailure v i) w
+RefusesChange v i TicketsSpent w = GivesBack v (LooksAround v i) w × (ticket_limit ≤ reach w)
+RefusesChange v i NoMemory w = GivesBack v (LooksAround v i) w × (reach w < ticket_limit)
+RefusesChange v i other w = ⊥
+
+-- what a refused read on stripe i leaves
+abbrev pub RefusesRead : Record → ℕ → Refusal → Record → Type 0
+RefusesRead v i (Busy j) w = (j ≡ i) × (w ≡ missing v i)
+RefusesRead v i refusal_type.Failed w = GivesBack v (FindsFailure v i) w
+RefusesRead v i NoMemory w = GivesBack v (LooksAround v i) w
+RefusesRead v i other w = ⊥
+
+-- a SEE reached the position
+pub record Reaches (p : ℕ) (v w : Record) : Type 0 where
+  pub durable : ℕ
+  pub sees : Sees v durable w
+  pub reached : p ≤ durable
+
+-- a SEE was below the position
+pub record Misses (p : ℕ) (v w : Record) : Type 0 where
+  pub durable : ℕ
+  pub sees : Sees v durable w
+  pub missed : durable < p
+
+-- a SEE was below the position, and an ALIVE said this
+pub record MissesAlive (p : ℕ) (is_alive : Bool) (v w : Record) : Type 0 where
+  pub between : Record
+  pub misses : Misses p v between
+  pub lives : Lives between is_alive w
+
+-- a SEE was below the position, an ALIVE said no, and a second SEE did this
+pub record SeesAgain (p : ℕ) (v : Record) (Second : Record → Record → Type 0) (w : Record) : Type 0 where
+  pub between : Record
+  pub first : MissesAlive p false v between
+  pub second : Second between w
+
+-- what a release of this position and reply leaves, by its answer
+abbrev pub Releases : ℕ → reply_type.Reply → Record → Released → Record → Type 0
+Releases p x v (released.Reply q y) w = (q ≡ p) × (y ≡ x) × (Reaches p v w ⊎ SeesAgain p v (Reaches p) w)
+Releases p x v (released.NotYet h) w = (h.position ≡ p) × (h.reply ≡ x) × MissesAlive p true v w
+Releases p x v released.Failed w = SeesAgain p v (Misses p) w
+
+-- TAKE, GIVE: a sweep of stripe i took its outbox, which are the entries
+pub record SweepsStripe (n : ℕ) (v : Record) (i : ℕ) (entries : List Entry) (w : Record) : Type 0 where
+  pub part : Map
+  pub between : List Command
+  pub is : w ≡ giving Sweep (taking v i part entries between)
+  pub rises : Rises v (past entries) w
+  pub collects : Collects n i v entries w
+
+-- TAKE
+pub record HasTaken (v : Record) (i : ℕ) (w : Record) : Type 0 where
+  pub part : Map
+  pub outbox : List Entry
+  pub taken : List Command
+  pub is : w ≡ taking v i part outbox taken
+
+-- what a refused sweep of stripe i leaves
+abbrev pub RefusesSweep : Record → ℕ → Refusal → Record → Type 0
+RefusesSweep v i (Busy j) w = (j ≡ i) × (w ≡ missing v i)
+RefusesSweep v i NoMemory w = GivesBack v (HasTaken v i) w
+RefusesSweep v i other w = ⊥
+
+-- TAKE, LOOK, GIVE: a capture of stripe i took its part at the mark
+pub record CapturesStripe (n : ℕ) (v : Record) (i : ℕ) (mark : ℕ) (entries : List (List ℕ × Value)) (w : Record) : Type 0 where
+  pub part : Map
+  pub outbox : List Entry
+  pub taken : List Command
+  pub looked : List Command
+  pub is : w ≡ giving Capture (looking (taking v i part outbox taken) looked)
+  pub mark_is : mark ≡ reach w
+  pub entries_are : entries ≡ finite.entries part
+  pub few : length entries < 2 ^ 32
+  pub legal : IsLegalSection n (history_of w) (record { stripe = i; mark = mark; part = part })
+
+-- TAKE, LOOK
+pub record HasLookedAt (v : Record) (i : ℕ) (w : Record) : Type 0 where
+  pub part : Map
+  pub outbox : List Entry
+  pub taken : List Command
+  pub looked : List Command
+  pub is : w ≡ looking (taking v i part outbox taken) looked
+
+-- TAKE, LOOK: the part has too many entries for a section
+pub record HasTooMany (v : Record) (i : ℕ) (w : Record) : Type 0 where
+  pub at : HasLookedAt v i w
+  pub many : 2 ^ 32 ≤ length (finite.entries at.part)
+
+-- what a refused capture of stripe i leaves
+abbrev pub RefusesCapture : Record → ℕ → Refusal → Record → Type 0
+RefusesCapture v i (Busy j) w = (j ≡ i) × (w ≡ missing v i)
+RefusesCapture v i NoMemory w = GivesBack v (HasLookedAt v i) w
+RefusesCapture v i LogFull w = GivesBack v (HasTooMany v i) w
+RefusesCapture v i other w = ⊥

@@ -1,0 +1,6 @@
+pub mod Memory
+pub mod Records
+pub mod Legality
+pub mod StepRules
+pub mod Calls
+pub mod Walks

@@ -1,0 +1,126 @@
+-- What each step asks of the record of its pass, and what it leaves.
+use Rattle.std.specs.Prelude.{◌≡◌, ℕ, ◌+◌, ◌^◌, ◌<◌, ◌≤◌, ◌⊎◌, List, [], ◌∷◌, ◌++◌, length, Option, Some, None, Bool, true, false, not}
+use Rattle.java_hash.specs.Stripes.{stripe_of}
+use Rattle.map_types.specs.declared.commands.Command.{Command}
+use Rattle.map_types.specs.declared.commands.Read.{Read}
+use Rattle.map_model.specs.Maps.{Map}
+use Rattle.map_model.specs.Steps.{step}
+use Rattle.map_model.specs.Histories.{IsLegalChange}
+use Rattle.ticket_order.specs.declared.stripe.Entry.{Entry}
+use Rattle.ticket_order.specs.declared.stripe.Stripe.{Stripe}
+use Rattle.ticket_order.specs.declared.record.Purpose.{Purpose}
+use Rattle.ticket_order.specs.declared.record.Purpose.TheVariants.{Nothing, Answer, Sweep, Capture}
+use Rattle.ticket_order.specs.declared.record.StepMade.{StepMade}
+use Rattle.ticket_order.specs.declared.record.StepMade.TheVariants.{Took, FoundHeld}
+use Rattle.ticket_order.specs.declared.record.Call.{Call}
+use Rattle.ticket_order.specs.declared.record.Section.{Section}
+use Rattle.ticket_order.specs.declared.record.Holding.{Holding}
+use Rattle.ticket_order.specs.declared.record.Record.{Record}
+use Rattle.ticket_order.specs.Records.{reach, past, missing, taking, looking, drawing, giving, publishing, seeing, failing, living, part_held, calls_for, sections_for, outbox_for}
+use Rattle.ticket_order.specs.Legality.{history_of, IsLegalCall, IsLegalSection, entries_from, entries_of}
+
+-- the greatest position seen becomes n where it was less, and stays where it wasn't
+abbrev pub Rises : Record → ℕ → Record → Type 0
+Rises v n w = ((n ≤ reach v) × (reach w ≡ reach v)) ⊎ ((reach v ≤ n) × (reach w ≡ n))
+
+-- what the keeper's sweeps took of stripe i, and then the outbox that it took now, are all entries of that stripe in a history that begins with what it has seen
+pub record Collects (n i : ℕ) (v : Record) (outbox : List Entry) (w : Record) : Type 0 where
+  pub more : List Command
+  pub is : entries_of n i v.taken ++ outbox ≡ entries_of n i (entries_from v.opening.first (w.seen ++ more))
+
+-- the stripe was free, and had this content
+pub record TakesStripe (n : ℕ) (v : Record) (i : ℕ) (content : Stripe) (w : Record) : Type 0 where
+  pub between : List Command
+  pub is : w ≡ taking v i content.part.map content.outbox.items between
+  pub rises : Rises v (past content.outbox.items) w
+  pub collects : v.keeper ≡ true → Collects n i v content.outbox.items w
+
+-- TAKE
+abbrev pub Takes : ℕ → Record → ℕ → Option Stripe → Record → Type 0
+Takes n v i None w = w ≡ missing v i
+Takes n v i (Some content) w = TakesStripe n v i content w
+
+-- the name of a TAKE with what it found
+abbrev pub take_made : ℕ → Option Stripe → StepMade
+take_made i None = FoundHeld i
+take_made i (Some content) = Took i content.outbox.items
+
+-- LOOK: the count of tickets, all of which the pass has then seen
+pub record Looks (v : Record) (q : ℕ) (w : Record) : Type 0 where
+  pub between : List Command
+  pub is : w ≡ looking v between
+  pub count_is : q ≡ reach w
+
+-- TICKET may be made for the change c: the stripe of its key is held, no ticket was drawn for it, and the count of tickets was seen below its limit
+pub record MayDraw (n : ℕ) (v : Record) (c : Command) : Type 0 where
+  pub held : Holding
+  pub holding : v.holding ≡ Some held
+  pub stripe_is : stripe_of n c.key ≡ held.stripe
+  pub undrawn : held.has_drawn ≡ false
+  pub fresh : v.fresh ≡ true
+
+-- TICKET: the change stands at the end of the history, with the reply of one thread there
+pub record Draws (v : Record) (c : Command) (t : ℕ) (w : Record) : Type 0 where
+  pub between : List Command
+  pub is : w ≡ drawing v between c
+  pub ticket_is : t ≡ v.opening.first + length (v.seen ++ between)
+  pub legal : IsLegalChange (history_of w) (t + 1) c (step (part_held v.holding) c).reply
+  pub small : t < 2 ^ 63
+
+abbrev pub HasLooked : Holding → Type 0
+HasLooked d = (q : ℕ) × (d.looked ≡ Some q)
+
+-- A stripe may be given back for a read of a key of its own after a LOOK, for a sweep by the keeper where no ticket was drawn, and for a capture after a LOOK.
+abbrev pub Suits : ℕ → Record → Holding → Purpose → Type 0
+Suits n v d Nothing = Unit {0}
+Suits n v d (Answer r) = (stripe_of n r.key ≡ d.stripe) × HasLooked d
+Suits n v d Sweep = (v.keeper ≡ true) × (d.has_drawn ≡ false)
+Suits n v d Capture = HasLooked d
+
+-- GIVE of this content may be made: it is what the record says
+pub record MayGive (n : ℕ) (v : Record) (i : ℕ) (content : Stripe) (p : Purpose) : Type 0 where
+  pub held : Holding
+  pub holding : v.holding ≡ Some held
+  pub stripe_is : held.stripe ≡ i
+  pub part_is : content.part.map ≡ held.part
+  pub outbox_is : content.outbox.items ≡ outbox_for p held
+  pub suits : Suits n v held p
+
+abbrev pub AllLegalCalls : Record → List Call → Type 0
+AllLegalCalls v [] = Unit {0}
+AllLegalCalls v (x ∷ xs) = IsLegalCall (history_of v) x × AllLegalCalls v xs
+
+abbrev pub AllLegalSections : ℕ → Record → List Section → Type 0
+AllLegalSections n v [] = Unit {0}
+AllLegalSections n v (x ∷ xs) = IsLegalSection n (history_of v) x × AllLegalSections n v xs
+
+-- GIVE: the read that it answers, and the section that it keeps, are legal
+pub record Gives (n : ℕ) (p : Purpose) (v w : Record) : Type 0 where
+  pub is : w ≡ giving p v
+  pub calls : AllLegalCalls v (calls_for p v.holding)
+  pub sections : AllLegalSections n v (sections_for p v.holding)
+
+-- DURABLE may be made with the number x: by the keeper, before it fails, with a number that it has seen
+pub record MayPublish (v : Record) (x : ℕ) : Type 0 where
+  pub keeper : v.keeper ≡ true
+  pub seen : x ≤ reach v
+  pub unfailed : v.failed ≡ false
+
+-- DURABLE
+abbrev pub Publishes : Record → ℕ → Record → Type 0
+Publishes v x w = w ≡ publishing v x
+
+-- SEE: the durable count, up to which the pass has then seen
+pub record Sees (v : Record) (d : ℕ) (w : Record) : Type 0 where
+  pub between : List Command
+  pub is : w ≡ seeing v d between
+  pub rises : Rises v d w
+
+-- FAIL
+abbrev pub Fails : Record → Record → Type 0
+Fails v w = w ≡ failing v
+
+-- ALIVE; the keeper's says no exactly where it has failed
+pub record Lives (v : Record) (is_alive : Bool) (w : Record) : Type 0 where
+  pub is : w ≡ living v is_alive
+  pub by_keeper : v.keeper ≡ true → is_alive ≡ not v.failed

@@ -1,0 +1,83 @@
+//! The walk of a capture of one stripe: TAKE, LOOK, GIVE.
+ghost use Rattle.std.specs.Prelude.{◌≡◌, ℕ, Some, true, false};
+ghost use Rattle.ticket_order.specs.declared.record.Record.{Record};
+ghost use Rattle.ticket_order.specs.Walks.{Task, FitsCapture, Next, MakesOne, next_of_capture, HasFewerLeft, left_of_capture, KeepsCaptured, captured_of_capture, FitsStage, holds_of_capture, refusal_of_stage};
+
+use crate::record::Purpose;
+use crate::steps::Steps;
+use crate::walk::{Stage, Stepped, Taken, Walk};
+use map_types::{Key, Refusal, Value};
+use std::alloc::Global;
+
+/// The most entries of a section.
+const MOST_ENTRIES: usize = (1 << 32) - 1;
+
+/// What a capture took of a stripe: its entries in the byte order of their keys, and the count of
+/// tickets while it was held.
+#[derive(Drop)]
+pub struct Captured {
+    pub mark: u64,
+    pub entries: Vec<(Key, Value)>,
+}
+
+/// How far a capture has come.
+#[derive(Drop)]
+pub(crate) enum CaptureStage {
+    /// Of this stripe.
+    Begins(Global, usize),
+    HasTaken(Global, Taken),
+    HasLooked(Taken, Captured),
+}
+
+impl CaptureStage {
+    fn more(self) -> Stepped
+        ensures { result ≡ Stepped.More (record { stage = Stage.Capture self }) }
+    {
+        Stepped::More(Walk {
+            stage: Stage::Capture(self),
+        })
+    }
+
+    pub(crate) fn step<S: Steps>(self, steps: &mut S) -> Stepped
+        requires { (b : Record) × (task : Task) × FitsCapture (S.stripe_count steps.old) b task self (S.recorded steps.old) }
+        ensures one { MakesOne S.recorded S.moves (next_of_capture self) steps.old steps.new }
+        ensures next { (b : Record) (task : Task) → FitsCapture (S.stripe_count steps.old) b task self (S.recorded steps.old) → Next (S.stripe_count steps.old) b task result (S.recorded steps.new) }
+        ensures shorter { HasFewerLeft (left_of_capture self) result }
+        ensures captured { KeepsCaptured (captured_of_capture self) result }
+        ensures place { S.place steps.new ≡ S.place steps.old }
+        ensures stripes { S.stripe_count steps.new ≡ S.stripe_count steps.old }
+    {
+        match self {
+            CaptureStage::Begins(alloc, stripe) => match steps.take(stripe) {
+                Some(content) => CaptureStage::HasTaken(alloc, Taken { stripe, content }).more(),
+                None => Stepped::Refused(Refusal::Busy { stripe }),
+            },
+            CaptureStage::HasTaken(alloc, taken) => {
+                let mark = steps.look();
+                match taken.content.part.entries_sorted(alloc) {
+                    Ok(entries) if entries.len() > MOST_ENTRIES => taken.refused(Refusal::LogFull),
+                    Ok(entries) => CaptureStage::HasLooked(
+                        taken,
+                        Captured { mark, entries },
+                    ).more(),
+                    Err(refusal) => taken.refused(refusal),
+                }
+            }
+            CaptureStage::HasLooked(taken, captured) => {
+                steps.give(taken.stripe, taken.content, Purpose::Capture);
+                Stepped::Captured(captured)
+            }
+        }
+    }
+
+    pub(crate) fn given_back(self) -> Stage
+        ensures fits { (n : ℕ) (b : Record) (task : Task) (p : Record) → FitsCapture n b task self p → FitsStage n b task result p }
+        ensures refuses { holds_of_capture self ≡ true → refusal_of_stage result ≡ Some Refusal.NoMemory }
+        ensures same { holds_of_capture self ≡ false → result ≡ Stage.Capture self }
+    {
+        match self {
+            CaptureStage::HasLooked(taken, _) => Stage::GivingBack(taken, Refusal::NoMemory),
+            before => Stage::Capture(before),
+        }
+    }
+}

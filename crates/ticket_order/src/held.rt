@@ -1,0 +1,52 @@
+//! Replies that are held until their positions are durable.
+ghost use Rattle.std.specs.Prelude.{◌≡◌};
+
+use crate::numbers::Position;
+use map_types::Reply;
+
+/// A reply whose position may not be durable yet. It can't be looked at: a release gives it out, or
+/// it is given up.
+#[derive(Drop)]
+pub struct Held {
+    pub(crate) position: Position,
+    pub(crate) reply: Reply,
+}
+
+impl Held {
+    pub fn position(&self) -> Position
+        ensures { result ≡ self.now.position }
+    {
+        self.position
+    }
+
+    /// Gives the reply up. The change, if it was one, was made all the same.
+    pub fn give_up(self) {}
+}
+
+/// What a release answers.
+#[derive(Drop)]
+pub enum Released {
+    /// The position, which is durable, and the reply.
+    Reply(Position, Reply),
+    /// The position isn't durable yet.
+    NotYet(Held),
+    /// The store has failed, and the position will not become durable in this life.
+    Failed,
+}
+
+#[cfg(test)]
+mod tests {
+    use super::Held;
+    use crate::numbers::Position;
+    use map_types::Reply;
+
+    #[test]
+    fn held_replies_tell_their_position(rt: HostRuntime) {
+        let held = Held {
+            position: Position::new(3),
+            reply: Reply::Did(true),
+        };
+        assert_eq!(rt; held.position().number(), 3);
+        held.give_up();
+    }
+}

@@ -1,0 +1,68 @@
+//! The walk of a read: TAKE, ALIVE, LOOK, GIVE.
+ghost use Rattle.std.specs.Prelude.{◌≡◌};
+ghost use Rattle.ticket_order.specs.declared.record.Record.{Record};
+ghost use Rattle.ticket_order.specs.Walks.{Task, FitsRead, Next, MakesOne, next_of_read, HasFewerLeft, left_of_read};
+
+use crate::held::Held;
+use crate::numbers::Position;
+use crate::record::Purpose;
+use crate::steps::Steps;
+use crate::walk::{Stage, Stepped, Taken, Walk};
+use java_hash::stripe_of;
+use map_types::{Read, Refusal};
+
+/// How far a read has come.
+#[derive(Drop)]
+pub(crate) enum ReadStage {
+    Begins(Read),
+    HasTaken(Read, Taken),
+    IsAlive(Read, Taken),
+    HasRead(Read, Taken, Held),
+}
+
+impl ReadStage {
+    fn more(self) -> Stepped
+        ensures { result ≡ Stepped.More (record { stage = Stage.Read self }) }
+    {
+        Stepped::More(Walk {
+            stage: Stage::Read(self),
+        })
+    }
+
+    pub(crate) fn step<S: Steps>(self, steps: &mut S) -> Stepped
+        requires { (b : Record) × (task : Task) × FitsRead (S.stripe_count steps.old) b task self (S.recorded steps.old) }
+        ensures one { MakesOne S.recorded S.moves (next_of_read (S.stripe_count steps.old) self) steps.old steps.new }
+        ensures next { (b : Record) (task : Task) → FitsRead (S.stripe_count steps.old) b task self (S.recorded steps.old) → Next (S.stripe_count steps.old) b task result (S.recorded steps.new) }
+        ensures shorter { HasFewerLeft (left_of_read self) result }
+        ensures place { S.place steps.new ≡ S.place steps.old }
+        ensures stripes { S.stripe_count steps.new ≡ S.stripe_count steps.old }
+    {
+        match self {
+            ReadStage::Begins(read) => {
+                let stripe = stripe_of(read.key.as_str(), steps.stripes());
+                match steps.take(stripe) {
+                    Some(content) => ReadStage::HasTaken(read, Taken { stripe, content }).more(),
+                    None => Stepped::Refused(Refusal::Busy { stripe }),
+                }
+            }
+            ReadStage::HasTaken(read, taken) => {
+                if steps.alive() {
+                    ReadStage::IsAlive(read, taken).more()
+                } else {
+                    taken.refused(Refusal::Failed)
+                }
+            }
+            ReadStage::IsAlive(read, taken) => {
+                let position = Position::new(steps.look());
+                match taken.content.part.read(&read) {
+                    Ok(reply) => ReadStage::HasRead(read, taken, Held { position, reply }).more(),
+                    Err(refusal) => taken.refused(refusal),
+                }
+            }
+            ReadStage::HasRead(read, taken, held) => {
+                steps.give(taken.stripe, taken.content, Purpose::Answer(read));
+                Stepped::Held(held)
+            }
+        }
+    }
+}

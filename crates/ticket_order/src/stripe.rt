@@ -1,0 +1,65 @@
+//! What lies in a stripe.
+ghost use Rattle.std.specs.Prelude.{◌≡◌, [], ◌∷◌, ◌++◌, IfOk, IfErr};
+ghost use Rattle.map_model.specs.Steps.{step};
+ghost use Rattle.ticket_order.specs.Records.{entry};
+ghost use Rattle.ticket_order.specs.Memory.{HasMemory};
+
+use crate::numbers::Ticket;
+use atomic_methods::{Part, Prepared};
+use map_types::{Command, Refusal, Reply};
+use std::alloc::Global;
+
+/// A change with its ticket.
+#[derive(Drop)]
+pub struct Entry {
+    pub ticket: Ticket,
+    pub command: Command,
+}
+
+/// The content of a stripe: its part of the map, and the entries of its changes that no sweep has
+/// taken yet, in the order of their tickets.
+#[derive(Drop)]
+pub struct Stripe {
+    pub part: Part,
+    pub outbox: Vec<Entry>,
+}
+
+impl Stripe {
+    /// A stripe with this part and no entries. It takes no memory.
+    pub fn new(alloc: Global, part: Part) -> Stripe
+        ensures part { result.part ≡ part }
+        ensures outbox { result.outbox.items ≡ [] }
+    {
+        Stripe {
+            part,
+            outbox: Vec::new(alloc),
+        }
+    }
+
+    // Gets the memory that the change needs. The content stays.
+    pub(crate) fn prepare(&mut self, alloc: Global, command: &Command) -> Result<Prepared, Refusal>
+        ensures ok { IfOk result (HasMemory command.now self.new) }
+        ensures err { IfErr result (λ refusal. refusal ≡ Refusal.NoMemory) }
+        ensures part { self.new.part.map ≡ self.old.part.map }
+        ensures outbox { self.new.outbox.items ≡ self.old.outbox.items }
+    {
+        if self.outbox.reserve(1).is_err() {
+            return Err(Refusal::NoMemory);
+        }
+        self.part.prepare(alloc, command)
+    }
+
+    // Makes the change, and puts it into the outbox with its ticket. It takes no memory.
+    pub(crate) fn act(&mut self, command: Command, prepared: Prepared, ticket: Ticket) -> Reply
+        requires { HasMemory command self.old prepared }
+        ensures part { self.new.part.map ≡ (step self.old.part.map command).map }
+        ensures outbox { self.new.outbox.items ≡ self.old.outbox.items ++ entry ticket command ∷ [] }
+        ensures reply { result ≡ (step self.old.part.map command).reply }
+    {
+        let reply = self.part.act(prepared);
+        if let Err(_) = self.outbox.push(Entry { ticket, command }) {
+            return reply;
+        }
+        reply
+    }
+}

@@ -1,0 +1,197 @@
+//! A call that is under way, as a machine that makes one step at a time.
+ghost use Rattle.std.specs.Prelude.{◌≡◌, ◌<◌, ℕ, Some, None, true, false, length};
+ghost use Rattle.std.specs.Option.{option_copied};
+ghost use Rattle.ticket_order.specs.declared.record.Record.{Record};
+ghost use Rattle.ticket_order.specs.Walks.{Task, ToChange, ToRead, ToRelease, ToSweep, ToCapture, Fits, IsUnderWay, Next, MakesOne, next_kind, Give, IsRefusing, HasFewerLeft, steps_left, entries_of_walk, KeepsEntries, captured_of_walk, KeepsCaptured, refusal_of_walk, KeepsRefusal, is_holding};
+
+use crate::capture_walk::{CaptureStage, Captured};
+use crate::change_walk::{ChangeStage, NewChange};
+use crate::held::{Held, Released};
+use crate::read_walk::ReadStage;
+use crate::record::Purpose;
+use crate::release_walk::ReleaseStage;
+use crate::steps::Steps;
+use crate::stripe::{Entry, Stripe};
+use crate::sweep_walk::SweepStage;
+use map_types::{Command, Read, Refusal};
+use std::alloc::Global;
+
+/// A call that is under way.
+#[derive(Drop)]
+pub struct Walk {
+    pub(crate) stage: Stage,
+}
+
+#[derive(Drop)]
+pub(crate) enum Stage {
+    Change(ChangeStage),
+    Read(ReadStage),
+    Release(ReleaseStage),
+    Sweep(SweepStage),
+    Capture(CaptureStage),
+    /// The stripe goes back as it was taken, for this refusal.
+    GivingBack(Taken, Refusal),
+}
+
+/// A stripe that a walk holds, and its content.
+#[derive(Drop)]
+pub(crate) struct Taken {
+    pub stripe: usize,
+    pub content: Stripe,
+}
+
+/// What a step leaves of a walk: it goes on, or it has come to its end.
+#[derive(Drop)]
+pub enum Stepped {
+    More(Walk),
+    /// A change or a read was made.
+    Held(Held),
+    /// A release has its answer.
+    Released(Released),
+    /// A sweep took these entries.
+    Swept(Vec<Entry>),
+    /// A capture took these entries.
+    Captured(Captured),
+    Refused(Refusal),
+}
+
+impl Taken {
+    pub(crate) fn refused(self, refusal: Refusal) -> Stepped
+        ensures { result ≡ Stepped.More (record { stage = Stage.GivingBack self refusal }) }
+    {
+        Stepped::More(Walk {
+            stage: Stage::GivingBack(self, refusal),
+        })
+    }
+
+    fn give_back<S: Steps>(self, refusal: Refusal, steps: &mut S) -> Stepped
+        requires { (b : Record) × (task : Task) × IsRefusing (S.stripe_count steps.old) b task self refusal (S.recorded steps.old) }
+        ensures one { MakesOne S.recorded S.moves (Give self.stripe) steps.old steps.new }
+        ensures next { (b : Record) (task : Task) → IsRefusing (S.stripe_count steps.old) b task self refusal (S.recorded steps.old) → Next (S.stripe_count steps.old) b task result (S.recorded steps.new) }
+        ensures refused { result ≡ Stepped.Refused refusal }
+        ensures place { S.place steps.new ≡ S.place steps.old }
+        ensures stripes { S.stripe_count steps.new ≡ S.stripe_count steps.old }
+    {
+        steps.give(self.stripe, self.content, Purpose::Nothing);
+        Stepped::Refused(refusal)
+    }
+}
+
+impl Walk {
+    /// A change: TAKE, ALIVE, LOOK, TICKET, GIVE. All its memory is got from `alloc` before its
+    /// ticket is drawn.
+    pub fn change(alloc: Global, command: Command) -> Walk
+        ensures { (n : ℕ) (b : Record) → b.holding ≡ None → Fits n b (ToChange command) result b }
+    {
+        Walk {
+            stage: Stage::Change(ChangeStage::Begins(NewChange { alloc, command })),
+        }
+    }
+
+    /// A read: TAKE, ALIVE, LOOK, GIVE.
+    pub fn read(read: Read) -> Walk
+        ensures { (n : ℕ) (b : Record) → b.holding ≡ None → Fits n b (ToRead read) result b }
+    {
+        Walk {
+            stage: Stage::Read(ReadStage::Begins(read)),
+        }
+    }
+
+    /// A release: SEE, and where the durable count is too low ALIVE, and where that says no SEE once
+    /// more. It takes no memory.
+    pub fn release(held: Held) -> Walk
+        ensures { (n : ℕ) (b : Record) → Fits n b (ToRelease held.position held.reply) result b }
+    {
+        Walk {
+            stage: Stage::Release(ReleaseStage::Begins(held)),
+        }
+    }
+
+    /// A sweep of the stripe, by the pass that sweeps: TAKE, GIVE.
+    pub fn sweep(alloc: Global, stripe: usize) -> Walk
+        ensures { (n : ℕ) (b : Record) → b.holding ≡ None → stripe < n → b.keeper ≡ true → Fits n b (ToSweep stripe) result b }
+    {
+        Walk {
+            stage: Stage::Sweep(SweepStage::Begins(alloc, stripe)),
+        }
+    }
+
+    /// A capture of the stripe: TAKE, LOOK, GIVE.
+    pub fn capture(alloc: Global, stripe: usize) -> Walk
+        ensures { (n : ℕ) (b : Record) → b.holding ≡ None → stripe < n → Fits n b (ToCapture stripe) result b }
+    {
+        Walk {
+            stage: Stage::Capture(CaptureStage::Begins(alloc, stripe)),
+        }
+    }
+
+    /// How many entries a sweep has taken that its GIVE will hand out.
+    pub fn entry_count(&self) -> usize
+        ensures { result ≡ length (entries_of_walk self.now) }
+    {
+        match &self.stage {
+            Stage::Sweep(SweepStage::HasTaken(_, taken)) => taken.content.outbox.len(),
+            _ => 0,
+        }
+    }
+
+    /// What a capture has taken that its GIVE will hand out.
+    pub fn captured(&self) -> Option<&Captured>
+        ensures { option_copied result ≡ captured_of_walk self.now }
+    {
+        match &self.stage {
+            Stage::Capture(CaptureStage::HasLooked(_, captured)) => Some(captured),
+            _ => None,
+        }
+    }
+
+    /// Whether this is a sweep or a capture that has only its GIVE left.
+    pub fn is_holding(&self) -> bool
+        ensures { result ≡ is_holding self.now }
+    {
+        matches!(
+            &self.stage,
+            Stage::Sweep(SweepStage::HasTaken(..)) | Stage::Capture(CaptureStage::HasLooked(..))
+        )
+    }
+
+    /// A sweep or a capture that has only its GIVE left will give the stripe back as it was taken,
+    /// and end with `NoMemory`: for a caller that finds no memory for what it would be handed. Any
+    /// other walk stays as it is.
+    pub fn give_back(self) -> Walk
+        ensures fits { (n : ℕ) (b : Record) (task : Task) (p : Record) → Fits n b task self p → Fits n b task result p }
+        ensures refuses { is_holding self ≡ true → refusal_of_walk result ≡ Some Refusal.NoMemory }
+        ensures same { is_holding self ≡ false → result ≡ self }
+    {
+        let Walk { stage } = self;
+        let stage = match stage {
+            Stage::Sweep(stage) => stage.given_back(),
+            Stage::Capture(stage) => stage.given_back(),
+            stage => stage,
+        };
+        Walk { stage }
+    }
+
+    /// Makes exactly one step.
+    pub fn step<S: Steps>(self, steps: &mut S) -> Stepped
+        requires { IsUnderWay (S.stripe_count steps.old) self (S.recorded steps.old) }
+        ensures one { MakesOne S.recorded S.moves (next_kind (S.stripe_count steps.old) self) steps.old steps.new }
+        ensures next { (b : Record) (task : Task) → Fits (S.stripe_count steps.old) b task self (S.recorded steps.old) → Next (S.stripe_count steps.old) b task result (S.recorded steps.new) }
+        ensures shorter { HasFewerLeft (steps_left self) result }
+        ensures entries { KeepsEntries (entries_of_walk self) result }
+        ensures captured { KeepsCaptured (captured_of_walk self) result }
+        ensures refused { KeepsRefusal (refusal_of_walk self) result }
+        ensures place { S.place steps.new ≡ S.place steps.old }
+        ensures stripes { S.stripe_count steps.new ≡ S.stripe_count steps.old }
+    {
+        let Walk { stage } = self;
+        match stage {
+            Stage::Change(stage) => stage.step(steps),
+            Stage::Read(stage) => stage.step(steps),
+            Stage::Release(stage) => stage.step(steps),
+            Stage::Sweep(stage) => stage.step(steps),
+            Stage::Capture(stage) => stage.step(steps),
+            Stage::GivingBack(taken, refusal) => taken.give_back(refusal, steps),
+        }
+    }
+}

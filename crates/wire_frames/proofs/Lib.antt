@@ -1,0 +1,4 @@
+pub mod Sent
+pub mod Division
+pub mod Feeding
+pub mod Asked

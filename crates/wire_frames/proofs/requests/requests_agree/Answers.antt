@@ -1,0 +1,14 @@
+use Rattle.std.proofs.Common.{arith}
+use Rattle.log_records.specs.Layout.{IsLayout, first_layout}
+use Rattle.wire_frames.proofs.Asked.{read_is_spelled, spelled_is_read}
+use Rattle.wire_frames.proofs.requests.requests_agree.Goals as goal
+
+pub returns-clause-read : goal.returns-clause-read
+returns-clause-read c =
+    let room : IsLayout first_layout = omega arith in
+    read_is_spelled (c.fields_agree.ensures.key first_layout room) c.fields_agree.ensures.some_value (c.record_agrees.ensures first_layout room)
+
+pub returns-clause-spelled : goal.returns-clause-spelled
+returns-clause-spelled c =
+    let room : IsLayout first_layout = omega arith in
+    spelled_is_read (c.fields_agree.ensures.key first_layout room) c.fields_agree.ensures.some_value (c.record_agrees.ensures first_layout room)

@@ -1,0 +1,20 @@
+-- What a feeder holds, and what it gives.
+use Rattle.std.specs.Prelude.{◌≡◌, ◌⊎◌, ℕ, true, false, List, ◌++◌, Err}
+use Rattle.map_types.specs.declared.refusals.Refusal.TheVariants.{BadFrame}
+use Rattle.wire_frames.specs.declared.feeder.First.{First}
+use Rattle.wire_frames.specs.declared.feeder.First.TheVariants.{Partial, Refused, Whole}
+use Rattle.wire_frames.specs.Messages.{frame, Message, IsBody, IsPartial, IsRefusedLength, Says}
+use Rattle.wire_frames.specs.Held.{Feed}
+
+-- what stands at the front of the bytes
+abbrev pub IsFirst : List ℕ → First → Type 0
+IsFirst bytes Partial = IsPartial bytes
+IsFirst bytes Refused = IsRefusedLength bytes
+IsFirst bytes (Whole body rest) = IsBody body.now × (bytes ≡ frame body.now ++ rest.now)
+
+-- the message stands at the front of what was left: a frame, which is taken, or a refused length, after which nothing more comes
+abbrev pub Takes : Feed → Feed → Message → Type 0
+Takes old new message =
+    (old.ended ≡ false)
+    × ((IsRefusedLength old.left × (message ≡ Err BadFrame) × (new ≡ record { left = old.left; ended = true }))
+    ⊎ ((body : List ℕ) × IsBody body × (old.left ≡ frame body ++ new.left) × (new.ended ≡ false) × Says body message))

@@ -1,0 +1,5 @@
+pub mod Requests
+pub mod Messages
+pub mod Held
+pub mod Feed
+pub mod Replies
