@@ -1,5 +1,5 @@
 use crate::{Calls, ConnectionError, serve_connection};
-use map_types::{Change, Refusal, Reply, Value};
+use map_types::{Change, Command, Refusal, Reply, Value};
 use std::io;
 use std::io::{Read, Write};
 use std::test::Fail;
@@ -17,10 +17,13 @@ impl Calls for OneValue {
     fn call(&mut self, request: Request) -> Result<Reply, Refusal> {
         match request {
             Request::Read(_) => Ok(Reply::Now(self.value.clone()?)),
-            Request::Change(command) => match command.change {
-                Change::Put(value) => Ok(Reply::Was(self.value.replace(value))),
-                _ => Err(Refusal::Failed),
-            },
+            Request::Change(command) => {
+                let Command { change, .. } = command;
+                match change {
+                    Change::Put(value) => Ok(Reply::Was(self.value.replace(value))),
+                    _ => Err(Refusal::Failed),
+                }
+            }
         }
     }
 }

@@ -6,7 +6,7 @@ use java_hash::StripeCount;
 use map_types::{Change, Command, Key, Question, Read, Refusal, Reply, Value};
 use std::alloc::Global;
 use std::process::Abort;
-use ticket_order::{Held, Purpose, Released, Steps, release, try_call, try_read};
+use ticket_order::{Held, Released, Steps, release, try_call, try_read};
 
 fn sixteen<R: Abort>(rt: &R) -> StripeCount {
     StripeCount::new(16).expect(rt, "16 is a count of stripes")
@@ -72,21 +72,11 @@ fn passes_share_the_words(rt: HostRuntime) -> Result<(), Refusal> {
     let alloc = rt.alloc();
     let mut words = PlainWords::empty(alloc, sixteen(&rt), 2)?;
     assert_eq!(rt; words.stripes().get(), 16);
-    let mut first = At::new(&mut words, 0);
-    let Some(content) = first.take(3) else {
-        assert!(rt; false, "the stripe is free");
-        return Ok(());
-    };
-    let mut second = At::new(&mut words, 1);
-    assert!(rt; second.take(3).is_none());
-    assert!(rt; second.alive());
-    let mut first = At::new(&mut words, 0);
-    first.give(3, content, Purpose::Nothing);
-    let mut keeper = At::new(&mut words, 2);
-    assert!(rt; keeper.take(3).is_some());
-    keeper.fail();
-    let mut second = At::new(&mut words, 1);
-    assert!(rt; !second.alive());
+    assert!(rt; At::new(&mut words, 0).alive());
+    At::new(&mut words, 2).fail();
+    assert!(rt; !At::new(&mut words, 0).alive());
+    assert!(rt; At::new(&mut words, 0).take(3).is_some());
+    assert!(rt; At::new(&mut words, 1).take(3).is_none());
     words.keeps_one_history();
     Ok(())
 }

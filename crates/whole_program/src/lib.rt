@@ -1,0 +1,10 @@
+//! Tests of the whole program: its table of bytes however cut, its command line, failing streams,
+//! and the map that it serves beside the plain program of the model.
+#![tactic(auto)]
+
+#[cfg(test)]
+mod dice;
+#[cfg(test)]
+mod program;
+#[cfg(test)]
+mod random;
