@@ -1,0 +1,3 @@
+pub mod FileLemmas
+pub mod FillLemmas
+pub mod MemoryLemmas

@@ -1,0 +1,264 @@
+// One file, kept in memory with what a stop may leave of it.
+ghost use Rattle.std.specs.Prelude.{◌≡◌, ◌+◌, ◌-◌, ◌<◌, ◌≤◌, ◌^◌, ℕ, List, true, ◌&&◌, ◌||◌, nat_le, nat_lt, [], take, length, min, max, OnOk, OnErr, IfOk, slice_index_or};
+ghost use Rattle.disk_model.specs.Files.{File, AreBytes, is_in, is_pending, overwritten, reached, written, synced, at_rest};
+ghost use Rattle.disk_model.specs.Fills.{torn, byte_torn, bytes_torn, length_torn, pending_below, length_left, byte_left, bytes_by};
+
+use crate::Fill;
+use std::alloc::{AllocError, Global};
+
+#[derive(Drop)]
+pub(crate) struct Kept {
+    // What a read gives.
+    pub(crate) seen: Vec<u8>,
+    // The content at the last successful sync.
+    base: Vec<u8>,
+    // For each byte of `base`, whether a write has reached it since.
+    reached: Vec<bool>,
+    // The greatest end written since.
+    greatest: u128,
+    ghost bounded: { greatest < 2 ^ 65 },
+    ghost bytes: { AreBytes seen.items },
+}
+
+impl Kept {
+    ghost use Rattle.disk_model.specs.Kept.{IsKept};
+
+    pub(crate) fn new(alloc: Global) -> Kept
+        ensures { IsKept result (at_rest []) }
+    {
+        Kept {
+            seen: Vec::new(alloc),
+            base: Vec::new(alloc),
+            reached: Vec::new(alloc),
+            greatest: 0,
+        }
+    }
+
+    // A file that has this content on the disk.
+    pub(crate) fn at_rest(alloc: Global, content: Vec<u8>) -> Result<Kept, AllocError>
+        ensures { IfOk result (λ kept. IsKept kept (at_rest content.items)) }
+    {
+        let base = content.to_vec(alloc)?;
+        let reached = vec![in alloc; false; content.len()]?;
+        let greatest = content.len() as u128;
+        Ok(Kept {
+            seen: content,
+            base,
+            reached,
+            greatest,
+        })
+    }
+
+    // Notes that a write of this many bytes was made there.
+    pub(crate) fn touch(&mut self, at: usize, size: usize)
+        ensures { (file : File) → IsKept self.old file → IsKept self.new (reached at size file.seen file) }
+    {
+        self.greatest = self.greatest.max(at as u128 + size as u128);
+        mark(&mut self.reached, at, size);
+    }
+
+    pub(crate) fn write(&mut self, alloc: Global, at: usize, bytes: &[u8]) -> Result<(), AllocError>
+        requires { at ≤ length self.old.seen.items }
+        ensures ok { OnOk result ((file : File) → IsKept self.old file → IsKept self.new (written at bytes.now file)) }
+        ensures err { OnErr result (self.new ≡ self.old) }
+    {
+        let next = overwrite(alloc, &self.seen, at, bytes)?;
+        self.touch(at, bytes.len());
+        self.seen = next;
+        Ok(())
+    }
+
+    // A write that fails, and leaves what the fill picks.
+    pub(crate) fn tear(
+        &mut self,
+        alloc: Global,
+        number: usize,
+        at: usize,
+        bytes: &[u8],
+        fill: &Fill,
+    ) -> Result<(), AllocError>
+        requires number { number < 4 }
+        requires place { at ≤ length self.old.seen.items }
+        ensures ok { OnOk result ((file : File) → IsKept self.old file → IsKept self.new (torn fill.now number at bytes.now file)) }
+        ensures err { OnErr result (self.new ≡ self.old) }
+    {
+        let left = self.bytes_torn(alloc, at, bytes, fill)?;
+        let next = overwrite(alloc, &self.seen, at, &left)?;
+        let len = len_torn(number, self.seen.len(), next.len(), fill);
+        let next = truncated(next, len);
+        self.touch(at, bytes.len());
+        self.seen = next;
+        Ok(())
+    }
+
+    // What a failed write of these bytes leaves to be read in its range.
+    fn bytes_torn(
+        &self,
+        alloc: Global,
+        at: usize,
+        bytes: &[u8],
+        fill: &Fill,
+    ) -> Result<Vec<u8>, AllocError>
+        ensures { IfOk result (λ left. (file : File) → IsKept self.now file → left.items ≡ bytes_torn fill.now at bytes.now file) }
+    {
+        let mut left = Vec::with_capacity(alloc, bytes.len())?;
+        for i in 0..bytes.len() {
+            left.push(self.byte_torn(at, bytes, fill, i))?;
+        }
+        Ok(left)
+    }
+
+    fn byte_torn(&self, at: usize, bytes: &[u8], fill: &Fill, i: usize) -> u8
+        requires { i < length bytes.now }
+        ensures { (file : File) → IsKept self.now file → result ≡ byte_torn fill.now at bytes.now file i }
+    {
+        match fill {
+            Fill::Old if i < self.base.len().saturating_sub(at) => self.base[at + i],
+            Fill::Old if i < self.seen.len().saturating_sub(at) => self.seen[at + i],
+            Fill::Old => 0,
+            Fill::New => bytes[i],
+            Fill::Byte(byte) => *byte,
+            Fill::Chosen { bytes: chosen, .. } => byte_or(chosen, i, bytes[i]),
+        }
+    }
+
+    pub(crate) fn settle(&mut self, alloc: Global) -> Result<(), AllocError>
+        ensures ok { OnOk result ((file : File) → IsKept self.old file → IsKept self.new (synced file)) }
+        ensures err { OnErr result (self.new ≡ self.old) }
+    {
+        let base = self.seen.to_vec(alloc)?;
+        let reached = vec![in alloc; false; base.len()]?;
+        self.greatest = base.len() as u128;
+        self.base = base;
+        self.reached = reached;
+        Ok(())
+    }
+
+    fn is_pending(&self, place: usize) -> bool
+        ensures { (file : File) → IsKept self.now file → result ≡ is_pending file place }
+    {
+        self.reached.get(place).copied().unwrap_or(true)
+    }
+
+    // How many bytes are pending.
+    pub(crate) fn pending_count(&self) -> u128
+        ensures bounded { result < 2 ^ 66 }
+        ensures exact { (file : File) → IsKept self.now file → length file.base ≤ file.greatest → result ≡ pending_below file file.greatest }
+    {
+        let mut count: u128 = 0;
+        for place in 0..self.reached.len() {
+            count += u128::from(self.is_pending(place));
+        }
+        count + self.greatest.saturating_sub(self.reached.len() as u128)
+    }
+
+    // What a stop leaves, where so many pending bytes stand in the files before this one.
+    pub(crate) fn left(
+        &self,
+        alloc: Global,
+        number: usize,
+        before: u128,
+        fill: &Fill,
+    ) -> Result<Vec<u8>, AllocError>
+        requires number { number < 4 }
+        requires bounded { before < 2 ^ 70 }
+        ensures { IfOk result (λ left. (file : File) → IsKept self.now file
+            → left.items ≡ bytes_by (length_left fill.now number file) (λ i. byte_left fill.now (before + pending_below file i) file i)) }
+    {
+        let Ok(len) = usize::try_from(self.len_left(number, fill)) else {
+            return Err(AllocError);
+        };
+        let mut left = Vec::with_capacity(alloc, len)?;
+        let mut count = before;
+        for place in 0..len {
+            left.push(self.byte_left(count, place, fill))?;
+            count += u128::from(self.is_pending(place));
+        }
+        Ok(left)
+    }
+
+    fn len_left(&self, number: usize, fill: &Fill) -> u128
+        requires { number < 4 }
+        ensures { (file : File) → IsKept self.now file → result ≡ length_left fill.now number file }
+    {
+        match fill {
+            Fill::Old => self.base.len() as u128,
+            Fill::New => self.seen.len() as u128,
+            Fill::Byte(_) => self.greatest,
+            Fill::Chosen { lens, .. } => {
+                within(self.base.len() as u128, self.greatest, lens[number] as u128)
+            }
+        }
+    }
+
+    fn byte_left(&self, count: u128, place: usize, fill: &Fill) -> u8
+        ensures { (file : File) → IsKept self.now file → result ≡ byte_left fill.now count file place }
+    {
+        let seen = byte_or(&self.seen, place, 0);
+        match fill {
+            Fill::Old => byte_or(&self.base, place, 0),
+            Fill::Byte(byte) if self.is_pending(place) => *byte,
+            Fill::Chosen { bytes, .. } if self.is_pending(place) => match usize::try_from(count) {
+                Ok(count) => byte_or(bytes, count, seen),
+                Err(_) => seen,
+            },
+            _ => seen,
+        }
+    }
+}
+
+fn byte_or(bytes: &[u8], place: usize, other: u8) -> u8
+    ensures { result ≡ slice_index_or bytes.now place other }
+{
+    bytes.get(place).copied().unwrap_or(other)
+}
+
+ghost use Rattle.disk_model.specs.Fills.{within};
+
+fn within(low: u128, high: u128, len: u128) -> u128
+    ensures { result ≡ within low high len }
+{
+    len.min(high).max(low)
+}
+
+fn len_torn(number: usize, seen_len: usize, written_len: usize, fill: &Fill) -> usize
+    requires { number < 4 }
+    ensures { (file : File) (at : ℕ) (bytes : List ℕ) → seen_len ≡ length file.seen → written_len ≡ max (length file.seen) (at + length bytes)
+        → result ≡ length_torn fill.now number at bytes file }
+{
+    match fill {
+        Fill::Old => seen_len,
+        Fill::New | Fill::Byte(_) => written_len,
+        Fill::Chosen { lens, .. } => lens[number].min(written_len).max(seen_len),
+    }
+}
+
+fn truncated(mut bytes: Vec<u8>, len: usize) -> Vec<u8>
+    ensures { result.items ≡ take len bytes.items }
+{
+    bytes.truncate(len);
+    bytes
+}
+
+// Marks so many places from `at` on.
+fn mark(marks: &mut [bool], at: usize, size: usize)
+    ensures { (i : ℕ) → i < length marks.old → slice_index_or marks.new i true ≡ is_in i (record { at = at; size = size }) || slice_index_or marks.old i true }
+{
+    let end = at.saturating_add(size).min(marks.len());
+    for place in at..end {
+        marks[place] = true;
+    }
+}
+
+// The old bytes with these written over them from `at` on.
+fn overwrite(alloc: Global, old: &[u8], at: usize, bytes: &[u8]) -> Result<Vec<u8>, AllocError>
+    requires { at ≤ length old.now }
+    ensures { IfOk result (λ next. next.items ≡ overwritten at bytes.now old.now) }
+{
+    let mut next = old[..at].to_vec(alloc)?;
+    next.extend_from_slice(bytes)?;
+    if bytes.len() < old.len() - at {
+        next.extend_from_slice(&old[at + bytes.len()..])?;
+    }
+    Ok(next)
+}

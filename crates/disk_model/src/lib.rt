@@ -1,0 +1,18 @@
+//! Four numbered files of bytes, and what a stop of the machine may leave of them.
+#![tactic(auto)]
+
+mod dir;
+mod disk;
+mod fill;
+mod kept;
+mod memory;
+mod past;
+mod plan;
+#[cfg(test)]
+mod tests;
+
+pub use dir::{DirDisk, Start, Unknown};
+pub use disk::{DeviceError, Disk};
+pub use fill::Fill;
+pub use memory::MemDisk;
+pub use plan::Failure;
