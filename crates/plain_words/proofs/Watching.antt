@@ -115,12 +115,17 @@ module _ (n t durable : ℕ) (has_failed : Bool) (slots : List Slot) (b : Book) 
       let r : Record = record_of j b in let between : List Command = unseen_to b.deeds.durable r b.history in
       kept_more (seeing r b.deeds.durable between) between (record { opening = refl; seen = refl; calls = refl }) (sees_all b.deeds.durable kept.one.reached).front refl refl refl refl refl refl refl
 
+  published_low : (x : Bool) → HasDone b.opening b.deeds (record_of j b) x → (record_of j b).published ≤ b.deeds.durable
+  published_low true d = omega (arith, d.1)
+  published_low false d = (let low : b.opening.first ≤ b.deeds.durable = kept.one.begun in omega (arith, d.1))
+
   pub sees : Sees (record_of j b) durable (record_of j (saw j b))
+  unfolding here
   sees =
       let r : Record = record_of j b in let between : List Command = unseen_to b.deeds.durable r b.history in
       let w : Record = seeing r b.deeds.durable between in
       let same : record_of j (saw j b) ≡ w = same_record b j w b.history b.authors b.deeds within in
-      rw (kept.durable_is, same) (record { between = between; is = refl; rises = (sees_all b.deeds.durable kept.one.reached).rises })
+      rw (kept.durable_is, same) (record { between = between; is = refl; published = published_low r.keeper here.done; rises = (sees_all b.deeds.durable kept.one.reached).rises })
 
   pub moves_saw : BookMoves j (made.Saw durable) b (saw j b)
   moves_saw = let r : Record = record_of j b in let w : Record = seeing r b.deeds.durable (unseen_to b.deeds.durable r b.history) in moved w (made.Saw durable) b.history b.authors b.deeds (same_words w, kept.durable_is)
