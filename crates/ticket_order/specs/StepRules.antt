@@ -110,10 +110,11 @@ pub record MayPublish (v : Record) (x : ℕ) : Type 0 where
 abbrev pub Publishes : Record → ℕ → Record → Type 0
 Publishes v x w = w ≡ publishing v x
 
--- SEE: the durable count, up to which the pass has then seen
+-- SEE: the durable count, up to which the pass has then seen; it is never below what the pass itself has published
 pub record Sees (v : Record) (d : ℕ) (w : Record) : Type 0 where
   pub between : List Command
   pub is : w ≡ seeing v d between
+  pub published : v.published ≤ d
   pub rises : Rises v d w
 
 -- FAIL

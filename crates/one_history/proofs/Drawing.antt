@@ -18,20 +18,20 @@ use Rattle.ticket_order.specs.declared.record.Record.{Record}
 use Rattle.ticket_order.specs.Records.{reach, call, entry, drawing, drawing_at, part_held}
 use Rattle.ticket_order.specs.Legality.{IsContent, history_of}
 use Rattle.ticket_order.specs.StepRules.{MayDraw, Draws}
-use Rattle.plain_words.specs.declared.book.Book.{Book}
-use Rattle.plain_words.specs.declared.slot.Slot.{Slot}
-use Rattle.plain_words.specs.declared.slot.Slot.TheVariants.{Home, HeldBy}
-use Rattle.plain_words.specs.Turns.{record_of, unseen, drew}
-use Rattle.plain_words.specs.OneHistory.{IsFront, IsUpTo, Holds, Knows, IsOneHistory, changes_by, stripe_in}
-use Rattle.plain_words.specs.Moves.{BookMoves}
-use Rattle.plain_words.specs.Kept.{slot_of, Lies, draws_left, IsKept}
-use Rattle.plain_words.proofs.Fronts.{front_refl, front_trans, front_one}
-use Rattle.plain_words.proofs.Legal.{calls_longer, calls_both, sections_longer}
-use Rattle.plain_words.proofs.Contents.{content_drawn, content_other, own_reply}
-use Rattle.plain_words.proofs.Orders.{order_push, push_change, own_more, other_more}
-use Rattle.plain_words.proofs.Knowing.{up_to_more, done_same}
-use Rattle.plain_words.proofs.Slots.{one_turned, same_record, other_records, holds_still, held_before, room_drawn, count_small}
-use Rattle.plain_words.proofs.Watching.{whole}
+use Rattle.one_history.specs.declared.book.Book.{Book}
+use Rattle.one_history.specs.declared.slot.Slot.{Slot}
+use Rattle.one_history.specs.declared.slot.Slot.TheVariants.{Home, HeldBy}
+use Rattle.one_history.specs.Turns.{record_of, unseen, drew}
+use Rattle.one_history.specs.OneHistory.{IsFront, IsUpTo, Holds, Knows, IsOneHistory, changes_by, stripe_in}
+use Rattle.one_history.specs.Moves.{BookMoves}
+use Rattle.one_history.specs.Kept.{slot_of, Lies, draws_left, IsKept}
+use Rattle.one_history.proofs.Fronts.{front_refl, front_trans, front_one}
+use Rattle.one_history.proofs.Legal.{calls_longer, calls_both, sections_longer}
+use Rattle.one_history.proofs.Contents.{content_drawn, content_other, own_reply}
+use Rattle.one_history.proofs.Orders.{order_push, push_change, own_more, other_more}
+use Rattle.one_history.proofs.Knowing.{up_to_more, done_same}
+use Rattle.one_history.proofs.Slots.{one_turned, same_record, other_records, holds_still, held_before, room_drawn, count_small}
+use Rattle.one_history.proofs.Watching.{whole}
 
 stripe_drawn : (q : ℕ) (c : Command) (x : Option Holding) → stripe_in (drawing_at q c x) ≡ stripe_in x
 stripe_drawn q c None = refl

@@ -12,17 +12,17 @@ use Rattle.ticket_order.specs.Records.{reach, looking, looking_at, seeing, livin
 use Rattle.ticket_order.specs.StepRules.{Looks, Sees, Lives, MayPublish}
 use Rattle.ticket_order.specs.Legality.{IsContent}
 use Rattle.map_types.specs.declared.commands.Command.{Command}
-use Rattle.plain_words.specs.declared.book.Book.{Book}
-use Rattle.plain_words.specs.declared.book.Deeds.{Deeds}
-use Rattle.plain_words.specs.declared.slot.Slot.{Slot}
-use Rattle.plain_words.specs.declared.slot.Slot.TheVariants.{HeldBy}
-use Rattle.plain_words.specs.Turns.{record_of, unseen, unseen_to, looked, saw, found_alive, found_held, published, failed}
-use Rattle.plain_words.specs.OneHistory.{IsFront, IsUpTo, HasDone, Holds, Knows, IsOneHistory, HoldsStripe, stripe_in}
-use Rattle.plain_words.specs.Moves.{BookMoves, WordsMove, SameWords}
-use Rattle.plain_words.specs.Kept.{slot_of, Lies, draws_left, IsKept}
-use Rattle.plain_words.proofs.Fronts.{front_refl, all_seen, sees_to, SeesTo, front_length}
-use Rattle.plain_words.proofs.Knowing.{SeesMore, nothing_more, holds_longer, holds_looked, watches, up_to_more, reach_more, done_same, only_keeper, stands_by}
-use Rattle.plain_words.proofs.Slots.{turned, one_turned, same_record, other_records, room_turned, room_looked, kept_turned}
+use Rattle.one_history.specs.declared.book.Book.{Book}
+use Rattle.one_history.specs.declared.book.Deeds.{Deeds}
+use Rattle.one_history.specs.declared.slot.Slot.{Slot}
+use Rattle.one_history.specs.declared.slot.Slot.TheVariants.{HeldBy}
+use Rattle.one_history.specs.Turns.{record_of, unseen, unseen_to, looked, saw, found_alive, found_held, published, failed}
+use Rattle.one_history.specs.OneHistory.{IsFront, IsUpTo, HasDone, Holds, Knows, IsOneHistory, HoldsStripe, stripe_in}
+use Rattle.one_history.specs.Moves.{BookMoves, WordsMove, SameWords}
+use Rattle.one_history.specs.Kept.{slot_of, Lies, draws_left, IsKept}
+use Rattle.one_history.proofs.Fronts.{front_refl, all_seen, sees_to, SeesTo, front_length}
+use Rattle.one_history.proofs.Knowing.{SeesMore, nothing_more, holds_longer, holds_looked, watches, up_to_more, reach_more, done_same, only_keeper, stands_by}
+use Rattle.one_history.proofs.Slots.{turned, one_turned, same_record, other_records, room_turned, room_looked, kept_turned}
 
 stripe_looked : (q : ℕ) (x : Option Holding) → stripe_in (looking_at q x) ≡ stripe_in x
 stripe_looked q None = refl
@@ -115,12 +115,17 @@ module _ (n t durable : ℕ) (has_failed : Bool) (slots : List Slot) (b : Book) 
       let r : Record = record_of j b in let between : List Command = unseen_to b.deeds.durable r b.history in
       kept_more (seeing r b.deeds.durable between) between (record { opening = refl; seen = refl; calls = refl }) (sees_all b.deeds.durable kept.one.reached).front refl refl refl refl refl refl refl
 
+  published_low : (x : Bool) → HasDone b.opening b.deeds (record_of j b) x → (record_of j b).published ≤ b.deeds.durable
+  published_low true d = omega (arith, d.1)
+  published_low false d = (let low : b.opening.first ≤ b.deeds.durable = kept.one.begun in omega (arith, d.1))
+
   pub sees : Sees (record_of j b) durable (record_of j (saw j b))
+  unfolding here
   sees =
       let r : Record = record_of j b in let between : List Command = unseen_to b.deeds.durable r b.history in
       let w : Record = seeing r b.deeds.durable between in
       let same : record_of j (saw j b) ≡ w = same_record b j w b.history b.authors b.deeds within in
-      rw (kept.durable_is, same) (record { between = between; is = refl; rises = (sees_all b.deeds.durable kept.one.reached).rises })
+      rw (kept.durable_is, same) (record { between = between; is = refl; published = published_low r.keeper here.done; rises = (sees_all b.deeds.durable kept.one.reached).rises })
 
   pub moves_saw : BookMoves j (made.Saw durable) b (saw j b)
   moves_saw = let r : Record = record_of j b in let w : Record = seeing r b.deeds.durable (unseen_to b.deeds.durable r b.history) in moved w (made.Saw durable) b.history b.authors b.deeds (same_words w, kept.durable_is)

@@ -14,9 +14,9 @@ use Rattle.ticket_order.specs.declared.record.Record.{Record}
 use Rattle.ticket_order.specs.Records.{reach}
 use Rattle.ticket_order.specs.Legality.{history_from, IsContent}
 use Rattle.ticket_order.specs.StepRules.{AllLegalCalls, AllLegalSections}
-use Rattle.plain_words.specs.declared.book.Deeds.{Deeds}
-use Rattle.plain_words.specs.OneHistory.{IsFront, changes_in, IsUpTo, AreInOrder, HasDone, HasSeen, Holds, Knows}
-use Rattle.plain_words.proofs.Legal.{section_longer, calls_longer, sections_longer}
+use Rattle.one_history.specs.declared.book.Deeds.{Deeds}
+use Rattle.one_history.specs.OneHistory.{IsFront, changes_in, IsUpTo, AreInOrder, HasDone, HasSeen, Holds, Knows}
+use Rattle.one_history.proofs.Legal.{section_longer, calls_longer, sections_longer}
 
 -- the record w has seen more than v, and made no other call
 pub record SeesMore (v w : Record) (more : List Command) : Type 0 where

@@ -9,9 +9,7 @@ use Rattle.ticket_order.specs.declared.record.Opening.{Opening}
 use Rattle.ticket_order.specs.declared.record.Purpose.{Purpose}
 use Rattle.ticket_order.specs.declared.record.Record.{Record}
 use Rattle.ticket_order.specs.Records.{past, newcomer, keeper_at_start, enrolling, missing, taking, looking, drawing, giving, swept_by, publishing, seeing, failing, living}
-use Rattle.plain_words.specs.declared.book.Book.{Book}
-use Rattle.plain_words.specs.declared.chronicle.Turn.{Turn}
-use Rattle.plain_words.specs.declared.chronicle.Turn.TheVariants.{Took, FoundHeld, Gave, Drew, Looked, Published, Saw, Failed, FoundAlive}
+use Rattle.one_history.specs.declared.book.Book.{Book}
 
 -- the record of the pass j
 abbrev pub record_of : ℕ → Book → Record
@@ -66,16 +64,9 @@ failed j b = record (with_record j (failing (record_of j b)) b) { deeds = record
 abbrev pub found_alive : ℕ → Book → Book
 found_alive j b = with_record j (living (record_of j b) (not b.deeds.failed)) b
 
-abbrev pub after : ℕ → Turn → Book → Book
-after j (Took i content) b = took j i content.now b
-after j (FoundHeld i) b = found_held j i b
-after j (Gave p) b = gave j p.now b
-after j (Drew c) b = drew j c.now b
-after j Looked b = looked j b
-after j (Published n) b = published j n b
-after j Saw b = saw j b
-after j Failed b = failed j b
-after j FoundAlive b = found_alive j b
+-- one more pass, which has made no step
+abbrev pub joined : Book → Book
+joined b = record b { passes = b.passes ++ enrolling (newcomer b.opening) (length b.passes + 1) ∷ [] }
 
 -- no step was made; the keeper's pass comes after those of the workers
 abbrev pub started : Opening → ℕ → ℕ → Book

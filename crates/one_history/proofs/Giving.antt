@@ -23,19 +23,19 @@ use Rattle.ticket_order.specs.declared.record.Record.{Record}
 use Rattle.ticket_order.specs.Records.{reach, call, giving, calls_for, answered, sections_for, captured, swept_by, outbox_for}
 use Rattle.ticket_order.specs.Legality.{IsContent, history_of}
 use Rattle.ticket_order.specs.StepRules.{MayGive, Suits, Gives, AllLegalCalls, AllLegalSections}
-use Rattle.plain_words.specs.declared.book.Book.{Book}
-use Rattle.plain_words.specs.declared.book.Deeds.{Deeds}
-use Rattle.plain_words.specs.declared.slot.Slot.{Slot}
-use Rattle.plain_words.specs.declared.slot.Slot.TheVariants.{Home, HeldBy}
-use Rattle.plain_words.specs.Turns.{record_of, gave}
-use Rattle.plain_words.specs.OneHistory.{IsUpTo, HasDone, HasSeen, Holds, Knows, IsOneHistory, HoldsStripe, AreInOrder, changes_in, stripe_in}
-use Rattle.plain_words.specs.Moves.{BookMoves}
-use Rattle.plain_words.specs.Kept.{slot_of, Lies, IsKept}
-use Rattle.plain_words.proofs.Legal.{calls_longer, calls_both, sections_longer, sections_both, read_of_section}
-use Rattle.plain_words.proofs.Contents.{content_swept, content_unswept}
-use Rattle.plain_words.proofs.Orders.{order_push, push_read}
-use Rattle.plain_words.proofs.Knowing.{nothing_more, watches, only_keeper, done_by_none}
-use Rattle.plain_words.proofs.Slots.{one_turned, same_record, other_records, other_holds, other_held, room_turned}
+use Rattle.one_history.specs.declared.book.Book.{Book}
+use Rattle.one_history.specs.declared.book.Deeds.{Deeds}
+use Rattle.one_history.specs.declared.slot.Slot.{Slot}
+use Rattle.one_history.specs.declared.slot.Slot.TheVariants.{Home, HeldBy}
+use Rattle.one_history.specs.Turns.{record_of, gave}
+use Rattle.one_history.specs.OneHistory.{IsUpTo, HasDone, HasSeen, Holds, Knows, IsOneHistory, HoldsStripe, AreInOrder, changes_in, stripe_in}
+use Rattle.one_history.specs.Moves.{BookMoves}
+use Rattle.one_history.specs.Kept.{slot_of, Lies, IsKept}
+use Rattle.one_history.proofs.Legal.{calls_longer, calls_both, sections_longer, sections_both, read_of_section}
+use Rattle.one_history.proofs.Contents.{content_swept, content_unswept}
+use Rattle.one_history.proofs.Orders.{order_push, push_read}
+use Rattle.one_history.proofs.Knowing.{nothing_more, watches, only_keeper, done_by_none}
+use Rattle.one_history.proofs.Slots.{one_turned, same_record, other_records, other_holds, other_held, room_turned}
 
 -- the content that goes back is that of the stripe, less what a sweep keeps
 content_back : (o : Opening) (n : ℕ) (h : List Command) (taken : List Entry) (d : Holding) (p : Purpose) → IsContent o n h taken d.stripe d.part d.outbox → IsContent o n h (taken ++ swept_by p (Some d)) d.stripe d.part (outbox_for p d)

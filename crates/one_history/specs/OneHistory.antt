@@ -13,9 +13,9 @@ use Rattle.ticket_order.specs.declared.record.Record.{Record}
 use Rattle.ticket_order.specs.Records.{reach}
 use Rattle.ticket_order.specs.Legality.{history_of, IsLegalSection, IsContent}
 use Rattle.ticket_order.specs.StepRules.{AllLegalCalls, AllLegalSections}
-use Rattle.plain_words.specs.declared.book.Book.{Book}
-use Rattle.plain_words.specs.declared.book.Deeds.{Deeds}
-use Rattle.plain_words.specs.Turns.{record_of, maps_of}
+use Rattle.one_history.specs.declared.book.Book.{Book}
+use Rattle.one_history.specs.declared.book.Deeds.{Deeds}
+use Rattle.one_history.specs.Turns.{record_of, maps_of}
 
 -- the history begins with what was seen
 pub record IsFront (seen h : List Command) : Type 0 where

@@ -4,7 +4,7 @@ use Rattle.std.proofs.lemmas.List.{take-append-drop, length-take-le}
 use Rattle.std.proofs.Math.Seq.{drop-append_seam, take-append-add}
 use Rattle.std.proofs.lemmas.Bool.{cases_lt}
 use Rattle.map_types.specs.declared.commands.Command.{Command}
-use Rattle.plain_words.specs.OneHistory.{IsFront}
+use Rattle.one_history.specs.OneHistory.{IsFront}
 
 pub front_refl : (h : List Command) → IsFront h h
 front_refl h = record { rest = []; is = sym (append-nil h) }

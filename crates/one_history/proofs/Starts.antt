@@ -19,14 +19,14 @@ use Rattle.atomic_methods.specs.PartState.{PartState}
 use Rattle.ticket_order.specs.declared.record.Opening.{Opening}
 use Rattle.ticket_order.specs.declared.record.Record.{Record}
 use Rattle.ticket_order.specs.Records.{newcomer, keeper_at_start, enrolling}
-use Rattle.plain_words.specs.declared.book.Book.{Book}
-use Rattle.plain_words.specs.declared.book.Deeds.{Deeds}
-use Rattle.plain_words.specs.declared.slot.Slot.{Slot}
-use Rattle.plain_words.specs.declared.slot.Slot.TheVariants.{Home, HeldBy}
-use Rattle.plain_words.specs.Turns.{record_of, maps_of, opening_of, started, at_start}
-use Rattle.plain_words.specs.OneHistory.{Knows, IsOneHistory, HoldsStripe, AreParts, changes_by, changes_in, stripe_in}
-use Rattle.plain_words.specs.Kept.{slot_of, Lies, draws_left, IsKept, IsPlaced, ArePlaced, AreEmpty, no_part}
-use Rattle.plain_words.proofs.Fronts.{front_refl}
+use Rattle.one_history.specs.declared.book.Book.{Book}
+use Rattle.one_history.specs.declared.book.Deeds.{Deeds}
+use Rattle.one_history.specs.declared.slot.Slot.{Slot}
+use Rattle.one_history.specs.declared.slot.Slot.TheVariants.{Home, HeldBy}
+use Rattle.one_history.specs.Turns.{record_of, maps_of, opening_of, started, at_start}
+use Rattle.one_history.specs.OneHistory.{Knows, IsOneHistory, HoldsStripe, AreParts, changes_by, changes_in, stripe_in}
+use Rattle.one_history.specs.Kept.{slot_of, Lies, draws_left, IsKept, IsPlaced, ArePlaced, AreEmpty, no_part}
+use Rattle.one_history.proofs.Fronts.{front_refl}
 
 -- one more part at home
 pub placed_push : (parts : List PartState) (slots : List Slot) (p : PartState) (x : Slot) → ArePlaced parts slots → IsPlaced p x → ArePlaced (parts ++ p ∷ []) (slots ++ x ∷ [])

@@ -14,17 +14,17 @@ use Rattle.ticket_order.specs.declared.record.Record.{Record}
 use Rattle.ticket_order.specs.Records.{past, taking}
 use Rattle.ticket_order.specs.Legality.{IsContent, entries_of, entries_from}
 use Rattle.ticket_order.specs.StepRules.{Collects, TakesStripe}
-use Rattle.plain_words.specs.declared.book.Book.{Book}
-use Rattle.plain_words.specs.declared.slot.Slot.{Slot}
-use Rattle.plain_words.specs.declared.slot.Slot.TheVariants.{Home, HeldBy}
-use Rattle.plain_words.specs.Turns.{record_of, unseen_to, took}
-use Rattle.plain_words.specs.OneHistory.{HasDone, Holds, Knows, IsOneHistory, HoldsStripe, stripe_in}
-use Rattle.plain_words.specs.Moves.{BookMoves, IsFree}
-use Rattle.plain_words.specs.Kept.{slot_of, Lies, IsKept}
-use Rattle.plain_words.proofs.Fronts.{SeesTo, sees_to}
-use Rattle.plain_words.proofs.Contents.{past_within}
-use Rattle.plain_words.proofs.Knowing.{SeesMore, watches, done_same}
-use Rattle.plain_words.proofs.Slots.{one_turned, same_record, other_records, other_holds, other_held, room_turned}
+use Rattle.one_history.specs.declared.book.Book.{Book}
+use Rattle.one_history.specs.declared.slot.Slot.{Slot}
+use Rattle.one_history.specs.declared.slot.Slot.TheVariants.{Home, HeldBy}
+use Rattle.one_history.specs.Turns.{record_of, unseen_to, took}
+use Rattle.one_history.specs.OneHistory.{HasDone, Holds, Knows, IsOneHistory, HoldsStripe, stripe_in}
+use Rattle.one_history.specs.Moves.{BookMoves, IsFree}
+use Rattle.one_history.specs.Kept.{slot_of, Lies, IsKept}
+use Rattle.one_history.proofs.Fronts.{SeesTo, sees_to}
+use Rattle.one_history.proofs.Contents.{past_within}
+use Rattle.one_history.proofs.Knowing.{SeesMore, watches, done_same}
+use Rattle.one_history.proofs.Slots.{one_turned, same_record, other_records, other_holds, other_held, room_turned}
 
 module _ (n t durable : ℕ) (has_failed : Bool) (slots : List Slot) (b : Book) (j : ℕ) (kept : IsKept n t durable has_failed slots b) (within : j < length b.passes) (i : ℕ) (content : Stripe) (lt : i < b.stripes) (empty : (record_of j b).holding ≡ None) (home : slot_of i slots ≡ Home content) where
   abbrev m : Map

@@ -6,10 +6,10 @@ use Rattle.atomic_methods.specs.PartState.{PartState}
 use Rattle.ticket_order.specs.declared.record.Record.{Record}
 use Rattle.ticket_order.specs.Records.{ticket_limit}
 use Rattle.ticket_order.specs.Legality.{IsContent}
-use Rattle.plain_words.specs.declared.book.Book.{Book}
-use Rattle.plain_words.specs.declared.slot.Slot.{Slot}
-use Rattle.plain_words.specs.declared.slot.Slot.TheVariants.{Home, HeldBy}
-use Rattle.plain_words.specs.OneHistory.{IsOneHistory, HoldsStripe}
+use Rattle.one_history.specs.declared.book.Book.{Book}
+use Rattle.one_history.specs.declared.slot.Slot.{Slot}
+use Rattle.one_history.specs.declared.slot.Slot.TheVariants.{Home, HeldBy}
+use Rattle.one_history.specs.OneHistory.{IsOneHistory, HoldsStripe}
 
 abbrev pub slot_of : ℕ → List Slot → Slot
 slot_of i slots = slice_index_or slots i (HeldBy 0)

@@ -10,7 +10,7 @@ use Rattle.map_types.specs.declared.commands.Reply.{Reply}
 use Rattle.ticket_order.specs.declared.record.Asked.TheVariants.{Changing, Reading}
 use Rattle.ticket_order.specs.declared.record.Call.{Call}
 use Rattle.ticket_order.specs.Records.{call}
-use Rattle.plain_words.specs.OneHistory.{changes_by, changes_in, if_change, Follows, StandsAfter, AreInOrder}
+use Rattle.one_history.specs.OneHistory.{changes_by, changes_in, if_change, Follows, StandsAfter, AreInOrder}
 
 pub order_push : (xs : List Call) (y : Call) → AreInOrder xs → All (λ (x : Call). Follows x.position y.asked y.position) xs → AreInOrder (xs ++ y ∷ [])
 order_push [] y o a = (λ k d l. absurd (let none : k < 0 = l in omega arith), tt)

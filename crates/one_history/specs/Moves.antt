@@ -7,9 +7,9 @@ use Rattle.ticket_order.specs.declared.record.StepMade.{StepMade}
 use Rattle.ticket_order.specs.declared.record.StepMade.TheVariants.{Took, FoundHeld, Gave, Drew, Looked, Published, Saw, Failed, FoundAlive}
 use Rattle.ticket_order.specs.declared.record.Asked.TheVariants.{Changing}
 use Rattle.ticket_order.specs.Records.{call}
-use Rattle.plain_words.specs.declared.book.Book.{Book}
-use Rattle.plain_words.specs.Turns.{record_of}
-use Rattle.plain_words.specs.OneHistory.{HoldsStripe}
+use Rattle.one_history.specs.declared.book.Book.{Book}
+use Rattle.one_history.specs.Turns.{record_of}
+use Rattle.one_history.specs.OneHistory.{HoldsStripe}
 
 -- no pass holds the stripe
 abbrev pub IsFree : ℕ → Book → Type 0

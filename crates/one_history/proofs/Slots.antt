@@ -9,13 +9,13 @@ use Rattle.std.proofs.lemmas.Bool.{cases_eq, cases_lt, le-ltb}
 use Rattle.map_types.specs.declared.commands.Command.{Command}
 use Rattle.ticket_order.specs.declared.record.Record.{Record}
 use Rattle.ticket_order.specs.Records.{newcomer, looking}
-use Rattle.plain_words.specs.declared.book.Book.{Book}
-use Rattle.plain_words.specs.declared.book.Deeds.{Deeds}
-use Rattle.plain_words.specs.declared.slot.Slot.{Slot}
-use Rattle.plain_words.specs.declared.slot.Slot.TheVariants.{Home, HeldBy}
-use Rattle.plain_words.specs.Turns.{record_of}
-use Rattle.plain_words.specs.OneHistory.{Knows, IsOneHistory, HoldsStripe, HoldApart, stripe_in}
-use Rattle.plain_words.specs.Kept.{slot_of, Lies, draws_left, HasRoom, IsKept}
+use Rattle.one_history.specs.declared.book.Book.{Book}
+use Rattle.one_history.specs.declared.book.Deeds.{Deeds}
+use Rattle.one_history.specs.declared.slot.Slot.{Slot}
+use Rattle.one_history.specs.declared.slot.Slot.TheVariants.{Home, HeldBy}
+use Rattle.one_history.specs.Turns.{record_of}
+use Rattle.one_history.specs.OneHistory.{Knows, IsOneHistory, HoldsStripe, HoldApart, stripe_in}
+use Rattle.one_history.specs.Kept.{slot_of, Lies, draws_left, HasRoom, IsKept}
 
 -- what holds of each record, after one was put in another's place
 pub each : (P : ℕ → Record → Type 0) (xs : List Record) (j : ℕ) (v d : Record) → j < length xs → P j v → ((l : ℕ) → l < length xs → l ≢ j → P l (get_or xs l d)) → (l : ℕ) → l < length (set xs j v) → P l (get_or (set xs j v) l d)
