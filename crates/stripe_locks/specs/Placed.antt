@@ -1,5 +1,5 @@
 -- The parts as they are stored at the start.
-use Rattle.std.specs.Prelude.{◌≡◌, ℕ, ◌<◌, List, [], length, Option, Some, None, ⊥, map, slice_index_or}
+use Rattle.std.specs.Prelude.{List, Option, Some, None, map}
 use Rattle.atomic_methods.specs.PartState.{PartState}
 use Rattle.ticket_order.specs.declared.stripe.Stripe.{Stripe}
 use Rattle.one_history.specs.declared.slot.Slot.{Slot}

@@ -1,5 +1,5 @@
 -- What each step on the words tells its pass: `m` is the pass's seat before it, `m'` after it, and `r` what was found in the word.
-use Rattle.std.specs.Prelude.{◌≡◌, ◌≢◌, ℕ, ◌+◌, ◌-◌, ◌<◌, ◌≤◌, ◌==◌, List, [], ◌∷◌, Option, Some, None, suc}
+use Rattle.std.specs.Prelude.{◌≡◌, ◌≢◌, ℕ, ◌+◌, ◌-◌, ◌<◌, ◌≤◌, ◌==◌, List, [], ◌∷◌, Option, Some, None}
 use Rattle.atomic_table.specs.Table.{Me, Step, rest}
 use Rattle.map_types.specs.declared.commands.Command.{Command}
 use Rattle.ticket_order.specs.declared.stripe.Stripe.{Stripe}
@@ -7,7 +7,7 @@ use Rattle.ticket_order.specs.declared.record.Opening.{Opening}
 use Rattle.ticket_order.specs.declared.record.Purpose.{Purpose}
 use Rattle.ticket_order.specs.declared.record.Holding.{Holding}
 use Rattle.ticket_order.specs.declared.record.Record.{Record}
-use Rattle.ticket_order.specs.Records.{newcomer, keeper_at_start, enrolling, meeting, missing, stripe_held}
+use Rattle.ticket_order.specs.Records.{newcomer, enrolling, meeting, missing}
 use Rattle.ticket_order.specs.StepRules.{TakesStripe, Looks, Draws, Gives, Publishes, Sees, Fails, Lives}
 
 abbrev pub Sat : Type 0
@@ -24,10 +24,9 @@ pub record IsSameOne (v w : Record) : Type 0 where
   pub passes : w.passes ≡ v.passes
   pub keeper : w.keeper ≡ v.keeper
 
--- the record of a pass that joins after so many others
+-- the record of a pass that joins after so many others; the first is the keeper's
 abbrev pub joining : Opening → ℕ → Record
-joining o zero = enrolling (keeper_at_start o) 1
-joining o (suc k) = enrolling (newcomer o) (suc k + 1)
+joining o k = record (enrolling (newcomer o) (k + 1)) { keeper = k == 0 }
 
 abbrev pub sat : Step (Option Stripe) → Sat → ℕ → Sat → Type 0
 sat st m r m' = (m'.0 ≡ meeting m.0 r) × (r ≤ 4096)

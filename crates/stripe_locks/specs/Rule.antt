@@ -2,6 +2,7 @@
 -- The words are the ticket count, the durable count, the failure word, the count of passes, and then one for each stripe.
 use Rattle.std.specs.Prelude.{◌≡◌, ℕ, ◌+◌, ◌<◌, ◌≤◌, max, List, length, map, Option, Some, Bool, true, false, slice_index}
 use mathlib.Core.Option.{some}
+use mathlib.Core.Option as maybe
 use lib.ListN.{get_elem?}
 use Rattle.atomic_table.specs.Table.{State}
 use Rattle.map_types.specs.declared.commands.Command.{Command}
@@ -22,9 +23,9 @@ bit true = 1
 bit false = 0
 
 -- A stripe whose word is 0 has its content at home. Else the word is the number of the pass that holds it: passes are numbered from 1 on, in the order of the book.
-abbrev pub Stands : State (Option Stripe) Record → ℕ → Slot → Type 0
-Stands s i (Home content) = (slice_index s.words (i + 4) ≡ 0) × (get_elem? s.homes i ≡ some (some (Some content)))
-Stands s i (HeldBy j) = slice_index s.words (i + 4) ≡ j + 1
+abbrev pub Stands : List ℕ → List (maybe.Option (Option Stripe)) → ℕ → Slot → Type 0
+Stands words homes i (Home content) = (slice_index words (i + 4) ≡ 0) × (get_elem? homes i ≡ some (some (Some content)))
+Stands words homes i (HeldBy j) = slice_index words (i + 4) ≡ j + 1
 
 -- the seat is that of the pass at this place of the book, whose record is its view
 pub record IsSeated (seats : ℕ → ℕ) (b : Book) (joined : ℕ) (id : ℕ) (v : Record) : Type 0 where
@@ -60,5 +61,5 @@ pub record Kept (o : Opening) (s : State (Option Stripe) Record) : Type 0 where
   pub joined : length book.passes ≡ max 1 (slice_index s.words 3)
   pub keeper : book.deeds.keeper ≡ 0
   pub unjoined : slice_index s.words 3 ≡ 0 → record_of 0 book ≡ enrolling (keeper_at_start o) 1
-  pub each_stripe : (i : ℕ) → i < length s.homes → Stands s i (slot_of i slots)
+  pub each_stripe : (i : ℕ) → i < length s.homes → Stands s.words s.homes i (slot_of i slots)
   pub each_seat : (id : ℕ) (v : Record) → get_elem? s.views id ≡ some v → Sits seats book (slice_index s.words 3) id v v.enrolled

@@ -6,6 +6,7 @@ mod board;
 mod calls;
 mod plays;
 mod rule;
+mod starts;
 mod steps;
 mod stripes;
 #[cfg(test)]

@@ -3,7 +3,6 @@ ghost use Rattle.std.specs.Prelude.{◌≡◌, ◌<◌, ◌==◌, true};
 ghost use Rattle.ticket_order.specs.Records.{newcomer, stripe_held};
 ghost use Rattle.stripe_locks.specs.Rule.{Kept};
 ghost use Rattle.stripe_locks.specs.Plays.{carried};
-ghost use Rattle.stripe_locks.specs.Passes.{recorded};
 
 use crate::beginning::Beginning;
 use atomic_table::{Seat, TableRule};
@@ -30,13 +29,4 @@ pub struct Pass {
     ghost counts: { 0 < number },
     ghost within: { stripe_held seat.me.0.holding < seat.table_id.slots },
     ghost keeps: { seat.me.0.keeper ≡ (number == 1) },
-}
-
-impl Pass {
-    /// Whether this is the pass that sweeps, publishes and fails: the first one of its `Stripes`.
-    pub fn is_keeper(&self) -> bool
-        ensures { result ≡ (recorded self.now).keeper }
-    {
-        self.number == 1
-    }
 }
