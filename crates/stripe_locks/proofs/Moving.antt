@@ -102,12 +102,15 @@ module _ (o : Opening) (n id : ℕ) (me : M) (i number : ℕ) (is_pass : me.0.en
       let zero_on : get_or words' 0 0 ≡ get_or s.words 0 0 = get_or-set_other s.words (i + 4) 0 number 0 (λ e. omega arith) in
       let one_on : get_or words' 1 0 ≡ get_or s.words 1 0 = get_or-set_other s.words (i + 4) 1 number 0 (λ e. omega arith) in
       let holds : get_or words' (i + 4) 0 ≡ q.place + 1 = get_or-set_same s.words (i + 4) number 0 (omega arith) ∙ (sym numbered ∙ q.number_is) in
-      let sized : i < length k.slots = (let l : length k.slots ≡ length s.homes = k.kept.sized in omega arith) in
-      (w, takes i (Some f.content), f.home_is,
+      let sized : i < length k.slots = (let l : length k.slots ≡ length s.homes = k.kept.sized in omega arith) in (
+        w,
+        takes i (Some f.content),
+        f.home_is,
         turned o s k id me.0 at is_pass (made.Took i f.content.outbox.items) b' (set k.slots i (HeldBy q.place)) words' (set s.homes i none) (moves_took _ _ _ _ _ k.book q.place k.kept in_it i f.content of_book no_stripe f.slot_is) refl (front_refl k.book.history) same
             (rw (zero_on, one_on) kept') (length-set s.words (i + 4) number) (length-set s.homes i none) (get_or-set_other s.words (i + 4) 2 number 0 (λ e. omega arith) ∙ k.failure) (get_or-set_other s.words (i + 4) 3 number 0 (λ e. omega arith))
             (all_stand s.words s.homes k.slots i number none (HeldBy q.place) sized k.each_stripe holds),
-        ((λ _. subst (λ (m : ℕ). TakesHome n m me (w, (i, Some f.content) ∷ me.1)) (sym minus) (record { content = f.content; has = refl; takes = told'; same = same })), λ held. absurd (held zero)))
+        ((λ _. subst (λ (m : ℕ). TakesHome n m me (w, (i, Some f.content) ∷ me.1)) (sym minus) (record { content = f.content; has = refl; takes = told'; same = same })), λ held. absurd (held zero)),
+      )
 
   found_held : get_or s.words (i + 4) 0 ≢ 0 → Goes o s (i + 4) id me told (get_or s.words (i + 4) 0)
   unfolding q
@@ -116,10 +119,13 @@ module _ (o : Opening) (n id : ℕ) (me : M) (i number : ℕ) (is_pass : me.0.en
       let b' : Book = turns.found_held q.place i k.book in
       let w : Record = record_of q.place b' in
       let law : w ≡ missing me.0 i = misses _ _ _ _ _ k.book q.place k.kept in_it i ∙ ap (λ (v : Record). missing v i) q.view_is in
-      let same : IsSameOne me.0 w = record { enrolled = ap (λ (r : Record). r.enrolled) law; passes = ap (λ (r : Record). r.passes) law; keeper = ap (λ (r : Record). r.keeper) law } in
-      (w, keeps, tt,
+      let same : IsSameOne me.0 w = record { enrolled = ap (λ (r : Record). r.enrolled) law; passes = ap (λ (r : Record). r.passes) law; keeper = ap (λ (r : Record). r.keeper) law } in (
+        w,
+        keeps,
+        tt,
         reread o s k id me.0 at is_pass (made.FoundHeld i) b' (i + 4) me.1 (moves_found_held _ _ _ _ _ k.book q.place k.kept in_it i f.holder of_book no_stripe f.slot_is) refl refl same (kept_found_held _ _ _ _ _ k.book q.place k.kept in_it i),
-        ((λ free. absurd (ne free)), λ _. (refl, law ∙ ap (missing me.0) (sym minus))))
+        ((λ free. absurd (ne free)), λ _. (refl, law ∙ ap (missing me.0) (sym minus))),
+      )
 
 pub allows_take : (o : Opening) (n id : ℕ) (me : M) (i number : ℕ) → me.0.enrolled ≡ true → me.0.holding ≡ None → i < n → me.0.passes ≡ number → Allows (Kept o) n id me (i + 4) (λ x. either (eqb x 0) number x) (took (step n (i + 4) 0 number none) me)
 allows_take o n id me i number is_pass empty lt numbered s k wide at range =
@@ -146,9 +152,12 @@ allows_give o n id me i content p more is_pass has may s k wide at range =
     let zero_on : get_or words' 0 0 ≡ get_or s.words 0 0 = get_or-set_other s.words (i + 4) 0 0 0 (λ e. omega arith) in
     let one_on : get_or words' 1 0 ≡ get_or s.words 1 0 = get_or-set_other s.words (i + 4) 1 0 0 (λ e. omega arith) in
     let free : get_or words' (i + 4) 0 ≡ 0 = get_or-set_same s.words (i + 4) 0 0 (omega arith) in
-    subst (λ (cs : List (ℕ × Option Stripe)). Goes o s (i + 4) id (me.0, cs) (λ _. gave p (step n (i + 4) 0 0 none) (me.0, cs) 0) 0) (sym has)
-        (w, gives, tt,
-          turned o s k id me.0 at is_pass (made.Gave i) b' (set k.slots i (Home content)) words' homes' (moves_gave _ _ _ _ _ k.book q.place k.kept in_it i content p may') refl (front_refl k.book.history) same
-              (rw (zero_on, one_on) kept') (length-set s.words (i + 4) 0) (length-set s.homes i (some (Some content))) (get_or-set_other s.words (i + 4) 2 0 0 (λ e. omega arith) ∙ k.failure) (get_or-set_other s.words (i + 4) 3 0 0 (λ e. omega arith))
-              (all_stand s.words s.homes k.slots i 0 (some (Some content)) (Home content) sized k.each_stripe (free, set_here s.homes i (some (Some content)) within)),
-          (refl, told))
+    subst (λ (cs : List (ℕ × Option Stripe)). Goes o s (i + 4) id (me.0, cs) (λ _. gave p (step n (i + 4) 0 0 none) (me.0, cs) 0) 0) (sym has) (
+      w,
+      gives,
+      tt,
+      turned o s k id me.0 at is_pass (made.Gave i) b' (set k.slots i (Home content)) words' homes' (moves_gave _ _ _ _ _ k.book q.place k.kept in_it i content p may') refl (front_refl k.book.history) same
+          (rw (zero_on, one_on) kept') (length-set s.words (i + 4) 0) (length-set s.homes i (some (Some content))) (get_or-set_other s.words (i + 4) 2 0 0 (λ e. omega arith) ∙ k.failure) (get_or-set_other s.words (i + 4) 3 0 0 (λ e. omega arith))
+          (all_stand s.words s.homes k.slots i 0 (some (Some content)) (Home content) sized k.each_stripe (free, set_here s.homes i (some (Some content)) within)),
+      (refl, told),
+    )

@@ -37,22 +37,25 @@ put_else seats place id l ne = ap (λ b. cond b id (seats l)) (ne_eqb l place ne
 
 pub enters : (o : Opening) (n : ℕ) → Enters (Kept o) n 3 (λ x w. sat (step n 3 0 0 none) (newcomer o, []) x (w, []))
 enters o n s k wide range =
-    let w : Record = meeting (newcomer o) (get_or s.words 3 0) in
-    (w, record {
-      book = k.book;
-      slots = k.slots;
-      seats = k.seats;
-      opening = k.opening;
-      wide = k.wide;
-      kept = k.kept;
-      failure = k.failure;
-      few = k.few;
-      joined = k.joined;
-      keeper = k.keeper;
-      unjoined = k.unjoined;
-      each_stripe = k.each_stripe;
-      each_seat = λ l u e. ⊎_elim (k.each_seat l u) (λ new. subst (λ v. Sits k.seats k.book (get_or s.words 3 0) l v v.enrolled) new (record { few = omega arith; front = record { rest = k.book.history; is = refl }; other_front = record { rest = k.book.history; is = refl } })) (at_snoc s.views w u l e);
-    }, (refl, k.few))
+    let w : Record = meeting (newcomer o) (get_or s.words 3 0) in (
+      w,
+      record {
+        book = k.book;
+        slots = k.slots;
+        seats = k.seats;
+        opening = k.opening;
+        wide = k.wide;
+        kept = k.kept;
+        failure = k.failure;
+        few = k.few;
+        joined = k.joined;
+        keeper = k.keeper;
+        unjoined = k.unjoined;
+        each_stripe = k.each_stripe;
+        each_seat = λ l u e. ⊎_elim (k.each_seat l u) (λ new. subst (λ v. Sits k.seats k.book (get_or s.words 3 0) l v v.enrolled) new (record { few = omega arith; front = record { rest = k.book.history; is = refl }; other_front = record { rest = k.book.history; is = refl } })) (at_snoc s.views w u l e);
+      },
+      (refl, k.few),
+    )
 
 module _ (o : Opening) (n id : ℕ) (me : M) (old number : ℕ) (few : old < 4096) (next : number ≡ old + 1) (blank : me.0 ≡ meeting (newcomer o) old) (s : St) (k : Kept o s) (at : get_elem? s.views id ≡ some me.0) where
   abbrev told : ℕ → M → Type 0
@@ -113,34 +116,42 @@ module _ (o : Opening) (n id : ℕ) (me : M) (old number : ℕ) (few : old < 409
         | inr nz ↦
             let all : length k.book.passes ≡ old = omega arith in
             let last : record_of old (joined k.book) ≡ joining o old =
-            ap (λ l. record_of l (joined k.book)) (sym all) ∙ (joined_last _ _ _ _ _ k.book k.kept ∙ (ap (λ (p : Opening). enrolling (newcomer p) (length k.book.passes + 1)) k.opening ∙ (ap (λ (m : ℕ). enrolling (newcomer o) (m + 1)) all ∙ ap (λ b. record (enrolling (newcomer o) (old + 1)) { keeper = b }) (sym (ne_eqb old 0 nz))))) in
-            (joining o old, keeps, tt,
+            ap (λ l. record_of l (joined k.book)) (sym all) ∙ (joined_last _ _ _ _ _ k.book k.kept ∙ (ap (λ (p : Opening). enrolling (newcomer p) (length k.book.passes + 1)) k.opening ∙ (ap (λ (m : ℕ). enrolling (newcomer o) (m + 1)) all ∙ ap (λ b. record (enrolling (newcomer o) (old + 1)) { keeper = b }) (sym (ne_eqb old 0 nz))))) in (
+              joining o old,
+              keeps,
+              tt,
               sits_down (joined k.book) (joining o old) hit refl refl refl refl (joined_count _ _ _ _ _ k.book k.kept ∙ ap (λ (m : ℕ). m + 1) all) last (λ l lt. joined_before _ _ _ _ _ k.book k.kept l (omega arith)) (kept_joined _ _ _ _ _ k.book k.kept (omega arith)),
-              (refl, (λ e. rw (opening_is, hit) refl), λ ne. absurd (ne hit)))
+              (refl, (λ e. rw (opening_is, hit) refl), λ ne. absurd (ne hit)),
+            )
       ]
 
   found_more : get_or s.words 3 0 ≢ old → Goes o s 3 id me told (get_or s.words 3 0)
   found_more miss =
       let w : Record = meeting me.0 (get_or s.words 3 0) in
       let before : IsUnseated k.book (get_or s.words 3 0) me.0 = mine_before in
-      let was : me.0.passes ≤ get_or s.words 3 0 = before.few in
-      (w, keeps, tt, subst (λ (ws : List ℕ). Kept o record { words = ws; homes = s.homes; views = set s.views id w }) (sym (set-get_or s.words 3 0)) (record {
-        book = k.book;
-        slots = k.slots;
-        seats = k.seats;
-        opening = k.opening;
-        wide = k.wide;
-        kept = k.kept;
-        failure = k.failure;
-        few = k.few;
-        joined = k.joined;
-        keeper = k.keeper;
-        unjoined = k.unjoined;
-        each_stripe = k.each_stripe;
-        each_seat = seats_set (λ l u. Sits k.seats k.book (get_or s.words 3 0) l u u.enrolled) s.views id w
-            (subst (Sits k.seats k.book (get_or s.words 3 0) id w) (sym no_pass) (record { few = omega arith; front = before.front; other_front = before.other_front }))
-            (λ l u ne there. k.each_seat l u there);
-      }), (refl, (λ hit. absurd (miss hit)), λ ne. (refl, was, k.few)))
+      let was : me.0.passes ≤ get_or s.words 3 0 = before.few in (
+        w,
+        keeps,
+        tt,
+        subst (λ (ws : List ℕ). Kept o record { words = ws; homes = s.homes; views = set s.views id w }) (sym (set-get_or s.words 3 0)) (record {
+          book = k.book;
+          slots = k.slots;
+          seats = k.seats;
+          opening = k.opening;
+          wide = k.wide;
+          kept = k.kept;
+          failure = k.failure;
+          few = k.few;
+          joined = k.joined;
+          keeper = k.keeper;
+          unjoined = k.unjoined;
+          each_stripe = k.each_stripe;
+          each_seat = seats_set (λ l u. Sits k.seats k.book (get_or s.words 3 0) l u u.enrolled) s.views id w
+              (subst (Sits k.seats k.book (get_or s.words 3 0) id w) (sym no_pass) (record { few = omega arith; front = before.front; other_front = before.other_front }))
+              (λ l u ne there. k.each_seat l u there);
+        }),
+        (refl, (λ hit. absurd (miss hit)), λ ne. (refl, was, k.few)),
+      )
 
 pub enrolls : (o : Opening) (n id : ℕ) (me : M) (old number : ℕ) → old < 4096 → number ≡ old + 1 → me.0 ≡ meeting (newcomer o) old → Allows (Kept o) n id me 3 (λ x. either (eqb x old) number x) (enrolled (step n 3 old number none) me)
 enrolls o n id me old number few next blank s k wide at range =

@@ -69,10 +69,15 @@ allows_publish o n id me x is_pass may s k wide at range =
     let same : IsSameOne me.0 w = record { enrolled = ap (λ (r : Record). r.enrolled) told; passes = ap (λ (r : Record). r.passes) told; keeper = ap (λ (r : Record). r.keeper) told } in
     let zero_on : get_or words' 0 0 ≡ get_or s.words 0 0 = get_or-set_other s.words 1 0 d 0 (λ e. omega arith) in
     let one : get_or words' 1 0 ≡ d = get_or-set_same s.words 1 d 0 (let n4 : length s.words ≡ length s.homes + 4 = k.wide in omega arith) in
-    let law = kept_published _ _ _ _ _ k.book j k.kept in_it x (subst (λ v. MayPublish v x) (sym q.view_is) may) in
-    (w, keeps, tt, turned o s k id me.0 at is_pass (made.Published x) b' k.slots words' s.homes (moves_published _ _ _ _ _ k.book j k.kept in_it x) refl (front_refl k.book.history) same
-        (rw (zero_on, one) law) (length-set s.words 1 d) refl (get_or-set_other s.words 1 2 d 0 (λ e. omega arith) ∙ k.failure) (get_or-set_other s.words 1 3 d 0 (λ e. omega arith))
-        (λ i lt. stands_on s.words s.homes 1 i d (omega arith) (slot_of i k.slots) (k.each_stripe i lt)), (refl, told))
+    let law = kept_published _ _ _ _ _ k.book j k.kept in_it x (subst (λ v. MayPublish v x) (sym q.view_is) may) in (
+      w,
+      keeps,
+      tt,
+      turned o s k id me.0 at is_pass (made.Published x) b' k.slots words' s.homes (moves_published _ _ _ _ _ k.book j k.kept in_it x) refl (front_refl k.book.history) same
+          (rw (zero_on, one) law) (length-set s.words 1 d) refl (get_or-set_other s.words 1 2 d 0 (λ e. omega arith) ∙ k.failure) (get_or-set_other s.words 1 3 d 0 (λ e. omega arith))
+          (λ i lt. stands_on s.words s.homes 1 i d (omega arith) (slot_of i k.slots) (k.each_stripe i lt)),
+      (refl, told),
+    )
 
 pub allows_fail : (o : Opening) (n id : ℕ) (me : M) → me.0.enrolled ≡ true → me.0.keeper ≡ true → Allows (Kept o) n id me 2 (λ _. 1) (λ _. failed (step n 2 1 0 none) me 1)
 allows_fail o n id me is_pass keeper s k wide at range =
@@ -84,10 +89,15 @@ allows_fail o n id me is_pass keeper s k wide at range =
     let same : IsSameOne me.0 w = record { enrolled = ap (λ (r : Record). r.enrolled) told; passes = ap (λ (r : Record). r.passes) told; keeper = ap (λ (r : Record). r.keeper) told } in
     let zero_on : get_or words' 0 0 ≡ get_or s.words 0 0 = get_or-set_other s.words 2 0 1 0 (λ e. omega arith) in
     let one_on : get_or words' 1 0 ≡ get_or s.words 1 0 = get_or-set_other s.words 2 1 1 0 (λ e. omega arith) in
-    let law = kept_failed _ _ _ _ _ k.book j k.kept in_it (ap (λ (r : Record). r.keeper) q.view_is ∙ keeper) in
-    (w, keeps, tt, turned o s k id me.0 at is_pass made.Failed b' k.slots words' s.homes (moves_failed _ _ _ _ _ k.book j k.kept in_it) refl (front_refl k.book.history) same
-        (rw (zero_on, one_on) law) (length-set s.words 2 1) refl (get_or-set_same s.words 2 1 0 (let n4 : length s.words ≡ length s.homes + 4 = k.wide in omega arith)) (get_or-set_other s.words 2 3 1 0 (λ e. omega arith))
-        (λ i lt. stands_on s.words s.homes 2 i 1 (omega arith) (slot_of i k.slots) (k.each_stripe i lt)), (refl, told))
+    let law = kept_failed _ _ _ _ _ k.book j k.kept in_it (ap (λ (r : Record). r.keeper) q.view_is ∙ keeper) in (
+      w,
+      keeps,
+      tt,
+      turned o s k id me.0 at is_pass made.Failed b' k.slots words' s.homes (moves_failed _ _ _ _ _ k.book j k.kept in_it) refl (front_refl k.book.history) same
+          (rw (zero_on, one_on) law) (length-set s.words 2 1) refl (get_or-set_same s.words 2 1 0 (let n4 : length s.words ≡ length s.homes + 4 = k.wide in omega arith)) (get_or-set_other s.words 2 3 1 0 (λ e. omega arith))
+          (λ i lt. stands_on s.words s.homes 2 i 1 (omega arith) (slot_of i k.slots) (k.each_stripe i lt)),
+      (refl, told),
+    )
 
 pub allows_draw : (o : Opening) (n id : ℕ) (me : M) (c : Command) → me.0.enrolled ≡ true → MayDraw n me.0 c → Allows (Kept o) n id me 0 (λ x. (x + 1) % 2 ^ 64) (drew c (step n 0 1 0 none) me)
 allows_draw o n id me c is_pass may s k wide at range =
@@ -103,7 +113,12 @@ allows_draw o n id me c is_pass may s k wide at range =
     let same : IsSameOne me.0 w = record { enrolled = ap (λ (r : Record). r.enrolled) told.is; passes = ap (λ (r : Record). r.passes) told.is; keeper = ap (λ (r : Record). r.keeper) told.is } in
     let zero_now : get_or words' 0 0 ≡ get_or s.words 0 0 + 1 = get_or-set_same s.words 0 t 0 (let n4 : length s.words ≡ length s.homes + 4 = k.wide in omega arith) ∙ next in
     let one_on : get_or words' 1 0 ≡ get_or s.words 1 0 = get_or-set_other s.words 0 1 t 0 (λ e. omega arith) in
-    let law = kept_drew _ _ _ _ _ k.book j k.kept in_it c may' in
-    (w, keeps, tt, turned o s k id me.0 at is_pass (made.Drew (get_or s.words 0 0)) b' k.slots words' s.homes (moves_drew _ _ _ _ _ k.book j k.kept in_it c may') refl (front_one k.book.history c) same
-        (rw (zero_now, one_on) law) (length-set s.words 0 t) refl (get_or-set_other s.words 0 2 t 0 (λ e. omega arith) ∙ k.failure) (get_or-set_other s.words 0 3 t 0 (λ e. omega arith))
-        (λ i lt. stands_on s.words s.homes 0 i t (omega arith) (slot_of i k.slots) (k.each_stripe i lt)), (refl, told))
+    let law = kept_drew _ _ _ _ _ k.book j k.kept in_it c may' in (
+      w,
+      keeps,
+      tt,
+      turned o s k id me.0 at is_pass (made.Drew (get_or s.words 0 0)) b' k.slots words' s.homes (moves_drew _ _ _ _ _ k.book j k.kept in_it c may') refl (front_one k.book.history c) same
+          (rw (zero_now, one_on) law) (length-set s.words 0 t) refl (get_or-set_other s.words 0 2 t 0 (λ e. omega arith) ∙ k.failure) (get_or-set_other s.words 0 3 t 0 (λ e. omega arith))
+          (λ i lt. stands_on s.words s.homes 0 i t (omega arith) (slot_of i k.slots) (k.each_stripe i lt)),
+      (refl, told),
+    )

@@ -75,12 +75,12 @@ module _ (o : Opening) (s : St) (k : Kept o s) (id : ℕ) (v : Record) (at : get
     each_stripe = λ i lt. stands i (omega arith);
     each_seat = seats_set (λ l u. Sits k.seats b' (get_or words' 3 0) l u u.enrolled) s.views id (record_of seated.place b')
         (subst (Sits k.seats b' (get_or words' 3 0) id (record_of seated.place b')) (sym (same.enrolled ∙ is_pass)) (record {
-      place = seated.place;
-      number_is = same.passes ∙ seated.number_is;
-      within = (let lt : seated.place < get_or s.words 3 0 = seated.within in omega arith);
-      seat_is = seated.seat_is;
-      view_is = refl;
-    }))
+          place = seated.place;
+          number_is = same.passes ∙ seated.number_is;
+          within = (let lt : seated.place < get_or s.words 3 0 = seated.within in omega arith);
+          seat_is = seated.seat_is;
+          view_is = refl;
+        }))
         (λ l u ne there. other_sits made b' (get_or words' 3 0) moves grows three l u u.enrolled ne (k.each_seat l u there));
   }
 

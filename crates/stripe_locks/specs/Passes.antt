@@ -11,6 +11,9 @@ use Rattle.stripe_locks.specs.Plays.{joining}
 abbrev pub recorded : Pass → Record
 recorded p = p.seat.me.0
 
+abbrev pub stripe_count : Stripes → ℕ
+stripe_count s = s.count.count
+
 -- the pass comes from these stripes
 abbrev pub IsPassOf : Stripes → Pass → Type 0
 IsPassOf s p = p.seat.table_id ≡ s.table.shared.table_id

@@ -22,7 +22,12 @@ impl Stripes {
     {
         let words = &self.table.shared;
         let number = pass.number;
-        let found = words.compare_exchange::<Take>(&mut pass.seat, stripe + FIRST_STRIPE, 0, number);
+        let found = words.compare_exchange::<Take>(
+            &mut pass.seat,
+            stripe + FIRST_STRIPE,
+            0,
+            number,
+        );
         if found != 0 {
             return None;
         }
@@ -120,9 +125,7 @@ impl Stripes {
         ensures step { Fails (recorded pass.old) (recorded pass.new) }
         ensures same { IsSamePass pass.old pass.new }
     {
-        self.table
-            .shared
-            .store::<Fail>(&mut pass.seat, FAILURE, 1);
+        self.table.shared.store::<Fail>(&mut pass.seat, FAILURE, 1);
     }
 
     pub(crate) fn alive(&self, pass: &mut Pass) -> bool

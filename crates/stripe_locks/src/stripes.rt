@@ -12,9 +12,13 @@ use ticket_order::{Record, Stripe};
 // The words: the ticket count, the durable count, the failure word, the count of passes, and then
 // one for each stripe, which is 0 where the stripe is free, else the number of its holder.
 pub(crate) const TICKETS: usize = 0;
+
 pub(crate) const DURABLE: usize = 1;
+
 pub(crate) const FAILURE: usize = 2;
+
 pub(crate) const PASSES: usize = 3;
+
 pub(crate) const FIRST_STRIPE: usize = 4;
 
 /// The shared words and the stripes. Each step on them is one atomic action, and between any two
