@@ -2,8 +2,8 @@
 use Rattle.std.specs.Prelude.{◌≡◌, ◌≢◌, ◌⊎◌, ℕ, List, [], ◌∷◌, Option, Result, MatchResult, codes}
 use Rattle.clap.specs.Words.{Text}
 use Rattle.std.specs.FinMap as finite
-use Rattle.plain_words.specs.declared.book.Book.{Book}
-use Rattle.plain_words.specs.Turns.{record_of, started}
+use Rattle.one_history.specs.declared.book.Book.{Book}
+use Rattle.one_history.specs.Turns.{record_of, started}
 use Rattle.wire_frames.specs.declared.requests.Request.{Request}
 use Rattle.map_server.specs.declared.connection.ConnectionError.{ConnectionError}
 use Rattle.map_server.specs.Connection.{Connection}

@@ -24,9 +24,9 @@ pub struct Memory {
 
 impl Model for Memory {
     ghost use Rattle.std.specs.Prelude.{◌<◌, length};
-    ghost use Rattle.plain_words.specs.contracts.book.Book as book_type;
-    ghost use Rattle.plain_words.specs.declared.book.Book.{Book};
-    ghost use Rattle.plain_words.specs.Turns.{record_of};
+    ghost use Rattle.one_history.specs.contracts.book.Book as book_type;
+    ghost use Rattle.one_history.specs.declared.book.Book.{Book};
+    ghost use Rattle.one_history.specs.Turns.{record_of};
     ghost use Rattle.map_server.specs.Served.{IsReady};
 
     ghost Value = { Book };

@@ -28,8 +28,8 @@ impl<'a> At<'a> {
 
 impl Steps for At<'_> {
     ghost use Rattle.std.specs.Prelude.{◌≡◌, ◌∷◌, []};
-    ghost use Rattle.plain_words.specs.Turns.{record_of};
-    ghost use Rattle.plain_words.specs.Moves.{BookMoves};
+    ghost use Rattle.one_history.specs.Turns.{record_of};
+    ghost use Rattle.one_history.specs.Moves.{BookMoves};
 
     ghost recorded = { λ at. record_of at.pass at.words.now };
 

@@ -1,9 +1,10 @@
 //! The history and the records, as a value of no bytes.
 ghost use Rattle.std.specs.Prelude.{◌≡◌};
 ghost use Rattle.std.specs.Borrow.{ftrue};
-ghost use Rattle.plain_words.specs.contracts.book.Book as book_type;
-ghost use Rattle.plain_words.specs.declared.book.Book.{Book};
-ghost use Rattle.plain_words.specs.Turns.{after, at_start};
+ghost use Rattle.one_history.specs.contracts.book.Book as book_type;
+ghost use Rattle.one_history.specs.declared.book.Book.{Book};
+ghost use Rattle.one_history.specs.Turns.{at_start};
+ghost use Rattle.plain_words.specs.Noted.{after};
 
 use atomic_methods::Part;
 use map_types::Command;

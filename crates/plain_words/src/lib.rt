@@ -2,9 +2,7 @@
 #![tactic(auto)]
 
 pub mod at;
-pub mod book;
 mod chronicle;
-mod slot;
 pub mod words;
 
 pub use at::At;

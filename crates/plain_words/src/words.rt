@@ -3,16 +3,16 @@ ghost use Rattle.std.specs.Prelude.{◌≡◌, ◌<◌, None, true, length, IfOk
 ghost use Rattle.std.specs.FinMap as finite;
 ghost use Rattle.ticket_order.specs.declared.record.StepMade.TheVariants as made;
 ghost use Rattle.ticket_order.specs.StepRules.{Takes, take_made, Looks, MayDraw, Draws, MayGive, Gives, MayPublish, Publishes, Sees, Fails, Lives};
-ghost use Rattle.plain_words.specs.Turns.{record_of, started, at_start};
-ghost use Rattle.plain_words.specs.OneHistory.{IsOneHistory, HoldApart, AreParts};
-ghost use Rattle.plain_words.specs.Moves.{BookMoves};
-ghost use Rattle.plain_words.specs.Kept.{ArePlaced, AreEmpty};
+ghost use Rattle.one_history.specs.Turns.{record_of, started, at_start};
+ghost use Rattle.one_history.specs.OneHistory.{IsOneHistory, HoldApart, AreParts};
+ghost use Rattle.one_history.specs.Moves.{BookMoves};
+ghost use Rattle.one_history.specs.Kept.{ArePlaced, AreEmpty};
 
 use crate::chronicle::{Chronicle, Turn};
-use crate::slot::Slot;
 use atomic_methods::Part;
 use java_hash::StripeCount;
 use map_types::{Command, Refusal};
+use one_history::Slot;
 use std::alloc::Global;
 use std::marker::Model;
 use std::mem;
@@ -31,9 +31,9 @@ pub struct PlainWords {
 }
 
 impl Model for PlainWords {
-    ghost use Rattle.plain_words.specs.contracts.book.Book as book_type;
-    ghost use Rattle.plain_words.specs.declared.book.Book.{Book};
-    ghost use Rattle.plain_words.specs.Kept.{IsKept};
+    ghost use Rattle.one_history.specs.contracts.book.Book as book_type;
+    ghost use Rattle.one_history.specs.declared.book.Book.{Book};
+    ghost use Rattle.one_history.specs.Kept.{IsKept};
 
     ghost Value = { Book };
 

@@ -19,7 +19,7 @@ use denote.Slice.{shr_slice_vals, shr_slice_Tells}
 use denote.Steps.{nothing}
 use denote.Triple.Walked.{Stays, says, stay_dropped, Goes-dropped, ends_at}
 use Rattle.atomic_methods.specs.contracts.parts.Part as Part
-use Rattle.plain_words.specs.Turns.{at_start}
+use Rattle.one_history.specs.Turns.{at_start}
 use Rattle.plain_words.specs.declared.chronicle.Chronicle.{Chronicle}
 use Rattle.plain_words.specs.contracts.chronicle.Chronicle.{the_row as R}
 use Rattle.plain_words.specs.contracts.chronicle.Chronicle.new as it

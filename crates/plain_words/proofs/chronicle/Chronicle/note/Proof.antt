@@ -16,7 +16,7 @@ use denote.Ref.{MutRef, ShrRef, mut_vals, mut_Tells, shr_vals, shr_Tells}
 use denote.Signature.{Slot, plain, named_lft}
 use denote.Steps.{nothing, opens, closes}
 use denote.Triple.Walked.{Stays, walk_of, says, stay_ref, Goes-ref, stay_dropped, Goes-dropped, ends_at}
-use Rattle.plain_words.specs.Turns.{after}
+use Rattle.plain_words.specs.Noted.{after}
 use Rattle.plain_words.specs.declared.chronicle.Chronicle.{Chronicle}
 use Rattle.plain_words.specs.contracts.chronicle.Chronicle.{the_row as R}
 use Rattle.plain_words.specs.contracts.chronicle.Turn as Turn

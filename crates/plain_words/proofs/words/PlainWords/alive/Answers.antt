@@ -1,4 +1,4 @@
-use Rattle.plain_words.proofs.Watching.{kept_found_alive, lives, moves_found_alive}
+use Rattle.one_history.proofs.Watching.{kept_found_alive, lives, moves_found_alive}
 use Rattle.plain_words.proofs.words.PlainWords.alive.Goals as goal
 
 pub invariant_of-self : goal.invariant_of-self

@@ -1,4 +1,4 @@
-use Rattle.plain_words.proofs.Watching.{kept_published, publishes, moves_published}
+use Rattle.one_history.proofs.Watching.{kept_published, publishes, moves_published}
 use Rattle.plain_words.proofs.words.PlainWords.durable.Goals as goal
 
 pub invariant_of-self : goal.invariant_of-self

@@ -1,7 +1,7 @@
 use Rattle.std.proofs.Common.{◌≡◌, subst}
 use Rattle.std.specs.Prelude.{IfOk}
-use Rattle.plain_words.specs.declared.book.Book.{Book}
-use Rattle.plain_words.proofs.Starts.{empty_are_parts, empty_start}
+use Rattle.one_history.specs.declared.book.Book.{Book}
+use Rattle.one_history.proofs.Starts.{empty_are_parts, empty_start}
 use Rattle.plain_words.proofs.words.PlainWords.empty.Goals as goal
 
 pub new-requires-clause-parts : goal.new-requires-clause-parts

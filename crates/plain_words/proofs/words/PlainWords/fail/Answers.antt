@@ -1,4 +1,4 @@
-use Rattle.plain_words.proofs.Watching.{kept_failed, fails, moves_failed}
+use Rattle.one_history.proofs.Watching.{kept_failed, fails, moves_failed}
 use Rattle.plain_words.proofs.words.PlainWords.fail.Goals as goal
 
 pub invariant_of-self : goal.invariant_of-self

@@ -1,7 +1,7 @@
 use Rattle.std.proofs.Common.{◌<◌, length, arith}
 use Rattle.ticket_order.specs.StepRules.{MayGive}
-use Rattle.plain_words.specs.Turns.{record_of}
-use Rattle.plain_words.proofs.Giving.{kept_gave, gives, moves_gave, in_slots}
+use Rattle.one_history.specs.Turns.{record_of}
+use Rattle.one_history.proofs.Giving.{kept_gave, gives, moves_gave, in_slots}
 use Rattle.plain_words.proofs.words.PlainWords.give.Goals as goal
 
 pub index_mut-requires : goal.index_mut-requires

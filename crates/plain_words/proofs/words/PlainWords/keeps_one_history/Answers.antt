@@ -1,4 +1,4 @@
-use Rattle.plain_words.proofs.Slots.{hold_apart}
+use Rattle.one_history.proofs.Slots.{hold_apart}
 use Rattle.plain_words.proofs.words.PlainWords.keeps_one_history.Goals as goal
 
 pub returns-clause-apart : goal.returns-clause-apart

@@ -1,4 +1,4 @@
-use Rattle.plain_words.proofs.Watching.{kept_looked, looks, moves_looked}
+use Rattle.one_history.proofs.Watching.{kept_looked, looks, moves_looked}
 use Rattle.plain_words.proofs.words.PlainWords.look.Goals as goal
 
 pub invariant_of-self : goal.invariant_of-self

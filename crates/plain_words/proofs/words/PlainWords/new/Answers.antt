@@ -1,5 +1,5 @@
 use Rattle.std.proofs.Common.{◌<◌, arith}
-use Rattle.plain_words.proofs.Starts.{kept_at_start}
+use Rattle.one_history.proofs.Starts.{kept_at_start}
 use Rattle.plain_words.proofs.words.PlainWords.new.Goals as goal
 
 pub invariant_of-result : goal.invariant_of-result

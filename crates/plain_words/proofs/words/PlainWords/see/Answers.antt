@@ -1,4 +1,4 @@
-use Rattle.plain_words.proofs.Watching.{kept_saw, sees, moves_saw}
+use Rattle.one_history.proofs.Watching.{kept_saw, sees, moves_saw}
 use Rattle.plain_words.proofs.words.PlainWords.see.Goals as goal
 
 pub invariant_of-self : goal.invariant_of-self

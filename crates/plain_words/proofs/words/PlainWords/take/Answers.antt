@@ -1,9 +1,9 @@
 use Rattle.std.proofs.Common.{◌≡◌, ◌<◌, length, arith, sym, ◌∙◌}
 use Rattle.std.proofs.lemmas.List.{get_or_default, set-get_or}
-use Rattle.plain_words.specs.declared.slot.Slot.TheVariants.{Home, HeldBy}
-use Rattle.plain_words.specs.Kept.{slot_of}
-use Rattle.plain_words.proofs.Taking.{kept_took, takes_stripe, moves_took}
-use Rattle.plain_words.proofs.Watching.{kept_found_held, misses, moves_found_held}
+use Rattle.one_history.specs.declared.slot.Slot.TheVariants.{Home, HeldBy}
+use Rattle.one_history.specs.Kept.{slot_of}
+use Rattle.one_history.proofs.Taking.{kept_took, takes_stripe, moves_took}
+use Rattle.one_history.proofs.Watching.{kept_found_held, misses, moves_found_held}
 use Rattle.plain_words.proofs.words.PlainWords.take.Goals as goal
 
 pub invariant_of-self : goal.invariant_of-self

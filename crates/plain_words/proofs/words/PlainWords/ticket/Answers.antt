@@ -1,4 +1,4 @@
-use Rattle.plain_words.proofs.Drawing.{kept_drew, draws, moves_drew}
+use Rattle.one_history.proofs.Drawing.{kept_drew, draws, moves_drew}
 use Rattle.plain_words.proofs.words.PlainWords.ticket.Goals as goal
 
 pub invariant_of-self : goal.invariant_of-self

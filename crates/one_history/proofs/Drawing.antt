@@ -1,0 +1,226 @@
+-- TICKET.
+use Rattle.std.proofs.Common.{ℕ, ◌≡◌, ◌≢◌, ◌+◌, ◌<◌, ◌≤◌, ◌^◌, ◌++◌, List, [], ◌∷◌, Bool, true, false, Option, Some, None, length, refl, arith, sym, ◌∙◌, ap, subst, append_assoc, length-append}
+use Rattle.std.specs.Prelude.{if◌then◌else◌}
+use Rattle.std.proofs.Math.ListN.{length-set}
+use Rattle.std.proofs.lemmas.Bool.{eq-eqb, ne_eqb}
+use Rattle.std.proofs.lemmas.List.Elements.{All-push, All-weaker}
+use Rattle.map_types.specs.declared.commands.Command.{Command}
+use Rattle.map_model.specs.Parts.{is_in_stripe}
+use Rattle.map_model.specs.Steps.{step, map_after}
+use Rattle.map_model.specs.Histories.{IsLegalChange}
+use Rattle.map_model.proofs.HistoryLaws.{legal_change}
+use Rattle.ticket_order.specs.declared.record.Opening.{Opening}
+use Rattle.ticket_order.specs.declared.record.Asked.TheVariants.{Changing}
+use Rattle.ticket_order.specs.declared.record.Call.{Call}
+use Rattle.ticket_order.specs.declared.record.StepMade.TheVariants as made
+use Rattle.ticket_order.specs.declared.record.Holding.{Holding}
+use Rattle.ticket_order.specs.declared.record.Record.{Record}
+use Rattle.ticket_order.specs.Records.{reach, call, entry, drawing, drawing_at, part_held}
+use Rattle.ticket_order.specs.Legality.{IsContent, history_of}
+use Rattle.ticket_order.specs.StepRules.{MayDraw, Draws}
+use Rattle.one_history.specs.declared.book.Book.{Book}
+use Rattle.one_history.specs.declared.slot.Slot.{Slot}
+use Rattle.one_history.specs.declared.slot.Slot.TheVariants.{Home, HeldBy}
+use Rattle.one_history.specs.Turns.{record_of, unseen, drew}
+use Rattle.one_history.specs.OneHistory.{IsFront, IsUpTo, Holds, Knows, IsOneHistory, changes_by, stripe_in}
+use Rattle.one_history.specs.Moves.{BookMoves}
+use Rattle.one_history.specs.Kept.{slot_of, Lies, draws_left, IsKept}
+use Rattle.one_history.proofs.Fronts.{front_refl, front_trans, front_one}
+use Rattle.one_history.proofs.Legal.{calls_longer, calls_both, sections_longer}
+use Rattle.one_history.proofs.Contents.{content_drawn, content_other, own_reply}
+use Rattle.one_history.proofs.Orders.{order_push, push_change, own_more, other_more}
+use Rattle.one_history.proofs.Knowing.{up_to_more, done_same}
+use Rattle.one_history.proofs.Slots.{one_turned, same_record, other_records, holds_still, held_before, room_drawn, count_small}
+use Rattle.one_history.proofs.Watching.{whole}
+
+stripe_drawn : (q : ℕ) (c : Command) (x : Option Holding) → stripe_in (drawing_at q c x) ≡ stripe_in x
+stripe_drawn q c None = refl
+stripe_drawn q c (Some d) = refl
+
+held_drawn : (t : ℕ) (c : Command) (x : Option Holding) (d d' : Holding) → x ≡ Some d → drawing_at t c x ≡ Some d' → record d { part = (step d.part c).map; outbox = d.outbox ++ entry t c ∷ []; has_drawn = true; looked = None } ≡ d'
+held_drawn t c None d d' e f = absurd (let no : None ≡ Some d = e in cc)
+held_drawn t c (Some x) d d' e f =
+    let same : x ≡ d = (let g : Some x ≡ Some d = e in cc) in
+    let is : record x { part = (step x.part c).map; outbox = x.outbox ++ entry t c ∷ []; has_drawn = true; looked = None } ≡ d' = (let g : Some (record x { part = (step x.part c).map; outbox = x.outbox ++ entry t c ∷ []; has_drawn = true; looked = None }) ≡ Some d' = f in cc) in
+    ap (λ (y : Holding). record y { part = (step y.part c).map; outbox = y.outbox ++ entry t c ∷ []; has_drawn = true; looked = None }) (sym same) ∙ is
+
+module _ (n t durable : ℕ) (has_failed : Bool) (slots : List Slot) (b : Book) (j : ℕ) (kept : IsKept n t durable has_failed slots b) (within : j < length b.passes) (c : Command) (may : MayDraw b.stripes (record_of j b) c) where
+  abbrev r : Record
+  r = record_of j b
+
+  abbrev between : List Command
+  between = unseen (record_of j b) b.history
+
+  abbrev w : Record
+  w = drawing (record_of j b) (unseen (record_of j b) b.history) c
+
+  abbrev h' : List Command
+  h' = b.history ++ c ∷ []
+
+  here : Knows b.opening b.stripes b.history b.authors b.deeds j (record_of j b)
+  here = kept.one.passes j within
+
+  holds_it : Holds b.opening b.stripes b.history b.authors b.deeds (record_of j b) may.held
+  unfolding here
+  holds_it = here.held may.held may.holding
+
+  own : is_in_stripe b.stripes may.held.stripe c.key ≡ true
+  own = eq-eqb _ _ may.stripe_is
+
+  seen_all : (r.seen ++ between) ≡ b.history
+  seen_all = whole n t durable has_failed slots b j kept within
+
+  opening_is : r.opening ≡ b.opening
+  unfolding here
+  opening_is = here.opening
+
+  ticket_is : r.opening.first + length (r.seen ++ between) ≡ b.opening.first + length b.history
+  ticket_is = ap (λ (o : Opening). o.first + length (r.seen ++ between)) opening_is ∙ ap (λ (cs : List Command). b.opening.first + length cs) seen_all
+
+  part_is : part_held r.holding ≡ may.held.part
+  part_is = ap part_held may.holding
+
+  reply_is : (step (part_held r.holding) c).reply ≡ (step (map_after r.opening.map (r.seen ++ between)) c).reply
+  reply_is =
+      ap (λ m. (step m c).reply) part_is
+      ∙ (own_reply b.opening b.stripes b.history b.deeds.taken may.held.stripe may.held.part may.held.outbox c own holds_it.content
+      ∙ sym (ap (λ (o : Opening). (step (map_after o.map (r.seen ++ between)) c).reply) opening_is ∙ ap (λ (cs : List Command). (step (map_after b.opening.map cs) c).reply) seen_all))
+
+  legal_here : IsLegalChange (history_of w) (r.opening.first + length (r.seen ++ between) + 1) c (step (part_held r.holding) c).reply
+  legal_here = subst (λ x. IsLegalChange (history_of w) (r.opening.first + length (r.seen ++ between) + 1) c x) (sym reply_is) (legal_change (history_of w) (r.seen ++ between) [] c refl)
+
+  one_left : draws_left (record_of j b) ≡ 1
+  one_left = ap (λ x. if x then 1 else 0) may.fresh
+
+  pub small : t < 2 ^ 63
+  small = let l : b.opening.first + length b.history < 2 ^ 63 = count_small b j within kept.few one_left kept.room in let c' : t ≡ b.opening.first + length b.history = kept.counted in omega arith
+
+  seen_is : w.seen ≡ h'
+  seen_is = ap (λ x. x ++ c ∷ []) seen_all
+
+  reach_is : reach w ≡ r.opening.first + length (r.seen ++ between) + 1
+  reach_is = omega (arith, length-append (r.seen ++ between) (c ∷ []))
+
+  longer_is : w.seen ≡ r.seen ++ (between ++ c ∷ [])
+  longer_is = append_assoc r.seen between (c ∷ [])
+
+  knows_drawn : Knows b.opening b.stripes h' (b.authors ++ j ∷ []) b.deeds j w
+  unfolding here
+  knows_drawn =
+      let q : ℕ = r.opening.first + length (r.seen ++ between) + 1 in
+      let new : Call = call q (Changing c) (step (part_held r.holding) c).reply in
+      let reached : reach r ≤ r.opening.first + length (r.seen ++ between) = omega (arith, length-append r.seen between) in
+      let at : q ≡ b.opening.first + 1 + length b.history = omega (arith, ticket_is) in
+      record {
+        opening = here.opening;
+        front = subst (λ x. IsFront x h') (sym seen_is) (front_refl h');
+        changes = push_change r.calls q c (step (part_held r.holding) c).reply
+            ∙ (ap (λ x. x ++ (q, c) ∷ []) here.changes
+            ∙ (ap (λ p. changes_by j (b.opening.first + 1) b.authors b.history ++ (p, c) ∷ []) at
+            ∙ sym (own_more j (b.opening.first + 1) b.authors b.history c kept.one.authors)));
+        calls = calls_both w r.calls (new ∷ []) (calls_longer r w (between ++ c ∷ []) refl longer_is r.calls here.calls) (legal_here, tt);
+        order = order_push r.calls new here.order (All-weaker (IsUpTo (reach r)) (λ (x : Call). x.position < q) (λ x l. omega arith) r.calls here.seen);
+        seen = All-push (IsUpTo (reach w)) r.calls new (up_to_more (reach r) (reach w) r.calls (omega (arith, reach_is)) here.seen) (omega (arith, reach_is));
+        sections = sections_longer b.stripes r w (between ++ c ∷ []) refl longer_is r.sections here.sections;
+        keeper = here.keeper;
+        done = done_same b.opening b.deeds r w refl refl refl refl here.done;
+        held = λ d e.
+            let t' : ℕ = r.opening.first + length (r.seen ++ between) in
+            let is = held_drawn t' c r.holding may.held d may.holding e in
+            subst (Holds b.opening b.stripes h' (b.authors ++ j ∷ []) b.deeds w) is (record {
+              within = holds_it.within;
+              content = subst (λ p. IsContent b.opening b.stripes h' b.deeds.taken may.held.stripe (step may.held.part c).map (may.held.outbox ++ entry p c ∷ [])) (sym ticket_is) (content_drawn b.opening b.stripes b.history b.deeds.taken may.held.stripe may.held.part may.held.outbox c own holds_it.content);
+              looked = λ q f. absurd (let no : None ≡ Some q = f in cc);
+            });
+      }
+
+  -- the stripe is this pass's
+  slot_here : slot_of may.held.stripe slots ≡ HeldBy j
+  slot_here = kept.carried may.held.stripe j (record { within = within; has = ap stripe_in may.holding })
+
+  other_stripe : (l : ℕ) → l ≢ may.held.stripe → is_in_stripe b.stripes l c.key ≡ false
+  other_stripe l ne = ne_eqb _ l (λ e. ne (sym e ∙ may.stripe_is))
+
+  knows_other : (l : ℕ) → l < length b.passes → l ≢ j → Knows b.opening b.stripes h' (b.authors ++ j ∷ []) b.deeds l (record_of l b)
+  knows_other l lt ne =
+      let x = kept.one.passes l lt in
+      record {
+        opening = x.opening;
+        front = front_trans (record_of l b).seen b.history h' x.front (front_one b.history c);
+        changes = x.changes ∙ sym (other_more l j (b.opening.first + 1) b.authors b.history c (λ e. ne (sym e)) kept.one.authors);
+        calls = x.calls;
+        order = x.order;
+        seen = x.seen;
+        sections = x.sections;
+        keeper = x.keeper;
+        done = x.done;
+        held = λ d e.
+            let was = x.held d e in
+            let theirs : slot_of d.stripe slots ≡ HeldBy l = kept.carried d.stripe l (record { within = lt; has = ap stripe_in e }) in
+            let apart : d.stripe ≢ may.held.stripe = λ s. (let f : HeldBy l ≡ HeldBy j = sym theirs ∙ (ap (λ u. slot_of u slots) s ∙ slot_here) in ne (cc)) in
+            record {
+              within = was.within;
+              content = content_other b.opening b.stripes b.history b.deeds.taken d.stripe d.part d.outbox c (other_stripe d.stripe apart) was.content;
+              looked = was.looked;
+            };
+      }
+
+  more_by_one : length (b.history ++ c ∷ []) ≡ length b.history + 1
+  more_by_one = length-append b.history (c ∷ [])
+
+  one_drew : IsOneHistory (drew j c b)
+  one_drew =
+      one_turned b j w h' (b.authors ++ j ∷ []) b.deeds kept.one within
+      (let was : length b.authors ≡ length b.history = kept.one.authors in omega (arith, more_by_one, length-append b.authors (j ∷ [])))
+      (All-push (λ u. u < length b.passes) b.authors j kept.one.by_passes within) refl kept.one.begun
+      (let was : b.deeds.durable ≤ b.opening.first + length b.history = kept.one.reached in omega (arith, more_by_one))
+      knows_drawn knows_other
+
+  same : stripe_in w.holding ≡ stripe_in (record_of j b).holding
+  same = stripe_drawn (r.opening.first + length (r.seen ++ between)) c r.holding
+
+  lies : (l : ℕ) (x : Slot) → slot_of l slots ≡ x → Lies b l x → Lies (drew j c b) l x
+  lies l (Home content) is k =
+      let apart : l ≢ may.held.stripe = λ s. (let f : Home content ≡ HeldBy j = sym is ∙ (ap (λ u. slot_of u slots) s ∙ slot_here) in cc) in
+      content_other b.opening b.stripes b.history b.deeds.taken l content.part.map content.outbox.items c (other_stripe l apart) k
+  lies l (HeldBy u) is k = holds_still b l j u w h' (b.authors ++ j ∷ []) b.deeds within same k
+
+  pub kept_drew : IsKept n (t + 1) durable has_failed slots (drew j c b)
+  kept_drew = record {
+    stripes_are = kept.stripes_are;
+    sized = kept.sized;
+    counted = (let was : t ≡ b.opening.first + length b.history = kept.counted in omega (arith, more_by_one));
+    durable_is = kept.durable_is;
+    failed_is = kept.failed_is;
+    few = (let was : length b.passes ≤ 65536 = kept.few in omega (arith, length-set b.passes j w));
+    room = room_drawn b j w c (b.authors ++ j ∷ []) b.deeds within one_left refl more_by_one kept.room;
+    one = one_drew;
+    each_slot = λ l lt. lies l (slot_of l slots) refl (kept.each_slot l lt);
+    carried = λ i l x. kept.carried i l (held_before b i j l w h' (b.authors ++ j ∷ []) b.deeds within same x);
+  }
+
+  same_now : record_of j (drew j c b) ≡ w
+  same_now = same_record b j w h' (b.authors ++ j ∷ []) b.deeds within
+
+  t_is : t ≡ r.opening.first + length (r.seen ++ between)
+  t_is = kept.counted ∙ sym ticket_is
+
+  pub draws : Draws (record_of j b) c t (record_of j (drew j c b))
+  draws = rw same_now (record { between = between; is = refl; ticket_is = t_is; legal = subst (λ p. IsLegalChange (history_of w) (p + 1) c (step (part_held r.holding) c).reply) (sym t_is) legal_here; small = small })
+
+  pub moves_drew : BookMoves j (made.Drew t) b (drew j c b)
+  moves_drew = record {
+    opening = refl;
+    stripes = refl;
+    passes = length-set b.passes j w;
+    others = λ l ne. other_records b j l w h' (b.authors ++ j ∷ []) b.deeds ne;
+    words = record {
+      command = c;
+      reply = (step (part_held r.holding) c).reply;
+      history = refl;
+      authors = refl;
+      deeds = refl;
+      ticket_is = kept.counted;
+      calls = rw same_now (ap (λ p. r.calls ++ call (p + 1) (Changing c) (step (part_held r.holding) c).reply ∷ []) (sym t_is));
+    };
+  }

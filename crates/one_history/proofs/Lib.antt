@@ -1,0 +1,12 @@
+pub mod Fronts
+pub mod Legal
+pub mod Contents
+pub mod Orders
+pub mod Knowing
+pub mod Slots
+pub mod Watching
+pub mod Taking
+pub mod Drawing
+pub mod Giving
+pub mod Starts
+pub mod Joining

@@ -1,0 +1,187 @@
+-- The words at the start.
+use Rattle.std.proofs.Common.{ℕ, ◌≡◌, ◌≢◌, ◌+◌, ◌-◌, ◌<◌, ◌++◌, List, [], ◌∷◌, Bool, true, false, cond, Option, Some, None, length, get_or, map, replicate, refl, arith, sym, ◌∙◌, ap, subst, inl, inr, length-append}
+use Rattle.std.specs.List.{flat_map, range_with_len}
+use Rattle.std.specs.FinMap as finite
+use Rattle.std.specs.Ordering.{nat_cmp}
+use Rattle.std.specs.Cmp.Lexicographic.{slice_cmp}
+use Rattle.map_types.specs.declared.texts.Value.{Value}
+use Rattle.std.proofs.lemmas.List.{get_or-replicate, length-replicate, get_or_append_left, get_or-append_right, get_or-map, nil_from_length}
+use Rattle.std.proofs.lemmas.List.Elements.{All-nil, All-head, All-tail}
+use Rattle.std.proofs.lemmas.List.Folds.{sum_by-replicate}
+use Rattle.std.proofs.lemmas.List.FromFn.{get_or-map-range_with_len}
+use Rattle.std.proofs.lemmas.List.Sums.{sum_by-append}
+use Rattle.std.proofs.Math.Seq.{get_or-append_seam}
+use Rattle.std.proofs.lemmas.Bool.{cases_lt, cases_eq, eq-eqb, ne_eqb}
+use Rattle.map_model.specs.Maps.{Map}
+use Rattle.map_model.specs.Parts.{part_of, is_in_stripe, union_of, parts_of}
+use Rattle.map_model.proofs.MapLaws.{same_gets, get-part_of}
+use Rattle.atomic_methods.specs.PartState.{PartState}
+use Rattle.ticket_order.specs.declared.record.Opening.{Opening}
+use Rattle.ticket_order.specs.declared.record.Record.{Record}
+use Rattle.ticket_order.specs.Records.{newcomer, keeper_at_start, enrolling}
+use Rattle.one_history.specs.declared.book.Book.{Book}
+use Rattle.one_history.specs.declared.book.Deeds.{Deeds}
+use Rattle.one_history.specs.declared.slot.Slot.{Slot}
+use Rattle.one_history.specs.declared.slot.Slot.TheVariants.{Home, HeldBy}
+use Rattle.one_history.specs.Turns.{record_of, maps_of, opening_of, started, at_start}
+use Rattle.one_history.specs.OneHistory.{Knows, IsOneHistory, HoldsStripe, AreParts, changes_by, changes_in, stripe_in}
+use Rattle.one_history.specs.Kept.{slot_of, Lies, draws_left, IsKept, IsPlaced, ArePlaced, AreEmpty, no_part}
+use Rattle.one_history.proofs.Fronts.{front_refl}
+
+-- one more part at home
+pub placed_push : (parts : List PartState) (slots : List Slot) (p : PartState) (x : Slot) → ArePlaced parts slots → IsPlaced p x → ArePlaced (parts ++ p ∷ []) (slots ++ x ∷ [])
+placed_push parts slots p x k here = record {
+  count = (let n : length slots ≡ length parts = k.count in omega (arith, length-append slots (x ∷ []), length-append parts (p ∷ [])));
+  each = λ i lt.
+      let n : length slots ≡ length parts = k.count in
+      elim (cases_lt i (length parts)) [
+        | inl l ↦
+            let at : get_or (parts ++ p ∷ []) i no_part ≡ get_or parts i no_part = get_or_append_left parts (p ∷ []) no_part i l in
+            let at' : slot_of i (slots ++ x ∷ []) ≡ slot_of i slots = get_or_append_left slots (x ∷ []) (HeldBy 0) i (omega arith) in
+            subst (λ y. IsPlaced (get_or (parts ++ p ∷ []) i no_part) y) (sym at') (subst (λ q. IsPlaced q (slot_of i slots)) (sym at) (k.each i l))
+        | inr l ↦
+            let e : i ≡ length parts = omega (arith, length-append parts (p ∷ [])) in
+            let at : get_or (parts ++ p ∷ []) i no_part ≡ p = rw (e, get_or-append_seam parts p [] no_part) in
+            let e' : i ≡ length slots = omega arith in
+            let at' : slot_of i (slots ++ x ∷ []) ≡ x = rw (e', get_or-append_seam slots x [] (HeldBy 0)) in
+            subst (λ y. IsPlaced (get_or (parts ++ p ∷ []) i no_part) y) (sym at') (subst (λ q. IsPlaced q x) (sym at) here)
+      ];
+}
+
+-- the records at the start
+abbrev worker : Opening → ℕ → Record
+worker o n = enrolling (newcomer o) n
+
+abbrev keeper : Opening → ℕ → Record
+keeper o n = enrolling (keeper_at_start o) n
+
+worker_at : (o : Opening) (stripes n j : ℕ) → j < n → record_of j (started o stripes n) ≡ worker o (n + 1)
+worker_at o stripes n j lt =
+    get_or_append_left (replicate n (worker o (n + 1))) (keeper o (n + 1) ∷ []) (newcomer o) j (omega (arith, length-replicate n (worker o (n + 1))))
+    ∙ get_or-replicate n j (worker o (n + 1)) (newcomer o) lt
+
+keeper_at : (o : Opening) (stripes n : ℕ) → record_of n (started o stripes n) ≡ keeper o (n + 1)
+keeper_at o stripes n =
+    let zero_left : n - n ≡ 0 = omega arith in
+    get_or-append_right (replicate n (worker o (n + 1))) (keeper o (n + 1) ∷ []) n n (newcomer o) (length-replicate n (worker o (n + 1))) (omega arith)
+    ∙ ap (λ i. get_or (keeper o (n + 1) ∷ []) i (newcomer o)) zero_left
+
+pub count_at_start : (o : Opening) (stripes n : ℕ) → length (started o stripes n).passes ≡ n + 1
+count_at_start o stripes n = omega (arith, length-append (replicate n (worker o (n + 1))) (keeper o (n + 1) ∷ []), length-replicate n (worker o (n + 1)))
+
+knows_worker : (o : Opening) (stripes n j : ℕ) (k : Deeds) → j ≢ k.keeper → Knows o stripes [] [] k j (worker o (n + 1))
+unfolding changes_by changes_in
+knows_worker o stripes n j k ne = record {
+  opening = refl;
+  front = front_refl [];
+  changes = refl;
+  calls = tt;
+  order = tt;
+  seen = All-nil _;
+  sections = tt;
+  keeper = sym (ne_eqb j k.keeper ne);
+  done = (refl, refl, refl);
+  held = λ d e. absurd (let no : None ≡ Some d = e in cc);
+}
+
+knows_keeper : (o : Opening) (stripes n : ℕ) → Knows o stripes [] [] (record { keeper = n; taken = []; durable = o.first; failed = false }) n (keeper o (n + 1))
+unfolding changes_by changes_in
+knows_keeper o stripes n = record {
+  opening = refl;
+  front = front_refl [];
+  changes = refl;
+  calls = tt;
+  order = tt;
+  seen = All-nil _;
+  sections = tt;
+  keeper = sym (eq-eqb n n refl);
+  done = (refl, refl, refl);
+  held = λ d e. absurd (let no : None ≡ Some d = e in cc);
+}
+
+one_at_start : (o : Opening) (stripes n : ℕ) → IsOneHistory (started o stripes n)
+one_at_start o stripes n = record {
+  authors = refl;
+  by_passes = All-nil _;
+  keeper = omega (arith, count_at_start o stripes n);
+  begun = omega arith;
+  reached = omega arith;
+  passes = λ j lt. elim (cases_eq j n) [
+    | inl e ↦ subst (λ i. Knows o stripes [] [] (record { keeper = n; taken = []; durable = o.first; failed = false }) i (record_of i (started o stripes n))) (sym e) (subst (Knows o stripes [] [] (record { keeper = n; taken = []; durable = o.first; failed = false }) n) (sym (keeper_at o stripes n)) (knows_keeper o stripes n))
+    | inr ne ↦ subst (Knows o stripes [] [] (record { keeper = n; taken = []; durable = o.first; failed = false }) j) (sym (worker_at o stripes n j (omega (arith, count_at_start o stripes n)))) (knows_worker o stripes n j (record { keeper = n; taken = []; durable = o.first; failed = false }) ne)
+  ];
+}
+
+-- at the start no pass holds a stripe
+none_held : (o : Opening) (stripes n i j : ℕ) → HoldsStripe (started o stripes n) j i → ⊥
+none_held o stripes n i j x =
+    let none : stripe_in (record_of j (started o stripes n)).holding ≡ None = elim (cases_eq j n) [
+      | inl e ↦ ap (λ l. stripe_in (record_of l (started o stripes n)).holding) e ∙ ap (λ (r : Record). stripe_in r.holding) (keeper_at o stripes n)
+      | inr ne ↦ ap (λ (r : Record). stripe_in r.holding) (worker_at o stripes n j (let lt : j < length (started o stripes n).passes = x.within in omega (arith, count_at_start o stripes n)))
+    ] in
+    let no : None ≡ Some i = sym none ∙ x.has in
+    cc
+
+part_at : (n i : ℕ) (parts : List PartState) → AreParts n parts → length parts ≡ n → i < n → part_of n i (union_of (maps_of parts)) ≡ (get_or parts i no_part).map
+part_at n i parts are count lt =
+    sym (get_or-map-range_with_len (λ s. part_of n s (union_of (maps_of parts))) 0 n i i finite.empty lt (omega arith))
+    ∙ (ap (λ (ms : List Map). get_or ms i finite.empty) (sym are) ∙ get_or-map (λ (p : PartState). p.map) parts i no_part finite.empty (omega arith))
+
+pub kept_at_start : (n first workers : ℕ) (parts : List PartState) (slots : List Slot) → length parts ≡ n → AreParts n parts → ArePlaced parts slots → workers < 65536 → IsKept n first first false slots (at_start first parts workers)
+kept_at_start n first workers parts slots count are placed few =
+    let o : Opening = opening_of first parts in
+    let b : Book = at_start first parts workers in
+    let lies : (i : ℕ) (x : Slot) → i < n → IsPlaced (get_or parts i no_part) x → Lies b i x =
+    λ i. elim [
+      | Home content ↦ λ lt p. record {
+        part_is = ap (λ m. part_of m i (union_of (maps_of parts))) count ∙ (part_at n i parts are count lt ∙ ap (λ (q : PartState). q.map) (sym p.0));
+        outbox_is = sym p.1;
+      }
+      | HeldBy j ↦ λ lt p. absurd p
+    ] in
+    record {
+      stripes_are = count;
+      sized = placed.count ∙ count;
+      counted = omega arith;
+      durable_is = refl;
+      failed_is = refl;
+      few = omega (arith, count_at_start o (length parts) workers);
+      room = inl (omega (arith, sum_by-append draws_left (replicate workers (worker o (workers + 1))) (keeper o (workers + 1) ∷ []), sum_by-replicate draws_left workers (worker o (workers + 1))));
+      one = one_at_start o (length parts) workers;
+      each_slot = λ i lt. lies i (slot_of i slots) (omega arith) (placed.each i lt);
+      carried = λ i j x. absurd (none_held o (length parts) workers i j x);
+    }
+
+-- empty parts
+none_either : (x : Bool) (o : Option Value) → o ≡ None → cond x o None ≡ o
+none_either true o e = refl
+none_either false o e = sym e
+
+part_of-empty : (n s : ℕ) → part_of n s finite.empty ≡ finite.empty
+part_of-empty n s = same_gets (part_of n s finite.empty) finite.empty (λ q. get-part_of n s finite.empty q ∙ none_either (is_in_stripe n s q) (finite.get finite.empty q) (finite.get-empty (slice_cmp nat_cmp) q))
+
+entries-empty : (m : Map) → m ≡ finite.empty → finite.entries m ≡ []
+entries-empty m e = ap (λ (x : Map). finite.entries x) e ∙ nil_from_length _ (sym (finite.len-entries _) ∙ finite.len-empty (slice_cmp nat_cmp) Value)
+
+no_entries : (parts : List PartState) → AreEmpty parts → flat_map finite.entries (maps_of parts) ≡ []
+no_entries [] e = refl
+no_entries (p ∷ parts) e =
+    ap (λ es. es ++ flat_map finite.entries (maps_of parts)) (entries-empty p.map (All-head (λ (p : PartState). p.map ≡ finite.empty) p parts e))
+    ∙ no_entries parts (All-tail (λ (p : PartState). p.map ≡ finite.empty) p parts e)
+
+pub empty_union : (parts : List PartState) → AreEmpty parts → union_of (maps_of parts) ≡ finite.empty
+empty_union parts e = ap finite.from_entries (no_entries parts e)
+
+empty_parts : (n a : ℕ) (parts : List PartState) → AreEmpty parts → maps_of parts ≡ map (λ s. part_of n s finite.empty) (range_with_len a (length parts))
+empty_parts n a [] e = refl
+empty_parts n a (p ∷ parts) e =
+    ap (λ m. m ∷ maps_of parts) (All-head (λ (p : PartState). p.map ≡ finite.empty) p parts e ∙ sym (part_of-empty n a))
+    ∙ ap (λ (ms : List Map). part_of n a finite.empty ∷ ms) (empty_parts n (a + 1) parts (All-tail (λ (p : PartState). p.map ≡ finite.empty) p parts e))
+
+pub empty_are_parts : (n : ℕ) (parts : List PartState) → length parts ≡ n → AreEmpty parts → AreParts n parts
+empty_are_parts n parts count e =
+    let all : maps_of parts ≡ parts_of n finite.empty = empty_parts n 0 parts e ∙ ap (λ l. map (λ s. part_of n s finite.empty) (range_with_len 0 l)) count in
+    all ∙ ap (λ m. parts_of n m) (sym (empty_union parts e))
+
+pub empty_start : (n workers : ℕ) (parts : List PartState) → length parts ≡ n → AreEmpty parts → at_start 0 parts workers ≡ started (record { first = 0; map = finite.empty }) n workers
+empty_start n workers parts count e = ap (λ (m : Map). started (record { first = 0; map = m }) (length parts) workers) (empty_union parts e) ∙ ap (λ l. started (record { first = 0; map = finite.empty }) l workers) count

@@ -1,0 +1,4 @@
+pub mod Turns
+pub mod OneHistory
+pub mod Kept
+pub mod Moves

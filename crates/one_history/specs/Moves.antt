@@ -1,0 +1,66 @@
+-- What a step of one pass does to the words, and to what other passes did and saw.
+use Rattle.std.specs.Prelude.{◌≡◌, ◌≢◌, ℕ, ◌+◌, max, List, [], ◌∷◌, ◌++◌, length, true, not}
+use Rattle.map_types.specs.declared.commands.Command.{Command}
+use Rattle.map_types.specs.declared.commands.Reply.{Reply}
+use Rattle.ticket_order.specs.declared.stripe.Entry.{Entry}
+use Rattle.ticket_order.specs.declared.record.StepMade.{StepMade}
+use Rattle.ticket_order.specs.declared.record.StepMade.TheVariants.{Took, FoundHeld, Gave, Drew, Looked, Published, Saw, Failed, FoundAlive}
+use Rattle.ticket_order.specs.declared.record.Asked.TheVariants.{Changing}
+use Rattle.ticket_order.specs.Records.{call}
+use Rattle.one_history.specs.declared.book.Book.{Book}
+use Rattle.one_history.specs.Turns.{record_of}
+use Rattle.one_history.specs.OneHistory.{HoldsStripe}
+
+-- no pass holds the stripe
+abbrev pub IsFree : ℕ → Book → Type 0
+IsFree i b = (j : ℕ) → HoldsStripe b j i → ⊥
+
+-- another pass than j holds the stripe
+pub record IsHeldByAnother (j i : ℕ) (b : Book) : Type 0 where
+  pub holder : ℕ
+  pub other : holder ≢ j
+  pub holds : HoldsStripe b holder i
+
+pub record SameHistory (b b' : Book) : Type 0 where
+  pub history : b'.history ≡ b.history
+  pub authors : b'.authors ≡ b.authors
+
+-- no word changes but a stripe's
+pub record SameWords (b b' : Book) : Type 0 where
+  pub same : SameHistory b b'
+  pub deeds : b'.deeds ≡ b.deeds
+
+-- the history gains at its end the change of this call, which is the pass's next
+pub record GainsOne (j t : ℕ) (b b' : Book) : Type 0 where
+  pub command : Command
+  pub reply : Reply
+  pub history : b'.history ≡ b.history ++ command ∷ []
+  pub authors : b'.authors ≡ b.authors ++ j ∷ []
+  pub deeds : b'.deeds ≡ b.deeds
+  pub ticket_is : t ≡ b.opening.first + length b.history
+  pub calls : (record_of j b').calls ≡ (record_of j b).calls ++ call (t + 1) (Changing command) reply ∷ []
+
+-- the entries that this GIVE kept for a sweep are those that the pass's record gained
+pub record GainsTaken (j : ℕ) (b b' : Book) : Type 0 where
+  pub entries : List Entry
+  pub deeds : b'.deeds ≡ record b.deeds { taken = b.deeds.taken ++ entries }
+  pub taken : (record_of j b').taken ≡ (record_of j b).taken ++ entries
+
+abbrev pub WordsMove : ℕ → StepMade → Book → Book → Type 0
+WordsMove j (Took i es) b b' = SameWords b b' × IsFree i b
+WordsMove j (FoundHeld i) b b' = SameWords b b' × IsHeldByAnother j i b
+WordsMove j (Gave i) b b' = SameHistory b b' × GainsTaken j b b'
+WordsMove j (Drew t) b b' = GainsOne j t b b'
+WordsMove j (Looked q) b b' = SameWords b b' × (q ≡ b.opening.first + length b.history)
+WordsMove j (Published x) b b' = SameHistory b b' × (b'.deeds ≡ record b.deeds { durable = max b.deeds.durable x })
+WordsMove j (Saw d) b b' = SameWords b b' × (d ≡ b.deeds.durable)
+WordsMove j Failed b b' = SameHistory b b' × (b'.deeds ≡ record b.deeds { failed = true })
+WordsMove j (FoundAlive is_alive) b b' = SameWords b b' × (is_alive ≡ not b.deeds.failed)
+
+-- one step of the pass j
+pub record BookMoves (j : ℕ) (made : StepMade) (b b' : Book) : Type 0 where
+  pub opening : b'.opening ≡ b.opening
+  pub stripes : b'.stripes ≡ b.stripes
+  pub passes : length b'.passes ≡ length b.passes
+  pub others : (l : ℕ) → l ≢ j → record_of l b' ≡ record_of l b
+  pub words : WordsMove j made b b'

@@ -1,0 +1,111 @@
+-- There is one history, of which each pass has seen a front and in which each recorded call is legal.
+use Rattle.std.specs.Prelude.{◌≡◌, ℕ, ◌+◌, ◌<◌, ◌≤◌, ◌==◌, List, [], ◌∷◌, ◌++◌, length, Option, Some, None, Bool, true, false, if◌then◌else◌}
+use Rattle.std.specs.List.{All}
+use Rattle.map_types.specs.declared.commands.Command.{Command}
+use Rattle.map_model.specs.Parts.{parts_of, union_of}
+use Rattle.atomic_methods.specs.PartState.{PartState}
+use Rattle.ticket_order.specs.declared.record.Opening.{Opening}
+use Rattle.ticket_order.specs.declared.record.Asked.{Asked}
+use Rattle.ticket_order.specs.declared.record.Asked.TheVariants.{Changing, Reading}
+use Rattle.ticket_order.specs.declared.record.Call.{Call}
+use Rattle.ticket_order.specs.declared.record.Holding.{Holding}
+use Rattle.ticket_order.specs.declared.record.Record.{Record}
+use Rattle.ticket_order.specs.Records.{reach}
+use Rattle.ticket_order.specs.Legality.{history_of, IsLegalSection, IsContent}
+use Rattle.ticket_order.specs.StepRules.{AllLegalCalls, AllLegalSections}
+use Rattle.one_history.specs.declared.book.Book.{Book}
+use Rattle.one_history.specs.declared.book.Deeds.{Deeds}
+use Rattle.one_history.specs.Turns.{record_of, maps_of}
+
+-- the history begins with what was seen
+pub record IsFront (seen h : List Command) : Type 0 where
+  pub rest : List Command
+  pub is : h ≡ seen ++ rest
+
+-- the changes that the pass j made, each with its position; the first of the list has position q
+unfoldable pub changes_by : ℕ → ℕ → List ℕ → List Command → List (ℕ × Command)
+changes_by j q [] h = []
+changes_by j q (a ∷ authors) [] = []
+changes_by j q (a ∷ authors) (c ∷ h) = if a == j then (q, c) ∷ changes_by j (q + 1) authors h else changes_by j (q + 1) authors h
+
+abbrev pub if_change : Asked → ℕ → List (ℕ × Command) → List (ℕ × Command)
+if_change (Changing c) position rest = (position, c) ∷ rest
+if_change (Reading r) position rest = rest
+
+-- the changes among the calls, each with its position
+unfoldable pub changes_in : List Call → List (ℕ × Command)
+changes_in [] = []
+changes_in (x ∷ xs) = if_change x.asked x.position (changes_in xs)
+
+abbrev pub IsUpTo : ℕ → Call → Type 0
+IsUpTo q x = x.position ≤ q
+
+abbrev pub Follows : ℕ → Asked → ℕ → Type 0
+Follows p (Changing c) q = p < q
+Follows p (Reading r) q = p ≤ q
+
+-- a change stands behind the position p, and a read there or behind it
+abbrev pub StandsAfter : ℕ → Call → Type 0
+StandsAfter p x = Follows p x.asked x.position
+
+-- each call stands behind those before it
+abbrev pub AreInOrder : List Call → Type 0
+AreInOrder [] = Unit {0}
+AreInOrder (x ∷ xs) = All (StandsAfter x.position) xs × AreInOrder xs
+
+-- the keeper's record says what the keeper did; no other pass sweeps, publishes or fails
+abbrev pub HasDone : Opening → Deeds → Record → Bool → Type 0
+HasDone o k v true = (v.taken ≡ k.taken) × (v.published ≡ k.durable) × (v.failed ≡ k.failed)
+HasDone o k v false = (v.taken ≡ []) × (v.published ≡ o.first) × (v.failed ≡ false)
+
+-- what a LOOK under the stripe found: the part is that after the first q changes, and no call of the pass is behind them
+pub record HasSeen (n : ℕ) (v : Record) (d : Holding) (q : ℕ) : Type 0 where
+  pub section : IsLegalSection n (history_of v) (record { stripe = d.stripe; mark = q; part = d.part })
+  pub calls : All (IsUpTo q) v.calls
+
+module _ (o : Opening) (n : ℕ) (h : List Command) (authors : List ℕ) (k : Deeds) where
+  -- a stripe that is held has the content that its holder's record says
+  pub record Holds (v : Record) (d : Holding) : Type 0 where
+    pub within : d.stripe < n
+    pub content : IsContent o n h k.taken d.stripe d.part d.outbox
+    pub looked : (q : ℕ) → d.looked ≡ Some q → HasSeen n v d q
+
+  -- the record v of the pass j
+  pub record Knows (j : ℕ) (v : Record) : Type 0 where
+    pub opening : v.opening ≡ o
+    pub front : IsFront v.seen h
+    pub changes : changes_in v.calls ≡ changes_by j (o.first + 1) authors h
+    pub calls : AllLegalCalls v v.calls
+    pub order : AreInOrder v.calls
+    pub seen : All (IsUpTo (reach v)) v.calls
+    pub sections : AllLegalSections n v v.sections
+    pub keeper : v.keeper ≡ (j == k.keeper)
+    pub done : HasDone o k v v.keeper
+    pub held : (d : Holding) → v.holding ≡ Some d → Holds v d
+
+-- each change of the history is a pass's, and the records of all passes agree with it
+pub record IsOneHistory (b : Book) : Type 0 where
+  pub authors : length b.authors ≡ length b.history
+  pub by_passes : All (λ j. j < length b.passes) b.authors
+  pub keeper : b.deeds.keeper < length b.passes
+  pub begun : b.opening.first ≤ b.deeds.durable
+  pub reached : b.deeds.durable ≤ b.opening.first + length b.history
+  pub passes : (j : ℕ) → j < length b.passes → Knows b.opening b.stripes b.history b.authors b.deeds j (record_of j b)
+
+-- the stripe that is held
+abbrev pub stripe_in : Option Holding → Option ℕ
+stripe_in None = None
+stripe_in (Some d) = Some d.stripe
+
+-- the pass j holds the stripe i
+pub record HoldsStripe (b : Book) (j i : ℕ) : Type 0 where
+  pub within : j < length b.passes
+  pub has : stripe_in (record_of j b).holding ≡ Some i
+
+-- no two passes hold one stripe
+abbrev pub HoldApart : Book → Type 0
+HoldApart b = (i j l : ℕ) → HoldsStripe b j i → HoldsStripe b l i → j ≡ l
+
+-- part s has the keys of stripe s, of n stripes, alone
+abbrev pub AreParts : ℕ → List PartState → Type 0
+AreParts n parts = maps_of parts ≡ parts_of n (union_of (maps_of parts))

@@ -1,0 +1,91 @@
+-- What each step leaves of the book.
+use Rattle.std.specs.Prelude.{ℕ, ◌+◌, ◌-◌, max, List, [], ◌∷◌, ◌++◌, length, take, drop, map, true, false, not, slice_index_or, slice_set, replicate}
+use Rattle.map_types.specs.declared.commands.Command.{Command}
+use Rattle.map_model.specs.Maps.{Map}
+use Rattle.map_model.specs.Parts.{union_of}
+use Rattle.atomic_methods.specs.PartState.{PartState}
+use Rattle.ticket_order.specs.declared.stripe.Stripe.{Stripe}
+use Rattle.ticket_order.specs.declared.record.Opening.{Opening}
+use Rattle.ticket_order.specs.declared.record.Purpose.{Purpose}
+use Rattle.ticket_order.specs.declared.record.Record.{Record}
+use Rattle.ticket_order.specs.Records.{past, newcomer, keeper_at_start, enrolling, missing, taking, looking, drawing, giving, swept_by, publishing, seeing, failing, living}
+use Rattle.one_history.specs.declared.book.Book.{Book}
+
+-- the record of the pass j
+abbrev pub record_of : ℕ → Book → Record
+record_of j b = slice_index_or b.passes j (newcomer b.opening)
+
+abbrev pub with_record : ℕ → Record → Book → Book
+with_record j v b = record b { passes = slice_set b.passes j v }
+
+-- what the pass has not seen of the history
+abbrev pub unseen : Record → List Command → List Command
+unseen v h = drop (length v.seen) h
+
+-- what it has not seen of the history up to the position n
+abbrev pub unseen_to : ℕ → Record → List Command → List Command
+unseen_to n v h = unseen v (take (n - v.opening.first) h)
+
+-- TAKE of a free stripe by the pass j, which then has seen each change that lies in its outbox
+abbrev pub took : ℕ → ℕ → Stripe → Book → Book
+took j i content b =
+    let v : Record = record_of j b in
+    with_record j (taking v i content.part.map content.outbox.items (unseen_to (past content.outbox.items) v b.history)) b
+
+-- TAKE of a stripe that another holds
+abbrev pub found_held : ℕ → ℕ → Book → Book
+found_held j i b = with_record j (missing (record_of j b) i) b
+
+-- GIVE
+abbrev pub gave : ℕ → Purpose → Book → Book
+gave j p b = record (with_record j (giving p (record_of j b)) b) { deeds = record b.deeds { taken = b.deeds.taken ++ swept_by p (record_of j b).holding } }
+
+-- TICKET: the change stands at the end of the history
+abbrev pub drew : ℕ → Command → Book → Book
+drew j c b = record (with_record j (drawing (record_of j b) (unseen (record_of j b) b.history) c) b) { history = b.history ++ c ∷ []; authors = b.authors ++ j ∷ [] }
+
+-- LOOK
+abbrev pub looked : ℕ → Book → Book
+looked j b = with_record j (looking (record_of j b) (unseen (record_of j b) b.history)) b
+
+-- DURABLE
+abbrev pub published : ℕ → ℕ → Book → Book
+published j n b = record (with_record j (publishing (record_of j b) n) b) { deeds = record b.deeds { durable = max b.deeds.durable n } }
+
+-- SEE
+abbrev pub saw : ℕ → Book → Book
+saw j b = with_record j (seeing (record_of j b) b.deeds.durable (unseen_to b.deeds.durable (record_of j b) b.history)) b
+
+-- FAIL
+abbrev pub failed : ℕ → Book → Book
+failed j b = record (with_record j (failing (record_of j b)) b) { deeds = record b.deeds { failed = true } }
+
+-- ALIVE
+abbrev pub found_alive : ℕ → Book → Book
+found_alive j b = with_record j (living (record_of j b) (not b.deeds.failed)) b
+
+-- one more pass, which has made no step
+abbrev pub joined : Book → Book
+joined b = record b { passes = b.passes ++ enrolling (newcomer b.opening) (length b.passes + 1) ∷ [] }
+
+-- no step was made; the keeper's pass comes after those of the workers
+abbrev pub started : Opening → ℕ → ℕ → Book
+started o stripes workers = record {
+  opening = o;
+  stripes = stripes;
+  history = [];
+  authors = [];
+  passes = replicate workers (enrolling (newcomer o) (workers + 1)) ++ enrolling (keeper_at_start o) (workers + 1) ∷ [];
+  deeds = record { keeper = workers; taken = []; durable = o.first; failed = false };
+}
+
+-- the maps of the parts
+abbrev pub maps_of : List PartState → List Map
+maps_of parts = map (λ (p : PartState). p.map) parts
+
+-- the first changes are known by the union of the parts
+abbrev pub opening_of : ℕ → List PartState → Opening
+opening_of first parts = record { first = first; map = union_of (maps_of parts) }
+
+abbrev pub at_start : ℕ → List PartState → ℕ → Book
+at_start first parts workers = started (opening_of first parts) (length parts) workers

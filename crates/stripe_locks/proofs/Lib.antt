@@ -1,0 +1,5 @@
+pub mod Turning
+pub mod Stepping
+pub mod Moving
+pub mod Seats
+pub mod Begins

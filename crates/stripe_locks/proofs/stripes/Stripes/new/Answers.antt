@@ -1,0 +1,15 @@
+use Rattle.std.proofs.Common.{◌≡◌, ◌∙◌, ℕ, List, length, sym, ap, subst, rules}
+use Rattle.atomic_table.specs.Table.{opening}
+use Rattle.atomic_methods.specs.PartState.{PartState}
+use Rattle.ticket_order.specs.declared.record.Opening.{Opening}
+use Rattle.ticket_order.specs.Records.{newcomer}
+use Rattle.one_history.specs.Turns.{opening_of}
+use Rattle.stripe_locks.specs.Rule.{Kept}
+use Rattle.stripe_locks.proofs.Begins.{opens}
+use Rattle.stripe_locks.proofs.stripes.Stripes.new.Goals as goal
+
+pub new-requires : goal.new-requires
+new-requires c =
+    let begins : c.new-beginning.result.opening ≡ opening_of c.args.first c.args.parts.items = c.new-beginning.ensures ∙ ap (opening_of c.args.first) c.deref.ensures.value in
+    subst (λ (o : Opening). Kept o (opening c.as_slice.result.now c.in_ok-slots.slots.items (newcomer o))) (sym begins)
+    (opens _ c.args.first c.args.parts.items c.as_slice.result.now c.in_ok-slots.slots.items c.requires.count c.requires.parts (c.in_ok-slots.ensures.ok) (c.as_slice.ensures.value ∙ c.in_ok-words.ensures.ok))

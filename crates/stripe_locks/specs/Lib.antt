@@ -1,0 +1,4 @@
+pub mod Rule
+pub mod Plays
+pub mod Placed
+pub mod Passes

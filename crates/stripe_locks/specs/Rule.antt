@@ -1,0 +1,65 @@
+-- The rule of the shared words: between any two steps of any threads there is one history, which the words and the slots match.
+-- The words are the ticket count, the durable count, the failure word, the count of passes, and then one for each stripe.
+use Rattle.std.specs.Prelude.{◌≡◌, ℕ, ◌+◌, ◌<◌, ◌≤◌, max, List, length, map, Option, Some, Bool, true, false, slice_index}
+use mathlib.Core.Option.{some}
+use mathlib.Core.Option as maybe
+use lib.ListN.{get_elem?}
+use Rattle.atomic_table.specs.Table.{State}
+use Rattle.map_types.specs.declared.commands.Command.{Command}
+use Rattle.ticket_order.specs.declared.stripe.Stripe.{Stripe}
+use Rattle.ticket_order.specs.declared.stripe.Entry.{Entry}
+use Rattle.ticket_order.specs.declared.record.Opening.{Opening}
+use Rattle.ticket_order.specs.declared.record.Record.{Record}
+use Rattle.ticket_order.specs.Records.{keeper_at_start, enrolling}
+use Rattle.one_history.specs.declared.book.Book.{Book}
+use Rattle.one_history.specs.declared.slot.Slot.{Slot}
+use Rattle.one_history.specs.declared.slot.Slot.TheVariants.{Home, HeldBy}
+use Rattle.one_history.specs.Turns.{record_of}
+use Rattle.one_history.specs.OneHistory.{IsFront}
+use Rattle.one_history.specs.Kept.{slot_of, IsKept}
+
+abbrev pub bit : Bool → ℕ
+bit true = 1
+bit false = 0
+
+-- A stripe whose word is 0 has its content at home. Else the word is the number of the pass that holds it: passes are numbered from 1 on, in the order of the book.
+abbrev pub Stands : List ℕ → List (maybe.Option (Option Stripe)) → ℕ → Slot → Type 0
+Stands words homes i (Home content) = (slice_index words (i + 4) ≡ 0) × (get_elem? homes i ≡ some (some (Some content)))
+Stands words homes i (HeldBy j) = slice_index words (i + 4) ≡ j + 1
+
+-- the seat is that of the pass at this place of the book, whose record is its view
+pub record IsSeated (seats : ℕ → ℕ) (b : Book) (joined : ℕ) (id : ℕ) (v : Record) : Type 0 where
+  pub place : ℕ
+  pub number_is : v.passes ≡ place + 1
+  pub within : place < joined
+  pub seat_is : seats place ≡ id
+  pub view_is : record_of place b ≡ v
+
+abbrev pub commands_of : List Entry → List Command
+commands_of entries = map (λ (e : Entry). e.command) entries
+
+-- the seat is no pass's; what its view has of the history are two fronts
+pub record IsUnseated (b : Book) (joined : ℕ) (v : Record) : Type 0 where
+  pub few : v.passes ≤ joined
+  pub front : IsFront v.seen b.history
+  pub other_front : IsFront (commands_of v.taken) b.history
+
+abbrev pub Sits : (ℕ → ℕ) → Book → ℕ → ℕ → Record → Bool → Type 0
+Sits seats b joined id v true = IsSeated seats b joined id v
+Sits seats b joined id v false = IsUnseated b joined v
+
+-- `joined` passes have joined, at most 4,096. The keeper's is the first; until it joins, its record stands in the book as it will begin.
+pub record Kept (o : Opening) (s : State (Option Stripe) Record) : Type 0 where
+  pub book : Book
+  pub slots : List Slot
+  pub seats : ℕ → ℕ
+  pub opening : book.opening ≡ o
+  pub wide : length s.words ≡ length s.homes + 4
+  pub kept : IsKept (length s.homes) (slice_index s.words 0) (slice_index s.words 1) book.deeds.failed slots book
+  pub failure : slice_index s.words 2 ≡ bit book.deeds.failed
+  pub few : slice_index s.words 3 ≤ 4096
+  pub joined : length book.passes ≡ max 1 (slice_index s.words 3)
+  pub keeper : book.deeds.keeper ≡ 0
+  pub unjoined : slice_index s.words 3 ≡ 0 → record_of 0 book ≡ enrolling (keeper_at_start o) 1
+  pub each_stripe : (i : ℕ) → i < length s.homes → Stands s.words s.homes i (slot_of i slots)
+  pub each_seat : (id : ℕ) (v : Record) → get_elem? s.views id ≡ some v → Sits seats book (slice_index s.words 3) id v v.enrolled

@@ -1,0 +1,18 @@
+//! The shared words and the stripes, on which any number of threads make their steps: one history.
+#![tactic(auto)]
+
+mod beginning;
+mod board;
+mod calls;
+mod plays;
+mod rule;
+mod starts;
+mod steps;
+mod stripes;
+#[cfg(test)]
+mod tests;
+
+pub use beginning::Beginning;
+pub use board::Board;
+pub use rule::{Pass, StripeRule};
+pub use stripes::Stripes;

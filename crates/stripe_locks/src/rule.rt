@@ -1,0 +1,32 @@
+//! The rule of the shared words, and the passes.
+ghost use Rattle.std.specs.Prelude.{◌≡◌, ◌<◌, ◌==◌, true};
+ghost use Rattle.ticket_order.specs.Records.{newcomer, stripe_held};
+ghost use Rattle.stripe_locks.specs.Rule.{Kept};
+ghost use Rattle.stripe_locks.specs.Plays.{carried};
+
+use crate::beginning::Beginning;
+use atomic_table::{Seat, TableRule};
+use ticket_order::{Record, Stripe};
+
+/// The rule that every step keeps: there is one history.
+pub struct StripeRule;
+
+impl TableRule<Option<Stripe>, Record, Beginning> for StripeRule {
+    ghost holds = { λ beginning. Kept beginning.opening };
+
+    ghost first = { λ beginning. newcomer beginning.opening };
+}
+
+/// What one worker, or the keeper, makes its steps with. A pass isn't given back: where it is
+/// dropped with a stripe in hand, that stripe stays held.
+#[derive(Drop)]
+pub struct Pass {
+    pub(crate) seat: Seat<Option<Stripe>, Record>,
+    pub(crate) number: u64,
+    ghost carries: { seat.me.1 ≡ carried seat.me.0.holding },
+    ghost enrolled: { seat.me.0.enrolled ≡ true },
+    ghost numbered: { seat.me.0.passes ≡ number },
+    ghost counts: { 0 < number },
+    ghost within: { stripe_held seat.me.0.holding < seat.table_id.slots },
+    ghost keeps: { seat.me.0.keeper ≡ (number == 1) },
+}

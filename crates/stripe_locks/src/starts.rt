@@ -1,0 +1,112 @@
+//! How the shared stripes begin, and how passes join.
+ghost use Rattle.std.specs.Prelude.{◌≡◌, ◌+◌, length, IfOk, IfErr, replicate, slice_set};
+ghost use Rattle.one_history.specs.Turns.{opening_of};
+ghost use Rattle.one_history.specs.OneHistory.{AreParts};
+ghost use Rattle.stripe_locks.specs.Placed.{AreStored};
+ghost use Rattle.stripe_locks.specs.Passes.{recorded, begun_with, IsPassOf, Joins};
+
+use crate::beginning::Beginning;
+use crate::plays::{Enroll, Sit};
+use crate::rule::Pass;
+use crate::stripes::{DURABLE, FIRST_STRIPE, PASSES, Stripes, TICKETS};
+use atomic_methods::Part;
+use atomic_table::Table;
+use java_hash::StripeCount;
+use map_types::Refusal;
+use std::alloc::Global;
+use std::sync::atomic::AtomicU64;
+use ticket_order::Stripe;
+
+/// The most passes of a `Stripes`.
+const MOST_PASSES: u64 = 4096;
+
+// The stripes with these parts, at home.
+fn store_all(alloc: Global, parts: Vec<Part>) -> Result<Vec<Option<Stripe>>, Refusal>
+    ensures ok { IfOk result (λ slots. AreStored parts.items slots.items) }
+    ensures err { IfErr result (λ refusal. refusal ≡ Refusal.NoMemory) }
+{
+    let mut slots = Vec::new(alloc);
+    for part in parts {
+        slots.push(Some(Stripe::new(alloc, part)))?;
+    }
+    Ok(slots)
+}
+
+fn first_words(alloc: Global, count: StripeCount, first: u64) -> Result<Vec<u64>, Refusal>
+    ensures ok { IfOk result (λ words. words.items ≡ slice_set (slice_set (replicate (count.count + 4) 0) 0 first) 1 first) }
+    ensures err { IfErr result (λ refusal. refusal ≡ Refusal.NoMemory) }
+{
+    let mut words = Vec::from_elem(alloc, 0u64, count.get() + FIRST_STRIPE)?;
+    words[TICKETS] = first;
+    words[DURABLE] = first;
+    Ok(words)
+}
+
+impl Stripes {
+    /// Stripes that begin with the first `first` changes made, known by the map that the parts make;
+    /// part s has keys of stripe s alone.
+    pub fn new(
+        alloc: Global,
+        count: StripeCount,
+        parts: Vec<Part>,
+        first: u64,
+    ) -> Result<Stripes, Refusal>
+        requires count { length parts.items ≡ count.count }
+        requires parts { AreParts count.count parts.items }
+        ensures count { IfOk result (λ stripes. stripes.count ≡ count) }
+        ensures opening { IfOk result (λ stripes. begun_with stripes ≡ opening_of first parts.items) }
+        ensures err { IfErr result (λ refusal. refusal ≡ Refusal.NoMemory) }
+    {
+        let beginning = Beginning::new(first, &parts);
+        let words = first_words(alloc, count, first)?;
+        let slots = store_all(alloc, parts)?;
+        match Table::new(alloc, words.as_slice(), slots, &beginning) {
+            Ok((table, _)) => Ok(Stripes {
+                table,
+                count,
+                sleepers: AtomicU64::new(0),
+                alloc,
+            }),
+            Err(_) => Err(Refusal::NoMemory),
+        }
+    }
+
+    pub fn stripes(&self) -> StripeCount
+        ensures { result.count ≡ self.now.count.count }
+    {
+        self.count
+    }
+
+    /// A new pass. There are 4,096 of them; the first is the keeper's. It takes no memory and
+    /// doesn't wait.
+    pub fn pass(&self) -> Result<Pass, Refusal>
+        ensures own { IfOk result (λ pass. IsPassOf self.now pass) }
+        ensures joins { IfOk result (λ pass. Joins (begun_with self.now) pass) }
+        ensures err { IfErr result (λ refusal. refusal ≡ Refusal.SeatsSpent) }
+    {
+        let words = &self.table.shared;
+        let (found, mut seat) = words.load_new_seat::<Sit>(PASSES);
+        let mut passes = found;
+        for _turn in 0..MOST_PASSES {
+            if passes >= MOST_PASSES {
+                return Err(Refusal::SeatsSpent);
+            }
+            let number = passes + 1;
+            let now = words.compare_exchange::<Enroll>(&mut seat, PASSES, passes, number);
+            if now == passes {
+                return Ok(Pass { seat, number });
+            }
+            passes = now;
+        }
+        Err(Refusal::SeatsSpent)
+    }
+}
+
+impl Pass {
+    /// Whether this is the pass that sweeps, publishes and fails: the first one of its `Stripes`.
+    pub fn is_keeper(&self) -> bool
+        ensures { result ≡ (recorded self.now).keeper }
+    {
+        self.number == 1
+    }
+}

@@ -1,0 +1,35 @@
+//! The shared words and the stripes.
+ghost use Rattle.std.specs.Prelude.{◌≡◌, ◌+◌};
+
+use crate::beginning::Beginning;
+use crate::rule::StripeRule;
+use atomic_table::Table;
+use java_hash::StripeCount;
+use std::alloc::Global;
+use std::sync::atomic::AtomicU64;
+use ticket_order::{Record, Stripe};
+
+// The words: the ticket count, the durable count, the failure word, the count of passes, and then
+// one for each stripe, which is 0 where the stripe is free, else the number of its holder.
+pub(crate) const TICKETS: usize = 0;
+
+pub(crate) const DURABLE: usize = 1;
+
+pub(crate) const FAILURE: usize = 2;
+
+pub(crate) const PASSES: usize = 3;
+
+pub(crate) const FIRST_STRIPE: usize = 4;
+
+/// The shared words and the stripes. Each step on them is one atomic action, and between any two
+/// steps of any threads there is one history.
+#[derive(Drop)]
+pub struct Stripes {
+    pub(crate) table: Table<Option<Stripe>, Record, Beginning, StripeRule, Global>,
+    pub(crate) count: StripeCount,
+    // How many threads sleep until a stripe is given back.
+    pub(crate) sleepers: AtomicU64,
+    pub(crate) alloc: Global,
+    ghost words: { table.shared.table_id.words ≡ count.count + 4 },
+    ghost slots: { table.shared.table_id.slots ≡ count.count },
+}
