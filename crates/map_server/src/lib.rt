@@ -5,6 +5,7 @@ pub mod calls;
 pub mod connection;
 pub mod memory;
 pub mod program;
+pub mod state;
 #[cfg(test)]
 mod tests;
 
@@ -12,3 +13,4 @@ pub use calls::Calls;
 pub use connection::{ConnectionError, serve_connection};
 pub use memory::Memory;
 pub use program::dchm;
+pub use state::MapState;

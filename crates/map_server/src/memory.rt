@@ -1,6 +1,7 @@
-//! The map in memory: the shared words and the stripes on one thread.
-ghost use Rattle.std.specs.Prelude.{◌≡◌, ◌≤◌, IfOk, IfErr};
+//! The map in memory: the shared stripes on one thread.
+ghost use Rattle.std.specs.Prelude.{◌≡◌, ◌≤◌, ◌⊎◌, IfOk, IfErr};
 ghost use Rattle.ticket_order.specs.Records.{reach};
+ghost use Rattle.stripe_locks.specs.Passes.{recorded, stripe_count, IsPassOf, IsSamePass};
 ghost use Rattle.map_server.specs.Program.{empty_map};
 ghost use Rattle.ticket_order.specs.Calls.{Reaches};
 ghost use Rattle.map_server.specs.Served.{Makes, Refuses, Took, IsReady};
@@ -8,9 +9,10 @@ ghost use Rattle.map_server.specs.Served.{Makes, Refuses, Took, IsReady};
 use crate::calls::Calls;
 use java_hash::StripeCount;
 use map_types::{Refusal, Reply};
-use plain_words::{At, PlainWords};
+use one_history::empty_parts;
 use std::alloc::Global;
 use std::marker::Model;
+use stripe_locks::{Pass, Stripes};
 use ticket_order::{Held, Released, Steps, release, try_call, try_read};
 use wire_frames::Request;
 
@@ -19,23 +21,23 @@ use wire_frames::Request;
 #[derive(Drop)]
 pub struct Memory {
     alloc: Global,
-    words: PlainWords,
+    stripes: Stripes,
+    pass: Pass,
 }
 
 impl Model for Memory {
-    ghost use Rattle.std.specs.Prelude.{◌<◌, length};
-    ghost use Rattle.one_history.specs.contracts.book.Book as book_type;
-    ghost use Rattle.one_history.specs.declared.book.Book.{Book};
-    ghost use Rattle.one_history.specs.Turns.{record_of};
+    ghost use Rattle.map_server.specs.contracts.state.MapState as state_type;
+    ghost use Rattle.map_server.specs.declared.state.MapState.{MapState};
+    ghost use Rattle.stripe_locks.specs.Passes.{recorded, stripe_count, IsPassOf};
     ghost use Rattle.map_server.specs.Served.{IsReady};
 
-    ghost Value = { Book };
+    ghost Value = { MapState };
 
-    ghost coded = { book_type.the_row.coded };
+    ghost coded = { state_type.the_row.coded };
 
-    ghost view = { λ memory. memory.words };
+    ghost view = { λ memory. record { stripes = stripe_count memory.stripes; pass = recorded memory.pass } };
 
-    ghost invariant = { λ memory. (0 < length memory.words.passes) × IsReady (record_of 0 memory.words) };
+    ghost invariant = { λ memory. IsPassOf memory.stripes memory.pass × IsReady (recorded memory.pass) };
 }
 
 /// Makes the call of a request.
@@ -89,19 +91,43 @@ fn serve_request<S: Steps>(steps: &mut S, alloc: Global, request: Request) -> Re
     Ok(let_go(steps, held))
 }
 
+/// The answer of the stripes to a request of the pass.
+fn answer(
+    stripes: &Stripes,
+    pass: &mut Pass,
+    alloc: Global,
+    request: Request,
+) -> Result<Reply, Refusal>
+    requires own { IsPassOf stripes.now pass.old }
+    requires ready { IsReady (recorded pass.old) }
+    ensures took { Took (stripe_count stripes.now) (recorded pass.old) request result (recorded pass.new) }
+    ensures ready { IsReady (recorded pass.new) }
+    ensures same { IsSamePass pass.old pass.new }
+{
+    let mut board = stripes.at(pass);
+    serve_request(&mut board, alloc, request)
+}
+
 impl Memory {
-    /// An empty map. Refuses with `NoMemory` alone.
+    /// An empty map. Refuses with `NoMemory`, or with `SeatsSpent` where its stripes have no pass.
     pub fn new(alloc: Global) -> Result<Memory, Refusal>
         ensures empty { IfOk result (λ memory. memory ≡ empty_map) }
-        ensures err { IfErr result (λ refusal. refusal ≡ Refusal.NoMemory) }
+        ensures err { IfErr result (λ refusal. (refusal ≡ Refusal.NoMemory) ⊎ (refusal ≡ Refusal.SeatsSpent)) }
     {
-        let Some(stripes) = StripeCount::new(16) else {
+        let Some(count) = StripeCount::new(16) else {
             unreachable!()
         };
-        match PlainWords::empty(alloc, stripes, 0) {
-            Ok(words) => Ok(Memory { alloc, words }),
-            Err(refusal) => Err(refusal),
+        let parts = empty_parts(alloc, count)?;
+        let stripes = Stripes::new(alloc, count, parts, 0)?;
+        let pass = stripes.pass()?;
+        if !pass.is_keeper() {
+            return Err(Refusal::SeatsSpent);
         }
+        Ok(Memory {
+            alloc,
+            stripes,
+            pass,
+        })
     }
 }
 
@@ -111,8 +137,6 @@ impl Calls for Memory {
     ghost took = { Answered };
 
     fn call(&mut self, request: Request) -> Result<Reply, Refusal> {
-        let alloc = self.alloc;
-        let mut at = At::new(&mut self.words, 0);
-        serve_request(&mut at, alloc, request)
+        answer(&self.stripes, &mut self.pass, self.alloc, request)
     }
 }

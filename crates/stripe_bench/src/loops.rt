@@ -1,0 +1,82 @@
+//! The loops that are measured.
+ghost use Rattle.std.specs.Prelude.{◌≡◌, None};
+ghost use Rattle.stripe_locks.specs.Passes.{recorded, IsPassOf};
+
+use atomic_methods::Part;
+use java_hash::StripeCount;
+use map_types::{Change, Command, Key, Question, Read, Refusal, Value};
+use std::alloc::Global;
+use stripe_locks::{Pass, Stripes};
+
+/// Keys of four stripes, one for each thread.
+const KEYS: [&str; 4] = ["a", "b", "c", "d"];
+
+fn put(alloc: Global, key: &str, number: u32) -> Result<Command, Refusal> {
+    Ok(Command {
+        key: Key::new(alloc, key)?,
+        change: Change::Put(Value::Int(i64::from(number))),
+    })
+}
+
+fn get(alloc: Global, key: &str) -> Result<Read, Refusal> {
+    Ok(Read {
+        key: Key::new(alloc, key)?,
+        question: Question::Get,
+    })
+}
+
+/// A change and a read on a part that no other thread has.
+fn pair_on_a_part(part: &mut Part, alloc: Global, number: u32) -> Result<(), Refusal> {
+    let command = put(alloc, KEYS[0], number)?;
+    let prepared = part.prepare(alloc, &command)?;
+    part.act(prepared);
+    part.read(&get(alloc, KEYS[0])?)?;
+    Ok(())
+}
+
+pub(crate) fn pairs_on_a_part(alloc: Global, pairs: u32) -> Result<(), Refusal> {
+    let Some(count) = StripeCount::new(16) else {
+        unreachable!()
+    };
+    let mut part = Part::new(count);
+    for number in 0..pairs {
+        pair_on_a_part(&mut part, alloc, number)?;
+    }
+    Ok(())
+}
+
+/// A change and a read on the shared stripes.
+fn pair_on_stripes(
+    stripes: &Stripes,
+    pass: &mut Pass,
+    alloc: Global,
+    key: &str,
+    number: u32,
+) -> Result<(), Refusal>
+    requires own { IsPassOf stripes.now pass.old }
+    requires idle { (recorded pass.old).holding ≡ None }
+    ensures own { IsPassOf stripes.now pass.new }
+    ensures idle { (recorded pass.new).holding ≡ None }
+{
+    let command = put(alloc, key, number)?;
+    let read = get(alloc, key)?;
+    let change = stripes.try_call(pass, command);
+    let answer = stripes.try_read(pass, read);
+    change?.give_up();
+    answer?.give_up();
+    Ok(())
+}
+
+/// The pairs of one of four threads.
+pub(crate) fn pairs_on_stripes(
+    stripes: &Stripes,
+    alloc: Global,
+    thread: usize,
+    pairs: u32,
+) -> Result<(), Refusal> {
+    let mut pass = stripes.pass()?;
+    for number in 0..pairs {
+        pair_on_stripes(stripes, &mut pass, alloc, KEYS[thread % 4], number)?;
+    }
+    Ok(())
+}
