@@ -3,7 +3,7 @@ ghost use Rattle.std.specs.Prelude.{◌≡◌, ◌+◌, length, IfOk, IfErr, rep
 ghost use Rattle.one_history.specs.Turns.{opening_of};
 ghost use Rattle.one_history.specs.OneHistory.{AreParts};
 ghost use Rattle.stripe_locks.specs.Placed.{AreStored};
-ghost use Rattle.stripe_locks.specs.Passes.{recorded, begun_with, IsPassOf, Joins};
+ghost use Rattle.stripe_locks.specs.Passes.{recorded, stripe_count, begun_with, IsPassOf, Joins};
 
 use crate::beginning::Beginning;
 use crate::plays::{Enroll, Sit};
@@ -72,7 +72,7 @@ impl Stripes {
     }
 
     pub fn stripes(&self) -> StripeCount
-        ensures { result.count ≡ self.now.count.count }
+        ensures { result.count ≡ stripe_count self.now }
     {
         self.count
     }
