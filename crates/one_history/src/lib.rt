@@ -3,7 +3,9 @@
 #![tactic(auto)]
 
 pub mod book;
+pub mod parts;
 pub mod slot;
 
 pub use book::{Book, Deeds};
+pub use parts::empty_parts;
 pub use slot::Slot;

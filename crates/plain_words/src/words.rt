@@ -6,13 +6,13 @@ ghost use Rattle.ticket_order.specs.StepRules.{Takes, take_made, Looks, MayDraw,
 ghost use Rattle.one_history.specs.Turns.{record_of, started, at_start};
 ghost use Rattle.one_history.specs.OneHistory.{IsOneHistory, HoldApart, AreParts};
 ghost use Rattle.one_history.specs.Moves.{BookMoves};
-ghost use Rattle.one_history.specs.Kept.{ArePlaced, AreEmpty};
+ghost use Rattle.one_history.specs.Kept.{ArePlaced};
 
 use crate::chronicle::{Chronicle, Turn};
 use atomic_methods::Part;
 use java_hash::StripeCount;
 use map_types::{Command, Refusal};
-use one_history::Slot;
+use one_history::{Slot, empty_parts};
 use std::alloc::Global;
 use std::marker::Model;
 use std::mem;
@@ -54,18 +54,6 @@ fn place_all(alloc: Global, parts: Vec<Part>) -> Result<Vec<Slot>, Refusal>
         slots.push(Slot::Home(Stripe::new(alloc, part)))?;
     }
     Ok(slots)
-}
-
-fn empty_parts(alloc: Global, stripes: StripeCount) -> Result<Vec<Part>, Refusal>
-    ensures count { IfOk result (λ parts. length parts.items ≡ stripes.count) }
-    ensures empty { IfOk result (λ parts. AreEmpty parts.items) }
-    ensures err { IfErr result (λ refusal. refusal ≡ Refusal.NoMemory) }
-{
-    let mut parts = Vec::new(alloc);
-    for _stripe in 0..stripes.get() {
-        parts.push(Part::new(stripes))?;
-    }
-    Ok(parts)
 }
 
 impl PlainWords {

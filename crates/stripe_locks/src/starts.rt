@@ -1,5 +1,6 @@
 //! How the shared stripes begin, and how passes join.
 ghost use Rattle.std.specs.Prelude.{◌≡◌, ◌+◌, length, IfOk, IfErr, replicate, slice_set};
+ghost use Rattle.std.specs.FinMap as finite;
 ghost use Rattle.one_history.specs.Turns.{opening_of};
 ghost use Rattle.one_history.specs.OneHistory.{AreParts};
 ghost use Rattle.stripe_locks.specs.Placed.{AreStored};
@@ -13,6 +14,7 @@ use atomic_methods::Part;
 use atomic_table::Table;
 use java_hash::StripeCount;
 use map_types::Refusal;
+use one_history::empty_parts;
 use std::alloc::Global;
 use std::sync::atomic::AtomicU64;
 use ticket_order::Stripe;
@@ -53,7 +55,7 @@ impl Stripes {
     ) -> Result<Stripes, Refusal>
         requires count { length parts.items ≡ count.count }
         requires parts { AreParts count.count parts.items }
-        ensures count { IfOk result (λ stripes. stripes.count ≡ count) }
+        ensures count { IfOk result (λ stripes. stripe_count stripes ≡ count.count) }
         ensures opening { IfOk result (λ stripes. begun_with stripes ≡ opening_of first parts.items) }
         ensures err { IfErr result (λ refusal. refusal ≡ Refusal.NoMemory) }
     {
@@ -69,6 +71,16 @@ impl Stripes {
             }),
             Err(_) => Err(Refusal::NoMemory),
         }
+    }
+
+    /// Stripes of an empty map, with no change made.
+    pub fn empty(alloc: Global, count: StripeCount) -> Result<Stripes, Refusal>
+        ensures count { IfOk result (λ stripes. stripe_count stripes ≡ count.count) }
+        ensures opening { IfOk result (λ stripes. begun_with stripes ≡ record { first = 0; map = finite.empty }) }
+        ensures err { IfErr result (λ refusal. refusal ≡ Refusal.NoMemory) }
+    {
+        let parts = empty_parts(alloc, count)?;
+        Stripes::new(alloc, count, parts, 0)
     }
 
     pub fn stripes(&self) -> StripeCount

@@ -1,0 +1,21 @@
+//! The parts of an empty map.
+ghost use Rattle.std.specs.Prelude.{◌≡◌, length, IfOk, IfErr};
+ghost use Rattle.one_history.specs.Kept.{AreEmpty};
+
+use atomic_methods::Part;
+use java_hash::StripeCount;
+use map_types::Refusal;
+use std::alloc::Global;
+
+/// As many parts as there are stripes, all empty.
+pub fn empty_parts(alloc: Global, stripes: StripeCount) -> Result<Vec<Part>, Refusal>
+    ensures count { IfOk result (λ parts. length parts.items ≡ stripes.count) }
+    ensures empty { IfOk result (λ parts. AreEmpty parts.items) }
+    ensures err { IfErr result (λ refusal. refusal ≡ Refusal.NoMemory) }
+{
+    let mut parts = Vec::new(alloc);
+    for _stripe in 0..stripes.get() {
+        parts.push(Part::new(stripes))?;
+    }
+    Ok(parts)
+}
