@@ -183,5 +183,5 @@ empty_are_parts n parts count e =
     let all : maps_of parts ≡ parts_of n finite.empty = empty_parts n 0 parts e ∙ ap (λ l. map (λ s. part_of n s finite.empty) (range_with_len 0 l)) count in
     all ∙ ap (λ m. parts_of n m) (sym (empty_union parts e))
 
-pub empty_opening : (parts : List PartState) → AreEmpty parts → opening_of 0 parts ≡ record { first = 0; map = finite.empty }
-empty_opening parts e = ap (λ (m : Map). record { first = 0; map = m }) (empty_union parts e)
+pub empty_start : (n workers : ℕ) (parts : List PartState) → length parts ≡ n → AreEmpty parts → at_start 0 parts workers ≡ started (record { first = 0; map = finite.empty }) n workers
+empty_start n workers parts count e = ap (λ (m : Map). started (record { first = 0; map = m }) (length parts) workers) (empty_union parts e) ∙ ap (λ l. started (record { first = 0; map = finite.empty }) l workers) count

@@ -3,3 +3,4 @@ pub mod Stepping
 pub mod Moving
 pub mod Seats
 pub mod Begins
+pub mod Misses

@@ -2,3 +2,4 @@ pub mod Rule
 pub mod Plays
 pub mod Placed
 pub mod Passes
+pub mod Waits

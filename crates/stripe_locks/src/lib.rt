@@ -11,6 +11,7 @@ mod steps;
 mod stripes;
 #[cfg(test)]
 mod tests;
+mod waiting;
 
 pub use beginning::Beginning;
 pub use board::Board;

@@ -1,9 +1,10 @@
 //! How the shared stripes begin, and how passes join.
 ghost use Rattle.std.specs.Prelude.{◌≡◌, ◌+◌, length, IfOk, IfErr, replicate, slice_set};
+ghost use Rattle.std.specs.FinMap as finite;
 ghost use Rattle.one_history.specs.Turns.{opening_of};
 ghost use Rattle.one_history.specs.OneHistory.{AreParts};
 ghost use Rattle.stripe_locks.specs.Placed.{AreStored};
-ghost use Rattle.stripe_locks.specs.Passes.{recorded, begun_with, IsPassOf, Joins};
+ghost use Rattle.stripe_locks.specs.Passes.{recorded, stripe_count, begun_with, IsPassOf, Joins};
 
 use crate::beginning::Beginning;
 use crate::plays::{Enroll, Sit};
@@ -13,6 +14,7 @@ use atomic_methods::Part;
 use atomic_table::Table;
 use java_hash::StripeCount;
 use map_types::Refusal;
+use one_history::empty_parts;
 use std::alloc::Global;
 use std::sync::atomic::AtomicU64;
 use ticket_order::Stripe;
@@ -53,7 +55,7 @@ impl Stripes {
     ) -> Result<Stripes, Refusal>
         requires count { length parts.items ≡ count.count }
         requires parts { AreParts count.count parts.items }
-        ensures count { IfOk result (λ stripes. stripes.count ≡ count) }
+        ensures count { IfOk result (λ stripes. stripe_count stripes ≡ count.count) }
         ensures opening { IfOk result (λ stripes. begun_with stripes ≡ opening_of first parts.items) }
         ensures err { IfErr result (λ refusal. refusal ≡ Refusal.NoMemory) }
     {
@@ -71,8 +73,18 @@ impl Stripes {
         }
     }
 
+    /// Stripes of an empty map, with no change made.
+    pub fn empty(alloc: Global, count: StripeCount) -> Result<Stripes, Refusal>
+        ensures count { IfOk result (λ stripes. stripe_count stripes ≡ count.count) }
+        ensures opening { IfOk result (λ stripes. begun_with stripes ≡ record { first = 0; map = finite.empty }) }
+        ensures err { IfErr result (λ refusal. refusal ≡ Refusal.NoMemory) }
+    {
+        let parts = empty_parts(alloc, count)?;
+        Stripes::new(alloc, count, parts, 0)
+    }
+
     pub fn stripes(&self) -> StripeCount
-        ensures { result.count ≡ self.now.count.count }
+        ensures { result.count ≡ stripe_count self.now }
     {
         self.count
     }

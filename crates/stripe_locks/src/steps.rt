@@ -1,7 +1,7 @@
 //! The eight steps of a pass, each one atomic action on the words.
 ghost use Rattle.std.specs.Prelude.{◌≡◌, ◌<◌, None, true};
 ghost use Rattle.ticket_order.specs.StepRules.{Takes, Looks, MayDraw, Draws, MayGive, Gives, MayPublish, Publishes, Sees, Fails, Lives};
-ghost use Rattle.stripe_locks.specs.Passes.{recorded, IsPassOf, IsSamePass};
+ghost use Rattle.stripe_locks.specs.Passes.{recorded, stripe_count, IsPassOf, IsSamePass};
 
 use crate::plays;
 use crate::plays::{Alive, Asks, Draw, Fail, Give, Look, Publish, See, Take};
@@ -15,9 +15,9 @@ use ticket_order::{Purpose, Stripe, Ticket};
 impl Stripes {
     pub(crate) fn take(&self, pass: &mut Pass, stripe: usize) -> Option<Stripe>
         requires own { IsPassOf self.now pass.old }
-        requires within { stripe < self.now.count.count }
+        requires within { stripe < stripe_count self.now }
         requires empty_handed { (recorded pass.old).holding ≡ None }
-        ensures step { Takes self.now.count.count (recorded pass.old) stripe result (recorded pass.new) }
+        ensures step { Takes (stripe_count self.now) (recorded pass.old) stripe result (recorded pass.new) }
         ensures same { IsSamePass pass.old pass.new }
     {
         let words = &self.table.shared;
@@ -43,8 +43,8 @@ impl Stripes {
     )
         requires own { IsPassOf self.now pass.old }
         requires asked { G.purpose ≡ purpose.now }
-        requires fits { MayGive self.now.count.count (recorded pass.old) stripe content purpose.now }
-        ensures step { Gives self.now.count.count purpose.now (recorded pass.old) (recorded pass.new) }
+        requires fits { MayGive (stripe_count self.now) (recorded pass.old) stripe content purpose.now }
+        ensures step { Gives (stripe_count self.now) purpose.now (recorded pass.old) (recorded pass.new) }
         ensures same { IsSamePass pass.old pass.new }
     {
         let _ = purpose;
@@ -58,8 +58,8 @@ impl Stripes {
 
     pub(crate) fn give(&self, pass: &mut Pass, stripe: usize, content: Stripe, purpose: &Purpose)
         requires own { IsPassOf self.now pass.old }
-        requires fits { MayGive self.now.count.count (recorded pass.old) stripe content purpose.now }
-        ensures step { Gives self.now.count.count purpose.now (recorded pass.old) (recorded pass.new) }
+        requires fits { MayGive (stripe_count self.now) (recorded pass.old) stripe content purpose.now }
+        ensures step { Gives (stripe_count self.now) purpose.now (recorded pass.old) (recorded pass.new) }
         ensures same { IsSamePass pass.old pass.new }
     {
         self.give_as::<Brand>(pass, stripe, content, purpose);
@@ -71,7 +71,7 @@ impl Stripes {
     fn ticket_as<C: Asks>(&self, pass: &mut Pass, command: &Command) -> Ticket
         requires own { IsPassOf self.now pass.old }
         requires asked { C.change ≡ command.now }
-        requires fits { MayDraw self.now.count.count (recorded pass.old) command.now }
+        requires fits { MayDraw (stripe_count self.now) (recorded pass.old) command.now }
         ensures step { Draws (recorded pass.old) command.now result (recorded pass.new) }
         ensures same { IsSamePass pass.old pass.new }
     {
@@ -85,7 +85,7 @@ impl Stripes {
 
     pub(crate) fn ticket(&self, pass: &mut Pass, command: &Command) -> Ticket
         requires own { IsPassOf self.now pass.old }
-        requires fits { MayDraw self.now.count.count (recorded pass.old) command.now }
+        requires fits { MayDraw (stripe_count self.now) (recorded pass.old) command.now }
         ensures step { Draws (recorded pass.old) command.now result (recorded pass.new) }
         ensures same { IsSamePass pass.old pass.new }
     {

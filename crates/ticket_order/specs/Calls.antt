@@ -12,6 +12,7 @@ use Rattle.map_types.specs.declared.refusals.Refusal.TheVariants as refusal_type
 use Rattle.map_model.specs.Maps.{Map}
 use Rattle.map_model.specs.Histories.{IsLegalChange, IsLegalRead}
 use Rattle.ticket_order.specs.declared.stripe.Entry.{Entry}
+use Rattle.ticket_order.specs.declared.stripe.Stripe.{Stripe}
 use Rattle.ticket_order.specs.declared.held.Held.{Held}
 use Rattle.ticket_order.specs.declared.held.Released.{Released}
 use Rattle.ticket_order.specs.declared.held.Released.TheVariants as released
@@ -53,6 +54,14 @@ pub record MakesRead (n : ℕ) (v : Record) (r : Read) (position : ℕ) (reply :
   pub grew : w.calls ≡ v.calls ++ call position (Reading r) reply ∷ []
   pub later : reach v ≤ position
   pub legal : IsLegalRead (history_of w) position r reply
+
+-- the record after TAKE of stripe i, where this content was found
+pub record HasFound (v : Record) (i : ℕ) (content : Stripe) (w : Record) : Type 0 where
+  pub between : List Command
+  pub is : w ≡ taking v i content.part.map content.outbox.items between
+
+abbrev pub IsNotBusy : Refusal → Type 0
+IsNotBusy e = (j : ℕ) → e ≡ Busy j → ⊥
 
 -- TAKE, and ALIVE that says no
 pub record FindsFailure (v : Record) (i : ℕ) (w : Record) : Type 0 where

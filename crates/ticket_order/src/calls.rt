@@ -2,12 +2,14 @@
 ghost use Rattle.std.specs.Prelude.{◌≡◌, None, IfOk, IfErr};
 ghost use Rattle.java_hash.specs.Stripes.{stripe_of};
 ghost use Rattle.ticket_order.specs.declared.record.Record.{Record};
-ghost use Rattle.ticket_order.specs.Calls.{MakesCall, MakesRead, RefusesChange, RefusesRead, Releases};
+ghost use Rattle.ticket_order.specs.Calls.{HasFound, IsNotBusy, MakesCall, MakesRead, RefusesChange, RefusesRead, Releases};
 ghost use Rattle.ticket_order.specs.Walks.{Task, Fits, IsUnderWay, Ends};
 
 use crate::held::{Held, Released};
 use crate::steps::Steps;
+use crate::stripe::Stripe;
 use crate::walk::{Stepped, Walk};
+use java_hash::stripe_of;
 use map_types::{Command, Read, Refusal};
 use std::alloc::Global;
 
@@ -60,6 +62,49 @@ pub fn release<S: Steps>(steps: &mut S, held: Held) -> Released
         | Stepped::Swept(_)
         | Stepped::Captured(_)
         | Stepped::Refused(_) => unreachable!(),
+    }
+}
+
+/// Makes a change on the stripe of its key, which the pass has just taken and found with this
+/// content: ALIVE, LOOK, TICKET, GIVE.
+pub fn call_on<S: Steps>(
+    steps: &mut S,
+    alloc: Global,
+    command: Command,
+    content: Stripe,
+) -> Result<Held, Refusal>
+    requires found { (b : Record) × HasFound b (stripe_of (S.stripe_count steps.old) command.key) content (S.recorded steps.old) }
+    ensures made { (b : Record) → HasFound b (stripe_of (S.stripe_count steps.old) command.key) content (S.recorded steps.old) → IfOk result (λ held. MakesCall (S.stripe_count steps.old) b command held.position held.reply (S.recorded steps.new)) }
+    ensures refused { (b : Record) → HasFound b (stripe_of (S.stripe_count steps.old) command.key) content (S.recorded steps.old) → IfErr result (λ refusal. RefusesChange b (stripe_of (S.stripe_count steps.old) command.key) refusal (S.recorded steps.new)) }
+    ensures not_busy { IfErr result IsNotBusy }
+    ensures place { S.place steps.new ≡ S.place steps.old }
+    ensures stripes { S.stripe_count steps.new ≡ S.stripe_count steps.old }
+{
+    let stripe = stripe_of(command.key.as_str(), steps.stripes());
+    match walked_to_end(steps, Walk::change_on(alloc, command, stripe, content)) {
+        Stepped::Held(held) => Ok(held),
+        Stepped::Refused(refusal) => Err(refusal),
+        Stepped::More(_) | Stepped::Released(_) | Stepped::Swept(_) | Stepped::Captured(_) =>
+            unreachable!(),
+    }
+}
+
+/// Makes a read of the stripe of its key, which the pass has just taken and found with this
+/// content: ALIVE, LOOK, GIVE.
+pub fn read_on<S: Steps>(steps: &mut S, read: Read, content: Stripe) -> Result<Held, Refusal>
+    requires found { (b : Record) × HasFound b (stripe_of (S.stripe_count steps.old) read.key) content (S.recorded steps.old) }
+    ensures made { (b : Record) → HasFound b (stripe_of (S.stripe_count steps.old) read.key) content (S.recorded steps.old) → IfOk result (λ held. MakesRead (S.stripe_count steps.old) b read held.position held.reply (S.recorded steps.new)) }
+    ensures refused { (b : Record) → HasFound b (stripe_of (S.stripe_count steps.old) read.key) content (S.recorded steps.old) → IfErr result (λ refusal. RefusesRead b (stripe_of (S.stripe_count steps.old) read.key) refusal (S.recorded steps.new)) }
+    ensures not_busy { IfErr result IsNotBusy }
+    ensures place { S.place steps.new ≡ S.place steps.old }
+    ensures stripes { S.stripe_count steps.new ≡ S.stripe_count steps.old }
+{
+    let stripe = stripe_of(read.key.as_str(), steps.stripes());
+    match walked_to_end(steps, Walk::read_on(read, stripe, content)) {
+        Stepped::Held(held) => Ok(held),
+        Stepped::Refused(refusal) => Err(refusal),
+        Stepped::More(_) | Stepped::Released(_) | Stepped::Swept(_) | Stepped::Captured(_) =>
+            unreachable!(),
     }
 }
 

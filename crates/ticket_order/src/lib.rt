@@ -15,7 +15,7 @@ pub mod stripe;
 mod sweep_walk;
 pub mod walk;
 
-pub use calls::{release, try_call, try_read};
+pub use calls::{call_on, read_on, release, try_call, try_read};
 pub use capture_walk::Captured;
 pub use held::{Held, Released};
 pub use numbers::{Position, Ticket};

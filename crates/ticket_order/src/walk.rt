@@ -2,6 +2,8 @@
 ghost use Rattle.std.specs.Prelude.{◌≡◌, ◌<◌, ℕ, Some, None, true, false, length};
 ghost use Rattle.std.specs.Option.{option_copied};
 ghost use Rattle.ticket_order.specs.declared.record.Record.{Record};
+ghost use Rattle.java_hash.specs.Stripes.{stripe_of};
+ghost use Rattle.ticket_order.specs.Calls.{HasFound};
 ghost use Rattle.ticket_order.specs.Walks.{Task, ToChange, ToRead, ToRelease, ToSweep, ToCapture, Fits, IsUnderWay, Next, MakesOne, next_kind, Give, IsRefusing, HasFewerLeft, steps_left, entries_of_walk, KeepsEntries, captured_of_walk, KeepsCaptured, refusal_of_walk, KeepsRefusal, is_holding};
 
 use crate::capture_walk::{CaptureStage, Captured};
@@ -85,6 +87,26 @@ impl Walk {
     {
         Walk {
             stage: Stage::Change(ChangeStage::Begins(NewChange { alloc, command })),
+        }
+    }
+
+    // A change on the stripe of its key, of which the TAKE was made.
+    pub(crate) fn change_on(alloc: Global, command: Command, stripe: usize, content: Stripe) -> Walk
+        ensures { (n : ℕ) (b p : Record) → stripe ≡ stripe_of n command.key → HasFound b stripe content p → Fits n b (ToChange command) result p }
+    {
+        let taken = Taken { stripe, content };
+        Walk {
+            stage: Stage::Change(ChangeStage::HasTaken(NewChange { alloc, command }, taken)),
+        }
+    }
+
+    // A read of the stripe of its key, of which the TAKE was made.
+    pub(crate) fn read_on(read: Read, stripe: usize, content: Stripe) -> Walk
+        ensures { (n : ℕ) (b p : Record) → stripe ≡ stripe_of n read.key → HasFound b stripe content p → Fits n b (ToRead read) result p }
+    {
+        let taken = Taken { stripe, content };
+        Walk {
+            stage: Stage::Read(ReadStage::HasTaken(read, taken)),
         }
     }
 

@@ -1,9 +1,11 @@
-use Rattle.std.proofs.Common.{◌≡◌, ◌∙◌, ℕ, ap, ap₂, sym, subst}
+use Rattle.std.proofs.Common.{◌≡◌, subst}
 use Rattle.std.specs.Prelude.{IfOk}
-use Rattle.ticket_order.specs.declared.record.Opening.{Opening}
 use Rattle.one_history.specs.declared.book.Book.{Book}
-use Rattle.one_history.specs.Turns.{started}
+use Rattle.one_history.proofs.Starts.{empty_are_parts, empty_start}
 use Rattle.plain_words.proofs.words.PlainWords.empty.Goals as goal
 
+pub new-requires-clause-parts : goal.new-requires-clause-parts
+new-requires-clause-parts c = empty_are_parts _ _ c.in_ok-parts.ensures.count c.in_ok-parts.ensures.empty
+
 pub returns-clause-ok : goal.returns-clause-ok
-returns-clause-ok c = subst (λ (b : Book). IfOk c.new.result (λ words. words ≡ b)) (ap₂ (λ (o : Opening) (n : ℕ). started o n c.args.workers) c.in_ok-parts.ensures.opening c.in_ok-parts.ensures.count) c.new.ensures.ok
+returns-clause-ok c = subst (λ (b : Book). IfOk c.new.result (λ words. words ≡ b)) (empty_start _ _ _ c.in_ok-parts.ensures.count c.in_ok-parts.ensures.empty) c.new.ensures.ok

@@ -1,6 +1,6 @@
 use Rattle.std.proofs.Common.{◌≡◌, length}
 use Rattle.one_history.specs.Kept.{AreEmpty}
-use Rattle.one_history.proofs.parts.fresh_parts.Given as goal
+use Rattle.one_history.proofs.parts.empty_parts.Given as goal
 
 abbrev pub invariant-loop-stripe : goal.invariant-loop-stripe
 invariant-loop-stripe l = record { count : length l.parts.items ≡ l._stripe; empty : AreEmpty l.parts.items }

@@ -1,0 +1,120 @@
+//! Whole calls of a pass that wait for their stripe.
+ghost use Rattle.std.specs.Prelude.{◌≡◌, ◌<◌, None, IfOk, IfErr};
+ghost use Rattle.ticket_order.specs.declared.record.Record.{Record};
+ghost use Rattle.ticket_order.specs.Calls.{HasFound, IsNotBusy, MakesCall, MakesRead, RefusesChange, RefusesRead};
+ghost use Rattle.java_hash.specs.Stripes.{stripe_of};
+ghost use Rattle.stripe_locks.specs.Passes.{recorded, stripe_count, IsPassOf, IsSamePass};
+ghost use Rattle.stripe_locks.specs.Waits.{TakesInTime, MakesCallInTime, MakesReadInTime, RefusesChangeInTime, RefusesReadInTime};
+
+use crate::board::Board;
+use crate::rule::Pass;
+use crate::stripes::{FIRST_STRIPE, Stripes};
+use crossbeam_utils::Backoff;
+use java_hash::stripe_of;
+use map_types::{Command, Read, Refusal};
+use std::sync::Wait;
+use std::sync::atomic::Ordering;
+use ticket_order;
+use ticket_order::{Held, Stripe};
+
+/// How often a waiting thread looks at a stripe's word before it sleeps.
+const MOST_LOOKS: u32 = 16;
+
+impl Stripes {
+    // Returns when the stripe was seen free, or after a sleep. Whoever gives a stripe back wakes all
+    // who sleep for it, where anybody sleeps at all.
+    fn wait_for<R: Wait>(&self, rt: &R, stripe: usize)
+        requires { stripe < stripe_count self.now }
+    {
+        let words = &self.table.shared;
+        let word = stripe + FIRST_STRIPE;
+        let backoff = Backoff::new();
+        for _look in 0..MOST_LOOKS {
+            if words.peek(word) == 0 {
+                return;
+            }
+            backoff.snooze();
+        }
+        self.sleepers.fetch_add(1, Ordering::SeqCst);
+        let holder = words.peek(word);
+        if holder != 0 {
+            words.park(rt, word, (holder % (1 << 32)) as u32);
+        }
+        self.sleepers.fetch_sub(1, Ordering::SeqCst);
+    }
+
+    fn take_in_time<R: Wait>(&self, rt: &R, pass: &mut Pass, stripe: usize) -> Stripe
+        requires own { IsPassOf self.now pass.old }
+        requires within { stripe < stripe_count self.now }
+        requires empty_handed { (recorded pass.old).holding ≡ None }
+        ensures step { TakesInTime (stripe_count self.now) (recorded pass.old) stripe result (recorded pass.new) }
+        ensures same { IsSamePass pass.old pass.new }
+    {
+        for _try in rt.forever() {
+            match self.take(pass, stripe) {
+                Some(content) => return content,
+                None => self.wait_for(rt, stripe),
+            }
+        }
+        unreachable!()
+    }
+
+    fn call_on(&self, pass: &mut Pass, command: Command, content: Stripe) -> Result<Held, Refusal>
+        requires own { IsPassOf self.now pass.old }
+        requires found { (b : Record) × HasFound b (stripe_of (stripe_count self.now) command.key) content (recorded pass.old) }
+        ensures made { (b : Record) → HasFound b (stripe_of (stripe_count self.now) command.key) content (recorded pass.old) → IfOk result (λ held. MakesCall (stripe_count self.now) b command held.position held.reply (recorded pass.new)) }
+        ensures refused { (b : Record) → HasFound b (stripe_of (stripe_count self.now) command.key) content (recorded pass.old) → IfErr result (λ refusal. RefusesChange b (stripe_of (stripe_count self.now) command.key) refusal (recorded pass.new)) }
+        ensures not_busy { IfErr result IsNotBusy }
+        ensures same { IsSamePass pass.old pass.new }
+    {
+        let mut board = Board {
+            stripes: self,
+            pass,
+        };
+        ticket_order::call_on(&mut board, self.alloc, command, content)
+    }
+
+    fn read_on(&self, pass: &mut Pass, read: Read, content: Stripe) -> Result<Held, Refusal>
+        requires own { IsPassOf self.now pass.old }
+        requires found { (b : Record) × HasFound b (stripe_of (stripe_count self.now) read.key) content (recorded pass.old) }
+        ensures made { (b : Record) → HasFound b (stripe_of (stripe_count self.now) read.key) content (recorded pass.old) → IfOk result (λ held. MakesRead (stripe_count self.now) b read held.position held.reply (recorded pass.new)) }
+        ensures refused { (b : Record) → HasFound b (stripe_of (stripe_count self.now) read.key) content (recorded pass.old) → IfErr result (λ refusal. RefusesRead b (stripe_of (stripe_count self.now) read.key) refusal (recorded pass.new)) }
+        ensures not_busy { IfErr result IsNotBusy }
+        ensures same { IsSamePass pass.old pass.new }
+    {
+        let mut board = Board {
+            stripes: self,
+            pass,
+        };
+        ticket_order::read_on(&mut board, read, content)
+    }
+
+    /// Makes a change, once the stripe of its key is free: TAKE as often as it takes, ALIVE, LOOK,
+    /// TICKET, GIVE. A thread that waits sleeps after some tries.
+    pub fn call<R: Wait>(&self, rt: &R, pass: &mut Pass, command: Command) -> Result<Held, Refusal>
+        requires own { IsPassOf self.now pass.old }
+        requires empty_handed { (recorded pass.old).holding ≡ None }
+        ensures made { IfOk result (λ held. MakesCallInTime (stripe_count self.now) (recorded pass.old) command held.position held.reply (recorded pass.new)) }
+        ensures refused { IfErr result (λ refusal. RefusesChangeInTime (recorded pass.old) (stripe_of (stripe_count self.now) command.key) refusal (recorded pass.new)) }
+        ensures empty_handed { (recorded pass.new).holding ≡ None }
+        ensures same { IsSamePass pass.old pass.new }
+    {
+        let stripe = stripe_of(command.key.as_str(), self.count);
+        let content = self.take_in_time(rt, pass, stripe);
+        self.call_on(pass, command, content)
+    }
+
+    /// Makes a read, once the stripe of its key is free: TAKE as often as it takes, ALIVE, LOOK, GIVE.
+    pub fn read<R: Wait>(&self, rt: &R, pass: &mut Pass, read: Read) -> Result<Held, Refusal>
+        requires own { IsPassOf self.now pass.old }
+        requires empty_handed { (recorded pass.old).holding ≡ None }
+        ensures made { IfOk result (λ held. MakesReadInTime (stripe_count self.now) (recorded pass.old) read held.position held.reply (recorded pass.new)) }
+        ensures refused { IfErr result (λ refusal. RefusesReadInTime (recorded pass.old) (stripe_of (stripe_count self.now) read.key) refusal (recorded pass.new)) }
+        ensures empty_handed { (recorded pass.new).holding ≡ None }
+        ensures same { IsSamePass pass.old pass.new }
+    {
+        let stripe = stripe_of(read.key.as_str(), self.count);
+        let content = self.take_in_time(rt, pass, stripe);
+        self.read_on(pass, read, content)
+    }
+}
