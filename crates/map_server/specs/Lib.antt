@@ -3,4 +3,5 @@ pub mod Connection
 pub mod Progress
 pub mod CommandLine
 pub mod Program
+pub mod Journal
 pub mod Served

@@ -1,23 +1,45 @@
 -- What a run of the program leaves of its streams.
-use Rattle.std.specs.Prelude.{◌≡◌, ◌≢◌, ◌⊎◌, ℕ, List, [], ◌∷◌, Option, Result, MatchResult, codes}
+use Rattle.std.specs.Prelude.{◌≡◌, ◌≢◌, ◌⊎◌, ℕ, Bool, true, false, List, [], ◌∷◌, Option, Result, Err, MatchResult, codes}
 use Rattle.clap.specs.Words.{Text}
 use Rattle.std.specs.FinMap as finite
+use Rattle.ticket_order.specs.declared.record.Record.{Record}
 use Rattle.stripe_locks.specs.Plays.{joining}
+use Rattle.gate_log.specs.States.{LogState, resumed}
 use Rattle.wire_frames.specs.declared.requests.Request.{Request}
 use Rattle.map_server.specs.declared.connection.ConnectionError.{ConnectionError}
-use Rattle.map_server.specs.declared.state.MapState.{MapState}
 use Rattle.map_server.specs.Connection.{Connection}
 use Rattle.map_server.specs.Dialogue.{Answer}
-use Rattle.map_server.specs.Served.{Took}
+use Rattle.map_server.specs.Served.{Took, fails}
+use Rattle.map_types.specs.declared.refusals.Refusal.TheVariants as refusal_type
 use Rattle.map_server.specs.CommandLine.{faults, Misuses}
 
--- an empty map of 16 stripes, and their first pass, which has made no step
+-- a map in memory: the count of stripes, the record of the pass that makes the calls, the log, and whether it has failed
+pub record MapState : Type 0 where
+  pub stripes : ℕ
+  pub pass : Record
+  pub log : LogState
+  pub has_failed : Bool
+
+-- an empty map of 16 stripes, their first pass, which has made no step, and a log with its header alone
 abbrev pub empty_map : MapState
-empty_map = record { stripes = 16; pass = joining (record { first = 0; map = finite.empty }) 0 }
+empty_map = record { stripes = 16; pass = joining (record { first = 0; map = finite.empty }) 0; log = resumed 0 0 17 0; has_failed = false }
+
+-- a map that has not failed answered a request so
+pub record Works (before : MapState) (request : Request) (answer : Answer) (after : MapState) : Type 0 where
+  pub working : before.has_failed ≡ false
+  pub stripes : after.stripes ≡ before.stripes
+  pub took : Took before.stripes before.pass request answer before.log after.pass after.log
+  pub failed : after.has_failed ≡ fails answer
+
+-- a map that has failed refuses, and does nothing
+pub record IsOver (before : MapState) (answer : Answer) (after : MapState) : Type 0 where
+  pub failed : before.has_failed ≡ true
+  pub refused : answer ≡ Err refusal_type.Failed
+  pub same : after ≡ before
 
 -- a request was answered so, and led from one state of the map to another
 abbrev pub Answered : MapState → Request → Answer → MapState → Type 0
-Answered before request answer after = Took before.stripes before.pass request answer after.pass
+Answered before request answer after = Works before request answer after ⊎ IsOver before answer after
 
 -- What was written is the dialogue of what was read, each request answered by the map, which was empty at first. The status is 0 where the connection ended by itself, and 1 where it broke off.
 pub record Dialogues (r0 r1 w0 w1 : Option (List ℕ)) (status : ℕ) : Type 0 where

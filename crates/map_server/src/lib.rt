@@ -3,9 +3,9 @@
 
 pub mod calls;
 pub mod connection;
+pub mod journal;
 pub mod memory;
 pub mod program;
-pub mod state;
 #[cfg(test)]
 mod tests;
 
@@ -13,4 +13,3 @@ pub use calls::Calls;
 pub use connection::{ConnectionError, serve_connection};
 pub use memory::Memory;
 pub use program::dchm;
-pub use state::MapState;

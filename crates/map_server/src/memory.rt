@@ -1,65 +1,100 @@
-//! The map in memory: the shared stripes on one thread.
-ghost use Rattle.std.specs.Prelude.{◌≡◌, ◌≤◌, ◌⊎◌, IfOk, IfErr};
+//! The map in memory: the shared stripes on one thread, and a journal on a disk.
+ghost use Rattle.std.specs.Prelude.{◌≡◌, ◌≤◌, ◌<◌, ◌⊎◌, IfOk, IfErr, OnOk, OnErr, false};
+ghost use Rattle.java_hash.specs.Stripes.{stripe_of as stripe_of_key};
 ghost use Rattle.ticket_order.specs.Records.{reach};
+ghost use Rattle.ticket_order.specs.Calls.{RefusesRead, Reaches, SweepsStripe};
 ghost use Rattle.stripe_locks.specs.Passes.{recorded, stripe_count, IsPassOf, IsSamePass};
+ghost use Rattle.wire_frames.specs.declared.requests.Request.TheVariants as request_type;
+ghost use Rattle.map_server.specs.Journal.{IsUncommitted, MayCommit};
 ghost use Rattle.map_server.specs.Program.{empty_map};
-ghost use Rattle.ticket_order.specs.Calls.{Reaches};
-ghost use Rattle.map_server.specs.Served.{Makes, Refuses, Took, IsReady};
+ghost use Rattle.map_server.specs.Served.{Took, ServesRead, IsReady, IsWorking, Logs, fails};
 
 use crate::calls::Calls;
-use java_hash::StripeCount;
-use map_types::{Refusal, Reply};
-use one_history::empty_parts;
+use crate::journal::Journal;
+use disk_model::Disk;
+use java_hash::{StripeCount, stripe_of};
+use map_types::{Command, Read, Refusal, Reply};
 use std::alloc::Global;
 use std::marker::Model;
 use stripe_locks::{Pass, Stripes};
-use ticket_order::{Held, Released, Steps, release, try_call, try_read};
+use ticket_order::{Entry, Held, Position, Released, Stepped, Steps, Walk, release, try_call, try_read};
 use wire_frames::Request;
 
-/// A map of 16 stripes in memory. Its one pass makes the calls, and publishes each position itself:
-/// nothing outlives the process, so there is no disk to wait for.
+/// A map of 16 stripes in memory, with a journal on a disk. Its one pass makes the calls, commits each
+/// change as a batch of its own, and publishes each position itself. Where a change can't be committed
+/// the map has failed, and each later call is refused with `Failed`.
 #[derive(Drop)]
-pub struct Memory {
+pub struct Memory<D: Disk + Drop> {
     alloc: Global,
     stripes: Stripes,
     pass: Pass,
+    journal: Journal<D>,
+    has_failed: bool,
 }
 
-impl Model for Memory {
-    ghost use Rattle.map_server.specs.contracts.state.MapState as state_type;
-    ghost use Rattle.map_server.specs.declared.state.MapState.{MapState};
+impl<D: Disk + Drop> Model for Memory<D> {
+    ghost use Rattle.std.specs.Prelude.{◌≡◌, false};
     ghost use Rattle.stripe_locks.specs.Passes.{recorded, stripe_count, IsPassOf};
-    ghost use Rattle.map_server.specs.Served.{IsReady};
+    ghost use Rattle.map_server.specs.Program.{MapState};
+    ghost use Rattle.map_server.specs.Served.{IsWorking};
+    ghost use Rattle.ticket_order.specs.contracts.record.Record as record_type;
+    ghost use Rattle.std.specs.Coded.{codes};
 
     ghost Value = { MapState };
 
-    ghost coded = { state_type.the_row.coded };
+    ghost coded = { Prim.hlevel (codes, record_type.the_row.coded) };
 
-    ghost view = { λ memory. record { stripes = stripe_count memory.stripes; pass = recorded memory.pass } };
+    ghost view = { λ memory. record { stripes = stripe_count memory.stripes; pass = recorded memory.pass; log = memory.journal; has_failed = memory.has_failed } };
 
-    ghost invariant = { λ memory. IsPassOf memory.stripes memory.pass × IsReady (recorded memory.pass) };
+    ghost invariant = { λ memory. IsPassOf memory.stripes memory.pass × (memory.has_failed ≡ false → IsWorking (recorded memory.pass) memory.journal) };
 }
 
-/// Makes the call of a request.
-fn make_call<S: Steps>(steps: &mut S, alloc: Global, request: Request) -> Result<Held, Refusal>
+/// Takes the entries out of a stripe.
+fn sweep<S: Steps>(steps: &mut S, alloc: Global, stripe: usize) -> Result<Vec<Entry>, Refusal>
     requires ready { IsReady (S.recorded steps.old) }
-    ensures made { IfOk result (λ held. Makes (S.stripe_count steps.old) (S.recorded steps.old) request held.position held.reply (S.recorded steps.new)) }
-    ensures seen { IfOk result (λ held. held.position ≡ reach (S.recorded steps.new)) }
-    ensures refused { IfErr result (λ refusal. Refuses (S.stripe_count steps.old) (S.recorded steps.old) request refusal (S.recorded steps.new)) }
+    requires within { stripe < S.stripe_count steps.old }
+    ensures ok { IfOk result (λ entries. SweepsStripe (S.stripe_count steps.old) (S.recorded steps.old) stripe entries.items (S.recorded steps.new)) }
     ensures ready { IsReady (S.recorded steps.new) }
+    ensures reached { OnOk result (reach (S.recorded steps.old) ≤ reach (S.recorded steps.new)) }
     ensures place { S.place steps.new ≡ S.place steps.old }
     ensures stripes { S.stripe_count steps.new ≡ S.stripe_count steps.old }
 {
-    match request {
-        Request::Change(command) => match try_call(steps, alloc, command) {
-            Ok(held) => Ok(held),
-            Err(refusal) => Err(refusal),
-        },
-        Request::Read(read) => match try_read(steps, read) {
-            Ok(held) => Ok(held),
-            Err(refusal) => Err(refusal),
-        },
+    let mut walk = Walk::sweep(alloc, stripe);
+    loop {
+        match walk.step(steps) {
+            Stepped::More(next) => walk = next,
+            Stepped::Swept(entries) => return Ok(entries),
+            Stepped::Refused(refusal) => return Err(refusal),
+            Stepped::Held(_) | Stepped::Released(_) | Stepped::Captured(_) => unreachable!(),
+        }
     }
+}
+
+/// Commits the entry of the change with this position, which lies in the stripe.
+fn log_change<S: Steps, D: Disk + Drop>(
+    steps: &mut S,
+    alloc: Global,
+    journal: &mut Journal<D>,
+    stripe: usize,
+    position: Position,
+) -> Result<(), Refusal>
+    requires ready { IsReady (S.recorded steps.old) }
+    requires within { stripe < S.stripe_count steps.old }
+    requires may { MayCommit journal.old }
+    requires some { 0 < position }
+    ensures ok { OnOk result (Logs (S.stripe_count steps.old) (S.recorded steps.old) stripe position journal.old (S.recorded steps.new) journal.new) }
+    ensures may { OnOk result (MayCommit journal.new) }
+    ensures err { OnErr result (IsUncommitted journal.old journal.new) }
+    ensures ready { IsReady (S.recorded steps.new) }
+    ensures reached { OnOk result (reach (S.recorded steps.old) ≤ reach (S.recorded steps.new)) }
+    ensures place { S.place steps.new ≡ S.place steps.old }
+    ensures stripes { S.stripe_count steps.new ≡ S.stripe_count steps.old }
+{
+    if position.number() - 1 != journal.committed() {
+        return Err(Refusal::WrongPhase);
+    }
+    let entries = sweep(steps, alloc, stripe)?;
+    journal.commit(entries.as_slice())
 }
 
 /// Gives the reply of a position out that the pass has published: its SEE finds at least that.
@@ -78,65 +113,111 @@ fn let_go<S: Steps>(steps: &mut S, held: Held) -> Reply
     }
 }
 
-/// Makes the call of a request, publishes its position and gives its reply out.
-fn serve_request<S: Steps>(steps: &mut S, alloc: Global, request: Request) -> Result<Reply, Refusal>
+/// Makes a change, commits it, publishes its position and gives its reply out.
+fn serve_change<S: Steps, D: Disk + Drop>(
+    steps: &mut S,
+    alloc: Global,
+    journal: &mut Journal<D>,
+    command: Command,
+) -> Result<Reply, Refusal>
+    requires working { IsWorking (S.recorded steps.old) journal.old }
+    ensures took { Took (S.stripe_count steps.old) (S.recorded steps.old) (request_type.Change command) result journal.old (S.recorded steps.new) journal.new }
+    ensures works { fails result ≡ false → IsWorking (S.recorded steps.new) journal.new }
+    ensures place { S.place steps.new ≡ S.place steps.old }
+    ensures stripes { S.stripe_count steps.new ≡ S.stripe_count steps.old }
+{
+    let stripe = stripe_of(command.key.as_str(), steps.stripes());
+    let held = try_call(steps, alloc, command)?;
+    match log_change(steps, alloc, journal, stripe, held.position()) {
+        Ok(()) => {
+            steps.durable(held.position().number());
+            Ok(let_go(steps, held))
+        }
+        Err(_) => {
+            steps.fail();
+            Err(Refusal::Failed)
+        }
+    }
+}
+
+/// Makes a read, publishes its position and gives its reply out.
+fn serve_read<S: Steps>(steps: &mut S, read: Read) -> Result<Reply, Refusal>
     requires ready { IsReady (S.recorded steps.old) }
-    ensures took { Took (S.stripe_count steps.old) (S.recorded steps.old) request result (S.recorded steps.new) }
+    ensures served { IfOk result (λ reply. ServesRead (S.stripe_count steps.old) (S.recorded steps.old) read reply (S.recorded steps.new)) }
+    ensures refused { IfErr result (λ refusal. RefusesRead (S.recorded steps.old) (stripe_of_key (S.stripe_count steps.old) read.key) refusal (S.recorded steps.new)) }
     ensures ready { IsReady (S.recorded steps.new) }
     ensures place { S.place steps.new ≡ S.place steps.old }
     ensures stripes { S.stripe_count steps.new ≡ S.stripe_count steps.old }
 {
-    let held = make_call(steps, alloc, request)?;
+    let held = try_read(steps, read)?;
     steps.durable(held.position().number());
     Ok(let_go(steps, held))
 }
 
-/// The answer of the stripes to a request of the pass.
-fn answer(
+/// The answer to a request of a map that has not failed.
+fn answer<D: Disk + Drop>(
     stripes: &Stripes,
     pass: &mut Pass,
     alloc: Global,
+    journal: &mut Journal<D>,
     request: Request,
 ) -> Result<Reply, Refusal>
     requires own { IsPassOf stripes.now pass.old }
-    requires ready { IsReady (recorded pass.old) }
-    ensures took { Took (stripe_count stripes.now) (recorded pass.old) request result (recorded pass.new) }
-    ensures ready { IsReady (recorded pass.new) }
+    requires working { IsWorking (recorded pass.old) journal.old }
+    ensures took { Took (stripe_count stripes.now) (recorded pass.old) request result journal.old (recorded pass.new) journal.new }
+    ensures works { fails result ≡ false → IsWorking (recorded pass.new) journal.new }
     ensures same { IsSamePass pass.old pass.new }
 {
     let mut board = stripes.at(pass);
-    serve_request(&mut board, alloc, request)
+    match request {
+        Request::Change(command) => serve_change(&mut board, alloc, journal, command),
+        Request::Read(read) => serve_read(&mut board, read),
+    }
 }
 
-impl Memory {
-    /// An empty map. Refuses with `NoMemory`, or with `SeatsSpent` where its stripes have no pass.
-    pub fn new(alloc: Global) -> Result<Memory, Refusal>
+impl<D: Disk + Drop> Memory<D> {
+    /// An empty map, with a new log on the disk. Refuses with `NoMemory`, with `Failed` where a device
+    /// call fails, and with `SeatsSpent` where its stripes have no keeper's pass.
+    pub fn new(alloc: Global, disk: D) -> Result<Memory<D>, Refusal>
         ensures empty { IfOk result (λ memory. memory ≡ empty_map) }
-        ensures err { IfErr result (λ refusal. (refusal ≡ Refusal.NoMemory) ⊎ (refusal ≡ Refusal.SeatsSpent)) }
+        ensures err { IfErr result (λ refusal. (refusal ≡ Refusal.NoMemory) ⊎ (refusal ≡ Refusal.Failed) ⊎ (refusal ≡ Refusal.SeatsSpent)) }
     {
         let Some(count) = StripeCount::new(16) else {
             unreachable!()
         };
-        let parts = empty_parts(alloc, count)?;
-        let stripes = Stripes::new(alloc, count, parts, 0)?;
+        let stripes = Stripes::empty(alloc, count)?;
         let pass = stripes.pass()?;
         if !pass.is_keeper() {
             return Err(Refusal::SeatsSpent);
         }
+        let journal = Journal::begin(alloc, disk)?;
         Ok(Memory {
             alloc,
             stripes,
             pass,
+            journal,
+            has_failed: false,
         })
     }
 }
 
-impl Calls for Memory {
+impl<D: Disk + Drop> Calls for Memory<D> {
     ghost use Rattle.map_server.specs.Program.{Answered};
 
     ghost took = { Answered };
 
     fn call(&mut self, request: Request) -> Result<Reply, Refusal> {
-        answer(&self.stripes, &mut self.pass, self.alloc, request)
+        if self.has_failed {
+            return Err(Refusal::Failed);
+        }
+        let answer = answer(
+            &self.stripes,
+            &mut self.pass,
+            self.alloc,
+            &mut self.journal,
+            request,
+        );
+        self.has_failed = matches!(answer, Err(Refusal::Failed));
+        answer
     }
 }

@@ -9,6 +9,7 @@ use crate::connection::{ConnectionError, serve_connection};
 use crate::memory::Memory;
 use clap::error::ErrorKind;
 use clap::{Command, Error};
+use disk_model::MemDisk;
 use map_types::Refusal;
 use std::alloc::{AllocError, Global};
 use std::io::{Read, Write};
@@ -104,7 +105,7 @@ fn mem<R: Read, W: Write, E: Write>(
 ) -> u8
     ensures { Serves (R.remaining input.old) (R.remaining input.new) (W.contents output.old) (W.contents output.new) result }
 {
-    let Ok(mut memory) = Memory::new(alloc) else {
+    let Ok(mut memory) = Memory::new(alloc, MemDisk::new(alloc)) else {
         return refuse(error);
     };
     match serve_connection(alloc, input, output, &mut memory) {

@@ -7,7 +7,6 @@ mod loops;
 use crate::loops::{pairs_on_a_part, pairs_on_stripes};
 use java_hash::StripeCount;
 use map_types::Refusal;
-use one_history::empty_parts;
 use std::io::Print;
 use std::process::ExitCode;
 use std::rt::Clock;
@@ -36,8 +35,7 @@ fn fresh_stripes<R: AllocGlobal>(rt: &R) -> Result<Stripes, Refusal> {
     let Some(count) = StripeCount::new(16) else {
         unreachable!()
     };
-    let parts = empty_parts(rt.alloc(), count)?;
-    Stripes::new(rt.alloc(), count, parts, 0)
+    Stripes::empty(rt.alloc(), count)
 }
 
 /// The time of so many threads at once, or none where one of them was refused.
