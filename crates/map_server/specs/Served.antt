@@ -28,25 +28,27 @@ pub record Logs (n : ℕ) (v : Record) (i position : ℕ) (old : LogState) (w : 
   pub commits : CommitsNext old entries new
   pub position_is : position ≡ old.committed + 1
 
+-- The position was published, and a SEE reached it.
+pub record GivesOut (position : ℕ) (v w : Record) : Type 0 where
+  pub published : Record
+  pub publishes : Publishes v position published
+  pub reaches : Reaches position published w
+
 -- The change was made, on n stripes, with this reply: the record grew by this call alone, behind all that the pass had seen, and it is legal there. It is committed in the log, its position was published, and a SEE reached it.
 pub record ServesChange (n : ℕ) (v : Record) (command : Command) (reply : Reply) (old : LogState) (w : Record) (new : LogState) : Type 0 where
   pub position : ℕ
   pub made : Record
   pub logged : Record
-  pub published : Record
   pub makes : MakesCall n v command position reply made
   pub logs : Logs n made (stripe_of n command.key) position old logged new
-  pub publishes : Publishes logged position published
-  pub reaches : Reaches position published w
+  pub gives_out : GivesOut position logged w
 
 -- The read was made, its position was published, and a SEE reached it.
 pub record ServesRead (n : ℕ) (v : Record) (read : read_type.Read) (reply : Reply) (w : Record) : Type 0 where
   pub position : ℕ
   pub made : Record
-  pub published : Record
   pub makes : MakesRead n v read position reply made
-  pub publishes : Publishes made position published
-  pub reaches : Reaches position published w
+  pub gives_out : GivesOut position made w
 
 abbrev pub Serves : ℕ → Record → Request → Reply → LogState → Record → LogState → Type 0
 Serves n v (Change command) reply old w new = ServesChange n v command reply old w new

@@ -7,7 +7,7 @@ ghost use Rattle.stripe_locks.specs.Passes.{recorded, stripe_count, IsPassOf, Is
 ghost use Rattle.wire_frames.specs.declared.requests.Request.TheVariants as request_type;
 ghost use Rattle.map_server.specs.Journal.{IsUncommitted, MayCommit};
 ghost use Rattle.map_server.specs.Program.{empty_map};
-ghost use Rattle.map_server.specs.Served.{Took, ServesRead, IsReady, IsWorking, Logs, fails};
+ghost use Rattle.map_server.specs.Served.{Took, ServesRead, GivesOut, IsReady, IsWorking, Logs, fails};
 
 use crate::calls::Calls;
 use crate::journal::Journal;
@@ -113,6 +113,20 @@ fn let_go<S: Steps>(steps: &mut S, held: Held) -> Reply
     }
 }
 
+/// Publishes the position of a reply and gives it out.
+fn give_out<S: Steps>(steps: &mut S, held: Held) -> Reply
+    requires ready { IsReady (S.recorded steps.old) }
+    requires seen { held.position ≤ reach (S.recorded steps.old) }
+    ensures reply { result ≡ held.reply }
+    ensures out { GivesOut held.position (S.recorded steps.old) (S.recorded steps.new) }
+    ensures ready { IsReady (S.recorded steps.new) }
+    ensures place { S.place steps.new ≡ S.place steps.old }
+    ensures stripes { S.stripe_count steps.new ≡ S.stripe_count steps.old }
+{
+    steps.durable(held.position().number());
+    let_go(steps, held)
+}
+
 /// Makes a change, commits it, publishes its position and gives its reply out.
 fn serve_change<S: Steps, D: Disk + Drop>(
     steps: &mut S,
@@ -129,10 +143,7 @@ fn serve_change<S: Steps, D: Disk + Drop>(
     let stripe = stripe_of(command.key.as_str(), steps.stripes());
     let held = try_call(steps, alloc, command)?;
     match log_change(steps, alloc, journal, stripe, held.position()) {
-        Ok(()) => {
-            steps.durable(held.position().number());
-            Ok(let_go(steps, held))
-        }
+        Ok(()) => Ok(give_out(steps, held)),
         Err(_) => {
             steps.fail();
             Err(Refusal::Failed)
@@ -150,8 +161,7 @@ fn serve_read<S: Steps>(steps: &mut S, read: Read) -> Result<Reply, Refusal>
     ensures stripes { S.stripe_count steps.new ≡ S.stripe_count steps.old }
 {
     let held = try_read(steps, read)?;
-    steps.durable(held.position().number());
-    Ok(let_go(steps, held))
+    Ok(give_out(steps, held))
 }
 
 /// The answer to a request of a map that has not failed.

@@ -1,14 +1,11 @@
 use Rattle.std.proofs.Common.{rules, ◌≡◌, inr, refl, ap, true}
 use Rattle.java_hash.specs.Stripes.{stripe_of}
 use Rattle.ticket_order.specs.declared.record.Record.{Record}
-use Rattle.ticket_order.specs.StepRules.{Publishes}
 use Rattle.map_server.specs.Served.{Logs}
 use Rattle.map_server.proofs.memory.serve_change.Goals as goal
 
 pub returns-in-Ok-clause-took : goal.returns-in-Ok-clause-took
 returns-in-Ok-clause-took g c =
-    let number : c.number.result ≡ c.in_ok-held.held.position = search rules in
-    let publishes : Publishes (g.S.Steps.recorded c.log_change.new.steps) c.in_ok-held.held.position (g.S.Steps.recorded c.durable.new.self) = rw (← number) c.durable.ensures.step in
     let position_is : c.position.result ≡ c.in_ok-held.held.position = search rules in
     let stripe_is : c.stripe_of-stripe.result ≡ stripe_of (g.S.Steps.stripe_count c.args.steps.now) c.args.command.key = search rules in
     let logs : Logs (g.S.Steps.stripe_count c.args.steps.now) (g.S.Steps.recorded c.try_call.new.steps) (stripe_of (g.S.Steps.stripe_count c.args.steps.now) c.args.command.key) c.in_ok-held.held.position c.args.journal.now (g.S.Steps.recorded c.log_change.new.steps) c.log_change.new.journal =
@@ -17,11 +14,9 @@ returns-in-Ok-clause-took g c =
       position = c.in_ok-held.held.position;
       made = g.S.Steps.recorded c.try_call.new.steps;
       logged = g.S.Steps.recorded c.log_change.new.steps;
-      published = g.S.Steps.recorded c.durable.new.self;
-      makes = rw c.let_go.ensures.reply c.in_ok-held.ensures.made;
+      makes = rw c.give_out.ensures.reply c.in_ok-held.ensures.made;
       logs = logs;
-      publishes = publishes;
-      reaches = c.let_go.ensures.reached;
+      gives_out = c.give_out.ensures.out;
     }
 
 pub returns-in-Err-clause-took : goal.returns-in-Err-clause-took
