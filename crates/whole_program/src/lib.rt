@@ -1,9 +1,11 @@
-//! Tests of the whole program: its table of bytes however cut, its command line, failing streams,
-//! and the map that it serves beside the plain program of the model.
+//! Tests of the whole program: its table of bytes however cut, its command line, failing streams and
+//! disks, and the map that it serves beside the plain program of the model.
 #![tactic(auto)]
 
 #[cfg(test)]
 mod dice;
+#[cfg(test)]
+mod journal;
 #[cfg(test)]
 mod program;
 #[cfg(test)]

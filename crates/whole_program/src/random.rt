@@ -1,17 +1,22 @@
-//! A hundred thousand requests to the map in memory and to the plain program of the model.
+//! Random changes and reads, to the map in memory and to a part, beside the plain program of the
+//! model.
 use crate::dice::Dice;
+use atomic_methods::Part;
+use disk_model::MemDisk;
+use java_hash::StripeCount;
 use map_model::reference::ReferenceMap;
 use map_server::{Calls, Memory};
-use map_types::Refusal;
+use map_types::{Command, Read, Refusal};
+use std::alloc::Global;
 use wire_frames::Request;
 
 #[test]
-fn replies_of_one_thread(rt: HostRuntime) -> Result<(), Refusal> {
+fn requests_to_the_map_in_memory(rt: HostRuntime) -> Result<(), Refusal> {
     let alloc = rt.alloc();
     let mut dice = Dice { state: 17 };
-    let mut memory = Memory::new(alloc)?;
+    let mut memory = Memory::new(alloc, MemDisk::new(alloc))?;
     let mut reference = ReferenceMap::new(alloc);
-    for turn in 0..100_000u32 {
+    for turn in 0..10_000u32 {
         let (given, wanted) = if dice.below(4) == 0 {
             let read = dice.read(alloc)?;
             let wanted = reference.read(&read)?;
@@ -22,6 +27,38 @@ fn replies_of_one_thread(rt: HostRuntime) -> Result<(), Refusal> {
             (memory.call(Request::Change(command))?, wanted)
         };
         assert_eq!(rt; given, wanted, "turn {turn}");
+    }
+    Ok(())
+}
+
+/// Whether a change gives the same reply on both.
+fn same_change(
+    part: &mut Part,
+    reference: &mut ReferenceMap,
+    alloc: Global,
+    command: &Command,
+) -> Result<bool, Refusal> {
+    let prepared = part.prepare(alloc, command)?;
+    Ok(part.act(prepared) == reference.change(alloc, command)?)
+}
+
+fn same_read(part: &Part, reference: &ReferenceMap, read: &Read) -> Result<bool, Refusal> {
+    Ok(part.read(read)? == reference.read(read)?)
+}
+
+#[test]
+fn methods_on_a_part(rt: HostRuntime) -> Result<(), Refusal> {
+    let alloc = rt.alloc();
+    let mut dice = Dice { state: 23 };
+    let mut part = Part::new(StripeCount::new(1).expect(&rt, "one stripe"));
+    let mut reference = ReferenceMap::new(alloc);
+    for turn in 0..100_000u32 {
+        let same = if dice.below(4) == 0 {
+            same_read(&part, &reference, &dice.read(alloc)?)?
+        } else {
+            same_change(&mut part, &mut reference, alloc, &dice.command(alloc)?)?
+        };
+        assert!(rt; same, "turn {turn}");
     }
     Ok(())
 }

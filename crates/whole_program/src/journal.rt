@@ -1,0 +1,83 @@
+//! The journal of the map in memory, on a disk that fails.
+use disk_model::{Failure, Fill, MemDisk};
+use map_server::{Calls, Memory, serve_connection};
+use map_types::{Change, Command, Key, Refusal, Value};
+use std::alloc::Global;
+use std::test::Fail;
+use wire_frames::Request;
+
+/// A new log's header is written and synced.
+const HEADER_CALLS: u64 = 2;
+
+/// A change's frame is written and synced, and so is its gate.
+const CHANGE_CALLS: u64 = 4;
+
+/// A disk whose call after so many fails.
+fn failing_disk(alloc: Global, after: u64) -> MemDisk {
+    let mut disk = MemDisk::new(alloc);
+    disk.plan(Some(Failure {
+        after,
+        fill: Fill::New,
+    }));
+    disk
+}
+
+fn put(alloc: Global, number: i64) -> Result<Request, Refusal> {
+    Ok(Request::Change(Command {
+        key: Key::new(alloc, "a")?,
+        change: Change::Put(Value::Int(number)),
+    }))
+}
+
+/// The number of the refusal, or 0.
+fn status<T: Drop>(answer: Result<T, Refusal>) -> u8 {
+    match answer {
+        Ok(_) => 0,
+        Err(refusal) => refusal.number(),
+    }
+}
+
+fn put_status(memory: &mut Memory<MemDisk>, alloc: Global, number: i64) -> u8 {
+    match put(alloc, number) {
+        Ok(request) => status(memory.call(request)),
+        Err(refusal) => refusal.number(),
+    }
+}
+
+#[test]
+fn no_header(rt: HostRuntime) {
+    for after in 0..HEADER_CALLS {
+        let memory = Memory::new(rt.alloc(), failing_disk(rt.alloc(), after));
+        assert_eq!(rt; status(memory), 9);
+    }
+}
+
+#[test]
+fn a_failure_at_each_device_call(rt: HostRuntime) -> Result<(), Refusal> {
+    let alloc = rt.alloc();
+    for call in 0..CHANGE_CALLS {
+        let disk = failing_disk(alloc, HEADER_CALLS + CHANGE_CALLS + call);
+        let mut memory = Memory::new(alloc, disk)?;
+        assert_eq!(rt; put_status(&mut memory, alloc, 5), 0);
+        assert_eq!(rt; put_status(&mut memory, alloc, 6), 9);
+        assert_eq!(rt; put_status(&mut memory, alloc, 7), 9);
+    }
+    Ok(())
+}
+
+/// Two puts of `a`; the second finds a disk that fails.
+const PUT_TWICE: &[u8] =
+    b"\x00\x0C\x10\x01a\x01\x00\x00\x00\x00\x00\x00\x00\x05\x00\x0C\x10\x01a\x01\x00\x00\x00\x00\x00\x00\x00\x06";
+
+const WAS_ABSENT_THEN_FAILED: &[u8] = b"\x00\x02\x00\x00\x00\x02\x89\x00";
+
+#[test]
+fn a_failure_ends_the_connection(rt: HostRuntime) -> Result<(), Fail> {
+    let alloc = rt.alloc();
+    let mut memory = Memory::new(alloc, failing_disk(alloc, HEADER_CALLS + CHANGE_CALLS))?;
+    let mut reader = PUT_TWICE;
+    let mut writer = Vec::new(alloc);
+    serve_connection(alloc, &mut reader, &mut writer, &mut memory)?;
+    assert_eq!(rt; writer.as_slice(), WAS_ABSENT_THEN_FAILED);
+    Ok(())
+}
