@@ -3,3 +3,4 @@ pub mod Rows
 pub mod Parts
 pub mod Turns
 pub mod Connections
+pub mod CommandLines

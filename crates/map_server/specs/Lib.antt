@@ -1,5 +1,6 @@
 pub mod Dialogue
 pub mod Connection
 pub mod Progress
+pub mod CommandLine
 pub mod Program
 pub mod Served

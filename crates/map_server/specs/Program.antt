@@ -1,5 +1,6 @@
 -- What a run of the program leaves of its streams.
-use Rattle.std.specs.Prelude.{◌≡◌, ◌⊎◌, ℕ, List, Option, Result, MatchResult}
+use Rattle.std.specs.Prelude.{◌≡◌, ◌≢◌, ◌⊎◌, ℕ, List, [], ◌∷◌, Option, Result, MatchResult, codes}
+use Rattle.clap.specs.Words.{Text}
 use Rattle.std.specs.FinMap as finite
 use Rattle.one_history.specs.declared.book.Book.{Book}
 use Rattle.one_history.specs.Turns.{record_of, started}
@@ -8,6 +9,7 @@ use Rattle.map_server.specs.declared.connection.ConnectionError.{ConnectionError
 use Rattle.map_server.specs.Connection.{Connection}
 use Rattle.map_server.specs.Dialogue.{Answer}
 use Rattle.map_server.specs.Served.{Took}
+use Rattle.map_server.specs.CommandLine.{faults, Misuses}
 
 -- the words of an empty map of 16 stripes, and one pass
 abbrev pub empty_map : Book
@@ -28,6 +30,8 @@ pub record Dialogues (r0 r1 w0 w1 : Option (List ℕ)) (status : ℕ) : Type 0 w
 abbrev pub Serves : Option (List ℕ) → Option (List ℕ) → Option (List ℕ) → Option (List ℕ) → ℕ → Type 0
 Serves r0 r1 w0 w1 status = Dialogues r0 r1 w0 w1 status ⊎ ((r1 ≡ r0) × (w1 ≡ w0) × (status ≡ 1))
 
--- the map was served, or nothing was read
-abbrev pub Ran : Option (List ℕ) → Option (List ℕ) → Option (List ℕ) → Option (List ℕ) → ℕ → Type 0
-Ran r0 r1 w0 w1 status = Serves r0 r1 w0 w1 status ⊎ ((r1 ≡ r0) × ((status ≡ 0) ⊎ (status ≡ 2)))
+-- The map is served for the words that are known, those of `dchm mem` among them; for other words nothing is read.
+pub record Ran (words : List Text) (r0 r1 w0 w1 : Option (List ℕ)) (status : ℕ) : Type 0 where
+  pub mem : (name : Text) → words ≡ name ∷ codes "mem" ∷ [] → Serves r0 r1 w0 w1 status
+  pub known : faults words ≡ [] → Serves r0 r1 w0 w1 status
+  pub unknown : faults words ≢ [] → (r1 ≡ r0) × Misuses (faults words) w0 w1 status

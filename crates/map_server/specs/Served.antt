@@ -1,12 +1,11 @@
 -- What a request that is served leaves of the record of the pass that serves it.
-use Rattle.std.specs.Prelude.{◌≡◌, ◌⊎◌, ℕ, true, false, None, Result, Ok, Err}
+use Rattle.std.specs.Prelude.{◌≡◌, ℕ, true, false, None, Ok, Err}
 use Rattle.java_hash.specs.Stripes.{stripe_of}
 use Rattle.map_types.specs.declared.refusals.Refusal.{Refusal}
-use Rattle.map_types.specs.declared.refusals.Refusal.TheVariants as refusal_type
 use Rattle.map_types.specs.declared.commands.Reply.{Reply}
 use Rattle.ticket_order.specs.declared.record.Record.{Record}
 use Rattle.ticket_order.specs.StepRules.{Publishes}
-use Rattle.ticket_order.specs.Calls.{MakesCall, MakesRead, RefusesChange, RefusesRead, Reaches, Misses, MissesAlive, SeesAgain}
+use Rattle.ticket_order.specs.Calls.{MakesCall, MakesRead, RefusesChange, RefusesRead, Reaches}
 use Rattle.wire_frames.specs.declared.requests.Request.{Request}
 use Rattle.wire_frames.specs.declared.requests.Request.TheVariants.{Change, Read}
 use Rattle.map_server.specs.Dialogue.{Answer}
@@ -21,14 +20,6 @@ abbrev pub Refuses : ℕ → Record → Request → Refusal → Record → Type 
 Refuses n v (Change command) refusal w = RefusesChange v (stripe_of n command.key) refusal w
 Refuses n v (Read read) refusal w = RefusesRead v (stripe_of n read.key) refusal w
 
--- a SEE of a release reached the position
-abbrev pub LetsGo : ℕ → Record → Record → Type 0
-LetsGo position v w = Reaches position v w ⊎ SeesAgain position v (Reaches position) w
-
--- no SEE of a release reached the position
-abbrev pub KeepsBack : ℕ → Record → Record → Type 0
-KeepsBack position v w = MissesAlive position true v w ⊎ SeesAgain position v (Misses position) w
-
 -- The call was made, its position was published, and a SEE reached it.
 pub record Serves (n : ℕ) (v : Record) (request : Request) (reply : Reply) (w : Record) : Type 0 where
   pub position : ℕ
@@ -36,22 +27,12 @@ pub record Serves (n : ℕ) (v : Record) (request : Request) (reply : Reply) (w 
   pub published : Record
   pub makes : Makes n v request position reply made
   pub publishes : Publishes made position published
-  pub lets_go : LetsGo position published w
-
--- The call was made and its position was published, but no SEE reached it.
-pub record Withholds (n : ℕ) (v : Record) (request : Request) (w : Record) : Type 0 where
-  pub position : ℕ
-  pub reply : Reply
-  pub made : Record
-  pub published : Record
-  pub makes : Makes n v request position reply made
-  pub publishes : Publishes made position published
-  pub keeps_back : KeepsBack position published w
+  pub reaches : Reaches position published w
 
 -- the request was answered so
 abbrev pub Took : ℕ → Record → Request → Answer → Record → Type 0
 Took n v request (Ok reply) w = Serves n v request reply w
-Took n v request (Err refusal) w = Refuses n v request refusal w ⊎ ((refusal ≡ refusal_type.Failed) × Withholds n v request w)
+Took n v request (Err refusal) w = Refuses n v request refusal w
 
 -- between two calls: the pass holds nothing, and may publish
 pub record IsReady (v : Record) : Type 0 where

@@ -1,8 +1,9 @@
 //! The map in memory: the shared words and the stripes on one thread.
-ghost use Rattle.std.specs.Prelude.{◌≡◌, IfOk, IfErr, OnOk, OnErr};
+ghost use Rattle.std.specs.Prelude.{◌≡◌, ◌≤◌, IfOk, IfErr};
 ghost use Rattle.ticket_order.specs.Records.{reach};
 ghost use Rattle.map_server.specs.Program.{empty_map};
-ghost use Rattle.map_server.specs.Served.{Makes, Refuses, LetsGo, KeepsBack, Took, IsReady};
+ghost use Rattle.ticket_order.specs.Calls.{Reaches};
+ghost use Rattle.map_server.specs.Served.{Makes, Refuses, Took, IsReady};
 
 use crate::calls::Calls;
 use java_hash::StripeCount;
@@ -59,21 +60,19 @@ fn make_call<S: Steps>(steps: &mut S, alloc: Global, request: Request) -> Result
     }
 }
 
-/// Gives the reply out where a SEE reaches its position, which was published before.
-fn let_go<S: Steps>(steps: &mut S, held: Held) -> Result<Reply, Refusal>
+/// Gives the reply of a position out that the pass has published: its SEE finds at least that.
+fn let_go<S: Steps>(steps: &mut S, held: Held) -> Reply
     requires ready { IsReady (S.recorded steps.old) }
-    ensures reply { IfOk result (λ reply. reply ≡ held.reply) }
-    ensures went { OnOk result (LetsGo held.position (S.recorded steps.old) (S.recorded steps.new)) }
-    ensures refusal { IfErr result (λ refusal. refusal ≡ Refusal.Failed) }
-    ensures kept { OnErr result (KeepsBack held.position (S.recorded steps.old) (S.recorded steps.new)) }
+    requires published { held.position ≤ (S.recorded steps.old).published }
+    ensures reply { result ≡ held.reply }
+    ensures reached { Reaches held.position (S.recorded steps.old) (S.recorded steps.new) }
     ensures ready { IsReady (S.recorded steps.new) }
     ensures place { S.place steps.new ≡ S.place steps.old }
     ensures stripes { S.stripe_count steps.new ≡ S.stripe_count steps.old }
 {
     match release(steps, held) {
-        Released::Reply(_, reply) => Ok(reply),
-        Released::NotYet(_) => Err(Refusal::Failed),
-        Released::Failed => Err(Refusal::Failed),
+        Released::Reply(_, reply) => reply,
+        Released::NotYet(_) | Released::Failed => unreachable!(),
     }
 }
 
@@ -85,16 +84,9 @@ fn serve_request<S: Steps>(steps: &mut S, alloc: Global, request: Request) -> Re
     ensures place { S.place steps.new ≡ S.place steps.old }
     ensures stripes { S.stripe_count steps.new ≡ S.stripe_count steps.old }
 {
-    match make_call(steps, alloc, request) {
-        Err(refusal) => Err(refusal),
-        Ok(held) => {
-            steps.durable(held.position().number());
-            match let_go(steps, held) {
-                Ok(reply) => Ok(reply),
-                Err(refusal) => Err(refusal),
-            }
-        }
-    }
+    let held = make_call(steps, alloc, request)?;
+    steps.durable(held.position().number());
+    Ok(let_go(steps, held))
 }
 
 impl Memory {

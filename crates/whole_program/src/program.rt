@@ -115,3 +115,19 @@ fn command_lines_not_known(rt: HostRuntime) -> Result<(), Fail> {
     }
     Ok(())
 }
+
+#[test]
+fn help_is_no_mistake(rt: HostRuntime) -> Result<(), Fail> {
+    let alloc = rt.alloc();
+    for texts in [["dchm", "--help"], ["dchm", "-h"], ["dchm", "help"]] {
+        let words = words_of(alloc, &texts)?;
+        let mut input = PUT_AND_GET;
+        let mut output = Vec::new(alloc);
+        let mut error = Vec::new(alloc);
+        assert_eq!(rt; dchm(alloc, &words, &mut input, &mut output, &mut error), 0);
+        assert!(rt; !output.is_empty());
+        assert!(rt; error.is_empty());
+        assert_eq!(rt; input, PUT_AND_GET);
+    }
+    Ok(())
+}

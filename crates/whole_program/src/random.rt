@@ -1,4 +1,4 @@
-//! Ten thousand requests to the map in memory and to the plain program of the model.
+//! A hundred thousand requests to the map in memory and to the plain program of the model.
 use crate::dice::Dice;
 use map_model::reference::ReferenceMap;
 use map_server::{Calls, Memory};
@@ -11,7 +11,7 @@ fn replies_of_one_thread(rt: HostRuntime) -> Result<(), Refusal> {
     let mut dice = Dice { state: 17 };
     let mut memory = Memory::new(alloc)?;
     let mut reference = ReferenceMap::new(alloc);
-    for turn in 0..10_000u32 {
+    for turn in 0..100_000u32 {
         let (given, wanted) = if dice.below(4) == 0 {
             let read = dice.read(alloc)?;
             let wanted = reference.read(&read)?;

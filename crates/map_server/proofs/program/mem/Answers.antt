@@ -1,6 +1,4 @@
-use Rattle.std.proofs.Common.{◌≡◌, inl, refl}
-use Rattle.map_server.specs.Connection.{Connection}
-use Rattle.map_server.specs.Program.{Answered, empty_map}
+use Rattle.std.proofs.Common.{inl, refl}
 use Rattle.map_server.proofs.program.mem.Goals as goal
 
 pub returns-in-Ok-serve_connection : goal.returns-in-Ok-serve_connection
@@ -18,5 +16,5 @@ returns g c =
       after = c.serve_connection.new.calls;
       result = c.serve_connection.result;
       connection = rw c.in-Ok.ensures.empty at c.serve_connection.ensures;
-      status_is = rw c.in-Err.is refl;
+      status_is = rw c.in-Err.is c.report.ensures;
     })
