@@ -1,19 +1,18 @@
 -- Two fronts of one history.
-use Rattle.std.proofs.Common.{ℕ, ◌≡◌, ◌≢◌, ◌+◌, ◌<◌, ◌≤◌, ◌++◌, List, [], ◌∷◌, true, false, length, get_or, set, refl, arith, sym, ◌∙◌, ap, subst, inl, inr, ⊎_elim}
+use Rattle.std.proofs.Common.{ℕ, ◌≡◌, ◌+◌, ◌++◌, List, [], ◌∷◌, true, false, get_or, set, refl, arith, sym, ◌∙◌, ap, subst, inl, inr, ⊎_elim}
 use Rattle.std.proofs.lemmas.List.{set-get_or}
 use mathlib.Core.Option.{some, none}
 use lib.ListN.{get_elem?}
-use Rattle.atomic_table.specs.Table.{State, step, Act, keeps, Allows, Joins, stepped}
+use Rattle.atomic_table.specs.Table.{step, keeps, Allows, Joins}
 use Rattle.atomic_table.proofs.Lists.{set_else, set_again}
 use Rattle.map_types.specs.declared.commands.Command.{Command}
 use Rattle.ticket_order.specs.declared.record.Opening.{Opening}
 use Rattle.ticket_order.specs.declared.record.Record.{Record}
 use Rattle.ticket_order.specs.Legality.{entries_from}
-use Rattle.one_history.specs.Turns.{record_of}
 use Rattle.one_history.specs.OneHistory.{IsFront}
-use Rattle.stripe_locks.specs.Rule.{IsSeated, IsUnseated, Sits, Kept, commands_of}
+use Rattle.stripe_locks.specs.Rule.{IsUnseated, Sits, Kept, commands_of}
 use Rattle.stripe_locks.specs.Fronts.{AreComparable, both_fronts, no_front, compared}
-use Rattle.stripe_locks.proofs.Turning.{St, M, seated, in_book, seats_set}
+use Rattle.stripe_locks.proofs.Turning.{M, seated, in_book, seats_set}
 
 one_longer : (x : Command) (xs ys : List Command) → AreComparable xs ys → AreComparable (x ∷ xs) (x ∷ ys)
 one_longer x xs ys c = ⊎_elim (λ f. inl (record { rest = f.rest; is = ap (λ l. x ∷ l) f.is })) (λ f. inr (record { rest = f.rest; is = ap (λ l. x ∷ l) f.is })) c

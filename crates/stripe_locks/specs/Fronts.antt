@@ -1,5 +1,5 @@
 -- What two passes have seen of the one history.
-use Rattle.std.specs.Prelude.{◌≡◌, ℕ, ◌⊎◌, List}
+use Rattle.std.specs.Prelude.{ℕ, ◌⊎◌, List}
 use Rattle.std.specs.FinMap as finite
 use Rattle.atomic_table.specs.Table.{Step}
 use Rattle.map_types.specs.declared.commands.Command.{Command}

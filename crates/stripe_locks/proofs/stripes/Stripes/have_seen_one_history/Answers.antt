@@ -1,8 +1,7 @@
-use Rattle.std.proofs.Common.{◌≡◌, ◌∙◌, List, ap, arith, subst}
-use Rattle.map_types.specs.declared.commands.Command.{Command}
+use Rattle.std.proofs.Common.{◌∙◌, ap, arith, subst}
 use Rattle.stripe_locks.specs.Plays.{carried}
 use Rattle.stripe_locks.specs.Rule.{commands_of}
-use Rattle.stripe_locks.specs.Fronts.{AreComparable, both_fronts, compared}
+use Rattle.stripe_locks.specs.Fronts.{AreComparable, both_fronts}
 use Rattle.stripe_locks.proofs.Turning.{M}
 use Rattle.stripe_locks.proofs.Comparing.{joins, allows_compare, commands_are}
 use Rattle.stripe_locks.proofs.stripes.Stripes.have_seen_one_history.Goals as goal
