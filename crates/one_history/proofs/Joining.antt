@@ -1,5 +1,5 @@
 -- A pass joins.
-use Rattle.std.proofs.Common.{ℕ, ◌≡◌, ◌≢◌, ◌+◌, ◌<◌, ◌++◌, List, [], ◌∷◌, Bool, Option, Some, None, length, get_or, suc, refl, arith, sym, ◌∙◌, ap, subst, inl, inr, length-append}
+use Rattle.std.proofs.Common.{ℕ, ◌≡◌, ◌≢◌, ◌+◌, ◌<◌, List, [], ◌∷◌, Bool, Some, None, length, refl, arith, sym, ◌∙◌, ap, subst, inl, inr, length-append}
 use Rattle.std.specs.Prelude.{if◌then◌else◌}
 use Rattle.std.specs.List.{All}
 use Rattle.std.proofs.lemmas.List.{get_or_append_left}
@@ -14,7 +14,7 @@ use Rattle.one_history.specs.declared.book.Book.{Book}
 use Rattle.one_history.specs.declared.slot.Slot.{Slot}
 use Rattle.one_history.specs.declared.slot.Slot.TheVariants.{Home, HeldBy}
 use Rattle.one_history.specs.Turns.{record_of, joined}
-use Rattle.one_history.specs.OneHistory.{IsFront, Knows, IsOneHistory, HoldsStripe, changes_by, changes_in, stripe_in}
+use Rattle.one_history.specs.OneHistory.{Knows, IsOneHistory, HoldsStripe, changes_by, changes_in, stripe_in}
 use Rattle.one_history.specs.Kept.{slot_of, Lies, draws_left, HasRoom, IsKept}
 
 -- a pass that comes after all authors made no change of the history

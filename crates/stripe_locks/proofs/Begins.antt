@@ -1,5 +1,5 @@
 -- The words and the slots at the start.
-use Rattle.std.proofs.Common.{ℕ, ◌≡◌, ◌≢◌, ◌+◌, ◌<◌, ◌≤◌, ◌++◌, List, [], ◌∷◌, Bool, true, false, Option, Some, None, length, max, get_or, set, map, replicate, zero, suc, refl, arith, sym, ◌∙◌, ap, subst, length-set}
+use Rattle.std.proofs.Common.{ℕ, ◌≡◌, ◌+◌, ◌<◌, List, [], ◌∷◌, false, Option, Some, None, length, get_or, set, map, replicate, zero, suc, refl, arith, sym, ◌∙◌, ap, subst, length-set}
 use Rattle.std.proofs.lemmas.List.{get_or-set_same, get_or-set_other, get_or-replicate, length-replicate, length-map}
 use mathlib.Core.Option.{some, some-injective, some-ne-none}
 use lib.ListN.{get_elem?}
@@ -9,16 +9,14 @@ use Rattle.ticket_order.specs.declared.stripe.Stripe.{Stripe}
 use Rattle.ticket_order.specs.declared.record.Opening.{Opening}
 use Rattle.ticket_order.specs.declared.record.Record.{Record}
 use Rattle.ticket_order.specs.Records.{newcomer}
-use Rattle.one_history.specs.declared.book.Book.{Book}
 use Rattle.one_history.specs.declared.slot.Slot.{Slot}
 use Rattle.one_history.specs.declared.slot.Slot.TheVariants.{Home, HeldBy}
-use Rattle.one_history.specs.Turns.{record_of, opening_of, at_start}
+use Rattle.one_history.specs.Turns.{opening_of, at_start}
 use Rattle.one_history.specs.OneHistory.{AreParts}
 use Rattle.one_history.specs.Kept.{slot_of, IsPlaced, IsKept, no_part}
 use Rattle.one_history.proofs.Starts.{kept_at_start, count_at_start}
-use Rattle.stripe_locks.specs.Rule.{bit, Stands, Sits, Kept}
+use Rattle.stripe_locks.specs.Rule.{Stands, Sits, Kept}
 use Rattle.stripe_locks.specs.Placed.{slot_with, AreStored}
-use Rattle.stripe_locks.proofs.Turning.{Homes}
 
 at_home : (xs : List (Option Stripe)) (i : ℕ) (content : Stripe) → i < length xs → slot_of i (map slot_with xs) ≡ Home content → get_elem? (map some xs) i ≡ some (some (Some content))
 at_home [] i content lt e = absurd (omega arith)

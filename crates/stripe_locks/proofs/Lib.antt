@@ -4,3 +4,4 @@ pub mod Moving
 pub mod Seats
 pub mod Begins
 pub mod Misses
+pub mod Comparing

@@ -1,12 +1,12 @@
 -- TAKE and GIVE.
-use Rattle.std.proofs.Common.{ℕ, ◌≡◌, ◌≢◌, ◌+◌, ◌-◌, ◌<◌, ◌≤◌, Bool, true, false, eqb, List, [], ◌∷◌, Option, Some, None, length, get_or, set, refl, arith, sym, ◌∙◌, ap, subst, inl, inr, length-set}
+use Rattle.std.proofs.Common.{ℕ, ◌≡◌, ◌≢◌, ◌+◌, ◌-◌, ◌<◌, true, eqb, List, ◌∷◌, Option, Some, None, length, get_or, set, refl, arith, sym, ◌∙◌, ap, subst, inl, inr, length-set}
 use Rattle.std.proofs.lemmas.List.{get_or-set_same, get_or-set_other}
 use Rattle.std.proofs.lemmas.Bool.{cases_eq}
 use mathlib.Core.Option.{some, none}
 use mathlib.Core.Option as maybe
 use lib.ListN.{get_elem?}
 use prog.Atomic.{either}
-use Rattle.atomic_table.specs.Table.{State, Me, Step, step, Act, keeps, takes, gives, Valid, stepped, carried_after, Allows, rest}
+use Rattle.atomic_table.specs.Table.{step, Act, keeps, takes, gives, Valid, stepped, carried_after, Allows}
 use Rattle.atomic_table.proofs.Lists.{set_here, set_else, exchanged}
 use Rattle.ticket_order.specs.declared.stripe.Stripe.{Stripe}
 use Rattle.ticket_order.specs.declared.record.Opening.{Opening}
@@ -26,7 +26,7 @@ use Rattle.one_history.proofs.Watching.{kept_found_held, misses, moves_found_hel
 use Rattle.one_history.proofs.Taking.{kept_took, takes_stripe, moves_took}
 use Rattle.one_history.proofs.Giving.{kept_gave, moves_gave, in_slots}
 use Rattle.one_history.proofs.Giving as giving
-use Rattle.stripe_locks.specs.Rule.{bit, Stands, IsSeated, Kept}
+use Rattle.stripe_locks.specs.Rule.{Stands, IsSeated, Kept}
 use Rattle.stripe_locks.specs.Plays.{IsSameOne, TakesHome, took, gave}
 use Rattle.stripe_locks.proofs.Turning.{St, M, Homes, seated, in_book, turned, reread}
 

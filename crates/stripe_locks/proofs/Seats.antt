@@ -1,25 +1,22 @@
 -- A new seat, and a seat that becomes a pass's.
-use Rattle.std.proofs.Common.{ℕ, ◌≡◌, ◌≢◌, ◌+◌, ◌<◌, ◌≤◌, ◌++◌, ◌==◌, cond, eqb, eq-eqb, ne_eqb, List, [], ◌∷◌, Bool, true, false, Option, length, max, get_or, set, refl, arith, sym, ◌∙◌, ap, subst, ⊎_elim, inl, inr, length-set}
+use Rattle.std.proofs.Common.{ℕ, ◌≡◌, ◌≢◌, ◌+◌, ◌<◌, ◌≤◌, cond, eqb, eq-eqb, ne_eqb, List, [], Bool, true, false, length, max, get_or, set, refl, arith, sym, ◌∙◌, ap, subst, ⊎_elim, inl, inr, length-set}
 use Rattle.std.proofs.lemmas.List.{get_or-set_same, get_or-set_other, set-get_or}
 use Rattle.std.proofs.lemmas.Bool.{cases_eq}
 use mathlib.Core.Option.{some, none}
 use lib.ListN.{get_elem?}
 use prog.Atomic.{either}
-use Rattle.atomic_table.specs.Table.{State, Me, step, Act, keeps, Valid, stepped, carried_after, Allows, Enters}
+use Rattle.atomic_table.specs.Table.{step, keeps, stepped, Allows, Enters}
 use Rattle.atomic_table.proofs.Lists.{at_snoc, exchanged}
-use Rattle.ticket_order.specs.declared.stripe.Stripe.{Stripe}
 use Rattle.ticket_order.specs.declared.record.Opening.{Opening}
 use Rattle.ticket_order.specs.declared.record.Record.{Record}
-use Rattle.ticket_order.specs.Records.{newcomer, keeper_at_start, enrolling, meeting}
+use Rattle.ticket_order.specs.Records.{newcomer, enrolling, meeting}
 use Rattle.one_history.specs.declared.book.Book.{Book}
-use Rattle.one_history.specs.declared.slot.Slot.{Slot}
-use Rattle.one_history.specs.declared.slot.Slot.TheVariants.{Home, HeldBy}
 use Rattle.one_history.specs.Turns.{record_of, joined}
 use Rattle.one_history.specs.Kept.{slot_of, IsKept}
 use Rattle.one_history.proofs.Joining.{joined_count, joined_before, joined_last, kept_joined}
-use Rattle.stripe_locks.specs.Rule.{bit, Stands, IsSeated, IsUnseated, Sits, Kept}
+use Rattle.stripe_locks.specs.Rule.{bit, IsUnseated, Sits, Kept}
 use Rattle.stripe_locks.specs.Plays.{sat, enrolled, joining}
-use Rattle.stripe_locks.proofs.Turning.{St, M, Homes, seats_set}
+use Rattle.stripe_locks.proofs.Turning.{St, M, seats_set}
 use Rattle.stripe_locks.proofs.Stepping.{stands_on}
 use Rattle.stripe_locks.proofs.Moving.{Goes}
 

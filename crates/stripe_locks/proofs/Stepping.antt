@@ -1,12 +1,10 @@
 -- LOOK, SEE, ALIVE, DURABLE, FAIL and TICKET.
-use Rattle.std.proofs.Common.{ℕ, ◌≡◌, ◌≢◌, ◌+◌, ◌%◌, ◌^◌, ◌<◌, ◌≤◌, ◌++◌, Bool, true, false, not, eqb, max, List, [], ◌∷◌, Option, Some, None, length, get_or, set, refl, arith, sym, ◌∙◌, ap, subst, append-nil, length-set}
+use Rattle.std.proofs.Common.{ℕ, ◌≡◌, ◌+◌, ◌%◌, ◌^◌, ◌<◌, Bool, true, false, not, eqb, max, List, length, get_or, set, refl, arith, sym, ◌∙◌, ap, subst, length-set}
 use Rattle.std.proofs.lemmas.List.{get_or-set_same, get_or-set_other}
 use Rattle.std.proofs.Math.Nat.{mod-eq_of_lt}
-use mathlib.Core.Option.{some, none}
-use lib.ListN.{get_elem?}
-use Rattle.atomic_table.specs.Table.{step, Act, keeps, Allows, stepped}
+use mathlib.Core.Option.{none}
+use Rattle.atomic_table.specs.Table.{step, keeps, Allows}
 use Rattle.map_types.specs.declared.commands.Command.{Command}
-use Rattle.ticket_order.specs.declared.stripe.Stripe.{Stripe}
 use Rattle.ticket_order.specs.declared.record.Opening.{Opening}
 use Rattle.ticket_order.specs.declared.record.StepMade.TheVariants as made
 use Rattle.ticket_order.specs.declared.record.Record.{Record}
@@ -20,9 +18,9 @@ use Rattle.one_history.specs.Kept.{slot_of}
 use Rattle.one_history.proofs.Fronts.{front_refl, front_one}
 use Rattle.one_history.proofs.Watching.{kept_looked, looks, moves_looked, kept_saw, sees, moves_saw, kept_found_alive, lives, moves_found_alive, kept_published, publishes, moves_published, kept_failed, fails, moves_failed}
 use Rattle.one_history.proofs.Drawing.{kept_drew, draws, moves_drew, small}
-use Rattle.stripe_locks.specs.Rule.{bit, Stands, IsSeated, Kept}
+use Rattle.stripe_locks.specs.Rule.{bit, Stands, Kept}
 use Rattle.stripe_locks.specs.Plays.{IsSameOne, looked, saw, lived, published, failed, drew}
-use Rattle.stripe_locks.proofs.Turning.{St, M, Homes, seated, in_book, turned, reread}
+use Rattle.stripe_locks.proofs.Turning.{M, Homes, seated, in_book, turned, reread}
 
 -- a stripe's word stays, where a word of the first four changes
 pub stands_on : (words : List ℕ) (homes : Homes) (i n x : ℕ) → i < 4 → (slot : Slot) → Stands words homes n slot → Stands (set words i x) homes n slot

@@ -1,5 +1,5 @@
 -- One step of a pass keeps the rule.
-use Rattle.std.proofs.Common.{ℕ, ◌≡◌, ◌≢◌, ◌+◌, ◌<◌, ◌≤◌, Bool, true, false, List, length, get_or, set, max, Option, [], append-nil, refl, arith, sym, ◌∙◌, ap, subst, ⊎_elim, inl, inr}
+use Rattle.std.proofs.Common.{ℕ, ◌≡◌, ◌≢◌, ◌+◌, ◌<◌, ◌≤◌, Bool, true, false, List, length, get_or, set, max, Option, [], append-nil, refl, arith, sym, ◌∙◌, ap, subst, ⊎_elim}
 use Rattle.std.proofs.lemmas.List.{set-get_or}
 use mathlib.Core.Option.{some}
 use mathlib.Core.Option as maybe
@@ -17,7 +17,7 @@ use Rattle.one_history.specs.OneHistory.{IsFront}
 use Rattle.one_history.specs.Moves.{BookMoves}
 use Rattle.one_history.specs.Kept.{slot_of, IsKept}
 use Rattle.one_history.proofs.Fronts.{front_trans}
-use Rattle.stripe_locks.specs.Rule.{bit, Stands, IsSeated, IsUnseated, Sits, Kept}
+use Rattle.stripe_locks.specs.Rule.{bit, Stands, IsSeated, Sits, Kept}
 use Rattle.stripe_locks.specs.Plays.{IsSameOne}
 
 abbrev pub St : Type 0

@@ -3,3 +3,4 @@ pub mod Plays
 pub mod Placed
 pub mod Passes
 pub mod Waits
+pub mod Fronts

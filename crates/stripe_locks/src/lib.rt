@@ -4,6 +4,7 @@
 mod beginning;
 mod board;
 mod calls;
+mod fronts;
 mod plays;
 mod rule;
 mod starts;

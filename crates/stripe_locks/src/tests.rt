@@ -86,21 +86,14 @@ fn a_pass_learns_of_positions(rt: HostRuntime) -> Result<(), Refusal> {
     Ok(())
 }
 
-/// A worker with its pass.
-#[derive(Drop)]
-struct Worker<'a> {
-    stripes: &'a Stripes,
-    pass: Pass,
-    ghost own: { IsPassOf stripes.now pass },
-    ghost empty_handed: { (recorded pass).holding ≡ None },
-}
-
-fn put_once(worker: &mut Worker<'_>, alloc: Global, key: &str) -> Result<u64, Refusal> {
+fn put_once(stripes: &Stripes, pass: &mut Pass, alloc: Global, key: &str) -> Result<u64, Refusal>
+    requires own { IsPassOf stripes.now pass.old }
+    requires empty_handed { (recorded pass.old).holding ≡ None }
+    ensures own { IsPassOf stripes.now pass.new }
+    ensures empty_handed { (recorded pass.new).holding ≡ None }
+{
     for _try in 0..u64::MAX {
-        match worker
-            .stripes
-            .try_call(&mut worker.pass, put(alloc, key, 1)?)
-        {
+        match stripes.try_call(pass, put(alloc, key, 1)?) {
             Ok(held) => return Ok(held.position().number()),
             Err(Refusal::Busy { .. }) => {}
             Err(refusal) => return Err(refusal),
@@ -110,12 +103,11 @@ fn put_once(worker: &mut Worker<'_>, alloc: Global, key: &str) -> Result<u64, Re
 }
 
 fn put_often(stripes: &Stripes, alloc: Global, side: usize) -> Result<Vec<u64>, Refusal> {
-    let pass = stripes.pass()?;
-    let mut worker = Worker { stripes, pass };
+    let mut pass = stripes.pass()?;
     let mut positions = Vec::new(alloc);
     for n in 0..CALLS {
         let key = format!(in alloc; "{side} {n}")?;
-        positions.push(put_once(&mut worker, alloc, key.as_str())?)?;
+        positions.push(put_once(stripes, &mut pass, alloc, key.as_str())?)?;
     }
     Ok(positions)
 }
@@ -149,11 +141,10 @@ fn add_one(alloc: Global) -> Result<Command, Refusal> {
 }
 
 fn add_often<R: Wait>(rt: &R, stripes: &Stripes, alloc: Global) -> Result<Held, Refusal> {
-    let pass = stripes.pass()?;
-    let mut worker = Worker { stripes, pass };
-    let mut last = stripes.call(rt, &mut worker.pass, add_one(alloc)?)?;
+    let mut pass = stripes.pass()?;
+    let mut last = stripes.call(rt, &mut pass, add_one(alloc)?)?;
     for _turn in 1..ADDITIONS {
-        last = stripes.call(rt, &mut worker.pass, add_one(alloc)?)?;
+        last = stripes.call(rt, &mut pass, add_one(alloc)?)?;
     }
     Ok(last)
 }
@@ -177,11 +168,31 @@ fn publish_all(stripes: &Stripes, keeper: &mut Pass) -> u64
     requires own { IsPassOf stripes.now keeper.old }
     requires by_keeper { (recorded keeper.old).keeper ≡ true }
     requires unfailed { (recorded keeper.old).failed ≡ false }
+    ensures own { IsPassOf stripes.now keeper.new }
 {
     let mut board = stripes.at(keeper);
     let count = board.look();
     board.durable(count);
     count
+}
+
+// The greatest of the sums, each of which stands at the position of the same number.
+fn greatest_of<R: Abort>(
+    rt: &R,
+    stripes: &Stripes,
+    pass: Pass,
+    all: Vec<Result<Held, Refusal>>,
+) -> Result<u64, Refusal>
+    requires own { IsPassOf stripes.now pass }
+{
+    let mut pass = pass;
+    let mut greatest = 0;
+    for held in all {
+        let released = stripes.release(&mut pass, held?);
+        let number = number_at_position(&released).expect(rt, "a sum at its position");
+        greatest = number.max(greatest);
+    }
+    Ok(greatest)
 }
 
 #[test]
@@ -193,12 +204,7 @@ fn eight_threads_add_to_one_key(rt: HostRuntime) -> Result<(), Refusal> {
     assert!(rt; keeper.is_keeper());
     let count = publish_all(&stripes, &mut keeper);
     assert_eq!(rt; count, 1600);
-    let mut greatest = 0;
-    for last in lasts {
-        let released = stripes.release(&mut keeper, last?);
-        let number = number_at_position(&released).expect(&rt, "a sum at its position");
-        greatest = number.max(greatest);
-    }
+    let greatest = greatest_of(&rt, &stripes, keeper, lasts)?;
     assert_eq!(rt; greatest, 1600);
     Ok(())
 }

@@ -1,5 +1,5 @@
 -- A call that has taken its stripe isn't refused for a stripe that is held.
-use Rattle.std.proofs.Common.{ℕ, ◌≡◌, [], false, Option, Some, None, sym, ◌∙◌, ap}
+use Rattle.std.proofs.Common.{ℕ, ◌≡◌, [], false, Some, None, sym, ◌∙◌, ap}
 use Rattle.std.specs.FinMap as finite
 use Rattle.ticket_order.specs.declared.stripe.Stripe.{Stripe}
 use Rattle.ticket_order.specs.declared.record.Holding.{Holding}

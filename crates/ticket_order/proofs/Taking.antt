@@ -1,5 +1,5 @@
 -- How each step of a sweep and of a capture leads from one standing to the next.
-use Rattle.std.proofs.Common.{◌≡◌, ℕ, ◌+◌, ◌^◌, ◌<◌, ◌≤◌, Bool, true, false, List, [], ◌∷◌, ◌++◌, Option, Some, None, length, append-nil, refl, sym, ap, ◌∙◌, subst, arith}
+use Rattle.std.proofs.Common.{◌≡◌, ℕ, ◌+◌, ◌^◌, ◌≤◌, false, List, [], ◌∷◌, ◌++◌, Some, None, length, append-nil, refl, sym, ap, ◌∙◌, subst}
 use Rattle.std.specs.FinMap as finite
 use Rattle.map_types.specs.declared.commands.Command.{Command}
 use Rattle.map_types.specs.declared.refusals.Refusal.{Refusal}
@@ -14,8 +14,8 @@ use Rattle.ticket_order.specs.declared.record.Record.{Record}
 use Rattle.ticket_order.specs.Records.{reach, taking, looking, giving, sections_for}
 use Rattle.ticket_order.specs.Legality.{history_of, IsLegalSection}
 use Rattle.ticket_order.specs.StepRules.{Looks, Gives, MayGive, AllLegalSections}
-use Rattle.ticket_order.specs.Calls.{CapturesStripe, HasTaken, HasLookedAt, HasTooMany, GivesBack}
-use Rattle.ticket_order.specs.Walks.{Task, ToSweep, ToCapture, Refuses, HasContent, TookContent, HasSwept, HasCopied, IsRefusing}
+use Rattle.ticket_order.specs.Calls.{CapturesStripe, HasLookedAt}
+use Rattle.ticket_order.specs.Walks.{Task, ToCapture, Refuses, HasContent, TookContent, HasSwept, HasCopied, IsRefusing}
 
 pub may_sweep : (n : ℕ) (b p : Record) (task : Task) (t : Taken) (x : Stripe) → HasSwept n b task t p → x.part.map ≡ t.content.part.map → x.outbox.items ≡ [] → MayGive n p t.stripe x Sweep
 may_sweep n b p task t x k part outbox = record {

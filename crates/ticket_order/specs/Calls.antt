@@ -1,5 +1,5 @@
 -- What a whole call leaves of the record of its pass.
-use Rattle.std.specs.Prelude.{◌≡◌, ℕ, ◌+◌, ◌^◌, ◌<◌, ◌≤◌, ◌⊎◌, List, [], ◌∷◌, ◌++◌, length, Option, Some, None, Bool, true, false}
+use Rattle.std.specs.Prelude.{◌≡◌, ℕ, ◌^◌, ◌<◌, ◌≤◌, ◌⊎◌, List, [], ◌∷◌, ◌++◌, length, Bool, true, false}
 use Rattle.std.specs.FinMap as finite
 use Rattle.java_hash.specs.Stripes.{stripe_of}
 use Rattle.map_types.specs.declared.texts.Value.{Value}
@@ -13,13 +13,10 @@ use Rattle.map_model.specs.Maps.{Map}
 use Rattle.map_model.specs.Histories.{IsLegalChange, IsLegalRead}
 use Rattle.ticket_order.specs.declared.stripe.Entry.{Entry}
 use Rattle.ticket_order.specs.declared.stripe.Stripe.{Stripe}
-use Rattle.ticket_order.specs.declared.held.Held.{Held}
 use Rattle.ticket_order.specs.declared.held.Released.{Released}
 use Rattle.ticket_order.specs.declared.held.Released.TheVariants as released
 use Rattle.ticket_order.specs.declared.record.Purpose.TheVariants.{Nothing, Answer, Sweep, Capture}
-use Rattle.ticket_order.specs.declared.record.StepMade.TheVariants.{Took, FoundHeld, Gave, Drew, Looked, Published, Saw, Failed, FoundAlive}
 use Rattle.ticket_order.specs.declared.record.Asked.TheVariants.{Changing, Reading}
-use Rattle.ticket_order.specs.declared.record.Section.{Section}
 use Rattle.ticket_order.specs.declared.record.Record.{Record}
 use Rattle.ticket_order.specs.Records.{ticket_limit, call, reach, past, missing, taking, looking, drawing, giving, living}
 use Rattle.ticket_order.specs.Legality.{history_of, IsLegalSection}

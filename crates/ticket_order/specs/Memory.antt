@@ -1,5 +1,5 @@
 -- The memory that a change needs.
-use Rattle.std.specs.Prelude.{ℕ, ◌<◌, vec_len, vec_capacity}
+use Rattle.std.specs.Prelude.{◌<◌, vec_len, vec_capacity}
 use Rattle.map_types.specs.declared.commands.Command.{Command}
 use Rattle.atomic_methods.specs.Prepared.{PreparedChange, IsPrepared}
 use Rattle.ticket_order.specs.declared.stripe.Stripe.{Stripe}

@@ -2,8 +2,6 @@
 use Rattle.std.specs.Prelude.{◌≡◌, ℕ, ◌+◌, ◌^◌, ◌<◌, ◌≤◌, ◌⊎◌, List, [], ◌∷◌, ◌++◌, length, Option, Some, None, Bool, true, false, not}
 use Rattle.java_hash.specs.Stripes.{stripe_of}
 use Rattle.map_types.specs.declared.commands.Command.{Command}
-use Rattle.map_types.specs.declared.commands.Read.{Read}
-use Rattle.map_model.specs.Maps.{Map}
 use Rattle.map_model.specs.Steps.{step}
 use Rattle.map_model.specs.Histories.{IsLegalChange}
 use Rattle.ticket_order.specs.declared.stripe.Entry.{Entry}

@@ -1,8 +1,7 @@
 use Rattle.std.proofs.Common.{◌≡◌, ℕ, subst, sym, inl, inr, rules}
 use Rattle.java_hash.specs.Stripes.{stripe_of}
-use Rattle.ticket_order.specs.declared.record.Record.{Record}
-use Rattle.ticket_order.specs.Walks.{ToChange, Fits}
-use Rattle.ticket_order.specs.Calls.{HasFound, IsNotBusy, RefusesChange}
+use Rattle.ticket_order.specs.Walks.{ToChange}
+use Rattle.ticket_order.specs.Calls.{HasFound, RefusesChange}
 use Rattle.ticket_order.proofs.Refusing.{never_busy}
 use Rattle.ticket_order.proofs.calls.call_on.Goals as goal
 

@@ -1,8 +1,7 @@
 use Rattle.std.proofs.Common.{◌≡◌, ℕ, subst, sym, inl, inr, rules}
 use Rattle.java_hash.specs.Stripes.{stripe_of}
-use Rattle.ticket_order.specs.declared.record.Record.{Record}
-use Rattle.ticket_order.specs.Walks.{ToRead, Fits}
-use Rattle.ticket_order.specs.Calls.{HasFound, IsNotBusy, RefusesRead}
+use Rattle.ticket_order.specs.Walks.{ToRead}
+use Rattle.ticket_order.specs.Calls.{HasFound, RefusesRead}
 use Rattle.ticket_order.proofs.Refusing.{never_busy}
 use Rattle.ticket_order.proofs.calls.read_on.Goals as goal
 

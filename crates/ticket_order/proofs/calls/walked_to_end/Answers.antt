@@ -1,4 +1,4 @@
-use Rattle.std.proofs.Common.{ℕ, sym, subst, ◌∙◌}
+use Rattle.std.proofs.Common.{sym, subst, ◌∙◌}
 use Rattle.ticket_order.specs.Walks.{Fits}
 use Rattle.ticket_order.proofs.calls.walked_to_end.Goals as goal
 

@@ -1,9 +1,9 @@
-use Rattle.std.proofs.Common.{◌≡◌, ◌∙◌, ℕ, subst, sym, rules}
+use Rattle.std.proofs.Common.{◌≡◌, ℕ, subst, rules}
 use Rattle.std.proofs.lemmas.Result.{IfOk-weaker}
 use Rattle.java_hash.specs.Stripes.{stripe_of}
 use Rattle.ticket_order.specs.Calls.{IsNotBusy, MakesCall, RefusesChange}
 use Rattle.stripe_locks.specs.Passes.{recorded, stripe_count}
-use Rattle.stripe_locks.specs.Waits.{TakesInTime, MakesCallInTime, RefusesChangeInTime}
+use Rattle.stripe_locks.specs.Waits.{TakesInTime}
 use Rattle.stripe_locks.proofs.Misses.{made_in_time, found_in_time, err_both, change_over}
 use Rattle.stripe_locks.proofs.stripes.Stripes.call.Goals as goal
 

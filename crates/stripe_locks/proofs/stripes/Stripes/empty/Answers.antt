@@ -1,8 +1,6 @@
-use Rattle.std.proofs.Common.{◌≡◌, ◌∙◌, ap, subst}
+use Rattle.std.proofs.Common.{◌≡◌, subst}
 use Rattle.std.specs.Prelude.{IfOk}
-use Rattle.std.specs.FinMap as finite
 use Rattle.map_model.specs.Maps.{Map}
-use Rattle.ticket_order.specs.declared.record.Opening.{Opening}
 use Rattle.one_history.proofs.Starts.{empty_are_parts, empty_union}
 use Rattle.stripe_locks.specs.Passes.{begun_with}
 use Rattle.stripe_locks.proofs.stripes.Stripes.empty.Goals as goal

@@ -1,6 +1,5 @@
-use Rattle.std.proofs.Common.{◌≡◌, ◌∙◌, ℕ, List, length, sym, ap, subst, rules}
+use Rattle.std.proofs.Common.{◌≡◌, ◌∙◌, sym, ap, subst}
 use Rattle.atomic_table.specs.Table.{opening}
-use Rattle.atomic_methods.specs.PartState.{PartState}
 use Rattle.ticket_order.specs.declared.record.Opening.{Opening}
 use Rattle.ticket_order.specs.Records.{newcomer}
 use Rattle.one_history.specs.Turns.{opening_of}

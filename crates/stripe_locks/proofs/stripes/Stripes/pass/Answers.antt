@@ -1,4 +1,4 @@
-use Rattle.std.proofs.Common.{◌≡◌, ◌∙◌, ℕ, ◌<◌, ◌≤◌, arith, sym, ap, refl}
+use Rattle.std.proofs.Common.{arith, ap, refl}
 use Rattle.stripe_locks.proofs.Seats.{enters, enrolls}
 use Rattle.stripe_locks.proofs.Turning.{M}
 use Rattle.stripe_locks.proofs.stripes.Stripes.pass.Goals as goal

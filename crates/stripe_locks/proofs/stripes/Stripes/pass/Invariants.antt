@@ -1,4 +1,4 @@
-use Rattle.std.proofs.Common.{◌≡◌, ◌≤◌, ◌<◌, []}
+use Rattle.std.proofs.Common.{◌≡◌, ◌≤◌, []}
 use Rattle.ticket_order.specs.Records.{newcomer, meeting}
 use Rattle.stripe_locks.proofs.stripes.Stripes.pass.Given as goal
 

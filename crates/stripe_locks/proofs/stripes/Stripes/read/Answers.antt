@@ -1,9 +1,9 @@
-use Rattle.std.proofs.Common.{◌≡◌, ◌∙◌, ℕ, subst, sym, rules}
+use Rattle.std.proofs.Common.{◌≡◌, ℕ, subst, rules}
 use Rattle.std.proofs.lemmas.Result.{IfOk-weaker}
 use Rattle.java_hash.specs.Stripes.{stripe_of}
 use Rattle.ticket_order.specs.Calls.{IsNotBusy, MakesRead, RefusesRead}
 use Rattle.stripe_locks.specs.Passes.{recorded, stripe_count}
-use Rattle.stripe_locks.specs.Waits.{TakesInTime, MakesReadInTime, RefusesReadInTime}
+use Rattle.stripe_locks.specs.Waits.{TakesInTime}
 use Rattle.stripe_locks.proofs.Misses.{read_in_time, found_in_time, err_both, read_over}
 use Rattle.stripe_locks.proofs.stripes.Stripes.read.Goals as goal
 

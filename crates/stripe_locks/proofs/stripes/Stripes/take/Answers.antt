@@ -1,4 +1,4 @@
-use Rattle.std.proofs.Common.{◌≡◌, ◌∙◌, ◌∷◌, ◌+◌, ◌-◌, ◌<◌, ℕ, Some, arith, refl, sym, ap, subst}
+use Rattle.std.proofs.Common.{◌≡◌, ◌∙◌, ◌∷◌, ◌+◌, ◌-◌, ◌<◌, ℕ, Some, arith, sym, ap, subst}
 use Rattle.atomic_table.specs.Table.{rest}
 use Rattle.stripe_locks.proofs.Moving.{allows_take}
 use Rattle.stripe_locks.proofs.stripes.Stripes.take.Goals as goal

@@ -1,4 +1,3 @@
-use Rattle.std.proofs.Common.{◌≡◌}
 use Rattle.stripe_locks.specs.Passes.{recorded, IsPassOf, IsSamePass}
 use Rattle.stripe_locks.specs.Waits.{Waits}
 use Rattle.stripe_locks.proofs.stripes.Stripes.take_in_time.Given as goal

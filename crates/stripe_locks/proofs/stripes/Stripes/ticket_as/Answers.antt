@@ -1,4 +1,4 @@
-use Rattle.std.proofs.Common.{arith, subst, sym}
+use Rattle.std.proofs.Common.{arith}
 use Rattle.ticket_order.specs.StepRules.{MayDraw}
 use Rattle.stripe_locks.proofs.Stepping.{allows_draw}
 use Rattle.stripe_locks.proofs.stripes.Stripes.ticket_as.Goals as goal

@@ -1,4 +1,4 @@
-use Rattle.std.proofs.Common.{◌≡◌, ◌≤◌, ◌^◌, length, arith, ap}
+use Rattle.std.proofs.Common.{length, arith, ap}
 use Rattle.ticket_order.proofs.Taking.{viewed, capture_starved, capture_full, may_capture, captured_stripe}
 use Rattle.ticket_order.proofs.capture_walk.CaptureStage.step.Goals as goal
 

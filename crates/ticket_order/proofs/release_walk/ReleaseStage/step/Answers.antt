@@ -1,5 +1,4 @@
-use Rattle.std.proofs.Common.{◌≤◌, ◌<◌, inl, inr, refl, sym, ap, ◌∙◌, arith}
-use Rattle.ticket_order.specs.Walks.{FitsRelease}
+use Rattle.std.proofs.Common.{inr, refl, arith}
 use Rattle.ticket_order.proofs.release_walk.ReleaseStage.step.Goals as goal
 
 pub returns-then-alive-clause-next : goal.returns-then-alive-clause-next

@@ -1,0 +1,67 @@
+-- Two fronts of one history.
+use Rattle.std.proofs.Common.{ℕ, ◌≡◌, ◌+◌, ◌++◌, List, [], ◌∷◌, true, false, get_or, set, refl, arith, sym, ◌∙◌, ap, subst, inl, inr, ⊎_elim}
+use Rattle.std.proofs.lemmas.List.{set-get_or}
+use mathlib.Core.Option.{some, none}
+use lib.ListN.{get_elem?}
+use Rattle.atomic_table.specs.Table.{step, keeps, Allows, Joins}
+use Rattle.atomic_table.proofs.Lists.{set_else, set_again}
+use Rattle.map_types.specs.declared.commands.Command.{Command}
+use Rattle.ticket_order.specs.declared.record.Opening.{Opening}
+use Rattle.ticket_order.specs.declared.record.Record.{Record}
+use Rattle.ticket_order.specs.Legality.{entries_from}
+use Rattle.one_history.specs.OneHistory.{IsFront}
+use Rattle.stripe_locks.specs.Rule.{IsUnseated, Sits, Kept, commands_of}
+use Rattle.stripe_locks.specs.Fronts.{AreComparable, both_fronts, no_front, compared}
+use Rattle.stripe_locks.proofs.Turning.{M, seated, in_book, seats_set}
+
+one_longer : (x : Command) (xs ys : List Command) → AreComparable xs ys → AreComparable (x ∷ xs) (x ∷ ys)
+one_longer x xs ys c = ⊎_elim (λ f. inl (record { rest = f.rest; is = ap (λ l. x ∷ l) f.is })) (λ f. inr (record { rest = f.rest; is = ap (λ l. x ∷ l) f.is })) c
+
+comparable : (xs ys p q : List Command) → xs ++ p ≡ ys ++ q → AreComparable xs ys
+comparable [] ys p q e = inl (record { rest = ys; is = refl })
+comparable (x ∷ xs) [] p q e = inr (record { rest = x ∷ xs; is = refl })
+comparable (x ∷ xs) (y ∷ ys) p q e =
+    let same : x ≡ y = (let f : x ∷ (xs ++ p) ≡ y ∷ (ys ++ q) = e in cc) in
+    let tails : xs ++ p ≡ ys ++ q = (let f : x ∷ (xs ++ p) ≡ y ∷ (ys ++ q) = e in cc) in
+    subst (λ z. AreComparable (x ∷ xs) (z ∷ ys)) same (one_longer x xs ys (comparable xs ys p q tails))
+
+pub commands_are : (t : ℕ) (cs : List Command) → commands_of (entries_from t cs) ≡ cs
+commands_are t [] = refl
+commands_are t (c ∷ cs) = ap (λ l. c ∷ l) (commands_are (t + 1) cs)
+
+pub joins : (o : Opening) (id : ℕ) (v : Record) (other : ℕ) (w : Record) → v.enrolled ≡ true → w.enrolled ≡ true → Joins (Kept o) id v other w (both_fronts v w) no_front
+joins o id v other w is_pass is_pass' s k at apart at' =
+    let there : get_elem? s.views other ≡ some w = sym (set_else s.views id other (both_fronts v w) apart) ∙ at' in
+    let q = seated o s k id v at is_pass in
+    let q' = seated o s k other w there is_pass' in
+    let front : IsFront v.seen k.book.history = subst (λ (r : Record). IsFront r.seen k.book.history) q.view_is (k.kept.one.passes q.place (in_book o s k id v at is_pass)).front in
+    let front' : IsFront w.seen k.book.history = subst (λ (r : Record). IsFront r.seen k.book.history) q'.view_is (k.kept.one.passes q'.place (in_book o s k other w there is_pass')).front in
+    record {
+      book = k.book;
+      slots = k.slots;
+      seats = k.seats;
+      opening = k.opening;
+      wide = k.wide;
+      kept = k.kept;
+      failure = k.failure;
+      few = k.few;
+      joined = k.joined;
+      keeper = k.keeper;
+      unjoined = k.unjoined;
+      each_stripe = k.each_stripe;
+      each_seat = seats_set (λ l u. Sits k.seats k.book (get_or s.words 3 0) l u u.enrolled) (set s.views id (both_fronts v w)) other no_front
+          (record { few = omega arith; front = record { rest = k.book.history; is = refl }; other_front = record { rest = k.book.history; is = refl } })
+          (λ l u ne e. seats_set (λ l u. Sits k.seats k.book (get_or s.words 3 0) l u u.enrolled) s.views id (both_fronts v w)
+          (record { few = omega arith; front = front; other_front = subst (λ cs. IsFront cs k.book.history) (sym (commands_are 0 w.seen)) front' })
+          (λ m z nm h. k.each_seat m z h) l u e);
+    }
+
+pub allows_compare : (o : Opening) (n id : ℕ) (me : M) → me.0.enrolled ≡ false → Allows (Kept o) n id me 0 (λ x. x) (compared (step n 0 0 0 none) me)
+allows_compare o n id me no_pass s k wide at range =
+    let u : IsUnseated k.book (get_or s.words 3 0) me.0 = subst (Sits k.seats k.book (get_or s.words 3 0) id me.0) no_pass (k.each_seat id me.0 at) in (
+      me.0,
+      keeps,
+      tt,
+      subst (λ (vs : List Record). Kept o record { words = set s.words 0 (get_or s.words 0 0); homes = s.homes; views = vs }) (sym (set_again s.views id me.0 at)) (subst (λ (ws : List ℕ). Kept o record { words = ws; homes = s.homes; views = s.views }) (sym (set-get_or s.words 0 0)) k),
+      comparable me.0.seen (commands_of me.0.taken) u.front.rest u.other_front.rest (sym u.front.is ∙ u.other_front.is),
+    )

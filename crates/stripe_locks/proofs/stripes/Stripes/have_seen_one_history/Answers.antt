@@ -1,0 +1,19 @@
+use Rattle.std.proofs.Common.{◌∙◌, ap, arith, subst}
+use Rattle.stripe_locks.specs.Plays.{carried}
+use Rattle.stripe_locks.specs.Rule.{commands_of}
+use Rattle.stripe_locks.specs.Fronts.{AreComparable, both_fronts}
+use Rattle.stripe_locks.proofs.Turning.{M}
+use Rattle.stripe_locks.proofs.Comparing.{joins, allows_compare, commands_are}
+use Rattle.stripe_locks.proofs.stripes.Stripes.have_seen_one_history.Goals as goal
+
+pub join_seat-requires : goal.join_seat-requires
+join_seat-requires c = (c.requires.one, c.requires.other, c.args.other.carries ∙ ap carried c.requires.empty_handed, omega (arith, c.args.self.now.words), joins _ _ _ _ _ c.args.one.enrolled c.args.other.enrolled)
+
+pub load-requires : goal.load-requires
+load-requires c = (c.join_seat.ensures.0 ∙ c.requires.one, omega (arith, c.args.self.now.words), allows_compare _ _ _ _ (ap (λ (m : M). m.0.enrolled) c.join_seat.ensures.2))
+
+pub returns : goal.returns
+returns c =
+    let told : AreComparable c.join_seat.new.seat.me.0.seen (commands_of c.join_seat.new.seat.me.0.taken) = c.load.ensures.2 in
+    let plain : AreComparable c.args.one.seat.me.0.seen (commands_of (both_fronts c.args.one.seat.me.0 c.args.other.seat.me.0).taken) = subst (λ (m : M). AreComparable m.0.seen (commands_of m.0.taken)) c.join_seat.ensures.2 told in
+    subst (AreComparable c.args.one.seat.me.0.seen) (commands_are 0 c.args.other.seat.me.0.seen) plain
