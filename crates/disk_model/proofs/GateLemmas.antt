@@ -1,8 +1,8 @@
 -- What a stop leaves of bytes that are on the disk, and how a gate goes from one state to the next.
-use Rattle.std.proofs.Common.{Bool, true, false, ◌||◌, ◌≡◌, ◌≢◌, ◌⊎◌, inl, inr, ⊎_elim, ℕ, ◌+◌, ◌-◌, ◌<◌, ◌≤◌, max, min, List, [], ◌∷◌, ◌++◌, length, take, drop, refl, sym, ◌∙◌, ap, subst, arith, append_assoc, length-append, length-take, length-drop, take-append-drop, zero-add}
+use Rattle.std.proofs.Common.{Bool, true, false, ◌||◌, ◌≡◌, ◌≢◌, ◌⊎◌, inl, inr, ⊎_elim, ℕ, ◌+◌, ◌<◌, ◌≤◌, List, [], ◌∷◌, ◌++◌, length, take, drop, refl, sym, ◌∙◌, ap, subst, arith, append_assoc, length-append, length-take, length-drop, take-append-drop, zero-add}
 use Rattle.std.proofs.lemmas.List.{take_at, drop_at, ext_get_or, get_or-take, get_or-drop, get_or-append-add, get_or_append_left, drop-drop, drop_more}
 use Rattle.std.proofs.lemmas.Bool.Decides.{nat_tests}
-use Rattle.disk_model.specs.Files.{Range, File, byte_at, is_in, is_written, is_pending, overwritten, reached, written, synced, at_rest, IsSure, IsTorn, MayLeave}
+use Rattle.disk_model.specs.Files.{Range, File, byte_at, is_in, is_written, is_pending, overwritten, reached, written, synced, IsSure, IsTorn, MayLeave}
 use Rattle.disk_model.specs.Gates.{IsShut, IsOpening, IsOpen}
 
 -- ---- bytes that are on the disk
@@ -85,8 +85,7 @@ torn_byte old new front back b torn is =
     let n = length front in
     let long : n < length new.seen = omega (arith, torn.no_shorter, ap length is, length-append front (b ∷ back)) in
     let behind : drop (n + 1) new.seen ≡ back =
-    torn.after ∙ ap (λ (l : List ℕ). drop (n + 1) l) is ∙ sym (drop-drop 1 n (front ++ b ∷ back)) ∙ ap (λ (l : List ℕ). drop 1 l) (drop_at front (b ∷ back) n refl) in
-    (
+    torn.after ∙ ap (λ (l : List ℕ). drop (n + 1) l) is ∙ sym (drop-drop 1 n (front ++ b ∷ back)) ∙ ap (λ (l : List ℕ). drop 1 l) (drop_at front (b ∷ back) n refl) in (
       byte_at n new.seen,
       torn_front 1 old new front (b ∷ back) torn is ∙ ap (λ (l : List ℕ). front ++ l) (drop_more new.seen n 0 long ∙ ap (λ (l : List ℕ). byte_at n new.seen ∷ l) behind),
     )

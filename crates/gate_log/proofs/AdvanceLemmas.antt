@@ -1,7 +1,7 @@
 -- One step of a log, from the device call that it makes.
-use Rattle.std.proofs.Common.{◌≡◌, ◌≢◌, ◌⊎◌, inl, inr, ⊎_elim, ℕ, ◌+◌, Bool, true, false, List, [], ◌∷◌, ◌++◌, Option, None, Some, Ok, Err, refl, sym, ◌∙◌, ap, subst}
+use Rattle.std.proofs.Common.{◌≡◌, ◌≢◌, ◌⊎◌, inl, inr, ⊎_elim, ℕ, true, false, List, ◌∷◌, Some, Ok, Err, refl, sym, ◌∙◌, ap, subst}
 use Rattle.disk_model.specs.Files.{File, Files, MayLeave, now, with_file}
-use Rattle.disk_model.specs.Gates.{Call, called, MayFailTo, writes, syncs}
+use Rattle.disk_model.specs.Gates.{Call, called}
 use Rattle.disk_model.specs.Moments.{AtEachMoment}
 use Rattle.disk_model.proofs.FileLemmas.{with_same, with_other}
 use Rattle.disk_model.proofs.MomentLemmas.{one_call}
@@ -9,7 +9,7 @@ use Rattle.map_types.specs.declared.refusals.Refusal.TheVariants.{Failed}
 use Rattle.store_layout.specs.Logs.{Batch, log_file}
 use Rattle.gate_log.specs.declared.phase.Phase.{Phase}
 use Rattle.gate_log.specs.declared.phase.Phase.TheVariants.{Idle, Header, HeaderWritten, Staged, Written, Synced, Opened}
-use Rattle.gate_log.specs.States.{LogState, bytes_staged, call_in, log_after}
+use Rattle.gate_log.specs.States.{LogState, call_in, log_after}
 use Rattle.gate_log.specs.Standing.{Stands, IsReady, IsKept, MayRead}
 use Rattle.gate_log.specs.Advancing.{Makes, Fails, Advances, MayAdvance, committed_after, staged_after}
 use Rattle.gate_log.proofs.StandingLemmas.{reads_in, placed, goes_to, called_reads, failed_reads}

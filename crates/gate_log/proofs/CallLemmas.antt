@@ -1,8 +1,8 @@
 -- The device call that is due, where it is a sync.
-use Rattle.std.proofs.Common.{◌≡◌, ◌≢◌, ◌⊎◌, inl, inr, ⊎_elim, ℕ, ◌+◌, List, ◌∷◌, Option, None, Some, Result, Ok, Err, OnErr, refl, sym, ◌∙◌, ap, subst}
+use Rattle.std.proofs.Common.{◌≡◌, ◌⊎◌, inl, inr, ⊎_elim, ℕ, ◌+◌, List, ◌∷◌, Option, None, Some, Result, Ok, Err, OnErr, refl, sym, ◌∙◌, ap, subst}
 use mathlib.Core.Path.{fun_ext}
 use Rattle.std.proofs.lemmas.Bool.{cases_eq}
-use Rattle.disk_model.specs.Files.{File, Files, now, with_file}
+use Rattle.disk_model.specs.Files.{Files, now, with_file}
 use Rattle.disk_model.specs.Gates.{Call, syncs}
 use Rattle.disk_model.proofs.FileLemmas.{with_same, with_other}
 use Rattle.gate_log.specs.declared.phase.Phase.TheVariants.{HeaderWritten, Written, Opened}

@@ -1,6 +1,6 @@
 -- How the steps of a commit go on from one another.
-use Rattle.std.proofs.Common.{◌≡◌, ◌≢◌, inl, inr, ℕ, ◌+◌, Bool, true, false, List, [], ◌++◌, Option, None, Some, Ok, Result, refl, sym, ◌∙◌, ap, subst}
-use Rattle.disk_model.specs.Files.{File, Files, MayLeave, now}
+use Rattle.std.proofs.Common.{◌≡◌, ◌≢◌, inl, inr, ℕ, false, List, Option, None, Some, Ok, Result, refl, sym, ◌∙◌, ap, subst}
+use Rattle.disk_model.specs.Files.{File, Files, now}
 use Rattle.disk_model.specs.Moments.{AtEachMoment}
 use Rattle.disk_model.proofs.MomentLemmas.{no_call, goes_on, weaker, in_the_end}
 use Rattle.map_types.specs.declared.refusals.Refusal.{Refusal}

@@ -1,12 +1,12 @@
 -- How a log's file goes from one phase to the next, and what a stop leaves of it.
-use Rattle.std.proofs.Common.{◌≡◌, ◌≢◌, ◌⊎◌, inl, inr, ℕ, ◌+◌, ◌<◌, ◌≤◌, ◌^◌, Bool, true, false, List, [], ◌∷◌, ◌++◌, length, drop, Option, None, Some, refl, sym, ◌∙◌, ap, subst, arith, append_assoc, add-zero, length-append}
+use Rattle.std.proofs.Common.{◌≡◌, ◌⊎◌, inl, inr, ℕ, ◌+◌, ◌<◌, ◌^◌, Bool, List, [], ◌∷◌, ◌++◌, length, drop, Option, None, Some, refl, sym, ◌∙◌, ap, subst, arith, append_assoc, length-append}
 use Rattle.std.proofs.lemmas.List.{append-nil}
 use Rattle.std.proofs.lemmas.Bool.{cases_eq}
 use Rattle.disk_model.specs.Files.{File, MayLeave, IsTorn, written, synced}
-use Rattle.disk_model.specs.Gates.{Call, IsShut, IsOpening, IsOpen, IsPlaced, called, MayFailTo, writes, syncs}
+use Rattle.disk_model.specs.Gates.{Call, IsShut, IsOpening, IsPlaced, called, MayFailTo}
 use Rattle.disk_model.proofs.GateLemmas.{shut_long, shut_written, shut_torn, shut_synced, opening_synced, gate_written, opening_written, opening_torn, open_synced, closed_synced, left_shut, left_opening, left_open}
 use Rattle.log_records.specs.Layout.{first_layout}
-use Rattle.store_layout.specs.Logs.{Batch, IsBatch, IsLog, IsClosed, IsEnded, commands_in, end_frame, frame, header, log_front}
+use Rattle.store_layout.specs.Logs.{Batch, IsLog, IsClosed, IsEnded, end_frame, frame, header}
 use Rattle.store_layout.proofs.LogLemmas.{front_push, commands_push, run_push, length-header}
 use Rattle.gate_log.specs.declared.phase.Phase.{Phase}
 use Rattle.gate_log.specs.declared.phase.Phase.TheVariants.{Idle, Header, HeaderWritten, Staged, Written, Synced, Opened}

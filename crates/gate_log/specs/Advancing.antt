@@ -1,5 +1,5 @@
 -- What one step of a log does.
-use Rattle.std.specs.Prelude.{◌≡◌, ℕ, ◌+◌, List, [], ◌∷◌, ◌++◌, Option, Some, Result, IfOk, IfErr, OnOk, true, false}
+use Rattle.std.specs.Prelude.{◌≡◌, ℕ, ◌+◌, List, [], ◌∷◌, ◌++◌, Some, Result, IfOk, IfErr, OnOk, true, false}
 use Rattle.disk_model.specs.Files.{File, Files, now, with_file}
 use Rattle.disk_model.specs.Gates.{Call, IsPlaced, called, MayFailTo}
 use Rattle.disk_model.specs.Moments.{AtEachMoment}
@@ -7,7 +7,7 @@ use Rattle.map_types.specs.declared.refusals.Refusal.{Refusal}
 use Rattle.map_types.specs.declared.refusals.Refusal.TheVariants.{Failed}
 use Rattle.store_layout.specs.Logs.{Batch, log_file}
 use Rattle.gate_log.specs.declared.phase.Phase.{Phase}
-use Rattle.gate_log.specs.declared.phase.Phase.TheVariants.{Idle, Header, HeaderWritten, Staged, Written, Synced, Opened}
+use Rattle.gate_log.specs.declared.phase.Phase.TheVariants.{Opened}
 use Rattle.gate_log.specs.States.{LogState, call_in, log_after}
 use Rattle.gate_log.specs.Standing.{Stands, IsKept}
 

@@ -1,5 +1,5 @@
 -- A log as its callers see it.
-use Rattle.std.specs.Prelude.{◌≡◌, ℕ, ◌+◌, ◌<◌, ◌^◌, Bool, true, false, List, [], ◌∷◌, ◌++◌, length, map, Option, None, Some}
+use Rattle.std.specs.Prelude.{◌≡◌, ℕ, ◌+◌, ◌<◌, ◌^◌, Bool, false, List, [], ◌∷◌, ◌++◌, length, map, Option, None, Some}
 use Rattle.disk_model.specs.Gates.{Call, writes, syncs}
 use Rattle.map_types.specs.declared.commands.Command.{Command}
 use Rattle.ticket_order.specs.declared.stripe.Entry.{Entry}

@@ -16,51 +16,20 @@ use ticket_order::Entry;
 pub(crate) fn header_and_gate(generation: u64, low: u64) -> [u8; 18]
     ensures { result ≡ header generation low ++ 0 ∷ [] }
 {
-    let g = generation.to_be_bytes();
-    let l = low.to_be_bytes();
-    [
-        VERSION,
-        g[0],
-        g[1],
-        g[2],
-        g[3],
-        g[4],
-        g[5],
-        g[6],
-        g[7],
-        l[0],
-        l[1],
-        l[2],
-        l[3],
-        l[4],
-        l[5],
-        l[6],
-        l[7],
-        CLOSED_GATE,
-    ]
+    let mut bytes = [CLOSED_GATE; 18];
+    bytes[0] = VERSION;
+    bytes[1..9].copy_from_slice(&generation.to_be_bytes());
+    bytes[9..17].copy_from_slice(&low.to_be_bytes());
+    bytes
 }
 
 /// The end frame, and a closed gate.
 pub(crate) fn end_frame_and_gate(next: u64) -> [u8; 14]
     ensures { result ≡ end_frame next ++ 0 ∷ [] }
 {
-    let n = next.to_be_bytes();
-    [
-        END_KIND,
-        0,
-        0,
-        0,
-        8,
-        n[0],
-        n[1],
-        n[2],
-        n[3],
-        n[4],
-        n[5],
-        n[6],
-        n[7],
-        CLOSED_GATE,
-    ]
+    let mut bytes = [END_KIND, 0, 0, 0, 8, 0, 0, 0, 0, 0, 0, 0, 0, CLOSED_GATE];
+    bytes[5..13].copy_from_slice(&next.to_be_bytes());
+    bytes
 }
 
 /// How many bytes the records of the entries take.

@@ -1,4 +1,4 @@
-use Rattle.std.proofs.Common.{◌+◌, length, arith}
+use Rattle.std.proofs.Common.{◌+◌, arith}
 use Rattle.gate_log.proofs.RecordLemmas.{frame_pieces}
 use Rattle.gate_log.proofs.frames.batch_frame.Goals as goal
 

@@ -1,4 +1,4 @@
-use Rattle.std.proofs.Common.{◌++◌, [], ◌∷◌, length, arith, length-append}
+use Rattle.std.proofs.Common.{[], ◌∷◌, arith, length-append}
 use Rattle.log_records.specs.Layout.{first_layout}
 use Rattle.log_records.specs.Spelling.{record_bytes}
 use Rattle.store_layout.proofs.LogLemmas.{length-frame}

@@ -1,8 +1,7 @@
-use Rattle.std.proofs.Common.{◌≡◌, ◌⊎◌, ◌≤◌, length, Some, refl, sym, ap, subst, ◌∙◌}
+use Rattle.std.proofs.Common.{◌≡◌, ◌⊎◌, ◌≤◌, length, sym, ap, subst, ◌∙◌}
 use Rattle.disk_model.specs.Files.{now}
-use Rattle.disk_model.specs.Gates.{writes}
 use Rattle.store_layout.specs.Logs.{log_file}
-use Rattle.gate_log.specs.States.{LogState, bytes_staged, call_in}
+use Rattle.gate_log.specs.States.{LogState, call_in}
 use Rattle.gate_log.specs.declared.phase.Phase.TheVariants.{HeaderWritten, Staged, Written, Synced, Opened}
 use Rattle.gate_log.proofs.CallLemmas.{sync_fails}
 use Rattle.gate_log.proofs.log.GateLog.make_call.Goals as goal
