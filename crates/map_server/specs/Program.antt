@@ -48,7 +48,7 @@ pub record Dialogues (r0 r1 w0 w1 : Option (List ℕ)) (status : ℕ) : Type 0 w
   pub connection : Connection Answered r0 r1 w0 w1 empty_map after result
   pub status_is : MatchResult result (λ done. status ≡ 0) (λ error. status ≡ 1)
 
--- the map was served, or no memory was found for it and nothing was read or written
+-- the map was served, or it could not be begun and nothing was read or written
 abbrev pub Serves : Option (List ℕ) → Option (List ℕ) → Option (List ℕ) → Option (List ℕ) → ℕ → Type 0
 Serves r0 r1 w0 w1 status = Dialogues r0 r1 w0 w1 status ⊎ ((r1 ≡ r0) × (w1 ≡ w0) × (status ≡ 1))
 

@@ -56,20 +56,23 @@ fn say<W: Write>(writer: &mut W, text: &str) {
     let _ = writer.write_all(text.as_bytes());
 }
 
-/// Says on `error` that no memory was found.
-fn refuse<E: Write>(error: &mut E) -> u8
+/// Says on `error` what was refused.
+fn refuse<E: Write>(alloc: Global, refusal: Refusal, error: &mut E) -> u8
     ensures { result ≡ 1 }
 {
-    say(error, "refused 7 NoMemory\n");
+    match format!(in alloc; "refused {refusal}\n") {
+        Ok(text) => say(error, text.as_str()),
+        Err(_) => say(error, "refused 7 NoMemory\n"),
+    }
     REFUSED
 }
 
 /// Says on `error` why a connection broke off.
-fn report<E: Write>(failure: &ConnectionError, error: &mut E) -> u8
+fn report<E: Write>(alloc: Global, failure: &ConnectionError, error: &mut E) -> u8
     ensures { result ≡ 1 }
 {
     match failure {
-        ConnectionError::NoMemory => refuse(error),
+        ConnectionError::NoMemory => refuse(alloc, Refusal::NoMemory, error),
         ConnectionError::Reader(_) | ConnectionError::Writer(_) => {
             say(error, "unreadable\n");
             REFUSED
@@ -83,10 +86,10 @@ fn advise<W: Write, E: Write>(alloc: Global, advice: &Error, output: &mut W, err
     ensures { Advises (kind_of advice.now) (W.contents output.old) (W.contents output.new) result }
 {
     if advice.kind() == ErrorKind::OutOfMemory {
-        return refuse(error);
+        return refuse(alloc, Refusal::NoMemory, error);
     }
     let Ok(text) = format!(in alloc; "{advice}") else {
-        return refuse(error);
+        return refuse(alloc, Refusal::NoMemory, error);
     };
     if advice.use_stderr() {
         say(error, text.as_str());
@@ -105,20 +108,21 @@ fn mem<R: Read, W: Write, E: Write>(
 ) -> u8
     ensures { Serves (R.remaining input.old) (R.remaining input.new) (W.contents output.old) (W.contents output.new) result }
 {
-    let Ok(mut memory) = Memory::new(alloc, MemDisk::new(alloc)) else {
-        return refuse(error);
+    let mut memory = match Memory::new(alloc, MemDisk::new(alloc)) {
+        Ok(memory) => memory,
+        Err(refusal) => return refuse(alloc, refusal, error),
     };
     match serve_connection(alloc, input, output, &mut memory) {
         Ok(()) => DONE,
-        Err(failure) => report(&failure, error),
+        Err(failure) => report(alloc, &failure, error),
     }
 }
 
 /// The program over its words, the program's name first, and its streams: the exit status.
 ///
 /// `mem` answers the request frames of `input` on `output`. The status is 0 where all went well, 1
-/// with `unreadable` on `error` where the input or the output fails, 1 with `refused 7 NoMemory` on
-/// `error` where no memory is found to begin or to read, and 2 with a text on how to call the
+/// with `unreadable` on `error` where the input or the output fails, 1 with `refused` and the refusal on
+/// `error` where the map can't be begun or no memory is found to read, and 2 with a text on how to call the
 /// program on `error` for words that aren't known.
 pub fn dchm<R: Read, W: Write, E: Write>(
     alloc: Global,

@@ -16,5 +16,5 @@ returns g c =
       after = c.serve_connection.new.calls;
       result = c.serve_connection.result;
       connection = rw c.in-Ok.ensures.empty at c.serve_connection.ensures;
-      status_is = rw c.in-Err.is c.report.ensures;
+      status_is = rw c.in-Err-serve_connection.is c.report.ensures;
     })
