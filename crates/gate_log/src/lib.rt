@@ -8,9 +8,12 @@ mod log;
 mod phase;
 mod scan;
 #[cfg(test)]
+mod scan_tests;
+#[cfg(test)]
 mod tests;
 
 pub use commit::commit_staged;
 pub use laws::stops_of_a_log;
 pub use log::GateLog;
 pub use phase::Phase;
+pub use scan::{Found, Scan, one_reading};

@@ -1,0 +1,49 @@
+-- The header that was read is the file's.
+use Rattle.std.proofs.Common.{◌≡◌, ℕ, List, [], ◌∷◌, ◌++◌, length, take, drop, sym, ap, ◌∙◌, append_assoc, arith}
+use Rattle.std.proofs.lemmas.List.{length-append, length-take, take-append-drop, append-nil}
+use Rattle.byteorder.specs.Endian.{big_bytes}
+use Rattle.byteorder.specs.Numbers.{length-bytes_high_first}
+use Rattle.map_types.specs.declared.refusals.Refusal.{Refusal}
+use Rattle.log_records.specs.Layout.{first_layout}
+use Rattle.store_layout.specs.Logs.{header}
+use Rattle.gate_log.specs.Scan.{HasHeader, HasRead, IsBadHeader, ScanState, too_short, wrong_version, wrong_generation, wrong_low}
+
+header_more : (version generation low : ℕ) (content : List ℕ) → HasHeader version generation low (take 18 content) → HasHeader version generation low content
+header_more version generation low content h = record {
+  gate = h.gate;
+  rest = h.rest ++ drop 18 content;
+  bytes = sym (take-append-drop 18 content) ∙ ap (λ (l : List ℕ). l ++ drop 18 content) h.bytes
+      ∙ append_assoc (version ∷ (big_bytes 8 generation ++ big_bytes 8 low)) (h.gate ∷ h.rest) (drop 18 content);
+  generation_fits = h.generation_fits;
+  low_fits = h.low_fits;
+}
+
+-- what is wrong with the first 18 bytes is wrong with the file
+pub bad_header : (generation low : ℕ) (content : List ℕ) (refusal : Refusal) → IsBadHeader generation low (take 18 content) refusal → IsBadHeader generation low content refusal
+bad_header generation low content refusal (too_short short is) = too_short (omega (arith, length-take 18 content)) is
+bad_header generation low content refusal (wrong_version v g l h other is) = wrong_version v g l (header_more v g l content h) other is
+bad_header generation low content refusal (wrong_generation g l h other is) = wrong_generation g l (header_more 1 g l content h) other is
+bad_header generation low content refusal (wrong_low l h other is) = wrong_low l (header_more 1 generation l content h) other is
+
+abbrev at_first : ℕ → ℕ → ScanState
+at_first generation low = record { generation = generation; gate = 17; expected = low }
+
+-- behind the header that was asked for stands the first gate
+pub header_read : (generation low : ℕ) (content : List ℕ) → HasHeader 1 generation low (take 18 content) → HasRead first_layout low [] (at_first generation low) content
+unfolding header
+header_read generation low content first =
+    let h = header_more 1 generation low content first in
+    let head : List ℕ = 1 ∷ (big_bytes 8 generation ++ big_bytes 8 low) in
+    let whole : head ++ [] ≡ head = append-nil head in
+    let a = length-append (big_bytes 8 generation) (big_bytes 8 low) in
+    let b = length-bytes_high_first 8 generation in
+    let d = length-bytes_high_first 8 low in
+    let size : 17 ≡ length head = omega arith in
+    record {
+      byte = h.gate;
+      rest = h.rest;
+      bytes = h.bytes ∙ ap (λ (l : List ℕ). l ++ h.gate ∷ h.rest) (sym whole);
+      place = size ∙ ap (λ (l : List ℕ). length l) (sym whole);
+      tickets = omega arith;
+      log = record { generation_fits = h.generation_fits; low_fits = h.low_fits; in_order = tt };
+    }

@@ -1,0 +1,74 @@
+-- What the parts of a step of a scan find.
+use Rattle.std.specs.Prelude.{◌≡◌, ◌≢◌, ℕ, ◌+◌, ◌<◌, ◌≤◌, ◌^◌, List, ◌∷◌, ◌++◌, length, map, Option, None, Some}
+use Rattle.std.specs.List.{AllByRecursion}
+use Rattle.byteorder.specs.Endian.{big_bytes}
+use Rattle.map_types.specs.declared.commands.Command.{Command}
+use Rattle.log_records.specs.Layout.{first_layout}
+use Rattle.log_records.specs.Spelling.{IsCommand}
+use Rattle.ticket_order.specs.declared.stripe.Entry.{Entry}
+use Rattle.store_layout.specs.Logs.{Batch, IsBatch, end_frame, frame, records_bytes}
+use Rattle.gate_log.specs.States.{AreFrom, batch_of}
+use Rattle.gate_log.specs.declared.scan.Ahead.{Ahead}
+use Rattle.gate_log.specs.declared.scan.Ahead.TheVariants as ahead
+
+abbrev pub commands_of : List Entry → List Command
+commands_of entries = map (λ entry. entry.command) entries
+
+-- these are so many changes from this ticket on, and the bytes are their records
+pub record AreEntries (first count : ℕ) (entries : List Entry) (bytes : List ℕ) : Type 0 where
+  pub tickets : AreFrom first entries
+  pub so_many : length entries ≡ count
+  pub well_formed : AllByRecursion (IsCommand first_layout) (commands_of entries)
+  pub spelled : bytes ≡ records_bytes first_layout (commands_of entries)
+
+-- these changes are a batch, and its frame has these bytes behind its length
+pub record IsBody (expected : ℕ) (entries : List Entry) (body : List ℕ) : Type 0 where
+  pub tickets : AreFrom expected entries
+  pub fits : IsBatch first_layout (batch_of expected entries)
+  pub bytes : frame first_layout (batch_of expected entries) ≡ 1 ∷ (big_bytes 4 (length body) ++ body)
+
+-- these changes are a batch, and its frame has so many bytes behind its length
+pub record FitsBatch (expected len : ℕ) (entries : List Entry) : Type 0 where
+  pub tickets : AreFrom expected entries
+  pub fits : IsBatch first_layout (batch_of expected entries)
+  pub size : length (frame first_layout (batch_of expected entries)) ≡ 5 + len
+
+-- kind and length, as many bytes, and a byte behind them
+pub record HasFrame (kind len : ℕ) (rest : List ℕ) : Type 0 where
+  pub body : List ℕ
+  pub after : ℕ
+  pub behind : List ℕ
+  pub bytes : rest ≡ kind ∷ (big_bytes 4 len ++ (body ++ after ∷ behind))
+  pub size : length body ≡ len
+
+-- the batch's frame, and a byte behind it
+pub record IsAtBatch (batch : Batch) (rest : List ℕ) : Type 0 where
+  pub after : ℕ
+  pub behind : List ℕ
+  pub bytes : rest ≡ frame first_layout batch ++ after ∷ behind
+
+-- the end frame, and a byte behind it
+pub record IsAtEnd (next : ℕ) (rest : List ℕ) : Type 0 where
+  pub after : ℕ
+  pub behind : List ℕ
+  pub bytes : rest ≡ end_frame next ++ after ∷ behind
+  pub next_fits : next < 2 ^ 64
+
+-- a frame of this kind and length is of that sort
+abbrev pub IsAheadOf : ℕ → ℕ → Option Ahead → Type 0
+IsAheadOf kind len None = ((kind ≡ 1) → 12 ≤ len → len ≤ 1048571 → ⊥) × ((kind ≡ 2) → (len ≡ 8) → ⊥)
+IsAheadOf kind len (Some ahead.Closed) = ⊥
+IsAheadOf kind len (Some (ahead.Batch size)) = (kind ≡ 1) × (size ≡ len) × (12 ≤ len) × (len ≤ 1048571)
+IsAheadOf kind len (Some ahead.End) = (kind ≡ 2) × (len ≡ 8)
+
+-- its bytes and the gate behind them have places of 64 bits
+abbrev pub FitsAhead : ℕ → Ahead → Type 0
+FitsAhead gate ahead.Closed = Unit {0}
+FitsAhead gate (ahead.Batch len) = (12 ≤ len) × (len ≤ 1048571) × (gate + 7 + len < 2 ^ 64)
+FitsAhead gate ahead.End = gate + 15 < 2 ^ 64
+
+-- what this gate and these bytes behind it begin
+abbrev pub ComesAhead : ℕ → List ℕ → Ahead → Type 0
+ComesAhead byte rest ahead.Closed = byte ≢ 165
+ComesAhead byte rest (ahead.Batch len) = (byte ≡ 165) × HasFrame 1 len rest
+ComesAhead byte rest ahead.End = (byte ≡ 165) × HasFrame 2 8 rest
