@@ -83,6 +83,7 @@ fn a_pass_learns_of_positions(rt: HostRuntime) -> Result<(), Refusal> {
     assert!(rt; stripes.try_call(&mut one, put(alloc, "a", 1)?).is_ok());
     assert!(rt; stripes.learn(&mut two, Position::new(1)));
     assert_eq!(rt; stripes.look(&mut two), 1);
+    stripes.have_seen_one_history(two, stripes.pass()?);
     Ok(())
 }
 
