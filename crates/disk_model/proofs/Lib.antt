@@ -1,5 +1,6 @@
 pub mod FileLemmas
 pub mod FillLemmas
+pub mod KeptLemmas
 pub mod MemoryLemmas
 pub mod MomentLemmas
 pub mod GateLemmas

@@ -72,16 +72,15 @@ module _ (kept : List Kept) (events : List Event) (number : ℕ) (one : Kept) (l
       subst (λ (es : List Event). Holds (set kept number one) es) (sym noted)
       (one_changed kept events (synced_file number) number one (synced old_file) low holds refl is (coherent_at_rest old_file.seen was_coherent.bytes))
 
-  -- a file that is put back as it was
-  pub same_kept : (other : Kept) → one ≡ get_or kept number other → AreKept (set kept number one) (now (states_of events))
-  same_kept was is = record {
+  -- a file that still keeps the same
+  pub same_kept : IsKept one old_file → AreKept (set kept number one) (now (states_of events))
+  same_kept is = record {
     count = length-set kept number one ∙ holds.are.count;
     each = λ n other below. ⊎_elim {C = IsKept (get_or (set kept number one) n other) (now (states_of events) n)}
         (λ same.
         let inside : number < length kept = omega (arith, holds.are.count) in
         subst (λ (k : ℕ). IsKept (get_or (set kept number one) k other) (now (states_of events) k)) (sym same)
-        (subst (λ (k : Kept). IsKept k old_file) (sym (get_or-set_same kept number one other inside))
-        (subst (λ (k : Kept). IsKept k old_file) (sym is) (holds.are.each number was low))))
+        (subst (λ (k : Kept). IsKept k old_file) (sym (get_or-set_same kept number one other inside)) is))
         (λ differs. subst (λ (k : Kept). IsKept k (now (states_of events) n)) (sym (get_or-set_other kept number n one other differs)) (holds.are.each n other below))
         (cases_eq n number);
   }

@@ -1,5 +1,5 @@
 // One file, kept in memory with what a stop may leave of it.
-ghost use Rattle.std.specs.Prelude.{◌≡◌, ◌+◌, ◌-◌, ◌<◌, ◌≤◌, ◌^◌, ℕ, List, true, ◌&&◌, ◌||◌, nat_le, nat_lt, [], take, length, min, max, OnOk, OnErr, IfOk, slice_index_or};
+ghost use Rattle.std.specs.Prelude.{◌≡◌, ◌+◌, ◌-◌, ◌<◌, ◌≤◌, ◌^◌, ℕ, List, true, false, ◌&&◌, ◌||◌, nat_le, nat_lt, [], ◌++◌, take, length, min, max, OnOk, OnErr, IfOk, slice_index_or, vec_capacity};
 ghost use Rattle.disk_model.specs.Files.{File, AreBytes, is_in, is_pending, overwritten, reached, written, synced, at_rest};
 ghost use Rattle.disk_model.specs.Fills.{torn, byte_torn, bytes_torn, length_torn, pending_below, length_left, byte_left, bytes_by};
 
@@ -16,8 +16,13 @@ pub(crate) struct Kept {
     reached: Vec<bool>,
     // The greatest end written since.
     greatest: u128,
+    // No write since has reached a byte below this place of `base`.
+    clean: usize,
     ghost bounded: { greatest < 2 ^ 65 },
     ghost bytes: { AreBytes seen.items },
+    ghost inside: { clean ≤ length base.items },
+    ghost same: { take clean base.items ≡ take clean seen.items },
+    ghost clear: { (i : ℕ) → i < clean → slice_index_or reached.items i true ≡ false },
 }
 
 impl Kept {
@@ -31,6 +36,7 @@ impl Kept {
             base: Vec::new(alloc),
             reached: Vec::new(alloc),
             greatest: 0,
+            clean: 0,
         }
     }
 
@@ -40,32 +46,35 @@ impl Kept {
     {
         let base = content.to_vec(alloc)?;
         let reached = vec![in alloc; false; content.len()]?;
-        let greatest = content.len() as u128;
+        let clean = content.len();
         Ok(Kept {
             seen: content,
             base,
             reached,
-            greatest,
+            greatest: clean as u128,
+            clean,
         })
     }
 
     // Notes that a write of this many bytes was made there.
     pub(crate) fn touch(&mut self, at: usize, size: usize)
-        ensures { (file : File) → IsKept self.old file → IsKept self.new (reached at size file.seen file) }
+        ensures kept { (file : File) → IsKept self.old file → IsKept self.new (reached at size file.seen file) }
+        ensures seen { self.new.seen ≡ self.old.seen }
+        ensures clean { self.new.clean ≤ at }
     {
         self.greatest = self.greatest.max(at as u128 + size as u128);
+        self.clean = self.clean.min(at);
         mark(&mut self.reached, at, size);
     }
 
-    pub(crate) fn write(&mut self, alloc: Global, at: usize, bytes: &[u8]) -> Result<(), AllocError>
+    pub(crate) fn write(&mut self, at: usize, bytes: &[u8]) -> Result<(), AllocError>
         requires { at ≤ length self.old.seen.items }
         ensures ok { OnOk result ((file : File) → IsKept self.old file → IsKept self.new (written at bytes.now file)) }
-        ensures err { OnErr result (self.new ≡ self.old) }
+        ensures err { OnErr result ((file : File) → IsKept self.old file → IsKept self.new file) }
     {
-        let next = overwrite(alloc, &self.seen, at, bytes)?;
+        make_room(&mut self.seen, at + bytes.len())?;
         self.touch(at, bytes.len());
-        self.seen = next;
-        Ok(())
+        overwrite(&mut self.seen, at, bytes)
     }
 
     // A write that fails, and leaves what the fill picks.
@@ -83,7 +92,8 @@ impl Kept {
         ensures err { OnErr result (self.new ≡ self.old) }
     {
         let left = self.bytes_torn(alloc, at, bytes, fill)?;
-        let next = overwrite(alloc, &self.seen, at, &left)?;
+        let mut next = self.seen.to_vec(alloc)?;
+        overwrite(&mut next, at, &left)?;
         let len = len_torn(number, self.seen.len(), next.len(), fill);
         let next = truncated(next, len);
         self.touch(at, bytes.len());
@@ -122,15 +132,19 @@ impl Kept {
         }
     }
 
+    // Takes what is read as what is on the disk. It writes again only what stands from `clean` on.
     pub(crate) fn settle(&mut self, alloc: Global) -> Result<(), AllocError>
         ensures ok { OnOk result ((file : File) → IsKept self.old file → IsKept self.new (synced file)) }
-        ensures err { OnErr result (self.new ≡ self.old) }
+        ensures err { OnErr result ((file : File) → IsKept self.old file → IsKept self.new file) }
     {
-        let base = self.seen.to_vec(alloc)?;
-        let reached = vec![in alloc; false; base.len()]?;
-        self.greatest = base.len() as u128;
-        self.base = base;
-        self.reached = reached;
+        let len = self.seen.len();
+        let marks = vec![in alloc; false; len - self.clean]?;
+        make_room(&mut self.base, len)?;
+        make_room(&mut self.reached, len)?;
+        replace_from(&mut self.base, self.clean, &self.seen[self.clean..]);
+        replace_from(&mut self.reached, self.clean, &marks);
+        self.greatest = len as u128;
+        self.clean = len;
         Ok(())
     }
 
@@ -223,7 +237,8 @@ fn within(low: u128, high: u128, len: u128) -> u128
 
 fn len_torn(number: usize, seen_len: usize, written_len: usize, fill: &Fill) -> usize
     requires { number < 4 }
-    ensures { (file : File) (at : ℕ) (bytes : List ℕ) → seen_len ≡ length file.seen → written_len ≡ max (length file.seen) (at + length bytes)
+    ensures low { seen_len ≤ written_len → seen_len ≤ result }
+    ensures exact { (file : File) (at : ℕ) (bytes : List ℕ) → seen_len ≡ length file.seen → written_len ≡ max (length file.seen) (at + length bytes)
         → result ≡ length_torn fill.now number at bytes file }
 {
     match fill {
@@ -234,7 +249,8 @@ fn len_torn(number: usize, seen_len: usize, written_len: usize, fill: &Fill) -> 
 }
 
 fn truncated(mut bytes: Vec<u8>, len: usize) -> Vec<u8>
-    ensures { result.items ≡ take len bytes.items }
+    ensures items { result.items ≡ take len bytes.items }
+    ensures bytes { AreBytes result.items }
 {
     bytes.truncate(len);
     bytes
@@ -250,15 +266,34 @@ fn mark(marks: &mut [bool], at: usize, size: usize)
     }
 }
 
-// The old bytes with these written over them from `at` on.
-fn overwrite(alloc: Global, old: &[u8], at: usize, bytes: &[u8]) -> Result<Vec<u8>, AllocError>
-    requires { at ≤ length old.now }
-    ensures { IfOk result (λ next. next.items ≡ overwritten at bytes.now old.now) }
+// Writes these bytes over the content from `at` on.
+fn overwrite(content: &mut Vec<u8>, at: usize, bytes: &[u8]) -> Result<(), AllocError>
+    requires { at ≤ length content.old.items }
+    ensures ok { OnOk result (content.new.items ≡ overwritten at bytes.now content.old.items) }
+    ensures err { OnErr result (content.new.items ≡ content.old.items) }
+    ensures full { OnErr result (vec_capacity content.old < at + length bytes.now) }
 {
-    let mut next = old[..at].to_vec(alloc)?;
-    next.extend_from_slice(bytes)?;
-    if bytes.len() < old.len() - at {
-        next.extend_from_slice(&old[at + bytes.len()..])?;
+    let over = bytes.len().min(content.len() - at);
+    content.extend_from_slice(&bytes[over..])?;
+    content[at..at + over].copy_from_slice(&bytes[..over]);
+    Ok(())
+}
+
+// Gets the memory for so many items in all.
+fn make_room<T>(items: &mut Vec<T>, len: usize) -> Result<(), AllocError>
+    ensures items { items.new.items ≡ items.old.items }
+    ensures room { OnOk result (len ≤ vec_capacity items.new) }
+{
+    items.reserve(len.saturating_sub(items.len()))
+}
+
+// Puts these items in the place of those from `at` on. There is memory for them.
+fn replace_from<T: Copy + Drop>(items: &mut Vec<T>, at: usize, rest: &[T])
+    requires { at + length rest.now ≤ vec_capacity items.old }
+    ensures { items.new.items ≡ take at items.old.items ++ rest.now }
+{
+    items.truncate(at);
+    if let Err(_) = items.extend_from_slice(rest) {
+        return;
     }
-    Ok(next)
 }

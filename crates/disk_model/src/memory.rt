@@ -94,8 +94,7 @@ impl MemDisk {
         ensures err { OnErr result (memory_failures self.new ≡ memory_failures self.old + 1) }
         ensures planned { planned_of self.new ≡ planned_of self.old }
     {
-        let alloc = self.alloc;
-        match self.files[file].write(alloc, at, bytes) {
+        match self.files[file].write(at, bytes) {
             Ok(()) => {
                 self.past = self.past.with(&Note::Wrote { file, at, bytes });
                 Ok(())

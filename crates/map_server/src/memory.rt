@@ -17,7 +17,9 @@ use map_types::{Command, Read, Refusal, Reply};
 use std::alloc::Global;
 use std::marker::Model;
 use stripe_locks::{Pass, Stripes};
-use ticket_order::{Entry, Held, Position, Released, Stepped, Steps, Walk, release, try_call, try_read};
+use ticket_order::{
+    Entry, Held, Position, Released, Stepped, Steps, Walk, release, try_call, try_read,
+};
 use wire_frames::Request;
 
 /// A map of 16 stripes in memory, with a journal on a disk. Its one pass makes the calls, commits each

@@ -9,7 +9,7 @@ returns-in-Ok-clause-took g c =
     let position_is : c.position.result ≡ c.in_ok-held.held.position = search rules in
     let stripe_is : c.stripe_of-stripe.result ≡ stripe_of (g.S.Steps.stripe_count c.args.steps.now) c.args.command.key = search rules in
     let logs : Logs (g.S.Steps.stripe_count c.args.steps.now) (g.S.Steps.recorded c.try_call.new.steps) (stripe_of (g.S.Steps.stripe_count c.args.steps.now) c.args.command.key) c.in_ok-held.held.position c.args.journal.now (g.S.Steps.recorded c.log_change.new.steps) c.log_change.new.journal =
-        rw (← position_is, ← stripe_is, ← c.in_ok-held.ensures.stripes) c.in-Ok.ensures.ok in
+    rw (← position_is, ← stripe_is, ← c.in_ok-held.ensures.stripes) c.in-Ok.ensures.ok in
     record {
       position = c.in_ok-held.held.position;
       made = g.S.Steps.recorded c.try_call.new.steps;
@@ -21,11 +21,14 @@ returns-in-Ok-clause-took g c =
 
 pub returns-in-Err-clause-took : goal.returns-in-Err-clause-took
 returns-in-Err-clause-took g c =
-    inr (refl, record {
-      position = c.in_ok-held.held.position;
-      reply = c.in_ok-held.held.reply;
-      made = g.S.Steps.recorded c.try_call.new.steps;
-      makes = c.in_ok-held.ensures.made;
-      uncommitted = c.in-Err.ensures.err;
-      failed = ap (λ (v : Record). v.failed) c.fail.ensures.step;
-    })
+    inr (
+      refl,
+      record {
+        position = c.in_ok-held.held.position;
+        reply = c.in_ok-held.held.reply;
+        made = g.S.Steps.recorded c.try_call.new.steps;
+        makes = c.in_ok-held.ensures.made;
+        uncommitted = c.in-Err.ensures.err;
+        failed = ap (λ (v : Record). v.failed) c.fail.ensures.step;
+      },
+    )

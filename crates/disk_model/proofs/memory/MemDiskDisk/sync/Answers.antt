@@ -21,6 +21,8 @@ invariant_of-self-in-Ok c =
 pub invariant_of-self-in-Err : goal.invariant_of-self-in-Err
 invariant_of-self-in-Err c =
     let old = c.args.self.now in
+    let file = now (states_of old.past.events) c.args.file in
     let holds : Holds old.files old.past.events = record { are = old.kept; coherent = old.coherent } in
-    let same = same_kept old.files old.past.events c.args.file c.settle.new.self c.requires holds c.index-self-file.result c.in-Err.ensures.err in
+    let is = c.in-Err.ensures.err file (old.kept.each c.args.file c.index-self-file.result c.requires) in
+    let same = same_kept old.files old.past.events c.args.file c.settle.new.self c.requires holds is in
     rw c.with-self-in-Err.ensures (record { kept = same; coherent = (now_coherent (states_of old.past.events) old.coherent, old.coherent) })
