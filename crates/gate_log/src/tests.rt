@@ -4,7 +4,7 @@ ghost use Rattle.store_layout.specs.Logs.{Batch};
 ghost use Rattle.gate_log.specs.Advancing.{MayAdvance};
 ghost use Rattle.gate_log.specs.Standing.{Stands};
 
-use crate::{GateLog, Phase, commit_staged};
+use crate::{Found, GateLog, Phase, Scan, commit_staged};
 use disk_model::{Disk, Failure, Fill, MemDisk};
 use log_records::record_len;
 use map_types::{Change, Command, Key, Refusal, Value};
@@ -220,4 +220,84 @@ fn a_full_log(rt: HostRuntime) -> Result<(), Fail> {
         Err(Refusal::LogFull)
     );
     Ok(())
+}
+
+// Stages two commands as the next batch.
+fn stage_two(log: &mut GateLog, one: Command, other: Command) -> Result<(), Refusal>
+    ensures stands { (batches : List Batch) (staged : List Batch) (file : File) → Stands log.old batches staged file → (later : List Batch) × Stands log.new batches later file }
+    ensures generation { log.new.generation ≡ log.old.generation }
+    ensures broken { log.new.is_broken ≡ log.old.is_broken }
+{
+    let ticket = log.committed();
+    if ticket > 1000 {
+        return Err(Refusal::TicketsSpent);
+    }
+    let _one_len = record_len(&one);
+    let _other_len = record_len(&other);
+    log.stage(&[
+        Entry {
+            ticket: Ticket::new(ticket),
+            command: one,
+        },
+        Entry {
+            ticket: Ticket::new(ticket + 1),
+            command: other,
+        },
+    ])
+}
+
+// Tickets 0 and 1 are committed; the frame of 2 and 3 is on the disk behind its closed gate.
+fn two_and_two<D: Disk>(alloc: Global, disk: &mut D) -> Result<GateLog, Refusal>
+    ensures { IfOk result (λ log. MayAdvance D.states D.honest log disk.new) }
+{
+    let mut log = begun(alloc, disk)?;
+    stage_two(&mut log, put(alloc)?, put(alloc)?)?;
+    advance_times(&mut log, disk, 4)?;
+    stage_two(&mut log, put(alloc)?, put(alloc)?)?;
+    advance_times(&mut log, disk, 2)?;
+    Ok(log)
+}
+
+// How many changes the log holds, as it is read.
+fn count_read(alloc: Global, disk: &mut MemDisk) -> Result<u64, Refusal> {
+    let mut scan = Scan::begin(disk, 0, 0)?;
+    for _frame in 0..10 {
+        if let Found::Closed = scan.next_frame(alloc, disk)? {
+            return Ok(scan.expected());
+        }
+    }
+    Err(Refusal::WrongPhase)
+}
+
+fn count_after_stop(alloc: Global, fill: &Fill) -> Result<u64, Refusal> {
+    let mut disk = MemDisk::new(alloc);
+    two_and_two(alloc, &mut disk)?;
+    if disk.stop(fill).is_err() {
+        return Err(Refusal::NoMemory);
+    }
+    count_read(alloc, &mut disk)
+}
+
+// A stop within the write that opens the gate leaves this byte there.
+fn count_after_gate(alloc: Global, byte: u8) -> Result<u64, Refusal> {
+    let mut disk = MemDisk::new(alloc);
+    let mut log = two_and_two(alloc, &mut disk)?;
+    disk.plan(Some(Failure {
+        after: 0,
+        fill: Fill::New,
+    }));
+    if log.advance(&mut disk) != Err(Refusal::Failed) || disk.stop(&Fill::Byte(byte)).is_err() {
+        return Err(Refusal::WrongPhase);
+    }
+    count_read(alloc, &mut disk)
+}
+
+#[test]
+fn what_a_stop_leaves_of_two_batches(rt: HostRuntime) {
+    for fill in [Fill::Old, Fill::New, Fill::Byte(0xA5)] {
+        assert_eq!(rt; count_after_stop(rt.alloc(), &fill), Ok(2));
+    }
+    for (byte, count) in [(0xA5, 4), (0, 2), (0x7F, 2)] {
+        assert_eq!(rt; count_after_gate(rt.alloc(), byte), Ok(count));
+    }
 }
