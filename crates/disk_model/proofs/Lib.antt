@@ -1,3 +1,5 @@
 pub mod FileLemmas
 pub mod FillLemmas
 pub mod MemoryLemmas
+pub mod MomentLemmas
+pub mod GateLemmas

@@ -5,3 +5,4 @@ pub mod Plans
 pub mod Events
 pub mod Memory
 pub mod Moments
+pub mod Gates

@@ -1,0 +1,4 @@
+pub mod Hands
+pub mod Gathering
+pub mod Sweeping
+pub mod Keeping

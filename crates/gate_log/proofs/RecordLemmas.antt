@@ -1,0 +1,42 @@
+-- The records of one entry more.
+use Rattle.std.proofs.Common.{◌≡◌, ℕ, ◌+◌, ◌<◌, List, [], ◌∷◌, ◌++◌, length, get_or, take, sym, ◌∙◌, ap, subst}
+use Rattle.std.specs.List.{AllByRecursion}
+use Rattle.std.proofs.lemmas.List.{take_more, map-append, length-map}
+use Rattle.byteorder.specs.Endian.{big_bytes}
+use Rattle.map_types.specs.declared.commands.Command.{Command}
+use Rattle.ticket_order.specs.declared.stripe.Entry.{Entry}
+use Rattle.log_records.specs.Layout.{first_layout}
+use Rattle.log_records.specs.Spelling.{IsCommand, record_bytes}
+use Rattle.store_layout.specs.Logs.{frame, records_bytes}
+use Rattle.store_layout.proofs.LogLemmas.{records_push}
+use Rattle.gate_log.specs.States.{batch_of, commands_of}
+
+pub commands_more : (entries : List Entry) (i : ℕ) (entry : Entry) → i < length entries → entry ≡ get_or entries i entry
+    → commands_of (take (i + 1) entries) ≡ commands_of (take i entries) ++ entry.command ∷ []
+commands_more entries i entry h is =
+    ap commands_of (take_more entries i entry h) ∙ map-append (λ (e : Entry). e.command) (take i entries) (get_or entries i entry ∷ [])
+    ∙ ap (λ (e : Entry). commands_of (take i entries) ++ e.command ∷ []) (sym is)
+
+pub records_more : (entries : List Entry) (i : ℕ) (entry : Entry) → i < length entries → entry ≡ get_or entries i entry
+    → records_bytes first_layout (commands_of (take (i + 1) entries)) ≡ records_bytes first_layout (commands_of (take i entries)) ++ record_bytes first_layout entry.command
+records_more entries i entry h is =
+    ap (records_bytes first_layout) (commands_more entries i entry h is) ∙ records_push first_layout (commands_of (take i entries)) entry.command
+
+push_all : (P : Command → Type 0) (commands : List Command) (command : Command) → AllByRecursion P commands → P command → AllByRecursion P (commands ++ command ∷ [])
+push_all P [] command all one = (one, tt)
+push_all P (x ∷ commands) command all one = (all.0, push_all P commands command all.1 one)
+
+pub fits_more : (entries : List Entry) (i : ℕ) (entry : Entry) → i < length entries → entry ≡ get_or entries i entry
+    → AllByRecursion (IsCommand first_layout) (commands_of (take i entries)) → IsCommand first_layout entry.command → AllByRecursion (IsCommand first_layout) (commands_of (take (i + 1) entries))
+fits_more entries i entry h is all one =
+    subst (λ (l : List Command). AllByRecursion (IsCommand first_layout) l) (sym (commands_more entries i entry h is)) (push_all (IsCommand first_layout) (commands_of (take i entries)) entry.command all one)
+
+-- the pieces of a frame and a closed gate, one after another
+pub frame_pieces : (first : ℕ) (entries : List Entry) (len count : ℕ) → len ≡ 12 + length (records_bytes first_layout (commands_of entries)) → count ≡ length entries
+    → (((([] ++ 1 ∷ []) ++ big_bytes 4 len) ++ big_bytes 8 first) ++ big_bytes 4 count) ++ records_bytes first_layout (commands_of entries) ++ 0 ∷ [] ≡ frame first_layout (batch_of first entries) ++ 0 ∷ []
+unfolding frame
+frame_pieces first entries len count len_is count_is =
+    let records = records_bytes first_layout (commands_of entries) in
+    let counted : count ≡ length (commands_of entries) = count_is ∙ sym (length-map entries (λ (e : Entry). e.command)) in
+    ap (λ n. (((([] ++ 1 ∷ []) ++ big_bytes 4 n) ++ big_bytes 8 first) ++ big_bytes 4 count) ++ records ++ 0 ∷ []) len_is
+    ∙ ap (λ n. (((([] ++ 1 ∷ []) ++ big_bytes 4 (12 + length records)) ++ big_bytes 8 first) ++ big_bytes 4 n) ++ records ++ 0 ∷ []) counted

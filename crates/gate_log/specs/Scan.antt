@@ -1,0 +1,1 @@
+-- What a scan of a log file finds.

@@ -1,0 +1,32 @@
+//! A whole commit.
+ghost use Rattle.std.specs.Prelude.{◌≡◌, ◌++◌, false, true, List, [], IfErr, OnOk};
+ghost use Rattle.disk_model.specs.Files.{now};
+ghost use Rattle.disk_model.specs.Moments.{AtEachMoment};
+ghost use Rattle.store_layout.specs.Logs.{Batch, log_file};
+ghost use Rattle.gate_log.specs.States.{log_after};
+ghost use Rattle.gate_log.specs.Standing.{Stands, IsKept};
+
+use crate::log::GateLog;
+use crate::phase::Phase;
+use disk_model::Disk;
+use map_types::Refusal;
+
+/// Commits what is staged, by four device calls: the frame is written behind the closed gate, synced,
+/// and then the gate is opened, and that is synced.
+pub fn commit_staged<D: Disk>(log: &mut GateLog, disk: &mut D) -> Result<(), Refusal>
+    requires phase { log.old.phase ≡ Phase.Staged }
+    requires works { log.old.is_broken ≡ false }
+    requires stands { D.honest disk.old → (batches : List Batch) × (staged : List Batch) × Stands log.old batches staged (now (D.states disk.old) (log_file log.old.generation)) }
+    ensures any_moment { (batches : List Batch) (staged : List Batch) → Stands log.old batches staged (now (D.states disk.old) (log_file log.old.generation))
+        → AtEachMoment D.states disk.old disk.new (IsKept log.old batches staged (now (D.states disk.old))) }
+    ensures ok { OnOk result (log.new ≡ log_after Phase.Opened log.old) }
+    ensures stands { OnOk result ((batches : List Batch) (staged : List Batch) → Stands log.old batches staged (now (D.states disk.old) (log_file log.old.generation))
+        → Stands log.new (batches ++ staged) [] (now (D.states disk.new) (log_file log.old.generation))) }
+    ensures err { IfErr result (λ refusal. (refusal ≡ Refusal.Failed) × (log.new.is_broken ≡ true) × (log.new.committed ≡ log.old.committed)) }
+{
+    let _written = log.advance(disk)?;
+    let _synced = log.advance(disk)?;
+    let _opened = log.advance(disk)?;
+    let _idle = log.advance(disk)?;
+    Ok(())
+}

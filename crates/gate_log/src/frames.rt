@@ -1,0 +1,83 @@
+//! The bytes that a log writes.
+ghost use Rattle.std.specs.Prelude.{◌≡◌, ◌≤◌, ◌<◌, ◌^◌, ◌+◌, ◌*◌, ◌++◌, ◌∷◌, [], length, ℕ, IfOk, OnOk, IfErr};
+ghost use Rattle.std.specs.List.{AllByRecursion};
+ghost use Rattle.log_records.specs.Layout.{first_layout};
+ghost use Rattle.log_records.specs.Spelling.{IsCommand};
+ghost use Rattle.store_layout.specs.Logs.{end_frame, frame, header, records_bytes};
+ghost use Rattle.gate_log.specs.States.{batch_of, commands_of};
+
+use log_records::{encode, put_number, record_len};
+use map_types::Refusal;
+use std::alloc::Global;
+use store_layout::{BATCH_KIND, CLOSED_GATE, END_KIND, VERSION};
+use ticket_order::Entry;
+
+/// A log's header, and a closed gate.
+pub(crate) fn header_and_gate(generation: u64, low: u64) -> [u8; 18]
+    ensures { result ≡ header generation low ++ 0 ∷ [] }
+{
+    let mut bytes = [CLOSED_GATE; 18];
+    bytes[0] = VERSION;
+    bytes[1..9].copy_from_slice(&generation.to_be_bytes());
+    bytes[9..17].copy_from_slice(&low.to_be_bytes());
+    bytes
+}
+
+/// The end frame, and a closed gate.
+pub(crate) fn end_frame_and_gate(next: u64) -> [u8; 14]
+    ensures { result ≡ end_frame next ++ 0 ∷ [] }
+{
+    let mut bytes = [END_KIND, 0, 0, 0, 8, 0, 0, 0, 0, 0, 0, 0, 0, CLOSED_GATE];
+    bytes[5..13].copy_from_slice(&next.to_be_bytes());
+    bytes
+}
+
+/// How many bytes the records of the entries take.
+fn records_len(entries: &[Entry]) -> usize
+    requires { length entries.now ≤ 65536 }
+    ensures len { result ≡ length (records_bytes first_layout (commands_of entries.now)) }
+    ensures bound { result ≤ 8455 * length entries.now }
+{
+    let mut len = 0;
+    for entry in entries {
+        len += record_len(&entry.command);
+    }
+    len
+}
+
+/// How many bytes the frame of a batch takes.
+pub(crate) fn frame_len(entries: &[Entry]) -> usize
+    requires { length entries.now ≤ 65536 }
+    ensures { (first : ℕ) → result ≡ length (frame first_layout (batch_of first entries.now)) }
+{
+    17 + records_len(entries)
+}
+
+/// Puts the records of the entries at the end, or some of them where no memory is found.
+fn append_records(entries: &[Entry], out: &mut Vec<u8>) -> Result<(), Refusal>
+    ensures ok { OnOk result (out.new.items ≡ out.old.items ++ records_bytes first_layout (commands_of entries.now)) }
+    ensures fits { OnOk result (AllByRecursion (IsCommand first_layout) (commands_of entries.now)) }
+    ensures err { IfErr result (λ refusal. refusal ≡ Refusal.NoMemory) }
+{
+    for entry in entries {
+        encode(&entry.command, out)?;
+    }
+    Ok(())
+}
+
+/// The frame of a batch, and a closed gate.
+pub(crate) fn batch_frame(alloc: Global, first: u64, entries: &[Entry]) -> Result<Vec<u8>, Refusal>
+    requires { length entries.now ≤ 65536 }
+    ensures ok { IfOk result (λ bytes. bytes.items ≡ frame first_layout (batch_of first entries.now) ++ 0 ∷ []) }
+    ensures fits { OnOk result (AllByRecursion (IsCommand first_layout) (commands_of entries.now)) }
+    ensures err { IfErr result (λ refusal. refusal ≡ Refusal.NoMemory) }
+{
+    let mut bytes = Vec::new(alloc);
+    bytes.push(BATCH_KIND)?;
+    put_number(4, 12 + records_len(entries) as u64, &mut bytes)?;
+    put_number(8, first, &mut bytes)?;
+    put_number(4, entries.len() as u64, &mut bytes)?;
+    append_records(entries, &mut bytes)?;
+    bytes.push(CLOSED_GATE)?;
+    Ok(bytes)
+}

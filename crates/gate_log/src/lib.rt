@@ -1,0 +1,16 @@
+//! The log of the committed batches: each batch stands behind a gate byte that is opened by a write of its own.
+#![tactic(auto)]
+
+mod commit;
+mod frames;
+mod laws;
+mod log;
+mod phase;
+mod scan;
+#[cfg(test)]
+mod tests;
+
+pub use commit::commit_staged;
+pub use laws::stops_of_a_log;
+pub use log::GateLog;
+pub use phase::Phase;

@@ -1,0 +1,1 @@
+// Reads a log file frame by frame.

@@ -1,0 +1,87 @@
+-- The bytes of a log file: a header, and then frames, each behind a gate.
+use Rattle.std.specs.Prelude.{◌≡◌, ◌≢◌, ℕ, ◌+◌, ◌%◌, ◌<◌, ◌≤◌, ◌^◌, List, [], ◌∷◌, ◌++◌, length}
+use Rattle.std.specs.List.{AllByRecursion}
+use Rattle.byteorder.specs.Endian.{big_bytes}
+use Rattle.map_types.specs.declared.commands.Command.{Command}
+use Rattle.log_records.specs.Layout.{Layout}
+use Rattle.log_records.specs.Spelling.{IsCommand, record_bytes}
+
+-- the number of the file that has the log of this generation
+abbrev pub log_file : ℕ → ℕ
+log_file generation = 2 + generation % 2
+
+-- the commands of consecutive tickets, and the first of these tickets
+pub record Batch : Type 0 where
+  pub first : ℕ
+  pub commands : List Command
+
+-- their records, one behind the other
+abbrev pub records_bytes : Layout → List Command → List ℕ
+records_bytes layout [] = []
+records_bytes layout (command ∷ commands) = record_bytes layout command ++ records_bytes layout commands
+
+-- kind, length of what follows, first ticket, count, records
+unfoldable pub frame : Layout → Batch → List ℕ
+frame layout batch =
+    1 ∷ (big_bytes 4 (12 + length (records_bytes layout batch.commands))
+    ++ (big_bytes 8 batch.first ++ (big_bytes 4 (length batch.commands) ++ records_bytes layout batch.commands)))
+
+-- kind, length of what follows, the generation of the next log
+unfoldable pub end_frame : ℕ → List ℕ
+end_frame next = 2 ∷ (big_bytes 4 8 ++ big_bytes 8 next)
+
+-- version, generation, low ticket
+unfoldable pub header : ℕ → ℕ → List ℕ
+header generation low = 1 ∷ (big_bytes 8 generation ++ big_bytes 8 low)
+
+-- the frames, each behind an open gate
+abbrev pub opened : Layout → List Batch → List ℕ
+opened layout [] = []
+opened layout (batch ∷ batches) = 165 ∷ (frame layout batch ++ opened layout batches)
+
+-- what stands before the gate behind these batches
+abbrev pub log_front : Layout → ℕ → ℕ → List Batch → List ℕ
+log_front layout generation low batches = header generation low ++ opened layout batches
+
+-- the commands of the batches, in order
+abbrev pub commands_in : List Batch → List Command
+commands_in [] = []
+commands_in (batch ∷ batches) = batch.commands ++ commands_in batches
+
+-- a batch that may stand in a log
+pub record IsBatch (layout : Layout) (batch : Batch) : Type 0 where
+  -- its first ticket and its count fit 64 bits together
+  pub fits : batch.first + length batch.commands < 2 ^ 64
+  pub some : 1 ≤ length batch.commands
+  pub few : length batch.commands ≤ 65536
+  -- the whole frame
+  pub short : length (frame layout batch) ≤ 1048576
+  pub well_formed : AllByRecursion (IsCommand layout) batch.commands
+
+-- batches that may stand in a log whose low ticket this is: none is skipped
+abbrev pub IsRun : Layout → ℕ → List Batch → Type 0
+IsRun layout low [] = Unit {0}
+IsRun layout low (batch ∷ batches) = IsBatch layout batch × (batch.first ≡ low) × IsRun layout (low + length batch.commands) batches
+
+-- the header's numbers fit 64 bits, and the batches may stand behind it
+pub record IsLog (layout : Layout) (generation low : ℕ) (batches : List Batch) : Type 0 where
+  pub generation_fits : generation < 2 ^ 64
+  pub low_fits : low < 2 ^ 64
+  pub in_order : IsRun layout low batches
+
+-- A log that goes on: its header, then open gate and frame any number of times, then a closed gate, then anything.
+pub record IsClosed (layout : Layout) (generation low : ℕ) (batches : List Batch) (content : List ℕ) : Type 0 where
+  pub gate : ℕ
+  pub rest : List ℕ
+  pub bytes : content ≡ log_front layout generation low batches ++ gate ∷ rest
+  pub closed : gate ≢ 165
+  pub log : IsLog layout generation low batches
+
+-- A log that has ended: its header, then open gate and frame any number of times, then an open gate and the end frame that names the next
+-- generation, then any one byte, then anything.
+pub record IsEnded (layout : Layout) (generation low : ℕ) (batches : List Batch) (next : ℕ) (content : List ℕ) : Type 0 where
+  pub after : ℕ
+  pub rest : List ℕ
+  pub bytes : content ≡ log_front layout generation low batches ++ 165 ∷ (end_frame next ++ after ∷ rest)
+  pub next_fits : next < 2 ^ 64
+  pub log : IsLog layout generation low batches

@@ -1,0 +1,50 @@
+//! What the bytes of the store's files mean. The definitions stand in the specs; here are their numbers.
+#![tactic(auto)]
+
+ghost use Rattle.std.specs.Prelude.{◌≡◌};
+ghost use Rattle.store_layout.specs.Logs as logs;
+
+/// The version byte of each file.
+pub const VERSION: u8 = 1;
+
+/// A gate is open where its byte is this one, and closed for every other byte.
+pub const OPEN_GATE: u8 = 0xA5;
+
+/// The byte that is written to close a gate.
+pub const CLOSED_GATE: u8 = 0;
+
+/// Version, generation and low ticket stand before a log's first gate.
+pub const HEADER_BYTES: usize = 17;
+
+/// The kind of a frame with records.
+pub const BATCH_KIND: u8 = 1;
+
+/// The kind of the frame that ends a log.
+pub const END_KIND: u8 = 2;
+
+/// The most records of a batch.
+pub const MOST_RECORDS: usize = 65_536;
+
+/// The most bytes of a batch's frame, with its kind and its length.
+pub const MOST_FRAME_BYTES: usize = 1_048_576;
+
+/// The most bytes that a log may have after a batch, with the gate behind it.
+pub const MOST_LOG_BYTES: usize = 1 << 40;
+
+/// The number of the file that has the log of this generation.
+pub fn log_file(generation: u64) -> usize
+    ensures { result ≡ logs.log_file generation }
+{
+    2 + (generation % 2) as usize
+}
+
+#[cfg(test)]
+mod tests {
+    use super::log_file;
+
+    #[test]
+    fn logs_take_turns(rt: HostRuntime) {
+        assert_eq!(rt; log_file(0), 2);
+        assert_eq!(rt; log_file(7), 3);
+    }
+}
