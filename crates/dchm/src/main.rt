@@ -13,6 +13,6 @@ fn main(rt: HostRuntime) -> io::Result<ExitCode> {
     let mut input = rt.reader();
     let mut output = io::writer(&rt);
     let mut error = rt.stderr();
-    let status = dchm(rt.alloc(), &words, &mut input, &mut output, &mut error);
+    let status = dchm(&rt, rt.alloc(), &words, &mut input, &mut output, &mut error);
     Ok(ExitCode::from(status))
 }

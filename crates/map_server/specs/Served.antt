@@ -1,5 +1,5 @@
 -- What a request that is served leaves of the record of the pass that serves it, and of the log.
-use Rattle.std.specs.Prelude.{◌≡◌, ◌⊎◌, ◌≤◌, ℕ, ◌+◌, Bool, true, false, None, Ok, Err, List}
+use Rattle.std.specs.Prelude.{◌≡◌, ◌≢◌, ◌⊎◌, ℕ, ◌+◌, Bool, true, false, None, Ok, Err, List, [], ◌∷◌}
 use Rattle.java_hash.specs.Stripes.{stripe_of}
 use Rattle.map_types.specs.declared.refusals.Refusal.{Refusal}
 use Rattle.map_types.specs.declared.refusals.Refusal.TheVariants as refusal_type
@@ -8,25 +8,44 @@ use Rattle.map_types.specs.declared.commands.Read as read_type
 use Rattle.map_types.specs.declared.commands.Reply.{Reply}
 use Rattle.ticket_order.specs.declared.stripe.Entry.{Entry}
 use Rattle.ticket_order.specs.declared.record.Record.{Record}
+use Rattle.ticket_order.specs.Records.{failing}
 use Rattle.ticket_order.specs.StepRules.{Publishes}
-use Rattle.ticket_order.specs.Calls.{MakesCall, MakesRead, RefusesChange, RefusesRead, Reaches, SweepsStripe}
+use Rattle.ticket_order.specs.Calls.{MakesCall, MakesRead, RefusesChange, RefusesRead, RefusesSweep, Reaches, SweepsStripe}
 use Rattle.gate_log.specs.States.{LogState}
 use Rattle.wire_frames.specs.declared.requests.Request.{Request}
 use Rattle.wire_frames.specs.declared.requests.Request.TheVariants.{Change, Read}
 use Rattle.map_server.specs.Dialogue.{Answer}
-use Rattle.map_server.specs.Journal.{MayCommit, CommitsNext, IsUncommitted}
+use Rattle.map_server.specs.Journal.{MayCommit, CannotCommit, CommitsNext}
 
 -- no call was added
 abbrev pub Refuses : ℕ → Record → Request → Refusal → Record → Type 0
 Refuses n v (Change command) refusal w = RefusesChange v (stripe_of n command.key) refusal w
 Refuses n v (Read read) refusal w = RefusesRead v (stripe_of n read.key) refusal w
 
+-- sweeps of stripe i were refused one after the other, and left these records, the newest first
+abbrev pub TriesSweep : ℕ → Record → List Record → Record → Type 0
+TriesSweep i v [] w = w ≡ v
+TriesSweep i v (left ∷ earlier) w = (w ≡ left) × ((before : Record) × (refusal : Refusal) × TriesSweep i v earlier before × RefusesSweep before i refusal left)
+
+-- sweeps of stripe i were refused, and then one took these entries
+pub record SweepsInTime (n : ℕ) (v : Record) (i : ℕ) (entries : List Entry) (w : Record) : Type 0 where
+  pub tries : List Record
+  pub tried : Record
+  pub refused : TriesSweep i v tries tried
+  pub sweeps : SweepsStripe n tried i entries w
+
 -- A sweep of stripe i took one entry, the one before this position, and it is committed in the log.
 pub record Logs (n : ℕ) (v : Record) (i position : ℕ) (old : LogState) (w : Record) (new : LogState) : Type 0 where
   pub entries : List Entry
-  pub sweeps : SweepsStripe n v i entries w
+  pub sweeps : SweepsInTime n v i entries w
   pub commits : CommitsNext old entries new
   pub position_is : position ≡ old.committed + 1
+
+-- A sweep of stripe i took these entries, and they are not committed: a device call has failed, the log is full, or the change with this position isn't its next.
+pub record LogsNone (n : ℕ) (v : Record) (i position : ℕ) (old : LogState) (w : Record) (new : LogState) : Type 0 where
+  pub entries : List Entry
+  pub sweeps : SweepsInTime n v i entries w
+  pub cannot : CannotCommit old entries new ⊎ ((new ≡ old) × (position ≢ old.committed + 1))
 
 -- The position was published, and a SEE reached it.
 pub record GivesOut (position : ℕ) (v w : Record) : Type 0 where
@@ -54,14 +73,15 @@ abbrev pub Serves : ℕ → Record → Request → Reply → LogState → Record
 Serves n v (Change command) reply old w new = ServesChange n v command reply old w new
 Serves n v (Read read) reply old w new = ServesRead n v read reply w × (new ≡ old)
 
--- The change was made, but could not be committed: the map has failed, and the outcome of the change is open.
+-- The change was made, but can't be committed: the pass makes a FAIL, and the outcome of the change is open.
 pub record LosesChange (n : ℕ) (v : Record) (command : Command) (old : LogState) (w : Record) (new : LogState) : Type 0 where
   pub position : ℕ
   pub reply : Reply
   pub made : Record
+  pub swept : Record
   pub makes : MakesCall n v command position reply made
-  pub uncommitted : IsUncommitted old new
-  pub failed : w.failed ≡ true
+  pub cannot : LogsNone n made (stripe_of n command.key) position old swept new
+  pub fails : w ≡ failing swept
 
 abbrev pub Loses : ℕ → Record → Request → LogState → Record → LogState → Type 0
 Loses n v (Change command) old w new = LosesChange n v command old w new

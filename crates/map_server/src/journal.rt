@@ -1,5 +1,5 @@
 //! The journal of a map in memory: a log in which each change is a batch of its own.
-ghost use Rattle.std.specs.Prelude.{◌≡◌, ◌≤◌, ◌∷◌, ◌++◌, [], ℕ, List, length, false, true, IfOk, IfErr, OnOk, OnErr};
+ghost use Rattle.std.specs.Prelude.{◌≡◌, ◌≤◌, ◌∷◌, ◌++◌, [], ℕ, List, length, false, true, IfOk, IfErr, OnOk, OnErr, IsTrue, ◌↔◌};
 ghost use Rattle.log_records.specs.Layout.{first_layout};
 ghost use Rattle.store_layout.specs.Logs.{Batch, frame};
 ghost use Rattle.disk_model.specs.Files.{File};
@@ -7,7 +7,7 @@ ghost use Rattle.gate_log.specs.Standing.{Stands};
 ghost use Rattle.gate_log.specs.States.{LogState, batch_of, begun, log_after, resumed};
 ghost use Rattle.gate_log.specs.Advancing.{MayAdvance};
 ghost use Rattle.gate_log.specs.declared.phase.Phase.TheVariants as phase;
-ghost use Rattle.map_server.specs.Journal.{committing, MayCommit, CommitsNext, IsUncommitted};
+ghost use Rattle.map_server.specs.Journal.{MayCommit, CannotCommit, CommitsNext, IsFullFor, IsNext};
 
 use disk_model::Disk;
 use gate_log::GateLog;
@@ -15,6 +15,7 @@ use log_records::record_len;
 use map_types::Refusal;
 use std::alloc::Global;
 use std::marker::Model;
+use std::sync::Wait;
 use ticket_order::Entry;
 
 /// A log on a disk. Contracts see its log.
@@ -71,23 +72,36 @@ fn one_change_fits(entry: &Entry)
     let _ = record_len(&entry.command);
 }
 
-/// Stages one entry where it is the log's next.
-fn stage_next(log: &mut GateLog, entries: &[Entry]) -> Result<(), Refusal>
-    requires may { MayCommit log.old }
-    ensures ok { OnOk result (log.new ≡ record log.old { phase = phase.Staged; count = length entries.now; frame = frame first_layout (batch_of log.old.committed entries.now) ++ 0 ∷ [] }) }
-    ensures next { OnOk result (CommitsNext log.old entries.now (committing log.old entries.now)) }
-    ensures staged { OnOk result ((batches : List Batch) (staged : List Batch) (file : File) → Stands log.old batches staged file → Stands log.new batches (batch_of log.old.committed entries.now ∷ []) file) }
-    ensures err { OnErr result (log.new ≡ log.old) }
+/// Whether this is one entry, the log's next.
+fn is_next(log: &GateLog, entries: &[Entry]) -> bool
+    ensures { IsTrue result ↔ IsNext log.now entries.now }
 {
     let [entry] = entries else {
-        return Err(Refusal::WrongPhase);
+        return false;
     };
     let next = log.committed();
-    if entry.ticket.number() != next || next == u64::MAX {
-        return Err(Refusal::WrongPhase);
+    entry.ticket.number() == next && next != u64::MAX
+}
+
+/// Stages the log's next entry. Where no memory is found it tries again.
+fn stage_in_time<R: Wait>(rt: &R, log: &mut GateLog, entries: &[Entry]) -> Result<(), Refusal>
+    requires may { MayCommit log.old }
+    requires next { IsNext log.old entries.now }
+    ensures ok { OnOk result (log.new ≡ record log.old { phase = phase.Staged; count = length entries.now; frame = frame first_layout (batch_of log.old.committed entries.now) ++ 0 ∷ [] }) }
+    ensures staged { OnOk result ((batches : List Batch) (staged : List Batch) (file : File) → Stands log.old batches staged file → Stands log.new batches (batch_of log.old.committed entries.now ∷ []) file) }
+    ensures err { OnErr result ((log.new ≡ log.old) × IsFullFor log.old entries.now) }
+{
+    if let [entry] = entries {
+        one_change_fits(entry);
     }
-    one_change_fits(entry);
-    log.stage(entries)
+    for _try in rt.forever() {
+        match log.stage(entries) {
+            Ok(()) => return Ok(()),
+            Err(Refusal::LogFull) => return Err(Refusal::LogFull),
+            Err(_refusal) => {}
+        }
+    }
+    unreachable!()
 }
 
 impl<D: Disk + Drop> Journal<D> {
@@ -110,13 +124,16 @@ impl<D: Disk + Drop> Journal<D> {
     }
 
     /// Commits one entry, where it is the log's next.
-    pub(crate) fn commit(&mut self, entries: &[Entry]) -> Result<(), Refusal>
+    pub(crate) fn commit<R: Wait>(&mut self, rt: &R, entries: &[Entry]) -> Result<(), Refusal>
         requires may { MayCommit self.old }
         ensures ok { OnOk result (CommitsNext self.old entries.now self.new) }
         ensures may { OnOk result (MayCommit self.new) }
-        ensures err { OnErr result (IsUncommitted self.old self.new) }
+        ensures err { OnErr result (CannotCommit self.old entries.now self.new) }
     {
-        stage_next(&mut self.log, entries)?;
+        if !is_next(&self.log, entries) {
+            return Err(Refusal::WrongPhase);
+        }
+        stage_in_time(rt, &mut self.log, entries)?;
         commit_staged(&mut self.log, &mut self.disk)
     }
 }

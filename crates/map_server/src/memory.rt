@@ -2,12 +2,12 @@
 ghost use Rattle.std.specs.Prelude.{◌≡◌, ◌≤◌, ◌<◌, ◌⊎◌, IfOk, IfErr, OnOk, OnErr, false};
 ghost use Rattle.java_hash.specs.Stripes.{stripe_of as stripe_of_key};
 ghost use Rattle.ticket_order.specs.Records.{reach};
-ghost use Rattle.ticket_order.specs.Calls.{RefusesRead, Reaches, SweepsStripe};
+ghost use Rattle.ticket_order.specs.Calls.{RefusesRead, RefusesSweep, Reaches, SweepsStripe};
 ghost use Rattle.stripe_locks.specs.Passes.{recorded, stripe_count, IsPassOf, IsSamePass};
 ghost use Rattle.wire_frames.specs.declared.requests.Request.TheVariants as request_type;
-ghost use Rattle.map_server.specs.Journal.{IsUncommitted, MayCommit};
+ghost use Rattle.map_server.specs.Journal.{MayCommit};
 ghost use Rattle.map_server.specs.Program.{empty_map};
-ghost use Rattle.map_server.specs.Served.{Took, ServesRead, GivesOut, IsReady, IsWorking, Logs, fails};
+ghost use Rattle.map_server.specs.Served.{Took, ServesRead, SweepsInTime, GivesOut, IsReady, IsWorking, Logs, LogsNone, fails};
 
 use crate::calls::Calls;
 use crate::journal::Journal;
@@ -16,6 +16,7 @@ use java_hash::{StripeCount, stripe_of};
 use map_types::{Command, Read, Refusal, Reply};
 use std::alloc::Global;
 use std::marker::Model;
+use std::sync::Wait;
 use stripe_locks::{Pass, Stripes};
 use ticket_order::{
     Entry, Held, Position, Released, Stepped, Steps, Walk, release, try_call, try_read,
@@ -23,10 +24,13 @@ use ticket_order::{
 use wire_frames::Request;
 
 /// A map of 16 stripes in memory, with a journal on a disk. Its one pass makes the calls, commits each
-/// change as a batch of its own, and publishes each position itself. Where a change can't be committed
-/// the map has failed, and each later call is refused with `Failed`.
+/// change as a batch of its own, and publishes each position itself. What is refused for want of memory
+/// once a change has its ticket is tried again until memory is found. Where a device call fails, or the
+/// log is full, the change can't be committed: the map has failed, and each later call is refused with
+/// `Failed`.
 #[derive(Drop)]
-pub struct Memory<D: Disk + Drop> {
+pub struct Memory<'a, D: Disk + Drop, R: Wait> {
+    rt: &'a R,
     alloc: Global,
     stripes: Stripes,
     pass: Pass,
@@ -34,7 +38,7 @@ pub struct Memory<D: Disk + Drop> {
     has_failed: bool,
 }
 
-impl<D: Disk + Drop> Model for Memory<D> {
+impl<'a, D: Disk + Drop, R: Wait> Model for Memory<'a, D, R> {
     ghost use Rattle.std.specs.Prelude.{◌≡◌, false};
     ghost use Rattle.stripe_locks.specs.Passes.{recorded, stripe_count, IsPassOf};
     ghost use Rattle.map_server.specs.Program.{MapState};
@@ -51,13 +55,14 @@ impl<D: Disk + Drop> Model for Memory<D> {
     ghost invariant = { λ memory. IsPassOf memory.stripes memory.pass × (memory.has_failed ≡ false → IsWorking (recorded memory.pass) memory.journal) };
 }
 
-/// Takes the entries out of a stripe.
-fn sweep<S: Steps>(steps: &mut S, alloc: Global, stripe: usize) -> Result<Vec<Entry>, Refusal>
+/// Takes the entries out of a stripe, where no other pass holds it.
+fn try_sweep<S: Steps>(steps: &mut S, alloc: Global, stripe: usize) -> Result<Vec<Entry>, Refusal>
     requires ready { IsReady (S.recorded steps.old) }
     requires within { stripe < S.stripe_count steps.old }
     ensures ok { IfOk result (λ entries. SweepsStripe (S.stripe_count steps.old) (S.recorded steps.old) stripe entries.items (S.recorded steps.new)) }
+    ensures err { IfErr result (λ refusal. RefusesSweep (S.recorded steps.old) stripe refusal (S.recorded steps.new)) }
     ensures ready { IsReady (S.recorded steps.new) }
-    ensures reached { OnOk result (reach (S.recorded steps.old) ≤ reach (S.recorded steps.new)) }
+    ensures reached { reach (S.recorded steps.old) ≤ reach (S.recorded steps.new) }
     ensures place { S.place steps.new ≡ S.place steps.old }
     ensures stripes { S.stripe_count steps.new ≡ S.stripe_count steps.old }
 {
@@ -72,8 +77,28 @@ fn sweep<S: Steps>(steps: &mut S, alloc: Global, stripe: usize) -> Result<Vec<En
     }
 }
 
+/// Takes the entries out of a stripe. A sweep that is refused is made again.
+fn sweep<S: Steps, R: Wait>(rt: &R, steps: &mut S, alloc: Global, stripe: usize) -> Vec<Entry>
+    requires ready { IsReady (S.recorded steps.old) }
+    requires within { stripe < S.stripe_count steps.old }
+    ensures swept { SweepsInTime (S.stripe_count steps.old) (S.recorded steps.old) stripe result.items (S.recorded steps.new) }
+    ensures ready { IsReady (S.recorded steps.new) }
+    ensures reached { reach (S.recorded steps.old) ≤ reach (S.recorded steps.new) }
+    ensures place { S.place steps.new ≡ S.place steps.old }
+    ensures stripes { S.stripe_count steps.new ≡ S.stripe_count steps.old }
+{
+    for _try in rt.forever() {
+        match try_sweep(steps, alloc, stripe) {
+            Ok(entries) => return entries,
+            Err(_refusal) => {}
+        }
+    }
+    unreachable!()
+}
+
 /// Commits the entry of the change with this position, which lies in the stripe.
-fn log_change<S: Steps, D: Disk + Drop>(
+fn log_change<S: Steps, D: Disk + Drop, R: Wait>(
+    rt: &R,
     steps: &mut S,
     alloc: Global,
     journal: &mut Journal<D>,
@@ -86,17 +111,17 @@ fn log_change<S: Steps, D: Disk + Drop>(
     requires some { 0 < position }
     ensures ok { OnOk result (Logs (S.stripe_count steps.old) (S.recorded steps.old) stripe position journal.old (S.recorded steps.new) journal.new) }
     ensures may { OnOk result (MayCommit journal.new) }
-    ensures err { OnErr result (IsUncommitted journal.old journal.new) }
+    ensures err { OnErr result (LogsNone (S.stripe_count steps.old) (S.recorded steps.old) stripe position journal.old (S.recorded steps.new) journal.new) }
     ensures ready { IsReady (S.recorded steps.new) }
-    ensures reached { OnOk result (reach (S.recorded steps.old) ≤ reach (S.recorded steps.new)) }
+    ensures reached { reach (S.recorded steps.old) ≤ reach (S.recorded steps.new) }
     ensures place { S.place steps.new ≡ S.place steps.old }
     ensures stripes { S.stripe_count steps.new ≡ S.stripe_count steps.old }
 {
+    let entries = sweep(rt, steps, alloc, stripe);
     if position.number() - 1 != journal.committed() {
         return Err(Refusal::WrongPhase);
     }
-    let entries = sweep(steps, alloc, stripe)?;
-    journal.commit(entries.as_slice())
+    journal.commit(rt, entries.as_slice())
 }
 
 /// Gives the reply of a position out that the pass has published: its SEE finds at least that.
@@ -130,7 +155,8 @@ fn give_out<S: Steps>(steps: &mut S, held: Held) -> Reply
 }
 
 /// Makes a change, commits it, publishes its position and gives its reply out.
-fn serve_change<S: Steps, D: Disk + Drop>(
+fn serve_change<S: Steps, D: Disk + Drop, R: Wait>(
+    rt: &R,
     steps: &mut S,
     alloc: Global,
     journal: &mut Journal<D>,
@@ -144,7 +170,7 @@ fn serve_change<S: Steps, D: Disk + Drop>(
 {
     let stripe = stripe_of(command.key.as_str(), steps.stripes());
     let held = try_call(steps, alloc, command)?;
-    match log_change(steps, alloc, journal, stripe, held.position()) {
+    match log_change(rt, steps, alloc, journal, stripe, held.position()) {
         Ok(()) => Ok(give_out(steps, held)),
         Err(_) => {
             steps.fail();
@@ -167,7 +193,8 @@ fn serve_read<S: Steps>(steps: &mut S, read: Read) -> Result<Reply, Refusal>
 }
 
 /// The answer to a request of a map that has not failed.
-fn answer<D: Disk + Drop>(
+fn answer<D: Disk + Drop, R: Wait>(
+    rt: &R,
     stripes: &Stripes,
     pass: &mut Pass,
     alloc: Global,
@@ -182,15 +209,15 @@ fn answer<D: Disk + Drop>(
 {
     let mut board = stripes.at(pass);
     match request {
-        Request::Change(command) => serve_change(&mut board, alloc, journal, command),
+        Request::Change(command) => serve_change(rt, &mut board, alloc, journal, command),
         Request::Read(read) => serve_read(&mut board, read),
     }
 }
 
-impl<D: Disk + Drop> Memory<D> {
+impl<'a, D: Disk + Drop, R: Wait> Memory<'a, D, R> {
     /// An empty map, with a new log on the disk. Refuses with `NoMemory`, with `Failed` where a device
     /// call fails, and with `SeatsSpent` where its stripes have no keeper's pass.
-    pub fn new(alloc: Global, disk: D) -> Result<Memory<D>, Refusal>
+    pub fn new(rt: &'a R, alloc: Global, disk: D) -> Result<Memory<'a, D, R>, Refusal>
         ensures empty { IfOk result (λ memory. memory ≡ empty_map) }
         ensures err { IfErr result (λ refusal. (refusal ≡ Refusal.NoMemory) ⊎ (refusal ≡ Refusal.Failed) ⊎ (refusal ≡ Refusal.SeatsSpent)) }
     {
@@ -204,6 +231,7 @@ impl<D: Disk + Drop> Memory<D> {
         }
         let journal = Journal::begin(alloc, disk)?;
         Ok(Memory {
+            rt,
             alloc,
             stripes,
             pass,
@@ -213,7 +241,7 @@ impl<D: Disk + Drop> Memory<D> {
     }
 }
 
-impl<D: Disk + Drop> Calls for Memory<D> {
+impl<D: Disk + Drop, R: Wait> Calls for Memory<'_, D, R> {
     ghost use Rattle.map_server.specs.Program.{Answered};
 
     ghost took = { Answered };
@@ -223,6 +251,7 @@ impl<D: Disk + Drop> Calls for Memory<D> {
             return Err(Refusal::Failed);
         }
         let answer = answer(
+            self.rt,
             &self.stripes,
             &mut self.pass,
             self.alloc,

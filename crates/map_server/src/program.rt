@@ -13,6 +13,7 @@ use disk_model::MemDisk;
 use map_types::Refusal;
 use std::alloc::{AllocError, Global};
 use std::io::{Read, Write};
+use std::sync::Wait;
 
 /// What a command line asks for.
 enum Order {
@@ -100,7 +101,8 @@ fn advise<W: Write, E: Write>(alloc: Global, advice: &Error, output: &mut W, err
 }
 
 /// Serves an empty map in memory on the streams.
-fn mem<R: Read, W: Write, E: Write>(
+fn mem<T: Wait, R: Read, W: Write, E: Write>(
+    rt: &T,
     alloc: Global,
     input: &mut R,
     output: &mut W,
@@ -108,7 +110,7 @@ fn mem<R: Read, W: Write, E: Write>(
 ) -> u8
     ensures { Serves (R.remaining input.old) (R.remaining input.new) (W.contents output.old) (W.contents output.new) result }
 {
-    let mut memory = match Memory::new(alloc, MemDisk::new(alloc)) {
+    let mut memory = match Memory::new(rt, alloc, MemDisk::new(alloc)) {
         Ok(memory) => memory,
         Err(refusal) => return refuse(alloc, refusal, error),
     };
@@ -124,7 +126,8 @@ fn mem<R: Read, W: Write, E: Write>(
 /// with `unreadable` on `error` where the input or the output fails, 1 with `refused` and the refusal on
 /// `error` where the map can't be begun or no memory is found to read, and 2 with a text on how to call the
 /// program on `error` for words that aren't known.
-pub fn dchm<R: Read, W: Write, E: Write>(
+pub fn dchm<T: Wait, R: Read, W: Write, E: Write>(
+    rt: &T,
     alloc: Global,
     words: &[String],
     input: &mut R,
@@ -134,7 +137,7 @@ pub fn dchm<R: Read, W: Write, E: Write>(
     ensures { Ran (map string_bytes words.now) (R.remaining input.old) (R.remaining input.new) (W.contents output.old) (W.contents output.new) result }
 {
     match order_of(alloc, words) {
-        Ok(Order::Mem) => mem(alloc, input, output, error),
+        Ok(Order::Mem) => mem(rt, alloc, input, output, error),
         Err(advice) => advise(alloc, &advice, output, error),
     }
 }

@@ -1,8 +1,9 @@
 //! The journal of the map in memory, on a disk that fails.
 use disk_model::{Failure, Fill, MemDisk};
 use map_server::{Calls, Memory, serve_connection};
-use map_types::{Change, Command, Key, Refusal, Value};
+use map_types::{Change, Command, Key, Question, Read, Refusal, Reply, Value};
 use std::alloc::Global;
+use std::sync::Wait;
 use std::test::Fail;
 use wire_frames::Request;
 
@@ -37,7 +38,7 @@ fn status<T: Drop>(answer: Result<T, Refusal>) -> u8 {
     }
 }
 
-fn put_status(memory: &mut Memory<MemDisk>, alloc: Global, number: i64) -> u8 {
+fn put_status<R: Wait>(memory: &mut Memory<MemDisk, R>, alloc: Global, number: i64) -> u8 {
     match put(alloc, number) {
         Ok(request) => status(memory.call(request)),
         Err(refusal) => refusal.number(),
@@ -47,7 +48,7 @@ fn put_status(memory: &mut Memory<MemDisk>, alloc: Global, number: i64) -> u8 {
 #[test]
 fn no_header(rt: HostRuntime) {
     for after in 0..HEADER_CALLS {
-        let memory = Memory::new(rt.alloc(), failing_disk(rt.alloc(), after));
+        let memory = Memory::new(&rt, rt.alloc(), failing_disk(rt.alloc(), after));
         assert_eq!(rt; status(memory), 9);
     }
 }
@@ -57,7 +58,7 @@ fn a_failure_at_each_device_call(rt: HostRuntime) -> Result<(), Refusal> {
     let alloc = rt.alloc();
     for call in 0..CHANGE_CALLS {
         let disk = failing_disk(alloc, HEADER_CALLS + CHANGE_CALLS + call);
-        let mut memory = Memory::new(alloc, disk)?;
+        let mut memory = Memory::new(&rt, alloc, disk)?;
         assert_eq!(rt; put_status(&mut memory, alloc, 5), 0);
         assert_eq!(rt; put_status(&mut memory, alloc, 6), 9);
         assert_eq!(rt; put_status(&mut memory, alloc, 7), 9);
@@ -74,10 +75,54 @@ const WAS_ABSENT_THEN_FAILED: &[u8] = b"\x00\x02\x00\x00\x00\x02\x89\x00";
 #[test]
 fn a_failure_ends_the_connection(rt: HostRuntime) -> Result<(), Fail> {
     let alloc = rt.alloc();
-    let mut memory = Memory::new(alloc, failing_disk(alloc, HEADER_CALLS + CHANGE_CALLS))?;
+    let mut memory = Memory::new(&rt, alloc, failing_disk(alloc, HEADER_CALLS + CHANGE_CALLS))?;
     let mut reader = PUT_TWICE;
     let mut writer = Vec::new(alloc);
     serve_connection(alloc, &mut reader, &mut writer, &mut memory)?;
     assert_eq!(rt; writer.as_slice(), WAS_ABSENT_THEN_FAILED);
     Ok(())
+}
+
+/// What `a` is mapped to: -1 for nothing, and below that one less than the negative number of a refusal.
+fn value_of<R: Wait>(memory: &mut Memory<MemDisk, R>, alloc: Global) -> i64 {
+    let key = match Key::new(alloc, "a") {
+        Ok(key) => key,
+        Err(refusal) => return -1 - i64::from(refusal.number()),
+    };
+    match memory.call(Request::Read(Read {
+        key,
+        question: Question::Get,
+    })) {
+        Ok(Reply::Now(Some(Value::Int(number)))) => number,
+        Ok(_) => -1,
+        Err(refusal) => -1 - i64::from(refusal.number()),
+    }
+}
+
+/// It passes too where any one allocation is refused: a call is refused and changes nothing, or is
+/// made; or it is a write of the disk that found no memory, and the map has failed.
+#[test]
+fn memory_that_is_refused(rt: HostRuntime) {
+    let alloc = rt.alloc();
+    let mut memory = match Memory::new(&rt, alloc, MemDisk::new(alloc)) {
+        Ok(memory) => memory,
+        Err(refusal) => {
+            assert!(rt; refusal.number() == 7 || refusal.number() == 9);
+            return;
+        }
+    };
+    let seen = (
+        put_status(&mut memory, alloc, 5),
+        put_status(&mut memory, alloc, 6),
+        value_of(&mut memory, alloc),
+    );
+    assert!(rt;
+        seen == (0, 0, 6)
+            || seen == (7, 0, 6)
+            || seen == (0, 7, 5)
+            || seen == (0, 0, -8)
+            || seen == (9, 9, -10)
+            || seen == (0, 9, -10),
+        "{seen:?}"
+    );
 }

@@ -14,7 +14,7 @@ use wire_frames::Request;
 fn requests_to_the_map_in_memory(rt: HostRuntime) -> Result<(), Refusal> {
     let alloc = rt.alloc();
     let mut dice = Dice { state: 17 };
-    let mut memory = Memory::new(alloc, MemDisk::new(alloc))?;
+    let mut memory = Memory::new(&rt, alloc, MemDisk::new(alloc))?;
     let mut reference = ReferenceMap::new(alloc);
     for turn in 0..10_000u32 {
         let (given, wanted) = if dice.below(4) == 0 {

@@ -8,8 +8,8 @@ use Rattle.map_server.proofs.journal.Journal.commit.Goals as goal
 pub commit_staged-requires-clause-stands : goal.commit_staged-requires-clause-stands
 commit_staged-requires-clause-stands g c = λ working honest.
     let old : LogState = c.self.inside.log in
-    let new : LogState = c.stage_next.new.log in
-    let same : new.generation ≡ old.generation = ap (λ (l : LogState). l.generation) c.in_ok-stage_next.ensures.ok in
+    let new : LogState = c.stage_in_time.new.log in
+    let same : new.generation ≡ old.generation = ap (λ (l : LogState). l.generation) c.in_ok-stage_in_time.ensures.ok in
     let was = c.self.invariant (rw c.self.view_is c.requires.may.working) honest in
     let batch = batch_of old.committed c.args.entries.now in
-    (was.0, batch ∷ [], subst (λ n. Stands new was.0 (batch ∷ []) (now (g.D.Disk.states c.self.inside.disk) (log_file n))) (sym same) (c.in_ok-stage_next.ensures.staged was.0 was.1 _ was.2))
+    (was.0, batch ∷ [], subst (λ n. Stands new was.0 (batch ∷ []) (now (g.D.Disk.states c.self.inside.disk) (log_file n))) (sym same) (c.in_ok-stage_in_time.ensures.staged was.0 was.1 _ was.2))
