@@ -4,6 +4,8 @@
 ghost use Rattle.std.specs.Prelude.{◌≡◌};
 ghost use Rattle.store_layout.specs.Logs as logs;
 
+pub mod laws;
+
 /// The version byte of each file.
 pub const VERSION: u8 = 1;
 
