@@ -1,14 +1,15 @@
 -- How a log, a history and sections grow.
-use Rattle.std.proofs.Common.{◌≡◌, ℕ, zero, suc, ◌+◌, ◌-◌, ◌≤◌, ◌<◌, max, Bool, true, false, cond, List, [], ◌∷◌, ◌++◌, length, take, drop, map, nat_le, refl, sym, ◌∙◌, ap, arith, append_assoc, length-append, length-drop, take-append-drop}
+use Rattle.std.proofs.Common.{◌≡◌, ℕ, zero, suc, ◌+◌, ◌-◌, ◌≤◌, ◌<◌, max, Bool, true, false, cond, List, [], ◌∷◌, ◌++◌, length, take, drop, map, refl, sym, ◌∙◌, ap, arith, append_assoc, length-append, length-drop, take-append-drop}
 use Rattle.std.proofs.lemmas.Bool.Decides.{nat_tests}
-use Rattle.std.proofs.lemmas.List.{drop_all, take_at, take-append-le, append-nil}
+use Rattle.std.proofs.lemmas.List.{drop_all, take_at, take-append-le}
 use Rattle.java_hash.specs.Stripes.{stripe_of}
 use Rattle.map_types.specs.declared.commands.Command.{Command}
 use Rattle.map_model.specs.Parts.{part_of, union_of}
 use Rattle.map_model.specs.Steps.{map_after}
 use Rattle.map_model.specs.Histories.{History, fold_to}
 use Rattle.map_model.proofs.FoldLaws.{map_after-append}
-use Rattle.store_layout.specs.Standing.{Section, counts, counted, restored, grown, AreMarks, IsNextOf}
+use Rattle.store_layout.specs.Checkpoints.{Section}
+use Rattle.store_layout.specs.Standing.{counts, counted, restored, AreMarks, IsNextOf}
 use Rattle.store_layout.specs.Laws.{PartsAndLogRestore, RestoringGoesOn, RestoringStays, OpeningRestores, LogsBegin, LogsAreOpened, LogsGoOn, LogsStay, NextStays, PartsStay, PartsGoOn, MarksGoOn, MarksWiden}
 use Rattle.store_layout.proofs.Restoring.{restored_is_fold, mark_between, has_section, take_past}
 
@@ -75,7 +76,7 @@ restores_on h n low xs log new stand next =
     let size : length (log ++ new) ≡ length log + length new = length-append log new in
     let within = has_section n xs stand.one_each stand.some in
     let past : counted n xs (low + length log) new ≡ new = counted_past n xs (low + length log) new (marks_widen low (low + length log) 0 (low + length log) xs (omega arith) (omega arith) stand.marks) within in
-    let m = union_of (map (λ section. section.entries) xs) in
+    let m = union_of (map (λ section. section.map) xs) in
     let all : length h.commands ≡ length next.front + (length new + length next.back) =
     ap (λ (l : List Command). length l) next.commands ∙ length-append next.front (new ++ next.back) ∙ ap (λ i. length next.front + i) (length-append new next.back) in
     record {

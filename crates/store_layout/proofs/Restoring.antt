@@ -1,6 +1,6 @@
 -- The map that sections and a log give, when both are of one history.
-use Rattle.std.proofs.Common.{◌≡◌, ◌≢◌, ℕ, zero, suc, ◌+◌, ◌-◌, ◌≤◌, ◌<◌, max, Bool, true, false, cond, Option, None, Some, List, [], ◌∷◌, ◌++◌, length, take, drop, map, nat_le, eqb, refl, sym, ◌∙◌, ap, ap₂, subst, arith, append_assoc, length-append, length-drop, take-append-drop}
-use Rattle.std.proofs.lemmas.Bool.{ne_eqb, eqb-true, eqb-false}
+use Rattle.std.proofs.Common.{◌≡◌, ℕ, zero, suc, ◌+◌, ◌-◌, ◌≤◌, ◌<◌, max, Bool, true, false, cond, Option, None, Some, List, [], ◌∷◌, ◌++◌, length, take, drop, map, nat_le, refl, sym, ◌∙◌, ap, ap₂, subst, arith, append_assoc, length-drop, take-append-drop}
+use Rattle.std.proofs.lemmas.Bool.{ne_eqb, eqb-true}
 use Rattle.std.proofs.lemmas.Bool.Decides.{nat_tests}
 use Rattle.std.proofs.lemmas.List.{drop_all, drop-drop, take_at, take-append-le}
 use Rattle.std.specs.Ordering.{nat_cmp, eq_by_cmp}
@@ -18,7 +18,8 @@ use Rattle.map_model.specs.Histories.{History, fold_to}
 use Rattle.map_model.proofs.MapLaws.{same_gets, get-part_of}
 use Rattle.map_model.proofs.FoldLaws.{map_after-append, part_of-map_after}
 use Rattle.map_model.proofs.UnionLaws.{or_else}
-use Rattle.store_layout.specs.Standing.{Section, mark_of, counts, counted, restored, AreParts, AreMarks, IsLogOf}
+use Rattle.store_layout.specs.Checkpoints.{Section}
+use Rattle.store_layout.specs.Standing.{mark_of, counts, counted, restored, AreParts, AreMarks, IsLogOf}
 
 -- ---- the commands that count, stripe by stripe
 
@@ -93,18 +94,18 @@ find-append q (x ∷ xs) ys =
     ∙ or_else-cond (eq_by_cmp (slice_cmp nat_cmp) q x.0) x.1 (find_in q xs) (find_in q ys)
 
 abbrev maps_of : List Section → List Map
-maps_of sections = map (λ section. section.entries) sections
+maps_of sections = map (λ section. section.map) sections
 
 module _ (h : History) (n : ℕ) where
   entries_in : List Section → List (List ℕ × Value)
   entries_in xs = flat_map finite.entries (maps_of xs)
 
-  find-more : (at : ℕ) (x : Section) (xs : List Section) (q : List ℕ) → x.entries ≡ part_of n at (fold_to h x.mark)
+  find-more : (at : ℕ) (x : Section) (xs : List Section) (q : List ℕ) → x.map ≡ part_of n at (fold_to h x.mark)
       → find_in q (entries_in (x ∷ xs)) ≡ or_else (cond (is_in_stripe n at q) (finite.get (fold_to h x.mark) q) None) (find_in q (entries_in xs))
   unfolding entries_in find_in
   find-more at x xs q is =
-      find-append q (finite.entries x.entries) (entries_in xs)
-      ∙ ap (λ o. or_else o (find_in q (entries_in xs))) (sym (finite.get-entries x.entries q) ∙ ap (λ m. finite.get m q) is ∙ get-part_of n at (fold_to h x.mark) q)
+      find-append q (finite.entries x.map) (entries_in xs)
+      ∙ ap (λ o. or_else o (find_in q (entries_in xs))) (sym (finite.get-entries x.map q) ∙ ap (λ m. finite.get m q) is ∙ get-part_of n at (fold_to h x.mark) q)
 
   none_below : (at : ℕ) (xs : List Section) (q : List ℕ) → AreParts h n at xs → stripe_of n q < at → find_in q (entries_in xs) ≡ None
   unfolding entries_in find_in

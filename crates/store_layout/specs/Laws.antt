@@ -3,7 +3,8 @@ use Rattle.std.specs.Prelude.{◌≡◌, ℕ, ◌+◌, ◌≤◌, ◌<◌, max, 
 use Rattle.map_types.specs.declared.commands.Command.{Command}
 use Rattle.map_model.specs.Parts.{part_of}
 use Rattle.map_model.specs.Histories.{History, fold_to}
-use Rattle.store_layout.specs.Standing.{Section, restored, reach, grown, AreParts, AreMarks, IsLogOf, IsNextOf, Restores}
+use Rattle.store_layout.specs.Checkpoints.{Section}
+use Rattle.store_layout.specs.Standing.{restored, reach, grown, AreParts, AreMarks, IsLogOf, IsNextOf, Restores}
 
 -- Sections that are parts of the history at their marks, and a log of the same history that reaches the marks, give the map where the log ends.
 abbrev pub PartsAndLogRestore : Type 0
@@ -54,7 +55,7 @@ PartsStay = (h : History) (stripes from : ℕ) (sections : List Section) (more :
 -- one part more, and its mark
 abbrev pub PartsGoOn : Type 0
 PartsGoOn = (h : History) (stripes from : ℕ) (sections : List Section) (next : Section) → AreParts h stripes from sections →
-    next.entries ≡ part_of stripes (from + length sections) (fold_to h next.mark) → AreParts h stripes from (sections ++ next ∷ [])
+    next.map ≡ part_of stripes (from + length sections) (fold_to h next.mark) → AreParts h stripes from (sections ++ next ∷ [])
 
 abbrev pub MarksGoOn : Type 0
 MarksGoOn = (low high : ℕ) (sections : List Section) (next : Section) → AreMarks low high sections → low ≤ next.mark → next.mark ≤ high → AreMarks low high (sections ++ next ∷ [])

@@ -1,3 +1,4 @@
+pub mod Checkpoints
 pub mod Laws
 pub mod Logs
 pub mod Standing

@@ -6,11 +6,7 @@ use Rattle.map_model.specs.Maps.{Map}
 use Rattle.map_model.specs.Parts.{part_of, union_of}
 use Rattle.map_model.specs.Steps.{map_after}
 use Rattle.map_model.specs.Histories.{History, fold_to}
-
--- the entries of a stripe, as they were after the first `mark` commands
-pub record Section : Type 0 where
-  pub mark : ℕ
-  pub entries : Map
+use Rattle.store_layout.specs.Checkpoints.{Section}
 
 -- ---- the map that they give
 
@@ -31,7 +27,7 @@ counted stripes sections ticket (command ∷ commands) =
 
 -- the union of the sections, changed by the commands that count; the first of the commands has the ticket `low`
 abbrev pub restored : ℕ → List Section → ℕ → List Command → Map
-restored stripes sections low log = map_after (union_of (map (λ section. section.entries) sections)) (counted stripes sections low log)
+restored stripes sections low log = map_after (union_of (map (λ section. section.map) sections)) (counted stripes sections low log)
 
 -- ---- sections and commands of one history
 
@@ -46,7 +42,7 @@ grown h more = record { first = h.first; opening = h.opening; commands = h.comma
 -- each section, the first for the stripe `from`, is the part of its stripe at its mark
 abbrev pub AreParts : History → ℕ → ℕ → List Section → Type 0
 AreParts h stripes from [] = Unit {0}
-AreParts h stripes from (section ∷ sections) = (section.entries ≡ part_of stripes from (fold_to h section.mark)) × AreParts h stripes (from + 1) sections
+AreParts h stripes from (section ∷ sections) = (section.map ≡ part_of stripes from (fold_to h section.mark)) × AreParts h stripes (from + 1) sections
 
 -- each mark is between these
 abbrev pub AreMarks : ℕ → ℕ → List Section → Type 0
