@@ -187,11 +187,10 @@ next_stays h ticket new more next = record {
 
 pub parts_grown : PartsStay
 parts_grown h n at [] more marks parts = tt
-parts_grown h n at (x ∷ xs) more marks parts =
-    (
-      parts.0 ∙ ap (λ cs. part_of n at (map_after h.opening cs)) (sym (take-append-le (x.mark - h.first) h.commands more (omega (arith, marks.0, marks.1)))),
-      parts_grown h n (at + 1) xs more marks.2 parts.1,
-    )
+parts_grown h n at (x ∷ xs) more marks parts = (
+  parts.0 ∙ ap (λ cs. part_of n at (map_after h.opening cs)) (sym (take-append-le (x.mark - h.first) h.commands more (omega (arith, marks.0, marks.1)))),
+  parts_grown h n (at + 1) xs more marks.2 parts.1,
+)
 
 pub parts_push : PartsGoOn
 parts_push h n at [] x parts is = (is ∙ ap (λ s. part_of n s (fold_to h x.mark)) (omega arith), tt)

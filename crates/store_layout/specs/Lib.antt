@@ -1,4 +1,7 @@
 pub mod Checkpoints
+pub mod Faults
 pub mod Laws
 pub mod Logs
+pub mod Opening
+pub mod Readings
 pub mod Standing
