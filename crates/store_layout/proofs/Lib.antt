@@ -1,3 +1,5 @@
+pub mod FrameLemmas
 pub mod Growing
 pub mod LogLemmas
+pub mod ReadingLemmas
 pub mod Restoring
