@@ -1,3 +1,4 @@
+pub mod CheckpointFields
 pub mod EntryRows
 pub mod FrameLemmas
 pub mod Growing
