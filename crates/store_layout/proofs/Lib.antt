@@ -3,6 +3,7 @@ pub mod EntryRows
 pub mod FrameLemmas
 pub mod Growing
 pub mod LogLemmas
+pub mod LogOutcomes
 pub mod ReadingLemmas
 pub mod Restoring
 pub mod SectionRows

@@ -10,7 +10,7 @@ use Rattle.store_layout.proofs.FrameLemmas.{same_rest, same_number, same_frames,
 abbrev Stops : Layout → ℕ → List ℕ → Type 0
 Stops layout expected tail = (batch : Batch) (after : ℕ) (behind : List ℕ) → IsBatch layout batch → batch.first ≡ expected → tail ≡ 165 ∷ (frame layout batch ++ after ∷ behind) → ⊥
 
-begins : (layout : Layout) (batches : List Batch) (x : ℕ) (xs : List ℕ) → (after : ℕ) × (behind : List ℕ) × (opened layout batches ++ x ∷ xs ≡ after ∷ behind)
+pub begins : (layout : Layout) (batches : List Batch) (x : ℕ) (xs : List ℕ) → (after : ℕ) × (behind : List ℕ) × (opened layout batches ++ x ∷ xs ≡ after ∷ behind)
 begins layout [] x xs = (x, xs, refl)
 begins layout (batch ∷ batches) x xs = (165, (frame layout batch ++ opened layout batches) ++ x ∷ xs, refl)
 
