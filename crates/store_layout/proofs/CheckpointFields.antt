@@ -1,16 +1,15 @@
 -- A sealed checkpoint reads as what it is, and as nothing else.
-use Rattle.std.proofs.Common.{◌≡◌, ◌≢◌, ◌⊎◌, inl, inr, ◌≤◌, ◌<◌, ℕ, ◌+◌, ◌%◌, ◌^◌, max, Bool, true, false, not, cond, ◌&&◌, ◌==◌, nat_le, nat_lt, eqb, Option, None, Some, List, [], ◌∷◌, ◌++◌, length, take, drop, refl, sym, ap, ap₂, subst, ◌∙◌, append_assoc, arith}
+use Rattle.std.proofs.Common.{◌≡◌, ◌≢◌, ◌⊎◌, inl, inr, ◌<◌, ℕ, ◌+◌, ◌%◌, ◌^◌, Bool, true, false, not, cond, ◌&&◌, ◌==◌, nat_le, nat_lt, None, Some, List, [], ◌∷◌, ◌++◌, length, take, drop, refl, sym, ap, ap₂, subst, ◌∙◌, arith}
 use Rattle.std.proofs.lemmas.Bool.Decides.{nat_tests}
 use Rattle.std.proofs.lemmas.List.{length-append}
 use Rattle.std.proofs.Math.Seq.{take-append_seam}
-use Rattle.std.specs.List.{AllByRecursion}
-use Rattle.byteorder.specs.Endian.{big_number, big_bytes}
-use Rattle.byteorder.specs.Numbers.{big_number-reads_back, length-bytes_high_first}
+use Rattle.byteorder.specs.Endian.{big_bytes}
+use Rattle.byteorder.specs.Numbers.{big_number-reads_back}
 use Rattle.java_hash.specs.Stripes.{is_stripe_count}
 use Rattle.map_types.specs.declared.refusals.Refusal.{Refusal}
 use Rattle.map_types.specs.declared.refusals.Refusal.TheVariants.{Damaged, WrongVersion}
 use Rattle.log_records.specs.Layout.{Layout, IsLayout}
-use Rattle.store_layout.specs.Checkpoints.{Section, Checkpoint, checkpoint_bytes, checkpoint_header, sections_bytes, greatest_mark, AreSections, AreMarkedFrom, IsWhole, IsCheckpoint, is_sealed}
+use Rattle.store_layout.specs.Checkpoints.{Section, Checkpoint, checkpoint_bytes, checkpoint_header, sections_bytes, greatest_mark, AreSections, AreMarkedFrom, IsCheckpoint, is_sealed}
 use Rattle.store_layout.specs.Faults.{version_in, generation_in, low_in, greatest_in, stripes_in, body_length_in, body_in, head_fault, size_fault, HasFault, HasBadMarks, IsBadCheckpoint, bad_size, bad_section, bad_marks}
 use Rattle.store_layout.proofs.SectionRows.{same_sections, no_fault, one_fault}
 

@@ -1,13 +1,12 @@
 -- The logs of a checkpoint read in one way.
-use Rattle.std.proofs.Common.{◌≡◌, ◌≢◌, ◌≤◌, ◌<◌, ℕ, ◌+◌, ◌^◌, Bool, true, false, cond, nat_lt, Option, None, Some, List, [], ◌∷◌, ◌++◌, length, Result, Ok, Err, refl, sym, ap, ap₂, subst, ◌∙◌, append_assoc, arith}
+use Rattle.std.proofs.Common.{◌≡◌, ◌≤◌, ◌<◌, ℕ, ◌+◌, true, false, cond, nat_lt, Option, None, Some, List, ◌∷◌, ◌++◌, length, Result, Ok, Err, refl, sym, ap, ap₂, subst, ◌∙◌, append_assoc, arith}
 use Rattle.std.proofs.lemmas.Bool.Decides.{nat_tests}
 use Rattle.std.proofs.lemmas.List.{length-append}
 use Rattle.byteorder.specs.Endian.{big_bytes}
 use Rattle.byteorder.specs.Numbers.{length-bytes_high_first}
 use Rattle.map_types.specs.declared.refusals.Refusal.{Refusal}
-use Rattle.map_types.specs.declared.refusals.Refusal.TheVariants.{Damaged, WrongVersion}
 use Rattle.log_records.specs.Layout.{Layout, IsLayout, first_layout}
-use Rattle.store_layout.specs.Logs.{Batch, IsLog, IsClosed, IsEnded, commands_in, end_frame, header, log_file, log_front, opened}
+use Rattle.store_layout.specs.Logs.{Batch, IsLog, end_frame, header, log_file, log_front, opened}
 use Rattle.store_layout.specs.Checkpoints.{Checkpoint, greatest_mark}
 use Rattle.store_layout.specs.Readings.{HasHeader, IsBadHeader, too_short, wrong_version, wrong_generation, wrong_low, Reading, closed, ended, broken, Reads}
 use Rattle.store_layout.specs.Opening.{Contents, next_low, newest_by, logged_by, AreLogs, damage_behind, AreBadLogs, bad_header, bad_frame, bad_next_header, bad_next_frame, second_end, below_mark}

@@ -1,19 +1,19 @@
 -- Opening gives one thing: what the files stand for, or a refusal.
-use Rattle.std.proofs.Common.{◌≡◌, ◌⊎◌, inl, inr, ◌≤◌, ◌<◌, ℕ, zero, suc, ◌+◌, ◌%◌, max, Bool, true, false, not, cond, ◌&&◌, nat_lt, Option, None, Some, List, [], ◌∷◌, ◌++◌, length, Result, Ok, Err, refl, sym, ap, ap₂, subst, ◌∙◌, arith}
-use Rattle.std.proofs.lemmas.Bool.{cases_lt}
+use Rattle.std.proofs.Common.{◌≡◌, ◌⊎◌, inl, inr, ◌≤◌, ◌<◌, ℕ, ◌+◌, ◌%◌, Bool, true, false, not, cond, ◌&&◌, ◌==◌, nat_le, nat_lt, Option, None, Some, List, [], ◌∷◌, length, Result, Ok, Err, refl, sym, ap, ap₂, subst, ◌∙◌, arith}
+use Rattle.std.proofs.lemmas.Bool.{eqb-true, ne_eqb}
 use Rattle.std.proofs.lemmas.Bool.Decides.{nat_tests}
-use Rattle.std.specs.List.{AllByRecursion}
 use Rattle.java_hash.specs.Stripes.{is_stripe_count}
 use Rattle.map_types.specs.declared.refusals.Refusal.{Refusal}
-use Rattle.map_types.specs.declared.refusals.Refusal.TheVariants.{NotFormatted}
+use Rattle.map_types.specs.declared.refusals.Refusal.TheVariants.{Damaged, NotFormatted, WrongVersion}
 use Rattle.map_model.specs.Maps.{Map}
-use Rattle.map_model.specs.Histories.{History, fold_to}
+use Rattle.map_model.specs.Histories.{History}
 use Rattle.log_records.specs.Layout.{first_layout}
 use Rattle.store_layout.specs.Logs.{Batch}
 use Rattle.store_layout.specs.Checkpoints.{Section, Checkpoint, IsCheckpoint, checkpoint_file, greatest_mark, AreMarkedFrom, is_sealed}
 use Rattle.store_layout.specs.Standing.{AreMarks, Restores}
-use Rattle.store_layout.specs.Faults.{generation_in, head_fault, IsBadCheckpoint}
+use Rattle.store_layout.specs.Faults.{generation_in, head_fault, version_in}
 use Rattle.store_layout.specs.Opening.{Contents, Opened, log_of, prefix_of, map_of, history_of, IsOlder, Holds, StandsFor, StandsForFront, first_fault, heads_fault, newest_file, Refuses, bad_heads, bad_checkpoint, bad_logs, Opens}
+use Rattle.store_layout.specs.OpeningLaws.{OlderCheckpoint, ShutIsUnsealed, UsedIsHeld}
 use Rattle.store_layout.proofs.Growing.{restores_opened}
 use Rattle.store_layout.proofs.CheckpointFields.{has_generation, sealed, has_head, one_checkpoint, never_bad, one_bad}
 use Rattle.store_layout.proofs.LogOutcomes.{first_room, LogsGive, one_give, good_logs, bad_logs_give}
@@ -45,8 +45,7 @@ module _ (contents : Contents) (k : Checkpoint) where
   -- the checkpoint in the first file is used
   first_used : IsCheckpoint first_layout k (contents 0) → k.generation % 2 ≡ 0 → IsOlder k.generation 1 (contents 1) → (heads_fault contents ≡ None) × (newest_file contents ≡ 0)
   first_used is parity older =
-      let s = sealed first_layout k (contents 0) is in
-      (
+      let s = sealed first_layout k (contents 0) is in (
         no_faults (is_sealed (contents 0)) (is_sealed (contents 1)) (head_fault 0 (contents 0)) (head_fault 1 (contents 1)) (inl s) (has_head first_layout k (contents 0) is 0 parity) (older_head k.generation 1 (contents 1) older),
         by_age (is_sealed (contents 0)) (is_sealed (contents 1)) s older,
       )
@@ -62,8 +61,7 @@ module _ (contents : Contents) (k : Checkpoint) where
   -- the one in the second
   second_used : IsCheckpoint first_layout k (contents 1) → k.generation % 2 ≡ 1 → IsOlder k.generation 0 (contents 0) → (heads_fault contents ≡ None) × (newest_file contents ≡ 1)
   second_used is parity older =
-      let t = sealed first_layout k (contents 1) is in
-      (
+      let t = sealed first_layout k (contents 1) is in (
         no_faults (is_sealed (contents 0)) (is_sealed (contents 1)) (head_fault 0 (contents 0)) (head_fault 1 (contents 1)) (inr t) (older_head k.generation 0 (contents 0) older) (has_head first_layout k (contents 1) is 1 parity),
         by_age (is_sealed (contents 0)) (is_sealed (contents 1)) t older,
       )
@@ -200,3 +198,113 @@ restored_stands h contents found holds restores = record {
   from_least = omega arith;
   to_most = omega arith;
 }
+
+-- ---- what is used
+
+-- a head without a fault
+head_parity : (file : ℕ) (content : List ℕ) → is_sealed content ≡ true → head_fault file content ≡ None → generation_in content % 2 ≡ file
+head_parity file content s e = parity_by (is_sealed content) (version_in content == 1) (generation_in content % 2) file s e
+  where
+    parity_by : (s one : Bool) (parity file : ℕ) → s ≡ true → cond (not s) None (cond (not one) (Some WrongVersion) (cond (not (parity == file)) (Some (Damaged file 2)) None)) ≡ None → parity ≡ file
+    parity_by false one parity file s e = absurd cc
+    parity_by true false parity file s e = absurd (some_not_none WrongVersion e)
+    parity_by true true parity file s e = same (parity == file) refl e
+      where
+        same : (b : Bool) → (parity == file) ≡ b → cond (not b) (Some (Damaged file 2)) None ≡ None → parity ≡ file
+        same true is e = eqb-true _ _ is
+        same false is e = absurd (some_not_none (Damaged file 2) e)
+
+both_none : (s t : Bool) (a b : Option Refusal) → heads_by s t a b ≡ None → (a ≡ None) × (b ≡ None)
+both_none false false a b e = absurd (some_not_none NotFormatted e)
+both_none true t None b e = (refl, e)
+both_none true t (Some r) b e = absurd (some_not_none r e)
+both_none false true None b e = (refl, e)
+both_none false true (Some r) b e = absurd (some_not_none r e)
+
+-- of two files the first is used
+first_parts : (s t less : Bool) → newest_of_two s t less ≡ 0 → (t ≡ false) ⊎ (less ≡ true)
+first_parts s false less e = inl refl
+first_parts false true less e = absurd (omega (arith, e))
+first_parts true true true e = inr refl
+first_parts true true false e = absurd (omega (arith, e))
+
+-- or the second
+second_parts : (s t less : Bool) → newest_of_two s t less ≡ 1 → (s ≡ false) ⊎ (less ≡ false)
+second_parts s false less e = absurd (omega (arith, e))
+second_parts false true less e = inl refl
+second_parts true true false e = inr refl
+second_parts true true true e = absurd (omega (arith, e))
+
+one_of_two : (s t less : Bool) → (newest_of_two s t less ≡ 0) ⊎ (newest_of_two s t less ≡ 1)
+one_of_two s false less = inl refl
+one_of_two false true less = inr refl
+one_of_two true true true = inl refl
+one_of_two true true false = inr refl
+
+older_by : (file : ℕ) (content : List ℕ) (generation : ℕ) → head_fault file content ≡ None → (is_sealed content ≡ true → generation_in content < generation) → IsOlder generation file content
+older_by file content generation head less = go (is_sealed content) refl
+  where
+    go : (s : Bool) → is_sealed content ≡ s → IsOlder generation file content
+    go false e = inl e
+    go true e = inr (head, less e)
+
+module _ (contents : Contents) (k : Checkpoint) (heads : heads_fault contents ≡ None) where
+  faults : (head_fault 0 (contents 0) ≡ None) × (head_fault 1 (contents 1) ≡ None)
+  faults = both_none (is_sealed (contents 0)) (is_sealed (contents 1)) (head_fault 0 (contents 0)) (head_fault 1 (contents 1)) heads
+
+  abbrev Less : Bool
+  Less = nat_lt (generation_in (contents 1)) (generation_in (contents 0))
+
+  abbrev IsUsed : Type 0
+  IsUsed = IsCheckpoint first_layout k (contents (checkpoint_file k.generation)) × IsOlder k.generation (checkpoint_file (k.generation + 1)) (contents (checkpoint_file (k.generation + 1)))
+
+  in_first : newest_file contents ≡ 0 → IsCheckpoint first_layout k (contents 0) → IsUsed
+  in_first e is =
+      let mine = has_generation first_layout k (contents 0) is in
+      let parity : k.generation % 2 ≡ 0 = ap (λ n. n % 2) (sym mine) ∙ head_parity 0 (contents 0) (sealed first_layout k (contents 0) is) faults.0 in
+      let other : (k.generation + 1) % 2 ≡ 1 = omega (arith, parity) in
+      let older : IsOlder k.generation 1 (contents 1) = older_by 1 (contents 1) k.generation faults.1 (λ s.
+      elim (first_parts (is_sealed (contents 0)) (is_sealed (contents 1)) Less e) [
+        | inl un ↦ absurd (let both : true ≡ false = sym s ∙ un in cc)
+        | inr less ↦ grind (arith, nat_tests, less, mine)
+      ]) in
+      (subst (λ n. IsCheckpoint first_layout k (contents n)) (sym parity) is, subst (λ n. IsOlder k.generation n (contents n)) (sym other) older)
+
+  in_second : newest_file contents ≡ 1 → IsCheckpoint first_layout k (contents 1) → IsUsed
+  in_second e is =
+      let mine = has_generation first_layout k (contents 1) is in
+      let parity : k.generation % 2 ≡ 1 = ap (λ n. n % 2) (sym mine) ∙ head_parity 1 (contents 1) (sealed first_layout k (contents 1) is) faults.1 in
+      let other : (k.generation + 1) % 2 ≡ 0 = omega (arith, parity) in
+      let older : IsOlder k.generation 0 (contents 0) = older_by 0 (contents 0) k.generation faults.0 (λ s.
+      elim (second_parts (is_sealed (contents 0)) (is_sealed (contents 1)) Less e) [
+        | inl un ↦ absurd (let both : true ≡ false = sym s ∙ un in cc)
+        | inr less ↦
+            let its : generation_in (contents 0) % 2 ≡ 0 = head_parity 0 (contents 0) s faults.0 in
+            let up : generation_in (contents 0) ≤ generation_in (contents 1) = grind (arith, nat_tests, less) in
+            omega (arith, up, mine, its, parity)
+      ]) in
+      (subst (λ n. IsCheckpoint first_layout k (contents n)) (sym parity) is, subst (λ n. IsOlder k.generation n (contents n)) (sym other) older)
+
+  is_used : IsCheckpoint first_layout k (contents (newest_file contents)) → IsUsed
+  is_used is = elim (one_of_two (is_sealed (contents 0)) (is_sealed (contents 1)) Less) [
+    | inl e ↦ in_first e (subst (λ n. IsCheckpoint first_layout k (contents n)) e is)
+    | inr e ↦ in_second e (subst (λ n. IsCheckpoint first_layout k (contents n)) e is)
+  ]
+
+pub used_is_held : UsedIsHeld
+used_is_held contents found heads is logs reaches =
+    let both = is_used contents found.checkpoint heads is in
+    record { checkpoint = both.0; other = both.1; logs = logs; reaches = reaches }
+
+pub older_checkpoint : OlderCheckpoint
+older_checkpoint layout k generation content is less =
+    inr (has_head layout k content is (k.generation % 2) refl, let mine = has_generation layout k content is in omega (arith, mine, less))
+
+pub shut_unsealed : ShutIsUnsealed
+shut_unsealed gate rest shut =
+    let closed : (gate == 165) ≡ false = ne_eqb gate 165 shut in
+    ap (λ b. nat_le 36 (length (gate ∷ rest)) && b) closed ∙ never (nat_le 36 (length (gate ∷ rest)))
+  where
+    never : (b : Bool) → (b && false) ≡ false
+    never true = refl
+    never false = refl

@@ -1,5 +1,6 @@
 //! Laws of the definitions, each as the contract of a function.
 ghost use Rattle.store_layout.specs.Laws.{PartsAndLogRestore, RestoringGoesOn, RestoringStays, OpeningRestores, LogsBegin, LogsAreOpened, LogsGoOn, LogsStay, NextStays, PartsStay, PartsGoOn, MarksGoOn, MarksWiden};
+ghost use Rattle.store_layout.specs.OpeningLaws.{OneCheckpoint, OneFault, NoFault, SealedHead, OlderCheckpoint, ShutIsUnsealed, EmptyIsUnsealed, HeldIsUsed, UsedIsHeld, OpensOneWay, OneStanding, NeverBoth, FoundRestores, RestoredStands};
 
 /// Sections at marks and the commands behind them give the map after the last command, and go on to.
 pub fn laws_of_restoring()
@@ -24,4 +25,30 @@ pub fn laws_of_sections()
     ensures go_on { PartsGoOn }
     ensures marks { MarksGoOn }
     ensures widen { MarksWiden }
+{}
+
+/// A sealed checkpoint file has one meaning or one first fault, and its head says which it is.
+pub fn laws_of_checkpoints()
+    ensures one { OneCheckpoint }
+    ensures one_fault { OneFault }
+    ensures no_fault { NoFault }
+    ensures head { SealedHead }
+    ensures older { OlderCheckpoint }
+    ensures shut { ShutIsUnsealed }
+    ensures empty { EmptyIsUnsealed }
+{}
+
+/// Four files stand for one map after one number of commands, or meet one refusal first; never both.
+pub fn laws_of_opening()
+    ensures one_way { OpensOneWay }
+    ensures one { OneStanding }
+    ensures never_both { NeverBoth }
+    ensures used { HeldIsUsed }
+    ensures held { UsedIsHeld }
+{}
+
+/// What is found and its history.
+pub fn laws_of_found()
+    ensures restores { FoundRestores }
+    ensures stands { RestoredStands }
 {}

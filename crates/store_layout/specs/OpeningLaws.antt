@@ -1,0 +1,71 @@
+-- Laws of sealed checkpoints, and of what opening gives.
+use Rattle.std.specs.Prelude.{◌≡◌, ◌≢◌, ℕ, ◌<◌, ◌≤◌, true, false, None, List, [], ◌∷◌, Result}
+use Rattle.map_types.specs.declared.refusals.Refusal.{Refusal}
+use Rattle.map_model.specs.Maps.{Map}
+use Rattle.map_model.specs.Histories.{History}
+use Rattle.log_records.specs.Layout.{Layout, IsLayout, first_layout}
+use Rattle.store_layout.specs.Checkpoints.{Checkpoint, IsCheckpoint, checkpoint_file, greatest_mark, is_sealed}
+use Rattle.store_layout.specs.Standing.{Restores}
+use Rattle.store_layout.specs.Faults.{generation_in, head_fault, IsBadCheckpoint}
+use Rattle.store_layout.specs.Opening.{Contents, Opened, log_of, prefix_of, history_of, IsOlder, AreLogs, Holds, StandsFor, StandsForFront, heads_fault, newest_file, Refuses, Opens}
+
+-- ---- one checkpoint file
+
+-- a content has one checkpoint, or one fault
+abbrev pub OneCheckpoint : Type 0
+OneCheckpoint = (layout : Layout) (k j : Checkpoint) (content : List ℕ) → IsLayout layout → IsCheckpoint layout k content → IsCheckpoint layout j content → k ≡ j
+
+abbrev pub OneFault : Type 0
+OneFault = (layout : Layout) (file : ℕ) (content : List ℕ) (a b : Refusal) → IsLayout layout → IsBadCheckpoint layout file content a → IsBadCheckpoint layout file content b → a ≡ b
+
+abbrev pub NoFault : Type 0
+NoFault = (layout : Layout) (file : ℕ) (k : Checkpoint) (content : List ℕ) (refusal : Refusal) → IsLayout layout → IsCheckpoint layout k content → IsBadCheckpoint layout file content refusal → ⊥
+
+-- the head of a sealed checkpoint
+abbrev pub SealedHead : Type 0
+SealedHead = (layout : Layout) (k : Checkpoint) (content : List ℕ) → IsCheckpoint layout k content →
+    (is_sealed content ≡ true) × (generation_in content ≡ k.generation) × (head_fault (checkpoint_file k.generation) content ≡ None)
+
+-- a checkpoint is older than any of a greater generation
+abbrev pub OlderCheckpoint : Type 0
+OlderCheckpoint = (layout : Layout) (k : Checkpoint) (generation : ℕ) (content : List ℕ) → IsCheckpoint layout k content → k.generation < generation →
+    IsOlder generation (checkpoint_file k.generation) content
+
+-- behind a closed gate nothing is sealed, nor in an empty file
+abbrev pub ShutIsUnsealed : Type 0
+ShutIsUnsealed = (gate : ℕ) (rest : List ℕ) → gate ≢ 165 → is_sealed (gate ∷ rest) ≡ false
+
+abbrev pub EmptyIsUnsealed : Type 0
+EmptyIsUnsealed = is_sealed [] ≡ false
+
+-- ---- four files
+
+-- the checkpoint that is held is the one that is used
+abbrev pub HeldIsUsed : Type 0
+HeldIsUsed = (contents : Contents) (found : Opened) → Holds contents found →
+    (heads_fault contents ≡ None) × (newest_file contents ≡ checkpoint_file found.checkpoint.generation)
+
+-- where the heads have no fault, the checkpoint that is used and its logs are held
+abbrev pub UsedIsHeld : Type 0
+UsedIsHeld = (contents : Contents) (found : Opened) → heads_fault contents ≡ None → IsCheckpoint first_layout found.checkpoint (contents (newest_file contents)) →
+    AreLogs contents found.checkpoint found.first found.second → greatest_mark found.checkpoint.sections ≤ prefix_of found → Holds contents found
+
+-- opening files gives one thing: what they hold, or a refusal
+abbrev pub OpensOneWay : Type 0
+OpensOneWay = (contents : Contents) (a b : Result Opened Refusal) → Opens contents a → Opens contents b → a ≡ b
+
+abbrev pub OneStanding : Type 0
+OneStanding = (contents : Contents) (p q : ℕ) (m n : Map) → StandsFor contents p m → StandsFor contents q n → (p ≡ q) × (m ≡ n)
+
+abbrev pub NeverBoth : Type 0
+NeverBoth = (contents : Contents) (p : ℕ) (m : Map) (refusal : Refusal) → StandsFor contents p m → Refuses contents refusal → ⊥
+
+-- What is found restores its own map, of which it is the history.
+abbrev pub FoundRestores : Type 0
+FoundRestores = (contents : Contents) (found : Opened) → Holds contents found →
+    Restores (history_of found) found.checkpoint.stripes found.checkpoint.sections found.checkpoint.low (log_of found)
+
+-- Files whose sections and logs restore a history stand for a front of it.
+abbrev pub RestoredStands : Type 0
+RestoredStands = (h : History) (contents : Contents) (found : Opened) → Holds contents found →
+    Restores h found.checkpoint.stripes found.checkpoint.sections found.checkpoint.low (log_of found) → StandsForFront h (prefix_of found) (prefix_of found) contents
