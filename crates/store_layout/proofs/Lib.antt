@@ -4,6 +4,7 @@ pub mod FrameLemmas
 pub mod Growing
 pub mod LogLemmas
 pub mod LogOutcomes
+pub mod NewStores
 pub mod Openings
 pub mod ReadingLemmas
 pub mod Restoring

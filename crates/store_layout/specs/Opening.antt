@@ -1,5 +1,7 @@
 -- What four files stand for, or the refusal of opening them.
-use Rattle.std.specs.Prelude.{◌≡◌, ◌⊎◌, ℕ, ◌+◌, ◌<◌, ◌≤◌, false, not, ◌&&◌, nat_lt, if◌then◌else◌, List, [], ◌++◌, length, Option, None, Some, Result, Ok, Err}
+use Rattle.std.specs.Prelude.{◌≡◌, ◌⊎◌, ℕ, ◌+◌, ◌<◌, ◌≤◌, false, not, ◌&&◌, nat_lt, if◌then◌else◌, List, [], ◌++◌, length, map, Option, None, Some, Result, Ok, Err}
+use Rattle.std.specs.FinMap as finite
+use Rattle.std.specs.List.{range_with_len}
 use Rattle.map_types.specs.declared.commands.Command.{Command}
 use Rattle.map_types.specs.declared.refusals.Refusal.{Refusal}
 use Rattle.map_types.specs.declared.refusals.Refusal.TheVariants.{Damaged, NotFormatted}
@@ -7,7 +9,7 @@ use Rattle.map_model.specs.Maps.{Map}
 use Rattle.map_model.specs.Histories.{History, fold_to}
 use Rattle.log_records.specs.Layout.{first_layout}
 use Rattle.store_layout.specs.Logs.{Batch, IsClosed, IsEnded, commands_in, log_file}
-use Rattle.store_layout.specs.Checkpoints.{Checkpoint, IsCheckpoint, checkpoint_file, greatest_mark, is_sealed}
+use Rattle.store_layout.specs.Checkpoints.{Section, Checkpoint, IsCheckpoint, checkpoint_file, greatest_mark, is_sealed}
 use Rattle.store_layout.specs.Readings.{IsBadHeader, ended, broken, Reads, gate_behind}
 use Rattle.store_layout.specs.Standing.{reach, restored}
 use Rattle.store_layout.specs.Faults.{generation_in, head_fault, IsBadCheckpoint}
@@ -95,6 +97,16 @@ pub record StandsForFront (h : History) (least most : ℕ) (contents : Contents)
   pub within : count ≤ reach h
   pub from_least : least ≤ count
   pub to_most : count ≤ most
+
+-- ---- a new store
+
+-- nothing, after no command
+abbrev pub empty_section : Section
+empty_section = record { mark = 0; map = finite.empty }
+
+-- the checkpoint that a store of so many stripes begins with
+abbrev pub first_checkpoint : ℕ → Checkpoint
+first_checkpoint stripes = record { generation = 0; low = 0; stripes = stripes; sections = map (λ stripe. empty_section) (range_with_len 0 stripes) }
 
 -- ---- refusals
 

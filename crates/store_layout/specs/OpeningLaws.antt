@@ -1,13 +1,16 @@
 -- Laws of sealed checkpoints, and of what opening gives.
-use Rattle.std.specs.Prelude.{◌≡◌, ◌≢◌, ℕ, ◌<◌, ◌≤◌, true, false, None, List, [], ◌∷◌, Result}
+use Rattle.std.specs.Prelude.{◌≡◌, ◌≢◌, ℕ, ◌+◌, ◌*◌, ◌<◌, ◌≤◌, true, false, None, List, [], ◌∷◌, length, Result}
+use Rattle.std.specs.FinMap as finite
+use Rattle.java_hash.specs.Stripes.{is_stripe_count}
 use Rattle.map_types.specs.declared.refusals.Refusal.{Refusal}
 use Rattle.map_model.specs.Maps.{Map}
 use Rattle.map_model.specs.Histories.{History}
 use Rattle.log_records.specs.Layout.{Layout, IsLayout, first_layout}
-use Rattle.store_layout.specs.Checkpoints.{Checkpoint, IsCheckpoint, checkpoint_file, greatest_mark, is_sealed}
+use Rattle.store_layout.specs.Logs.{IsClosed}
+use Rattle.store_layout.specs.Checkpoints.{Checkpoint, IsWhole, IsCheckpoint, checkpoint_bytes, checkpoint_file, greatest_mark, is_sealed}
 use Rattle.store_layout.specs.Standing.{Restores}
 use Rattle.store_layout.specs.Faults.{generation_in, head_fault, IsBadCheckpoint}
-use Rattle.store_layout.specs.Opening.{Contents, Opened, log_of, prefix_of, history_of, IsOlder, AreLogs, Holds, StandsFor, StandsForFront, heads_fault, newest_file, Refuses, Opens}
+use Rattle.store_layout.specs.Opening.{Contents, Opened, log_of, prefix_of, history_of, IsOlder, AreLogs, Holds, StandsFor, StandsForFront, first_checkpoint, heads_fault, newest_file, Refuses, Opens}
 
 -- ---- one checkpoint file
 
@@ -69,3 +72,15 @@ FoundRestores = (contents : Contents) (found : Opened) → Holds contents found 
 abbrev pub RestoredStands : Type 0
 RestoredStands = (h : History) (contents : Contents) (found : Opened) → Holds contents found →
     Restores h found.checkpoint.stripes found.checkpoint.sections found.checkpoint.low (log_of found) → StandsForFront h (prefix_of found) (prefix_of found) contents
+
+-- ---- a new store
+
+-- it may stand in a file, with 12 bytes for each stripe
+abbrev pub FirstIsWhole : Type 0
+FirstIsWhole = (stripes : ℕ) → is_stripe_count stripes ≡ true →
+    IsWhole first_layout (first_checkpoint stripes) × (length (checkpoint_bytes first_layout (first_checkpoint stripes)) ≡ 35 + 12 * stripes)
+
+-- A new store stands for no command and the empty map.
+abbrev pub FirstStands : Type 0
+FirstStands = (contents : Contents) (stripes : ℕ) → IsCheckpoint first_layout (first_checkpoint stripes) (contents 0) → is_sealed (contents 1) ≡ false →
+    IsClosed first_layout 0 0 [] (contents 2) → StandsFor contents 0 finite.empty

@@ -1,6 +1,6 @@
 //! Laws of the definitions, each as the contract of a function.
 ghost use Rattle.store_layout.specs.Laws.{PartsAndLogRestore, RestoringGoesOn, RestoringStays, OpeningRestores, LogsBegin, LogsAreOpened, LogsGoOn, LogsStay, NextStays, PartsStay, PartsGoOn, MarksGoOn, MarksWiden};
-ghost use Rattle.store_layout.specs.OpeningLaws.{OneCheckpoint, OneFault, NoFault, SealedHead, OlderCheckpoint, ShutIsUnsealed, EmptyIsUnsealed, HeldIsUsed, UsedIsHeld, OpensOneWay, OneStanding, NeverBoth, FoundRestores, RestoredStands};
+ghost use Rattle.store_layout.specs.OpeningLaws.{OneCheckpoint, OneFault, NoFault, SealedHead, OlderCheckpoint, ShutIsUnsealed, EmptyIsUnsealed, HeldIsUsed, UsedIsHeld, OpensOneWay, OneStanding, NeverBoth, FoundRestores, RestoredStands, FirstIsWhole, FirstStands};
 
 /// Sections at marks and the commands behind them give the map after the last command, and go on to.
 pub fn laws_of_restoring()
@@ -51,4 +51,10 @@ pub fn laws_of_opening()
 pub fn laws_of_found()
     ensures restores { FoundRestores }
     ensures stands { RestoredStands }
+{}
+
+/// A store that was just made is empty.
+pub fn laws_of_new_stores()
+    ensures whole { FirstIsWhole }
+    ensures stands { FirstStands }
 {}
