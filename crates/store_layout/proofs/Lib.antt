@@ -1,5 +1,7 @@
+pub mod CheckpointExamples
 pub mod CheckpointFields
 pub mod EntryRows
+pub mod FirstExamples
 pub mod FrameLemmas
 pub mod Growing
 pub mod LogLemmas
@@ -7,5 +9,6 @@ pub mod LogOutcomes
 pub mod NewStores
 pub mod Openings
 pub mod ReadingLemmas
+pub mod RefusalExamples
 pub mod Restoring
 pub mod SectionRows

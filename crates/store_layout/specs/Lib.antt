@@ -1,4 +1,5 @@
 pub mod Checkpoints
+pub mod Examples
 pub mod Faults
 pub mod Laws
 pub mod Logs
