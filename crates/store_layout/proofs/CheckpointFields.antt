@@ -16,29 +16,29 @@ use Rattle.store_layout.proofs.SectionRows.{same_sections, no_fault, one_fault}
 -- ---- the fields of a checkpoint
 
 -- what stands behind the length of the body
-abbrev body_and : Layout → Checkpoint → List ℕ → List ℕ
+abbrev pub body_and : Layout → Checkpoint → List ℕ → List ℕ
 body_and layout k rest = sections_bytes layout k.sections ++ rest
 
-abbrev body_size : Layout → Checkpoint → ℕ
+abbrev pub body_size : Layout → Checkpoint → ℕ
 body_size layout k = length (sections_bytes layout k.sections)
 
-abbrev from_28 : Layout → Checkpoint → List ℕ → List ℕ
+abbrev pub from_28 : Layout → Checkpoint → List ℕ → List ℕ
 from_28 layout k rest = big_bytes 8 (body_size layout k) ++ body_and layout k rest
 
-abbrev from_26 : Layout → Checkpoint → List ℕ → List ℕ
+abbrev pub from_26 : Layout → Checkpoint → List ℕ → List ℕ
 from_26 layout k rest = big_bytes 2 k.stripes ++ from_28 layout k rest
 
-abbrev from_18 : Layout → Checkpoint → List ℕ → List ℕ
+abbrev pub from_18 : Layout → Checkpoint → List ℕ → List ℕ
 from_18 layout k rest = big_bytes 8 (greatest_mark k.sections) ++ from_26 layout k rest
 
-abbrev from_10 : Layout → Checkpoint → List ℕ → List ℕ
+abbrev pub from_10 : Layout → Checkpoint → List ℕ → List ℕ
 from_10 layout k rest = big_bytes 8 k.low ++ from_18 layout k rest
 
 -- a sealed file, field by field
-abbrev fields_bytes : Layout → Checkpoint → List ℕ → List ℕ
+abbrev pub fields_bytes : Layout → Checkpoint → List ℕ → List ℕ
 fields_bytes layout k rest = 165 ∷ (1 ∷ (big_bytes 8 k.generation ++ from_10 layout k rest))
 
-fields : (layout : Layout) (k : Checkpoint) (rest : List ℕ) → 165 ∷ (checkpoint_bytes layout k ++ rest) ≡ fields_bytes layout k rest
+pub fields : (layout : Layout) (k : Checkpoint) (rest : List ℕ) → 165 ∷ (checkpoint_bytes layout k ++ rest) ≡ fields_bytes layout k rest
 unfolding checkpoint_header
 fields layout k rest = refl
 

@@ -1,5 +1,6 @@
 pub mod CheckpointExamples
 pub mod CheckpointFields
+pub mod CheckpointReading
 pub mod EntryRows
 pub mod FirstExamples
 pub mod FrameLemmas

@@ -11,7 +11,7 @@ use Rattle.map_types.specs.declared.texts.Value.{Value}
 use Rattle.map_types.specs.declared.refusals.Refusal.{Refusal}
 use Rattle.map_types.specs.declared.refusals.Refusal.TheVariants.{Damaged, WrongVersion}
 use Rattle.log_records.specs.Layout.{Layout}
-use Rattle.store_layout.specs.Checkpoints.{Section, entry_bytes, entries_bytes, sections_bytes, greatest_mark, IsEntryOf, AreSections, AreMarkedFrom, is_sealed}
+use Rattle.store_layout.specs.Checkpoints.{Section, Checkpoint, entry_bytes, entries_bytes, sections_bytes, greatest_mark, IsEntryOf, AreSections, AreMarkedFrom, is_sealed}
 
 -- ---- the fields, each at its offset
 
@@ -40,6 +40,10 @@ body_length_in content = number_in 8 28 content
 -- the bytes that the sections are to fill
 abbrev pub body_in : List ℕ → List ℕ
 body_in content = take (body_length_in content) (drop 36 content)
+
+-- the checkpoint that the fields name, with these sections
+abbrev pub checkpoint_in : List ℕ → List Section → Checkpoint
+checkpoint_in content sections = record { generation = generation_in content; low = low_in content; stripes = stripes_in content; sections = sections }
 
 -- ---- fields that may not be
 

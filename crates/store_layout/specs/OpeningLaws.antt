@@ -6,10 +6,11 @@ use Rattle.map_types.specs.declared.refusals.Refusal.{Refusal}
 use Rattle.map_model.specs.Maps.{Map}
 use Rattle.map_model.specs.Histories.{History}
 use Rattle.log_records.specs.Layout.{Layout, IsLayout, first_layout}
+use Rattle.log_records.specs.Agreement.{IsBytes}
 use Rattle.store_layout.specs.Logs.{IsClosed}
-use Rattle.store_layout.specs.Checkpoints.{Checkpoint, IsWhole, IsCheckpoint, checkpoint_bytes, checkpoint_file, greatest_mark, is_sealed}
+use Rattle.store_layout.specs.Checkpoints.{Section, Checkpoint, AreSections, AreMarkedFrom, IsWhole, IsCheckpoint, checkpoint_bytes, sections_bytes, checkpoint_file, greatest_mark, is_sealed}
 use Rattle.store_layout.specs.Standing.{Restores}
-use Rattle.store_layout.specs.Faults.{generation_in, head_fault, IsBadCheckpoint}
+use Rattle.store_layout.specs.Faults.{generation_in, low_in, greatest_in, stripes_in, body_in, checkpoint_in, head_fault, size_fault, IsBadCheckpoint}
 use Rattle.store_layout.specs.Opening.{Contents, Opened, log_of, prefix_of, history_of, IsOlder, AreLogs, Holds, StandsFor, StandsForFront, first_checkpoint, heads_fault, newest_file, Refuses, Opens}
 
 -- ---- one checkpoint file
@@ -28,6 +29,13 @@ NoFault = (layout : Layout) (file : ℕ) (k : Checkpoint) (content : List ℕ) (
 abbrev pub SealedHead : Type 0
 SealedHead = (layout : Layout) (k : Checkpoint) (content : List ℕ) → IsCheckpoint layout k content →
     (is_sealed content ≡ true) × (generation_in content ≡ k.generation) × (head_fault (checkpoint_file k.generation) content ≡ None)
+
+-- A file in which none of the faults is found holds the checkpoint that its fields name.
+abbrev pub FieldsMakeCheckpoint : Type 0
+FieldsMakeCheckpoint = (layout : Layout) (file : ℕ) (content : List ℕ) (sections : List Section) → IsBytes content → is_sealed content ≡ true →
+    head_fault file content ≡ None → size_fault file content ≡ None →
+    body_in content ≡ sections_bytes layout sections → length sections ≡ stripes_in content → AreSections layout (stripes_in content) 0 sections →
+    greatest_mark sections ≡ greatest_in content → AreMarkedFrom (low_in content) sections → IsCheckpoint layout (checkpoint_in content sections) content
 
 -- a checkpoint is older than any of a greater generation
 abbrev pub OlderCheckpoint : Type 0

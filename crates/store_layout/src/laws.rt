@@ -1,6 +1,6 @@
 //! Laws of the definitions, each as the contract of a function.
 ghost use Rattle.store_layout.specs.Laws.{PartsAndLogRestore, RestoringGoesOn, RestoringStays, OpeningRestores, LogsBegin, LogsAreOpened, LogsGoOn, LogsStay, NextStays, PartsStay, PartsGoOn, MarksGoOn, MarksWiden};
-ghost use Rattle.store_layout.specs.OpeningLaws.{OneCheckpoint, OneFault, NoFault, SealedHead, OlderCheckpoint, ShutIsUnsealed, EmptyIsUnsealed, HeldIsUsed, UsedIsHeld, OpensOneWay, OneStanding, NeverBoth, FoundRestores, RestoredStands, FirstIsWhole, FirstStands};
+ghost use Rattle.store_layout.specs.OpeningLaws.{OneCheckpoint, OneFault, NoFault, SealedHead, FieldsMakeCheckpoint, OlderCheckpoint, ShutIsUnsealed, EmptyIsUnsealed, HeldIsUsed, UsedIsHeld, OpensOneWay, OneStanding, NeverBoth, FoundRestores, RestoredStands, FirstIsWhole, FirstStands};
 
 /// Sections at marks and the commands behind them give the map after the last command, and go on to.
 pub fn laws_of_restoring()
@@ -33,6 +33,7 @@ pub fn laws_of_checkpoints()
     ensures one_fault { OneFault }
     ensures no_fault { NoFault }
     ensures head { SealedHead }
+    ensures fields { FieldsMakeCheckpoint }
     ensures older { OlderCheckpoint }
     ensures shut { ShutIsUnsealed }
     ensures empty { EmptyIsUnsealed }
