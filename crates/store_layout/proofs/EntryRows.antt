@@ -25,7 +25,7 @@ use Rattle.store_layout.proofs.FrameLemmas.{same_number}
 
 -- ---- one entry
 
-same_spelled : {A : Type 0} (read : List ℕ → Result (A × List ℕ) Refusal) (bytes_of : A → List ℕ) (Fits : A → Type 0) → Agrees read bytes_of Fits
+pub same_spelled : {A : Type 0} (read : List ℕ → Result (A × List ℕ) Refusal) (bytes_of : A → List ℕ) (Fits : A → Type 0) → Agrees read bytes_of Fits
     → (x y : A) (s t : List ℕ) → Fits x → Fits y → bytes_of x ++ s ≡ bytes_of y ++ t → (x ≡ y) × (s ≡ t)
 same_spelled {A = A} read bytes_of Fits agrees x y s t p q e =
     let is = ok_is (x, s) (y, t) (sym (agrees.again x s p) ∙ ap read e ∙ agrees.again y t q) in
@@ -85,7 +85,7 @@ above_all : (k : List ℕ) (es : List (List ℕ × Value)) → T (below_all (sli
 above_all k [] h = tt
 above_all k (e ∷ es) h = (less_from_is_lt _ (left _ _ h), above_all k es (right _ _ h))
 
-rising_from_sorted : (es : List (List ℕ × Value)) → T (finite.is_sorted (slice_cmp nat_cmp) es) → IsStrictlySortedBy (slice_cmp nat_cmp) (keys_of es)
+pub rising_from_sorted : (es : List (List ℕ × Value)) → T (finite.is_sorted (slice_cmp nat_cmp) es) → IsStrictlySortedBy (slice_cmp nat_cmp) (keys_of es)
 unfolding IsStrictlySortedBy
 rising_from_sorted [] h = tt
 rising_from_sorted (e ∷ es) h = (above_all e.0 es (left _ _ h), rising_from_sorted es (right _ _ h))

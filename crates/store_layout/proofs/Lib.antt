@@ -7,6 +7,7 @@ pub mod FrameLemmas
 pub mod Growing
 pub mod LogLemmas
 pub mod LogOutcomes
+pub mod Looking
 pub mod NewStores
 pub mod Openings
 pub mod ReadingLemmas
