@@ -20,18 +20,18 @@ some_not_none : (r : Refusal) → Some r ≡ None → ⊥
 some_not_none r e = absurd cc
 
 -- the number that stands here, and what is behind it
-next_field : (n i : ℕ) (rest : List ℕ) → i + n ≤ length rest → IsBytes rest → drop i rest ≡ big_bytes n (big_number n (drop i rest)) ++ drop (i + n) rest
+pub next_field : (n i : ℕ) (rest : List ℕ) → i + n ≤ length rest → IsBytes rest → drop i rest ≡ big_bytes n (big_number n (drop i rest)) ++ drop (i + n) rest
 next_field n i rest long fits =
     let here : n ≤ length (drop i rest) = omega (arith, length-drop i rest, long) in
     sym (take-append-drop n (drop i rest))
     ∙ ap₂ (λ (x y : List ℕ). x ++ y) (sym (big_bytes-big_number n (drop i rest) here (IsBytes-drop i rest fits))) (drop-drop n i rest)
 
-number_fits : (n i : ℕ) (rest : List ℕ) → IsBytes rest → big_number n (drop i rest) < 256 ^ n
+pub number_fits : (n i : ℕ) (rest : List ℕ) → IsBytes rest → big_number n (drop i rest) < 256 ^ n
 number_fits n i rest fits = big_from-lt 0 n (drop i rest) (IsBytes-drop i rest fits)
 
 -- ---- what the tests say
 
-both_true : (x y : Bool) → (x && y) ≡ true → (x ≡ true) × (y ≡ true)
+pub both_true : (x y : Bool) → (x && y) ≡ true → (x ≡ true) × (y ≡ true)
 both_true true true e = (refl, refl)
 both_true true false e = absurd cc
 both_true false y e = absurd cc

@@ -1,3 +1,4 @@
+pub mod BodyReading
 pub mod CheckpointExamples
 pub mod CheckpointFields
 pub mod CheckpointReading

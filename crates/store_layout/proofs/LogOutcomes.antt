@@ -15,7 +15,7 @@ use Rattle.store_layout.proofs.ReadingLemmas.{begins, one_reading}
 
 -- ---- headers
 
-header_parts : (version generation low gate : ℕ) (rest : List ℕ) → (version ∷ (big_bytes 8 generation ++ big_bytes 8 low)) ++ gate ∷ rest ≡ version ∷ (big_bytes 8 generation ++ (big_bytes 8 low ++ gate ∷ rest))
+pub header_parts : (version generation low gate : ℕ) (rest : List ℕ) → (version ∷ (big_bytes 8 generation ++ big_bytes 8 low)) ++ gate ∷ rest ≡ version ∷ (big_bytes 8 generation ++ (big_bytes 8 low ++ gate ∷ rest))
 header_parts version generation low gate rest = ap (λ (l : List ℕ). version ∷ l) (append_assoc (big_bytes 8 generation) (big_bytes 8 low) (gate ∷ rest))
 
 one_header : (v g l v' g' l' : ℕ) (content : List ℕ) → HasHeader v g l content → HasHeader v' g' l' content → (v ≡ v') × (g ≡ g') × (l ≡ l')

@@ -15,10 +15,10 @@ begins layout [] x xs = (x, xs, refl)
 begins layout (batch ∷ batches) x xs = (165, (frame layout batch ++ opened layout batches) ++ x ∷ xs, refl)
 
 -- what stands behind the first gate of a run
-opened_parts : (layout : Layout) (batch : Batch) (batches : List Batch) (t : List ℕ) → opened layout (batch ∷ batches) ++ t ≡ 165 ∷ (frame layout batch ++ (opened layout batches ++ t))
+pub opened_parts : (layout : Layout) (batch : Batch) (batches : List Batch) (t : List ℕ) → opened layout (batch ∷ batches) ++ t ≡ 165 ∷ (frame layout batch ++ (opened layout batches ++ t))
 opened_parts layout batch batches t = ap (λ (l : List ℕ). 165 ∷ l) (append_assoc (frame layout batch) (opened layout batches) t)
 
-more_commands : (low : ℕ) (batch : Batch) (batches : List Batch) → low + length (commands_in (batch ∷ batches)) ≡ (low + length batch.commands) + length (commands_in batches)
+pub more_commands : (low : ℕ) (batch : Batch) (batches : List Batch) → low + length (commands_in (batch ∷ batches)) ≡ (low + length batch.commands) + length (commands_in batches)
 more_commands low batch batches = omega (arith, length-append batch.commands (commands_in batches))
 
 never_goes_on : (layout : Layout) (low : ℕ) (batch : Batch) (batches : List Batch) (x : ℕ) (xs tail : List ℕ) → IsBatch layout batch → batch.first ≡ low
