@@ -14,7 +14,7 @@ use Rattle.map_model.proofs.EntryLaws.{entries-map_of}
 use Rattle.log_records.specs.Layout.{Layout, IsLayout}
 use Rattle.log_records.specs.Agreement.{IsBytes}
 use Rattle.log_records.proofs.Digits.{IsBytes-drop, IsBytes-take}
-use Rattle.store_layout.specs.Checkpoints.{Section, Checkpoint, entries_bytes, marked_bytes, section_bytes, sections_bytes, greatest_mark, IsEntryOf, IsSection, AreSections, AreMarkedFrom, IsCheckpoint, is_sealed}
+use Rattle.store_layout.specs.Checkpoints.{Section, Checkpoint, entry_bytes, entries_bytes, marked_bytes, section_bytes, sections_bytes, greatest_mark, IsEntryOf, IsSection, AreSections, AreMarkedFrom, IsCheckpoint, is_sealed}
 use Rattle.store_layout.specs.Faults.{AreEntries, IsFault, no_head, bad_entry, left_over, HasFault, low_in, greatest_in, stripes_in, body_length_in, body_in, checkpoint_in, head_fault, size_fault, HasBadMarks, IsBadCheckpoint, bad_size, bad_section, bad_marks}
 use Rattle.store_layout.proofs.EntryRows.{section_parts}
 use Rattle.store_layout.proofs.CheckpointReading.{next_field, number_fits, fields_make}
@@ -69,7 +69,7 @@ module _ (layout : Layout) (room : IsLayout layout) (stripes : ℕ) where
         }
 
     read_some : (m : More layout room stripes stripe [] (drop 12 bytes)) → length m.more < count
-        → ((entry : List ℕ × Value) (others : List ℕ) → m.rest ≡ Rattle.store_layout.specs.Checkpoints.entry_bytes layout entry ++ others → AreEntries layout stripes stripe (m.more ++ entry ∷ []) → ⊥)
+        → ((entry : List ℕ × Value) (others : List ℕ) → m.rest ≡ entry_bytes layout entry ++ others → AreEntries layout stripes stripe (m.more ++ entry ∷ []) → ⊥)
         → IsFault layout stripes stripe bytes (12 + length (entries_bytes layout m.more))
     read_some m fewer none =
         let mark_fits = number_fits 8 0 bytes fits in

@@ -8,6 +8,7 @@ pub mod FrameLemmas
 pub mod Growing
 pub mod LogLemmas
 pub mod LogOutcomes
+pub mod LogReading
 pub mod Looking
 pub mod NewStores
 pub mod Openings
