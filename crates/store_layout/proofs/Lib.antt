@@ -11,6 +11,7 @@ pub mod LogOutcomes
 pub mod LogReading
 pub mod Looking
 pub mod NewStores
+pub mod OpeningReading
 pub mod Openings
 pub mod ReadingLemmas
 pub mod RefusalExamples

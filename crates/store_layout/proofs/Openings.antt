@@ -20,10 +20,10 @@ use Rattle.store_layout.proofs.LogOutcomes.{first_room, LogsGive, one_give, good
 
 -- ---- the heads
 
-abbrev heads_by : Bool → Bool → Option Refusal → Option Refusal → Option Refusal
+abbrev pub heads_by : Bool → Bool → Option Refusal → Option Refusal → Option Refusal
 heads_by s t a b = cond (not s && not t) (Some NotFormatted) (first_fault a b)
 
-abbrev newest_of_two : Bool → Bool → Bool → ℕ
+abbrev pub newest_of_two : Bool → Bool → Bool → ℕ
 newest_of_two s t less = cond (not t) 0 (cond (not s) 1 (cond less 0 1))
 
 no_faults : (s t : Bool) (a b : Option Refusal) → (s ≡ true) ⊎ (t ≡ true) → a ≡ None → b ≡ None → heads_by s t a b ≡ None
@@ -91,7 +91,7 @@ module _ (contents : Contents) (k : Checkpoint) where
 
 -- ---- what is found
 
-some_not_none : (r : Refusal) → Some r ≡ None → ⊥
+pub some_not_none : (r : Refusal) → Some r ≡ None → ⊥
 some_not_none r e = absurd cc
 
 module _ (contents : Contents) where
@@ -214,7 +214,7 @@ head_parity file content s e = parity_by (is_sealed content) (version_in content
         same true is e = eqb-true _ _ is
         same false is e = absurd (some_not_none (Damaged file 2) e)
 
-both_none : (s t : Bool) (a b : Option Refusal) → heads_by s t a b ≡ None → (a ≡ None) × (b ≡ None)
+pub both_none : (s t : Bool) (a b : Option Refusal) → heads_by s t a b ≡ None → (a ≡ None) × (b ≡ None)
 both_none false false a b e = absurd (some_not_none NotFormatted e)
 both_none true t None b e = (refl, e)
 both_none true t (Some r) b e = absurd (some_not_none r e)
@@ -235,7 +235,7 @@ second_parts false true less e = inl refl
 second_parts true true false e = inr refl
 second_parts true true true e = absurd (omega (arith, e))
 
-one_of_two : (s t less : Bool) → (newest_of_two s t less ≡ 0) ⊎ (newest_of_two s t less ≡ 1)
+pub one_of_two : (s t less : Bool) → (newest_of_two s t less ≡ 0) ⊎ (newest_of_two s t less ≡ 1)
 one_of_two s false less = inl refl
 one_of_two false true less = inr refl
 one_of_two true true true = inl refl

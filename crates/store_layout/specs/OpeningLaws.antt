@@ -65,6 +65,10 @@ UsedIsHeld = (contents : Contents) (found : Opened) → heads_fault contents ≡
 abbrev pub OpensOneWay : Type 0
 OpensOneWay = (contents : Contents) (a b : Result Opened Refusal) → Opens contents a → Opens contents b → a ≡ b
 
+-- and it gives one
+abbrev pub OpensSomehow : Type 0
+OpensSomehow = (contents : Contents) → ((file : ℕ) → file < 4 → IsBytes (contents file)) → (x : Result Opened Refusal) × Opens contents x
+
 abbrev pub OneStanding : Type 0
 OneStanding = (contents : Contents) (p q : ℕ) (m n : Map) → StandsFor contents p m → StandsFor contents q n → (p ≡ q) × (m ≡ n)
 

@@ -1,6 +1,6 @@
 //! Laws of the definitions, each as the contract of a function.
 ghost use Rattle.store_layout.specs.Laws.{PartsAndLogRestore, RestoringGoesOn, RestoringStays, OpeningRestores, LogsBegin, LogsAreOpened, LogsGoOn, LogsStay, NextStays, PartsStay, PartsGoOn, MarksGoOn, MarksWiden};
-ghost use Rattle.store_layout.specs.OpeningLaws.{OneCheckpoint, OneFault, NoFault, SealedHead, FieldsMakeCheckpoint, OlderCheckpoint, ShutIsUnsealed, EmptyIsUnsealed, HeldIsUsed, UsedIsHeld, OpensOneWay, OneStanding, NeverBoth, FoundRestores, RestoredStands, FirstIsWhole, FirstStands};
+ghost use Rattle.store_layout.specs.OpeningLaws.{OneCheckpoint, OneFault, NoFault, SealedHead, FieldsMakeCheckpoint, OlderCheckpoint, ShutIsUnsealed, EmptyIsUnsealed, HeldIsUsed, UsedIsHeld, OpensOneWay, OpensSomehow, OneStanding, NeverBoth, FoundRestores, RestoredStands, FirstIsWhole, FirstStands};
 
 /// Sections at marks and the commands behind them give the map after the last command, and go on to.
 pub fn laws_of_restoring()
@@ -39,9 +39,11 @@ pub fn laws_of_checkpoints()
     ensures empty { EmptyIsUnsealed }
 {}
 
-/// Four files stand for one map after one number of commands, or meet one refusal first; never both.
+/// Four files stand for one map after one number of commands, or meet one refusal first; one of the
+/// two, and never both.
 pub fn laws_of_opening()
     ensures one_way { OpensOneWay }
+    ensures somehow { OpensSomehow }
     ensures one { OneStanding }
     ensures never_both { NeverBoth }
     ensures used { HeldIsUsed }
