@@ -1,7 +1,6 @@
 -- A sealed file holds a checkpoint, or has a fault.
-use Rattle.std.proofs.Common.{◌≡◌, ◌≢◌, ◌⊎◌, inl, inr, ◌≤◌, ◌<◌, ℕ, zero, suc, ◌+◌, ◌^◌, Bool, true, false, ◌==◌, nat_le, Option, None, Some, List, [], ◌∷◌, ◌++◌, length, drop, refl, sym, ap, subst, ◌∙◌, append_assoc, arith, length-drop}
+use Rattle.std.proofs.Common.{◌≡◌, ◌≢◌, ◌⊎◌, inl, inr, ◌≤◌, ◌<◌, ℕ, zero, suc, ◌+◌, Bool, true, false, ◌==◌, Option, None, Some, List, [], ◌∷◌, ◌++◌, length, drop, refl, sym, ap, subst, ◌∙◌, append_assoc, arith}
 use Rattle.std.proofs.lemmas.Bool.{cases_lt, eqb-true, eqb-false}
-use Rattle.std.proofs.lemmas.Bool.Decides.{nat_tests}
 use Rattle.std.proofs.lemmas.List.{append-nil}
 use Rattle.std.specs.List.{AllByRecursion}
 use Rattle.std.specs.List.Sorted.{IsStrictlySortedBy}
@@ -15,10 +14,10 @@ use Rattle.log_records.specs.Layout.{Layout, IsLayout}
 use Rattle.log_records.specs.Agreement.{IsBytes}
 use Rattle.log_records.proofs.Digits.{IsBytes-drop, IsBytes-take}
 use Rattle.store_layout.specs.Checkpoints.{Section, Checkpoint, entry_bytes, entries_bytes, marked_bytes, section_bytes, sections_bytes, greatest_mark, IsEntryOf, IsSection, AreSections, AreMarkedFrom, IsCheckpoint, is_sealed}
-use Rattle.store_layout.specs.Faults.{AreEntries, IsFault, no_head, bad_entry, left_over, HasFault, low_in, greatest_in, stripes_in, body_length_in, body_in, checkpoint_in, head_fault, size_fault, HasBadMarks, IsBadCheckpoint, bad_size, bad_section, bad_marks}
+use Rattle.store_layout.specs.Faults.{AreEntries, IsFault, no_head, bad_entry, left_over, HasFault, low_in, greatest_in, stripes_in, body_length_in, body_in, checkpoint_in, head_fault, size_fault, IsBadCheckpoint, bad_size, bad_section, bad_marks}
 use Rattle.store_layout.proofs.EntryRows.{section_parts}
 use Rattle.store_layout.proofs.CheckpointReading.{next_field, number_fits, fields_make}
-use Rattle.store_layout.proofs.Looking.{More, ReadEntries, read_entries}
+use Rattle.store_layout.proofs.Looking.{More, read_entries}
 
 abbrev Entries : Type 0
 Entries = List (List ℕ × Value)
@@ -158,20 +157,25 @@ module _ (layout : Layout) (room : IsLayout layout) (stripes : ℕ) where
     where
       by : (rest : List ℕ) → a.rest ≡ rest → Sections body ⊎ ((offset : ℕ) × HasFault layout stripes body offset)
       by [] e = inl (record { sections = a.sections; are = a.are; one_each = a.so_many; spelled = a.spelled ∙ ap (λ (l : List ℕ). sections_bytes layout a.sections ++ l) e ∙ append-nil (sections_bytes layout a.sections) })
-      by (x ∷ xs) e = inr (length (sections_bytes layout a.sections) + 0, record {
-        before = a.sections;
-        are = a.are;
-        rest = x ∷ xs;
-        spelled = a.spelled ∙ ap (λ (l : List ℕ). sections_bytes layout a.sections ++ l) e;
-        distance = 0;
-        fault = left_over a.so_many (omega arith) refl;
-        place = refl;
-      })
+      by (x ∷ xs) e = inr (
+        length (sections_bytes layout a.sections) + 0,
+        record {
+          before = a.sections;
+          are = a.are;
+          rest = x ∷ xs;
+          spelled = a.spelled ∙ ap (λ (l : List ℕ). sections_bytes layout a.sections ++ l) e;
+          distance = 0;
+          fault = left_over a.so_many (omega arith) refl;
+          place = refl;
+        },
+      )
 
   read_body : (body : List ℕ) → IsBytes body → Sections body ⊎ ((offset : ℕ) × HasFault layout stripes body offset)
   read_body body fits = elim (read_sections stripes 0 body (omega arith) fits) as (λ _. Sections body ⊎ ((offset : ℕ) × HasFault layout stripes body offset)) [
     | inl a ↦ end_of body a
-    | inr f ↦ inr (length (sections_bytes layout f.before) + f.distance, record {
+    | inr f ↦ inr (
+      length (sections_bytes layout f.before) + f.distance,
+      record {
         before = f.before;
         are = f.are;
         rest = f.rest;
@@ -179,7 +183,8 @@ module _ (layout : Layout) (room : IsLayout layout) (stripes : ℕ) where
         distance = f.distance;
         fault = subst (λ n. IsFault layout stripes n f.rest f.distance) (omega arith) f.fault;
         place = refl;
-      })
+      },
+    )
   ]
 
 -- ---- the file

@@ -21,7 +21,7 @@ use Rattle.store_layout.proofs.FrameLemmas.{same_number, same_records, same_rest
 use Rattle.store_layout.proofs.ReadingLemmas.{opened_parts, more_commands}
 use Rattle.store_layout.proofs.LogOutcomes.{header_parts}
 use Rattle.store_layout.proofs.CheckpointReading.{next_field, number_fits, both_true}
-use Rattle.store_layout.proofs.Looking.{Rows, NoRows, read_records}
+use Rattle.store_layout.proofs.Looking.{Rows, read_records}
 
 -- ---- the header
 
@@ -340,13 +340,16 @@ module _ (layout : Layout) (room : IsLayout layout) (g l : ℕ) (content : List 
 
           by_stop : Stop layout room (g + 1) (l + length (commands_in r.batches)) r.byte r.rest → (reading : Reading) × Reads layout g l content reading
           by_stop (inl shut) = (closed r.batches, record { gate = r.byte; rest = r.rest; bytes = whole; closed = shut; log = log })
-          by_stop (inr (e, inl end)) = (ended r.batches, record {
-            after = end.after;
-            rest = end.behind;
-            bytes = whole_open e ∙ ap (λ (t : List ℕ). log_front layout g l r.batches ++ 165 ∷ t) end.spelled;
-            next_fits = end.next_fits;
-            log = log;
-          })
+          by_stop (inr (e, inl end)) = (
+            ended r.batches,
+            record {
+              after = end.after;
+              rest = end.behind;
+              bytes = whole_open e ∙ ap (λ (t : List ℕ). log_front layout g l r.batches ++ 165 ∷ t) end.spelled;
+              next_fits = end.next_fits;
+              log = log;
+            },
+          )
           by_stop (inr (e, inr none)) = (broken r.batches, record { rest = r.rest; bytes = whole_open e; no_frame = none; log = log })
 
   abbrev pub ToldLog : Type 0

@@ -1,5 +1,5 @@
 -- Of any bytes it can be told whether something well-formed stands at their front: entries and records.
-use Rattle.std.proofs.Common.{◌≡◌, ◌⊎◌, inl, inr, ◌≤◌, ◌<◌, ℕ, zero, suc, ◌+◌, Bool, true, false, ◌&&◌, ◌==◌, Ordering, Less, List, [], ◌∷◌, ◌++◌, length, Some, Result, Ok, Err, refl, sym, ap, ap₂, subst, ◌∙◌, append_assoc, arith}
+use Rattle.std.proofs.Common.{◌≡◌, ◌⊎◌, inl, inr, ◌<◌, ℕ, zero, suc, Bool, true, false, ◌&&◌, ◌==◌, Ordering, Less, List, [], ◌∷◌, ◌++◌, length, Some, Result, Ok, Err, refl, sym, ap, subst, ◌∙◌, append_assoc, arith}
 use Rattle.std.proofs.lemmas.Bool.{eqb-true, eqb-false}
 use Rattle.std.proofs.lemmas.List.{append-nil}
 use Rattle.std.specs.Prelude.{T}
@@ -139,8 +139,11 @@ module _ (layout : Layout) (room : IsLayout layout) (stripes stripe : ℕ) where
               never (subst (λ (e : List ℕ × Value). AreEntries layout stripes stripe (before ++ e ∷ [])) same.0 all))
           | inl next ↦ elim (read_entries left (before ++ front.item ∷ []) front.rest front.rest_fits next) as (λ _. ReadEntries (suc left) before bytes) [
             | inl all ↦ inl (further before front.item bytes front.rest front.spelled all.0, let size = all.1 in omega (arith, size))
-            | inr few ↦ inr (further before front.item bytes front.rest front.spelled few.0, (let size = few.1 in omega (arith, size)),
-                subst (λ (l : List (List ℕ × Value)). NoneNext l few.0.rest) (joined before few.0.more front.item) few.2)
+            | inr few ↦ inr (
+              further before front.item bytes front.rest front.spelled few.0,
+              (let size = few.1 in omega (arith, size)),
+              subst (λ (l : List (List ℕ × Value)). NoneNext l few.0.rest) (joined before few.0.more front.item) few.2,
+            )
           ]
         ]
       ]
@@ -167,13 +170,13 @@ module _ (layout : Layout) (room : IsLayout layout) where
         | inr none ↦ inr (λ commands. first_missing commands none)
         | inl front ↦ elim (read_records count front.rest front.rest_fits) as (λ _. Rows (suc count) bytes ⊎ NoRows (suc count) bytes) [
           | inl rows ↦ inl (record {
-              commands = front.item ∷ rows.commands;
-              rest = rows.rest;
-              so_many = let size = rows.so_many in omega (arith, size);
-              well_formed = (front.fits, rows.well_formed);
-              spelled = front.spelled ∙ ap (λ (l : List ℕ). record_bytes layout front.item ++ l) rows.spelled ∙ sym (append_assoc (record_bytes layout front.item) (records_bytes layout rows.commands) rows.rest);
-              rest_fits = rows.rest_fits;
-            })
+            commands = front.item ∷ rows.commands;
+            rest = rows.rest;
+            so_many = let size = rows.so_many in omega (arith, size);
+            well_formed = (front.fits, rows.well_formed);
+            spelled = front.spelled ∙ ap (λ (l : List ℕ). record_bytes layout front.item ++ l) rows.spelled ∙ sym (append_assoc (record_bytes layout front.item) (records_bytes layout rows.commands) rows.rest);
+            rest_fits = rows.rest_fits;
+          })
           | inr none ↦ inr (λ commands. others_missing commands front none)
         ]
       ]

@@ -1,5 +1,5 @@
 -- Opening gives something: what the files stand for, or a refusal.
-use Rattle.std.proofs.Common.{◌≡◌, ◌⊎◌, inl, inr, ◌≤◌, ◌<◌, ℕ, ◌+◌, Bool, true, false, nat_lt, Option, None, Some, List, length, Result, Ok, Err, refl, sym, subst, ◌∙◌, arith}
+use Rattle.std.proofs.Common.{◌≡◌, inl, inr, ◌<◌, ℕ, ◌+◌, Bool, true, false, nat_lt, Option, None, Some, List, length, Result, Ok, Err, refl, sym, subst, arith}
 use Rattle.std.proofs.lemmas.Bool.{cases_lt}
 use Rattle.map_types.specs.declared.refusals.Refusal.{Refusal}
 use Rattle.map_types.specs.declared.refusals.Refusal.TheVariants.{NotFormatted}
@@ -7,8 +7,8 @@ use Rattle.log_records.specs.Agreement.{IsBytes}
 use Rattle.log_records.specs.Layout.{first_layout}
 use Rattle.store_layout.specs.Logs.{Batch, log_file}
 use Rattle.store_layout.specs.Checkpoints.{Checkpoint, IsCheckpoint, greatest_mark, is_sealed}
-use Rattle.store_layout.specs.Readings.{Reading, closed, ended, broken, Reads, IsBadHeader}
-use Rattle.store_layout.specs.Faults.{generation_in, head_fault, IsBadCheckpoint}
+use Rattle.store_layout.specs.Readings.{Reading, closed, ended, broken, Reads}
+use Rattle.store_layout.specs.Faults.{generation_in, head_fault}
 use Rattle.store_layout.specs.Opening.{Contents, Opened, next_low, newest_by, logged_by, AreLogs, heads_fault, newest_file, damage_behind, AreBadLogs, bad_header, bad_frame, bad_next_header, bad_next_frame, second_end, below_mark, bad_heads, bad_checkpoint, bad_logs, Opens}
 use Rattle.store_layout.specs.OpeningLaws.{OpensSomehow}
 use Rattle.store_layout.proofs.LogOutcomes.{first_room}
@@ -36,15 +36,15 @@ module _ (contents : Contents) (bytes : (file : ℕ) → file < 4 → IsBytes (c
   used_file : IsUsed (newest_file contents)
   used_file = elim (one_of_two (is_sealed (contents 0)) (is_sealed (contents 1)) (nat_lt (generation_in (contents 1)) (generation_in (contents 0)))) as (λ _. IsUsed (newest_file contents)) [
     | inl e ↦ subst IsUsed (sym e) (record {
-        below = omega arith;
-        sealed = first_sealed (is_sealed (contents 0)) (is_sealed (contents 1)) (nat_lt (generation_in (contents 1)) (generation_in (contents 0))) (head_fault 0 (contents 0)) (head_fault 1 (contents 1)) heads e;
-        head = (both_none (is_sealed (contents 0)) (is_sealed (contents 1)) (head_fault 0 (contents 0)) (head_fault 1 (contents 1)) heads).0;
-      })
+      below = omega arith;
+      sealed = first_sealed (is_sealed (contents 0)) (is_sealed (contents 1)) (nat_lt (generation_in (contents 1)) (generation_in (contents 0))) (head_fault 0 (contents 0)) (head_fault 1 (contents 1)) heads e;
+      head = (both_none (is_sealed (contents 0)) (is_sealed (contents 1)) (head_fault 0 (contents 0)) (head_fault 1 (contents 1)) heads).0;
+    })
     | inr e ↦ subst IsUsed (sym e) (record {
-        below = omega arith;
-        sealed = second_sealed (is_sealed (contents 0)) (is_sealed (contents 1)) (nat_lt (generation_in (contents 1)) (generation_in (contents 0))) e;
-        head = (both_none (is_sealed (contents 0)) (is_sealed (contents 1)) (head_fault 0 (contents 0)) (head_fault 1 (contents 1)) heads).1;
-      })
+      below = omega arith;
+      sealed = second_sealed (is_sealed (contents 0)) (is_sealed (contents 1)) (nat_lt (generation_in (contents 1)) (generation_in (contents 0))) e;
+      head = (both_none (is_sealed (contents 0)) (is_sealed (contents 1)) (head_fault 0 (contents 0)) (head_fault 1 (contents 1)) heads).1;
+    })
   ]
 
   abbrev Told : Type 0

@@ -26,15 +26,17 @@ pub record Opened : Type 0 where
   pub first : List Batch
   pub second : Option (List Batch)
 
--- the newest log
+-- a log, with the batches that it has
 pub record FoundLog : Type 0 where
   pub generation : ℕ
   pub low : ℕ
   pub batches : List Batch
 
+-- the ticket that the next log goes on from
 abbrev pub next_low : Checkpoint → List Batch → ℕ
 next_low k first = k.low + length (commands_in first)
 
+-- the newest of the logs
 abbrev pub newest_by : Checkpoint → List Batch → Option (List Batch) → FoundLog
 newest_by k first None = record { generation = k.generation; low = k.low; batches = first }
 newest_by k first (Some second) = record { generation = k.generation + 1; low = next_low k first; batches = second }
@@ -110,6 +112,7 @@ first_checkpoint stripes = record { generation = 0; low = 0; stripes = stripes; 
 
 -- ---- refusals
 
+-- the first of two refusals
 abbrev pub first_fault : Option Refusal → Option Refusal → Option Refusal
 first_fault None other = other
 first_fault (Some refusal) other = Some refusal
@@ -128,7 +131,7 @@ newest_file contents =
     else if nat_lt (generation_in (contents 1)) (generation_in (contents 0)) then 0
     else 1
 
--- the last gate of a log that is read
+-- the log is damaged at the last of its gates that is read
 abbrev pub damage_behind : FoundLog → Refusal
 damage_behind log = Damaged (log_file log.generation) (gate_behind first_layout log.generation log.low log.batches)
 
