@@ -1,0 +1,5 @@
+mod FileSteps
+mod EntryLemmas
+mod StandingLemmas
+mod CallLemmas
+mod AdvanceLemmas

@@ -1,0 +1,10 @@
+//! The file of a checkpoint: its header and its sections are written behind a closed gate, which is opened by a write
+//! of its own once they are on the disk.
+#![tactic(auto)]
+
+mod phase;
+mod sections;
+mod writer;
+
+pub use phase::CheckpointPhase;
+pub use writer::CheckpointWriter;
