@@ -3,3 +3,4 @@ mod EntryLemmas
 mod StandingLemmas
 mod CallLemmas
 mod AdvanceLemmas
+mod StagingLemmas

@@ -142,7 +142,7 @@ module _ (w : CheckpointState) (sections : List Section) (knows : HasGiven w sec
         none_staged = none_left w.section (omega (arith, knows.body, ap length empty));
         filled = record {
           space = replicate 35 0;
-          size = length-replicate 35 0;
+          size = length-replicate {A = ℕ} 35 0;
           shut = subst (λ (l : List ℕ). IsShut [] (replicate 35 0 ++ l) (written 1 (replicate 35 0) file)) (sym empty)
               (subst (λ (l : List ℕ). IsShut [] l (written 1 (replicate 35 0) file)) (sym (append-nil (replicate 35 0))) (cleared_shut file shut));
         };
@@ -243,7 +243,7 @@ module _ (w : CheckpointState) (sections : List Section) (knows : HasGiven w sec
   failed_reads_in Gate old file new at fails content left = closed_torn old new at.2 (subst (λ f. IsTorn 0 1 f new) at.1 fails) content left
   failed_reads_in GateWritten old file new at fails content left = at.1.leaves content (subst (λ f. MayLeave f content) fails left)
   failed_reads_in GateSynced old file new at fails content left =
-      shut_leaves [] new content (shut_torn_behind 1 (length (replicate 35 0)) file new (omega arith) at.1 fails) left
+      shut_leaves [] new content (shut_torn_behind 1 (length {A = ℕ} (replicate 35 0)) file new (omega arith) at.1 fails) left
   failed_reads_in Ready old file new at fails content left = absurd fails
   failed_reads_in Staged old file new at fails content left =
       filled_torn at.before (36 + w.body) (length w.section) file new content (omega arith) at.filled fails left

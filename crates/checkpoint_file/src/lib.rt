@@ -2,9 +2,11 @@
 //! of its own once they are on the disk.
 #![tactic(auto)]
 
+mod laws;
 mod phase;
 mod sections;
 mod writer;
 
+pub use laws::stops_of_a_checkpoint;
 pub use phase::CheckpointPhase;
 pub use writer::CheckpointWriter;
