@@ -4,3 +4,5 @@ mod StandingLemmas
 mod CallLemmas
 mod AdvanceLemmas
 mod StagingLemmas
+mod LookLemmas
+mod TestLemmas

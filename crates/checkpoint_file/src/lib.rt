@@ -2,11 +2,15 @@
 //! of its own once they are on the disk.
 #![tactic(auto)]
 
+mod gate;
 mod laws;
 mod phase;
 mod sections;
+#[cfg(test)]
+mod tests;
 mod writer;
 
+pub use gate::must_close;
 pub use laws::stops_of_a_checkpoint;
 pub use phase::CheckpointPhase;
 pub use writer::CheckpointWriter;

@@ -79,6 +79,12 @@ impl CheckpointWriter {
         self.generation
     }
 
+    pub fn low(&self) -> u64
+        ensures { result ≡ self.now.low }
+    {
+        self.low
+    }
+
     pub fn stripes(&self) -> StripeCount
         ensures { result.count ≡ self.now.stripes }
     {
