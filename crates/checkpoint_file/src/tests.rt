@@ -247,7 +247,8 @@ fn a_checkpoint_over_an_older_one(rt: HostRuntime) -> Result<(), Fail> {
     Ok(())
 }
 
-// A device call fails; then another is planned to fail, and the writer makes no call for it to fail.
+// A device call fails, behind the sync and the look of `clear`; then another is planned to fail, and the
+// writer makes no call for it to fail.
 // What is left after a stop.
 fn left_after(alloc: Global, failing: u64, fill: Fill, stop: &Fill) -> Result<Vec<u8>, Fail> {
     let mut disk = MemDisk::new(alloc);
@@ -277,7 +278,7 @@ fn is_sealed(bytes: &[u8]) -> bool {
 #[test]
 fn a_failure_at_each_call(rt: HostRuntime) -> Result<(), Fail> {
     let alloc = rt.alloc();
-    for failing in 0..8 {
+    for failing in 2..8 {
         for stop in [Fill::Old, Fill::New, Fill::Byte(0)] {
             let left = left_after(alloc, failing, Fill::New, &stop)?;
             assert!(rt; !is_sealed(&left));
