@@ -1,13 +1,11 @@
 -- What a scan of a log file finds. The relations speak of the file's content, and of the batches before the gate that the scan is at.
-use Rattle.std.specs.Prelude.{◌≡◌, ◌≢◌, ◌⊎◌, ℕ, ◌+◌, ◌<◌, ◌^◌, List, [], ◌∷◌, ◌++◌, length, Result, Err}
-use Rattle.byteorder.specs.Endian.{big_bytes}
+use Rattle.std.specs.Prelude.{◌≡◌, ◌⊎◌, ℕ, ◌+◌, List, [], ◌∷◌, ◌++◌, length, Result, Err}
 use Rattle.disk_model.specs.Files.{Files, now}
-use Rattle.disk_model.specs.Moments.{AtEachMoment}
 use Rattle.map_types.specs.declared.refusals.Refusal.{Refusal}
-use Rattle.map_types.specs.declared.refusals.Refusal.TheVariants.{Failed, NoMemory, Damaged, WrongVersion}
+use Rattle.map_types.specs.declared.refusals.Refusal.TheVariants.{Failed, NoMemory, Damaged}
 use Rattle.log_records.specs.Layout.{Layout}
 use Rattle.ticket_order.specs.declared.stripe.Entry.{Entry}
-use Rattle.store_layout.specs.Logs.{Batch, IsBatch, IsLog, IsClosed, IsEnded, commands_in, end_frame, frame, log_file, log_front}
+use Rattle.store_layout.specs.Logs.{Batch, IsBatch, IsLog, IsClosed, IsEnded, commands_in, log_file, log_front}
 use Rattle.gate_log.specs.States.{AreFrom, batch_of}
 use Rattle.gate_log.specs.declared.scan.Found.{Found}
 use Rattle.gate_log.specs.declared.scan.Found.TheVariants.{Batch as found_batch, Ended, Closed}
@@ -67,9 +65,3 @@ log_bytes states disk generation = (now (states disk) (log_file generation)).see
 abbrev pub failed_in : {X : Type 0} → Result X Refusal → ℕ
 failed_in (Err Failed) = 1
 failed_in _ = 0
-
--- From old to new a disk was only looked at: each call left the files as they were, and so many failed.
-pub record Looks {D : Type 0} (states : D → List Files) (failures : D → ℕ) (honest : D → Type 0) (failed : ℕ) (old new : D) : Type 0 where
-  pub same : AtEachMoment states old new (λ files. files ≡ now (states old))
-  pub failed_so : failures new ≡ failures old + failed
-  pub was_honest : honest new → honest old

@@ -1,6 +1,7 @@
 pub mod BodyReading
 pub mod CheckpointExamples
 pub mod CheckpointFields
+pub mod CheckpointLemmas
 pub mod CheckpointReading
 pub mod EntryRows
 pub mod FirstExamples
