@@ -1,19 +1,21 @@
 -- Opening gives one thing: what the files stand for, or a refusal.
-use Rattle.std.proofs.Common.{◌≡◌, ◌⊎◌, inl, inr, ◌≤◌, ◌<◌, ℕ, ◌+◌, ◌%◌, Bool, true, false, not, cond, ◌&&◌, ◌==◌, nat_le, nat_lt, Option, None, Some, List, [], ◌∷◌, length, Result, Ok, Err, refl, sym, ap, ap₂, subst, ◌∙◌, arith}
+use Rattle.std.proofs.Common.{◌≡◌, ◌⊎◌, inl, inr, ◌≤◌, ◌<◌, ℕ, ◌+◌, ◌-◌, ◌%◌, Bool, true, false, not, cond, ◌&&◌, ◌==◌, nat_le, nat_lt, Option, None, Some, List, [], ◌∷◌, length, Result, Ok, Err, refl, sym, ap, ap₂, subst, ◌∙◌, length-append, arith}
 use Rattle.std.proofs.lemmas.Bool.{eqb-true, ne_eqb}
 use Rattle.std.proofs.lemmas.Bool.Decides.{nat_tests}
+use Rattle.std.proofs.lemmas.List.{take-append-le}
 use Rattle.java_hash.specs.Stripes.{is_stripe_count}
 use Rattle.map_types.specs.declared.refusals.Refusal.{Refusal}
 use Rattle.map_types.specs.declared.refusals.Refusal.TheVariants.{Damaged, NotFormatted, WrongVersion}
 use Rattle.map_model.specs.Maps.{Map}
-use Rattle.map_model.specs.Histories.{History}
+use Rattle.map_model.specs.Steps.{map_after}
+use Rattle.map_model.specs.Histories.{History, fold_to}
 use Rattle.log_records.specs.Layout.{first_layout}
 use Rattle.store_layout.specs.Logs.{Batch}
 use Rattle.store_layout.specs.Checkpoints.{Section, Checkpoint, IsCheckpoint, checkpoint_file, greatest_mark, AreMarkedFrom, is_sealed}
-use Rattle.store_layout.specs.Standing.{AreMarks, Restores}
+use Rattle.store_layout.specs.Standing.{grown, AreMarks, Restores}
 use Rattle.store_layout.specs.Faults.{generation_in, head_fault, version_in}
 use Rattle.store_layout.specs.Opening.{Contents, Opened, log_of, prefix_of, map_of, history_of, IsOlder, Holds, StandsFor, StandsForFront, first_fault, heads_fault, newest_file, Refuses, bad_heads, bad_checkpoint, bad_logs, Opens}
-use Rattle.store_layout.specs.OpeningLaws.{OlderCheckpoint, ShutIsUnsealed, UsedIsHeld}
+use Rattle.store_layout.specs.OpeningLaws.{FrontStays, OlderCheckpoint, ShutIsUnsealed, UsedIsHeld}
 use Rattle.store_layout.proofs.Growing.{restores_opened}
 use Rattle.store_layout.proofs.CheckpointFields.{has_generation, sealed, has_head, one_checkpoint, never_bad, one_bad}
 use Rattle.store_layout.proofs.LogOutcomes.{first_room, LogsGive, one_give, good_logs, bad_logs_give}
@@ -198,6 +200,21 @@ restored_stands h contents found holds restores = record {
   from_least = omega arith;
   to_most = omega arith;
 }
+
+pub front_stays : FrontStays
+front_stays h least most contents more front =
+    let count = front.count in
+    let within = front.within in
+    let first = front.from_first in
+    let same : fold_to h count ≡ fold_to (grown h more) count = ap (map_after h.opening) (sym (take-append-le (count - h.first) h.commands more (omega (arith, within, first)))) in
+    record {
+      count = count;
+      stands = subst (StandsFor contents count) same front.stands;
+      from_first = first;
+      within = omega (arith, within, length-append h.commands more);
+      from_least = front.from_least;
+      to_most = front.to_most;
+    }
 
 -- ---- what is used
 

@@ -2,6 +2,7 @@
 use Rattle.std.specs.Prelude.{◌≡◌, ◌≢◌, ℕ, ◌+◌, ◌*◌, ◌<◌, ◌≤◌, true, false, None, List, [], ◌∷◌, length, Result}
 use Rattle.std.specs.FinMap as finite
 use Rattle.java_hash.specs.Stripes.{is_stripe_count}
+use Rattle.map_types.specs.declared.commands.Command.{Command}
 use Rattle.map_types.specs.declared.refusals.Refusal.{Refusal}
 use Rattle.map_model.specs.Maps.{Map}
 use Rattle.map_model.specs.Histories.{History}
@@ -9,7 +10,7 @@ use Rattle.log_records.specs.Layout.{Layout, IsLayout, first_layout}
 use Rattle.log_records.specs.Agreement.{IsBytes}
 use Rattle.store_layout.specs.Logs.{IsClosed}
 use Rattle.store_layout.specs.Checkpoints.{Section, Checkpoint, AreSections, AreMarkedFrom, IsWhole, IsCheckpoint, checkpoint_bytes, sections_bytes, checkpoint_file, greatest_mark, is_sealed}
-use Rattle.store_layout.specs.Standing.{Restores}
+use Rattle.store_layout.specs.Standing.{grown, Restores}
 use Rattle.store_layout.specs.Faults.{generation_in, low_in, greatest_in, stripes_in, body_in, checkpoint_in, head_fault, size_fault, IsBadCheckpoint}
 use Rattle.store_layout.specs.Opening.{Contents, Opened, log_of, prefix_of, history_of, IsOlder, AreLogs, Holds, StandsFor, StandsForFront, first_checkpoint, heads_fault, newest_file, Refuses, Opens}
 
@@ -84,6 +85,10 @@ FoundRestores = (contents : Contents) (found : Opened) → Holds contents found 
 abbrev pub RestoredStands : Type 0
 RestoredStands = (h : History) (contents : Contents) (found : Opened) → Holds contents found →
     Restores h found.checkpoint.stripes found.checkpoint.sections found.checkpoint.low (log_of found) → StandsForFront h (prefix_of found) (prefix_of found) contents
+
+-- a front of a history stays one of the history that has grown
+abbrev pub FrontStays : Type 0
+FrontStays = (h : History) (least most : ℕ) (contents : Contents) (more : List Command) → StandsForFront h least most contents → StandsForFront (grown h more) least most contents
 
 -- ---- a new store
 

@@ -1,6 +1,6 @@
 //! Laws of the definitions, each as the contract of a function.
 ghost use Rattle.store_layout.specs.Laws.{PartsAndLogRestore, RestoringGoesOn, RestoringStays, OpeningRestores, LogsBegin, LogsAreOpened, LogsGoOn, LogsStay, NextStays, PartsStay, PartsGoOn, MarksGoOn, MarksWiden};
-ghost use Rattle.store_layout.specs.OpeningLaws.{OneCheckpoint, OneFault, NoFault, SealedHead, FieldsMakeCheckpoint, OlderCheckpoint, ShutIsUnsealed, EmptyIsUnsealed, HeldIsUsed, UsedIsHeld, OpensOneWay, OpensSomehow, OneStanding, NeverBoth, FoundRestores, RestoredStands, FirstIsWhole, FirstStands};
+ghost use Rattle.store_layout.specs.OpeningLaws.{OneCheckpoint, OneFault, NoFault, SealedHead, FieldsMakeCheckpoint, OlderCheckpoint, ShutIsUnsealed, EmptyIsUnsealed, HeldIsUsed, UsedIsHeld, OpensOneWay, OpensSomehow, OneStanding, NeverBoth, FoundRestores, RestoredStands, FrontStays, FirstIsWhole, FirstStands};
 
 /// Sections at marks and the commands behind them give the map after the last command, and go on to.
 pub fn laws_of_restoring()
@@ -50,10 +50,11 @@ pub fn laws_of_opening()
     ensures held { UsedIsHeld }
 {}
 
-/// What is found and its history.
+/// What is found and its history, also when it has grown.
 pub fn laws_of_found()
     ensures restores { FoundRestores }
     ensures stands { RestoredStands }
+    ensures stays { FrontStays }
 {}
 
 /// A store that was just made is empty.
