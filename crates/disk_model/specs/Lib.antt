@@ -6,3 +6,4 @@ pub mod Events
 pub mod Memory
 pub mod Moments
 pub mod Gates
+pub mod Calls

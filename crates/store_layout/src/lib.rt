@@ -2,7 +2,11 @@
 #![tactic(auto)]
 
 ghost use Rattle.std.specs.Prelude.{◌≡◌};
+ghost use Rattle.store_layout.specs.Checkpoints as checkpoints;
 ghost use Rattle.store_layout.specs.Logs as logs;
+
+pub mod examples;
+pub mod laws;
 
 /// The version byte of each file.
 pub const VERSION: u8 = 1;
@@ -31,6 +35,26 @@ pub const MOST_FRAME_BYTES: usize = 1_048_576;
 /// The most bytes that a log may have after a batch, with the gate behind it.
 pub const MOST_LOG_BYTES: usize = 1 << 40;
 
+/// Version, generation, low ticket, greatest mark, stripes and the length of the body stand behind a
+/// checkpoint's gate.
+pub const CHECKPOINT_HEADER_BYTES: usize = 35;
+
+/// The sections stand behind the gate and the header.
+pub const BODY_OFFSET: usize = 36;
+
+/// Mark and count stand before the entries of a section.
+pub const SECTION_HEAD_BYTES: usize = 12;
+
+/// The most entries of a section.
+pub const MOST_ENTRIES: usize = u32::MAX as usize;
+
+/// The number of the file that has the checkpoint of this generation.
+pub fn checkpoint_file(generation: u64) -> usize
+    ensures { result ≡ checkpoints.checkpoint_file generation }
+{
+    (generation % 2) as usize
+}
+
 /// The number of the file that has the log of this generation.
 pub fn log_file(generation: u64) -> usize
     ensures { result ≡ logs.log_file generation }
@@ -40,11 +64,17 @@ pub fn log_file(generation: u64) -> usize
 
 #[cfg(test)]
 mod tests {
-    use super::log_file;
+    use super::{checkpoint_file, log_file};
 
     #[test]
     fn logs_take_turns(rt: HostRuntime) {
         assert_eq!(rt; log_file(0), 2);
         assert_eq!(rt; log_file(7), 3);
+    }
+
+    #[test]
+    fn checkpoints_take_turns(rt: HostRuntime) {
+        assert_eq!(rt; checkpoint_file(0), 0);
+        assert_eq!(rt; checkpoint_file(7), 1);
     }
 }

@@ -1,0 +1,16 @@
+//! The file of a checkpoint: its header and its sections are written behind a closed gate, which is opened by a write
+//! of its own once they are on the disk.
+#![tactic(auto)]
+
+mod gate;
+mod laws;
+mod phase;
+mod sections;
+#[cfg(test)]
+mod tests;
+mod writer;
+
+pub use gate::must_close;
+pub use laws::stops_of_a_checkpoint;
+pub use phase::CheckpointPhase;
+pub use writer::CheckpointWriter;
