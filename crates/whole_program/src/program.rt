@@ -91,12 +91,18 @@ fn streams_that_fail(rt: HostRuntime) -> Result<(), Fail> {
     };
     let mut output = Vec::new(alloc);
     let mut error = Vec::new(alloc);
-    assert_eq!(rt; dchm(&rt, alloc, &words, &mut input, &mut output, &mut error), 1);
+    assert_eq!(rt;
+        dchm(&rt, alloc, &words, &mut input, &mut output, &mut error),
+        1
+    );
     assert_eq!(rt; output.as_slice(), WAS_ABSENT_NOW_FIVE);
     assert_eq!(rt; error.as_slice(), UNREADABLE);
     let mut rest = PUT_AND_GET;
     let mut error = Vec::new(alloc);
-    assert_eq!(rt; dchm(&rt, alloc, &words, &mut rest, &mut Closed, &mut error), 1);
+    assert_eq!(rt;
+        dchm(&rt, alloc, &words, &mut rest, &mut Closed, &mut error),
+        1
+    );
     assert_eq!(rt; error.as_slice(), UNREADABLE);
     Ok(())
 }
@@ -109,7 +115,10 @@ fn command_lines_not_known(rt: HostRuntime) -> Result<(), Fail> {
         let mut input = PUT_AND_GET;
         let mut output = Vec::new(alloc);
         let mut error = Vec::new(alloc);
-        assert_eq!(rt; dchm(&rt, alloc, &words, &mut input, &mut output, &mut error), 2);
+        assert_eq!(rt;
+            dchm(&rt, alloc, &words, &mut input, &mut output, &mut error),
+            2
+        );
         assert!(rt; output.is_empty());
         assert!(rt; !error.is_empty());
     }
@@ -124,7 +133,10 @@ fn help_is_no_mistake(rt: HostRuntime) -> Result<(), Fail> {
         let mut input = PUT_AND_GET;
         let mut output = Vec::new(alloc);
         let mut error = Vec::new(alloc);
-        assert_eq!(rt; dchm(&rt, alloc, &words, &mut input, &mut output, &mut error), 0);
+        assert_eq!(rt;
+            dchm(&rt, alloc, &words, &mut input, &mut output, &mut error),
+            0
+        );
         assert!(rt; !output.is_empty());
         assert!(rt; error.is_empty());
         assert_eq!(rt; input, PUT_AND_GET);
