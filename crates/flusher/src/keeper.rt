@@ -1,0 +1,248 @@
+//! The keeper of one store: its disk, its log, and the entries in hand.
+ghost use Rattle.std.specs.Prelude.{◌≡◌, ◌≢◌, ◌+◌, ◌<◌, ◌≤◌, ◌^◌, ℕ, List, Some, None, [], ◌∷◌, ◌++◌, length, true, false, IfOk, IfErr, OnOk, OnErr};
+ghost use Rattle.map_types.specs.declared.commands.Command.{Command};
+ghost use Rattle.ticket_order.specs.declared.record.Record.{Record};
+ghost use Rattle.ticket_order.specs.Records.{failing, publishing};
+ghost use Rattle.ticket_order.specs.StepRules.{MayPublish};
+ghost use Rattle.ticket_order.specs.Walks.{MakesOne, Durable, Fail};
+ghost use Rattle.gate_log.specs.States.{batch_of, begun};
+ghost use Rattle.gate_log.specs.Standing as log;
+ghost use Rattle.disk_model.specs.Files.{File};
+ghost use Rattle.store_layout.specs.Logs.{Batch};
+ghost use Rattle.flusher.specs.Hands.{FitsBatch, IsLongest, IsRun, SameEntries};
+ghost use Rattle.gate_log.specs.Advancing.{Advances, MayAdvance};
+ghost use Rattle.flusher.specs.Sweeping.{IsDone, Stands, StepsOn, next_kind};
+ghost use Rattle.flusher.specs.Keeping.{IsPast, Stages, is_walking, passed};
+
+use crate::sweeper::{Sweeper, Swept, Walking};
+use disk_model::Disk;
+use gate_log::{GateLog, Phase};
+use map_types::Refusal;
+use std::alloc::Global;
+use std::mem;
+use ticket_order::{Entry, Steps};
+
+/// The one value that sweeps, commits, publishes and fails.
+pub struct Keeper<D: Disk> {
+    pub disk: D,
+    pub log: GateLog,
+    pub sweeper: Sweeper,
+    /// The entries of the staged batch, which are in hand until they are committed.
+    pub staged: Vec<Entry>,
+    pub alloc: Global,
+    /// A device call has failed.
+    pub is_broken: bool,
+    /// `fail` was called.
+    pub has_failed: bool,
+    /// The count that was last published.
+    pub published: u64,
+}
+
+impl<D: Disk> Keeper<D> {
+    /// A keeper over files of length 0, at this count of tickets. Its first two advances write the
+    /// log's header. It takes no memory.
+    pub fn fresh(alloc: Global, disk: D, first: u64) -> Keeper<D>
+        ensures disk { result.disk ≡ disk }
+        ensures log { result.log ≡ begun 0 first }
+        ensures hand { result.sweeper.in_hand ≡ record { next = first; slots = [] } }
+        ensures sweep { (result.sweeper.sweep ≡ None) × (result.sweeper.walking ≡ Walking.Rests) }
+        ensures staged { result.staged.items ≡ [] }
+        ensures works { (result.is_broken ≡ false) × (result.has_failed ≡ false) }
+        ensures published { result.published ≡ first }
+    {
+        Keeper {
+            disk,
+            log: GateLog::new(alloc, 0, first),
+            sweeper: Sweeper::new(alloc, first),
+            staged: Vec::new(alloc),
+            alloc,
+            is_broken: false,
+            has_failed: false,
+            published: first,
+        }
+    }
+
+    /// Makes exactly one step of the sweep that the keeper keeps: the LOOK that begins one, or TAKE or
+    /// GIVE of its next stripe. After `Held`, and where no memory was found, the next call tries that
+    /// stripe again.
+    pub fn sweep_step<S: Steps>(&mut self, steps: &mut S) -> Result<Swept, Refusal>
+        requires { (gone : List Command) × Stands (S.stripe_count steps.old) self.old.sweeper gone (S.recorded steps.old) }
+        ensures one { MakesOne S.recorded S.moves (next_kind self.old.sweeper.sweep self.old.sweeper.walking) steps.old steps.new }
+        ensures steps_on { StepsOn (S.stripe_count steps.old) self.old.sweeper.sweep self.old.sweeper.walking self.old.sweeper.in_hand self.new.sweeper (S.recorded steps.old) (S.recorded steps.new) result }
+        ensures stands { (gone : List Command) → Stands (S.stripe_count steps.old) self.old.sweeper gone (S.recorded steps.old) → Stands (S.stripe_count steps.new) self.new.sweeper gone (S.recorded steps.new) }
+        ensures done { (gone : List Command) → Stands (S.stripe_count steps.old) self.old.sweeper gone (S.recorded steps.old) → IfOk result (IsDone self.new.sweeper gone (S.recorded steps.new)) }
+        ensures same { self.new ≡ record self.old { sweeper = self.new.sweeper } }
+        ensures place { S.place steps.new ≡ S.place steps.old }
+        ensures stripes { S.stripe_count steps.new ≡ S.stripe_count steps.old }
+    {
+        self.sweeper.step(steps)
+    }
+
+    /// Whether the keeper is between the steps of a walk. There the caller makes only that walk's call,
+    /// `committed` or `into_disk`.
+    pub fn is_walking(&self) -> bool
+        ensures { result ≡ is_walking self.now.sweeper.walking }
+    {
+        !matches!(self.sweeper.walking, Walking::Rests)
+    }
+
+    /// How many commands are committed.
+    pub fn committed(&self) -> u64
+        ensures { result ≡ self.now.log.committed }
+    {
+        self.log.committed()
+    }
+
+    // Stages the first so many commands. Where that is refused the same entries are in hand.
+    fn stage_run(&mut self, count: u32) -> Result<(), Refusal>
+        requires run { (commands : List Command) × IsRun self.old.sweeper.in_hand commands × (length commands ≡ count) × FitsBatch count self.old.log.committed commands }
+        requires some { 1 ≤ count }
+        requires next { self.old.sweeper.in_hand.next ≡ self.old.log.committed }
+        requires fits { self.old.log.committed + 65536 < 2 ^ 64 }
+        ensures ok { OnOk result ((commands : List Command) → IsRun self.old.sweeper.in_hand commands → length commands ≡ count → Stages commands self.old.log self.old.sweeper.in_hand self.new.log self.new.sweeper.in_hand self.new.staged.items) }
+        ensures stands { OnOk result ((batches : List Batch) (file : File) → log.Stands self.old.log batches [] file → log.Stands self.new.log batches (batch_of self.old.log.committed self.new.staged.items ∷ []) file) }
+        ensures stands_on { OnOk result ((n : ℕ) (gone : List Command) (p : Record) (commands : List Command) → Stands n self.old.sweeper gone p → self.old.sweeper.walking ≡ Walking.Rests → p.opening.first + length gone ≡ self.old.sweeper.in_hand.next
+            → IsRun self.old.sweeper.in_hand commands → length commands ≡ count → Stands n self.new.sweeper (gone ++ commands) p) }
+        ensures err { OnErr result ((self.new.log ≡ self.old.log) × (self.new.staged ≡ self.old.staged) × SameEntries self.old.sweeper.in_hand self.new.sweeper.in_hand) }
+        ensures same { self.new ≡ record self.old { log = self.new.log; sweeper = record self.old.sweeper { in_hand = self.new.sweeper.in_hand }; staged = self.new.staged } }
+    {
+        let batch = match self.sweeper.in_hand.take_run(self.alloc, count as usize) {
+            Ok(batch) => batch,
+            Err(_) => return Err(Refusal::NoMemory),
+        };
+        match self.log.stage(&batch) {
+            Ok(()) => {
+                drop(mem::replace(&mut self.staged, batch));
+                Ok(())
+            }
+            Err(refusal) => {
+                self.sweeper.in_hand.insert(batch);
+                Err(refusal)
+            }
+        }
+    }
+
+    /// Stages the longest run of tickets in hand, from the committed count on, that may be one batch
+    /// of at most `most`, and answers its length. Where there is none, nothing is staged.
+    pub fn stage_batch(&mut self, most: u32) -> Result<u32, Refusal>
+        requires next { self.old.sweeper.in_hand.next ≡ self.old.log.committed }
+        requires fits { self.old.log.committed + 65536 < 2 ^ 64 }
+        ensures failed { self.old.is_broken ≡ true → (result ≡ Err Refusal.Failed) × (self.new ≡ self.old) }
+        ensures wrong_phase { self.old.is_broken ≡ false → self.old.log.phase ≢ Phase.Idle → (result ≡ Err Refusal.WrongPhase) × (self.new ≡ self.old) }
+        ensures ok { IfOk result (λ count. (commands : List Command) × IsLongest most self.old.sweeper.in_hand commands × (count ≡ length commands)
+            × (count ≡ 0 → self.new ≡ self.old) × (1 ≤ count → Stages commands self.old.log self.old.sweeper.in_hand self.new.log self.new.sweeper.in_hand self.new.staged.items)) }
+        ensures stands { OnOk result ((batches : List Batch) (file : File) → log.Stands self.old.log batches [] file → self.new ≢ self.old → log.Stands self.new.log batches (batch_of self.old.log.committed self.new.staged.items ∷ []) file) }
+        ensures stands_on { IfOk result (λ count. (n : ℕ) (gone : List Command) (p : Record) (commands : List Command) → Stands n self.old.sweeper gone p → self.old.sweeper.walking ≡ Walking.Rests → p.opening.first + length gone ≡ self.old.sweeper.in_hand.next
+            → IsRun self.old.sweeper.in_hand commands → length commands ≡ count → Stands n self.new.sweeper (gone ++ commands) p) }
+        ensures err { OnErr result ((self.new.log ≡ self.old.log) × (self.new.staged ≡ self.old.staged) × SameEntries self.old.sweeper.in_hand self.new.sweeper.in_hand) }
+        ensures same { self.new ≡ record self.old { log = self.new.log; sweeper = record self.old.sweeper { in_hand = self.new.sweeper.in_hand }; staged = self.new.staged } }
+    {
+        if self.is_broken {
+            return Err(Refusal::Failed);
+        }
+        if self.log.phase() != Phase::Idle {
+            return Err(Refusal::WrongPhase);
+        }
+        let count = self.sweeper.in_hand.run_len(most);
+        if count == 0 {
+            return Ok(0);
+        }
+        match self.stage_run(count) {
+            Ok(()) => Ok(count),
+            Err(refusal) => Err(refusal),
+        }
+    }
+
+    // The staged batch is committed, and no longer in hand.
+    fn let_go(&mut self)
+        requires places { length self.old.staged.items ≤ length self.old.sweeper.in_hand.slots }
+        requires fits { self.old.sweeper.in_hand.next + length self.old.staged.items < 2 ^ 64 }
+        ensures hand { self.new.sweeper ≡ record self.old.sweeper { in_hand = passed (length self.old.staged.items) self.old.sweeper.in_hand } }
+        ensures staged { self.new.staged.items ≡ [] }
+        ensures same { self.new ≡ record self.old { sweeper = self.new.sweeper; staged = self.new.staged } }
+    {
+        self.sweeper.in_hand.pass(self.staged.len());
+        self.staged.clear();
+    }
+
+    /// Makes the device call that is due in the log, and no other; where none is due it makes none.
+    /// After the last sync of a batch its commands are committed, and no longer in hand. After a device
+    /// failure no call is made. It takes no memory.
+    pub fn advance(&mut self) -> Result<Phase, Refusal>
+        requires stands { MayAdvance D.states D.honest self.old.log self.old.disk }
+        requires broken { self.old.is_broken ≡ self.old.log.is_broken }
+        requires places { length self.old.staged.items ≤ length self.old.sweeper.in_hand.slots }
+        requires fits { self.old.sweeper.in_hand.next + length self.old.staged.items < 2 ^ 64 }
+        ensures failed { self.old.is_broken ≡ true → (result ≡ Err Refusal.Failed) × (self.new ≡ self.old) }
+        ensures rests { self.old.is_broken ≡ false → self.old.log.phase ≡ Phase.Idle → (result ≡ Ok Phase.Idle) × (self.new ≡ self.old) }
+        ensures advances { self.old.is_broken ≡ false → self.old.log.phase ≢ Phase.Idle → Advances D.states D.failures D.honest self.old.log self.new.log self.old.disk self.new.disk result }
+        ensures hand { OnOk result (IsPast self.old.log.phase self.old.sweeper self.old.staged.items self.new.sweeper self.new.staged.items) }
+        ensures kept { OnErr result ((self.new.sweeper ≡ self.old.sweeper) × (self.new.staged ≡ self.old.staged) × (self.new.is_broken ≡ true)) }
+        ensures stands { MayAdvance D.states D.honest self.new.log self.new.disk }
+        ensures same { (self.new.has_failed ≡ self.old.has_failed) × (self.new.published ≡ self.old.published) }
+    {
+        if self.is_broken {
+            return Err(Refusal::Failed);
+        }
+        let phase = self.log.phase();
+        match self.log.advance(&mut self.disk) {
+            Ok(next) => {
+                if phase == Phase::Opened {
+                    self.let_go();
+                    return Ok(next);
+                }
+                Ok(next)
+            }
+            Err(refusal) => {
+                self.is_broken = true;
+                Err(refusal)
+            }
+        }
+    }
+
+    /// DURABLE with the committed count; no step where `fail` was called.
+    pub fn publish<S: Steps>(&mut self, steps: &mut S)
+        requires { self.old.has_failed ≡ false → MayPublish (S.recorded steps.old) self.old.log.committed }
+        ensures one { self.old.has_failed ≡ false → MakesOne S.recorded S.moves Durable steps.old steps.new }
+        ensures published { self.old.has_failed ≡ false → (S.recorded steps.new ≡ publishing (S.recorded steps.old) self.old.log.committed) × (self.new ≡ record self.old { published = self.old.log.committed }) }
+        ensures failed { self.old.has_failed ≡ true → (steps.new ≡ steps.old) × (self.new ≡ self.old) }
+        ensures place { S.place steps.new ≡ S.place steps.old }
+        ensures stripes { S.stripe_count steps.new ≡ S.stripe_count steps.old }
+    {
+        if self.has_failed {
+            return;
+        }
+        let committed = self.log.committed();
+        steps.durable(committed);
+        self.published = committed;
+    }
+
+    /// FAIL. From now on nothing is published.
+    pub fn fail<S: Steps>(&mut self, steps: &mut S)
+        requires { (S.recorded steps.old).keeper ≡ true }
+        ensures one { MakesOne S.recorded S.moves Fail steps.old steps.new }
+        ensures failed { (S.recorded steps.new ≡ failing (S.recorded steps.old)) × (self.new ≡ record self.old { has_failed = true }) }
+        ensures place { S.place steps.new ≡ S.place steps.old }
+        ensures stripes { S.stripe_count steps.new ≡ S.stripe_count steps.old }
+    {
+        steps.fail();
+        self.has_failed = true;
+    }
+
+    /// The disk, which the keeper no longer needs.
+    pub fn into_disk(self) -> D
+        ensures { result ≡ self.disk }
+    {
+        let Keeper {
+            disk,
+            log: _log,
+            sweeper: _sweeper,
+            staged: _staged,
+            alloc: _,
+            is_broken: _,
+            has_failed: _,
+            published: _,
+        } = self;
+        disk
+    }
+}
