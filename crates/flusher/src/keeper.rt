@@ -1,18 +1,20 @@
 //! The keeper of one store: its disk, its log, and the entries in hand.
-ghost use Rattle.std.specs.Prelude.{◌≡◌, ◌≢◌, ◌+◌, ◌<◌, ◌≤◌, ◌^◌, ℕ, List, Some, None, [], ◌∷◌, ◌++◌, length, true, false, IfOk, IfErr, OnOk, OnErr};
+ghost use Rattle.std.specs.Prelude.{◌≡◌, ◌≢◌, ◌⊎◌, ◌↔◌, ◌+◌, ◌<◌, ◌≤◌, ◌^◌, ℕ, List, Some, None, [], ◌∷◌, ◌++◌, length, true, false, IfOk, IfErr, OnOk, OnErr};
 ghost use Rattle.map_types.specs.declared.commands.Command.{Command};
 ghost use Rattle.ticket_order.specs.declared.record.Record.{Record};
 ghost use Rattle.ticket_order.specs.Records.{failing, publishing};
-ghost use Rattle.ticket_order.specs.StepRules.{MayPublish};
+ghost use Rattle.ticket_order.specs.Calls.{RefusesSweep};
 ghost use Rattle.ticket_order.specs.Walks.{MakesOne, Durable, Fail};
-ghost use Rattle.gate_log.specs.States.{batch_of, begun};
+ghost use Rattle.gate_log.specs.States.{batch_of, begun, commands_of, IsResting};
 ghost use Rattle.gate_log.specs.Standing as log;
-ghost use Rattle.disk_model.specs.Files.{File};
+ghost use Rattle.gate_log.specs.Advancing.{Advances};
+ghost use Rattle.disk_model.specs.Files.{File, now};
+ghost use Rattle.disk_model.specs.Moments.{AtEachMoment};
 ghost use Rattle.store_layout.specs.Logs.{Batch};
 ghost use Rattle.flusher.specs.Hands.{FitsBatch, IsLongest, IsRun, SameEntries};
-ghost use Rattle.gate_log.specs.Advancing.{Advances, MayAdvance};
-ghost use Rattle.flusher.specs.Sweeping.{IsDone, Stands, StepsOn, next_kind};
-ghost use Rattle.flusher.specs.Keeping.{IsPast, Stages, is_walking, passed};
+ghost use Rattle.flusher.specs.Sweeping.{HasGathered, IsDone, StepsOn, next_kind};
+ghost use Rattle.flusher.specs.Keeping.{IsFull, IsPast, Stages, StaysAt, SweepsOnce, is_too_long, is_walking, passed};
+ghost use Rattle.flusher.specs.Fitting.{Fits, IsQuiet, IsUnused, KeepsCommands, done_after};
 
 use crate::sweeper::{Sweeper, Swept, Walking};
 use disk_model::Disk;
@@ -20,6 +22,7 @@ use gate_log::{GateLog, Phase};
 use map_types::Refusal;
 use std::alloc::Global;
 use std::mem;
+use std::sync::Wait;
 use ticket_order::{Entry, Steps};
 
 /// The one value that sweeps, commits, publishes and fails.
@@ -49,6 +52,7 @@ impl<D: Disk> Keeper<D> {
         ensures staged { result.staged.items ≡ [] }
         ensures works { (result.is_broken ≡ false) × (result.has_failed ≡ false) }
         ensures published { result.published ≡ first }
+        ensures fits { (n : ℕ) (p : Record) → IsUnused first p → Fits D.states D.honest n [] [] result p }
     {
         Keeper {
             disk,
@@ -66,16 +70,62 @@ impl<D: Disk> Keeper<D> {
     /// GIVE of its next stripe. After `Held`, and where no memory was found, the next call tries that
     /// stripe again.
     pub fn sweep_step<S: Steps>(&mut self, steps: &mut S) -> Result<Swept, Refusal>
-        requires { (gone : List Command) × Stands (S.stripe_count steps.old) self.old.sweeper gone (S.recorded steps.old) }
+        requires { (before : List Command) × (done : List Command) × Fits D.states D.honest (S.stripe_count steps.old) before done self.old (S.recorded steps.old) }
         ensures one { MakesOne S.recorded S.moves (next_kind self.old.sweeper.sweep self.old.sweeper.walking) steps.old steps.new }
         ensures steps_on { StepsOn (S.stripe_count steps.old) self.old.sweeper.sweep self.old.sweeper.walking self.old.sweeper.in_hand self.new.sweeper (S.recorded steps.old) (S.recorded steps.new) result }
-        ensures stands { (gone : List Command) → Stands (S.stripe_count steps.old) self.old.sweeper gone (S.recorded steps.old) → Stands (S.stripe_count steps.new) self.new.sweeper gone (S.recorded steps.new) }
-        ensures done { (gone : List Command) → Stands (S.stripe_count steps.old) self.old.sweeper gone (S.recorded steps.old) → IfOk result (IsDone self.new.sweeper gone (S.recorded steps.new)) }
+        ensures done { (before : List Command) (done : List Command) → Fits D.states D.honest (S.stripe_count steps.old) before done self.old (S.recorded steps.old)
+            → IfOk result (IsDone self.new.sweeper (done ++ commands_of self.old.staged.items) (S.recorded steps.new)) }
+        ensures fits { (before : List Command) (done : List Command) → Fits D.states D.honest (S.stripe_count steps.old) before done self.old (S.recorded steps.old)
+            → Fits D.states D.honest (S.stripe_count steps.new) before done self.new (S.recorded steps.new) }
+        ensures quiet { IsQuiet (S.recorded steps.old) (S.recorded steps.new) }
         ensures same { self.new ≡ record self.old { sweeper = self.new.sweeper } }
         ensures place { S.place steps.new ≡ S.place steps.old }
         ensures stripes { S.stripe_count steps.new ≡ S.stripe_count steps.old }
     {
         self.sweeper.step(steps)
+    }
+
+    /// Goes on with the sweep that is begun, or makes a whole one. A stripe that another holds is tried
+    /// again until it is free. Where no memory is found, the stripes before that one are drained, and
+    /// the next sweep goes on there.
+    pub fn sweep<R: Wait, S: Steps>(&mut self, rt: &R, steps: &mut S) -> Result<u64, Refusal>
+        requires { (before : List Command) × (done : List Command) × Fits D.states D.honest (S.stripe_count steps.old) before done self.old (S.recorded steps.old) }
+        ensures done { (before : List Command) (done : List Command) → Fits D.states D.honest (S.stripe_count steps.old) before done self.old (S.recorded steps.old)
+            → IfOk result (λ count. HasGathered self.new.sweeper (done ++ commands_of self.old.staged.items) count (S.recorded steps.new)) }
+        ensures err { IfErr result (λ refusal. (refusal ≡ Refusal.NoMemory) × StaysAt (S.stripe_count steps.new) self.new.sweeper (S.recorded steps.new)) }
+        ensures rests { is_walking self.new.sweeper.walking ≡ false }
+        ensures fits { (before : List Command) (done : List Command) → Fits D.states D.honest (S.stripe_count steps.old) before done self.old (S.recorded steps.old)
+            → Fits D.states D.honest (S.stripe_count steps.new) before done self.new (S.recorded steps.new) }
+        ensures quiet { IsQuiet (S.recorded steps.old) (S.recorded steps.new) }
+        ensures same { self.new ≡ record self.old { sweeper = self.new.sweeper } }
+        ensures place { S.place steps.new ≡ S.place steps.old }
+        ensures stripes { S.stripe_count steps.new ≡ S.stripe_count steps.old }
+    {
+        for _step in rt.forever() {
+            match self.sweep_step(steps)? {
+                Swept::Done(count) => return Ok(count),
+                Swept::More | Swept::Held(_) => {}
+            }
+        }
+        unreachable!()
+    }
+
+    /// Sweeps one stripe, by TAKE and GIVE, and doesn't wait for it. A sweep that is begun and not over
+    /// stays where it is.
+    pub fn try_sweep<S: Steps>(&mut self, stripe: usize, steps: &mut S) -> Result<(), Refusal>
+        requires fits { (before : List Command) × (done : List Command) × Fits D.states D.honest (S.stripe_count steps.old) before done self.old (S.recorded steps.old) }
+        requires rests { is_walking self.old.sweeper.walking ≡ false }
+        requires within { stripe < S.stripe_count steps.old }
+        ensures ok { OnOk result (SweepsOnce (S.stripe_count steps.old) stripe self.old.sweeper.in_hand self.new.sweeper.in_hand (S.recorded steps.old) (S.recorded steps.new)) }
+        ensures err { IfErr result (λ refusal. RefusesSweep (S.recorded steps.old) stripe refusal (S.recorded steps.new)) }
+        ensures kept { OnErr result (SameEntries self.old.sweeper.in_hand self.new.sweeper.in_hand) }
+        ensures fits { (before : List Command) (done : List Command) → Fits D.states D.honest (S.stripe_count steps.old) before done self.old (S.recorded steps.old)
+            → Fits D.states D.honest (S.stripe_count steps.new) before done self.new (S.recorded steps.new) }
+        ensures same { self.new ≡ record self.old { sweeper = record self.old.sweeper { in_hand = self.new.sweeper.in_hand } } }
+        ensures place { S.place steps.new ≡ S.place steps.old }
+        ensures stripes { S.stripe_count steps.new ≡ S.stripe_count steps.old }
+    {
+        self.sweeper.sweep_stripe(stripe, steps)
     }
 
     /// Whether the keeper is between the steps of a walk. There the caller makes only that walk's call,
@@ -98,11 +148,11 @@ impl<D: Disk> Keeper<D> {
         requires run { (commands : List Command) × IsRun self.old.sweeper.in_hand commands × (length commands ≡ count) × FitsBatch count self.old.log.committed commands }
         requires some { 1 ≤ count }
         requires next { self.old.sweeper.in_hand.next ≡ self.old.log.committed }
-        requires fits { self.old.log.committed + 65536 < 2 ^ 64 }
+        requires resting { IsResting self.old.log }
         ensures ok { OnOk result ((commands : List Command) → IsRun self.old.sweeper.in_hand commands → length commands ≡ count → Stages commands self.old.log self.old.sweeper.in_hand self.new.log self.new.sweeper.in_hand self.new.staged.items) }
         ensures stands { OnOk result ((batches : List Batch) (file : File) → log.Stands self.old.log batches [] file → log.Stands self.new.log batches (batch_of self.old.log.committed self.new.staged.items ∷ []) file) }
-        ensures stands_on { OnOk result ((n : ℕ) (gone : List Command) (p : Record) (commands : List Command) → Stands n self.old.sweeper gone p → self.old.sweeper.walking ≡ Walking.Rests → p.opening.first + length gone ≡ self.old.sweeper.in_hand.next
-            → IsRun self.old.sweeper.in_hand commands → length commands ≡ count → Stands n self.new.sweeper (gone ++ commands) p) }
+        ensures full { (commands : List Command) → IsRun self.old.sweeper.in_hand commands → length commands ≡ count → (result ≡ Err Refusal.LogFull) ↔ is_too_long self.old.log commands }
+        ensures no_other { IfErr result (λ refusal. (refusal ≡ Refusal.LogFull) ⊎ (refusal ≡ Refusal.NoMemory)) }
         ensures err { OnErr result ((self.new.log ≡ self.old.log) × (self.new.staged ≡ self.old.staged) × SameEntries self.old.sweeper.in_hand self.new.sweeper.in_hand) }
         ensures same { self.new ≡ record self.old { log = self.new.log; sweeper = record self.old.sweeper { in_hand = self.new.sweeper.in_hand }; staged = self.new.staged } }
     {
@@ -125,22 +175,21 @@ impl<D: Disk> Keeper<D> {
     /// Stages the longest run of tickets in hand, from the committed count on, that may be one batch
     /// of at most `most`, and answers its length. Where there is none, nothing is staged.
     pub fn stage_batch(&mut self, most: u32) -> Result<u32, Refusal>
-        requires next { self.old.sweeper.in_hand.next ≡ self.old.log.committed }
-        requires fits { self.old.log.committed + 65536 < 2 ^ 64 }
-        ensures failed { self.old.is_broken ≡ true → (result ≡ Err Refusal.Failed) × (self.new ≡ self.old) }
-        ensures wrong_phase { self.old.is_broken ≡ false → self.old.log.phase ≢ Phase.Idle → (result ≡ Err Refusal.WrongPhase) × (self.new ≡ self.old) }
+        requires { (n : ℕ) × (before : List Command) × (done : List Command) × (p : Record) × Fits D.states D.honest n before done self.old p }
+        ensures failed { (result ≡ Err Refusal.Failed) ↔ (self.old.is_broken ≡ true) }
+        ensures wrong_phase { (result ≡ Err Refusal.WrongPhase) ↔ ((self.old.is_broken ≡ false) × (IsResting self.old.log → ⊥)) }
+        ensures full { (result ≡ Err Refusal.LogFull) ↔ ((self.old.is_broken ≡ false) × IsResting self.old.log × IsFull most self.old.log self.old.sweeper.in_hand) }
+        ensures no_other { IfErr result (λ refusal. (refusal ≡ Refusal.Failed) ⊎ (refusal ≡ Refusal.WrongPhase) ⊎ (refusal ≡ Refusal.LogFull) ⊎ (refusal ≡ Refusal.NoMemory)) }
         ensures ok { IfOk result (λ count. (commands : List Command) × IsLongest most self.old.sweeper.in_hand commands × (count ≡ length commands)
             × (count ≡ 0 → self.new ≡ self.old) × (1 ≤ count → Stages commands self.old.log self.old.sweeper.in_hand self.new.log self.new.sweeper.in_hand self.new.staged.items)) }
-        ensures stands { OnOk result ((batches : List Batch) (file : File) → log.Stands self.old.log batches [] file → self.new ≢ self.old → log.Stands self.new.log batches (batch_of self.old.log.committed self.new.staged.items ∷ []) file) }
-        ensures stands_on { IfOk result (λ count. (n : ℕ) (gone : List Command) (p : Record) (commands : List Command) → Stands n self.old.sweeper gone p → self.old.sweeper.walking ≡ Walking.Rests → p.opening.first + length gone ≡ self.old.sweeper.in_hand.next
-            → IsRun self.old.sweeper.in_hand commands → length commands ≡ count → Stands n self.new.sweeper (gone ++ commands) p) }
         ensures err { OnErr result ((self.new.log ≡ self.old.log) × (self.new.staged ≡ self.old.staged) × SameEntries self.old.sweeper.in_hand self.new.sweeper.in_hand) }
+        ensures fits { (n : ℕ) (before : List Command) (done : List Command) (p : Record) → Fits D.states D.honest n before done self.old p → Fits D.states D.honest n before done self.new p }
         ensures same { self.new ≡ record self.old { log = self.new.log; sweeper = record self.old.sweeper { in_hand = self.new.sweeper.in_hand }; staged = self.new.staged } }
     {
         if self.is_broken {
             return Err(Refusal::Failed);
         }
-        if self.log.phase() != Phase::Idle {
+        if !self.log.is_resting() {
             return Err(Refusal::WrongPhase);
         }
         let count = self.sweeper.in_hand.run_len(most);
@@ -155,7 +204,6 @@ impl<D: Disk> Keeper<D> {
 
     // The staged batch is committed, and no longer in hand.
     fn let_go(&mut self)
-        requires places { length self.old.staged.items ≤ length self.old.sweeper.in_hand.slots }
         requires fits { self.old.sweeper.in_hand.next + length self.old.staged.items < 2 ^ 64 }
         ensures hand { self.new.sweeper ≡ record self.old.sweeper { in_hand = passed (length self.old.staged.items) self.old.sweeper.in_hand } }
         ensures staged { self.new.staged.items ≡ [] }
@@ -169,17 +217,19 @@ impl<D: Disk> Keeper<D> {
     /// After the last sync of a batch its commands are committed, and no longer in hand. After a device
     /// failure no call is made. It takes no memory.
     pub fn advance(&mut self) -> Result<Phase, Refusal>
-        requires stands { MayAdvance D.states D.honest self.old.log self.old.disk }
-        requires broken { self.old.is_broken ≡ self.old.log.is_broken }
-        requires places { length self.old.staged.items ≤ length self.old.sweeper.in_hand.slots }
-        requires fits { self.old.sweeper.in_hand.next + length self.old.staged.items < 2 ^ 64 }
+        requires { (n : ℕ) × (before : List Command) × (done : List Command) × (p : Record) × Fits D.states D.honest n before done self.old p }
         ensures failed { self.old.is_broken ≡ true → (result ≡ Err Refusal.Failed) × (self.new ≡ self.old) }
         ensures rests { self.old.is_broken ≡ false → self.old.log.phase ≡ Phase.Idle → (result ≡ Ok Phase.Idle) × (self.new ≡ self.old) }
         ensures advances { self.old.is_broken ≡ false → self.old.log.phase ≢ Phase.Idle → Advances D.states D.failures D.honest self.old.log self.new.log self.old.disk self.new.disk result }
         ensures hand { OnOk result (IsPast self.old.log.phase self.old.sweeper self.old.staged.items self.new.sweeper self.new.staged.items) }
+        ensures works { OnOk result (self.new.is_broken ≡ false) }
         ensures kept { OnErr result ((self.new.sweeper ≡ self.old.sweeper) × (self.new.staged ≡ self.old.staged) × (self.new.is_broken ≡ true)) }
-        ensures stands { MayAdvance D.states D.honest self.new.log self.new.disk }
-        ensures same { (self.new.has_failed ≡ self.old.has_failed) × (self.new.published ≡ self.old.published) }
+        ensures any_moment { (n : ℕ) (before : List Command) (done : List Command) (p : Record) → Fits D.states D.honest n before done self.old p → D.honest self.old.disk
+            → self.old.is_broken ≡ false → self.old.log.phase ≢ Phase.Idle
+            → AtEachMoment D.states self.old.disk self.new.disk (KeepsCommands self.old.log (before ++ done) (commands_of self.old.staged.items) (now (D.states self.old.disk))) }
+        ensures fits { (n : ℕ) (before : List Command) (done : List Command) (p : Record) → Fits D.states D.honest n before done self.old p
+            → Fits D.states D.honest n before (done_after self.old.log.phase result done self.old.staged.items) self.new p }
+        ensures same { self.new ≡ record self.old { disk = self.new.disk; log = self.new.log; sweeper = self.new.sweeper; staged = self.new.staged; is_broken = self.new.is_broken } }
     {
         if self.is_broken {
             return Err(Refusal::Failed);
@@ -200,12 +250,15 @@ impl<D: Disk> Keeper<D> {
         }
     }
 
-    /// DURABLE with the committed count; no step where `fail` was called.
+    /// DURABLE with the committed count, which the pass has seen; no step where `fail` was called.
     pub fn publish<S: Steps>(&mut self, steps: &mut S)
-        requires { self.old.has_failed ≡ false → MayPublish (S.recorded steps.old) self.old.log.committed }
+        requires fits { (before : List Command) × (done : List Command) × Fits D.states D.honest (S.stripe_count steps.old) before done self.old (S.recorded steps.old) }
+        requires rests { is_walking self.old.sweeper.walking ≡ false }
         ensures one { self.old.has_failed ≡ false → MakesOne S.recorded S.moves Durable steps.old steps.new }
         ensures published { self.old.has_failed ≡ false → (S.recorded steps.new ≡ publishing (S.recorded steps.old) self.old.log.committed) × (self.new ≡ record self.old { published = self.old.log.committed }) }
         ensures failed { self.old.has_failed ≡ true → (steps.new ≡ steps.old) × (self.new ≡ self.old) }
+        ensures fits { (before : List Command) (done : List Command) → Fits D.states D.honest (S.stripe_count steps.old) before done self.old (S.recorded steps.old)
+            → Fits D.states D.honest (S.stripe_count steps.new) before done self.new (S.recorded steps.new) }
         ensures place { S.place steps.new ≡ S.place steps.old }
         ensures stripes { S.stripe_count steps.new ≡ S.stripe_count steps.old }
     {
@@ -219,9 +272,12 @@ impl<D: Disk> Keeper<D> {
 
     /// FAIL. From now on nothing is published.
     pub fn fail<S: Steps>(&mut self, steps: &mut S)
-        requires { (S.recorded steps.old).keeper ≡ true }
+        requires fits { (before : List Command) × (done : List Command) × Fits D.states D.honest (S.stripe_count steps.old) before done self.old (S.recorded steps.old) }
+        requires rests { is_walking self.old.sweeper.walking ≡ false }
         ensures one { MakesOne S.recorded S.moves Fail steps.old steps.new }
         ensures failed { (S.recorded steps.new ≡ failing (S.recorded steps.old)) × (self.new ≡ record self.old { has_failed = true }) }
+        ensures fits { (before : List Command) (done : List Command) → Fits D.states D.honest (S.stripe_count steps.old) before done self.old (S.recorded steps.old)
+            → Fits D.states D.honest (S.stripe_count steps.new) before done self.new (S.recorded steps.new) }
         ensures place { S.place steps.new ≡ S.place steps.old }
         ensures stripes { S.stripe_count steps.new ≡ S.stripe_count steps.old }
     {

@@ -1,11 +1,12 @@
 //! The sweep that the keeper keeps.
-ghost use Rattle.std.specs.Prelude.{◌≡◌, ◌+◌, ◌<◌, ◌≤◌, ℕ, List, Some, None, [], true, IfOk, IfErr, OnOk, IfSome, IfNone};
+ghost use Rattle.std.specs.Prelude.{◌≡◌, ◌+◌, ◌<◌, ◌≤◌, ℕ, List, Some, None, [], true, IfOk, IfErr, OnOk, OnErr, IfSome, IfNone};
 ghost use Rattle.map_types.specs.declared.commands.Command.{Command};
 ghost use Rattle.ticket_order.specs.declared.record.Record.{Record};
 ghost use Rattle.ticket_order.specs.Records.{reach, missing};
 ghost use Rattle.ticket_order.specs.Calls.{SweepsStripe, RefusesSweep};
 ghost use Rattle.ticket_order.specs.Walks.{MakesOne, Look, Take, Give, entries_of_walk, refusal_of_walk};
-ghost use Rattle.flusher.specs.Gathering.{AreGathered};
+ghost use Rattle.flusher.specs.Gathering.{Collects};
+ghost use Rattle.flusher.specs.Keeping.{SweepsOnce};
 ghost use Rattle.flusher.specs.Sweeping.{AfterGive, AfterTake, BeginsSweep, HasNone, IsBetween, IsHolding, IsDone, IsReady, IsSwept, Stands, StepsOn, next_kind};
 
 use crate::in_hand::InHand;
@@ -83,6 +84,31 @@ impl Sweeper {
         match mem::replace(&mut self.walking, Walking::Rests) {
             Walking::SweepGives(walk) => self.give(sweep, walk, steps),
             Walking::Rests | Walking::SweepTakes => self.take(sweep, steps),
+        }
+    }
+
+    /// Sweeps one stripe, and leaves the sweep that is begun where it is.
+    pub fn sweep_stripe<S: Steps>(&mut self, stripe: usize, steps: &mut S) -> Result<(), Refusal>
+        requires free { (S.recorded steps.old).holding ≡ None }
+        requires within { stripe < S.stripe_count steps.old }
+        requires keeper { (S.recorded steps.old).keeper ≡ true }
+        ensures ok { OnOk result (SweepsOnce (S.stripe_count steps.old) stripe self.old.in_hand self.new.in_hand (S.recorded steps.old) (S.recorded steps.new)) }
+        ensures err { IfErr result (λ refusal. RefusesSweep (S.recorded steps.old) stripe refusal (S.recorded steps.new)) }
+        ensures kept { OnErr result (Collects self.old.in_hand [] self.new.in_hand) }
+        ensures same { self.new ≡ record self.old { in_hand = self.new.in_hand } }
+        ensures place { S.place steps.new ≡ S.place steps.old }
+        ensures stripes { S.stripe_count steps.new ≡ S.stripe_count steps.old }
+    {
+        let Some(walk) = hold(self.alloc, stripe, steps) else {
+            return Err(Refusal::Busy { stripe });
+        };
+        let walk = with_room(&mut self.in_hand, walk);
+        match hand_out(walk, steps) {
+            Some(entries) => {
+                self.in_hand.insert(entries);
+                Ok(())
+            }
+            None => Err(Refusal::NoMemory),
         }
     }
 
