@@ -130,7 +130,7 @@ stripe_taken n i first taken es seen more is e has stripe =
 
 -- ---- the records of the pass after each step of a sweep
 
-accounts_later : (hand : Hand) (gone : List Command) (first : ℕ) (taken : List Entry) (seen more : List Command) → Accounts hand gone first taken seen → Accounts hand gone first taken (seen ++ more)
+pub accounts_later : (hand : Hand) (gone : List Command) (first : ℕ) (taken : List Entry) (seen more : List Command) → Accounts hand gone first taken seen → Accounts hand gone first taken (seen ++ more)
 accounts_later hand gone first taken seen more a = record {
   low = a.low;
   reached = a.reached;
@@ -140,7 +140,7 @@ accounts_later hand gone first taken seen more a = record {
   known = λ e has. grown first seen more e (a.known e has);
 }
 
-taken_later : (n count stripe first : ℕ) (taken taken' : List Entry) (seen more : List Command) → AreTaken n count stripe first taken seen → count ≤ first + length seen → ((e : Entry) → Contains taken e → Contains taken' e)
+pub taken_later : (n count stripe first : ℕ) (taken taken' : List Entry) (seen more : List Command) → AreTaken n count stripe first taken seen → count ≤ first + length seen → ((e : Entry) → Contains taken e → Contains taken' e)
     → AreTaken n count stripe first taken' (seen ++ more)
 taken_later n count stripe first taken taken' seen more all reached kept = λ e has low before. kept e (all e (shrunk first seen more e has (omega (arith, low, reached))) low before)
 
@@ -192,7 +192,7 @@ pub record HasDrained (n count stripe : ℕ) (hand : Hand) (gone : List Command)
   pub below : HasSweptBelow n count (stripe + 1) w
   pub gathers : Gathers hand gone w
 
-low_enough : (p w : Record) (k : ℕ) → Rises p k w → k ≤ reach w
+pub low_enough : (p w : Record) (k : ℕ) → Rises p k w → k ≤ reach w
 low_enough p w k (inl x) = omega (arith, x.0, x.1)
 low_enough p w k (inr x) = omega (arith, x.1)
 

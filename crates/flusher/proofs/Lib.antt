@@ -5,3 +5,9 @@ pub mod Gathered
 pub mod Walked
 pub mod Standing
 pub mod Staging
+pub mod Quiet
+pub mod Passing
+pub mod Keeping
+pub mod Moments
+pub mod Committing
+pub mod Trying

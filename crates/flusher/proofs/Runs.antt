@@ -1,5 +1,5 @@
 -- The run of commands from the first place on.
-use Rattle.std.proofs.Common.{◌≡◌, ◌≢◌, ◌⊎◌, inl, inr, ℕ, ◌+◌, ◌-◌, ◌<◌, ◌≤◌, ◌^◌, List, [], ◌∷◌, ◌++◌, length, get_or, set, take, drop, map, min, replicate, Option, Some, None, refl, sym, ◌∙◌, ap, subst, arith}
+use Rattle.std.proofs.Common.{◌≡◌, ◌≢◌, ◌⊎◌, inl, inr, ℕ, ◌+◌, ◌-◌, ◌<◌, ◌≤◌, ◌^◌, List, [], ◌∷◌, ◌++◌, length, get_or, set, take, drop, map, min, replicate, Option, Some, None, append-nil, refl, sym, ◌∙◌, ap, subst, arith}
 use Rattle.std.proofs.lemmas.List.{length-append, length-map, append_assoc, map-append, get_or_at, get_or-append_right, get_or_append_left, get_or-map, take_more, drop_more, set_at, replicate-append-replicate, length-replicate, length-take-le}
 use Rattle.std.proofs.lemmas.Bool.{cases_lt}
 use Rattle.map_types.specs.declared.commands.Command.{Command}
@@ -10,6 +10,8 @@ use Rattle.log_records.specs.Layout.{first_layout}
 use Rattle.log_records.specs.Spelling.{record_bytes}
 use Rattle.store_layout.specs.Logs.{Batch, frame, records_bytes}
 use Rattle.store_layout.proofs.LogLemmas.{length-frame, records_push}
+use Rattle.gate_log.specs.States.{LogState}
+use Rattle.flusher.specs.Keeping.{IsFull}
 use Rattle.flusher.specs.Hands.{Hand, most_from, IsRun, FitsBatch, IsLongest}
 
 -- of two runs one is a front of the other
@@ -53,6 +55,9 @@ fits most hand room commands f number few = record {
   within = omega arith;
   short = omega (arith, length-frame first_layout (record { first = hand.next; commands = commands }), f.filled);
 }
+
+pub frame_of_found : (hand : Hand) (room : ℕ) (commands : List Command) (len : ℕ) → IsFound hand room commands → len + room ≡ 1048576 → len ≡ length (frame first_layout (record { first = hand.next; commands = commands }))
+frame_of_found hand room commands len f is = omega (arith, is, f.filled, length-frame first_layout (record { first = hand.next; commands = commands }))
 
 -- nothing is in the place behind it, or it has as many commands as may be
 pub longest_at_limit : (most : ℕ) (hand : Hand) (room : ℕ) (commands : List Command) → IsFound hand room commands → hand.next < 2 ^ 64 → length commands ≡ most_from hand.next most → IsLongest most hand commands
@@ -160,3 +165,24 @@ run_within hand commands run = omega (arith, ap length run.1, length-append (map
 
 pub none_is_some : (c : Command) → None ≡ Some c → ⊥
 none_is_some c e = cc
+
+no_more : (xs : List Command) → length xs ≡ 0 → xs ≡ []
+no_more [] h = refl
+no_more (x ∷ xs) h = absurd (omega (arith, h))
+
+pub same_run : (hand : Hand) (xs ys : List Command) → IsRun hand xs → IsRun hand ys → length xs ≡ length ys → ys ≡ xs
+same_run hand xs ys a b long =
+    let k = run_front xs ys a.0 b.0 (sym a.1 ∙ b.1) (omega (arith, long)) in
+    let none_ : k.0 ≡ [] = no_more k.0 (omega (arith, ap (λ (z : List Command). length z) k.1, length-append xs k.0, long)) in
+    k.1 ∙ ap (λ z. xs ++ z) none_ ∙ append-nil xs
+
+-- the longest run doesn't carry the log past its greatest length, so no longest run does
+pub not_full : (most : ℕ) (log : LogState) (hand : Hand) (commands : List Command) (len : ℕ) → IsLongest most hand commands → hand.next ≡ log.committed
+    → len ≡ length (frame first_layout (record { first = hand.next; commands = commands })) → log.gate + 1 + len + 1 ≤ 2 ^ 40 → IsFull most log hand → ⊥
+not_full most log hand commands len l next is low full =
+    let long : length commands ≡ length full.commands = omega (arith, l.longest full.commands full.longest.run full.longest.fits, full.longest.longest commands l.run l.fits) in
+    let same : full.commands ≡ commands = same_run hand commands full.commands l.run full.longest.run long in
+    let big : 2 ^ 40 < log.gate + 1 + length (frame first_layout (record { first = log.committed; commands = commands })) + 1 =
+    subst (λ (z : List Command). 2 ^ 40 < log.gate + 1 + length (frame first_layout (record { first = log.committed; commands = z })) + 1) same full.too_long in
+    let there : len ≡ length (frame first_layout (record { first = log.committed; commands = commands })) = is ∙ ap (λ (t : ℕ). length (frame first_layout (record { first = t; commands = commands }))) next in
+    omega (arith, big, there, low)

@@ -11,7 +11,7 @@ use Rattle.store_layout.specs.Logs.{Batch, commands_in, log_file}
 use Rattle.gate_log.specs.declared.phase.Phase.{Phase}
 use Rattle.gate_log.specs.declared.phase.Phase.TheVariants.{Idle, Header, HeaderWritten, Staged, Written, Synced, Opened}
 use Rattle.gate_log.specs.States.{LogState, batch_of, commands_of}
-use Rattle.gate_log.specs.Standing as log
+use Rattle.gate_log.specs.Standing as gate_log
 use Rattle.flusher.specs.declared.keeper.Keeper.{Keeper}
 use Rattle.flusher.specs.Sweeping.{Stands}
 
@@ -24,7 +24,7 @@ batches_of first (e ∷ es) = batch_of first (e ∷ es) ∷ []
 pub record HasBatches (log : LogState) (committed : List Command) (staged : List Entry) (file : File) : Type 0 where
   pub batches : List Batch
   pub are : commands_in batches ≡ committed
-  pub stands : log.Stands log batches (batches_of log.committed staged) file
+  pub stands : gate_log.Stands log batches (batches_of log.committed staged) file
 
 -- Once the log's header is on the disk, whatever a stop leaves of its file is a log with the committed commands, or with these and the
 -- staged ones.
@@ -33,7 +33,7 @@ pub record StopsHave (log : LogState) (committed staged : List Command) (files :
   pub next : List Batch
   pub are : commands_in batches ≡ committed
   pub next_are : commands_in next ≡ staged
-  pub reads : log.IsReady log.phase → (content : List ℕ) → MayLeave (files (log_file log.generation)) content → log.MayRead log.phase log.ending log batches next content
+  pub reads : gate_log.IsReady log.phase → (content : List ℕ) → MayLeave (files (log_file log.generation)) content → gate_log.MayRead log.phase log.ending log batches next content
 
 -- so it is, and the other files are as they were at the start
 pub record KeepsCommands (log : LogState) (committed staged : List Command) (start files : Files) : Type 0 where
@@ -80,9 +80,9 @@ pub record Fits {D : Type 0} (states : D → List Files) (honest : D → Type 0)
   pub stores : Stores states honest before done keeper
 
 -- what is committed after a step of the log
-abbrev pub done_after : Phase → Result Phase Refusal → List Command → List Entry → List Command
-done_after Opened (Ok next) done staged = done ++ commands_of staged
-done_after phase result done staged = done
+abbrev pub done_after : Result Phase Refusal → Phase → List Command → List Entry → List Command
+done_after (Ok next) Opened done staged = done ++ commands_of staged
+done_after result phase done staged = done
 
 -- the record of a keeper's pass that has made no call of the keeper
 pub record IsUnused (first : ℕ) (p : Record) : Type 0 where

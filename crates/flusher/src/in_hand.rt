@@ -4,6 +4,8 @@ ghost use Rattle.std.specs.Option.{option_copied};
 ghost use Rattle.std.specs.List.{All};
 ghost use Rattle.map_types.specs.declared.commands.Command.{Command};
 ghost use Rattle.ticket_order.specs.Legality.{entries_from};
+ghost use Rattle.log_records.specs.Layout.{first_layout};
+ghost use Rattle.store_layout.specs.Logs.{frame};
 ghost use Rattle.flusher.specs.Hands.{Hand, most_from, MakesRoom, Gains, IsRun, IsLongest};
 
 use log_records::record_len;
@@ -18,6 +20,14 @@ use ticket_order::{Entry, Ticket};
 /// The kind, the length, the first ticket and the count of a batch stand before its records.
 const FRAME_HEAD_BYTES: usize = 17;
 
+/// A run of commands from the first place on.
+#[derive(Clone, Copy)]
+pub struct Run {
+    pub count: u32,
+    /// How many bytes its frame takes.
+    pub frame_len: usize,
+}
+
 /// The entries in hand, in a ring by their tickets: each entry is put into its place once, and the run
 /// from the first place on is found with no sorting.
 #[derive(Drop)]
@@ -27,7 +37,9 @@ pub struct InHand {
 }
 
 impl Model for InHand {
-    ghost use Rattle.flusher.specs.Hands.{Hand};
+    ghost use Rattle.log_records.specs.Layout.{first_layout};
+ghost use Rattle.store_layout.specs.Logs.{frame};
+ghost use Rattle.flusher.specs.Hands.{Hand};
 
     ghost Value = { Hand };
 
@@ -115,23 +127,24 @@ impl InHand {
         (most.min(MOST_RECORDS as u32) as u64).min(left) as u32
     }
 
-    /// The length of the longest run from the first place on that may be one batch.
-    pub fn run_len(&self, most: u32) -> u32
-        ensures { (commands : List Command) × IsLongest most self.now commands × (result ≡ length commands) }
+    /// The longest run from the first place on that may be one batch.
+    pub fn longest_run(&self, most: u32) -> Run
+        ensures { (commands : List Command) × IsLongest most self.now commands × (result.count ≡ length commands)
+            × (result.frame_len ≡ length (frame first_layout (record { first = self.now.next; commands = commands }))) }
     {
         let limit = self.most_of(most);
         let mut room = MOST_FRAME_BYTES - FRAME_HEAD_BYTES;
         for index in 0..limit {
             let Some(command) = self.command_at(index as usize) else {
-                return index;
+                return run_of(index, room);
             };
             let len = record_len(command);
             if room < len {
-                return index;
+                return run_of(index, room);
             }
             room -= len;
         }
-        limit
+        run_of(limit, room)
     }
 
     /// Takes the first so many commands out of their places, with their tickets. Where it finds no
@@ -162,6 +175,18 @@ impl InHand {
             drop(self.slots.pop_front());
         }
         self.next += count as u64;
+    }
+}
+
+// The run of so many commands, whose records leave this much room in a frame.
+fn run_of(count: u32, room: usize) -> Run
+    requires { room ≤ 1048559 }
+    ensures count { result.count ≡ count }
+    ensures frame { result.frame_len + room ≡ 1048576 }
+{
+    Run {
+        count,
+        frame_len: MOST_FRAME_BYTES - room,
     }
 }
 

@@ -7,7 +7,7 @@ ghost use Rattle.ticket_order.specs.Calls.{RefusesSweep};
 ghost use Rattle.ticket_order.specs.Walks.{MakesOne, Durable, Fail};
 ghost use Rattle.gate_log.specs.States.{batch_of, begun, commands_of, IsResting};
 ghost use Rattle.gate_log.specs.Standing as log;
-ghost use Rattle.gate_log.specs.Advancing.{Advances};
+ghost use Rattle.gate_log.specs.Advancing.{Advances, MayAdvance};
 ghost use Rattle.disk_model.specs.Files.{File, now};
 ghost use Rattle.disk_model.specs.Moments.{AtEachMoment};
 ghost use Rattle.store_layout.specs.Logs.{Batch};
@@ -23,6 +23,7 @@ use map_types::Refusal;
 use std::alloc::Global;
 use std::mem;
 use std::sync::Wait;
+use store_layout::MOST_LOG_BYTES;
 use ticket_order::{Entry, Steps};
 
 /// The one value that sweeps, commits, publishes and fails.
@@ -102,9 +103,12 @@ impl<D: Disk> Keeper<D> {
         ensures stripes { S.stripe_count steps.new ≡ S.stripe_count steps.old }
     {
         for _step in rt.forever() {
-            match self.sweep_step(steps)? {
-                Swept::Done(count) => return Ok(count),
-                Swept::More | Swept::Held(_) => {}
+            let swept = match self.sweep_step(steps) {
+                Ok(swept) => swept,
+                Err(refusal) => return Err(refusal),
+            };
+            if let Swept::Done(count) = swept {
+                return Ok(count);
             }
         }
         unreachable!()
@@ -145,14 +149,13 @@ impl<D: Disk> Keeper<D> {
 
     // Stages the first so many commands. Where that is refused the same entries are in hand.
     fn stage_run(&mut self, count: u32) -> Result<(), Refusal>
-        requires run { (commands : List Command) × IsRun self.old.sweeper.in_hand commands × (length commands ≡ count) × FitsBatch count self.old.log.committed commands }
+        requires run { (commands : List Command) × IsRun self.old.sweeper.in_hand commands × (length commands ≡ count) × FitsBatch count self.old.log.committed commands × (is_too_long self.old.log commands → ⊥) }
         requires some { 1 ≤ count }
         requires next { self.old.sweeper.in_hand.next ≡ self.old.log.committed }
         requires resting { IsResting self.old.log }
         ensures ok { OnOk result ((commands : List Command) → IsRun self.old.sweeper.in_hand commands → length commands ≡ count → Stages commands self.old.log self.old.sweeper.in_hand self.new.log self.new.sweeper.in_hand self.new.staged.items) }
         ensures stands { OnOk result ((batches : List Batch) (file : File) → log.Stands self.old.log batches [] file → log.Stands self.new.log batches (batch_of self.old.log.committed self.new.staged.items ∷ []) file) }
-        ensures full { (commands : List Command) → IsRun self.old.sweeper.in_hand commands → length commands ≡ count → (result ≡ Err Refusal.LogFull) ↔ is_too_long self.old.log commands }
-        ensures no_other { IfErr result (λ refusal. (refusal ≡ Refusal.LogFull) ⊎ (refusal ≡ Refusal.NoMemory)) }
+        ensures no_other { IfErr result (λ refusal. refusal ≡ Refusal.NoMemory) }
         ensures err { OnErr result ((self.new.log ≡ self.old.log) × (self.new.staged ≡ self.old.staged) × SameEntries self.old.sweeper.in_hand self.new.sweeper.in_hand) }
         ensures same { self.new ≡ record self.old { log = self.new.log; sweeper = record self.old.sweeper { in_hand = self.new.sweeper.in_hand }; staged = self.new.staged } }
     {
@@ -192,12 +195,16 @@ impl<D: Disk> Keeper<D> {
         if !self.log.is_resting() {
             return Err(Refusal::WrongPhase);
         }
-        let count = self.sweeper.in_hand.run_len(most);
-        if count == 0 {
+        let run = self.sweeper.in_hand.longest_run(most);
+        if run.count == 0 {
             return Ok(0);
         }
-        match self.stage_run(count) {
-            Ok(()) => Ok(count),
+        let gate = self.log.gate();
+        if gate > MOST_LOG_BYTES - 2 - run.frame_len {
+            return Err(Refusal::LogFull);
+        }
+        match self.stage_run(run.count) {
+            Ok(()) => Ok(run.count),
             Err(refusal) => Err(refusal),
         }
     }
@@ -213,22 +220,17 @@ impl<D: Disk> Keeper<D> {
         self.staged.clear();
     }
 
-    /// Makes the device call that is due in the log, and no other; where none is due it makes none.
-    /// After the last sync of a batch its commands are committed, and no longer in hand. After a device
-    /// failure no call is made. It takes no memory.
-    pub fn advance(&mut self) -> Result<Phase, Refusal>
-        requires { (n : ℕ) × (before : List Command) × (done : List Command) × (p : Record) × Fits D.states D.honest n before done self.old p }
+    // Makes the device call that is due, and lets the batch go that it commits.
+    fn step_log(&mut self) -> Result<Phase, Refusal>
+        requires stands { MayAdvance D.states D.honest self.old.log self.old.disk }
+        requires fits { self.old.sweeper.in_hand.next + length self.old.staged.items < 2 ^ 64 }
+        requires broken { self.old.is_broken ≡ self.old.log.is_broken }
         ensures failed { self.old.is_broken ≡ true → (result ≡ Err Refusal.Failed) × (self.new ≡ self.old) }
         ensures rests { self.old.is_broken ≡ false → self.old.log.phase ≡ Phase.Idle → (result ≡ Ok Phase.Idle) × (self.new ≡ self.old) }
         ensures advances { self.old.is_broken ≡ false → self.old.log.phase ≢ Phase.Idle → Advances D.states D.failures D.honest self.old.log self.new.log self.old.disk self.new.disk result }
         ensures hand { OnOk result (IsPast self.old.log.phase self.old.sweeper self.old.staged.items self.new.sweeper self.new.staged.items) }
         ensures works { OnOk result (self.new.is_broken ≡ false) }
         ensures kept { OnErr result ((self.new.sweeper ≡ self.old.sweeper) × (self.new.staged ≡ self.old.staged) × (self.new.is_broken ≡ true)) }
-        ensures any_moment { (n : ℕ) (before : List Command) (done : List Command) (p : Record) → Fits D.states D.honest n before done self.old p → D.honest self.old.disk
-            → self.old.is_broken ≡ false → self.old.log.phase ≢ Phase.Idle
-            → AtEachMoment D.states self.old.disk self.new.disk (KeepsCommands self.old.log (before ++ done) (commands_of self.old.staged.items) (now (D.states self.old.disk))) }
-        ensures fits { (n : ℕ) (before : List Command) (done : List Command) (p : Record) → Fits D.states D.honest n before done self.old p
-            → Fits D.states D.honest n before (done_after self.old.log.phase result done self.old.staged.items) self.new p }
         ensures same { self.new ≡ record self.old { disk = self.new.disk; log = self.new.log; sweeper = self.new.sweeper; staged = self.new.staged; is_broken = self.new.is_broken } }
     {
         if self.is_broken {
@@ -248,6 +250,27 @@ impl<D: Disk> Keeper<D> {
                 Err(refusal)
             }
         }
+    }
+
+    /// Makes the device call that is due in the log, and no other; where none is due it makes none.
+    /// After the last sync of a batch its commands are committed, and no longer in hand. After a device
+    /// failure no call is made. It takes no memory.
+    pub fn advance(&mut self) -> Result<Phase, Refusal>
+        requires { (n : ℕ) × (before : List Command) × (done : List Command) × (p : Record) × Fits D.states D.honest n before done self.old p }
+        ensures failed { self.old.is_broken ≡ true → (result ≡ Err Refusal.Failed) × (self.new ≡ self.old) }
+        ensures rests { self.old.is_broken ≡ false → self.old.log.phase ≡ Phase.Idle → (result ≡ Ok Phase.Idle) × (self.new ≡ self.old) }
+        ensures advances { self.old.is_broken ≡ false → self.old.log.phase ≢ Phase.Idle → Advances D.states D.failures D.honest self.old.log self.new.log self.old.disk self.new.disk result }
+        ensures hand { OnOk result (IsPast self.old.log.phase self.old.sweeper self.old.staged.items self.new.sweeper self.new.staged.items) }
+        ensures works { OnOk result (self.new.is_broken ≡ false) }
+        ensures kept { OnErr result ((self.new.sweeper ≡ self.old.sweeper) × (self.new.staged ≡ self.old.staged) × (self.new.is_broken ≡ true)) }
+        ensures any_moment { (n : ℕ) (before : List Command) (done : List Command) (p : Record) → Fits D.states D.honest n before done self.old p → D.honest self.old.disk
+            → self.old.is_broken ≡ false → self.old.log.phase ≢ Phase.Idle
+            → AtEachMoment D.states self.old.disk self.new.disk (KeepsCommands self.old.log (before ++ done) (commands_of self.old.staged.items) (now (D.states self.old.disk))) }
+        ensures fits { (n : ℕ) (before : List Command) (done : List Command) (p : Record) → Fits D.states D.honest n before done self.old p
+            → Fits D.states D.honest n before (done_after result self.old.log.phase done self.old.staged.items) self.new p }
+        ensures same { self.new ≡ record self.old { disk = self.new.disk; log = self.new.log; sweeper = self.new.sweeper; staged = self.new.staged; is_broken = self.new.is_broken } }
+    {
+        self.step_log()
     }
 
     /// DURABLE with the committed count, which the pass has seen; no step where `fail` was called.

@@ -4,8 +4,10 @@
 
 mod in_hand;
 mod keeper;
+mod laws;
 mod sweeper;
 
-pub use in_hand::InHand;
+pub use in_hand::{InHand, Run};
 pub use keeper::Keeper;
+pub use laws::{committed_were_taken, stops_of_a_keeper};
 pub use sweeper::{Sweep, Sweeper, Swept, Walking};
