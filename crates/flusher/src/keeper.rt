@@ -27,6 +27,7 @@ use store_layout::MOST_LOG_BYTES;
 use ticket_order::{Entry, Steps};
 
 /// The one value that sweeps, commits, publishes and fails.
+#[derive(Drop)]
 pub struct Keeper<D: Disk> {
     pub disk: D,
     pub log: GateLog,
