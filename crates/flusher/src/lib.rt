@@ -6,8 +6,6 @@ mod in_hand;
 mod keeper;
 mod laws;
 mod sweeper;
-#[cfg(test)]
-mod tests;
 
 pub use in_hand::{InHand, Run};
 pub use keeper::Keeper;
