@@ -4,4 +4,3 @@ pub mod Parts
 pub mod Turns
 pub mod Connections
 pub mod CommandLines
-pub mod Sweeps

@@ -1,13 +1,8 @@
-use Rattle.std.proofs.Common.{rules, ◌≡◌}
-use Rattle.ticket_order.specs.StepRules.{Publishes}
+use Rattle.std.proofs.Common.{◌≡◌, ◌≤◌, ◌∙◌, [], ◌∷◌, ap, sym, subst, refl, inl, inr, rules, false, true}
+use Rattle.ticket_order.specs.declared.record.Record.{Record}
+use Rattle.map_server.specs.Served.{IsIdle, IsGivenOut, IsWithheld, CannotCommit, TriesRelease}
+use Rattle.map_server.proofs.Releasing.{given_out, tried_again, withheld, idle_after}
 use Rattle.map_server.proofs.memory.give_out.Goals as goal
 
-pub returns-clause-out : goal.returns-clause-out
-returns-clause-out g c =
-    let number : c.number.result ≡ c.args.held.position = search rules in
-    let publishes : Publishes (g.S.Steps.recorded c.args.steps.now) c.args.held.position (g.S.Steps.recorded c.durable.new.self) = rw (← number) c.durable.ensures.step in
-    record {
-      published = g.S.Steps.recorded c.durable.new.self;
-      publishes = publishes;
-      reaches = c.let_go.ensures.reached;
-    }
+pub returns-then-clause-kept : goal.returns-then-clause-kept
+returns-then-clause-kept g c = let k = c.commit_in_time.ensures.kept in (k.0, c.fail.ensures.fits [] k.0 k.1)
