@@ -6,6 +6,8 @@ mod in_hand;
 mod keeper;
 mod laws;
 mod sweeper;
+#[cfg(test)]
+mod tests;
 
 pub use in_hand::{InHand, Run};
 pub use keeper::Keeper;
