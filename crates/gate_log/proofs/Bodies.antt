@@ -9,7 +9,7 @@ use Rattle.ticket_order.specs.declared.stripe.Entry.{Entry}
 use Rattle.store_layout.specs.Logs.{Batch, IsBatch, frame, records_bytes}
 use Rattle.gate_log.specs.States.{batch_of}
 use Rattle.gate_log.specs.ScanParts.{AreEntries, IsBody, commands_of}
-use Rattle.gate_log.proofs.FrameLemmas.{same_rest, same_number, frame_length}
+use Rattle.store_layout.proofs.FrameLemmas.{same_rest, same_number, frame_length}
 use Rattle.gate_log.proofs.Entries.{commands_length}
 
 abbrev pub body_of : Batch → List ℕ

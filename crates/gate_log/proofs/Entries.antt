@@ -9,7 +9,7 @@ use Rattle.ticket_order.specs.declared.stripe.Entry.{Entry}
 use Rattle.store_layout.specs.Logs.{records_bytes}
 use Rattle.gate_log.specs.States.{AreFrom}
 use Rattle.gate_log.specs.ScanParts.{commands_of}
-use Rattle.gate_log.proofs.FrameLemmas.{records_part, same_records}
+use Rattle.store_layout.proofs.FrameLemmas.{records_part, same_records}
 
 room : IsLayout first_layout
 room = omega arith

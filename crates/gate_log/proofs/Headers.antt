@@ -6,7 +6,8 @@ use Rattle.byteorder.specs.Numbers.{length-bytes_high_first}
 use Rattle.map_types.specs.declared.refusals.Refusal.{Refusal}
 use Rattle.log_records.specs.Layout.{first_layout}
 use Rattle.store_layout.specs.Logs.{header}
-use Rattle.gate_log.specs.Scan.{HasHeader, HasRead, IsBadHeader, ScanState, too_short, wrong_version, wrong_generation, wrong_low}
+use Rattle.store_layout.specs.Readings.{HasHeader, IsBadHeader, too_short, wrong_version, wrong_generation, wrong_low}
+use Rattle.gate_log.specs.Scan.{HasRead, ScanState}
 
 header_more : (version generation low : ℕ) (content : List ℕ) → HasHeader version generation low (take 18 content) → HasHeader version generation low content
 header_more version generation low content h = record {

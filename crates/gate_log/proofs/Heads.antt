@@ -8,11 +8,11 @@ use Rattle.log_records.specs.Layout.{first_layout}
 use Rattle.store_layout.specs.Logs.{Batch as LogBatch, IsBatch, end_frame, frame, records_bytes}
 use Rattle.ticket_order.specs.declared.stripe.Entry.{Entry}
 use Rattle.gate_log.specs.States.{batch_of}
-use Rattle.gate_log.specs.Scan.{HasNoFrame}
+use Rattle.store_layout.specs.Readings.{HasNoFrame}
 use Rattle.gate_log.specs.ScanParts.{HasFrame, IsBody, ComesAhead, IsAheadOf, IsAtBatch, IsAtEnd}
 use Rattle.gate_log.specs.declared.scan.Ahead.{Ahead}
 use Rattle.gate_log.specs.declared.scan.Ahead.TheVariants.{Batch, Closed, End}
-use Rattle.gate_log.proofs.FrameLemmas.{same_rest, same_number, same_parts, frame_length, end_parts}
+use Rattle.store_layout.proofs.FrameLemmas.{same_rest, same_number, same_parts, frame_length, end_parts}
 use Rattle.gate_log.proofs.Bodies.{frame_whole, body_of}
 
 -- a batch's frame stands here, behind this kind and this length

@@ -3,8 +3,6 @@ pub mod StandingLemmas
 pub mod AdvanceLemmas
 pub mod CallLemmas
 pub mod CommitLemmas
-pub mod FrameLemmas
-pub mod Reading
 pub mod Scanning
 pub mod Entries
 pub mod Bodies

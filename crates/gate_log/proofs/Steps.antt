@@ -7,7 +7,8 @@ use Rattle.log_records.specs.Layout.{first_layout}
 use Rattle.ticket_order.specs.declared.stripe.Entry.{Entry}
 use Rattle.store_layout.specs.Logs.{Batch, IsBatch, IsClosed, IsEnded, IsRun, commands_in, frame, header, log_front, opened}
 use Rattle.gate_log.specs.States.{batch_of}
-use Rattle.gate_log.specs.Scan.{HasNoFrame, HasRead, IsBroken, IsNextBatch, ScanState}
+use Rattle.store_layout.specs.Readings.{HasNoFrame, IsBroken}
+use Rattle.gate_log.specs.Scan.{HasRead, IsNextBatch, ScanState}
 use Rattle.gate_log.specs.ScanParts.{FitsBatch, IsAtBatch, IsAtEnd}
 use Rattle.gate_log.proofs.Entries.{commands_length}
 

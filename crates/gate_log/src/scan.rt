@@ -8,7 +8,8 @@ ghost use Rattle.log_records.specs.Spelling.{IsCommand, record_bytes};
 ghost use Rattle.map_types.specs.declared.commands.Command.{Command};
 ghost use Rattle.store_layout.specs.Logs.{Batch, IsBatch, IsClosed, IsEnded, frame, log_file, records_bytes};
 ghost use Rattle.gate_log.specs.States.{batch_of};
-ghost use Rattle.gate_log.specs.Scan.{ScanState, HasHeader, IsBadHeader, HasRead, HasNoFrame, IsBroken, IsFound, GoesOn, Looks, failed_in, log_bytes, RefusesFor, Reading, Reads};
+ghost use Rattle.store_layout.specs.Readings.{HasHeader, IsBadHeader, HasNoFrame, IsBroken, Reading, Reads};
+ghost use Rattle.gate_log.specs.Scan.{ScanState, HasRead, IsFound, GoesOn, Looks, failed_in, log_bytes, RefusesFor};
 ghost use Rattle.gate_log.specs.ScanParts.{AreEntries, IsBody, HasFrame, FitsAhead, ComesAhead, IsAheadOf, FitsBatch, IsAtBatch, IsAtEnd};
 
 use byteorder::{BigEndian, ByteOrder};

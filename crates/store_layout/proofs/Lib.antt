@@ -1,2 +1,16 @@
 pub mod LogLemmas
 pub mod CheckpointLemmas
+pub mod CheckpointExamples
+pub mod CheckpointFields
+pub mod CheckpointReading
+pub mod EntryRows
+pub mod FirstExamples
+pub mod FrameLemmas
+pub mod Growing
+pub mod LogOutcomes
+pub mod NewStores
+pub mod Openings
+pub mod ReadingLemmas
+pub mod RefusalExamples
+pub mod Restoring
+pub mod SectionRows

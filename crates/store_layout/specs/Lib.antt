@@ -1,2 +1,9 @@
-pub mod Logs
 pub mod Checkpoints
+pub mod Examples
+pub mod Faults
+pub mod Laws
+pub mod Logs
+pub mod Opening
+pub mod OpeningLaws
+pub mod Readings
+pub mod Standing

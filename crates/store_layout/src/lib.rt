@@ -5,6 +5,9 @@ ghost use Rattle.std.specs.Prelude.{◌≡◌};
 ghost use Rattle.store_layout.specs.Checkpoints as checkpoints;
 ghost use Rattle.store_layout.specs.Logs as logs;
 
+pub mod examples;
+pub mod laws;
+
 /// The version byte of each file.
 pub const VERSION: u8 = 1;
 

@@ -3,7 +3,7 @@ use Rattle.byteorder.specs.Endian.{big_number}
 use Rattle.log_records.specs.Agreement.{IsBytes}
 use Rattle.map_types.specs.declared.refusals.Refusal.{Refusal}
 use Rattle.map_types.specs.declared.refusals.Refusal.TheVariants.{Damaged}
-use Rattle.gate_log.specs.Scan.{HasHeader, wrong_version, wrong_generation, wrong_low}
+use Rattle.store_layout.specs.Readings.{HasHeader, wrong_version, wrong_generation, wrong_low}
 use Rattle.gate_log.proofs.Scanning.{header_front, slice_number}
 use Rattle.gate_log.proofs.scan.check_header.Goals as goal
 

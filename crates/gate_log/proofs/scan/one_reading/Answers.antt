@@ -1,4 +1,4 @@
-use Rattle.gate_log.proofs.Reading.{one_reading, one_end, never_both}
+use Rattle.store_layout.proofs.ReadingLemmas.{one_reading, one_end, never_both}
 use Rattle.gate_log.proofs.scan.one_reading.Goals as goal
 
 pub returns-clause-one : goal.returns-clause-one

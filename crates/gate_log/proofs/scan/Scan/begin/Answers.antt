@@ -1,7 +1,8 @@
 use Rattle.std.proofs.Common.{List, ℕ, take, ap, subst, ◌∙◌, inr}
 use Rattle.std.proofs.lemmas.Result.{err_from_is_err_and}
 use Rattle.disk_model.specs.Files.{now}
-use Rattle.gate_log.specs.Scan.{HasHeader, IsBadHeader, log_bytes}
+use Rattle.store_layout.specs.Readings.{HasHeader, IsBadHeader}
+use Rattle.gate_log.specs.Scan.{log_bytes}
 use Rattle.gate_log.proofs.Headers.{bad_header, header_read}
 use Rattle.gate_log.proofs.scan.Scan.begin.Goals as goal
 

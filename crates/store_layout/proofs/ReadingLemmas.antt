@@ -3,14 +3,14 @@ use Rattle.std.proofs.Common.{◌≡◌, ℕ, ◌+◌, List, [], ◌∷◌, ◌+
 use Rattle.std.proofs.lemmas.List.{length-append, append_cancel_left}
 use Rattle.log_records.specs.Layout.{Layout, IsLayout}
 use Rattle.store_layout.specs.Logs.{Batch, IsBatch, IsRun, IsLog, IsClosed, IsEnded, commands_in, end_frame, frame, header, log_front, opened}
-use Rattle.gate_log.specs.Scan.{IsBroken, Reading, closed, ended, broken, Reads}
-use Rattle.gate_log.proofs.FrameLemmas.{same_rest, same_number, same_frames, frame_parts, end_parts}
+use Rattle.store_layout.specs.Readings.{IsBroken, Reading, closed, ended, broken, Reads}
+use Rattle.store_layout.proofs.FrameLemmas.{same_rest, same_number, same_frames, frame_parts, end_parts}
 
 -- no batch that begins with this ticket stands here behind an open gate
 abbrev Stops : Layout → ℕ → List ℕ → Type 0
 Stops layout expected tail = (batch : Batch) (after : ℕ) (behind : List ℕ) → IsBatch layout batch → batch.first ≡ expected → tail ≡ 165 ∷ (frame layout batch ++ after ∷ behind) → ⊥
 
-begins : (layout : Layout) (batches : List Batch) (x : ℕ) (xs : List ℕ) → (after : ℕ) × (behind : List ℕ) × (opened layout batches ++ x ∷ xs ≡ after ∷ behind)
+pub begins : (layout : Layout) (batches : List Batch) (x : ℕ) (xs : List ℕ) → (after : ℕ) × (behind : List ℕ) × (opened layout batches ++ x ∷ xs ≡ after ∷ behind)
 begins layout [] x xs = (x, xs, refl)
 begins layout (batch ∷ batches) x xs = (165, (frame layout batch ++ opened layout batches) ++ x ∷ xs, refl)
 
@@ -89,7 +89,7 @@ broken_stops layout generation low a content h = record {
 }
 
 module _ (layout : Layout) (room : IsLayout layout) (generation low : ℕ) where
-  one_closed : (content : List ℕ) (a b : List Batch) → IsClosed layout generation low a content → IsClosed layout generation low b content → a ≡ b
+  pub one_closed : (content : List ℕ) (a b : List Batch) → IsClosed layout generation low a content → IsClosed layout generation low b content → a ≡ b
   one_closed content a b p q = (same_stop layout room generation low a b _ _ _ _ content (closed_stops layout generation low a content p) (closed_stops layout generation low b content q)).0
 
   pub one_end : (m n : ℕ) (content : List ℕ) (a b : List Batch) → IsEnded layout generation low a m content → IsEnded layout generation low b n content → (a ≡ b) × (m ≡ n)
@@ -103,14 +103,14 @@ module _ (layout : Layout) (room : IsLayout layout) (generation low : ℕ) where
   never_both next content a b p q =
       p.closed (same_stop layout room generation low a b _ _ _ _ content (closed_stops layout generation low a content p) (ended_stops layout generation low b next content q)).1
 
-  one_broken : (content : List ℕ) (a b : List Batch) → IsBroken layout generation low a content → IsBroken layout generation low b content → a ≡ b
+  pub one_broken : (content : List ℕ) (a b : List Batch) → IsBroken layout generation low a content → IsBroken layout generation low b content → a ≡ b
   one_broken content a b p q = (same_stop layout room generation low a b _ _ _ _ content (broken_stops layout generation low a content p) (broken_stops layout generation low b content q)).0
 
-  closed_whole : (content : List ℕ) (a b : List Batch) → IsClosed layout generation low a content → IsBroken layout generation low b content → ⊥
+  pub closed_whole : (content : List ℕ) (a b : List Batch) → IsClosed layout generation low a content → IsBroken layout generation low b content → ⊥
   closed_whole content a b p q =
       p.closed (same_stop layout room generation low a b _ _ _ _ content (closed_stops layout generation low a content p) (broken_stops layout generation low b content q)).1
 
-  ended_whole : (content : List ℕ) (a b : List Batch) → IsEnded layout generation low a (generation + 1) content → IsBroken layout generation low b content → ⊥
+  pub ended_whole : (content : List ℕ) (a b : List Batch) → IsEnded layout generation low a (generation + 1) content → IsBroken layout generation low b content → ⊥
   ended_whole content a b p q =
       let same = same_stop layout room generation low a b _ _ _ _ content (ended_stops layout generation low a (generation + 1) content p) (broken_stops layout generation low b content q) in
       q.no_frame.no_end p.after p.rest p.next_fits (sym same.2)

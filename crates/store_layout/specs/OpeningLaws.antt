@@ -1,0 +1,94 @@
+-- Laws of sealed checkpoints, and of what opening gives.
+use Rattle.std.specs.Prelude.{◌≡◌, ◌≢◌, ℕ, ◌+◌, ◌*◌, ◌<◌, ◌≤◌, true, false, None, List, [], ◌∷◌, length, Result}
+use Rattle.std.specs.FinMap as finite
+use Rattle.java_hash.specs.Stripes.{is_stripe_count}
+use Rattle.map_types.specs.declared.refusals.Refusal.{Refusal}
+use Rattle.map_model.specs.Maps.{Map}
+use Rattle.map_model.specs.Histories.{History}
+use Rattle.log_records.specs.Layout.{Layout, IsLayout, first_layout}
+use Rattle.log_records.specs.Agreement.{IsBytes}
+use Rattle.store_layout.specs.Logs.{IsClosed}
+use Rattle.store_layout.specs.Checkpoints.{Section, Checkpoint, AreSections, AreMarkedFrom, IsWhole, IsCheckpoint, checkpoint_bytes, sections_bytes, checkpoint_file, greatest_mark, is_sealed}
+use Rattle.store_layout.specs.Standing.{Restores}
+use Rattle.store_layout.specs.Faults.{generation_in, low_in, greatest_in, stripes_in, body_in, checkpoint_in, head_fault, size_fault, IsBadCheckpoint}
+use Rattle.store_layout.specs.Opening.{Contents, Opened, log_of, prefix_of, history_of, IsOlder, AreLogs, Holds, StandsFor, StandsForFront, first_checkpoint, heads_fault, newest_file, Refuses, Opens}
+
+-- ---- one checkpoint file
+
+-- a content has one checkpoint, or one fault
+abbrev pub OneCheckpoint : Type 0
+OneCheckpoint = (layout : Layout) (k j : Checkpoint) (content : List ℕ) → IsLayout layout → IsCheckpoint layout k content → IsCheckpoint layout j content → k ≡ j
+
+abbrev pub OneFault : Type 0
+OneFault = (layout : Layout) (file : ℕ) (content : List ℕ) (a b : Refusal) → IsLayout layout → IsBadCheckpoint layout file content a → IsBadCheckpoint layout file content b → a ≡ b
+
+abbrev pub NoFault : Type 0
+NoFault = (layout : Layout) (file : ℕ) (k : Checkpoint) (content : List ℕ) (refusal : Refusal) → IsLayout layout → IsCheckpoint layout k content → IsBadCheckpoint layout file content refusal → ⊥
+
+-- the head of a sealed checkpoint
+abbrev pub SealedHead : Type 0
+SealedHead = (layout : Layout) (k : Checkpoint) (content : List ℕ) → IsCheckpoint layout k content →
+    (is_sealed content ≡ true) × (generation_in content ≡ k.generation) × (head_fault (checkpoint_file k.generation) content ≡ None)
+
+-- A file in which none of the faults is found holds the checkpoint that its fields name.
+abbrev pub FieldsMakeCheckpoint : Type 0
+FieldsMakeCheckpoint = (layout : Layout) (file : ℕ) (content : List ℕ) (sections : List Section) → IsBytes content → is_sealed content ≡ true →
+    head_fault file content ≡ None → size_fault file content ≡ None →
+    body_in content ≡ sections_bytes layout sections → length sections ≡ stripes_in content → AreSections layout (stripes_in content) 0 sections →
+    greatest_mark sections ≡ greatest_in content → AreMarkedFrom (low_in content) sections → IsCheckpoint layout (checkpoint_in content sections) content
+
+-- a checkpoint is older than any of a greater generation
+abbrev pub OlderCheckpoint : Type 0
+OlderCheckpoint = (layout : Layout) (k : Checkpoint) (generation : ℕ) (content : List ℕ) → IsCheckpoint layout k content → k.generation < generation →
+    IsOlder generation (checkpoint_file k.generation) content
+
+-- behind a closed gate nothing is sealed, nor in an empty file
+abbrev pub ShutIsUnsealed : Type 0
+ShutIsUnsealed = (gate : ℕ) (rest : List ℕ) → gate ≢ 165 → is_sealed (gate ∷ rest) ≡ false
+
+abbrev pub EmptyIsUnsealed : Type 0
+EmptyIsUnsealed = is_sealed [] ≡ false
+
+-- ---- four files
+
+-- the checkpoint that is held is the one that is used
+abbrev pub HeldIsUsed : Type 0
+HeldIsUsed = (contents : Contents) (found : Opened) → Holds contents found →
+    (heads_fault contents ≡ None) × (newest_file contents ≡ checkpoint_file found.checkpoint.generation)
+
+-- where the heads have no fault, the checkpoint that is used and its logs are held
+abbrev pub UsedIsHeld : Type 0
+UsedIsHeld = (contents : Contents) (found : Opened) → heads_fault contents ≡ None → IsCheckpoint first_layout found.checkpoint (contents (newest_file contents)) →
+    AreLogs contents found.checkpoint found.first found.second → greatest_mark found.checkpoint.sections ≤ prefix_of found → Holds contents found
+
+-- opening files gives one thing: what they hold, or a refusal
+abbrev pub OpensOneWay : Type 0
+OpensOneWay = (contents : Contents) (a b : Result Opened Refusal) → Opens contents a → Opens contents b → a ≡ b
+
+abbrev pub OneStanding : Type 0
+OneStanding = (contents : Contents) (p q : ℕ) (m n : Map) → StandsFor contents p m → StandsFor contents q n → (p ≡ q) × (m ≡ n)
+
+abbrev pub NeverBoth : Type 0
+NeverBoth = (contents : Contents) (p : ℕ) (m : Map) (refusal : Refusal) → StandsFor contents p m → Refuses contents refusal → ⊥
+
+-- What is found restores its own map, of which it is the history.
+abbrev pub FoundRestores : Type 0
+FoundRestores = (contents : Contents) (found : Opened) → Holds contents found →
+    Restores (history_of found) found.checkpoint.stripes found.checkpoint.sections found.checkpoint.low (log_of found)
+
+-- Files whose sections and logs restore a history stand for a front of it.
+abbrev pub RestoredStands : Type 0
+RestoredStands = (h : History) (contents : Contents) (found : Opened) → Holds contents found →
+    Restores h found.checkpoint.stripes found.checkpoint.sections found.checkpoint.low (log_of found) → StandsForFront h (prefix_of found) (prefix_of found) contents
+
+-- ---- a new store
+
+-- it may stand in a file, with 12 bytes for each stripe
+abbrev pub FirstIsWhole : Type 0
+FirstIsWhole = (stripes : ℕ) → is_stripe_count stripes ≡ true →
+    IsWhole first_layout (first_checkpoint stripes) × (length (checkpoint_bytes first_layout (first_checkpoint stripes)) ≡ 35 + 12 * stripes)
+
+-- A new store stands for no command and the empty map.
+abbrev pub FirstStands : Type 0
+FirstStands = (contents : Contents) (stripes : ℕ) → IsCheckpoint first_layout (first_checkpoint stripes) (contents 0) → is_sealed (contents 1) ≡ false →
+    IsClosed first_layout 0 0 [] (contents 2) → StandsFor contents 0 finite.empty

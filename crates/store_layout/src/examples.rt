@@ -1,0 +1,33 @@
+//! Files byte by byte and what they mean, each as the contract of a function.
+ghost use Rattle.store_layout.specs.Examples.{NewStore, FirstChange, UncommittedChange, SealedWhileChanging, NotYetSealed, HalfWritten, NoStore, TooFewBytes, OtherVersion, OtherFile, ThreeStripes, LongBody, MissingEntry, ByteLeftOver, OtherGreatestMark, NoLog, OtherLog, NoFrame, BelowMark};
+
+/// A new store, and its first change before and after it is committed.
+pub fn first_files()
+    ensures made { NewStore }
+    ensures changed { FirstChange }
+    ensures uncommitted { UncommittedChange }
+{}
+
+/// A checkpoint of two stripes, before and after it is sealed, and while the next is written.
+pub fn checkpointed_files()
+    ensures sealed { SealedWhileChanging }
+    ensures not_yet { NotYetSealed }
+    ensures half { HalfWritten }
+{}
+
+/// Files that are refused.
+pub fn refused_files()
+    ensures no_store { NoStore }
+    ensures too_few { TooFewBytes }
+    ensures version { OtherVersion }
+    ensures file { OtherFile }
+    ensures stripes { ThreeStripes }
+    ensures body { LongBody }
+    ensures entry { MissingEntry }
+    ensures left_over { ByteLeftOver }
+    ensures marks { OtherGreatestMark }
+    ensures no_log { NoLog }
+    ensures other_log { OtherLog }
+    ensures no_frame { NoFrame }
+    ensures below { BelowMark }
+{}
