@@ -1,5 +1,5 @@
 -- One step of a checkpoint, from the device call that it makes.
-use Rattle.std.proofs.Common.{◌≡◌, ◌≢◌, ◌⊎◌, inl, inr, ⊎_elim, ℕ, true, false, List, ◌∷◌, Option, None, Some, Ok, Err, refl, sym, ◌∙◌, ap, subst}
+use Rattle.std.proofs.Common.{◌≡◌, ◌⊎◌, inl, inr, ⊎_elim, ℕ, true, false, List, ◌∷◌, None, Some, Ok, Err, refl, sym, ◌∙◌, ap, subst}
 use Rattle.disk_model.specs.Calls.{Makes, Fails}
 use Rattle.disk_model.specs.Files.{File, Files, MayLeave, now, with_file}
 use Rattle.disk_model.specs.Gates.{Call, IsPlaced, called}

@@ -1,6 +1,5 @@
 -- The bytes of one entry more.
 use Rattle.std.proofs.Common.{◌≡◌, ℕ, ◌+◌, ◌<◌, List, [], ◌∷◌, ◌++◌, length, get_or, take, Some, sym, ◌∙◌, ap, subst, append_assoc}
-use Rattle.std.specs.List.{AllByRecursion}
 use Rattle.std.proofs.lemmas.List.{take_more}
 use Rattle.map_types.specs.declared.texts.Value.{Value}
 use Rattle.log_records.specs.Layout.{first_layout}

@@ -1,11 +1,11 @@
 -- How a file goes on behind its first byte, which is its gate.
-use Rattle.std.proofs.Common.{◌≡◌, ◌≢◌, ◌⊎◌, inl, inr, ℕ, zero, suc, ◌+◌, ◌<◌, ◌≤◌, max, Bool, true, false, ◌==◌, ◌&&◌, ◌||◌, nat_le, List, [], ◌∷◌, ◌++◌, length, take, drop, slice_index_or, refl, sym, ◌∙◌, ap, subst, arith, append_assoc, length-append, length-drop}
+use Rattle.std.proofs.Common.{◌≡◌, ◌≢◌, ◌⊎◌, inl, inr, ℕ, zero, suc, ◌+◌, ◌<◌, ◌≤◌, max, Bool, true, false, ◌==◌, ◌&&◌, ◌||◌, nat_le, List, [], ◌∷◌, ◌++◌, length, take, drop, slice_index_or, refl, sym, ◌∙◌, ap, subst, arith, append_assoc}
 use Rattle.std.proofs.lemmas.List.{drop_at, ext_get_or, get_or-drop}
 use Rattle.std.proofs.lemmas.Bool.{cases_eq}
 use Rattle.std.proofs.lemmas.Bool.Decides.{nat_tests}
-use Rattle.disk_model.specs.Files.{File, Range, MayLeave, IsSure, IsTorn, at_rest, byte_at, is_written, overwritten, written, synced}
-use Rattle.disk_model.specs.Gates.{IsShut, IsOpening}
-use Rattle.disk_model.proofs.GateLemmas.{kept_front, overwritten_at, torn_front, sure_reached, sure_torn, sure_synced, left_opening}
+use Rattle.disk_model.specs.Files.{File, Range, MayLeave, IsTorn, at_rest, byte_at, is_written, overwritten, written, synced}
+use Rattle.disk_model.specs.Gates.{IsShut}
+use Rattle.disk_model.proofs.GateLemmas.{kept_front, overwritten_at, sure_reached, sure_torn, sure_synced}
 use Rattle.store_layout.specs.Checkpoints.{is_sealed}
 use Rattle.checkpoint_file.specs.Standing.{IsClosing, is_to_close}
 

@@ -1,12 +1,12 @@
 -- How a checkpoint's file goes from one phase to the next, and what a stop leaves of it.
-use Rattle.std.proofs.Common.{◌≡◌, ◌≢◌, ◌⊎◌, inl, inr, ℕ, ◌+◌, ◌-◌, ◌<◌, ◌≤◌, ◌^◌, replicate, Bool, true, false, List, [], ◌∷◌, ◌++◌, length, drop, Option, None, Some, refl, sym, ◌∙◌, ap, subst, arith, append_assoc, length-append, zero-add, add-zero}
+use Rattle.std.proofs.Common.{◌≡◌, inl, inr, ℕ, ◌+◌, ◌<◌, ◌≤◌, ◌^◌, replicate, false, List, [], ◌∷◌, ◌++◌, length, Option, None, Some, refl, sym, ◌∙◌, ap, subst, arith, append_assoc, length-append}
 use Rattle.std.proofs.lemmas.List.{append-nil, length-replicate}
 use Rattle.std.proofs.lemmas.Bool.{cases_eq}
-use Rattle.disk_model.specs.Files.{File, MayLeave, IsTorn, at_rest, written, synced}
+use Rattle.disk_model.specs.Files.{File, MayLeave, IsTorn, written, synced}
 use Rattle.disk_model.specs.Gates.{Call, IsShut, IsOpening, IsPlaced, called, MayFailTo}
 use Rattle.disk_model.proofs.GateLemmas.{shut_long, shut_written, shut_synced, opening_synced, gate_written, opening_written, opening_torn, left_opening}
 use Rattle.log_records.specs.Layout.{first_layout}
-use Rattle.store_layout.specs.Checkpoints.{Section, IsWhole, IsCheckpoint, checkpoint_bytes, checkpoint_header, greatest_mark, is_sealed, sections_bytes, section_bytes}
+use Rattle.store_layout.specs.Checkpoints.{Section, IsWhole, IsCheckpoint, checkpoint_header, greatest_mark, is_sealed, sections_bytes, section_bytes}
 use Rattle.store_layout.proofs.CheckpointLemmas.{sections_push, length-checkpoint_header}
 use Rattle.checkpoint_file.specs.declared.phase.CheckpointPhase.{CheckpointPhase}
 use Rattle.checkpoint_file.specs.declared.phase.CheckpointPhase.TheVariants.{Idle, Gate, GateWritten, GateSynced, Ready, Staged, Header, HeaderWritten, HeaderSynced, Opened, Sealed}

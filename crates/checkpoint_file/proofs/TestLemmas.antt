@@ -1,11 +1,10 @@
 -- The sections that the tests give.
-use Rattle.std.proofs.Common.{◌≡◌, ℕ, ◌≤◌, ◌<◌, Bool, false, List, [], ◌∷◌, ◌++◌, T, refl, sym, ap, subst, ◌∙◌, arith}
+use Rattle.std.proofs.Common.{◌≡◌, ℕ, ◌≤◌, Bool, false, List, [], ◌∷◌, ◌++◌, T, refl, sym, ap, subst, ◌∙◌, arith}
 use Rattle.std.specs.FinMap as finite
 use Rattle.std.specs.FinMap.{entries-from_sorted}
 use Rattle.std.specs.FinMap.Entries.{is_sorted}
 use Rattle.std.specs.Ordering.{nat_cmp}
 use Rattle.std.specs.Cmp.Lexicographic.{slice_cmp}
-use Rattle.std.specs.declared.cmp.Ordering.{Ordering}
 use Rattle.std.specs.declared.cmp.Ordering.TheVariants.{Less}
 use Rattle.disk_model.specs.Calls.{Looks}
 use Rattle.disk_model.specs.Files.{File, Files, at_rest, now, synced, with_file}
@@ -26,16 +25,19 @@ two_sorted a b less = rw less tt
 pub may_stage : {D : Type 0} (states : D → List Files) (honest : D → Type 0) (w v : CheckpointState) (disk : D) (mark : ℕ) (entries : List (List ℕ × Value))
     → MayAdvance states honest w disk → v ≡ with_section mark entries w
     → ((map : Map) (old : List ℕ) (sections : List Section) (file : File) → entries ≡ finite.entries map → AreKeysOf w.stripes w.count entries → w.low ≤ mark
-      → Stands w old sections file → Stands v old (sections ++ record { mark = mark; map = map } ∷ []) file)
+    → Stands w old sections file → Stands v old (sections ++ record { mark = mark; map = map } ∷ []) file)
     → T (is_sorted (slice_cmp nat_cmp) entries) → AreKeysOf w.stripes w.count entries → w.low ≤ mark → MayAdvance states honest v disk
 may_stage states honest w v disk mark entries may state staged sorted keys low = λ works is_honest.
     let was_works : w.is_broken ≡ false = sym (ap (λ (s : CheckpointState). s.is_broken) state) ∙ works in
     let (old, sections, stands) = may was_works is_honest in
     let map : Map = finite.from_sorted entries in
     let entries_are : entries ≡ finite.entries map = sym (entries-from_sorted (slice_cmp nat_cmp) entries sorted) in
-    let x : Section = record { mark = mark; map = map } in
-    (old, sections ++ x ∷ [], subst (λ n. Stands v old (sections ++ x ∷ []) (now (states disk) (checkpoint_file n))) (sym (ap (λ (s : CheckpointState). s.generation) state))
-      (staged map old sections (now (states disk) (checkpoint_file w.generation)) entries_are keys low stands))
+    let x : Section = record { mark = mark; map = map } in (
+      old,
+      sections ++ x ∷ [],
+      subst (λ n. Stands v old (sections ++ x ∷ []) (now (states disk) (checkpoint_file n))) (sym (ap (λ (s : CheckpointState). s.generation) state))
+          (staged map old sections (now (states disk) (checkpoint_file w.generation)) entries_are keys low stands),
+    )
 
 -- nothing was begun
 pub idle_may : {D : Type 0} (states : D → List Files) (honest : D → Type 0) (w : CheckpointState) (disk : D) → w ≡ idle → MayAdvance states honest w disk

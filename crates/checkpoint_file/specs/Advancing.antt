@@ -1,5 +1,5 @@
 -- What one step of a checkpoint does.
-use Rattle.std.specs.Prelude.{◌≡◌, ℕ, List, Some, Result, IfOk, IfErr, OnOk, true, false}
+use Rattle.std.specs.Prelude.{◌≡◌, ℕ, List, Result, IfOk, IfErr, OnOk, true, false}
 use Rattle.disk_model.specs.Files.{Files, now}
 use Rattle.disk_model.specs.Gates.{Call}
 use Rattle.disk_model.specs.Calls.{Makes, Fails}
@@ -8,7 +8,7 @@ use Rattle.map_types.specs.declared.refusals.Refusal.{Refusal}
 use Rattle.map_types.specs.declared.refusals.Refusal.TheVariants.{Failed}
 use Rattle.store_layout.specs.Checkpoints.{Section, checkpoint_file}
 use Rattle.checkpoint_file.specs.declared.phase.CheckpointPhase.{CheckpointPhase}
-use Rattle.checkpoint_file.specs.States.{CheckpointState, call_in, state_after}
+use Rattle.checkpoint_file.specs.States.{CheckpointState, state_after}
 use Rattle.checkpoint_file.specs.Standing.{Stands, IsKept}
 
 -- the checkpoint has failed, or its file stands as it is known to

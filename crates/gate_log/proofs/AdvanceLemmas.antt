@@ -1,5 +1,6 @@
 -- One step of a log, from the device call that it makes.
 use Rattle.std.proofs.Common.{◌≡◌, ◌≢◌, ◌⊎◌, inl, inr, ⊎_elim, ℕ, true, false, List, ◌∷◌, Some, Ok, Err, refl, sym, ◌∙◌, ap, subst}
+use Rattle.disk_model.specs.Calls.{Makes, Fails}
 use Rattle.disk_model.specs.Files.{File, Files, MayLeave, now, with_file}
 use Rattle.disk_model.specs.Gates.{Call, called}
 use Rattle.disk_model.specs.Moments.{AtEachMoment}
@@ -11,7 +12,7 @@ use Rattle.gate_log.specs.declared.phase.Phase.{Phase}
 use Rattle.gate_log.specs.declared.phase.Phase.TheVariants.{Idle, Header, HeaderWritten, Staged, Written, Synced, Opened}
 use Rattle.gate_log.specs.States.{LogState, call_in, log_after}
 use Rattle.gate_log.specs.Standing.{Stands, IsReady, IsKept, MayRead}
-use Rattle.gate_log.specs.Advancing.{Makes, Fails, Advances, MayAdvance, committed_after, staged_after}
+use Rattle.gate_log.specs.Advancing.{Advances, MayAdvance, committed_after, staged_after}
 use Rattle.gate_log.proofs.StandingLemmas.{reads_in, placed, goes_to, called_reads, failed_reads}
 
 cases_idle : (phase : Phase) → (phase ≡ Idle) ⊎ (phase ≢ Idle)

@@ -2,12 +2,12 @@
 use Rattle.std.proofs.Common.{◌≡◌, ◌⊎◌, inl, inr, ⊎_elim, ℕ, ◌+◌, List, ◌∷◌, Option, None, Some, Result, Ok, Err, OnErr, refl, sym, ◌∙◌, ap, subst}
 use mathlib.Core.Path.{fun_ext}
 use Rattle.std.proofs.lemmas.Bool.{cases_eq}
+use Rattle.disk_model.specs.Calls.{Fails}
 use Rattle.disk_model.specs.Files.{Files, now, with_file}
 use Rattle.disk_model.specs.Gates.{Call, syncs}
 use Rattle.disk_model.proofs.FileLemmas.{with_same, with_other}
 use Rattle.gate_log.specs.declared.phase.Phase.TheVariants.{HeaderWritten, Written, Opened}
 use Rattle.gate_log.specs.States.{LogState, call_in}
-use Rattle.gate_log.specs.Advancing.{Fails}
 
 with_itself : (number : ℕ) (files : Files) → with_file number (files number) files ≡ files
 with_itself number files = fun_ext (λ n. ⊎_elim {C = with_file number (files number) files n ≡ files n}

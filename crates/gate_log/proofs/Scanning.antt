@@ -6,10 +6,11 @@ use Rattle.byteorder.specs.Endian.{big_number, big_bytes}
 use Rattle.log_records.specs.Agreement.{IsBytes}
 use Rattle.log_records.proofs.Digits.{IsBytes-drop, IsBytes-take, big_bytes-big_number}
 use Rattle.byteorder.specs.Numbers.{big_from-lt}
+use Rattle.disk_model.specs.Calls.{Looks}
 use Rattle.disk_model.specs.Files.{Files, now}
 use Rattle.disk_model.proofs.MomentLemmas.{one_call, goes_on, in_the_end, weaker}
 use Rattle.store_layout.specs.Readings.{HasHeader}
-use Rattle.gate_log.specs.Scan.{Looks, ScanState, RefusesFor, log_bytes}
+use Rattle.gate_log.specs.Scan.{ScanState, RefusesFor, log_bytes}
 use Rattle.store_layout.specs.Logs.{log_file}
 use Rattle.gate_log.specs.ScanParts.{HasFrame}
 use Rattle.map_types.specs.declared.refusals.Refusal.{Refusal}

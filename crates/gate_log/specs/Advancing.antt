@@ -1,7 +1,8 @@
 -- What one step of a log does.
-use Rattle.std.specs.Prelude.{◌≡◌, ℕ, ◌+◌, List, [], ◌∷◌, ◌++◌, Some, Result, IfOk, IfErr, OnOk, true, false}
-use Rattle.disk_model.specs.Files.{File, Files, now, with_file}
-use Rattle.disk_model.specs.Gates.{Call, IsPlaced, called, MayFailTo}
+use Rattle.std.specs.Prelude.{◌≡◌, ℕ, List, [], ◌++◌, Some, Result, IfOk, IfErr, OnOk, true, false}
+use Rattle.disk_model.specs.Calls.{Makes, Fails}
+use Rattle.disk_model.specs.Files.{Files, now}
+use Rattle.disk_model.specs.Gates.{Call}
 use Rattle.disk_model.specs.Moments.{AtEachMoment}
 use Rattle.map_types.specs.declared.refusals.Refusal.{Refusal}
 use Rattle.map_types.specs.declared.refusals.Refusal.TheVariants.{Failed}
@@ -10,18 +11,6 @@ use Rattle.gate_log.specs.declared.phase.Phase.{Phase}
 use Rattle.gate_log.specs.declared.phase.Phase.TheVariants.{Opened}
 use Rattle.gate_log.specs.States.{LogState, call_in, log_after}
 use Rattle.gate_log.specs.Standing.{Stands, IsKept}
-
--- one device call of this file was made, and succeeded
-pub record Makes {D : Type 0} (states : D → List Files) (failures : D → ℕ) (number : ℕ) (call : Call) (old new : D) : Type 0 where
-  pub state : states new ≡ with_file number (called call (now (states old) number)) (now (states old)) ∷ states old
-  pub counted : failures new ≡ failures old
-
--- one device call of this file was made, and failed
-pub record Fails {D : Type 0} (states : D → List Files) (failures : D → ℕ) (number : ℕ) (call : Call) (old new : D) : Type 0 where
-  pub left : File
-  pub may : IsPlaced call (now (states old) number) → MayFailTo call (now (states old) number) left
-  pub state : states new ≡ with_file number left (now (states old)) ∷ states old
-  pub counted : failures new ≡ failures old + 1
 
 -- the batches that are committed after a step
 abbrev pub committed_after : Phase → List Batch → List Batch → List Batch

@@ -2,7 +2,6 @@
 use Rattle.std.specs.Prelude.{◌≡◌, ◌≢◌, ◌⊎◌, ℕ, ◌+◌, ◌<◌, ◌^◌, List, [], ◌∷◌, ◌++◌, length, Result, Err}
 use Rattle.byteorder.specs.Endian.{big_bytes}
 use Rattle.disk_model.specs.Files.{Files, now}
-use Rattle.disk_model.specs.Moments.{AtEachMoment}
 use Rattle.map_types.specs.declared.refusals.Refusal.{Refusal}
 use Rattle.map_types.specs.declared.refusals.Refusal.TheVariants.{Failed, NoMemory, Damaged, WrongVersion}
 use Rattle.log_records.specs.Layout.{Layout}
@@ -67,9 +66,3 @@ log_bytes states disk generation = (now (states disk) (log_file generation)).see
 abbrev pub failed_in : {X : Type 0} → Result X Refusal → ℕ
 failed_in (Err Failed) = 1
 failed_in _ = 0
-
--- From old to new a disk was only looked at: each call left the files as they were, and so many failed.
-pub record Looks {D : Type 0} (states : D → List Files) (failures : D → ℕ) (honest : D → Type 0) (failed : ℕ) (old new : D) : Type 0 where
-  pub same : AtEachMoment states old new (λ files. files ≡ now (states old))
-  pub failed_so : failures new ≡ failures old + failed
-  pub was_honest : honest new → honest old

@@ -1,12 +1,13 @@
 //! One log, and the device call that comes next in it.
 ghost use Rattle.std.specs.Prelude.{◌≡◌, ◌≢◌, ◌⊎◌, ◌↔◌, ℕ, ◌+◌, ◌<◌, ◌≤◌, ◌^◌, ◌++◌, ◌∷◌, [], List, length, Option, None, Some, true, false, IfOk, IfErr, OnOk, OnErr, IsTrue};
+ghost use Rattle.disk_model.specs.Calls.{Makes, Fails};
 ghost use Rattle.disk_model.specs.Files.{File, now, at_rest};
 ghost use Rattle.disk_model.specs.Gates.{Call, IsPlaced};
 ghost use Rattle.log_records.specs.Layout.{first_layout};
 ghost use Rattle.store_layout.specs.Logs.{Batch, IsClosed, commands_in, frame, log_file, log_front};
 ghost use Rattle.gate_log.specs.States.{AreFrom, IsResting, batch_of, begun, bytes_staged, call_in, log_after, resumed};
 ghost use Rattle.gate_log.specs.Standing.{Stands};
-ghost use Rattle.gate_log.specs.Advancing.{Advances, Makes, Fails, MayAdvance};
+ghost use Rattle.gate_log.specs.Advancing.{Advances, MayAdvance};
 
 use crate::frames::{batch_frame, end_frame_and_gate, frame_len, header_and_gate};
 use crate::phase::Phase;

@@ -2,6 +2,7 @@
 ghost use Rattle.std.specs.Prelude.{◌≡◌, ◌≢◌, ◌⊎◌, ℕ, ◌+◌, ◌<◌, ◌≤◌, ◌^◌, ◌++◌, ◌∷◌, [], List, length, take, drop, IfOk, IfErr, OnOk, OnErr, IfSome, IfNone};
 ghost use Rattle.std.specs.List.{AllByRecursion};
 ghost use Rattle.byteorder.specs.Endian.{big_bytes};
+ghost use Rattle.disk_model.specs.Calls.{Looks};
 ghost use Rattle.disk_model.specs.Files.{now};
 ghost use Rattle.log_records.specs.Layout.{Layout, IsLayout, first_layout};
 ghost use Rattle.log_records.specs.Spelling.{IsCommand, record_bytes};
@@ -9,7 +10,7 @@ ghost use Rattle.map_types.specs.declared.commands.Command.{Command};
 ghost use Rattle.store_layout.specs.Logs.{Batch, IsBatch, IsClosed, IsEnded, frame, log_file, records_bytes};
 ghost use Rattle.gate_log.specs.States.{batch_of};
 ghost use Rattle.store_layout.specs.Readings.{HasHeader, IsBadHeader, HasNoFrame, IsBroken, Reading, Reads};
-ghost use Rattle.gate_log.specs.Scan.{ScanState, HasRead, IsFound, GoesOn, Looks, failed_in, log_bytes, RefusesFor};
+ghost use Rattle.gate_log.specs.Scan.{ScanState, HasRead, IsFound, GoesOn, failed_in, log_bytes, RefusesFor};
 ghost use Rattle.gate_log.specs.ScanParts.{AreEntries, IsBody, HasFrame, FitsAhead, ComesAhead, IsAheadOf, FitsBatch, IsAtBatch, IsAtEnd};
 
 use byteorder::{BigEndian, ByteOrder};

@@ -44,8 +44,13 @@ length-checkpoint_header a b c d e = refl
 pub length-marked : (layout : Layout) (mark : ℕ) (entries : List (List ℕ × Value)) → length (marked_bytes layout mark entries) ≡ 12 + length (entries_bytes layout entries)
 unfolding marked_bytes
 length-marked layout mark entries =
-    omega (arith, length-append (big_bytes 8 mark) (big_bytes 4 (length entries) ++ entries_bytes layout entries), length-append (big_bytes 4 (length entries)) (entries_bytes layout entries),
-    length-bytes_high_first 8 mark, length-bytes_high_first 4 (length entries))
+    omega (
+      arith,
+      length-append (big_bytes 8 mark) (big_bytes 4 (length entries) ++ entries_bytes layout entries),
+      length-append (big_bytes 4 (length entries)) (entries_bytes layout entries),
+      length-bytes_high_first 8 mark,
+      length-bytes_high_first 4 (length entries),
+    )
 
 -- ---- how long they may be
 
@@ -55,8 +60,14 @@ value_bound (Text text) is = omega (arith, length-append (big_bytes 2 (length te
 
 entry_bound : (entry : List ℕ × Value) → IsText 255 entry.0 → IsValue entry.1 → length (entry_bytes first_layout entry) ≤ 4355
 entry_bound entry text value =
-    omega (arith, length-append (big_bytes 1 (length entry.0) ++ entry.0) (value_bytes (Some entry.1)), length-append (big_bytes 1 (length entry.0)) entry.0, length-bytes_high_first 1 (length entry.0),
-    value_bound entry.1 value, text.0)
+    omega (
+      arith,
+      length-append (big_bytes 1 (length entry.0) ++ entry.0) (value_bytes (Some entry.1)),
+      length-append (big_bytes 1 (length entry.0)) entry.0,
+      length-bytes_high_first 1 (length entry.0),
+      value_bound entry.1 value,
+      text.0,
+    )
 
 pub entries_bound : (entries : List (List ℕ × Value)) → AllByRecursion (λ (entry : List ℕ × Value). IsText 255 entry.0 × IsValue entry.1) entries
     → length (entries_bytes first_layout entries) ≤ 4355 * length entries

@@ -8,6 +8,6 @@ loop-key-preserved c =
     let i = c.loop-key.key-index in
     let entry = c.loop-key-item.result in (
       bytes_more c.args.out.now.items c.loop-key.out.items c.put_key.new.out.items c.put_value.new.out.items entries i entry (omega arith) c.loop-key-item.is
-      c.loop-key.invariant.0 c.in_ok-put_key.ensures.ok c.in_ok-put_value.ensures.ok,
+          c.loop-key.invariant.0 c.in_ok-put_key.ensures.ok c.in_ok-put_value.ensures.ok,
       fits_more entries i entry (omega arith) c.loop-key-item.is c.loop-key.invariant.1 c.in_ok-put_key.ensures.fits c.in_ok-put_value.ensures.fits,
     )

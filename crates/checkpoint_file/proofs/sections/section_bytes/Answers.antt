@@ -1,4 +1,4 @@
-use Rattle.std.proofs.Common.{◌≡◌, ◌∙◌, length, ap, arith, append_assoc}
+use Rattle.std.proofs.Common.{◌≡◌, length, ap, arith, append_assoc}
 use Rattle.byteorder.specs.Endian.{big_bytes}
 use Rattle.log_records.specs.Layout.{first_layout}
 use Rattle.store_layout.specs.Checkpoints.{entries_bytes, marked_bytes}

@@ -1,7 +1,6 @@
-use Rattle.std.proofs.Common.{◌≡◌, ◌∷◌, sym, ap, subst, rules}
+use Rattle.std.proofs.Common.{◌≡◌, ◌∷◌, subst, rules}
 use Rattle.disk_model.specs.Files.{now, synced, with_file}
 use Rattle.store_layout.specs.Checkpoints.{checkpoint_file}
-use Rattle.checkpoint_file.specs.States.{CheckpointState}
 use Rattle.checkpoint_file.specs.Standing.{is_to_close}
 use Rattle.checkpoint_file.proofs.TestLemmas.{begun_may}
 use Rattle.checkpoint_file.proofs.tests.clear.Goals as goal
