@@ -1,15 +1,14 @@
 -- The first bytes of a file, and its head.
-use Rattle.std.proofs.Common.{◌≡◌, ◌≢◌, ◌≤◌, ℕ, ◌+◌, ◌-◌, ◌%◌, min, Bool, true, false, not, cond, ◌&&◌, ◌==◌, nat_le, Option, None, Some, List, length, take, drop, slice_index_or, refl, sym, ap, subst, ◌∙◌, arith}
+use Rattle.std.proofs.Common.{◌≡◌, ◌≢◌, ◌≤◌, ℕ, ◌+◌, ◌%◌, Bool, true, false, not, cond, ◌&&◌, ◌==◌, nat_le, None, Some, List, length, take, drop, slice_index_or, refl, sym, ap, subst, ◌∙◌, arith}
 use Rattle.std.proofs.lemmas.Bool.Decides.{nat_tests}
 use Rattle.std.proofs.lemmas.List.{drop-take, get_or-take}
 use Rattle.byteorder.specs.Endian.{big_from}
 use Rattle.byteorder.specs.Numbers.{big_from-take}
-use Rattle.map_types.specs.declared.refusals.Refusal.{Refusal}
 use Rattle.map_types.specs.declared.refusals.Refusal.TheVariants.{Damaged, WrongVersion}
 use Rattle.store_layout.specs.Checkpoints.{is_sealed}
 use Rattle.store_layout.specs.Faults.{generation_in, head_fault, number_in, version_in}
 use Rattle.checkpoint_file.specs.declared.head.Head.{Head}
-use Rattle.checkpoint_file.specs.Heads.{HasFields, IsHead}
+use Rattle.checkpoint_file.specs.Heads.{HasFields}
 
 module _ (buf content : List ℕ) (same : take 36 buf ≡ take 36 content) where
   pub byte_kept : (i : ℕ) → i + 1 ≤ 36 → slice_index_or buf i 0 ≡ slice_index_or content i 0

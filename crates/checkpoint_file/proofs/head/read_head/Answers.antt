@@ -1,7 +1,7 @@
-use Rattle.std.proofs.Common.{◌≡◌, ◌≢◌, ◌≤◌, ◌%◌, List, ℕ, length, take, drop, slice_index_or, inr, sym, ap, subst, ◌∙◌, arith, true}
+use Rattle.std.proofs.Common.{◌≡◌, ◌≢◌, ◌≤◌, ◌%◌, List, ℕ, length, slice_index_or, inr, sym, subst, ◌∙◌, arith, true}
 use Rattle.disk_model.specs.Files.{now}
 use Rattle.store_layout.specs.Checkpoints.{is_sealed}
-use Rattle.store_layout.specs.Faults.{generation_in, version_in}
+use Rattle.store_layout.specs.Faults.{generation_in}
 use Rattle.checkpoint_file.proofs.LookLemmas.{one_look}
 use Rattle.checkpoint_file.proofs.HeadLemmas.{byte_kept, number_kept, fields_kept, whole_read, opened, faultless, misplaced}
 use Rattle.checkpoint_file.proofs.head.read_head.Goals as goal
