@@ -158,7 +158,7 @@ fn int_entry(alloc: Global, key: &str, value: i64) -> Result<(Key, Value), Refus
     Ok((Key::new(alloc, key)?, Value::Int(value)))
 }
 
-// The checkpoint with one stripe, but for its gate: that is to be opened.
+// Writes the checkpoint with one stripe.
 fn write_one_stripe<D: Disk>(
     alloc: Global,
     writer: &mut CheckpointWriter,
@@ -174,6 +174,7 @@ fn write_one_stripe<D: Disk>(
     finish(writer, disk)
 }
 
+// Writes the one with two.
 fn write_two_stripes<D: Disk>(
     alloc: Global,
     writer: &mut CheckpointWriter,
@@ -256,9 +257,8 @@ fn a_checkpoint_over_an_older_one(rt: HostRuntime) -> Result<(), Fail> {
     Ok(())
 }
 
-// A device call fails, behind the sync and the look of `clear`; then another is planned to fail, and the
-// writer makes no call for it to fail.
-// What is left after a stop.
+// What is left after a stop, where a device call has failed. The writer then makes no call: the failure
+// that is planned next is met by another.
 fn left_after(alloc: Global, failing: u64, fill: Fill, stop: &Fill) -> Result<Vec<u8>, Fail> {
     let mut disk = MemDisk::new(alloc);
     disk.plan(Some(Failure {
