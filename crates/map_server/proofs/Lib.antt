@@ -4,4 +4,4 @@ pub mod Parts
 pub mod Turns
 pub mod Connections
 pub mod CommandLines
-pub mod Sweeps
+pub mod Releasing

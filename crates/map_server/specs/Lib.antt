@@ -3,5 +3,4 @@ pub mod Connection
 pub mod Progress
 pub mod CommandLine
 pub mod Program
-pub mod Journal
 pub mod Served

@@ -1,34 +1,61 @@
 -- What a run of the program leaves of its streams.
-use Rattle.std.specs.Prelude.{◌≡◌, ◌≢◌, ◌⊎◌, ℕ, Bool, true, false, List, [], ◌∷◌, Option, Result, Err, MatchResult, codes}
+use Rattle.std.specs.Prelude.{◌≡◌, ◌≢◌, ◌⊎◌, ℕ, ◌+◌, Bool, true, false, List, [], ◌∷◌, Option, Result, Err, MatchResult, codes}
 use Rattle.clap.specs.Words.{Text}
 use Rattle.std.specs.FinMap as finite
 use Rattle.ticket_order.specs.declared.record.Record.{Record}
+use Rattle.ticket_order.specs.declared.record.Opening.{Opening}
 use Rattle.stripe_locks.specs.Plays.{joining}
-use Rattle.gate_log.specs.States.{LogState, resumed}
+use Rattle.gate_log.specs.States.{resumed}
 use Rattle.wire_frames.specs.declared.requests.Request.{Request}
 use Rattle.map_server.specs.declared.connection.ConnectionError.{ConnectionError}
 use Rattle.map_server.specs.Connection.{Connection}
 use Rattle.map_server.specs.Dialogue.{Answer}
-use Rattle.map_server.specs.Served.{Took, fails}
+use Rattle.map_server.specs.Served.{Kept, Took, fails}
+use Rattle.map_types.specs.declared.refusals.Refusal.{Refusal}
 use Rattle.map_types.specs.declared.refusals.Refusal.TheVariants as refusal_type
 use Rattle.map_server.specs.CommandLine.{faults, Misuses}
 
--- a map in memory: the count of stripes, the record of the pass that makes the calls, the log, and whether it has failed
+-- a map in memory: the count of stripes, the record of the pass that makes the calls, the keeper, and whether it has failed
 pub record MapState : Type 0 where
   pub stripes : ℕ
   pub pass : Record
-  pub log : LogState
+  pub kept : Kept
   pub has_failed : Bool
 
--- an empty map of 16 stripes, their first pass, which has made no step, and a log with its header alone
-abbrev pub empty_map : MapState
-empty_map = record { stripes = 16; pass = joining (record { first = 0; map = finite.empty }) 0; log = resumed 0 0 17 0; has_failed = false }
+-- where an empty map begins
+abbrev pub nothing_yet : Opening
+nothing_yet = record { first = 0; map = finite.empty }
+
+-- An empty map of 16 stripes: its two passes have made no step, and the log has its header alone.
+pub record IsEmpty (map : MapState) : Type 0 where
+  pub stripes : map.stripes ≡ 16
+  pub joined : ℕ
+  pub pass : map.pass ≡ joining nothing_yet joined
+  pub keeper : map.kept.pass ≡ joining nothing_yet 0
+  pub log : map.kept.log ≡ resumed 0 0 17 0
+  pub unfailed : map.has_failed ≡ false
+
+-- 16 stripes of an empty map, and two passes that have made no step, one of them the keeper's
+pub record IsJoined (stripes : ℕ) (keeper pass : Record) : Type 0 where
+  pub count : stripes ≡ 16
+  pub first : keeper ≡ joining nothing_yet 0
+  pub joined : ℕ
+  pub second : pass ≡ joining nothing_yet joined
+
+-- no memory was found for the stripes, or they had no keeper's pass
+abbrev pub IsUnjoined : Refusal → Type 0
+IsUnjoined refusal = (refusal ≡ refusal_type.NoMemory) ⊎ (refusal ≡ refusal_type.SeatsSpent)
+
+-- Why no map was begun over a disk, and how that was left: a device call has failed, or the disk was not used.
+abbrev pub CannotBegin : {D : Type 0} → (D → ℕ) → D → Refusal → D → Type 0
+CannotBegin failures disk refusal left =
+    ((refusal ≡ refusal_type.Failed) × (failures left ≡ failures disk + 1)) ⊎ (IsUnjoined refusal × (left ≡ disk))
 
 -- a map that has not failed answered a request so
 pub record Works (before : MapState) (request : Request) (answer : Answer) (after : MapState) : Type 0 where
   pub working : before.has_failed ≡ false
   pub stripes : after.stripes ≡ before.stripes
-  pub took : Took before.stripes before.pass request answer before.log after.pass after.log
+  pub took : Took before.stripes before.pass request answer before.kept after.pass after.kept
   pub failed : after.has_failed ≡ fails answer
 
 -- a map that has failed refuses, and does nothing
@@ -43,9 +70,11 @@ Answered before request answer after = Works before request answer after ⊎ IsO
 
 -- What was written is the dialogue of what was read, each request answered by the map, which was empty at first. The status is 0 where the connection ended by itself, and 1 where it broke off.
 pub record Dialogues (r0 r1 w0 w1 : Option (List ℕ)) (status : ℕ) : Type 0 where
+  pub before : MapState
   pub after : MapState
+  pub empty : IsEmpty before
   pub result : Result (Unit {0}) ConnectionError
-  pub connection : Connection Answered r0 r1 w0 w1 empty_map after result
+  pub connection : Connection Answered r0 r1 w0 w1 before after result
   pub status_is : MatchResult result (λ done. status ≡ 0) (λ error. status ≡ 1)
 
 -- the map was served, or it could not be begun and nothing was read or written

@@ -1,109 +1,98 @@
--- What a request that is served leaves of the record of the pass that serves it, and of the log.
-use Rattle.std.specs.Prelude.{◌≡◌, ◌≢◌, ◌⊎◌, ℕ, ◌+◌, Bool, true, false, None, Ok, Err, List, [], ◌∷◌}
+-- What a request that is served leaves of the record of the pass that serves it, and of the keeper.
+use Rattle.std.specs.Prelude.{◌≡◌, ◌⊎◌, ℕ, ◌+◌, ◌<◌, ◌≤◌, ◌^◌, Bool, true, false, None, Ok, Err, List, [], ◌∷◌}
+use Rattle.disk_model.specs.Files.{Files}
 use Rattle.java_hash.specs.Stripes.{stripe_of}
 use Rattle.map_types.specs.declared.refusals.Refusal.{Refusal}
 use Rattle.map_types.specs.declared.refusals.Refusal.TheVariants as refusal_type
 use Rattle.map_types.specs.declared.commands.Command.{Command}
-use Rattle.map_types.specs.declared.commands.Read as read_type
 use Rattle.map_types.specs.declared.commands.Reply.{Reply}
-use Rattle.ticket_order.specs.declared.stripe.Entry.{Entry}
 use Rattle.ticket_order.specs.declared.record.Record.{Record}
-use Rattle.ticket_order.specs.Records.{failing}
-use Rattle.ticket_order.specs.StepRules.{Publishes}
-use Rattle.ticket_order.specs.Calls.{MakesCall, MakesRead, RefusesChange, RefusesRead, RefusesSweep, Reaches, SweepsStripe}
-use Rattle.gate_log.specs.States.{LogState}
+use Rattle.ticket_order.specs.Calls.{MakesCall, MakesRead, RefusesChange, RefusesRead, Reaches, Misses, MissesAlive, SeesAgain}
+use Rattle.gate_log.specs.States.{LogState, IsResting}
+use Rattle.flusher.specs.declared.keeper.Keeper.{Keeper}
+use Rattle.flusher.specs.Fitting.{Fits}
+use Rattle.flusher.specs.Keeping.{is_walking}
 use Rattle.wire_frames.specs.declared.requests.Request.{Request}
 use Rattle.wire_frames.specs.declared.requests.Request.TheVariants.{Change, Read}
 use Rattle.map_server.specs.Dialogue.{Answer}
-use Rattle.map_server.specs.Journal.{MayCommit, CannotCommit, CommitsNext}
+
+-- what callers see of the keeper: the record of its pass, and its log
+pub record Kept : Type 0 where
+  pub pass : Record
+  pub log : LogState
+
+-- the keeper and its pass over n stripes, whose log began with them
+abbrev pub IsKept : {D : Type 0} → (D → List Files) → (D → Type 0) → ℕ → Keeper D → Record → Type 0
+IsKept states honest n keeper p = (done : List Command) × Fits states honest n [] done keeper p
+
+-- between two commits of a keeper that has not failed
+pub record IsIdle {D : Type 0} (keeper : Keeper D) : Type 0 where
+  pub working : keeper.is_broken ≡ false
+  pub unfailed : keeper.has_failed ≡ false
+  pub resting : IsResting keeper.log
+  pub still : is_walking keeper.sweeper.walking ≡ false
 
 -- no call was added
 abbrev pub Refuses : ℕ → Record → Request → Refusal → Record → Type 0
 Refuses n v (Change command) refusal w = RefusesChange v (stripe_of n command.key) refusal w
 Refuses n v (Read read) refusal w = RefusesRead v (stripe_of n read.key) refusal w
 
--- sweeps of stripe i were refused one after the other, and left these records, the newest first
-abbrev pub TriesSweep : ℕ → Record → List Record → Record → Type 0
-TriesSweep i v [] w = w ≡ v
-TriesSweep i v (left ∷ earlier) w = (w ≡ left) × ((before : Record) × (refusal : Refusal) × TriesSweep i v earlier before × RefusesSweep before i refusal left)
+-- the call was made, with this reply: the record grew by it alone, behind all that the pass had seen, and it is legal there
+abbrev pub Makes : ℕ → Record → Request → ℕ → Reply → Record → Type 0
+Makes n v (Change command) position reply w = MakesCall n v command position reply w
+Makes n v (Read read) position reply w = MakesRead n v read position reply w
 
--- sweeps of stripe i were refused, and then one took these entries
-pub record SweepsInTime (n : ℕ) (v : Record) (i : ℕ) (entries : List Entry) (w : Record) : Type 0 where
+-- releases of this position found it not durable yet, and left these records, the newest first
+abbrev pub TriesRelease : ℕ → Record → List Record → Record → Type 0
+TriesRelease position v [] w = w ≡ v
+TriesRelease position v (left ∷ earlier) w = (w ≡ left) × ((before : Record) × TriesRelease position v earlier before × MissesAlive position true before left)
+
+-- The position of a call that was made is committed, with all tickets below it, and a release found it durable.
+pub record IsGivenOut (position : ℕ) (made w : Record) (kept : Kept) : Type 0 where
   pub tries : List Record
   pub tried : Record
-  pub refused : TriesSweep i v tries tried
-  pub sweeps : SweepsStripe n tried i entries w
+  pub waits : TriesRelease position made tries tried
+  pub reaches : Reaches position tried w ⊎ SeesAgain position tried (Reaches position) w
+  pub committed : position ≤ kept.log.committed
+  pub unfailed : kept.pass.failed ≡ false
 
--- A sweep of stripe i took one entry, the one before this position, and it is committed in the log.
-pub record Logs (n : ℕ) (v : Record) (i position : ℕ) (old : LogState) (w : Record) (new : LogState) : Type 0 where
-  pub entries : List Entry
-  pub sweeps : SweepsInTime n v i entries w
-  pub commits : CommitsNext old entries new
-  pub position_is : position ≡ old.committed + 1
-
--- A sweep of stripe i took these entries, and they are not committed: a device call has failed, the log is full, or the change with this position isn't its next.
-pub record LogsNone (n : ℕ) (v : Record) (i position : ℕ) (old : LogState) (w : Record) (new : LogState) : Type 0 where
-  pub entries : List Entry
-  pub sweeps : SweepsInTime n v i entries w
-  pub cannot : CannotCommit old entries new ⊎ ((new ≡ old) × (position ≢ old.committed + 1))
-
--- The position was published, and a SEE reached it.
-pub record GivesOut (position : ℕ) (v w : Record) : Type 0 where
-  pub published : Record
-  pub publishes : Publishes v position published
-  pub reaches : Reaches position published w
-
--- The change was made, on n stripes, with this reply: the record grew by this call alone, behind all that the pass had seen, and it is legal there. It is committed in the log, its position was published, and a SEE reached it.
-pub record ServesChange (n : ℕ) (v : Record) (command : Command) (reply : Reply) (old : LogState) (w : Record) (new : LogState) : Type 0 where
+-- The call was made, and its reply was given out at its position.
+pub record Serves (n : ℕ) (v : Record) (request : Request) (reply : Reply) (w : Record) (kept : Kept) : Type 0 where
   pub position : ℕ
   pub made : Record
-  pub logged : Record
-  pub makes : MakesCall n v command position reply made
-  pub logs : Logs n made (stripe_of n command.key) position old logged new
-  pub gives_out : GivesOut position logged w
+  pub makes : Makes n v request position reply made
+  pub given_out : IsGivenOut position made w kept
 
--- The read was made, its position was published, and a SEE reached it.
-pub record ServesRead (n : ℕ) (v : Record) (read : read_type.Read) (reply : Reply) (w : Record) : Type 0 where
-  pub position : ℕ
-  pub made : Record
-  pub makes : MakesRead n v read position reply made
-  pub gives_out : GivesOut position made w
+-- the log takes no further batch: a device call has failed, or a batch might carry it past its greatest length
+abbrev pub CannotCommit : LogState → Type 0
+CannotCommit log = (log.is_broken ≡ true) ⊎ (2 ^ 40 < log.gate + 1048578)
 
-abbrev pub Serves : ℕ → Record → Request → Reply → LogState → Record → LogState → Type 0
-Serves n v (Change command) reply old w new = ServesChange n v command reply old w new
-Serves n v (Read read) reply old w new = ServesRead n v read reply w × (new ≡ old)
+-- Why a call that was made has no reply: its position can't be committed, and the keeper's pass made a FAIL; or a release showed a FAIL that
+-- the keeper's pass did not make.
+abbrev pub IsLost : ℕ → Record → Record → Kept → Type 0
+IsLost position tried w kept =
+    (CannotCommit kept.log × (kept.pass.failed ≡ true) × (w ≡ tried)) ⊎ (SeesAgain position tried (Misses position) w × (kept.pass.failed ≡ false))
 
--- The change was made, but can't be committed: the pass makes a FAIL, and the outcome of the change is open.
-pub record LosesChange (n : ℕ) (v : Record) (command : Command) (old : LogState) (w : Record) (new : LogState) : Type 0 where
+pub record IsWithheld (position : ℕ) (made w : Record) (kept : Kept) : Type 0 where
+  pub tries : List Record
+  pub tried : Record
+  pub waits : TriesRelease position made tries tried
+  pub lost : IsLost position tried w kept
+
+-- The call was made, but its reply is withheld: its outcome is open.
+pub record Loses (n : ℕ) (v : Record) (request : Request) (w : Record) (kept : Kept) : Type 0 where
   pub position : ℕ
   pub reply : Reply
   pub made : Record
-  pub swept : Record
-  pub makes : MakesCall n v command position reply made
-  pub cannot : LogsNone n made (stripe_of n command.key) position old swept new
-  pub fails : w ≡ failing swept
-
-abbrev pub Loses : ℕ → Record → Request → LogState → Record → LogState → Type 0
-Loses n v (Change command) old w new = LosesChange n v command old w new
-Loses n v (Read read) old w new = ⊥
+  pub makes : Makes n v request position reply made
+  pub withheld : IsWithheld position made w kept
 
 -- the request was answered so
-abbrev pub Took : ℕ → Record → Request → Answer → LogState → Record → LogState → Type 0
-Took n v request (Ok reply) old w new = Serves n v request reply old w new
-Took n v request (Err refusal) old w new = (Refuses n v request refusal w × (new ≡ old)) ⊎ ((refusal ≡ refusal_type.Failed) × Loses n v request old w new)
+abbrev pub Took : ℕ → Record → Request → Answer → Kept → Record → Kept → Type 0
+Took n v request (Ok reply) old w new = Serves n v request reply w new
+Took n v request (Err refusal) old w new = (Refuses n v request refusal w × (new ≡ old)) ⊎ ((refusal ≡ refusal_type.Failed) × Loses n v request w new)
 
 -- after this answer the map has failed
 abbrev pub fails : Answer → Bool
 fails (Err refusal_type.Failed) = true
 fails answer = false
-
--- between two calls: the pass holds nothing, and may publish
-pub record IsReady (v : Record) : Type 0 where
-  pub idle : v.holding ≡ None
-  pub keeper : v.keeper ≡ true
-  pub unfailed : v.failed ≡ false
-
--- between two calls of a map that has not failed
-pub record IsWorking (v : Record) (log : LogState) : Type 0 where
-  pub ready : IsReady v
-  pub may : MayCommit log

@@ -3,7 +3,6 @@
 
 pub mod calls;
 pub mod connection;
-pub mod journal;
 pub mod memory;
 pub mod program;
 #[cfg(test)]

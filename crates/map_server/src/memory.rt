@@ -1,32 +1,33 @@
-//! The map in memory: the shared stripes on one thread, and a journal on a disk.
-ghost use Rattle.std.specs.Prelude.{◌≡◌, ◌≤◌, ◌<◌, ◌⊎◌, IfOk, IfErr, OnOk, OnErr, false};
-ghost use Rattle.java_hash.specs.Stripes.{stripe_of as stripe_of_key};
-ghost use Rattle.ticket_order.specs.Records.{reach};
-ghost use Rattle.ticket_order.specs.Calls.{RefusesRead, RefusesSweep, Reaches, SweepsStripe};
+//! The map in memory: the shared stripes on one thread, and a keeper with its log on a disk.
+ghost use Rattle.std.specs.Prelude.{◌≡◌, ◌≢◌, ◌≤◌, ◌+◌, IfOk, IfErr, OnOk, OnErr, ℕ, None, false, true};
+ghost use Rattle.ticket_order.specs.declared.record.Record.{Record};
+ghost use Rattle.gate_log.specs.States.{IsResting, begun, log_after, resumed};
+ghost use Rattle.flusher.specs.Fitting.{IsUnused};
+ghost use Rattle.flusher.specs.Keeping.{is_walking};
 ghost use Rattle.stripe_locks.specs.Passes.{recorded, stripe_count, IsPassOf, IsSamePass};
-ghost use Rattle.wire_frames.specs.declared.requests.Request.TheVariants as request_type;
-ghost use Rattle.map_server.specs.Journal.{MayCommit};
-ghost use Rattle.map_server.specs.Program.{empty_map};
-ghost use Rattle.map_server.specs.Served.{Took, ServesRead, SweepsInTime, GivesOut, IsReady, IsWorking, Logs, LogsNone, fails};
+ghost use Rattle.map_server.specs.Program.{CannotBegin, IsEmpty, IsJoined, IsUnjoined};
+ghost use Rattle.map_server.specs.Served.{Took, IsKept, IsIdle, IsGivenOut, IsWithheld, CannotCommit, Makes, Refuses, fails};
 
 use crate::calls::Calls;
-use crate::journal::Journal;
 use disk_model::Disk;
-use java_hash::{StripeCount, stripe_of};
-use map_types::{Command, Read, Refusal, Reply};
+use flusher::Keeper;
+use gate_log::Phase;
+use java_hash::StripeCount;
+use map_types::{Refusal, Reply};
 use std::alloc::Global;
 use std::marker::Model;
 use std::sync::Wait;
 use stripe_locks::{Pass, Stripes};
-use ticket_order::{
-    Entry, Held, Position, Released, Stepped, Steps, Walk, release, try_call, try_read,
-};
+use ticket_order::{Held, Position, Released, Steps, release, try_call, try_read};
 use wire_frames::Request;
 
-/// A map of 16 stripes in memory, with a journal on a disk. Its one pass makes the calls, commits each
-/// change as a batch of its own, and publishes each position itself. What is refused for want of memory
-/// once a change has its ticket is tried again until memory is found. Where a device call fails, or the
-/// log is full, the change can't be committed: the map has failed, and each later call is refused with
+/// The longest batch.
+const MOST_COMMANDS: u32 = 65_536;
+
+/// A map of 16 stripes in memory, with a keeper whose log lies on a disk. One pass makes the calls; the
+/// keeper's sweeps the stripes, commits and publishes before a reply is given out. What the keeper is
+/// refused for want of memory is tried again until memory is found. Where a device call fails, or the
+/// log is full, a call can't be committed: the map has failed, and each later call is refused with
 /// `Failed`.
 #[derive(Drop)]
 pub struct Memory<'a, D: Disk + Drop, R: Wait> {
@@ -34,15 +35,16 @@ pub struct Memory<'a, D: Disk + Drop, R: Wait> {
     alloc: Global,
     stripes: Stripes,
     pass: Pass,
-    journal: Journal<D>,
+    keeper_pass: Pass,
+    keeper: Keeper<D>,
     has_failed: bool,
 }
 
 impl<'a, D: Disk + Drop, R: Wait> Model for Memory<'a, D, R> {
-    ghost use Rattle.std.specs.Prelude.{◌≡◌, false};
+    ghost use Rattle.std.specs.Prelude.{◌≡◌, None, false};
     ghost use Rattle.stripe_locks.specs.Passes.{recorded, stripe_count, IsPassOf};
     ghost use Rattle.map_server.specs.Program.{MapState};
-    ghost use Rattle.map_server.specs.Served.{IsWorking};
+    ghost use Rattle.map_server.specs.Served.{IsKept, IsIdle};
     ghost use Rattle.ticket_order.specs.contracts.record.Record as record_type;
     ghost use Rattle.std.specs.Coded.{codes};
 
@@ -50,192 +52,280 @@ impl<'a, D: Disk + Drop, R: Wait> Model for Memory<'a, D, R> {
 
     ghost coded = { Prim.hlevel (codes, record_type.the_row.coded) };
 
-    ghost view = { λ memory. record { stripes = stripe_count memory.stripes; pass = recorded memory.pass; log = memory.journal; has_failed = memory.has_failed } };
+    ghost view = { λ memory. record { stripes = stripe_count memory.stripes; pass = recorded memory.pass; kept = record { pass = recorded memory.keeper_pass; log = memory.keeper.log }; has_failed = memory.has_failed } };
 
-    ghost invariant = { λ memory. IsPassOf memory.stripes memory.pass × (memory.has_failed ≡ false → IsWorking (recorded memory.pass) memory.journal) };
+    ghost invariant = { λ memory. IsPassOf memory.stripes memory.pass × IsPassOf memory.stripes memory.keeper_pass
+        × IsKept D.states D.honest (stripe_count memory.stripes) memory.keeper (recorded memory.keeper_pass)
+        × (memory.has_failed ≡ false → ((recorded memory.pass).holding ≡ None) × IsIdle memory.keeper) };
 }
 
-/// Takes the entries out of a stripe, where no other pass holds it.
-fn try_sweep<S: Steps>(steps: &mut S, alloc: Global, stripe: usize) -> Result<Vec<Entry>, Refusal>
-    requires ready { IsReady (S.recorded steps.old) }
-    requires within { stripe < S.stripe_count steps.old }
-    ensures ok { IfOk result (λ entries. SweepsStripe (S.stripe_count steps.old) (S.recorded steps.old) stripe entries.items (S.recorded steps.new)) }
-    ensures err { IfErr result (λ refusal. RefusesSweep (S.recorded steps.old) stripe refusal (S.recorded steps.new)) }
-    ensures ready { IsReady (S.recorded steps.new) }
-    ensures reached { reach (S.recorded steps.old) ≤ reach (S.recorded steps.new) }
-    ensures place { S.place steps.new ≡ S.place steps.old }
-    ensures stripes { S.stripe_count steps.new ≡ S.stripe_count steps.old }
+/// Makes the device call that is due in the log.
+fn advance<D: Disk>(keeper: &mut Keeper<D>) -> Result<(), Refusal>
+    requires working { keeper.old.is_broken ≡ false }
+    requires due { keeper.old.log.phase ≢ Phase.Idle }
+    requires kept { (n : ℕ) × (p : Record) × IsKept D.states D.honest n keeper.old p }
+    ensures ok { OnOk result ((keeper.new.log ≡ log_after keeper.old.log.phase keeper.old.log) × (keeper.new.is_broken ≡ false) × (D.failures keeper.new.disk ≡ D.failures keeper.old.disk)) }
+    ensures err { OnErr result ((keeper.new.is_broken ≡ true) × (D.failures keeper.new.disk ≡ D.failures keeper.old.disk + 1)) }
+    ensures kept { (n : ℕ) (p : Record) → IsKept D.states D.honest n keeper.old p → IsKept D.states D.honest n keeper.new p }
+    ensures walking { keeper.new.sweeper.walking ≡ keeper.old.sweeper.walking }
+    ensures has_failed { keeper.new.has_failed ≡ keeper.old.has_failed }
 {
-    let mut walk = Walk::sweep(alloc, stripe);
-    loop {
-        match walk.step(steps) {
-            Stepped::More(next) => walk = next,
-            Stepped::Swept(entries) => return Ok(entries),
-            Stepped::Refused(refusal) => return Err(refusal),
-            Stepped::Held(_) | Stepped::Released(_) | Stepped::Captured(_) => unreachable!(),
+    let _phase = keeper.advance()?;
+    Ok(())
+}
+
+/// Makes the four device calls of the batch that is staged.
+fn commit_staged<D: Disk>(keeper: &mut Keeper<D>) -> Result<(), Refusal>
+    requires staged { keeper.old.log.phase ≡ Phase.Staged }
+    requires ends { keeper.old.log.ending ≡ None }
+    requires working { keeper.old.is_broken ≡ false }
+    requires kept { (n : ℕ) × (p : Record) × IsKept D.states D.honest n keeper.old p }
+    ensures ok { OnOk result (IsResting keeper.new.log × (keeper.new.is_broken ≡ false)) }
+    ensures err { OnErr result (keeper.new.is_broken ≡ true) }
+    ensures kept { (n : ℕ) (p : Record) → IsKept D.states D.honest n keeper.old p → IsKept D.states D.honest n keeper.new p }
+    ensures walking { keeper.new.sweeper.walking ≡ keeper.old.sweeper.walking }
+    ensures has_failed { keeper.new.has_failed ≡ keeper.old.has_failed }
+{
+    advance(keeper)?;
+    advance(keeper)?;
+    advance(keeper)?;
+    advance(keeper)
+}
+
+/// Commits the longest batch of what is in hand. Where there is none, or no memory is found, nothing is
+/// committed.
+fn commit_some<D: Disk>(keeper: &mut Keeper<D>) -> Result<(), Refusal>
+    requires idle { IsIdle keeper.old }
+    requires kept { (n : ℕ) × (p : Record) × IsKept D.states D.honest n keeper.old p }
+    ensures ok { OnOk result (IsIdle keeper.new) }
+    ensures err { OnErr result (CannotCommit keeper.new.log) }
+    ensures kept { (n : ℕ) (p : Record) → IsKept D.states D.honest n keeper.old p → IsKept D.states D.honest n keeper.new p }
+    ensures walking { keeper.new.sweeper.walking ≡ keeper.old.sweeper.walking }
+{
+    match keeper.stage_batch(MOST_COMMANDS) {
+        Ok(count) => {
+            if count == 0 {
+                return Ok(());
+            }
+            commit_staged(keeper)
+        }
+        Err(refusal) => {
+            if refusal == Refusal::NoMemory {
+                return Ok(());
+            }
+            Err(refusal)
         }
     }
 }
 
-/// Takes the entries out of a stripe. A sweep that is refused is made again.
-fn sweep<S: Steps, R: Wait>(rt: &R, steps: &mut S, alloc: Global, stripe: usize) -> Vec<Entry>
-    requires ready { IsReady (S.recorded steps.old) }
-    requires within { stripe < S.stripe_count steps.old }
-    ensures swept { SweepsInTime (S.stripe_count steps.old) (S.recorded steps.old) stripe result.items (S.recorded steps.new) }
-    ensures ready { IsReady (S.recorded steps.new) }
-    ensures reached { reach (S.recorded steps.old) ≤ reach (S.recorded steps.new) }
-    ensures place { S.place steps.new ≡ S.place steps.old }
-    ensures stripes { S.stripe_count steps.new ≡ S.stripe_count steps.old }
+/// Sweeps and commits until all tickets below the position are committed.
+fn commit_in_time<K: Steps, D: Disk, R: Wait>(
+    rt: &R,
+    steps: &mut K,
+    keeper: &mut Keeper<D>,
+    position: Position,
+) -> Result<(), Refusal>
+    requires idle { IsIdle keeper.old }
+    requires kept { IsKept D.states D.honest (K.stripe_count steps.old) keeper.old (K.recorded steps.old) }
+    ensures ok { OnOk result (IsIdle keeper.new × (position ≤ keeper.new.log.committed)) }
+    ensures err { OnErr result (CannotCommit keeper.new.log × (is_walking keeper.new.sweeper.walking ≡ false)) }
+    ensures kept { IsKept D.states D.honest (K.stripe_count steps.new) keeper.new (K.recorded steps.new) }
+    ensures quiet { (K.recorded steps.new).failed ≡ (K.recorded steps.old).failed }
+    ensures place { K.place steps.new ≡ K.place steps.old }
+    ensures stripes { K.stripe_count steps.new ≡ K.stripe_count steps.old }
 {
-    for _try in rt.forever() {
-        match try_sweep(steps, alloc, stripe) {
-            Ok(entries) => return entries,
-            Err(_refusal) => {}
+    for _turn in rt.forever() {
+        if position.number() <= keeper.committed() {
+            return Ok(());
         }
+        let _swept = keeper.sweep(rt, steps);
+        commit_some(keeper)?;
     }
     unreachable!()
 }
 
-/// Commits the entry of the change with this position, which lies in the stripe.
-fn log_change<S: Steps, D: Disk + Drop, R: Wait>(
+/// Commits all tickets below the position, and publishes them. Where they can't be committed, the
+/// keeper's pass makes a FAIL.
+fn make_durable<K: Steps, D: Disk, R: Wait>(
     rt: &R,
-    steps: &mut S,
-    alloc: Global,
-    journal: &mut Journal<D>,
-    stripe: usize,
+    steps: &mut K,
+    keeper: &mut Keeper<D>,
     position: Position,
 ) -> Result<(), Refusal>
-    requires ready { IsReady (S.recorded steps.old) }
-    requires within { stripe < S.stripe_count steps.old }
-    requires may { MayCommit journal.old }
-    requires some { 0 < position }
-    ensures ok { OnOk result (Logs (S.stripe_count steps.old) (S.recorded steps.old) stripe position journal.old (S.recorded steps.new) journal.new) }
-    ensures may { OnOk result (MayCommit journal.new) }
-    ensures err { OnErr result (LogsNone (S.stripe_count steps.old) (S.recorded steps.old) stripe position journal.old (S.recorded steps.new) journal.new) }
-    ensures ready { IsReady (S.recorded steps.new) }
-    ensures reached { reach (S.recorded steps.old) ≤ reach (S.recorded steps.new) }
-    ensures place { S.place steps.new ≡ S.place steps.old }
-    ensures stripes { S.stripe_count steps.new ≡ S.stripe_count steps.old }
+    requires idle { IsIdle keeper.old }
+    requires kept { IsKept D.states D.honest (K.stripe_count steps.old) keeper.old (K.recorded steps.old) }
+    ensures ok { OnOk result (IsIdle keeper.new × (position ≤ keeper.new.log.committed) × ((K.recorded steps.new).failed ≡ false)) }
+    ensures err { IfErr result (λ refusal. (refusal ≡ Refusal.Failed) × CannotCommit keeper.new.log × ((K.recorded steps.new).failed ≡ true)) }
+    ensures kept { IsKept D.states D.honest (K.stripe_count steps.new) keeper.new (K.recorded steps.new) }
+    ensures place { K.place steps.new ≡ K.place steps.old }
+    ensures stripes { K.stripe_count steps.new ≡ K.stripe_count steps.old }
 {
-    let entries = sweep(rt, steps, alloc, stripe);
-    if position.number() - 1 != journal.committed() {
-        return Err(Refusal::WrongPhase);
-    }
-    journal.commit(rt, entries.as_slice())
-}
-
-/// Gives the reply of a position out that the pass has published: its SEE finds at least that.
-fn let_go<S: Steps>(steps: &mut S, held: Held) -> Reply
-    requires ready { IsReady (S.recorded steps.old) }
-    requires published { held.position ≤ (S.recorded steps.old).published }
-    ensures reply { result ≡ held.reply }
-    ensures reached { Reaches held.position (S.recorded steps.old) (S.recorded steps.new) }
-    ensures ready { IsReady (S.recorded steps.new) }
-    ensures place { S.place steps.new ≡ S.place steps.old }
-    ensures stripes { S.stripe_count steps.new ≡ S.stripe_count steps.old }
-{
-    match release(steps, held) {
-        Released::Reply(_, reply) => reply,
-        Released::NotYet(_) | Released::Failed => unreachable!(),
-    }
-}
-
-/// Publishes the position of a reply and gives it out.
-fn give_out<S: Steps>(steps: &mut S, held: Held) -> Reply
-    requires ready { IsReady (S.recorded steps.old) }
-    requires seen { held.position ≤ reach (S.recorded steps.old) }
-    ensures reply { result ≡ held.reply }
-    ensures out { GivesOut held.position (S.recorded steps.old) (S.recorded steps.new) }
-    ensures ready { IsReady (S.recorded steps.new) }
-    ensures place { S.place steps.new ≡ S.place steps.old }
-    ensures stripes { S.stripe_count steps.new ≡ S.stripe_count steps.old }
-{
-    steps.durable(held.position().number());
-    let_go(steps, held)
-}
-
-/// Makes a change, commits it, publishes its position and gives its reply out.
-fn serve_change<S: Steps, D: Disk + Drop, R: Wait>(
-    rt: &R,
-    steps: &mut S,
-    alloc: Global,
-    journal: &mut Journal<D>,
-    command: Command,
-) -> Result<Reply, Refusal>
-    requires working { IsWorking (S.recorded steps.old) journal.old }
-    ensures took { Took (S.stripe_count steps.old) (S.recorded steps.old) (request_type.Change command) result journal.old (S.recorded steps.new) journal.new }
-    ensures works { fails result ≡ false → IsWorking (S.recorded steps.new) journal.new }
-    ensures place { S.place steps.new ≡ S.place steps.old }
-    ensures stripes { S.stripe_count steps.new ≡ S.stripe_count steps.old }
-{
-    let stripe = stripe_of(command.key.as_str(), steps.stripes());
-    let held = try_call(steps, alloc, command)?;
-    match log_change(rt, steps, alloc, journal, stripe, held.position()) {
-        Ok(()) => Ok(give_out(steps, held)),
-        Err(_) => {
-            steps.fail();
+    match commit_in_time(rt, steps, keeper, position) {
+        Ok(()) => {
+            keeper.publish(steps);
+            Ok(())
+        }
+        Err(_refusal) => {
+            keeper.fail(steps);
             Err(Refusal::Failed)
         }
     }
 }
 
-/// Makes a read, publishes its position and gives its reply out.
-fn serve_read<S: Steps>(steps: &mut S, read: Read) -> Result<Reply, Refusal>
-    requires ready { IsReady (S.recorded steps.old) }
-    ensures served { IfOk result (λ reply. ServesRead (S.stripe_count steps.old) (S.recorded steps.old) read reply (S.recorded steps.new)) }
-    ensures refused { IfErr result (λ refusal. RefusesRead (S.recorded steps.old) (stripe_of_key (S.stripe_count steps.old) read.key) refusal (S.recorded steps.new)) }
-    ensures ready { IsReady (S.recorded steps.new) }
+/// Gives the reply of a call that was made out, once its position is committed and published.
+fn give_out<S: Steps, K: Steps, D: Disk, R: Wait>(
+    rt: &R,
+    steps: &mut S,
+    keeper_steps: &mut K,
+    keeper: &mut Keeper<D>,
+    held: Held,
+) -> Result<Reply, Refusal>
+    requires idle { IsIdle keeper.old }
+    requires kept { IsKept D.states D.honest (K.stripe_count keeper_steps.old) keeper.old (K.recorded keeper_steps.old) }
+    ensures ok { IfOk result (λ reply. (reply ≡ held.reply) × IsIdle keeper.new × IsGivenOut held.position (S.recorded steps.old) (S.recorded steps.new) (record { pass = K.recorded keeper_steps.new; log = keeper.new.log })) }
+    ensures err { IfErr result (λ refusal. (refusal ≡ Refusal.Failed) × IsWithheld held.position (S.recorded steps.old) (S.recorded steps.new) (record { pass = K.recorded keeper_steps.new; log = keeper.new.log })) }
+    ensures kept { IsKept D.states D.honest (K.stripe_count keeper_steps.new) keeper.new (K.recorded keeper_steps.new) }
+    ensures holding { (S.recorded steps.new).holding ≡ (S.recorded steps.old).holding }
+    ensures place { (S.place steps.new ≡ S.place steps.old) × (K.place keeper_steps.new ≡ K.place keeper_steps.old) }
+    ensures stripes { (S.stripe_count steps.new ≡ S.stripe_count steps.old) × (K.stripe_count keeper_steps.new ≡ K.stripe_count keeper_steps.old) }
+{
+    let mut held = held;
+    for _turn in rt.forever() {
+        make_durable(rt, keeper_steps, keeper, held.position())?;
+        match release(steps, held) {
+            Released::Reply(_, reply) => return Ok(reply),
+            Released::NotYet(again) => held = again,
+            Released::Failed => return Err(Refusal::Failed),
+        }
+    }
+    unreachable!()
+}
+
+/// Makes the call of a request.
+fn make<S: Steps>(steps: &mut S, alloc: Global, request: Request) -> Result<Held, Refusal>
+    requires free { (S.recorded steps.old).holding ≡ None }
+    ensures ok { IfOk result (λ held. Makes (S.stripe_count steps.old) (S.recorded steps.old) request held.position held.reply (S.recorded steps.new)) }
+    ensures err { IfErr result (λ refusal. Refuses (S.stripe_count steps.old) (S.recorded steps.old) request refusal (S.recorded steps.new)) }
+    ensures free { (S.recorded steps.new).holding ≡ None }
     ensures place { S.place steps.new ≡ S.place steps.old }
     ensures stripes { S.stripe_count steps.new ≡ S.stripe_count steps.old }
 {
-    let held = try_read(steps, read)?;
-    Ok(give_out(steps, held))
-}
-
-/// The answer to a request of a map that has not failed.
-fn answer<D: Disk + Drop, R: Wait>(
-    rt: &R,
-    stripes: &Stripes,
-    pass: &mut Pass,
-    alloc: Global,
-    journal: &mut Journal<D>,
-    request: Request,
-) -> Result<Reply, Refusal>
-    requires own { IsPassOf stripes.now pass.old }
-    requires working { IsWorking (recorded pass.old) journal.old }
-    ensures took { Took (stripe_count stripes.now) (recorded pass.old) request result journal.old (recorded pass.new) journal.new }
-    ensures works { fails result ≡ false → IsWorking (recorded pass.new) journal.new }
-    ensures same { IsSamePass pass.old pass.new }
-{
-    let mut board = stripes.at(pass);
     match request {
-        Request::Change(command) => serve_change(rt, &mut board, alloc, journal, command),
-        Request::Read(read) => serve_read(&mut board, read),
+        Request::Change(command) => try_call(steps, alloc, command),
+        Request::Read(read) => try_read(steps, read),
     }
 }
 
+/// The answer to a request of a map that has not failed.
+fn answer<S: Steps, K: Steps, D: Disk, R: Wait>(
+    rt: &R,
+    alloc: Global,
+    steps: &mut S,
+    keeper_steps: &mut K,
+    keeper: &mut Keeper<D>,
+    request: Request,
+) -> Result<Reply, Refusal>
+    requires free { (S.recorded steps.old).holding ≡ None }
+    requires idle { IsIdle keeper.old }
+    requires kept { IsKept D.states D.honest (K.stripe_count keeper_steps.old) keeper.old (K.recorded keeper_steps.old) }
+    ensures took { Took (S.stripe_count steps.old) (S.recorded steps.old) request result (record { pass = K.recorded keeper_steps.old; log = keeper.old.log }) (S.recorded steps.new) (record { pass = K.recorded keeper_steps.new; log = keeper.new.log }) }
+    ensures works { fails result ≡ false → ((S.recorded steps.new).holding ≡ None) × IsIdle keeper.new }
+    ensures kept { IsKept D.states D.honest (K.stripe_count keeper_steps.new) keeper.new (K.recorded keeper_steps.new) }
+    ensures place { (S.place steps.new ≡ S.place steps.old) × (K.place keeper_steps.new ≡ K.place keeper_steps.old) }
+    ensures stripes { (S.stripe_count steps.new ≡ S.stripe_count steps.old) × (K.stripe_count keeper_steps.new ≡ K.stripe_count keeper_steps.old) }
+{
+    let held = make(steps, alloc, request)?;
+    give_out(rt, steps, keeper_steps, keeper, held)
+}
+
+/// Makes the two device calls of the log's header.
+fn write_header<D: Disk>(keeper: &mut Keeper<D>) -> Result<(), Refusal>
+    requires new { keeper.old.log ≡ begun 0 0 }
+    requires working { keeper.old.is_broken ≡ false }
+    requires kept { (n : ℕ) × (p : Record) × IsKept D.states D.honest n keeper.old p }
+    ensures ok { OnOk result ((keeper.new.log ≡ resumed 0 0 17 0) × (keeper.new.is_broken ≡ false)) }
+    ensures err { OnErr result (D.failures keeper.new.disk ≡ D.failures keeper.old.disk + 1) }
+    ensures kept { (n : ℕ) (p : Record) → IsKept D.states D.honest n keeper.old p → IsKept D.states D.honest n keeper.new p }
+    ensures walking { keeper.new.sweeper.walking ≡ keeper.old.sweeper.walking }
+    ensures has_failed { keeper.new.has_failed ≡ keeper.old.has_failed }
+{
+    advance(keeper)?;
+    advance(keeper)
+}
+
+/// A keeper over an empty disk, whose log has its header alone; else the disk, of which a call has
+/// failed.
+fn begin<D: Disk + Drop>(alloc: Global, disk: D) -> Result<Keeper<D>, D>
+    ensures idle { IfOk result IsIdle }
+    ensures log { IfOk result (λ keeper. keeper.log ≡ resumed 0 0 17 0) }
+    ensures kept { IfOk result (λ keeper. (n : ℕ) (p : Record) → IsUnused 0 p → IsKept D.states D.honest n keeper p) }
+    ensures err { IfErr result (λ left. D.failures left ≡ D.failures disk + 1) }
+{
+    let mut keeper = Keeper::fresh(alloc, disk, 0);
+    match write_header(&mut keeper) {
+        Ok(()) => Ok(keeper),
+        Err(_refusal) => Err(keeper.into_disk()),
+    }
+}
+
+/// The stripes of an empty map.
+#[derive(Drop)]
+struct Joined {
+    stripes: Stripes,
+    keeper_pass: Pass,
+    pass: Pass,
+}
+
+/// Stripes of an empty map, with the keeper's pass and another.
+fn join(alloc: Global) -> Result<Joined, Refusal>
+    ensures ok { IfOk result (λ joined. IsJoined (stripe_count joined.stripes) (recorded joined.keeper_pass) (recorded joined.pass)) }
+    ensures own { IfOk result (λ joined. IsPassOf joined.stripes joined.keeper_pass × IsPassOf joined.stripes joined.pass) }
+    ensures err { IfErr result IsUnjoined }
+{
+    let Some(count) = StripeCount::new(16) else {
+        unreachable!()
+    };
+    let stripes = Stripes::empty(alloc, count)?;
+    let keeper_pass = stripes.pass()?;
+    let pass = stripes.pass()?;
+    if !keeper_pass.is_keeper() {
+        return Err(Refusal::SeatsSpent);
+    }
+    Ok(Joined {
+        stripes,
+        keeper_pass,
+        pass,
+    })
+}
+
 impl<'a, D: Disk + Drop, R: Wait> Memory<'a, D, R> {
-    /// An empty map, with a new log on the disk. Refuses with `NoMemory`, with `Failed` where a device
-    /// call fails, and with `SeatsSpent` where its stripes have no keeper's pass.
-    pub fn new(rt: &'a R, alloc: Global, disk: D) -> Result<Memory<'a, D, R>, Refusal>
-        ensures empty { IfOk result (λ memory. memory ≡ empty_map) }
-        ensures err { IfErr result (λ refusal. (refusal ≡ Refusal.NoMemory) ⊎ (refusal ≡ Refusal.Failed) ⊎ (refusal ≡ Refusal.SeatsSpent)) }
+    /// An empty map, with a new log on the disk. Refuses with `Failed` exactly where a device call
+    /// fails, which is then the last one. With `NoMemory`, and with `SeatsSpent` where its stripes have
+    /// no keeper's pass, it refuses before it uses the disk. The disk is handed back.
+    pub fn new(rt: &'a R, alloc: Global, disk: D) -> Result<Memory<'a, D, R>, (D, Refusal)>
+        ensures empty { IfOk result IsEmpty }
+        ensures err { IfErr result (λ refused. CannotBegin D.failures disk refused.1 refused.0) }
     {
-        let Some(count) = StripeCount::new(16) else {
-            unreachable!()
+        let joined = match join(alloc) {
+            Ok(joined) => joined,
+            Err(refusal) => return Err((disk, refusal)),
         };
-        let stripes = Stripes::empty(alloc, count)?;
-        let pass = stripes.pass()?;
-        if !pass.is_keeper() {
-            return Err(Refusal::SeatsSpent);
-        }
-        let journal = Journal::begin(alloc, disk)?;
+        let keeper = match begin(alloc, disk) {
+            Ok(keeper) => keeper,
+            Err(disk) => return Err((disk, Refusal::Failed)),
+        };
+        let Joined {
+            stripes,
+            keeper_pass,
+            pass,
+        } = joined;
         Ok(Memory {
             rt,
             alloc,
             stripes,
             pass,
-            journal,
+            keeper_pass,
+            keeper,
             has_failed: false,
         })
     }
@@ -250,12 +340,14 @@ impl<D: Disk + Drop, R: Wait> Calls for Memory<'_, D, R> {
         if self.has_failed {
             return Err(Refusal::Failed);
         }
+        let mut steps = self.stripes.at(&mut self.pass);
+        let mut keeper_steps = self.stripes.at(&mut self.keeper_pass);
         let answer = answer(
             self.rt,
-            &self.stripes,
-            &mut self.pass,
             self.alloc,
-            &mut self.journal,
+            &mut steps,
+            &mut keeper_steps,
+            &mut self.keeper,
             request,
         );
         self.has_failed = matches!(answer, Err(Refusal::Failed));

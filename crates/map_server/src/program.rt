@@ -112,7 +112,7 @@ fn mem<T: Wait, R: Read, W: Write, E: Write>(
 {
     let mut memory = match Memory::new(rt, alloc, MemDisk::new(alloc)) {
         Ok(memory) => memory,
-        Err(refusal) => return refuse(alloc, refusal, error),
+        Err((_disk, refusal)) => return refuse(alloc, refusal, error),
     };
     match serve_connection(alloc, input, output, &mut memory) {
         Ok(()) => DONE,
