@@ -1,0 +1,198 @@
+-- What holds of a keeper after each of its calls.
+use Rattle.std.proofs.Common.{◌≡◌, ◌≢◌, ◌⊎◌, inl, inr, ℕ, ◌+◌, ◌<◌, ◌≤◌, ◌^◌, max, List, [], ◌∷◌, ◌++◌, length, drop, map, replicate, Option, Some, None, Bool, true, false, Result, Ok, Err, OnOk, append-nil, refl, sym, ◌∙◌, ap, subst, arith}
+use Rattle.std.specs.List.{Contains}
+use Rattle.std.proofs.lemmas.List.{length-append, append_assoc, length-map}
+use Rattle.std.proofs.lemmas.List.Elements.{Contains-append_left}
+use Rattle.disk_model.specs.Files.{File, Files, now}
+use Rattle.disk_model.specs.Moments.{AtEachMoment}
+use Rattle.map_types.specs.declared.commands.Command.{Command}
+use Rattle.map_types.specs.declared.refusals.Refusal.{Refusal}
+use Rattle.ticket_order.specs.declared.stripe.Entry.{Entry}
+use Rattle.ticket_order.specs.declared.record.StepMade.{StepMade}
+use Rattle.ticket_order.specs.declared.record.StepMade.TheVariants.{Published, Failed, Looked}
+use Rattle.ticket_order.specs.declared.record.Opening.{Opening}
+use Rattle.ticket_order.specs.declared.record.Record.{Record}
+use Rattle.ticket_order.specs.declared.walk.Walk.{Walk}
+use Rattle.ticket_order.specs.Records.{reach, publishing, failing}
+use Rattle.ticket_order.specs.Legality.{entries_from}
+use Rattle.ticket_order.specs.StepRules.{MayPublish}
+use Rattle.store_layout.specs.Logs.{Batch, commands_in, log_file}
+use Rattle.gate_log.specs.declared.phase.Phase.{Phase}
+use Rattle.gate_log.specs.declared.phase.Phase.TheVariants.{Idle, Header, HeaderWritten, Staged, Written, Synced, Opened}
+use Rattle.gate_log.specs.States.{LogState, IsResting, batch_of, commands_of, begun, log_after}
+use Rattle.gate_log.specs.Standing as gate_log
+use Rattle.gate_log.specs.Advancing.{Advances, MayAdvance, committed_after, staged_after}
+use Rattle.flusher.specs.declared.keeper.Keeper.{Keeper}
+use Rattle.flusher.specs.declared.sweeper.Sweep.{Sweep}
+use Rattle.flusher.specs.declared.sweeper.Walking.{Walking}
+use Rattle.flusher.specs.declared.sweeper.Walking.TheVariants.{Rests, SweepTakes, SweepGives}
+use Rattle.flusher.specs.declared.sweeper.Sweeper.{Sweeper}
+use Rattle.flusher.specs.Hands.{Hand, IsRun, FitsBatch, IsLongest, SameEntries}
+use Rattle.flusher.specs.Gathering.{Accounts, Gathers}
+use Rattle.flusher.specs.Sweeping.{Stands, StandsBy, HasNone, IsSwept}
+use Rattle.flusher.specs.Keeping.{Stages, IsPast, is_walking, passed}
+use Rattle.flusher.specs.Fitting.{Fits, Counts, Tells, Stores, HasBatches, StopsHave, KeepsCommands, IsEmptyIn, IsQuiet, IsUnused, IsTakenFront, batches_of, done_after}
+use Rattle.flusher.proofs.Staging.{accounts_staged, commands_there}
+use Rattle.flusher.proofs.Entries.{length-entries, grown}
+use Rattle.flusher.proofs.Passing.{reached_by, front_of_all}
+use Rattle.flusher.proofs.Quiet.{IsGrown, swept_grown}
+use Rattle.flusher.proofs.Moments.{moments_so, at_end}
+
+-- ---- at first
+
+pub fits_fresh : {D : Type 0} (states : D → List Files) (honest : D → Type 0) (n first : ℕ) (keeper : Keeper D) (p : Record) → IsUnused first p → first < 2 ^ 64 → keeper.log ≡ begun 0 first
+    → keeper.sweeper.in_hand ≡ record { next = first; slots = [] } → keeper.sweeper.sweep ≡ None → keeper.sweeper.walking ≡ Rests → keeper.staged.items ≡ [] → keeper.is_broken ≡ false → keeper.has_failed ≡ false
+    → keeper.published ≡ first → ((file : File) → gate_log.Stands keeper.log [] [] file) → Fits states honest n [] [] keeper p
+fits_fresh {D} states honest n first keeper p u small l h s w g b f d stands =
+    let none_ : Accounts (record { next = first; slots = [] }) [] p.opening.first [] p.seen = record {
+      low = omega (arith, u.opening);
+      reached = omega (arith, u.opening);
+      each = λ e has. absurd (omega (arith, has.1));
+      was_taken = λ e has. absurd (omega (arith, has.1));
+      held = λ t c k. absurd (no_place c (k.there));
+      known = λ e has. absurd (omega (arith, has.1));
+    } in
+    let gathers : Gathers keeper.sweeper.in_hand [] p = record { keeper = u.keeper; accounts = subst (λ x. Accounts x [] p.opening.first p.taken p.seen) (sym h) (subst (λ x. Accounts (record { next = first; slots = [] }) [] p.opening.first x p.seen) (sym u.none_taken) none_) } in
+    let has_none : HasNone keeper.sweeper.in_hand [] p = record { free = u.free; gathers = gathers } in
+    let at : Stands n keeper.sweeper [] p = subst (λ o. StandsBy n o keeper.sweeper.walking keeper.sweeper.in_hand [] p) (sym s) (subst (λ v. StandsBy n None v keeper.sweeper.in_hand [] p) (sym w) has_none) in
+    record {
+      stands = subst (λ (xs : List Entry). Stands n keeper.sweeper (commands_of xs) p) (sym g) at;
+      counts = record {
+        committed = omega (arith, u.opening, ap (λ (x : LogState). x.committed) l);
+        next = ap (λ (x : Hand). x.next) h ∙ sym (ap (λ (x : LogState). x.committed) l);
+        count = ap (λ (x : LogState). x.count) l ∙ sym (ap (λ (xs : List Entry). length xs) g);
+        tickets = subst (λ (xs : List Entry). xs ≡ entries_from keeper.log.committed (commands_of xs)) (sym g) refl;
+        fits = omega (arith, small, ap (λ (x : LogState). x.committed) l, ap (λ (xs : List Entry). length xs) g);
+        empty = subst (λ (x : LogState). IsEmptyIn x.phase keeper.staged.items) (sym l) g;
+      };
+      tells = record { published = d ∙ sym u.published; durable = omega (arith, d, ap (λ (x : LogState). x.committed) l); failed = f ∙ sym u.works };
+      stores = record {
+        broken = b ∙ sym (ap (λ (x : LogState). x.is_broken) l);
+        works = λ _ _. record { batches = []; are = refl; stands = subst (λ (xs : List Entry). gate_log.Stands keeper.log [] (batches_of keeper.log.committed xs) (now (states keeper.disk) (log_file keeper.log.generation))) (sym g) (stands _) };
+        stopped = λ is. absurd (two_ways keeper.is_broken is b);
+      };
+    }
+  where
+    no_place : (c : Command) → None ≡ Some c → ⊥
+    no_place c e = cc
+    two_ways : (x : Bool) → x ≡ true → x ≡ false → ⊥
+    two_ways x a b = cc
+
+-- ---- after a step of the sweep
+
+pub fits_swept : {D : Type 0} (states : D → List Files) (honest : D → Type 0) (n : ℕ) (before done : List Command) (keeper : Keeper D) (new : Sweeper) (p w : Record) → Fits states honest n before done keeper p
+    → Stands n new (done ++ commands_of keeper.staged.items) w → IsQuiet p w → new.in_hand.next ≡ keeper.sweeper.in_hand.next → Fits states honest n before done (record keeper { sweeper = new }) w
+fits_swept {D} states honest n before done keeper new p w f stands q next = record {
+  stands = stands;
+  counts = record {
+    committed = subst (λ o. o.first + length done ≡ keeper.log.committed) (sym q.opening) f.counts.committed;
+    next = next ∙ f.counts.next;
+    count = f.counts.count;
+    tickets = f.counts.tickets;
+    fits = f.counts.fits;
+    empty = f.counts.empty;
+  };
+  tells = record { published = f.tells.published ∙ sym q.published; durable = f.tells.durable; failed = f.tells.failed ∙ sym q.failed };
+  stores = record { broken = f.stores.broken; works = f.stores.works; stopped = f.stores.stopped };
+}
+
+-- ---- after DURABLE and FAIL
+
+noted_by : (n : ℕ) (o : Option Sweep) (v : Walking) (hand : Hand) (gone : List Command) (p : Record) (made : StepMade) (published : ℕ) (failed : Bool) → is_walking v ≡ false → StandsBy n o v hand gone p
+    → StandsBy n o v hand gone (record p { steps = p.steps ++ made ∷ []; published = published; failed = failed })
+noted_by n None Rests hand gone p made published failed r h = record { free = h.free; gathers = record { keeper = h.gathers.keeper; accounts = h.gathers.accounts } }
+noted_by n None SweepTakes hand gone p made published failed r h = absurd h
+noted_by n None (SweepGives walk) hand gone p made published failed r h = absurd h
+noted_by n (Some sweep) Rests hand gone p made published failed r h = record {
+  free = h.free;
+  within = h.within;
+  below = record { looked = Contains-append_left p.steps (made ∷ []) (Looked sweep.count) h.below.looked; reached = h.below.reached; all = h.below.all };
+  gathers = record { keeper = h.gathers.keeper; accounts = h.gathers.accounts };
+}
+noted_by n (Some sweep) SweepTakes hand gone p made published failed r h = cc
+noted_by n (Some sweep) (SweepGives walk) hand gone p made published failed r h = cc
+
+-- what is known of the pass between the walks
+pub record IsFree (hand : Hand) (gone : List Command) (p : Record) : Type 0 where
+  pub free : p.holding ≡ None
+  pub gathers : Gathers hand gone p
+
+free_by : (n : ℕ) (o : Option Sweep) (v : Walking) (hand : Hand) (gone : List Command) (p : Record) → is_walking v ≡ false → StandsBy n o v hand gone p → IsFree hand gone p
+free_by n None Rests hand gone p r h = record { free = h.free; gathers = h.gathers }
+free_by n None SweepTakes hand gone p r h = absurd h
+free_by n None (SweepGives walk) hand gone p r h = absurd h
+free_by n (Some sweep) Rests hand gone p r h = record { free = h.free; gathers = h.gathers }
+free_by n (Some sweep) SweepTakes hand gone p r h = cc
+free_by n (Some sweep) (SweepGives walk) hand gone p r h = cc
+
+pub is_free : {D : Type 0} (states : D → List Files) (honest : D → Type 0) (n : ℕ) (before done : List Command) (keeper : Keeper D) (p : Record) → Fits states honest n before done keeper p → is_walking keeper.sweeper.walking ≡ false
+    → IsFree keeper.sweeper.in_hand (done ++ commands_of keeper.staged.items) p
+is_free {D} states honest n before done keeper p f r = free_by n keeper.sweeper.sweep keeper.sweeper.walking keeper.sweeper.in_hand _ p r f.stands
+
+pub may_publish : {D : Type 0} (states : D → List Files) (honest : D → Type 0) (n : ℕ) (before done : List Command) (keeper : Keeper D) (p : Record) → Fits states honest n before done keeper p → is_walking keeper.sweeper.walking ≡ false
+    → keeper.has_failed ≡ false → MayPublish p keeper.log.committed
+may_publish {D} states honest n before done keeper p f r works =
+    let k = is_free states honest n before done keeper p f r in
+    record {
+      keeper = k.gathers.keeper;
+      seen = omega (arith, reached_by keeper.sweeper.in_hand (done ++ commands_of keeper.staged.items) p k.gathers, f.counts.committed, length-append done (commands_of keeper.staged.items));
+      unfailed = sym f.tells.failed ∙ works;
+    }
+
+pub fits_published : {D : Type 0} (states : D → List Files) (honest : D → Type 0) (n : ℕ) (before done : List Command) (keeper : Keeper D) (p : Record) → Fits states honest n before done keeper p → is_walking keeper.sweeper.walking ≡ false
+    → Fits states honest n before done (record keeper { published = keeper.log.committed }) (publishing p keeper.log.committed)
+fits_published {D} states honest n before done keeper p f r = record {
+  stands = noted_by n keeper.sweeper.sweep keeper.sweeper.walking keeper.sweeper.in_hand (done ++ commands_of keeper.staged.items) p (Published keeper.log.committed) (max p.published keeper.log.committed) p.failed r f.stands;
+  counts = record { committed = f.counts.committed; next = f.counts.next; count = f.counts.count; tickets = f.counts.tickets; fits = f.counts.fits; empty = f.counts.empty };
+  tells = record { published = omega (arith, f.tells.published, f.tells.durable); durable = omega arith; failed = f.tells.failed };
+  stores = record { broken = f.stores.broken; works = f.stores.works; stopped = f.stores.stopped };
+}
+
+pub fits_failed : {D : Type 0} (states : D → List Files) (honest : D → Type 0) (n : ℕ) (before done : List Command) (keeper : Keeper D) (p : Record) → Fits states honest n before done keeper p → is_walking keeper.sweeper.walking ≡ false
+    → Fits states honest n before done (record keeper { has_failed = true }) (failing p)
+fits_failed {D} states honest n before done keeper p f r = record {
+  stands = noted_by n keeper.sweeper.sweep keeper.sweeper.walking keeper.sweeper.in_hand (done ++ commands_of keeper.staged.items) p Failed p.published true r f.stands;
+  counts = record { committed = f.counts.committed; next = f.counts.next; count = f.counts.count; tickets = f.counts.tickets; fits = f.counts.fits; empty = f.counts.empty };
+  tells = record { published = f.tells.published; durable = f.tells.durable; failed = refl };
+  stores = record { broken = f.stores.broken; works = f.stores.works; stopped = f.stores.stopped };
+}
+
+-- ---- what is committed was taken
+
+-- in each standing of the sweep the hand gathers, by a record with the pass's opening whose entries and history the pass's go on
+pub record Knows (hand : Hand) (gone : List Command) (p : Record) : Type 0 where
+  pub front : (rest : List Command) × (p.seen ≡ gone ++ rest)
+  pub taken : (e : Entry) → Contains (entries_from p.opening.first gone) e → Contains p.taken e
+
+knows : (hand : Hand) (gone : List Command) (p : Record) → Gathers hand gone p → Knows hand gone p
+knows hand gone p k = record {
+  front = front_of_all p.opening.first gone p.seen (λ e has. k.accounts.known e (k.accounts.was_taken e has));
+  taken = k.accounts.was_taken;
+}
+
+knows_on : (n : ℕ) (hand : Hand) (gone : List Command) (b p : Record) (i : ℕ) (walk : Walk) → Knows hand gone b → IsSwept n b i walk p → Knows hand gone p
+knows_on n hand gone b p i walk k s =
+    let m : IsGrown b p = swept_grown n b i walk p s in
+    record {
+      front = (k.front.0 ++ m.more, m.seen ∙ ap (λ z. z ++ m.more) k.front.1 ∙ append_assoc gone k.front.0 m.more);
+      taken = λ e has. subst (λ es. Contains es e) (sym m.taken) (k.taken e (subst (λ (o : Opening). Contains (entries_from o.first gone) e) m.opening has));
+    }
+
+knows_by : (n : ℕ) (o : Option Sweep) (v : Walking) (hand : Hand) (gone : List Command) (p : Record) → StandsBy n o v hand gone p → Knows hand gone p
+knows_by n None Rests hand gone p h = knows hand gone p h.gathers
+knows_by n None SweepTakes hand gone p h = absurd h
+knows_by n None (SweepGives walk) hand gone p h = absurd h
+knows_by n (Some sweep) Rests hand gone p h = knows hand gone p h.gathers
+knows_by n (Some sweep) SweepTakes hand gone p h = knows hand gone p h.gathers
+knows_by n (Some sweep) (SweepGives walk) hand gone p h = knows_on n hand gone h.begun p sweep.stripe walk (knows hand gone h.begun h.between.gathers) h.taken
+
+pub taken_front : {D : Type 0} (states : D → List Files) (honest : D → Type 0) (n : ℕ) (before done : List Command) (keeper : Keeper D) (p : Record) → Fits states honest n before done keeper p → IsTakenFront done keeper.log.committed p
+taken_front {D} states honest n before done keeper p f =
+    let staged : List Command = commands_of keeper.staged.items in
+    let k = knows_by n keeper.sweeper.sweep keeper.sweeper.walking keeper.sweeper.in_hand (done ++ staged) p f.stands in
+    record {
+      rest = staged ++ k.front.0;
+      front = k.front.1 ∙ append_assoc done staged k.front.0;
+      reached = f.counts.committed;
+      taken = λ e has. k.taken e (grown p.opening.first done staged e has);
+    }

@@ -1,0 +1,13 @@
+pub mod Places
+pub mod Runs
+pub mod Entries
+pub mod Gathered
+pub mod Walked
+pub mod Standing
+pub mod Staging
+pub mod Quiet
+pub mod Passing
+pub mod Keeping
+pub mod Moments
+pub mod Committing
+pub mod Trying

@@ -1,0 +1,7 @@
+use Rattle.std.proofs.Common.{◌≡◌, List, length}
+use Rattle.map_types.specs.declared.commands.Command.{Command}
+use Rattle.flusher.proofs.Runs.{IsFound}
+use Rattle.flusher.proofs.in_hand.InHand.longest_run.Given as goal
+
+abbrev pub invariant-loop-index : goal.invariant-loop-index
+invariant-loop-index l = (commands : List Command) × (length commands ≡ l.index) × IsFound l.fn.self l.room commands

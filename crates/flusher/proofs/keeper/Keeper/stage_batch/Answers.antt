@@ -1,0 +1,34 @@
+use Rattle.std.proofs.Common.{◌≡◌, ◌∙◌, Ok, Err, Result, ap, subst, sym, arith, rules, ℕ}
+use Rattle.map_types.specs.declared.refusals.Refusal.{Refusal}
+use Rattle.map_types.specs.declared.refusals.Refusal.TheVariants.{LogFull, NoMemory}
+use Rattle.gate_log.specs.States.{IsResting}
+use Rattle.flusher.proofs.Runs.{not_full}
+use Rattle.flusher.proofs.Committing.{fits_staged, fits_same}
+use Rattle.flusher.proofs.keeper.Keeper.stage_batch.Goals as goal
+
+no_ok : (x : ℕ) → (let a : Result ℕ Refusal = Ok x in let b : Result ℕ Refusal = Err LogFull in a ≡ b) → ⊥
+no_ok x e = cc
+
+not_this : (e : Refusal) → e ≡ NoMemory → (let a : Result ℕ Refusal = Err e in let b : Result ℕ Refusal = Err LogFull in a ≡ b) → ⊥
+not_this e is h = cc
+
+pub returns-in-Ok-clause-fits : goal.returns-in-Ok-clause-fits
+returns-in-Ok-clause-fits g c = λ n before done p f.
+    let run = c.longest_run-run.ensures in
+    let resting : IsResting c.args.self.now.log = search rules in
+    fits_staged g.D.Disk.states g.D.Disk.honest n before done c.args.self.now c.stage_run.new.self p run.0 f c.in-Ok.ensures.same c.if-self.false resting run.1.run (omega (arith, run.1.fits.fits, f.counts.next)) (omega (arith, c.if-run-eq0.false, run.2))
+    (c.in-Ok.ensures.ok run.0 run.1.run (sym run.2)) c.in-Ok.ensures.stands
+
+pub returns-in-Err-clause-fits : goal.returns-in-Err-clause-fits
+returns-in-Err-clause-fits g c = λ n before done p f.
+    fits_same g.D.Disk.states g.D.Disk.honest n before done c.args.self.now c.stage_run.new.self p f c.in-Err.ensures.same c.in-Err.ensures.err.0 c.in-Err.ensures.err.1 c.in-Err.ensures.err.2
+
+pub returns-in-Ok-clause-full : goal.returns-in-Ok-clause-full
+returns-in-Ok-clause-full g c =
+    let run = c.longest_run-run.ensures in
+    (λ e. absurd (no_ok _ e), λ k. absurd (not_full c.args.most c.args.self.now.log c.args.self.now.sweeper.in_hand run.0 c.longest_run-run.result.frame_len run.1 c.requires.4.counts.next run.3 (omega (arith, c.if-gate-run.false, c.gate-gate.ensures.place, run.1.fits.short, run.3)) k.2))
+
+pub returns-in-Err-clause-full : goal.returns-in-Err-clause-full
+returns-in-Err-clause-full g c =
+    let run = c.longest_run-run.ensures in
+    (λ e. absurd (not_this _ c.in-Err.ensures.no_other e), λ k. absurd (not_full c.args.most c.args.self.now.log c.args.self.now.sweeper.in_hand run.0 c.longest_run-run.result.frame_len run.1 c.requires.4.counts.next run.3 (omega (arith, c.if-gate-run.false, c.gate-gate.ensures.place, run.1.fits.short, run.3)) k.2))

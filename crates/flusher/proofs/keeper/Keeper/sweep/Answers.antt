@@ -1,0 +1,46 @@
+use Rattle.std.proofs.Common.{◌≡◌, ◌∙◌, ◌++◌, List, ap, subst, sym}
+use Rattle.map_types.specs.declared.commands.Command.{Command}
+use Rattle.ticket_order.specs.declared.stripe.Entry.{Entry}
+use Rattle.gate_log.specs.States.{commands_of}
+use Rattle.flusher.specs.declared.keeper.Keeper.{Keeper}
+use Rattle.flusher.specs.declared.sweeper.Swept.TheVariants.{Done}
+use Rattle.flusher.specs.Sweeping.{IsDone}
+use Rattle.flusher.proofs.Quiet.{quiet_then}
+use Rattle.flusher.proofs.Trying.{put_back_at, stays_at}
+use Rattle.flusher.proofs.keeper.Keeper.sweep.Goals as goal
+
+pub sweep_step-requires : goal.sweep_step-requires
+sweep_step-requires g c = (c.requires.0, c.requires.1, c.loop-step.invariant.fits c.requires.0 c.requires.1 c.requires.2)
+
+pub returns-in-Err-clause-err : goal.returns-in-Err-clause-err
+returns-in-Err-clause-err g c =
+    let f = c.in-Err.ensures.fits c.requires.0 c.requires.1 (c.loop-step.invariant.fits c.requires.0 c.requires.1 c.requires.2) in
+    let k = put_back_at _ _ _ _ _ _ _ _ c.in-Err.ensures.steps_on in
+    (k.refused, stays_at _ _ _ _ k.sweep f.stands k.sweep_is k.walking)
+
+pub returns-in-Err-clause-fits : goal.returns-in-Err-clause-fits
+returns-in-Err-clause-fits g c = λ before done f. c.in-Err.ensures.fits before done (c.loop-step.invariant.fits before done f)
+
+pub returns-in-Done-clause-done : goal.returns-in-Done-clause-done
+returns-in-Done-clause-done g c = λ before done f.
+    let w = g.S.Steps.recorded c.sweep_step.new.steps in
+    let same : c.loop-step.self.staged.items ≡ c.args.self.now.staged.items = ap (λ (k : Keeper g.row.D.Denot). k.staged.items) c.loop-step.invariant.same in
+    subst (λ (es : List Entry). IsDone c.sweep_step.new.self.sweeper (done ++ commands_of es) w (Done c.in-Done.count)) same
+    (subst (λ s. IsDone c.sweep_step.new.self.sweeper (done ++ commands_of c.loop-step.self.staged.items) w s) c.in-Done.is (c.in-Ok.ensures.done before done (c.loop-step.invariant.fits before done f)))
+
+pub returns-in-Done-clause-fits : goal.returns-in-Done-clause-fits
+returns-in-Done-clause-fits g c = λ before done f. c.in-Ok.ensures.fits before done (c.loop-step.invariant.fits before done f)
+
+pub loop-step-preserved : goal.loop-step-preserved
+loop-step-preserved g c =
+    let i = c.loop-step.invariant in
+    let e = c.sweep_step.ensures in
+    record {
+      next = tt;
+      finite = tt;
+      fits = λ before done f. e.fits before done (i.fits before done f);
+      quiet = quiet_then _ _ _ i.quiet e.quiet;
+      same = e.same ∙ ap (λ (k : Keeper g.row.D.Denot). record k { sweeper = c.sweep_step.new.self.sweeper }) i.same;
+      place = e.place ∙ i.place;
+      stripes = e.stripes ∙ i.stripes;
+    }

@@ -1,0 +1,23 @@
+use Rattle.std.proofs.Common.{◌++◌, ℕ, sym, subst}
+use Rattle.gate_log.specs.States.{commands_of}
+use Rattle.flusher.specs.Sweeping.{Stands}
+use Rattle.flusher.specs.Fitting.{Fits}
+use Rattle.flusher.proofs.Quiet.{calm_step}
+use Rattle.flusher.proofs.Keeping.{fits_swept}
+use Rattle.flusher.proofs.keeper.Keeper.sweep_step.Goals as goal
+
+pub returns-clause-fits : goal.returns-clause-fits
+returns-clause-fits g c = λ before done f.
+    let n = g.S.Steps.stripe_count c.args.steps.now in
+    let w = g.S.Steps.recorded c.step.new.steps in
+    let gone = done ++ commands_of c.args.self.now.staged.items in
+    let calm = calm_step n c.args.self.now.sweeper gone c.step.new.self (g.S.Steps.recorded c.args.steps.now) w c.step.result f.stands c.step.ensures.steps_on in
+    subst (λ (m : ℕ). Fits g.D.Disk.states g.D.Disk.honest m before done (record c.args.self.now { sweeper = c.step.new.self }) w) (sym c.step.ensures.stripes)
+    (fits_swept g.D.Disk.states g.D.Disk.honest n before done c.args.self.now c.step.new.self (g.S.Steps.recorded c.args.steps.now) w f
+    (subst (λ (m : ℕ). Stands m c.step.new.self gone w) c.step.ensures.stripes (c.step.ensures.stands gone f.stands)) calm.quiet calm.next)
+
+pub returns-clause-quiet : goal.returns-clause-quiet
+returns-clause-quiet g c =
+    let f = c.requires.2 in
+    (calm_step (g.S.Steps.stripe_count c.args.steps.now) c.args.self.now.sweeper (c.requires.1 ++ commands_of c.args.self.now.staged.items) c.step.new.self (g.S.Steps.recorded c.args.steps.now) (g.S.Steps.recorded c.step.new.steps)
+    c.step.result f.stands c.step.ensures.steps_on).quiet

@@ -1,0 +1,67 @@
+-- What the keeper shows.
+use Rattle.std.specs.Prelude.{◌≡◌, ℕ, ◌+◌, ◌<◌, ◌≤◌, ◌^◌, Bool, true, false, List, [], ◌∷◌, ◌++◌, drop, length, replicate, None, Some}
+use Rattle.map_types.specs.declared.commands.Command.{Command}
+use Rattle.ticket_order.specs.Legality.{entries_from}
+use Rattle.log_records.specs.Layout.{first_layout}
+use Rattle.store_layout.specs.Logs.{frame}
+use Rattle.gate_log.specs.States.{LogState, batch_of}
+use Rattle.ticket_order.specs.declared.stripe.Entry.{Entry}
+use Rattle.gate_log.specs.declared.phase.Phase.{Phase}
+use Rattle.gate_log.specs.declared.phase.Phase.TheVariants.{Idle, Header, HeaderWritten, Staged, Written, Synced, Opened}
+use Rattle.flusher.specs.declared.sweeper.Sweeper.{Sweeper}
+use Rattle.flusher.specs.declared.sweeper.Sweep.{Sweep}
+use Rattle.ticket_order.specs.declared.record.Record.{Record}
+use Rattle.ticket_order.specs.Calls.{SweepsStripe}
+use Rattle.flusher.specs.Hands.{Hand, IsLongest}
+use Rattle.flusher.specs.Gathering.{HasSweptBelow, Collects}
+use Rattle.flusher.specs.declared.sweeper.Walking.{Walking}
+use Rattle.flusher.specs.declared.sweeper.Walking.TheVariants.{Rests, SweepTakes, SweepGives}
+
+-- it is between the steps of a walk
+abbrev pub is_walking : Walking → Bool
+is_walking Rests = false
+is_walking SweepTakes = true
+is_walking (SweepGives walk) = true
+
+-- the first so many tickets are no longer in hand
+abbrev pub passed : ℕ → Hand → Hand
+passed count hand = record { next = hand.next + count; slots = drop count hand.slots }
+
+-- what a step of the log leaves of the entries in hand: after the last sync of a batch its entries are no longer in hand
+abbrev pub IsPast : Phase → Sweeper → List Entry → Sweeper → List Entry → Type 0
+IsPast Opened old staged new left = (new ≡ record old { in_hand = passed (length staged) old.in_hand }) × (left ≡ [])
+IsPast Idle old staged new left = (new ≡ old) × (left ≡ staged)
+IsPast Header old staged new left = (new ≡ old) × (left ≡ staged)
+IsPast HeaderWritten old staged new left = (new ≡ old) × (left ≡ staged)
+IsPast Staged old staged new left = (new ≡ old) × (left ≡ staged)
+IsPast Written old staged new left = (new ≡ old) × (left ≡ staged)
+IsPast Synced old staged new left = (new ≡ old) × (left ≡ staged)
+
+-- these commands were staged as one batch, and taken out of their places
+pub record Stages (commands : List Command) (old : LogState) (hand : Hand) (new : LogState) (left : Hand) (staged : List Entry) : Type 0 where
+  pub entries : staged ≡ entries_from hand.next commands
+  pub log : new ≡ record old { phase = Staged; count = length staged; frame = frame first_layout (batch_of old.committed staged) ++ 0 ∷ [] }
+  pub hand_is : left ≡ record hand { slots = replicate (length commands) None ++ drop (length commands) hand.slots }
+
+-- a batch of these commands would carry the log past its greatest length
+abbrev pub is_too_long : LogState → List Command → Type 0
+is_too_long log commands = 2 ^ 40 < log.gate + 1 + length (frame first_layout (record { first = log.committed; commands = commands })) + 1
+
+-- there is something to stage, and it would
+pub record IsFull (most : ℕ) (log : LogState) (hand : Hand) : Type 0 where
+  pub commands : List Command
+  pub longest : IsLongest most hand commands
+  pub some : 1 ≤ length commands
+  pub too_long : is_too_long log commands
+
+-- A sweep is begun, and stays at a stripe. All entries of the stripes before it, that are below its count, were taken.
+pub record StaysAt (n : ℕ) (sweeper : Sweeper) (p : Record) : Type 0 where
+  pub sweep : Sweep
+  pub sweep_is : sweeper.sweep ≡ Some sweep
+  pub below : HasSweptBelow n sweep.count sweep.stripe p
+
+-- TAKE and GIVE: the stripe's outbox is in hand besides
+pub record SweepsOnce (n i : ℕ) (old new : Hand) (p w : Record) : Type 0 where
+  pub entries : List Entry
+  pub sweeps : SweepsStripe n p i entries w
+  pub collects : Collects old entries new

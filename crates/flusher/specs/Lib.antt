@@ -1,0 +1,5 @@
+pub mod Hands
+pub mod Gathering
+pub mod Sweeping
+pub mod Keeping
+pub mod Fitting

@@ -1,0 +1,13 @@
+//! The keeper brings the entries of the stripes to the log: it sweeps their outboxes, holds the
+//! entries in hand, and commits them batch by batch in the order of their tickets.
+#![tactic(auto)]
+
+mod in_hand;
+mod keeper;
+mod laws;
+mod sweeper;
+
+pub use in_hand::{InHand, Run};
+pub use keeper::Keeper;
+pub use laws::{committed_were_taken, stops_of_a_keeper};
+pub use sweeper::{Sweep, Sweeper, Swept, Walking};
