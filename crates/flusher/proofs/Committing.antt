@@ -106,7 +106,7 @@ fits_same {D} states honest n before done old new p f same l s entries =
     let moved : (q : Record) → q.opening ≡ p.opening → Gathers old.sweeper.in_hand (done ++ commands_of old.staged.items) q → Gathers new.sweeper.in_hand (done ++ commands_of old.staged.items) q =
     λ q o k. record { keeper = k.keeper; accounts = accounts_same old.sweeper.in_hand new.sweeper.in_hand (done ++ commands_of old.staged.items) q.opening.first q.taken q.seen entries k.accounts } in
     subst (λ (k : Keeper D). Fits states honest n before done k p) (sym is)
-    (fits_swept states honest n before done old sweeper p p f (stands_moved n old.sweeper sweeper (done ++ commands_of old.staged.items) (done ++ commands_of old.staged.items) p refl refl moved f.stands) (record { opening = refl; published = refl; failed = refl }) entries.next)
+    (fits_swept states honest n before done old sweeper p p f (stands_moved n old.sweeper sweeper (done ++ commands_of old.staged.items) (done ++ commands_of old.staged.items) p refl refl moved f.stands) (record { opening = refl; calls = refl; published = refl; failed = refl }) entries.next)
 
 -- ---- a step of the log
 

@@ -39,13 +39,13 @@ quiet_at : (b v w : Record) → IsQuiet b v → w ≡ v → IsQuiet b w
 quiet_at b v w k is = subst (IsQuiet b) (sym is) k
 
 quiet_same : (b : Record) → IsQuiet b b
-quiet_same b = record { opening = refl; published = refl; failed = refl }
+quiet_same b = record { opening = refl; calls = refl; published = refl; failed = refl }
 
 quiet_after : (b p w : Record) → IsQuiet b p → IsQuiet b w → IsQuiet p w
-quiet_after b p w k j = record { opening = j.opening ∙ sym k.opening; published = j.published ∙ sym k.published; failed = j.failed ∙ sym k.failed }
+quiet_after b p w k j = record { opening = j.opening ∙ sym k.opening; calls = j.calls ∙ sym k.calls; published = j.published ∙ sym k.published; failed = j.failed ∙ sym k.failed }
 
 pub quiet_then : (a b d : Record) → IsQuiet a b → IsQuiet b d → IsQuiet a d
-quiet_then a b d k j = record { opening = j.opening ∙ k.opening; published = j.published ∙ k.published; failed = j.failed ∙ k.failed }
+quiet_then a b d k j = record { opening = j.opening ∙ k.opening; calls = j.calls ∙ k.calls; published = j.published ∙ k.published; failed = j.failed ∙ k.failed }
 
 not_change : (i : ℕ) (c : Command) → ToSweep i ≡ ToChange c → ⊥
 not_change i c e = cc
@@ -60,10 +60,10 @@ not_capture : (i j : ℕ) → ToSweep i ≡ ToCapture j → ⊥
 not_capture i j e = cc
 
 refused_quiet : (b : Record) (i : ℕ) (e : Refusal) (w : Record) → RefusesSweep b i e w → IsQuiet b w
-refused_quiet b i (refusal.Busy j) w r = quiet_at b (missing b i) w (record { opening = refl; published = refl; failed = refl }) r.1
+refused_quiet b i (refusal.Busy j) w r = quiet_at b (missing b i) w (record { opening = refl; calls = refl; published = refl; failed = refl }) r.1
 refused_quiet b i refusal.NoMemory w r =
     let x = r.before in
-    quiet_at b (giving Nothing (taking b i x.part x.outbox x.taken)) w (record { opening = refl; published = refl; failed = refl }) (r.is ∙ ap (giving Nothing) x.is)
+    quiet_at b (giving Nothing (taking b i x.part x.outbox x.taken)) w (record { opening = refl; calls = append-nil b.calls; published = refl; failed = refl }) (r.is ∙ ap (giving Nothing) x.is)
 refused_quiet b i refusal.NullValue w r = absurd r
 refused_quiet b i refusal.KeyTooLong w r = absurd r
 refused_quiet b i refusal.ValueTooLong w r = absurd r
@@ -109,7 +109,7 @@ by_sweep : (n : ℕ) (b : Record) (i : ℕ) (s : SweepStage) (p : Record) → Fi
 by_sweep n b i (sweep_stage.Begins alloc j) p k = quiet_at b b p (quiet_same b) k.0.is
 by_sweep n b i (sweep_stage.HasTaken alloc t) p k =
     let x = k.took in
-    quiet_at b (taking b t.stripe t.content.part.map t.content.outbox.items x.between) p (record { opening = refl; published = refl; failed = refl }) x.is
+    quiet_at b (taking b t.stripe t.content.part.map t.content.outbox.items x.between) p (record { opening = refl; calls = refl; published = refl; failed = refl }) x.is
 
 by_stage : (n : ℕ) (b : Record) (i : ℕ) (s : Stage) (p : Record) → FitsStage n b (ToSweep i) s p → IsQuiet b p
 by_stage n b i (stage.Change s) p k = absurd (by_change n b i s p k)
@@ -119,7 +119,7 @@ by_stage n b i (stage.Sweep s) p k = by_sweep n b i s p k
 by_stage n b i (stage.Capture s) p k = absurd (by_capture n b i s p k)
 by_stage n b i (stage.GivingBack t e) p k = (
     let q : IsQuiet b (giving Nothing p) = refused_quiet b i e (giving Nothing p) k.refused in
-    record { opening = q.opening; published = q.published; failed = q.failed }
+    record { opening = q.opening; calls = sym (append-nil p.calls) ∙ q.calls; published = q.published; failed = q.failed }
     )
 
 -- a sweep of a stripe that has made its TAKE
@@ -127,7 +127,7 @@ pub swept_quiet : (n : ℕ) (b : Record) (i : ℕ) (walk : Walk) (p : Record) �
 swept_quiet n b i walk p k = by_stage n b i walk.stage p k.fits
 
 pub sweeps_quiet : (n : ℕ) (b : Record) (i : ℕ) (es : List Entry) (w : Record) → SweepsStripe n b i es w → IsQuiet b w
-sweeps_quiet n b i es w s = quiet_at b _ w (record { opening = refl; published = refl; failed = refl }) s.is
+sweeps_quiet n b i es w s = quiet_at b _ w (record { opening = refl; calls = append-nil b.calls; published = refl; failed = refl }) s.is
 
 pub refuses_quiet : (b : Record) (i : ℕ) (e : Refusal) (w : Record) → RefusesSweep b i e w → IsQuiet b w
 refuses_quiet b i e w r = refused_quiet b i e w r
@@ -193,7 +193,7 @@ pub record IsCalm (old new : Hand) (p w : Record) : Type 0 where
 after_take : (n : ℕ) (sweep : Sweep) (old : Hand) (new : Sweeper) (p w : Record) (result : Result Swept Refusal) → AfterTake n sweep old new p w result → IsCalm old new.in_hand p w
 after_take n sweep old new p w (Ok More) k = record { quiet = swept_quiet n p sweep.stripe k.walk w k.taken; next = ap (λ (h : Hand). h.next) k.hand }
 after_take n sweep old new p w (Ok (Held i)) k = record {
-  quiet = quiet_at p (missing p sweep.stripe) w (record { opening = refl; published = refl; failed = refl }) k.is;
+  quiet = quiet_at p (missing p sweep.stripe) w (record { opening = refl; calls = refl; published = refl; failed = refl }) k.is;
   next = ap (λ (h : Hand). h.next) k.hand;
 }
 after_take n sweep old new p w (Ok (Done count)) k = absurd k
@@ -218,7 +218,7 @@ after_give n sweep walk gone old new p w (Err e) h k = record {
 calm_by : (n : ℕ) (o : Option Sweep) (v : Walking) (gone : List Command) (old : Hand) (new : Sweeper) (p w : Record) (result : Result Swept Refusal) → StandsBy n o v old gone p
     → StepsOn n o v old new p w result → IsCalm old new.in_hand p w
 calm_by n None v gone old new p w result h k = record {
-  quiet = quiet_at p _ w (record { opening = refl; published = refl; failed = refl }) k.looks.is;
+  quiet = quiet_at p _ w (record { opening = refl; calls = refl; published = refl; failed = refl }) k.looks.is;
   next = ap (λ (x : Hand). x.next) k.hand;
 }
 calm_by n (Some sweep) Rests gone old new p w result h k = after_take n sweep old new p w result k

@@ -79,10 +79,6 @@ pub record Fits {D : Type 0} (states : D → List Files) (honest : D → Type 0)
   pub tells : Tells keeper p
   pub stores : Stores states honest before done keeper
 
--- they fit, whatever was committed
-abbrev pub IsKeeperOf : {D : Type 0} → (D → List Files) → (D → Type 0) → ℕ → Keeper D → Record → Type 0
-IsKeeperOf states honest n keeper p = (before : List Command) × (done : List Command) × Fits states honest n before done keeper p
-
 -- what is committed after a step of the log
 abbrev pub done_after : Result Phase Refusal → Phase → List Command → List Entry → List Command
 done_after (Ok next) Opened done staged = done ++ commands_of staged
@@ -97,9 +93,10 @@ pub record IsUnused (first : ℕ) (p : Record) : Type 0 where
   pub published : p.published ≡ first
   pub works : p.failed ≡ false
 
--- Neither DURABLE nor FAIL was made.
+-- Neither DURABLE nor FAIL was made, and no call.
 pub record IsQuiet (p w : Record) : Type 0 where
   pub opening : w.opening ≡ p.opening
+  pub calls : w.calls ≡ p.calls
   pub published : w.published ≡ p.published
   pub failed : w.failed ≡ p.failed
 
