@@ -31,8 +31,8 @@ use Rattle.flusher.specs.Hands.{Hand, IsRun, FitsBatch, IsLongest, SameEntries}
 use Rattle.flusher.specs.Gathering.{Accounts, Gathers}
 use Rattle.flusher.specs.Sweeping.{Stands, StandsBy, HasNone, IsSwept}
 use Rattle.flusher.specs.Keeping.{Stages, IsPast, is_walking, passed}
-use Rattle.flusher.specs.Fitting.{Fits, Counts, Tells, Stores, HasBatches, StopsHave, KeepsCommands, IsEmptyIn, IsQuiet, IsUnused, IsTakenFront, batches_of, done_after}
-use Rattle.flusher.proofs.Staging.{accounts_staged, commands_there}
+use Rattle.flusher.specs.Fitting.{Fits, Counts, Tells, Stores, HasBatches, StopsHave, KeepsCommands, IsEmptyIn, IsQuiet, IsUnused, IsTakenFront, WereTaken, batches_of, done_after}
+use Rattle.flusher.proofs.Staging.{accounts_staged, commands_there, taken_in_hand}
 use Rattle.flusher.proofs.Entries.{length-entries, grown}
 use Rattle.flusher.proofs.Passing.{reached_by, front_of_all}
 use Rattle.flusher.proofs.Quiet.{IsGrown, swept_grown}
@@ -196,3 +196,17 @@ taken_front {D} states honest n before done keeper p f =
       reached = f.counts.committed;
       taken = λ e has. k.taken e (grown p.opening.first done staged e has);
     }
+
+run_taken_by : (n : ℕ) (o : Option Sweep) (v : Walking) (hand : Hand) (gone commands : List Command) (p : Record) → StandsBy n o v hand gone p → IsRun hand commands → WereTaken hand.next commands p
+run_taken_by n None Rests hand gone commands p h run = taken_in_hand hand gone commands p.opening.first p.taken p.seen h.gathers.accounts run
+run_taken_by n None SweepTakes hand gone commands p h run = absurd h
+run_taken_by n None (SweepGives walk) hand gone commands p h run = absurd h
+run_taken_by n (Some sweep) Rests hand gone commands p h run = taken_in_hand hand gone commands p.opening.first p.taken p.seen h.gathers.accounts run
+run_taken_by n (Some sweep) SweepTakes hand gone commands p h run = taken_in_hand hand gone commands p.opening.first p.taken p.seen h.gathers.accounts run
+run_taken_by n (Some sweep) (SweepGives walk) hand gone commands p h run = λ e has.
+    let b = h.begun in
+    subst (λ es. Contains es e) (sym (swept_grown n b sweep.stripe walk p h.taken).taken) (taken_in_hand hand gone commands b.opening.first b.taken b.seen h.between.gathers.accounts run e has)
+
+pub run_taken : {D : Type 0} (states : D → List Files) (honest : D → Type 0) (n : ℕ) (before done : List Command) (keeper : Keeper D) (p : Record) → Fits states honest n before done keeper p → (commands : List Command) → IsRun keeper.sweeper.in_hand commands → WereTaken keeper.log.committed commands p
+run_taken {D} states honest n before done keeper p f commands run =
+    subst (λ t. WereTaken t commands p) f.counts.next (run_taken_by n keeper.sweeper.sweep keeper.sweeper.walking keeper.sweeper.in_hand (done ++ commands_of keeper.staged.items) commands p f.stands run)

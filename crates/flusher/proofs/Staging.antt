@@ -121,6 +121,12 @@ accounts_staged hand gone commands first taken seen a at run =
       known = a.known;
     }
 
+-- a run in hand was taken
+pub taken_in_hand : (hand : Hand) (gone commands : List Command) (first : ℕ) (taken : List Entry) (seen : List Command) → Accounts hand gone first taken seen → IsRun hand commands → (e : Entry) → Contains (entries_from hand.next commands) e → Contains taken e
+taken_in_hand hand gone commands first taken seen a run e has =
+    let x = found hand.next commands e has in
+    a.held e.ticket e.command (record { reached = x.low; there = in_slots hand commands run (e.ticket - hand.next) e.command (omega (arith, x.low, x.high)) ∙ ap Some x.there })
+
 -- a sweeper at rest, once a run is staged
 pub stands_staged : (n : ℕ) (old new : Sweeper) (gone commands : List Command) (p : Record) → Sweeping.Stands n old gone p → old.walking ≡ Rests → p.opening.first + length gone ≡ old.in_hand.next → IsRun old.in_hand commands
     → new.sweep ≡ old.sweep → new.walking ≡ old.walking → new.in_hand ≡ record old.in_hand { slots = replicate (length commands) None ++ drop (length commands) old.in_hand.slots } → Sweeping.Stands n new (gone ++ commands) p

@@ -100,9 +100,13 @@ pub record IsQuiet (p w : Record) : Type 0 where
   pub published : w.published ≡ p.published
   pub failed : w.failed ≡ p.failed
 
+-- the sweeps of the pass took these commands, from this ticket on
+abbrev pub WereTaken : ℕ → List Command → Record → Type 0
+WereTaken first commands p = (e : Entry) → Contains (entries_from first commands) e → Contains p.taken e
+
 -- What is committed is the front of the one history from the pass's opening on, and the pass's sweeps took each of its entries.
 pub record IsTakenFront (done : List Command) (count : ℕ) (p : Record) : Type 0 where
   pub rest : List Command
   pub front : p.seen ≡ done ++ rest
   pub reached : p.opening.first + length done ≡ count
-  pub taken : (e : Entry) → Contains (entries_from p.opening.first done) e → Contains p.taken e
+  pub taken : WereTaken p.opening.first done p

@@ -1,12 +1,18 @@
 -- What the releases of one reply leave of a record, and what the answers then say.
-use Rattle.std.proofs.Common.{◌≡◌, ◌≤◌, ◌⊎◌, ◌∙◌, ℕ, Bool, List, [], ◌∷◌, Ok, Err, IfOk, IfErr, ap, subst, sym, refl, inl, inr, true, false}
+use Rattle.std.proofs.Common.{◌≡◌, ◌≤◌, ◌⊎◌, ◌∙◌, ℕ, Bool, List, [], ◌∷◌, length, Ok, Err, IfOk, IfErr, ap, subst, sym, refl, inl, inr, true, false}
 use Rattle.map_types.specs.declared.commands.Reply.{Reply}
 use Rattle.map_types.specs.declared.refusals.Refusal.{Refusal}
 use Rattle.map_types.specs.declared.refusals.Refusal.TheVariants as refusal_type
 use Rattle.ticket_order.specs.declared.record.Record.{Record}
 use Rattle.ticket_order.specs.StepRules.{Sees}
 use Rattle.ticket_order.specs.Calls.{Misses, MissesAlive, Reaches, SeesAgain}
+use Rattle.map_types.specs.declared.commands.Command.{Command}
+use Rattle.ticket_order.specs.Records.{failing}
+use Rattle.gate_log.specs.States.{LogState}
 use Rattle.flusher.specs.declared.keeper.Keeper.{Keeper}
+use Rattle.flusher.specs.Fitting.{WereTaken}
+use Rattle.flusher.specs.Hands.{FitsBatch, Hand, IsLongest}
+use Rattle.flusher.specs.Keeping.{is_too_long}
 use Rattle.wire_frames.specs.declared.requests.Request.{Request}
 use Rattle.map_server.specs.Dialogue.{Answer}
 use Rattle.map_server.specs.Served.{Kept, CannotCommit, IsGivenOut, IsIdle, IsWithheld, Makes, Took, TriesRelease, fails}
@@ -32,7 +38,7 @@ given_out position q v t w kept e tried found committed unfailed = record {
   unfailed = unfailed;
 }
 
-pub withheld : (position : ℕ) (v t : Record) (kept : Kept) → WasTried position v t → CannotCommit kept.log → kept.pass.failed ≡ true → IsWithheld position v t kept
+pub withheld : (position : ℕ) (v t : Record) (kept : Kept) → WasTried position v t → CannotCommit kept.log kept.pass → kept.pass.failed ≡ true → IsWithheld position v t kept
 withheld position v t kept tried cannot failed = record { tries = tried.0; tried = t; waits = tried.1; lost = inl (cannot, failed, refl) }
 
 pub shown_failed : (position q : ℕ) (v t w : Record) (kept : Kept) → q ≡ position → WasTried position v t → SeesAgain q t (Misses q) w → kept.pass.failed ≡ false → IsWithheld position v w kept
@@ -71,10 +77,26 @@ pub holds_still : (A B : Reply → Type 0) (C : Refusal → Type 0) (P : Type 0)
 holds_still A B C P (Ok reply) ok err still = ok.1
 holds_still A B C P (Err refusal) ok err still = both (subst (λ (r : Refusal). fails (Err r) ≡ false) err.0 still)
   where
-  both : true ≡ false → P
-  both e = absurd (cc)
+    both : true ≡ false → P
+    both e = absurd (cc)
 
 -- a keeper that has published is idle still
 pub published_idle : {D : Type 0} (old new : Keeper D) (count position : ℕ) → new ≡ record old { published = count } → IsIdle old → position ≤ old.log.committed → IsIdle new × (position ≤ new.log.committed)
 published_idle {D} old new count position is idle committed =
     subst (λ (k : Keeper D). IsIdle k × (position ≤ k.log.committed)) (sym is) (record { working = idle.working; unfailed = idle.unfailed; resting = idle.resting; still = idle.still }, committed)
+
+-- after a FAIL it is as it was
+pub still_cannot : (log : LogState) (p : Record) → CannotCommit log p → CannotCommit log (failing p)
+still_cannot log p (inl broken) = inl broken
+still_cannot log p (inr full) = inr (record { commands = full.commands; some = full.some; taken = full.taken; fits = full.fits; too_long = full.too_long })
+
+-- a batch that the keeper refuses as too long
+pub no_room : (hand : Hand) (old new : LogState) (p : Record) (commands : List Command) → new ≡ old → hand.next ≡ old.committed → 1 ≤ length commands → IsLongest 65536 hand commands → WereTaken old.committed commands p → is_too_long old commands → CannotCommit new p
+no_room hand old new p commands same next some longest taken long =
+    subst (λ (log : LogState). CannotCommit log p) (sym same) (inr (record {
+      commands = commands;
+      some = some;
+      taken = taken;
+      fits = subst (λ (t : ℕ). FitsBatch 65536 t commands) next longest.fits;
+      too_long = long;
+    }))

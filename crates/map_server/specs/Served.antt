@@ -1,5 +1,5 @@
 -- What a request that is served leaves of the record of the pass that serves it, and of the keeper.
-use Rattle.std.specs.Prelude.{◌≡◌, ◌⊎◌, ℕ, ◌+◌, ◌<◌, ◌≤◌, ◌^◌, Bool, true, false, None, Ok, Err, List, [], ◌∷◌}
+use Rattle.std.specs.Prelude.{◌≡◌, ◌⊎◌, ℕ, ◌≤◌, Bool, true, false, None, Ok, Err, List, [], ◌∷◌, length}
 use Rattle.disk_model.specs.Files.{Files}
 use Rattle.java_hash.specs.Stripes.{stripe_of}
 use Rattle.map_types.specs.declared.refusals.Refusal.{Refusal}
@@ -10,8 +10,9 @@ use Rattle.ticket_order.specs.declared.record.Record.{Record}
 use Rattle.ticket_order.specs.Calls.{MakesCall, MakesRead, RefusesChange, RefusesRead, Reaches, Misses, MissesAlive, SeesAgain}
 use Rattle.gate_log.specs.States.{LogState, IsResting}
 use Rattle.flusher.specs.declared.keeper.Keeper.{Keeper}
-use Rattle.flusher.specs.Fitting.{Fits}
-use Rattle.flusher.specs.Keeping.{is_walking}
+use Rattle.flusher.specs.Fitting.{Fits, WereTaken}
+use Rattle.flusher.specs.Hands.{FitsBatch}
+use Rattle.flusher.specs.Keeping.{is_too_long, is_walking}
 use Rattle.wire_frames.specs.declared.requests.Request.{Request}
 use Rattle.wire_frames.specs.declared.requests.Request.TheVariants.{Change, Read}
 use Rattle.map_server.specs.Dialogue.{Answer}
@@ -63,15 +64,23 @@ pub record Serves (n : ℕ) (v : Record) (request : Request) (reply : Reply) (w 
   pub makes : Makes n v request position reply made
   pub given_out : IsGivenOut position made w kept
 
--- the log takes no further batch: a device call has failed, or a batch might carry it past its greatest length
-abbrev pub CannotCommit : LogState → Type 0
-CannotCommit log = (log.is_broken ≡ true) ⊎ (2 ^ 40 < log.gate + 1048578)
+-- the next commands that the pass took are a batch, and it would carry the log past its greatest length
+pub record HasNoRoom (log : LogState) (p : Record) : Type 0 where
+  pub commands : List Command
+  pub some : 1 ≤ length commands
+  pub taken : WereTaken log.committed commands p
+  pub fits : FitsBatch 65536 log.committed commands
+  pub too_long : is_too_long log commands
+
+-- the log takes no further batch: a device call has failed, or the log is full
+abbrev pub CannotCommit : LogState → Record → Type 0
+CannotCommit log p = (log.is_broken ≡ true) ⊎ HasNoRoom log p
 
 -- Why a call that was made has no reply: its position can't be committed, and the keeper's pass made a FAIL; or a release showed a FAIL that
 -- the keeper's pass did not make.
 abbrev pub IsLost : ℕ → Record → Record → Kept → Type 0
 IsLost position tried w kept =
-    (CannotCommit kept.log × (kept.pass.failed ≡ true) × (w ≡ tried)) ⊎ (SeesAgain position tried (Misses position) w × (kept.pass.failed ≡ false))
+    (CannotCommit kept.log kept.pass × (kept.pass.failed ≡ true) × (w ≡ tried)) ⊎ (SeesAgain position tried (Misses position) w × (kept.pass.failed ≡ false))
 
 pub record IsWithheld (position : ℕ) (made w : Record) (kept : Kept) : Type 0 where
   pub tries : List Record

@@ -10,7 +10,7 @@ ghost use Rattle.map_server.specs.Served.{Took, IsKept, IsIdle, IsGivenOut, IsWi
 
 use crate::calls::Calls;
 use disk_model::Disk;
-use flusher::Keeper;
+use flusher::{Keeper, runs_were_taken};
 use gate_log::Phase;
 use java_hash::StripeCount;
 use map_types::{Refusal, Reply};
@@ -98,10 +98,11 @@ fn commit_some<D: Disk>(keeper: &mut Keeper<D>) -> Result<(), Refusal>
     requires idle { IsIdle keeper.old }
     requires kept { (n : ℕ) × (p : Record) × IsKept D.states D.honest n keeper.old p }
     ensures ok { OnOk result (IsIdle keeper.new) }
-    ensures err { OnErr result (CannotCommit keeper.new.log) }
+    ensures err { (n : ℕ) (p : Record) → IsKept D.states D.honest n keeper.old p → OnErr result (CannotCommit keeper.new.log p) }
     ensures kept { (n : ℕ) (p : Record) → IsKept D.states D.honest n keeper.old p → IsKept D.states D.honest n keeper.new p }
     ensures walking { keeper.new.sweeper.walking ≡ keeper.old.sweeper.walking }
 {
+    runs_were_taken(keeper);
     match keeper.stage_batch(MOST_COMMANDS) {
         Ok(count) => {
             if count == 0 {
@@ -128,7 +129,7 @@ fn commit_in_time<K: Steps, D: Disk, R: Wait>(
     requires idle { IsIdle keeper.old }
     requires kept { IsKept D.states D.honest (K.stripe_count steps.old) keeper.old (K.recorded steps.old) }
     ensures ok { OnOk result (IsIdle keeper.new × (position ≤ keeper.new.log.committed)) }
-    ensures err { OnErr result (CannotCommit keeper.new.log × (is_walking keeper.new.sweeper.walking ≡ false)) }
+    ensures err { OnErr result (CannotCommit keeper.new.log (K.recorded steps.new) × (is_walking keeper.new.sweeper.walking ≡ false)) }
     ensures kept { IsKept D.states D.honest (K.stripe_count steps.new) keeper.new (K.recorded steps.new) }
     ensures quiet { (K.recorded steps.new).failed ≡ (K.recorded steps.old).failed }
     ensures place { K.place steps.new ≡ K.place steps.old }
@@ -155,7 +156,7 @@ fn make_durable<K: Steps, D: Disk, R: Wait>(
     requires idle { IsIdle keeper.old }
     requires kept { IsKept D.states D.honest (K.stripe_count steps.old) keeper.old (K.recorded steps.old) }
     ensures ok { OnOk result (IsIdle keeper.new × (position ≤ keeper.new.log.committed) × ((K.recorded steps.new).failed ≡ false)) }
-    ensures err { IfErr result (λ refusal. (refusal ≡ Refusal.Failed) × CannotCommit keeper.new.log × ((K.recorded steps.new).failed ≡ true)) }
+    ensures err { IfErr result (λ refusal. (refusal ≡ Refusal.Failed) × CannotCommit keeper.new.log (K.recorded steps.new) × ((K.recorded steps.new).failed ≡ true)) }
     ensures kept { IsKept D.states D.honest (K.stripe_count steps.new) keeper.new (K.recorded steps.new) }
     ensures place { K.place steps.new ≡ K.place steps.old }
     ensures stripes { K.stripe_count steps.new ≡ K.stripe_count steps.old }

@@ -23,6 +23,18 @@ fn failing_disk(alloc: Global, after: u64) -> MemDisk {
     disk
 }
 
+/// An empty map in memory over the disk.
+pub(crate) fn begun<'a, R: Wait>(
+    rt: &'a R,
+    alloc: Global,
+    disk: MemDisk,
+) -> Result<Memory<'a, MemDisk, R>, Refusal> {
+    match Memory::new(rt, alloc, disk) {
+        Ok(memory) => Ok(memory),
+        Err((_disk, refusal)) => Err(refusal),
+    }
+}
+
 fn put(alloc: Global, number: i64) -> Result<Request, Refusal> {
     Ok(Request::Change(Command {
         key: Key::new(alloc, "a")?,
@@ -48,7 +60,7 @@ fn put_status<R: Wait>(memory: &mut Memory<MemDisk, R>, alloc: Global, number: i
 #[test]
 fn no_header(rt: HostRuntime) {
     for after in 0..HEADER_CALLS {
-        let memory = Memory::new(&rt, rt.alloc(), failing_disk(rt.alloc(), after));
+        let memory = begun(&rt, rt.alloc(), failing_disk(rt.alloc(), after));
         assert_eq!(rt; status(memory), 9);
     }
 }
@@ -58,7 +70,7 @@ fn a_failure_at_each_device_call(rt: HostRuntime) -> Result<(), Refusal> {
     let alloc = rt.alloc();
     for call in 0..CHANGE_CALLS {
         let disk = failing_disk(alloc, HEADER_CALLS + CHANGE_CALLS + call);
-        let mut memory = Memory::new(&rt, alloc, disk)?;
+        let mut memory = begun(&rt, alloc, disk)?;
         assert_eq!(rt; put_status(&mut memory, alloc, 5), 0);
         assert_eq!(rt; put_status(&mut memory, alloc, 6), 9);
         assert_eq!(rt; put_status(&mut memory, alloc, 7), 9);
@@ -75,7 +87,7 @@ const WAS_ABSENT_THEN_FAILED: &[u8] = b"\x00\x02\x00\x00\x00\x02\x89\x00";
 #[test]
 fn a_failure_ends_the_connection(rt: HostRuntime) -> Result<(), Fail> {
     let alloc = rt.alloc();
-    let mut memory = Memory::new(&rt, alloc, failing_disk(alloc, HEADER_CALLS + CHANGE_CALLS))?;
+    let mut memory = begun(&rt, alloc, failing_disk(alloc, HEADER_CALLS + CHANGE_CALLS))?;
     let mut reader = PUT_TWICE;
     let mut writer = Vec::new(alloc);
     serve_connection(alloc, &mut reader, &mut writer, &mut memory)?;
@@ -104,7 +116,7 @@ fn value_of<R: Wait>(memory: &mut Memory<MemDisk, R>, alloc: Global) -> i64 {
 #[test]
 fn memory_that_is_refused(rt: HostRuntime) {
     let alloc = rt.alloc();
-    let mut memory = match Memory::new(&rt, alloc, MemDisk::new(alloc)) {
+    let mut memory = match begun(&rt, alloc, MemDisk::new(alloc)) {
         Ok(memory) => memory,
         Err(refusal) => {
             assert!(rt; refusal.number() == 7 || refusal.number() == 9);

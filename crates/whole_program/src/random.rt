@@ -1,11 +1,12 @@
 //! Random changes and reads, to the map in memory and to a part, beside the plain program of the
 //! model.
 use crate::dice::Dice;
+use crate::journal::begun;
 use atomic_methods::Part;
 use disk_model::MemDisk;
 use java_hash::StripeCount;
 use map_model::reference::ReferenceMap;
-use map_server::{Calls, Memory};
+use map_server::Calls;
 use map_types::{Command, Read, Refusal};
 use std::alloc::Global;
 use wire_frames::Request;
@@ -14,7 +15,7 @@ use wire_frames::Request;
 fn requests_to_the_map_in_memory(rt: HostRuntime) -> Result<(), Refusal> {
     let alloc = rt.alloc();
     let mut dice = Dice { state: 17 };
-    let mut memory = Memory::new(&rt, alloc, MemDisk::new(alloc))?;
+    let mut memory = begun(&rt, alloc, MemDisk::new(alloc))?;
     let mut reference = ReferenceMap::new(alloc);
     for turn in 0..10_000u32 {
         let (given, wanted) = if dice.below(4) == 0 {

@@ -1,5 +1,8 @@
-use Rattle.std.proofs.Common.{◌≡◌, ◌∙◌, [], subst, sym}
-use Rattle.map_server.specs.Served.{IsKept, IsIdle}
+use Rattle.std.proofs.Common.{◌≡◌, ◌∙◌, [], OnErr, Result, ap, subst, sym, false}
+use Rattle.std.proofs.lemmas.Result.{err_from_is_err_and}
+use Rattle.map_types.specs.declared.refusals.Refusal.{Refusal}
+use Rattle.flusher.specs.Keeping.{is_walking}
+use Rattle.map_server.specs.Served.{CannotCommit}
 use Rattle.map_server.proofs.memory.commit_in_time.Goals as goal
 
 pub commit_some-requires-clause-kept : goal.commit_some-requires-clause-kept
@@ -24,3 +27,12 @@ pub returns-in_err-commit_some-clause-kept : goal.returns-in_err-commit_some-cla
 returns-in_err-commit_some-clause-kept g c =
     let k = c.loop-turn.invariant.kept in
     c.commit_some.ensures.kept (g.K.Steps.stripe_count c.sweep-swept.new.steps) (g.K.Steps.recorded c.sweep-swept.new.steps) (k.0, c.sweep-swept.ensures.fits [] k.0 k.1)
+
+pub returns-in_err-commit_some-clause-err : goal.returns-in_err-commit_some-clause-err
+returns-in_err-commit_some-clause-err g c =
+    let k = c.loop-turn.invariant.kept in
+    let w = g.K.Steps.recorded c.sweep-swept.new.steps in
+    let cannot = c.in_err-commit_some.ensures.err (g.K.Steps.stripe_count c.sweep-swept.new.steps) w (k.0, c.sweep-swept.ensures.fits [] k.0 k.1) in
+    let q = err_from_is_err_and c.from_residual.result c.from_residual.ensures.1 in
+    subst (λ (r : Result (Unit {0}) Refusal). OnErr r (CannotCommit c.commit_some.new.keeper.log w × (is_walking c.commit_some.new.keeper.sweeper.walking ≡ false))) (sym q.1)
+    (cannot, ap is_walking c.commit_some.ensures.walking ∙ c.sweep-swept.ensures.rests)

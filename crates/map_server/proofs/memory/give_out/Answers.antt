@@ -12,7 +12,7 @@ returns-in_err-make_durable-clause-err g c =
     let kept : Kept = record { pass = g.K.Steps.recorded c.make_durable.new.steps; log = c.make_durable.new.keeper.log } in
     let q = err_from_is_err_and c.from_residual.result c.from_residual.ensures.1 in
     subst (λ (r : Answer). IfErr r (λ refusal. (refusal ≡ Failed) × IsWithheld c.args.held.position (g.S.Steps.recorded c.args.steps.now) (g.S.Steps.recorded c.loop-turn.steps) kept)) (sym q.1)
-        (q.2 ∙ failing.0, withheld c.args.held.position (g.S.Steps.recorded c.args.steps.now) (g.S.Steps.recorded c.loop-turn.steps) kept c.loop-turn.invariant.tried failing.1 failing.2)
+    (q.2 ∙ failing.0, withheld c.args.held.position (g.S.Steps.recorded c.args.steps.now) (g.S.Steps.recorded c.loop-turn.steps) kept c.loop-turn.invariant.tried failing.1 failing.2)
 
 pub returns-in-Reply-clause-ok : goal.returns-in-Reply-clause-ok
 returns-in-Reply-clause-ok g c =

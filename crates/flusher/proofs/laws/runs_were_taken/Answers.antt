@@ -1,0 +1,5 @@
+use Rattle.flusher.proofs.Keeping.{run_taken}
+use Rattle.flusher.proofs.laws.runs_were_taken.Goals as goal
+
+pub returns : goal.returns
+returns g c = λ n before done p f. run_taken g.D.Disk.states g.D.Disk.honest n before done c.args._keeper.now p f
