@@ -93,6 +93,14 @@ impl GateLog {
         self.phase
     }
 
+    /// Whether a batch or an end frame may be staged. It is not so in the middle of a commit, nor once
+    /// the end frame is committed.
+    pub fn is_resting(&self) -> bool
+        ensures { (result ≡ true) ↔ IsResting self.now }
+    {
+        self.phase == Phase::Idle && self.ending.is_none()
+    }
+
     pub fn generation(&self) -> u64
         ensures { result ≡ self.now.generation }
     {

@@ -1,3 +1,4 @@
 pub mod Taking
 pub mod Walking
 mod Refusing
+pub mod Left

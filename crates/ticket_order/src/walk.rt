@@ -4,7 +4,7 @@ ghost use Rattle.std.specs.Option.{option_copied};
 ghost use Rattle.ticket_order.specs.declared.record.Record.{Record};
 ghost use Rattle.java_hash.specs.Stripes.{stripe_of};
 ghost use Rattle.ticket_order.specs.Calls.{HasFound};
-ghost use Rattle.ticket_order.specs.Walks.{Task, ToChange, ToRead, ToRelease, ToSweep, ToCapture, Fits, IsUnderWay, Next, MakesOne, next_kind, Give, IsRefusing, HasFewerLeft, steps_left, entries_of_walk, KeepsEntries, captured_of_walk, KeepsCaptured, refusal_of_walk, KeepsRefusal, is_holding};
+ghost use Rattle.ticket_order.specs.Walks.{Task, ToChange, ToRead, ToRelease, ToSweep, ToCapture, Fits, IsUnderWay, Next, MakesOne, next_kind, Take, Give, IsRefusing, HasFewerLeft, steps_left, entries_of_walk, KeepsEntries, captured_of_walk, KeepsCaptured, refusal_of_walk, KeepsRefusal, is_holding};
 
 use crate::capture_walk::{CaptureStage, Captured};
 use crate::change_walk::{ChangeStage, NewChange};
@@ -131,7 +131,9 @@ impl Walk {
 
     /// A sweep of the stripe, by the pass that sweeps: TAKE, GIVE.
     pub fn sweep(alloc: Global, stripe: usize) -> Walk
-        ensures { (n : ℕ) (b : Record) → b.holding ≡ None → stripe < n → b.keeper ≡ true → Fits n b (ToSweep stripe) result b }
+        ensures fits { (n : ℕ) (b : Record) → b.holding ≡ None → stripe < n → b.keeper ≡ true → Fits n b (ToSweep stripe) result b }
+        ensures first { (n : ℕ) → next_kind n result ≡ Take stripe }
+        ensures left { steps_left result ≡ 2 }
     {
         Walk {
             stage: Stage::Sweep(SweepStage::Begins(alloc, stripe)),
@@ -154,6 +156,16 @@ impl Walk {
         match &self.stage {
             Stage::Sweep(SweepStage::HasTaken(_, taken)) => taken.content.outbox.len(),
             _ => 0,
+        }
+    }
+
+    /// The entries that a sweep has taken and that its GIVE will hand out.
+    pub fn entries(&self) -> &[Entry]
+        ensures { result.now ≡ entries_of_walk self.now }
+    {
+        match &self.stage {
+            Stage::Sweep(SweepStage::HasTaken(_, taken)) => &taken.content.outbox,
+            _ => &[],
         }
     }
 
