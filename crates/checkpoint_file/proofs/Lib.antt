@@ -6,3 +6,4 @@ mod AdvanceLemmas
 mod StagingLemmas
 mod LookLemmas
 mod TestLemmas
+mod HeadLemmas

@@ -1,3 +1,4 @@
 pub mod States
 pub mod Standing
 pub mod Advancing
+pub mod Heads

@@ -3,6 +3,7 @@
 #![tactic(auto)]
 
 mod gate;
+mod head;
 mod laws;
 mod phase;
 mod sections;
@@ -11,6 +12,7 @@ mod tests;
 mod writer;
 
 pub use gate::must_close;
+pub use head::{Head, read_head};
 pub use laws::stops_of_a_checkpoint;
 pub use phase::CheckpointPhase;
 pub use writer::CheckpointWriter;

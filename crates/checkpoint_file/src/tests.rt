@@ -2,7 +2,7 @@ ghost use Rattle.std.specs.Prelude.{◌≡◌, ◌<◌};
 ghost use Rattle.checkpoint_file.specs.States.{idle};
 ghost use Rattle.checkpoint_file.specs.Advancing.{MayAdvance};
 
-use crate::{CheckpointPhase, CheckpointWriter, must_close};
+use crate::{CheckpointPhase, CheckpointWriter, must_close, read_head};
 use disk_model::{Disk, Failure, Fill, MemDisk};
 use java_hash::{StripeCount, stripe_of};
 use map_types::{Key, Refusal, Value};
@@ -230,7 +230,16 @@ fn two_stripes(rt: HostRuntime) -> Result<(), Fail> {
         TWO_STRIPES.as_slice()
     );
     assert_eq!(rt; writer.greatest_mark(), 4);
+    assert_eq!(rt; stripes_read(&mut disk, 1), Ok(2));
+    assert_eq!(rt; stripes_read(&mut disk, 0), Ok(0));
     Ok(())
+}
+
+// How many stripes the sealed checkpoint of the file has; none where none is sealed.
+fn stripes_read(disk: &mut MemDisk, file: usize) -> Result<u16, Refusal>
+    requires { file < 2 }
+{
+    Ok(read_head(disk, file)?.map_or(0, |head| head.stripes))
 }
 
 #[test]
