@@ -7,3 +7,7 @@ mod StagingLemmas
 mod LookLemmas
 mod TestLemmas
 mod HeadLemmas
+mod PlaceLemmas
+mod EntryReading
+mod SectionReading
+mod WholeFiles

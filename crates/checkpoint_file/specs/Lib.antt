@@ -2,3 +2,4 @@ pub mod States
 pub mod Standing
 pub mod Advancing
 pub mod Heads
+pub mod Loads

@@ -5,14 +5,19 @@
 mod gate;
 mod head;
 mod laws;
+mod loading;
+mod marks;
 mod phase;
+mod pieces;
 mod sections;
 #[cfg(test)]
 mod tests;
+mod unread;
 mod writer;
 
 pub use gate::must_close;
 pub use head::{Head, read_head};
 pub use laws::stops_of_a_checkpoint;
+pub use loading::{LoadedCheckpoint, LoadedSection, load};
 pub use phase::CheckpointPhase;
 pub use writer::CheckpointWriter;
