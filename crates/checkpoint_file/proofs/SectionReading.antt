@@ -52,9 +52,11 @@ module _ (stripes stripe : ℕ) where
   pub fewer_entries : (count offset : ℕ) (es : List Entry) (content rest : List ℕ) (old new : Unread) → IsBehind old new → length rest ≡ old.left
       → AreEntries first_layout stripes stripe es → (g : GoesOn content (entries_bytes first_layout es) rest new) → length es < count → (offset ≡ new.at) × HasNoNext stripes stripe es g.left
       → (distance : ℕ) × (offset ≡ old.at + distance) × HasFewer stripes stripe count rest distance
-  fewer_entries count offset es content rest old new behind size are g few why =
-      (length (entries_bytes first_layout es), why.0 ∙ come_to content (entries_bytes first_layout es) rest old new behind size g,
-      record { before = es; are = are; others = g.left; spelled = g.spelled; fewer = few; none_next = why.1; place = refl })
+  fewer_entries count offset es content rest old new behind size are g few why = (
+    length (entries_bytes first_layout es),
+    why.0 ∙ come_to content (entries_bytes first_layout es) rest old new behind size g,
+    record { before = es; are = are; others = g.left; spelled = g.spelled; fewer = few; none_next = why.1; place = refl },
+  )
 
   -- ---- a section
 
@@ -143,8 +145,7 @@ module _ (stripes : ℕ) where
       let place : number ≡ 0 + length (sections_of reads) = omega (arith, count, length-map reads (λ (r : LoadedSection). section_of r)) in
       let fit = are_push first_layout stripes 0 (sections_of reads) (section_of read) are.fit (subst (λ n. IsSection first_layout stripes n (section_of read)) place next.0.fits) in
       let bytes = sections_push first_layout (sections_of reads) (section_of read) in
-      subst (λ (l : List LoadedSection). AreLoaded stripes l × GoesOn content (sections_bytes first_layout (sections_of l)) rest new) (sym is)
-      (
+      subst (λ (l : List LoadedSection). AreLoaded stripes l × GoesOn content (sections_bytes first_layout (sections_of l)) rest new) (sym is) (
         record {
           fit = subst (λ (l : List Section). AreSections first_layout stripes 0 l) (sym (sections_more reads read)) fit;
           rising = rising_push reads read are.rising next.0.rising;

@@ -6,6 +6,8 @@ mod gate;
 mod head;
 mod laws;
 mod loading;
+#[cfg(test)]
+mod loading_tests;
 mod marks;
 mod phase;
 mod pieces;

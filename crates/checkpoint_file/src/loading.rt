@@ -215,7 +215,11 @@ fn whole_body<D: Disk>(
 }
 
 // How many stripes there are, and where the body stands that the sections are to fill.
-fn sized_body<D: Disk>(disk: &mut D, file: u8, head: &Head) -> Result<(StripeCount, Unread), Refusal>
+fn sized_body<D: Disk>(
+    disk: &mut D,
+    file: u8,
+    head: &Head,
+) -> Result<(StripeCount, Unread), Refusal>
     requires { file < 4 }
     ensures looks { Looks D.states D.failures D.honest (failed_in result) disk.old disk.new }
     ensures place { IfOk result (λ x. (x.0.count ≡ head.now.stripes) × IsBodyAt file head.now.body_len x.1) }

@@ -10,24 +10,32 @@ pub returns-in_default-clause-err : goal.returns-in_default-clause-err
 returns-in_default-clause-err g c =
     let bytes : List ℕ = c.in_ok-bytes.bytes.items in
     let none = rw c.in_default.is at c.in_ok-entry.ensures.none in
-    inr (inr (c.args.unread.at, c.damaged.ensures, λ honest rest is size. (
-      refl,
-      none_in_window c.args.stripe.of.count c.args.stripe.number c.args.before.now bytes rest (c.in_ok-bytes.ensures.ok honest rest is size)
-          (c.in_ok-bytes.ensures.size ∙ ap (λ n. min n 4355) (sym size))
-          (λ entry others text value e. none entry others text value (c.deref.ensures.value ∙ e)),
-    )))
+    inr (inr (
+      c.args.unread.at,
+      c.damaged.ensures,
+      λ honest rest is size. (
+        refl,
+        none_in_window c.args.stripe.of.count c.args.stripe.number c.args.before.now bytes rest (c.in_ok-bytes.ensures.ok honest rest is size)
+            (c.in_ok-bytes.ensures.size ∙ ap (λ n. min n 4355) (sym size))
+            (λ entry others text value e. none entry others text value (c.deref.ensures.value ∙ e)),
+      ),
+    ))
 
 pub returns-then-not-may_follow-clause-err : goal.returns-then-not-may_follow-clause-err
 returns-then-not-may_follow-clause-err g c =
     let bytes : List ℕ = c.in_ok-bytes.bytes.items in
     let some = rw c.in-Some.is at c.in_ok-entry.ensures.some in
     let found : List ℕ × Value = c.in-Some.entry in
-    inr (inr (c.args.unread.at, c.damaged-then-not-may_follow.ensures, λ honest rest is size. (
-      refl,
-      none_follows c.args.stripe.of.count c.args.stripe.number c.args.before.now found _ rest some.0 some.1
-          (behind_front bytes rest (entry_bytes first_layout found) c.in-Some.others.now (c.in_ok-bytes.ensures.ok honest rest is size) (sym c.deref.ensures.value ∙ some.2))
-          (λ may. absurd (let yes = c.may_follow.ensures.1 may in let no = c.if-not-may_follow.true in cc)),
-    )))
+    inr (inr (
+      c.args.unread.at,
+      c.damaged-then-not-may_follow.ensures,
+      λ honest rest is size. (
+        refl,
+        none_follows c.args.stripe.of.count c.args.stripe.number c.args.before.now found _ rest some.0 some.1
+            (behind_front bytes rest (entry_bytes first_layout found) c.in-Some.others.now (c.in_ok-bytes.ensures.ok honest rest is size) (sym c.deref.ensures.value ∙ some.2))
+            (λ may. absurd (let yes = c.may_follow.ensures.1 may in let no = c.if-not-may_follow.true in cc)),
+      ),
+    ))
 
 pub returns-clause-ok : goal.returns-clause-ok
 returns-clause-ok g c = λ honest rest is size.
