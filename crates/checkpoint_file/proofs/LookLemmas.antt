@@ -1,5 +1,5 @@
 -- Looks at a disk, one after another.
-use Rattle.std.proofs.Common.{◌≡◌, ℕ, ◌+◌, List, ◌∷◌, refl, ap, ap₂, ◌∙◌, arith}
+use Rattle.std.proofs.Common.{◌≡◌, ℕ, ◌+◌, List, ◌∷◌, refl, ap₂, ◌∙◌, arith}
 use Rattle.disk_model.specs.Calls.{Looks}
 use Rattle.disk_model.specs.Files.{Files, now}
 use Rattle.disk_model.proofs.MomentLemmas.{one_call, no_call, goes_on, in_the_end, weaker}

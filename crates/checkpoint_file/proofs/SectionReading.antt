@@ -1,6 +1,6 @@
 -- Entries of a section, and sections of a body, one after another.
-use Rattle.std.proofs.Common.{◌≡◌, ◌≤◌, ◌<◌, ◌^◌, ℕ, ◌+◌, List, [], ◌∷◌, ◌++◌, length, drop, map, refl, sym, ap, subst, ◌∙◌, append_assoc, arith}
-use Rattle.std.proofs.lemmas.List.{length-append, map-append, length-map, append-nil}
+use Rattle.std.proofs.Common.{◌≡◌, ◌<◌, ◌^◌, ℕ, ◌+◌, List, [], ◌∷◌, ◌++◌, length, refl, sym, ap, subst, ◌∙◌, append_assoc, arith}
+use Rattle.std.proofs.lemmas.List.{length-append, map-append, length-map}
 use Rattle.std.specs.List.{AllByRecursion}
 use Rattle.std.specs.List.Sorted.{IsStrictlySortedBy}
 use Rattle.std.specs.FinMap as finite
@@ -10,7 +10,7 @@ use Rattle.map_types.specs.declared.texts.Value.{Value}
 use Rattle.map_model.proofs.EntryLaws.{entries-map_of}
 use Rattle.log_records.specs.Layout.{first_layout}
 use Rattle.store_layout.specs.Checkpoints.{Section, IsEntryOf, IsSection, AreSections, entry_bytes, entries_bytes, marked_bytes, section_bytes, sections_bytes}
-use Rattle.store_layout.specs.Faults.{AreEntries, IsFault, HasFault, no_head, bad_entry, left_over}
+use Rattle.store_layout.specs.Faults.{AreEntries, IsFault, HasFault, no_head, bad_entry}
 use Rattle.store_layout.proofs.CheckpointLemmas.{are_push, entries_push, sections_push}
 use Rattle.checkpoint_file.specs.declared.loading.LoadedSection.{LoadedSection}
 use Rattle.checkpoint_file.specs.declared.unread.Unread.{Unread}

@@ -1,7 +1,7 @@
 -- What a file holds whose body was read, or what is wrong with it.
-use Rattle.std.proofs.Common.{◌≡◌, ◌≢◌, ◌⊎◌, inl, inr, ◌≤◌, ◌<◌, ℕ, zero, suc, ◌+◌, Bool, true, false, not, cond, nat_lt, max, Option, None, Some, List, [], ◌∷◌, ◌++◌, length, take, drop, map, get_or, refl, sym, ap, subst, ◌∙◌, arith}
+use Rattle.std.proofs.Common.{◌≡◌, ◌≢◌, ◌⊎◌, inl, inr, ◌≤◌, ◌<◌, ℕ, zero, suc, ◌+◌, Bool, true, false, not, cond, nat_lt, max, None, Some, List, [], ◌∷◌, ◌++◌, length, take, drop, get_or, refl, sym, ap, subst, ◌∙◌, arith}
 use Rattle.std.proofs.lemmas.Bool.Decides.{nat_tests}
-use Rattle.std.proofs.lemmas.List.{length-append, append-nil, length-drop, length-map, length-take-le, map-append, take-append-drop, take_more}
+use Rattle.std.proofs.lemmas.List.{append-nil, length-drop, length-map, length-take-le, take-append-drop, take_more}
 use Rattle.disk_model.specs.Calls.{Looks}
 use Rattle.disk_model.specs.Files.{AllCoherent, Files, now}
 use Rattle.disk_model.proofs.FileLemmas.{now_coherent}
@@ -19,7 +19,7 @@ use Rattle.checkpoint_file.specs.declared.loading.LoadedSection.{LoadedSection}
 use Rattle.checkpoint_file.specs.declared.loading.LoadedCheckpoint.{LoadedCheckpoint}
 use Rattle.checkpoint_file.specs.declared.unread.Unread.{Unread}
 use Rattle.checkpoint_file.specs.Heads.{HasFields, IsHead}
-use Rattle.checkpoint_file.specs.Loads.{checkpoint_of, section_of, sections_of, AreRising, StandsAt, IsBehind, GoesOn, AreLoaded, IsBodyOf, IsBodyAt, IsUnloadable, ForRest, RefusesIn, seen_in}
+use Rattle.checkpoint_file.specs.Loads.{checkpoint_of, section_of, sections_of, StandsAt, IsBehind, GoesOn, AreLoaded, IsBodyOf, IsBodyAt, IsUnloadable, ForRest, RefusesIn, seen_in}
 use Rattle.checkpoint_file.proofs.LookLemmas.{same_seen}
 use Rattle.checkpoint_file.proofs.SectionReading.{come_to, sections_more}
 

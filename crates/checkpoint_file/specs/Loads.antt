@@ -1,17 +1,16 @@
 -- What reading the file of a checkpoint finds, part by part.
-use Rattle.std.specs.Prelude.{◌≡◌, ◌⊎◌, ℕ, ◌+◌, ◌-◌, ◌<◌, ◌^◌, List, [], ◌∷◌, ◌++◌, length, map, None, true, Some}
+use Rattle.std.specs.Prelude.{◌≡◌, ◌⊎◌, ℕ, ◌+◌, ◌-◌, ◌<◌, ◌^◌, List, [], ◌∷◌, ◌++◌, length, map, None, true, Some, get_or}
 use Rattle.std.specs.List.{AllByRecursion}
 use Rattle.std.specs.FinMap as finite
 use Rattle.std.specs.Ordering.{nat_cmp, is_lt}
 use Rattle.std.specs.Cmp.Lexicographic.{slice_cmp}
-use Rattle.std.specs.Prelude.{get_or}
 use Rattle.disk_model.specs.Files.{Files, now}
 use Rattle.map_types.specs.declared.texts.Value.{Value}
 use Rattle.map_types.specs.declared.refusals.Refusal.{Refusal}
 use Rattle.map_types.specs.declared.refusals.Refusal.TheVariants.{Failed, NoMemory, Damaged}
 use Rattle.log_records.specs.Layout.{first_layout}
-use Rattle.store_layout.specs.Checkpoints.{Section, Checkpoint, IsSection, AreSections, entry_bytes, entries_bytes, section_bytes, sections_bytes, is_sealed}
-use Rattle.store_layout.specs.Faults.{AreEntries, IsFault, HasFault, head_fault, IsBadCheckpoint}
+use Rattle.store_layout.specs.Checkpoints.{Section, Checkpoint, IsSection, AreSections, entry_bytes, entries_bytes, sections_bytes, is_sealed}
+use Rattle.store_layout.specs.Faults.{AreEntries, head_fault, IsBadCheckpoint}
 use Rattle.checkpoint_file.specs.declared.unread.Unread.{Unread}
 use Rattle.checkpoint_file.specs.declared.loading.LoadedSection.{LoadedSection}
 use Rattle.checkpoint_file.specs.declared.loading.LoadedCheckpoint.{LoadedCheckpoint}

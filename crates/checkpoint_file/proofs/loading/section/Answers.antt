@@ -1,8 +1,8 @@
-use Rattle.std.proofs.Common.{◌≡◌, ◌++◌, ◌+◌, ℕ, List, length, drop, refl, ap, sym, arith, ◌∙◌}
+use Rattle.std.proofs.Common.{◌++◌, ℕ, List, drop, refl}
 use Rattle.std.proofs.lemmas.Result.{err_from_is_err_and}
 use Rattle.byteorder.specs.Endian.{big_bytes}
 use Rattle.checkpoint_file.specs.declared.loading.LoadedSection.{LoadedSection}
-use Rattle.checkpoint_file.specs.Loads.{StandsAt, GoesOn, seen_in}
+use Rattle.checkpoint_file.specs.Loads.{seen_in}
 use Rattle.checkpoint_file.proofs.LookLemmas.{looks_on, same_seen}
 use Rattle.checkpoint_file.proofs.PlaceLemmas.{at_rest_of, refuses_more}
 use Rattle.checkpoint_file.proofs.SectionReading.{section_begins, section_whole, no_section, bad_section}

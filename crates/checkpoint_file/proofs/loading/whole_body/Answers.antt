@@ -1,4 +1,4 @@
-use Rattle.std.proofs.Common.{◌≡◌, ℕ, List, inr, refl, ap, ◌∙◌, arith}
+use Rattle.std.proofs.Common.{ℕ, inr, refl, ap, ◌∙◌, arith}
 use Rattle.map_types.specs.declared.refusals.Refusal.TheVariants.{Damaged}
 use Rattle.checkpoint_file.specs.Loads.{seen_in}
 use Rattle.checkpoint_file.proofs.WholeFiles.{fills, is_left_over}

@@ -1,6 +1,6 @@
-use Rattle.std.proofs.Common.{◌≡◌, ℕ, List, true, false, ap, arith}
+use Rattle.std.proofs.Common.{◌≡◌, List, true, false, ap, arith}
 use Rattle.checkpoint_file.specs.declared.loading.LoadedSection.{LoadedSection}
-use Rattle.checkpoint_file.proofs.WholeFiles.{mark_at, marks_more}
+use Rattle.checkpoint_file.proofs.WholeFiles.{mark_at}
 use Rattle.checkpoint_file.proofs.marks.are_marked_from.Goals as goal
 
 pub returns-then-section-low : goal.returns-then-section-low

@@ -1,4 +1,4 @@
-use Rattle.std.proofs.Common.{ℕ, List, arith}
+use Rattle.std.proofs.Common.{arith}
 use Rattle.log_records.specs.Agreement.{IsBytes}
 use Rattle.log_records.proofs.Agreeing.{only_memory}
 use Rattle.checkpoint_file.proofs.EntryReading.{entry_agrees}

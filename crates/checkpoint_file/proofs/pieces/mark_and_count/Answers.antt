@@ -1,4 +1,4 @@
-use Rattle.std.proofs.Common.{◌++◌, ◌-◌, ℕ, List, sym, ap, ap₂, ◌∙◌, arith, take, drop, length}
+use Rattle.std.proofs.Common.{◌++◌, ◌-◌, ℕ, List, sym, ap, ap₂, ◌∙◌, arith, drop, length}
 use Rattle.std.proofs.lemmas.List.{take-append-drop, take_all, length-drop}
 use Rattle.byteorder.specs.Endian.{big_bytes, big_number}
 use Rattle.log_records.specs.Agreement.{IsBytes}
