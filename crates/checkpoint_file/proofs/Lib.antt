@@ -6,3 +6,8 @@ mod AdvanceLemmas
 mod StagingLemmas
 mod LookLemmas
 mod TestLemmas
+mod HeadLemmas
+mod PlaceLemmas
+mod EntryReading
+mod SectionReading
+mod WholeFiles

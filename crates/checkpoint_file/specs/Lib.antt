@@ -1,3 +1,5 @@
 pub mod States
 pub mod Standing
 pub mod Advancing
+pub mod Heads
+pub mod Loads

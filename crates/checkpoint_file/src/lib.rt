@@ -3,14 +3,23 @@
 #![tactic(auto)]
 
 mod gate;
+mod head;
 mod laws;
+mod loading;
+#[cfg(test)]
+mod loading_tests;
+mod marks;
 mod phase;
+mod pieces;
 mod sections;
 #[cfg(test)]
 mod tests;
+mod unread;
 mod writer;
 
 pub use gate::must_close;
+pub use head::{Head, read_head};
 pub use laws::stops_of_a_checkpoint;
+pub use loading::{LoadedCheckpoint, LoadedSection, load};
 pub use phase::CheckpointPhase;
 pub use writer::CheckpointWriter;

@@ -2,7 +2,8 @@ ghost use Rattle.std.specs.Prelude.{◌≡◌, ◌<◌};
 ghost use Rattle.checkpoint_file.specs.States.{idle};
 ghost use Rattle.checkpoint_file.specs.Advancing.{MayAdvance};
 
-use crate::{CheckpointPhase, CheckpointWriter, must_close};
+use crate::loading_tests::{FOUND_TWO, loaded};
+use crate::{CheckpointPhase, CheckpointWriter, must_close, read_head};
 use disk_model::{Disk, Failure, Fill, MemDisk};
 use java_hash::{StripeCount, stripe_of};
 use map_types::{Key, Refusal, Value};
@@ -12,20 +13,20 @@ use std::test::Fail;
 use store_layout::checkpoint_file;
 
 // The checkpoint of generation 0 of an empty store with one stripe.
-const EMPTY: [u8; 48] = [
+pub(crate) const EMPTY: [u8; 48] = [
     0xA5, 1, 0, 0, 0, 0, 0, 0, 0, 0, 0, 0, 0, 0, 0, 0, 0, 0, 0, 0, 0, 0, 0, 0, 0, 0, 0, 1, 0, 0, 0,
     0, 0, 0, 0, 0x0C, 0, 0, 0, 0, 0, 0, 0, 0, 0, 0, 0, 0,
 ];
 
 // That of generation 1, low ticket 1, with one stripe: {a: 5, b: 6} at mark 2.
-const ONE_STRIPE: [u8; 70] = [
+pub(crate) const ONE_STRIPE: [u8; 70] = [
     0xA5, 1, 0, 0, 0, 0, 0, 0, 0, 1, 0, 0, 0, 0, 0, 0, 0, 1, 0, 0, 0, 0, 0, 0, 0, 2, 0, 1, 0, 0, 0,
     0, 0, 0, 0, 0x22, 0, 0, 0, 0, 0, 0, 0, 2, 0, 0, 0, 2, 1, 0x61, 1, 0, 0, 0, 0, 0, 0, 0, 5, 1,
     0x62, 1, 0, 0, 0, 0, 0, 0, 0, 6,
 ];
 
 // That of generation 1, low ticket 0, with two stripes: {b: 2} at mark 2, and {a: 4} at mark 4.
-const TWO_STRIPES: [u8; 82] = [
+pub(crate) const TWO_STRIPES: [u8; 82] = [
     0xA5, 1, 0, 0, 0, 0, 0, 0, 0, 1, 0, 0, 0, 0, 0, 0, 0, 0, 0, 0, 0, 0, 0, 0, 0, 4, 0, 2, 0, 0, 0,
     0, 0, 0, 0, 0x2E, 0, 0, 0, 0, 0, 0, 0, 2, 0, 0, 0, 1, 1, 0x62, 1, 0, 0, 0, 0, 0, 0, 0, 2, 0, 0,
     0, 0, 0, 0, 0, 4, 0, 0, 0, 1, 1, 0x61, 1, 0, 0, 0, 0, 0, 0, 0, 4,
@@ -230,7 +231,17 @@ fn two_stripes(rt: HostRuntime) -> Result<(), Fail> {
         TWO_STRIPES.as_slice()
     );
     assert_eq!(rt; writer.greatest_mark(), 4);
+    assert_eq!(rt; stripes_read(&mut disk, 1), Ok(2));
+    assert_eq!(rt; stripes_read(&mut disk, 0), Ok(0));
+    assert_eq!(rt; loaded(alloc, &mut disk, 1)?.as_slice(), FOUND_TWO);
     Ok(())
+}
+
+// How many stripes the sealed checkpoint of the file has; none where none is sealed.
+fn stripes_read(disk: &mut MemDisk, file: usize) -> Result<u16, Refusal>
+    requires { file < 2 }
+{
+    Ok(read_head(disk, file)?.map_or(0, |head| head.stripes))
 }
 
 #[test]

@@ -1,0 +1,177 @@
+-- Entries of a section, and sections of a body, one after another.
+use Rattle.std.proofs.Common.{◌≡◌, ◌<◌, ◌^◌, ℕ, ◌+◌, List, [], ◌∷◌, ◌++◌, length, refl, sym, ap, subst, ◌∙◌, append_assoc, arith}
+use Rattle.std.proofs.lemmas.List.{length-append, map-append, length-map}
+use Rattle.std.specs.List.{AllByRecursion}
+use Rattle.std.specs.List.Sorted.{IsStrictlySortedBy}
+use Rattle.std.specs.FinMap as finite
+use Rattle.byteorder.specs.Endian.{big_bytes}
+use Rattle.byteorder.specs.Numbers.{length-bytes_high_first}
+use Rattle.map_types.specs.declared.texts.Value.{Value}
+use Rattle.map_model.proofs.EntryLaws.{entries-map_of}
+use Rattle.log_records.specs.Layout.{first_layout}
+use Rattle.store_layout.specs.Checkpoints.{Section, IsEntryOf, IsSection, AreSections, entry_bytes, entries_bytes, marked_bytes, section_bytes, sections_bytes}
+use Rattle.store_layout.specs.Faults.{AreEntries, IsFault, HasFault, no_head, bad_entry}
+use Rattle.store_layout.proofs.CheckpointLemmas.{are_push, entries_push, sections_push}
+use Rattle.checkpoint_file.specs.declared.loading.LoadedSection.{LoadedSection}
+use Rattle.checkpoint_file.specs.declared.unread.Unread.{Unread}
+use Rattle.checkpoint_file.specs.Loads.{section_of, sections_of, IsRising, AreRising, StandsAt, IsBehind, GoesOn, HasNoNext, IsNext, HasFewer, AreSoMany, IsLoaded, AreLoaded}
+use Rattle.checkpoint_file.proofs.PlaceLemmas.{goes_first, goes_further}
+
+abbrev Entry : Type 0
+Entry = List ℕ × Value
+
+-- how far the reading has come
+pub come_to : (content bytes rest : List ℕ) (old new : Unread) → IsBehind old new → length rest ≡ old.left → GoesOn content bytes rest new → new.at ≡ old.at + length bytes
+come_to content bytes rest old new behind size g =
+    let same_end = behind.end in
+    let whole : length rest ≡ length bytes + length g.left = ap (λ (l : List ℕ). length l) g.spelled ∙ length-append bytes g.left in
+    let few = g.size in
+    omega (arith, same_end, whole, few, size)
+
+-- ---- entries
+
+module _ (stripes stripe : ℕ) where
+  pub no_entries : (es : List Entry) → es ≡ [] → (content rest : List ℕ) (unread : Unread) → StandsAt content unread.at rest → length rest ≡ unread.left
+      → AreEntries first_layout stripes stripe es × GoesOn content (entries_bytes first_layout es) rest unread
+  unfolding IsStrictlySortedBy
+  no_entries es is content rest unread stands size =
+      subst (λ (l : List Entry). AreEntries first_layout stripes stripe l × GoesOn content (entries_bytes first_layout l) rest unread) (sym is)
+      (record { each = tt; rising = tt }, record { left = rest; spelled = refl; stands = stands; size = size })
+
+  pub entries_step : (es : List Entry) (e : Entry) (used : ℕ) (content rest : List ℕ) (old new : Unread) → AreEntries first_layout stripes stripe es
+      → (g : GoesOn content (entries_bytes first_layout es) rest old) → IsNext stripes stripe es e used g.left → new.at ≡ old.at + used → new.left + used ≡ old.left
+      → (all : List Entry) → all ≡ es ++ e ∷ [] → AreEntries first_layout stripes stripe all × GoesOn content (entries_bytes first_layout all) rest new
+  entries_step es e used content rest old new are g next place fewer all is =
+      let bytes = entry_bytes first_layout e in
+      let size = next.size in
+      let further = goes_further content content (entries_bytes first_layout es) bytes rest old new refl g
+      (goes_first content g.left bytes next.others old new g.stands g.size next.spelled (omega (arith, place, size)) (omega (arith, fewer, size))) in
+      subst (λ (l : List Entry). AreEntries first_layout stripes stripe l × GoesOn content (entries_bytes first_layout l) rest new) (sym is)
+      (next.are are, subst (λ (l : List ℕ). GoesOn content l rest new) (sym (entries_push first_layout es e)) further)
+
+  pub fewer_entries : (count offset : ℕ) (es : List Entry) (content rest : List ℕ) (old new : Unread) → IsBehind old new → length rest ≡ old.left
+      → AreEntries first_layout stripes stripe es → (g : GoesOn content (entries_bytes first_layout es) rest new) → length es < count → (offset ≡ new.at) × HasNoNext stripes stripe es g.left
+      → (distance : ℕ) × (offset ≡ old.at + distance) × HasFewer stripes stripe count rest distance
+  fewer_entries count offset es content rest old new behind size are g few why = (
+    length (entries_bytes first_layout es),
+    why.0 ∙ come_to content (entries_bytes first_layout es) rest old new behind size g,
+    record { before = es; are = are; others = g.left; spelled = g.spelled; fewer = few; none_next = why.1; place = refl },
+  )
+
+  -- ---- a section
+
+  pub section_begins : (mark count : ℕ) (content rest others : List ℕ) (old new : Unread) → StandsAt content old.at rest → length rest ≡ old.left
+      → rest ≡ (big_bytes 8 mark ++ big_bytes 4 count) ++ others → new.at ≡ old.at + 12 → new.left + 12 ≡ old.left → GoesOn content (big_bytes 8 mark ++ big_bytes 4 count) rest new
+  section_begins mark count content rest others old new stands size spelled place fewer =
+      let long : length (big_bytes 8 mark ++ big_bytes 4 count) ≡ 12 =
+      omega (arith, length-append (big_bytes 8 mark) (big_bytes 4 count), length-bytes_high_first 8 mark, length-bytes_high_first 4 count) in
+      goes_first content rest (big_bytes 8 mark ++ big_bytes 4 count) others old new stands size spelled (omega (arith, place, long)) (omega (arith, fewer, long))
+
+  pub section_whole : (read : LoadedSection) (count : ℕ) (content there rest : List ℕ) (old new : Unread) → there ≡ content → read.mark < 2 ^ 64 → count < 2 ^ 32
+      → (g : GoesOn content (big_bytes 8 read.mark ++ big_bytes 4 count) rest old)
+      → AreSoMany stripes stripe count read.entries.items × GoesOn there (entries_bytes first_layout read.entries.items) g.left new
+      → IsLoaded stripes stripe read × GoesOn content (section_bytes first_layout (section_of read)) rest new
+  unfolding marked_bytes
+  section_whole read count content there rest old new same mark_fits count_fits g found =
+      let es : List Entry = read.entries.items in
+      let rising : finite.entries (section_of read).map ≡ es = entries-map_of es found.0.are.rising in
+      let many = found.0.so_many in
+      let head = big_bytes 8 read.mark ++ big_bytes 4 count in
+      let further = goes_further content there head (entries_bytes first_layout es) rest old new same g found.1 in
+      let bytes : head ++ entries_bytes first_layout es ≡ section_bytes first_layout (section_of read) =
+      append_assoc (big_bytes 8 read.mark) (big_bytes 4 count) (entries_bytes first_layout es)
+      ∙ ap (λ (n : ℕ). big_bytes 8 read.mark ++ (big_bytes 4 n ++ entries_bytes first_layout es)) (sym many)
+      ∙ ap (λ (l : List Entry). marked_bytes first_layout read.mark l) (sym rising) in (
+        record {
+          fits = record {
+            mark_fits = mark_fits;
+            count_fits = subst (λ (l : List Entry). length l < 2 ^ 32) (sym rising) (omega (arith, many, count_fits));
+            entries = subst (λ (l : List Entry). AllByRecursion (IsEntryOf first_layout stripes stripe) l) (sym rising) found.0.are.each;
+          };
+          rising = rising;
+        },
+        subst (λ (l : List ℕ). GoesOn content l rest new) bytes further,
+      )
+
+  -- a section whose mark and count don't fit
+  pub no_section : stripe < stripes → (offset place : ℕ) (rest : List ℕ) → (offset ≡ place) × (length rest < 12) → (distance : ℕ) × (offset ≡ place + distance) × IsFault first_layout stripes stripe rest distance
+  no_section below offset place rest why = (0, (let here = why.0 in omega (arith, here)), no_head below why.1 refl)
+
+  -- one with an entry that may not be there
+  pub bad_section : stripe < stripes → (mark count offset place next : ℕ) (rest others : List ℕ) → mark < 2 ^ 64 → count < 2 ^ 32 → rest ≡ (big_bytes 8 mark ++ big_bytes 4 count) ++ others → next ≡ place + 12
+      → (distance : ℕ) × (offset ≡ next + distance) × HasFewer stripes stripe count others distance → (distance : ℕ) × (offset ≡ place + distance) × IsFault first_layout stripes stripe rest distance
+  bad_section below mark count offset place next rest others mark_fits count_fits spelled next_is why =
+      let few = why.2 in
+      let here = why.1 in (
+        12 + why.0,
+        omega (arith, here, next_is),
+        bad_entry below (record {
+          mark = mark;
+          count = count;
+          mark_fits = mark_fits;
+          count_fits = count_fits;
+          before = few.before;
+          are = few.are;
+          rest = few.others;
+          spelled = spelled ∙ append_assoc (big_bytes 8 mark) (big_bytes 4 count) others ∙ ap (λ (l : List ℕ). big_bytes 8 mark ++ (big_bytes 4 count ++ l)) few.spelled;
+          fewer = few.fewer;
+          none_next = few.none_next;
+          place = ap (λ (n : ℕ). 12 + n) few.place;
+        }),
+      )
+
+-- ---- sections
+
+pub sections_more : (reads : List LoadedSection) (read : LoadedSection) → sections_of (reads ++ read ∷ []) ≡ sections_of reads ++ section_of read ∷ []
+sections_more reads read = map-append (λ (r : LoadedSection). section_of r) reads (read ∷ [])
+
+rising_push : (reads : List LoadedSection) (read : LoadedSection) → AreRising reads → IsRising read → AreRising (reads ++ read ∷ [])
+rising_push [] read all one = (one, tt)
+rising_push (x ∷ reads) read all one = (all.0, rising_push reads read all.1 one)
+
+module _ (stripes : ℕ) where
+  pub no_sections : (reads : List LoadedSection) → reads ≡ [] → (content rest : List ℕ) (unread : Unread) → StandsAt content unread.at rest → length rest ≡ unread.left
+      → AreLoaded stripes reads × GoesOn content (sections_bytes first_layout (sections_of reads)) rest unread
+  no_sections reads is content rest unread stands size =
+      subst (λ (l : List LoadedSection). AreLoaded stripes l × GoesOn content (sections_bytes first_layout (sections_of l)) rest unread) (sym is)
+      (record { fit = tt; rising = tt }, record { left = rest; spelled = refl; stands = stands; size = size })
+
+  pub sections_step : (reads : List LoadedSection) (read : LoadedSection) (number : ℕ) (content there rest : List ℕ) (old new : Unread) → number ≡ length reads → there ≡ content
+      → AreLoaded stripes reads → (g : GoesOn content (sections_bytes first_layout (sections_of reads)) rest old)
+      → IsLoaded stripes number read × GoesOn there (section_bytes first_layout (section_of read)) g.left new
+      → (all : List LoadedSection) → all ≡ reads ++ read ∷ [] → AreLoaded stripes all × GoesOn content (sections_bytes first_layout (sections_of all)) rest new
+  sections_step reads read number content there rest old new count same are g next all is =
+      let further = goes_further content there (sections_bytes first_layout (sections_of reads)) (section_bytes first_layout (section_of read)) rest old new same g next.1 in
+      let place : number ≡ 0 + length (sections_of reads) = omega (arith, count, length-map reads (λ (r : LoadedSection). section_of r)) in
+      let fit = are_push first_layout stripes 0 (sections_of reads) (section_of read) are.fit (subst (λ n. IsSection first_layout stripes n (section_of read)) place next.0.fits) in
+      let bytes = sections_push first_layout (sections_of reads) (section_of read) in
+      subst (λ (l : List LoadedSection). AreLoaded stripes l × GoesOn content (sections_bytes first_layout (sections_of l)) rest new) (sym is) (
+        record {
+          fit = subst (λ (l : List Section). AreSections first_layout stripes 0 l) (sym (sections_more reads read)) fit;
+          rising = rising_push reads read are.rising next.0.rising;
+        },
+        subst (λ (l : List ℕ). GoesOn content l rest new) (sym (ap (sections_bytes first_layout) (sections_more reads read) ∙ bytes)) further,
+      )
+
+  -- behind these sections the next one has a fault
+  pub sections_fault : (reads : List LoadedSection) (number offset : ℕ) (content rest : List ℕ) (old new : Unread) → number ≡ length reads → IsBehind old new → length rest ≡ old.left
+      → AreLoaded stripes reads → (g : GoesOn content (sections_bytes first_layout (sections_of reads)) rest new)
+      → (distance : ℕ) × (offset ≡ new.at + distance) × IsFault first_layout stripes number g.left distance
+      → (distance : ℕ) × (offset ≡ old.at + distance) × HasFault first_layout stripes rest distance
+  sections_fault reads number offset content rest old new count behind size are g why =
+      let sections = sections_of reads in
+      let here = come_to content (sections_bytes first_layout sections) rest old new behind size g in
+      let there = why.1 in
+      let place : number ≡ length sections = omega (arith, count, length-map reads (λ (r : LoadedSection). section_of r)) in (
+        length (sections_bytes first_layout sections) + why.0,
+        omega (arith, here, there),
+        record {
+          before = sections;
+          are = are.fit;
+          rest = g.left;
+          spelled = g.spelled;
+          distance = why.0;
+          fault = subst (λ n. IsFault first_layout stripes n g.left why.0) place why.2;
+          place = refl;
+        },
+      )

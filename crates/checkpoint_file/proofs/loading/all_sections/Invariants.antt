@@ -1,0 +1,16 @@
+use Rattle.std.proofs.Common.{◌≡◌, length}
+use Rattle.log_records.specs.Layout.{first_layout}
+use Rattle.disk_model.specs.Calls.{Looks}
+use Rattle.store_layout.specs.Checkpoints.{sections_bytes}
+use Rattle.checkpoint_file.specs.Loads.{sections_of, seen_in, ForRest, IsBehind, GoesOn, AreLoaded}
+use Rattle.checkpoint_file.proofs.loading.all_sections.Given as goal
+
+-- the sections of so many stripes were read with looks alone, and the rest stands behind them
+abbrev pub invariant-loop-number : goal.invariant-loop-number
+invariant-loop-number g l = record {
+  looks : Looks g.D.Disk.states g.D.Disk.failures g.D.Disk.honest 0 l.fn.disk l.disk;
+  behind : IsBehind l.fn.unread l.rest;
+  so_many : l.number ≡ length l.sections.items;
+  read : g.D.Disk.honest l.disk → ForRest g.D.Disk.states l.fn.disk l.fn.unread (λ rest. AreLoaded l.stripes.count l.sections.items
+      × GoesOn (seen_in g.D.Disk.states l.fn.disk l.fn.unread.file) (sections_bytes first_layout (sections_of l.sections.items)) rest l.rest);
+}

@@ -1,0 +1,46 @@
+use Rattle.std.proofs.Common.{ℕ, List, refl, sym, subst}
+use Rattle.std.proofs.lemmas.Result.{err_from_is_err_and}
+use Rattle.log_records.specs.Layout.{first_layout}
+use Rattle.store_layout.specs.Checkpoints.{IsCheckpoint}
+use Rattle.checkpoint_file.specs.Heads.{IsHead}
+use Rattle.checkpoint_file.specs.Loads.{checkpoint_of, seen_in}
+use Rattle.checkpoint_file.proofs.LookLemmas.{looks_on, same_seen}
+use Rattle.checkpoint_file.proofs.WholeFiles.{file_refused}
+use Rattle.checkpoint_file.proofs.loading.load.Goals as goal
+
+pub returns-in_err-load_body-in-Some-clause-looks : goal.returns-in_err-load_body-in-Some-clause-looks
+returns-in_err-load_body-in-Some-clause-looks g c =
+    let q = err_from_is_err_and c.from_residual-in_err-load_body-in-Some.result c.from_residual-in_err-load_body-in-Some.ensures.1 in
+    rw (q.1, q.2)
+    (looks_on g.D.Disk.states g.D.Disk.failures g.D.Disk.honest _ c.args.disk.now c.read_head.new.disk c.load_body.new.disk c.in_ok-head.ensures.looks c.in_err-load_body-in-Some.ensures.looks)
+
+pub returns-in_err-load_body-in-Some-clause-err : goal.returns-in_err-load_body-in-Some-clause-err
+returns-in_err-load_body-in-Some-clause-err g c =
+    let q = err_from_is_err_and c.from_residual-in_err-load_body-in-Some.result c.from_residual-in_err-load_body-in-Some.ensures.1 in
+    let file = c.args.file in
+    let content : List ℕ = seen_in g.D.Disk.states c.args.disk.now file in
+    let same = same_seen g.D.Disk.states g.D.Disk.failures g.D.Disk.honest c.args.disk.now c.read_head.new.disk file file refl c.in_ok-head.ensures.looks in
+    rw (q.1, q.2)
+    (file_refused content _ file c.in-Some.head _ _ same
+    (λ honest. rw c.in-Some.is at (c.in_ok-head.ensures.some (c.in_err-load_body-in-Some.ensures.looks.was_honest honest)))
+    c.in_err-load_body-in-Some.ensures.err)
+
+pub returns-in_ok-load_body-in-Some-clause-looks : goal.returns-in_ok-load_body-in-Some-clause-looks
+returns-in_ok-load_body-in-Some-clause-looks g c =
+    looks_on g.D.Disk.states g.D.Disk.failures g.D.Disk.honest 0 c.args.disk.now c.read_head.new.disk c.load_body.new.disk c.in_ok-head.ensures.looks c.in_ok-load_body-in-Some.ensures.looks
+
+pub returns-in_ok-load_body-in-Some-clause-some : goal.returns-in_ok-load_body-in-Some-clause-some
+returns-in_ok-load_body-in-Some-clause-some g c = λ honest.
+    let file = c.args.file in
+    let same = same_seen g.D.Disk.states g.D.Disk.failures g.D.Disk.honest c.args.disk.now c.read_head.new.disk file file refl c.in_ok-head.ensures.looks in
+    let is = rw c.in-Some.is at (c.in_ok-head.ensures.some (c.in_ok-load_body-in-Some.ensures.looks.was_honest honest)) in
+    let found = c.in_ok-load_body-in-Some.ensures.ok honest (subst (λ (content : List ℕ). IsHead c.in-Some.head file content) (sym same) is) in
+    subst (λ (content : List ℕ). IsCheckpoint first_layout (checkpoint_of c.in_ok-load_body-in-Some.field-0) content) same found.0
+
+pub returns-in_ok-load_body-in-Some-clause-rising : goal.returns-in_ok-load_body-in-Some-clause-rising
+returns-in_ok-load_body-in-Some-clause-rising g c = λ honest.
+    let file = c.args.file in
+    let same = same_seen g.D.Disk.states g.D.Disk.failures g.D.Disk.honest c.args.disk.now c.read_head.new.disk file file refl c.in_ok-head.ensures.looks in
+    let is = rw c.in-Some.is at (c.in_ok-head.ensures.some (c.in_ok-load_body-in-Some.ensures.looks.was_honest honest)) in
+    let found = c.in_ok-load_body-in-Some.ensures.ok honest (subst (λ (content : List ℕ). IsHead c.in-Some.head file content) (sym same) is) in
+    found.1

@@ -1,0 +1,64 @@
+//! The head of a checkpoint's file.
+ghost use Rattle.std.specs.Prelude.{◌≡◌, ◌⊎◌, ◌<◌, Some, false, IfOk, IfErr, OnOk, IfSome, IfNone};
+ghost use Rattle.disk_model.specs.Calls.{Looks};
+ghost use Rattle.disk_model.specs.Files.{now};
+ghost use Rattle.store_layout.specs.Checkpoints.{is_sealed};
+ghost use Rattle.store_layout.specs.Faults.{head_fault};
+ghost use Rattle.checkpoint_file.specs.Heads.{HasFields, IsHead, failed_in};
+
+use byteorder::{BigEndian, ByteOrder};
+use disk_model::Disk;
+use map_types::Refusal;
+use store_layout::{BODY_OFFSET, OPEN_GATE, VERSION};
+
+/// What the header of a sealed checkpoint says.
+#[derive(Clone, Copy, Debug, PartialEq, Eq)]
+pub struct Head {
+    pub generation: u64,
+    pub low: u64,
+    pub greatest_mark: u64,
+    /// How many stripes it has, which may be no number that is allowed.
+    pub stripes: u16,
+    /// How many bytes its sections take, which may reach past the file.
+    pub body_len: u64,
+}
+
+/// The fields in the gate and the header.
+fn fields_of(bytes: &[u8; BODY_OFFSET]) -> Head
+    ensures { HasFields result bytes.now }
+{
+    Head {
+        generation: BigEndian::read_u64(&bytes[2..]),
+        low: BigEndian::read_u64(&bytes[10..]),
+        greatest_mark: BigEndian::read_u64(&bytes[18..]),
+        stripes: BigEndian::read_u16(&bytes[26..]),
+        body_len: BigEndian::read_u64(&bytes[28..]),
+    }
+}
+
+/// Reads the head of the file; `None` where no checkpoint is sealed there.
+pub fn read_head<D: Disk>(disk: &mut D, file: usize) -> Result<Option<Head>, Refusal>
+    requires { file < 2 }
+    ensures looks { Looks D.states D.failures D.honest (failed_in result) disk.old disk.new }
+    ensures some { D.honest disk.new → IfOk result (λ found. IfSome found (λ head. IsHead head file (now (D.states disk.old) file).seen)) }
+    ensures none { D.honest disk.new → IfOk result (λ found. IfNone found (is_sealed (now (D.states disk.old) file).seen ≡ false)) }
+    ensures err { IfErr result (λ refusal. (refusal ≡ Refusal.Failed) ⊎ (D.honest disk.new → head_fault file (now (D.states disk.old) file).seen ≡ Some refusal)) }
+{
+    let mut bytes = [0; BODY_OFFSET];
+    let count = match disk.read(file, 0, &mut bytes) {
+        Ok(count) => count,
+        Err(_) => return Err(Refusal::Failed),
+    };
+    if count < BODY_OFFSET || bytes[0] != OPEN_GATE {
+        return Ok(None);
+    }
+    if bytes[1] != VERSION {
+        return Err(Refusal::WrongVersion);
+    }
+    let head = fields_of(&bytes);
+    if head.generation % 2 != file as u64 {
+        let file = file as u8;
+        return Err(Refusal::Damaged { file, offset: 2 });
+    }
+    Ok(Some(head))
+}

@@ -1,0 +1,74 @@
+//! The pieces of a section, out of bytes.
+ghost use Rattle.std.specs.Prelude.{◌≡◌, ◌≢◌, ◌↔◌, ◌<◌, ◌^◌, ◌++◌, ℕ, List, length, IfOk, IfErr, IfSome, IfNone, IsTrue};
+ghost use Rattle.byteorder.specs.Endian.{big_bytes};
+ghost use Rattle.log_records.specs.Layout.{first_layout};
+ghost use Rattle.log_records.specs.Reading.{Gives, both_at, key_at, some_value_at};
+ghost use Rattle.log_records.specs.Spelling.{IsText, IsValue};
+ghost use Rattle.map_types.specs.declared.texts.Value.{Value};
+ghost use Rattle.store_layout.specs.Checkpoints.{entry_bytes};
+ghost use Rattle.java_hash.specs.Stripes.{stripe_of};
+ghost use Rattle.checkpoint_file.specs.Loads.{IsAbove};
+
+use byteorder::{BigEndian, ByteOrder};
+use java_hash::{StripeCount, stripe_of};
+use log_records::{key_at, some_value_at};
+use map_types::{Key, Refusal, Value};
+use std::alloc::Global;
+
+/// A stripe by its number, of so many.
+#[derive(Clone, Copy)]
+pub(crate) struct Stripe {
+    pub number: usize,
+    pub of: StripeCount,
+}
+
+/// The mark and the count at the front of a section.
+pub(crate) fn mark_and_count(head: &[u8]) -> (u64, usize)
+    requires { length head.now ≡ 12 }
+    ensures spelled { head.now ≡ big_bytes 8 result.0 ++ big_bytes 4 result.1 }
+    ensures fits { (result.0 < 2 ^ 64) × (result.1 < 2 ^ 32) }
+{
+    let mark = BigEndian::read_u64(head);
+    let count = BigEndian::read_u32(&head[8..]);
+    (mark, count as usize)
+}
+
+// The key and the value at the front.
+fn key_and_value(alloc: Global, bytes: &[u8]) -> Result<((Key, Value), &[u8]), Refusal>
+    ensures { Gives (λ x. (x.0, x.1.now)) result (both_at (key_at first_layout) some_value_at bytes.now) }
+{
+    let (key, rest) = key_at(alloc, bytes)?;
+    let (value, rest) = some_value_at(alloc, rest)?;
+    Ok(((key, value), rest))
+}
+
+/// The entry at the front and the bytes behind it; `None` where no entry stands there.
+pub(crate) fn entry_at(
+    alloc: Global,
+    bytes: &[u8],
+) -> Result<Option<((Key, Value), &[u8])>, Refusal>
+    ensures some { IfOk result (λ found. IfSome found (λ x. IsText 255 x.0.0 × IsValue x.0.1 × (bytes.now ≡ entry_bytes first_layout x.0 ++ x.1.now))) }
+    ensures none { IfOk result (λ found. IfNone found ((entry : List ℕ × Value) (rest : List ℕ) → IsText 255 entry.0 → IsValue entry.1 → bytes.now ≢ entry_bytes first_layout entry ++ rest)) }
+    ensures err { IfErr result (λ refusal. refusal ≡ Refusal.NoMemory) }
+{
+    match key_and_value(alloc, bytes) {
+        Ok(found) => Ok(Some(found)),
+        Err(refusal) => match refusal {
+            Refusal::NoMemory => Err(refusal),
+            _ => Ok(None),
+        },
+    }
+}
+
+/// Whether the key belongs to the stripe and is above that of the last entry.
+pub(crate) fn may_follow(entries: &[(Key, Value)], key: &Key, stripe: Stripe) -> bool
+    ensures { IsTrue result ↔ ((stripe_of stripe.of.count key.now ≡ stripe.number) × IsAbove entries.now key.now) }
+{
+    if stripe_of(key.as_str(), stripe.of) != stripe.number {
+        return false;
+    }
+    match entries.last() {
+        None => true,
+        Some((last, _)) => last < key,
+    }
+}

@@ -1,0 +1,39 @@
+//! The part of a checkpoint's body that isn't read yet.
+ghost use Rattle.std.specs.Prelude.{◌≡◌, ◌+◌, ◌≤◌, ◌<◌, ◌^◌};
+ghost use Rattle.checkpoint_file.specs.Loads.{IsBehind};
+
+use map_types::Refusal;
+
+/// So many bytes from an offset of the file on.
+#[derive(Clone, Copy)]
+pub(crate) struct Unread {
+    pub file: u8,
+    pub at: usize,
+    pub left: usize,
+}
+
+impl Unread {
+    /// What is behind the first bytes of it.
+    pub(crate) fn behind(self, count: usize) -> Unread
+        requires few { count ≤ self.left }
+        requires room { self.at + self.left < 2 ^ 64 }
+        ensures place { result.at ≡ self.at + count }
+        ensures left { result.left + count ≡ self.left }
+        ensures same { IsBehind self result }
+    {
+        Unread {
+            file: self.file,
+            at: self.at + count,
+            left: self.left - count,
+        }
+    }
+
+    pub(crate) fn damaged(self) -> Refusal
+        ensures { result ≡ Refusal.Damaged self.file self.at }
+    {
+        Refusal::Damaged {
+            file: self.file,
+            offset: self.at as u64,
+        }
+    }
+}
