@@ -1,5 +1,5 @@
 //! Four files in memory, with failures by plan and stops by choice.
-ghost use Rattle.std.specs.Prelude.{◌≡◌, ℕ, ◌+◌, ◌-◌, ◌<◌, ◌≤◌, ◌⊎◌, true, false, IsTrue, List, [], ◌∷◌, length, min, take, drop, slice_index_or, Option, IfSome, IfOk, OnOk, OnErr, is_ok};
+ghost use Rattle.std.specs.Prelude.{◌≡◌, ℕ, ◌+◌, ◌-◌, ◌<◌, ◌≤◌, ◌⊎◌, true, false, IsTrue, List, [], ◌∷◌, length, min, take, drop, slice_index_or, Option, IfSome, IfNone, IfOk, OnOk, OnErr, is_ok};
 ghost use Rattle.disk_model.specs.Files.{File, Files, now, written, synced, with_file, empty_files, IsTorn, Leaves, AreCoherent, AllCoherent, AllCoherent-prop};
 ghost use Rattle.disk_model.specs.Fills.{torn, left_by, after_stop};
 ghost use Rattle.disk_model.specs.Kept.{AreKept};
@@ -152,7 +152,7 @@ impl MemDisk {
 }
 
 impl Disk for MemDisk {
-    ghost use Rattle.disk_model.specs.Memory.{memory_states, memory_failures, planned_of, is_short, IsByPlan};
+    ghost use Rattle.disk_model.specs.Memory.{memory_states, memory_failures, planned_of, is_short, IsByPlan, LosesWrite};
 
     ghost states = { memory_states };
 
@@ -194,8 +194,9 @@ impl Disk for MemDisk {
         ensures torn { OnErr result ((left : File)
             × (at ≤ length (now (memory_states self.old) file).seen → IsTorn at (length bytes.now) (now (memory_states self.old) file) left)
             × (memory_states self.new ≡ with_file file left (now (memory_states self.old)) ∷ memory_states self.old)) }
-        ensures failed { IfSome (due_of (planned_of self.old)) (λ fill. (is_short self.new ≡ true) ⊎ (memory_states self.new
-            ≡ with_file file (torn fill file at bytes.now (now (memory_states self.old) file)) (now (memory_states self.old)) ∷ memory_states self.old)) }
+        ensures failed { IfSome (due_of (planned_of self.old)) (λ fill. LosesWrite file at (length bytes.now) self.old self.new ⊎ ((is_short self.new ≡ is_short self.old) × (memory_states self.new
+            ≡ with_file file (torn fill file at bytes.now (now (memory_states self.old) file)) (now (memory_states self.old)) ∷ memory_states self.old))) }
+        ensures lost { IfNone (due_of (planned_of self.old)) (OnErr result (LosesWrite file at (length bytes.now) self.old self.new)) }
         ensures plan { IsByPlan self.old self.new (is_ok result) }
         ensures ok { OnOk result (memory_failures self.new ≡ memory_failures self.old) }
         ensures err { OnErr result (memory_failures self.new ≡ memory_failures self.old + 1) }

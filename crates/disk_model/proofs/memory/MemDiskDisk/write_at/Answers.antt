@@ -1,4 +1,4 @@
-use Rattle.std.proofs.Common.{◌≡◌, ◌≤◌, ◌∷◌, ⊎_elim, length}
+use Rattle.std.proofs.Common.{◌≡◌, ◌≤◌, ◌∷◌, ⊎_elim, inl, inr, length}
 use Rattle.disk_model.specs.Files.{File, now, reached, with_file, IsTorn}
 use Rattle.disk_model.specs.Fills.{torn}
 use Rattle.disk_model.specs.Memory.{memory_states}
@@ -15,3 +15,7 @@ returns-in-Some-clause-torn c =
     (λ lost. (reached c.args.at size file.seen file, (λ inside. lost_is_torn c.args.at size file), lost.state))
     (λ made. (torn c.in-Some.fill c.args.file c.args.at c.args.bytes.now file, torn_is_torn c.in-Some.fill c.args.file c.args.at c.args.bytes.now file, made.1))
     c.tear.ensures.torn
+
+pub returns-in-Some-clause-failed : goal.returns-in-Some-clause-failed
+returns-in-Some-clause-failed c =
+    rw (← c.in-Some.ensures.due) (⊎_elim (λ lost. inl (record { short = lost.short; state = lost.state })) (λ made. inr (made.0, made.1)) c.tear.ensures.torn)
