@@ -1,5 +1,5 @@
 -- What holds of a keeper once a batch is staged or put back, and after each step of its log.
-use Rattle.std.proofs.Common.{◌≡◌, ◌≢◌, ◌⊎◌, inl, inr, ℕ, ◌+◌, ◌<◌, ◌≤◌, ◌^◌, List, [], ◌∷◌, ◌++◌, length, drop, map, replicate, Option, Some, None, Bool, true, false, Result, Ok, Err, OnOk, OnErr, append-nil, refl, sym, ◌∙◌, ap, subst, arith}
+use Rattle.std.proofs.Common.{◌≡◌, ◌≢◌, ◌⊎◌, inl, inr, ℕ, ◌+◌, ◌<◌, ◌≤◌, ◌^◌, List, [], ◌∷◌, ◌++◌, length, drop, replicate, Option, Some, None, Bool, true, false, Result, Ok, Err, OnOk, OnErr, append-nil, refl, sym, ◌∙◌, ap, subst, arith}
 use Rattle.std.proofs.lemmas.List.{length-append, append_assoc, length-map}
 use Rattle.disk_model.specs.Files.{File, Files, MayLeave, now}
 use Rattle.disk_model.specs.Moments.{AtEachMoment}
@@ -21,7 +21,7 @@ use Rattle.flusher.specs.Hands.{Hand, IsRun, SameEntries}
 use Rattle.flusher.specs.Gathering.{Accounts, Gathers}
 use Rattle.flusher.specs.Sweeping.{Stands}
 use Rattle.flusher.specs.Keeping.{Stages, IsPast, passed}
-use Rattle.flusher.specs.Fitting.{Fits, Counts, Tells, Stores, HasBatches, StopsHave, KeepsCommands, IsEmptyIn, IsQuiet, batches_of, done_after}
+use Rattle.flusher.specs.Fitting.{Fits, HasBatches, StopsHave, KeepsCommands, IsEmptyIn, batches_of, done_after}
 use Rattle.flusher.proofs.Staging.{accounts_staged, commands_there}
 use Rattle.flusher.proofs.Entries.{length-entries}
 use Rattle.flusher.proofs.Passing.{accounts_same, accounts_passed}
@@ -61,7 +61,7 @@ fits_staged {D} states honest n before done old new p commands f same works rest
     record {
       keeper = k.keeper;
       accounts = subst (λ h. Accounts h (done ++ commands_of new.staged.items) q.opening.first q.taken q.seen) (sym st.hand_is)
-      (subst (λ z. Accounts (record old.sweeper.in_hand { slots = replicate (length commands) None ++ drop (length commands) old.sweeper.in_hand.slots }) (done ++ z) q.opening.first q.taken q.seen) (sym theirs) staged);
+          (subst (λ z. Accounts (record old.sweeper.in_hand { slots = replicate (length commands) None ++ drop (length commands) old.sweeper.in_hand.slots }) (done ++ z) q.opening.first q.taken q.seen) (sym theirs) staged);
     }
     ) in
     let works_on : new.is_broken ≡ false → honest new.disk → HasBatches new.log (before ++ done) new.staged.items (now (states new.disk) (log_file new.log.generation)) =
@@ -145,12 +145,12 @@ goes_on {D} states honest n before done old new p phase f g empty s w =
       stores = record {
         broken = g.works_on ∙ sym g.works ∙ f.stores.broken ∙ sym (ap (λ (x : LogState). x.is_broken) g.is);
         works = λ is h. (
-        let b : HasBatches old.log (before ++ done) old.staged.items (now (states old.disk) (log_file old.log.generation)) = f.stores.works g.works (g.was_honest h) in
-        let there : gate_log.Stands new.log b.batches (batches_of old.log.committed old.staged.items) (now (states new.disk) (log_file old.log.generation)) = g.stands b.batches (batches_of old.log.committed old.staged.items) b.stands in
-        let same : batches_of old.log.committed old.staged.items ≡ batches_of new.log.committed new.staged.items = ap (λ t. batches_of t old.staged.items) (sym count) ∙ ap (batches_of new.log.committed) (sym w) in
-        subst (λ x. HasBatches new.log (before ++ done) new.staged.items (now (states new.disk) (log_file x))) (sym (ap (λ (x : LogState). x.generation) g.is))
-        (record { batches = b.batches; are = b.are; stands = subst (λ z. gate_log.Stands new.log b.batches z (now (states new.disk) (log_file old.log.generation))) same there })
-        );
+            let b : HasBatches old.log (before ++ done) old.staged.items (now (states old.disk) (log_file old.log.generation)) = f.stores.works g.works (g.was_honest h) in
+            let there : gate_log.Stands new.log b.batches (batches_of old.log.committed old.staged.items) (now (states new.disk) (log_file old.log.generation)) = g.stands b.batches (batches_of old.log.committed old.staged.items) b.stands in
+            let same : batches_of old.log.committed old.staged.items ≡ batches_of new.log.committed new.staged.items = ap (λ t. batches_of t old.staged.items) (sym count) ∙ ap (batches_of new.log.committed) (sym w) in
+            subst (λ x. HasBatches new.log (before ++ done) new.staged.items (now (states new.disk) (log_file x))) (sym (ap (λ (x : LogState). x.generation) g.is))
+            (record { batches = b.batches; are = b.are; stands = subst (λ z. gate_log.Stands new.log b.batches z (now (states new.disk) (log_file old.log.generation))) same there })
+            );
         stopped = λ is h. absurd (two_ways new.is_broken is g.works_on);
       };
     }
@@ -181,7 +181,7 @@ commits {D} states honest n before done old new p f g s w =
     let stands : Stands n after (done ++ staged) p = stands_moved n old.sweeper after (done ++ staged) (done ++ staged) p refl refl moved f.stands in
     record {
       stands = subst (λ (x : Sweeper). Stands n x ((done ++ staged) ++ commands_of new.staged.items) p) (sym s)
-      (subst (λ (xs : List Entry). Stands n after ((done ++ staged) ++ commands_of xs) p) (sym w) (subst (λ z. Stands n after z p) (sym (append-nil (done ++ staged))) stands));
+          (subst (λ (xs : List Entry). Stands n after ((done ++ staged) ++ commands_of xs) p) (sym w) (subst (λ z. Stands n after z p) (sym (append-nil (done ++ staged))) stands));
       counts = record {
         committed = omega (arith, count, size, both, long, f.counts.committed);
         next = ap (λ (x : Sweeper). x.in_hand.next) s ∙ omega (arith, count, size, f.counts.next);
@@ -194,14 +194,14 @@ commits {D} states honest n before done old new p f g s w =
       stores = record {
         broken = g.works_on ∙ sym g.works ∙ f.stores.broken ∙ sym (ap (λ (x : LogState). x.is_broken) g.is);
         works = λ is h. (
-        let b : HasBatches old.log (before ++ done) old.staged.items (now (states old.disk) (log_file old.log.generation)) = f.stores.works g.works (g.was_honest h) in
-        let next : List Batch = batches_of old.log.committed old.staged.items in
-        let there : gate_log.Stands new.log (b.batches ++ next) [] (now (states new.disk) (log_file old.log.generation)) = g.stands b.batches next b.stands in
-        let are : commands_in (b.batches ++ next) ≡ before ++ (done ++ staged) =
-        commands_append b.batches next ∙ ap (λ z. z ++ commands_in next) b.are ∙ ap (λ z. (before ++ done) ++ z) (commands_staged old.log.committed old.staged.items) ∙ append_assoc before done staged in
-        subst (λ x. HasBatches new.log (before ++ (done ++ staged)) new.staged.items (now (states new.disk) (log_file x))) (sym (ap (λ (x : LogState). x.generation) g.is))
-        (record { batches = b.batches ++ next; are = are; stands = subst (λ (xs : List Entry). gate_log.Stands new.log (b.batches ++ next) (batches_of new.log.committed xs) (now (states new.disk) (log_file old.log.generation))) (sym w) there })
-        );
+            let b : HasBatches old.log (before ++ done) old.staged.items (now (states old.disk) (log_file old.log.generation)) = f.stores.works g.works (g.was_honest h) in
+            let next : List Batch = batches_of old.log.committed old.staged.items in
+            let there : gate_log.Stands new.log (b.batches ++ next) [] (now (states new.disk) (log_file old.log.generation)) = g.stands b.batches next b.stands in
+            let are : commands_in (b.batches ++ next) ≡ before ++ (done ++ staged) =
+            commands_append b.batches next ∙ ap (λ z. z ++ commands_in next) b.are ∙ ap (λ z. (before ++ done) ++ z) (commands_staged old.log.committed old.staged.items) ∙ append_assoc before done staged in
+            subst (λ x. HasBatches new.log (before ++ (done ++ staged)) new.staged.items (now (states new.disk) (log_file x))) (sym (ap (λ (x : LogState). x.generation) g.is))
+            (record { batches = b.batches ++ next; are = are; stands = subst (λ (xs : List Entry). gate_log.Stands new.log (b.batches ++ next) (batches_of new.log.committed xs) (now (states new.disk) (log_file old.log.generation))) (sym w) there })
+            );
         stopped = λ is h. absurd (two_ways new.is_broken is g.works_on);
       };
     }
@@ -291,13 +291,13 @@ fails {D} states failures honest n before done old new p e f works on failed pub
         broken = on ∙ sym (ap (λ (x : LogState). x.is_broken) is);
         works = λ off h. absurd (two_ways new.is_broken on off);
         stopped = λ _ h. (
-        let m : KeepsCommands old.log (before ++ done) (commands_of old.staged.items) (now (states old.disk)) (now (states new.disk)) =
-        at_end states old.disk new.disk _ (kept_moments states failures honest n before done old new.log new.disk p (Err e) f works (a.was_honest h) a) in
-        let k = m.stops in
-        let there : StopsHave broken (before ++ done) (commands_of old.staged.items) (now (states new.disk)) =
-        record { batches = k.batches; next = k.next; are = k.are; next_are = k.next_are; reads = λ ready content may. read_same old.log.phase old.log.ending old.log k.batches k.next content (k.reads ready content may) } in
-        subst (λ (x : LogState). StopsHave x (before ++ done) (commands_of new.staged.items) (now (states new.disk))) (sym is) (subst (λ (xs : List Entry). StopsHave broken (before ++ done) (commands_of xs) (now (states new.disk))) (sym items) there)
-        );
+            let m : KeepsCommands old.log (before ++ done) (commands_of old.staged.items) (now (states old.disk)) (now (states new.disk)) =
+            at_end states old.disk new.disk _ (kept_moments states failures honest n before done old new.log new.disk p (Err e) f works (a.was_honest h) a) in
+            let k = m.stops in
+            let there : StopsHave broken (before ++ done) (commands_of old.staged.items) (now (states new.disk)) =
+            record { batches = k.batches; next = k.next; are = k.are; next_are = k.next_are; reads = λ ready content may. read_same old.log.phase old.log.ending old.log k.batches k.next content (k.reads ready content may) } in
+            subst (λ (x : LogState). StopsHave x (before ++ done) (commands_of new.staged.items) (now (states new.disk))) (sym is) (subst (λ (xs : List Entry). StopsHave broken (before ++ done) (commands_of xs) (now (states new.disk))) (sym items) there)
+            );
       };
     }
 

@@ -1,15 +1,13 @@
 -- How the entries in hand follow the record of the keeper's pass.
-use Rattle.std.proofs.Common.{◌≡◌, ◌⊎◌, inl, inr, ℕ, ◌+◌, ◌-◌, ◌<◌, ◌≤◌, ◌==◌, Bool, true, false, List, [], ◌∷◌, ◌++◌, length, get_or, replicate, Option, Some, None, append-nil, refl, sym, ◌∙◌, ap, subst, arith}
+use Rattle.std.proofs.Common.{◌≡◌, inl, inr, ℕ, ◌+◌, ◌-◌, ◌<◌, ◌≤◌, Bool, true, List, [], ◌∷◌, ◌++◌, length, get_or, replicate, Option, Some, None, append-nil, refl, sym, ◌∙◌, ap, subst, arith}
 use Rattle.std.specs.List.{Contains}
-use Rattle.std.proofs.lemmas.List.{length-append, append_assoc, get_or_append_left, get_or-append_right, get_or-replicate, get_or_past, length-replicate}
+use Rattle.std.proofs.lemmas.List.{length-append, get_or_append_left, get_or-append_right, get_or-replicate, get_or_past, length-replicate}
 use Rattle.std.proofs.lemmas.List.Elements.{Contains-append_left, Contains-append_right, Contains-append_cases, Contains-push}
 use Rattle.std.proofs.lemmas.Bool.{cases_eq, cases_lt, eq-eqb}
 use Rattle.java_hash.specs.Stripes.{stripe_of}
 use Rattle.map_model.specs.Parts.{is_in_stripe}
 use Rattle.map_types.specs.declared.commands.Command.{Command}
 use Rattle.ticket_order.specs.declared.stripe.Entry.{Entry}
-use Rattle.ticket_order.specs.declared.record.Opening.{Opening}
-use Rattle.ticket_order.specs.declared.record.StepMade.{StepMade}
 use Rattle.ticket_order.specs.declared.record.StepMade.TheVariants.{Looked, Took, Gave, FoundHeld}
 use Rattle.ticket_order.specs.declared.record.Record.{Record}
 use Rattle.ticket_order.specs.Records.{entry, reach, past, missing, taking, looking, looking_at, giving}
@@ -20,11 +18,11 @@ use Rattle.ticket_order.specs.Calls.{SweepsStripe, RefusesSweep}
 use Rattle.ticket_order.specs.declared.record.Purpose.TheVariants.{Nothing, Sweep as ToKeep}
 use Rattle.map_types.specs.declared.refusals.Refusal.TheVariants.{NoMemory}
 use Rattle.java_hash.proofs.StripeLaws.{stripe_of_within}
-use Rattle.flusher.specs.Hands.{Hand, Holds, HasPlace, MakesRoom, Gains}
-use Rattle.flusher.specs.Gathering.{Accounts, Gathers, AreTaken, HasSweptBelow, IsGathered, AreGathered, Collects}
+use Rattle.flusher.specs.Hands.{Hand, Holds, MakesRoom, Gains}
+use Rattle.flusher.specs.Gathering.{Accounts, Gathers, AreTaken, HasSweptBelow, AreGathered, Collects}
 use Rattle.flusher.specs.declared.sweeper.Sweep.{Sweep}
 use Rattle.flusher.specs.Sweeping.{HasNone, IsBetween}
-use Rattle.flusher.proofs.Entries.{found, there_is, same_command, grown, shrunk, at_ticket, below_past, filtered, passes}
+use Rattle.flusher.proofs.Entries.{found, same_command, grown, shrunk, at_ticket, below_past, filtered, passes}
 
 -- the test by which a stripe's entries are known
 abbrev is_of : ℕ → ℕ → Entry → Bool

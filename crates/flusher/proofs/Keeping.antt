@@ -1,42 +1,36 @@
 -- What holds of a keeper after each of its calls.
-use Rattle.std.proofs.Common.{◌≡◌, ◌≢◌, ◌⊎◌, inl, inr, ℕ, ◌+◌, ◌<◌, ◌≤◌, ◌^◌, max, List, [], ◌∷◌, ◌++◌, length, drop, map, replicate, Option, Some, None, Bool, true, false, Result, Ok, Err, OnOk, append-nil, refl, sym, ◌∙◌, ap, subst, arith}
+use Rattle.std.proofs.Common.{◌≡◌, ℕ, ◌+◌, ◌<◌, ◌^◌, max, List, [], ◌∷◌, ◌++◌, length, Option, Some, None, Bool, true, false, refl, sym, ◌∙◌, ap, subst, arith}
 use Rattle.std.specs.List.{Contains}
-use Rattle.std.proofs.lemmas.List.{length-append, append_assoc, length-map}
+use Rattle.std.proofs.lemmas.List.{length-append, append_assoc}
 use Rattle.std.proofs.lemmas.List.Elements.{Contains-append_left}
 use Rattle.disk_model.specs.Files.{File, Files, now}
-use Rattle.disk_model.specs.Moments.{AtEachMoment}
 use Rattle.map_types.specs.declared.commands.Command.{Command}
-use Rattle.map_types.specs.declared.refusals.Refusal.{Refusal}
 use Rattle.ticket_order.specs.declared.stripe.Entry.{Entry}
 use Rattle.ticket_order.specs.declared.record.StepMade.{StepMade}
 use Rattle.ticket_order.specs.declared.record.StepMade.TheVariants.{Published, Failed, Looked}
 use Rattle.ticket_order.specs.declared.record.Opening.{Opening}
 use Rattle.ticket_order.specs.declared.record.Record.{Record}
 use Rattle.ticket_order.specs.declared.walk.Walk.{Walk}
-use Rattle.ticket_order.specs.Records.{reach, publishing, failing}
+use Rattle.ticket_order.specs.Records.{publishing, failing}
 use Rattle.ticket_order.specs.Legality.{entries_from}
 use Rattle.ticket_order.specs.StepRules.{MayPublish}
-use Rattle.store_layout.specs.Logs.{Batch, commands_in, log_file}
-use Rattle.gate_log.specs.declared.phase.Phase.{Phase}
-use Rattle.gate_log.specs.declared.phase.Phase.TheVariants.{Idle, Header, HeaderWritten, Staged, Written, Synced, Opened}
-use Rattle.gate_log.specs.States.{LogState, IsResting, batch_of, commands_of, begun, log_after}
+use Rattle.store_layout.specs.Logs.{log_file}
+use Rattle.gate_log.specs.States.{LogState, commands_of, begun}
 use Rattle.gate_log.specs.Standing as gate_log
-use Rattle.gate_log.specs.Advancing.{Advances, MayAdvance, committed_after, staged_after}
 use Rattle.flusher.specs.declared.keeper.Keeper.{Keeper}
 use Rattle.flusher.specs.declared.sweeper.Sweep.{Sweep}
 use Rattle.flusher.specs.declared.sweeper.Walking.{Walking}
 use Rattle.flusher.specs.declared.sweeper.Walking.TheVariants.{Rests, SweepTakes, SweepGives}
 use Rattle.flusher.specs.declared.sweeper.Sweeper.{Sweeper}
-use Rattle.flusher.specs.Hands.{Hand, IsRun, FitsBatch, IsLongest, SameEntries}
+use Rattle.flusher.specs.Hands.{Hand, IsRun}
 use Rattle.flusher.specs.Gathering.{Accounts, Gathers}
 use Rattle.flusher.specs.Sweeping.{Stands, StandsBy, HasNone, IsSwept}
-use Rattle.flusher.specs.Keeping.{Stages, IsPast, is_walking, passed}
-use Rattle.flusher.specs.Fitting.{Fits, Counts, Tells, Stores, HasBatches, StopsHave, KeepsCommands, IsEmptyIn, IsQuiet, IsUnused, IsTakenFront, WereTaken, batches_of, done_after}
-use Rattle.flusher.proofs.Staging.{accounts_staged, commands_there, taken_in_hand}
-use Rattle.flusher.proofs.Entries.{length-entries, grown}
+use Rattle.flusher.specs.Keeping.{is_walking}
+use Rattle.flusher.specs.Fitting.{Fits, IsEmptyIn, IsQuiet, IsUnused, IsTakenFront, WereTaken, batches_of}
+use Rattle.flusher.proofs.Staging.{taken_in_hand}
+use Rattle.flusher.proofs.Entries.{grown}
 use Rattle.flusher.proofs.Passing.{reached_by, front_of_all}
 use Rattle.flusher.proofs.Quiet.{IsGrown, swept_grown}
-use Rattle.flusher.proofs.Moments.{moments_so, at_end}
 
 -- ---- at first
 
@@ -75,6 +69,7 @@ fits_fresh {D} states honest n first keeper p u small l h s w g b f d stands =
   where
     no_place : (c : Command) → None ≡ Some c → ⊥
     no_place c e = cc
+
     two_ways : (x : Bool) → x ≡ true → x ≡ false → ⊥
     two_ways x a b = cc
 

@@ -1,8 +1,8 @@
 -- The accounts of the sweeps, once a batch is staged, put back, or committed.
-use Rattle.std.proofs.Common.{◌≡◌, ◌⊎◌, inl, inr, ℕ, suc, ◌+◌, ◌-◌, ◌<◌, ◌≤◌, List, [], ◌∷◌, ◌++◌, length, get_or, drop, Option, Some, None, refl, sym, ◌∙◌, ap, subst, arith, append-nil}
+use Rattle.std.proofs.Common.{◌≡◌, inl, inr, ℕ, suc, ◌+◌, ◌-◌, ◌<◌, ◌≤◌, List, [], ◌∷◌, ◌++◌, length, get_or, Some, None, refl, sym, ◌∙◌, ap, subst, arith}
 use Rattle.std.specs.List.{Contains}
 use Rattle.std.proofs.lemmas.Bool.{cases_lt}
-use Rattle.std.proofs.lemmas.List.{length-append, get_or-drop}
+use Rattle.std.proofs.lemmas.List.{get_or-drop}
 use Rattle.std.proofs.lemmas.List.Elements.{Contains-append_right}
 use Rattle.map_types.specs.declared.commands.Command.{Command}
 use Rattle.ticket_order.specs.declared.stripe.Entry.{Entry}
@@ -12,7 +12,7 @@ use Rattle.ticket_order.specs.Legality.{entries_from}
 use Rattle.flusher.specs.Hands.{Hand, Holds, SameEntries}
 use Rattle.flusher.specs.Gathering.{Accounts, Gathers, Collects}
 use Rattle.flusher.specs.Keeping.{passed}
-use Rattle.flusher.proofs.Entries.{IsAt, found, there_is, same_command, grown, at_ticket}
+use Rattle.flusher.proofs.Entries.{IsAt, found, there_is, same_command, at_ticket}
 
 pub accounts_same : (old new : Hand) (gone : List Command) (first : ℕ) (taken : List Entry) (seen : List Command) → SameEntries old new → Accounts old gone first taken seen → Accounts new gone first taken seen
 accounts_same old new gone first taken seen s a = record {

@@ -1,5 +1,5 @@
 -- The steps of a sweep neither publish nor fail.
-use Rattle.std.proofs.Common.{◌≡◌, ℕ, List, [], ◌∷◌, ◌++◌, Option, Some, None, Result, Ok, Err, append-nil, refl, sym, ◌∙◌, ap, subst}
+use Rattle.std.proofs.Common.{◌≡◌, ℕ, List, [], ◌++◌, Option, Some, None, Result, Ok, Err, append-nil, refl, sym, ◌∙◌, ap, subst}
 use Rattle.map_types.specs.declared.commands.Command.{Command}
 use Rattle.map_types.specs.declared.commands.Read as read_type
 use Rattle.map_types.specs.declared.commands.Reply.{Reply}
@@ -23,7 +23,7 @@ use Rattle.ticket_order.specs.declared.record.Purpose.TheVariants.{Nothing}
 use Rattle.ticket_order.specs.declared.record.Record.{Record}
 use Rattle.ticket_order.specs.Records.{missing, giving, taking}
 use Rattle.ticket_order.specs.Calls.{SweepsStripe, RefusesSweep}
-use Rattle.ticket_order.specs.Walks.{Task, ToChange, ToRead, ToRelease, ToSweep, ToCapture, FitsStage}
+use Rattle.ticket_order.specs.Walks.{ToChange, ToRead, ToRelease, ToSweep, ToCapture, FitsStage}
 use Rattle.flusher.specs.declared.sweeper.Sweep.{Sweep}
 use Rattle.flusher.specs.declared.sweeper.Walking.{Walking}
 use Rattle.flusher.specs.declared.sweeper.Walking.TheVariants.{Rests, SweepTakes, SweepGives}
@@ -32,7 +32,7 @@ use Rattle.flusher.specs.declared.sweeper.Swept.TheVariants.{More, Held, Done}
 use Rattle.flusher.specs.declared.sweeper.Sweeper.{Sweeper}
 use Rattle.flusher.specs.Hands.{Hand}
 use Rattle.flusher.specs.Gathering.{Gathers}
-use Rattle.flusher.specs.Sweeping.{IsSwept, IsBetween, HasNone, IsHolding, Stands, StandsBy, StepsOn, AfterTake, AfterGive}
+use Rattle.flusher.specs.Sweeping.{IsSwept, IsBetween, IsHolding, Stands, StandsBy, StepsOn, AfterTake, AfterGive}
 use Rattle.flusher.specs.Fitting.{IsQuiet}
 
 quiet_at : (b v w : Record) → IsQuiet b v → w ≡ v → IsQuiet b w

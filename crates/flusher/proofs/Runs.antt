@@ -1,5 +1,5 @@
 -- The run of commands from the first place on.
-use Rattle.std.proofs.Common.{◌≡◌, ◌≢◌, ◌⊎◌, inl, inr, ℕ, ◌+◌, ◌-◌, ◌<◌, ◌≤◌, ◌^◌, List, [], ◌∷◌, ◌++◌, length, get_or, set, take, drop, map, min, replicate, Option, Some, None, append-nil, refl, sym, ◌∙◌, ap, subst, arith}
+use Rattle.std.proofs.Common.{◌≡◌, inl, inr, ℕ, ◌+◌, ◌-◌, ◌<◌, ◌≤◌, ◌^◌, List, [], ◌∷◌, ◌++◌, length, get_or, set, take, drop, map, replicate, Option, Some, None, append-nil, refl, sym, ◌∙◌, ap, subst, arith}
 use Rattle.std.proofs.lemmas.List.{length-append, length-map, append_assoc, map-append, get_or_at, get_or-append_right, get_or_append_left, get_or-map, take_more, drop_more, set_at, replicate-append-replicate, length-replicate, length-take-le}
 use Rattle.std.proofs.lemmas.Bool.{cases_lt}
 use Rattle.map_types.specs.declared.commands.Command.{Command}
@@ -8,7 +8,7 @@ use Rattle.ticket_order.specs.Records.{entry}
 use Rattle.ticket_order.specs.Legality.{entries_from}
 use Rattle.log_records.specs.Layout.{first_layout}
 use Rattle.log_records.specs.Spelling.{record_bytes}
-use Rattle.store_layout.specs.Logs.{Batch, frame, records_bytes}
+use Rattle.store_layout.specs.Logs.{frame, records_bytes}
 use Rattle.store_layout.proofs.LogLemmas.{length-frame, records_push}
 use Rattle.gate_log.specs.States.{LogState}
 use Rattle.flusher.specs.Keeping.{IsFull}

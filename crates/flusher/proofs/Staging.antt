@@ -1,5 +1,5 @@
 -- A run that is staged, or put back.
-use Rattle.std.proofs.Common.{◌≡◌, ◌⊎◌, inl, inr, ℕ, ◌+◌, ◌-◌, ◌<◌, ◌≤◌, ◌^◌, List, [], ◌∷◌, ◌++◌, length, get_or, drop, map, replicate, Option, Some, None, refl, sym, ◌∙◌, ap, subst, arith}
+use Rattle.std.proofs.Common.{◌≡◌, inl, inr, ℕ, ◌+◌, ◌-◌, ◌<◌, ◌≤◌, List, [], ◌∷◌, ◌++◌, length, get_or, drop, map, replicate, Option, Some, None, refl, sym, ◌∙◌, ap, subst, arith}
 use Rattle.std.specs.List.{Contains}
 use Rattle.std.proofs.lemmas.Bool.{cases_lt}
 use Rattle.std.proofs.lemmas.List.{length-append, length-map, length-replicate, get_or_append_left, get_or-append_right, get_or-replicate, get_or-drop, get_or-map}
@@ -15,7 +15,7 @@ use Rattle.flusher.specs.declared.sweeper.Sweep.{Sweep}
 use Rattle.flusher.specs.declared.sweeper.Sweeper.{Sweeper}
 use Rattle.flusher.specs.Gathering.{Accounts}
 use Rattle.flusher.specs.Sweeping as Sweeping
-use Rattle.flusher.proofs.Entries.{IsAt, found, there_is, same_command, grown, shrunk}
+use Rattle.flusher.proofs.Entries.{found, there_is, same_command, grown, shrunk}
 use Rattle.flusher.proofs.Runs.{none_is_some}
 
 pub from_there : (t : ℕ) (xs : List Command) → AreFrom t (entries_from t xs)

@@ -1,11 +1,10 @@
 -- Where the sweep stands after each step.
-use Rattle.std.proofs.Common.{◌≡◌, ◌⊎◌, inl, inr, ℕ, ◌+◌, ◌<◌, ◌≤◌, List, [], length, Option, Some, None, Result, Ok, Err, refl, sym, ◌∙◌, ap, subst, arith, true, false, Bool}
+use Rattle.std.proofs.Common.{◌≡◌, ◌⊎◌, inl, inr, ℕ, ◌+◌, ◌<◌, ◌≤◌, List, [], Some, None, Ok, refl, sym, ◌∙◌, ap, subst, arith, true, false, Bool}
 use Rattle.std.proofs.lemmas.Bool.{cases_lt}
 use Rattle.map_types.specs.declared.commands.Command.{Command}
 use Rattle.map_types.specs.declared.refusals.Refusal.{Refusal}
 use Rattle.map_types.specs.declared.refusals.Refusal.TheVariants.{NoMemory}
 use Rattle.ticket_order.specs.declared.walk.Walk.{Walk}
-use Rattle.ticket_order.specs.declared.stripe.Entry.{Entry}
 use Rattle.ticket_order.specs.declared.record.Record.{Record}
 use Rattle.ticket_order.specs.Calls.{SweepsStripe, RefusesSweep}
 use Rattle.ticket_order.specs.Walks.{Task, ToSweep, Fits, entries_of_walk}
@@ -13,11 +12,11 @@ use Rattle.flusher.specs.declared.sweeper.Sweep.{Sweep}
 use Rattle.flusher.specs.declared.sweeper.Walking.{Walking}
 use Rattle.flusher.specs.declared.sweeper.Walking.TheVariants.{Rests, SweepTakes, SweepGives}
 use Rattle.flusher.specs.declared.sweeper.Swept.{Swept}
-use Rattle.flusher.specs.declared.sweeper.Swept.TheVariants.{More, Held, Done}
+use Rattle.flusher.specs.declared.sweeper.Swept.TheVariants.{More, Done}
 use Rattle.flusher.specs.declared.sweeper.Sweeper.{Sweeper}
 use Rattle.flusher.specs.Hands.{Hand}
 use Rattle.flusher.specs.Gathering.{Collects}
-use Rattle.flusher.specs.Sweeping.{IsBetween, IsHolding, IsSwept, HasNone, StandsBy, Stands, DrainsStripe, GoesOn, Ends, PutsBack, AfterGive, IsDone, HasGathered}
+use Rattle.flusher.specs.Sweeping.{IsBetween, IsHolding, IsSwept, HasNone, StandsBy, Stands, DrainsStripe, AfterGive, IsDone, HasGathered}
 use Rattle.ticket_order.specs.Walks.{steps_left, is_holding, refusal_of_walk}
 use Rattle.ticket_order.proofs.Left.{none_to_hand_out, refusing_left}
 use Rattle.flusher.specs.Hands.{MakesRoom, Gains}

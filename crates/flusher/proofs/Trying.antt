@@ -1,5 +1,5 @@
 -- What a sweep of one stripe leaves of the keeper.
-use Rattle.std.proofs.Common.{◌≡◌, ◌⊎◌, inl, inr, ℕ, ◌+◌, ◌<◌, ◌≤◌, List, [], ◌∷◌, ◌++◌, length, Option, Some, None, Bool, true, false, Result, Ok, Err, OnOk, OnErr, IfErr, append-nil, refl, sym, ◌∙◌, ap, subst, arith}
+use Rattle.std.proofs.Common.{◌≡◌, ℕ, ◌+◌, ◌<◌, ◌≤◌, List, [], ◌∷◌, ◌++◌, length, Option, Some, None, false, Result, Ok, Err, OnOk, OnErr, IfErr, append-nil, refl, sym, ◌∙◌, ap, subst, arith}
 use Rattle.std.specs.List.{Contains}
 use Rattle.std.proofs.lemmas.List.{length-append, append_assoc}
 use Rattle.std.proofs.lemmas.List.Elements.{Contains-append_left}
@@ -10,27 +10,27 @@ use Rattle.map_types.specs.declared.refusals.Refusal.{Refusal}
 use Rattle.map_types.specs.declared.refusals.Refusal.TheVariants as refusal
 use Rattle.ticket_order.specs.declared.stripe.Entry.{Entry}
 use Rattle.ticket_order.specs.declared.record.Opening.{Opening}
-use Rattle.ticket_order.specs.declared.record.Purpose.TheVariants.{Nothing, Sweep as ToKeep}
+use Rattle.ticket_order.specs.declared.record.Purpose.TheVariants.{Nothing}
 use Rattle.ticket_order.specs.declared.record.StepMade.{StepMade}
 use Rattle.ticket_order.specs.declared.record.StepMade.TheVariants.{Looked, Took, Gave, FoundHeld}
 use Rattle.ticket_order.specs.declared.record.Record.{Record}
-use Rattle.ticket_order.specs.Records.{reach, past, giving, taking}
+use Rattle.ticket_order.specs.Records.{reach, past, giving}
 use Rattle.ticket_order.specs.Legality.{entries_from, entries_of}
 use Rattle.ticket_order.specs.StepRules as rules_of
-use Rattle.ticket_order.specs.Calls.{SweepsStripe, RefusesSweep}
+use Rattle.ticket_order.specs.Calls.{RefusesSweep}
 use Rattle.gate_log.specs.States.{commands_of}
 use Rattle.flusher.specs.declared.keeper.Keeper.{Keeper}
 use Rattle.flusher.specs.declared.sweeper.Sweep.{Sweep}
 use Rattle.flusher.specs.declared.sweeper.Walking.{Walking}
 use Rattle.flusher.specs.declared.sweeper.Walking.TheVariants.{Rests, SweepTakes, SweepGives}
 use Rattle.flusher.specs.declared.sweeper.Swept.{Swept}
-use Rattle.flusher.specs.declared.sweeper.Swept.TheVariants.{More, Held, Done}
+use Rattle.flusher.specs.declared.sweeper.Swept.TheVariants.{More, Done}
 use Rattle.flusher.specs.declared.sweeper.Sweeper.{Sweeper}
 use Rattle.flusher.specs.Hands.{Hand, SameEntries}
 use Rattle.flusher.specs.Gathering.{Accounts, Gathers, HasSweptBelow, Collects}
-use Rattle.flusher.specs.Sweeping.{Stands, StandsBy, StepsOn, AfterTake, AfterGive}
+use Rattle.flusher.specs.Sweeping.{Stands, StandsBy, StepsOn}
 use Rattle.flusher.specs.Keeping.{SweepsOnce, StaysAt, is_walking}
-use Rattle.flusher.specs.Fitting.{Fits, IsQuiet}
+use Rattle.flusher.specs.Fitting.{Fits}
 use Rattle.flusher.proofs.Entries.{grown}
 use Rattle.flusher.proofs.Gathered.{accounts_more, accounts_later, taken_later, taken_of_history, low_enough}
 use Rattle.flusher.proofs.Passing.{collects_same}
@@ -112,7 +112,7 @@ seen_on : (hand : Hand) (gone : List Command) (p w : Record) → IsLeft p w → 
 seen_on hand gone p w l k = record {
   keeper = l.keeper ∙ k.keeper;
   accounts = subst (λ (o : Opening). Accounts hand gone o.first w.taken w.seen) (sym l.opening) (subst (λ (es : List Entry). Accounts hand gone p.opening.first es w.seen) (sym l.taken)
-  (subst (λ (s : List Command). Accounts hand gone p.opening.first p.taken s) (sym l.seen) (accounts_later hand gone p.opening.first p.taken p.seen l.more k.accounts)));
+      (subst (λ (s : List Command). Accounts hand gone p.opening.first p.taken s) (sym l.seen) (accounts_later hand gone p.opening.first p.taken p.seen l.more k.accounts)));
 }
 
 none_more : (old new : Hand) (gone : List Command) (p : Record) → Collects old [] new → Gathers old gone p → Gathers new gone p
@@ -131,8 +131,8 @@ left_alone n i e old new gone p w free r g =
         looked = subst (λ s. Contains s (Looked count)) (sym l.steps) (Contains-append_left p.steps l.made (Looked count) k.looked);
         reached = omega (arith, k.reached, ap (λ (o : Opening). o.first) l.opening, ap (λ (s : List Command). length s) l.seen, length-append p.seen l.more);
         all = subst (λ (o : Opening). (f : Entry) → Contains (entries_from o.first w.seen) f → f.ticket < count → stripe_of n f.command.key < stripe → Contains w.taken f) (sym l.opening)
-        (subst (λ (s : List Command). (f : Entry) → Contains (entries_from p.opening.first s) f → f.ticket < count → stripe_of n f.command.key < stripe → Contains w.taken f) (sym l.seen)
-        (taken_later n count stripe p.opening.first p.taken w.taken p.seen l.more k.all k.reached (λ f in_. subst (λ es. Contains es f) (sym l.taken) in_)));
+            (subst (λ (s : List Command). (f : Entry) → Contains (entries_from p.opening.first s) f → f.ticket < count → stripe_of n f.command.key < stripe → Contains w.taken f) (sym l.seen)
+            (taken_later n count stripe p.opening.first p.taken w.taken p.seen l.more k.all k.reached (λ f in_. subst (λ es. Contains es f) (sym l.taken) in_)));
       };
     }
 

@@ -1,6 +1,6 @@
 -- What the two steps of a sweep of one stripe leave.
-use Rattle.std.proofs.Common.{◌≡◌, ◌⊎◌, inl, inr, ℕ, ◌+◌, ◌<◌, ◌≤◌, List, [], ◌∷◌, ◌++◌, length, get_or, Option, Some, None, refl, sym, ◌∙◌, ap, subst, arith}
-use Rattle.std.proofs.lemmas.List.{length-append, length_push, get_or_push}
+use Rattle.std.proofs.Common.{◌≡◌, ℕ, ◌+◌, ◌≤◌, List, [], ◌∷◌, ◌++◌, length, get_or, Option, Some, None, refl, sym, ◌∙◌, ap, arith}
+use Rattle.std.proofs.lemmas.List.{length_push, get_or_push}
 use Rattle.map_types.specs.declared.refusals.Refusal.{Refusal}
 use Rattle.map_types.specs.declared.refusals.Refusal.TheVariants as refusal
 use Rattle.ticket_order.specs.declared.stripe.Entry.{Entry}
@@ -11,9 +11,9 @@ use Rattle.ticket_order.specs.declared.record.StepMade.{StepMade}
 use Rattle.ticket_order.specs.declared.record.StepMade.TheVariants.{Gave, Took, FoundHeld}
 use Rattle.ticket_order.specs.declared.record.Purpose.TheVariants.{Nothing}
 use Rattle.ticket_order.specs.declared.record.Record.{Record}
-use Rattle.ticket_order.specs.Records.{missing, giving, taking}
+use Rattle.ticket_order.specs.Records.{missing, giving}
 use Rattle.ticket_order.specs.Calls.{SweepsStripe, RefusesSweep}
-use Rattle.ticket_order.specs.Walks.{ToSweep, Next, HasFewerLeft, Kind, Give, kind_of, MakesOne, steps_left, KeepsRefusal}
+use Rattle.ticket_order.specs.Walks.{ToSweep, Next, HasFewerLeft, Kind, Give, kind_of, MakesOne, KeepsRefusal}
 use Rattle.ticket_order.proofs.Left.{some_left}
 
 swept_steps : (n : ℕ) (b : Record) (i : ℕ) (es : List Entry) (w : Record) → SweepsStripe n b i es w → w.steps ≡ (b.steps ++ Took i es ∷ []) ++ Gave i ∷ []

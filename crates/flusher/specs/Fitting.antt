@@ -1,5 +1,5 @@
 -- What holds of a keeper between any two of its calls.
-use Rattle.std.specs.Prelude.{◌≡◌, ◌≢◌, ℕ, ◌+◌, ◌<◌, ◌≤◌, ◌^◌, Bool, true, false, List, [], ◌∷◌, ◌++◌, length, None, Result, Ok, Err}
+use Rattle.std.specs.Prelude.{◌≡◌, ◌≢◌, ℕ, ◌+◌, ◌<◌, ◌≤◌, ◌^◌, true, false, List, [], ◌∷◌, ◌++◌, length, None, Result, Ok}
 use Rattle.std.specs.List.{Contains}
 use Rattle.disk_model.specs.Files.{File, Files, MayLeave, now}
 use Rattle.map_types.specs.declared.commands.Command.{Command}

@@ -1,11 +1,11 @@
 -- The entries in hand, by their tickets.
-use Rattle.std.specs.Prelude.{◌≡◌, ◌⊎◌, ℕ, ◌+◌, ◌-◌, ◌<◌, ◌≤◌, ◌^◌, List, [], ◌∷◌, ◌++◌, length, map, min, replicate, Option, Some, None, slice_index_or}
+use Rattle.std.specs.Prelude.{◌≡◌, ◌⊎◌, ℕ, ◌+◌, ◌-◌, ◌<◌, ◌≤◌, ◌^◌, List, ◌++◌, length, map, min, replicate, Option, Some, None, slice_index_or}
 use Rattle.std.specs.List.{Contains}
 use Rattle.map_types.specs.declared.commands.Command.{Command}
 use Rattle.ticket_order.specs.declared.stripe.Entry.{Entry}
 use Rattle.ticket_order.specs.Records.{entry}
 use Rattle.log_records.specs.Layout.{first_layout}
-use Rattle.store_layout.specs.Logs.{Batch, frame}
+use Rattle.store_layout.specs.Logs.{frame}
 
 -- The commands of consecutive tickets, from `next` on; there is none where a ticket is not in hand.
 pub record Hand : Type 0 where

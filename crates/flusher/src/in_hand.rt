@@ -38,8 +38,8 @@ pub struct InHand {
 
 impl Model for InHand {
     ghost use Rattle.log_records.specs.Layout.{first_layout};
-ghost use Rattle.store_layout.specs.Logs.{frame};
-ghost use Rattle.flusher.specs.Hands.{Hand};
+    ghost use Rattle.store_layout.specs.Logs.{frame};
+    ghost use Rattle.flusher.specs.Hands.{Hand};
 
     ghost Value = { Hand };
 

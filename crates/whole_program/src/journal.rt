@@ -14,7 +14,7 @@ const HEADER_CALLS: u64 = 2;
 const CHANGE_CALLS: u64 = 4;
 
 /// A disk whose call after so many fails.
-fn failing_disk(alloc: Global, after: u64) -> MemDisk {
+pub(crate) fn failing_disk(alloc: Global, after: u64) -> MemDisk {
     let mut disk = MemDisk::new(alloc);
     disk.plan(Some(Failure {
         after,

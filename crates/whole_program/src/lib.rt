@@ -1,11 +1,14 @@
 //! Tests of the whole program: its table of bytes however cut, its command line, failing streams and
-//! disks, and the map that it serves beside the plain program of the model.
+//! disks, the map that it serves beside the plain program of the model, and a keeper over shared
+//! stripes.
 #![tactic(auto)]
 
 #[cfg(test)]
 mod dice;
 #[cfg(test)]
 mod journal;
+#[cfg(test)]
+mod keeper;
 #[cfg(test)]
 mod program;
 #[cfg(test)]

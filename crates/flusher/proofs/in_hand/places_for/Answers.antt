@@ -1,4 +1,4 @@
-use Rattle.std.proofs.Common.{◌≡◌, ◌+◌, ◌≤◌, ◌<◌, arith, subst, take, length}
+use Rattle.std.proofs.Common.{◌+◌, ◌≤◌, ◌<◌, arith, subst}
 use Rattle.std.specs.List.{All}
 use Rattle.std.proofs.lemmas.List.{take_all}
 use Rattle.flusher.proofs.Places.{places_more}

@@ -1,6 +1,6 @@
 use Rattle.ticket_order.specs.declared.record.Record.{Record}
 use Rattle.flusher.specs.Sweeping.{IsSwept}
-use Rattle.std.proofs.Common.{ℕ, ◌≡◌, ◌+◌, arith, ap, length, ◌++◌, ◌∷◌, [], sym, ◌∙◌, refl}
+use Rattle.std.proofs.Common.{ℕ, arith, ap, length}
 use Rattle.std.proofs.lemmas.List.{length_push}
 use Rattle.ticket_order.specs.Walks.{ToSweep}
 use Rattle.flusher.proofs.Walked.{gave_swept, gave_back, put_back_by, no_refusal}

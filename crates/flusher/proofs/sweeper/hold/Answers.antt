@@ -1,7 +1,6 @@
-use Rattle.std.proofs.Common.{◌≡◌, ◌+◌, arith, ap, subst, length, ◌++◌, ◌∷◌, [], sym, ◌∙◌, refl}
+use Rattle.std.proofs.Common.{arith, ap, subst, length, ◌∙◌}
 use Rattle.std.proofs.lemmas.List.{length_push}
 use Rattle.ticket_order.specs.Walks.{Kind, ToSweep, MakesOne}
-use Rattle.flusher.specs.Sweeping.{IsSwept}
 use Rattle.flusher.proofs.Walked.{missed}
 use Rattle.flusher.proofs.sweeper.hold.Goals as goal
 

@@ -1,4 +1,4 @@
-use Rattle.std.proofs.Common.{subst, sym, ap}
+use Rattle.std.proofs.Common.{subst, sym}
 use Rattle.flusher.specs.Hands.{Hand, MakesRoom}
 use Rattle.flusher.specs.Sweeping.{IsReady}
 use Rattle.flusher.proofs.Standing.{ready, not_ready}

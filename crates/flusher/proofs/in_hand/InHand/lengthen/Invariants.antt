@@ -1,4 +1,4 @@
-use Rattle.std.proofs.Common.{◌≡◌, ◌-◌, ◌≤◌, ◌++◌, length, replicate, None}
+use Rattle.std.proofs.Common.{◌≡◌, ◌-◌, ◌≤◌, ◌++◌, replicate, None}
 use Rattle.std.specs.VecDeque.{deque_len, deque_capacity}
 use Rattle.flusher.proofs.in_hand.InHand.lengthen.Given as goal
 

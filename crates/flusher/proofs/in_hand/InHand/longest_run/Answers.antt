@@ -1,6 +1,6 @@
-use Rattle.std.proofs.Common.{◌≡◌, ◌+◌, ◌≤◌, arith, subst, sym, ◌∙◌, None, Some, get_or, ◌++◌, ◌∷◌, [], length}
+use Rattle.std.proofs.Common.{◌≡◌, arith, subst, sym, ◌∙◌, None, Some, get_or, ◌++◌, ◌∷◌, []}
 use Rattle.std.proofs.lemmas.List.{length_push}
-use Rattle.flusher.proofs.Runs.{found_none, found_more, longest_at_gap, longest_at_size, longest_at_limit, frame_of_found}
+use Rattle.flusher.proofs.Runs.{found_more, longest_at_gap, longest_at_size, longest_at_limit, frame_of_found}
 use Rattle.flusher.proofs.in_hand.InHand.longest_run.Goals as goal
 
 pub returns-in_default : goal.returns-in_default

@@ -1,4 +1,4 @@
-use Rattle.std.proofs.Common.{◌≡◌, ◌+◌, ◌-◌, ◌<◌, arith, ap, sym, ◌∙◌, Some, length, set}
+use Rattle.std.proofs.Common.{◌≡◌, ◌-◌, arith, ap, ◌∙◌, Some, length, set}
 use Rattle.flusher.specs.Hands.{Hand}
 use Rattle.flusher.proofs.Places.{gains_put}
 use Rattle.flusher.proofs.in_hand.InHand.put.Goals as goal

@@ -1,4 +1,4 @@
-use Rattle.std.proofs.Common.{◌≡◌, ◌+◌, ◌<◌, ◌≤◌, arith, sym, ◌∙◌, subst, ap, None, Some, set, get_or, length, replicate, drop, ◌++◌, ◌∷◌, []}
+use Rattle.std.proofs.Common.{◌≡◌, ◌+◌, ◌<◌, ◌≤◌, arith, sym, ◌∙◌, subst, ap, None, Some, set, get_or, length, ◌++◌, ◌∷◌, []}
 use Rattle.ticket_order.specs.Records.{entry}
 use Rattle.std.specs.Vec.{vec_len, vec_capacity}
 use Rattle.flusher.proofs.Runs.{none_is_some, command_in_run, emptied_more, there_still, taken_more, run_within}

@@ -1,4 +1,4 @@
-use Rattle.std.proofs.Common.{◌≡◌, ap, refl, arith}
+use Rattle.std.proofs.Common.{ap, arith}
 use Rattle.map_types.specs.declared.refusals.Refusal.TheVariants.{Failed}
 use Rattle.flusher.proofs.Committing.{may_advance, kept_moments, fits_stepped}
 use Rattle.flusher.proofs.keeper.Keeper.advance.Goals as goal

@@ -1,4 +1,4 @@
-use Rattle.std.proofs.Common.{◌≡◌, ◌∙◌, Ok, Err, Result, ap, subst, sym, arith, rules, ℕ}
+use Rattle.std.proofs.Common.{◌≡◌, Ok, Err, Result, sym, arith, rules, ℕ}
 use Rattle.map_types.specs.declared.refusals.Refusal.{Refusal}
 use Rattle.map_types.specs.declared.refusals.Refusal.TheVariants.{LogFull, NoMemory}
 use Rattle.gate_log.specs.States.{IsResting}

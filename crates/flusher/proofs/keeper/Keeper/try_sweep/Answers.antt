@@ -1,7 +1,5 @@
-use Rattle.std.proofs.Common.{◌≡◌, ◌++◌, ℕ, sym, subst, Ok, Err, Result, OnErr}
-use Rattle.map_types.specs.declared.refusals.Refusal.{Refusal}
+use Rattle.std.proofs.Common.{ℕ, sym, subst}
 use Rattle.flusher.specs.declared.sweeper.Sweeper.{Sweeper}
-use Rattle.flusher.specs.Hands.{SameEntries}
 use Rattle.flusher.specs.Fitting.{Fits}
 use Rattle.flusher.proofs.Keeping.{is_free}
 use Rattle.flusher.proofs.Trying.{fits_tried, same_if_refused}

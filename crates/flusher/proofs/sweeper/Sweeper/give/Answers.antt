@@ -1,5 +1,4 @@
-use Rattle.std.proofs.Common.{◌≡◌, ◌<◌, subst, sym, ◌∙◌, ap, ℕ, refl, List, arith}
-use Rattle.map_types.specs.declared.commands.Command.{Command}
+use Rattle.std.proofs.Common.{◌≡◌, ◌<◌, subst, sym, ◌∙◌, ap, ℕ, refl, List}
 use Rattle.ticket_order.specs.declared.record.Record.{Record}
 use Rattle.ticket_order.specs.Calls.{SweepsStripe, RefusesSweep}
 use Rattle.ticket_order.specs.Walks.{entries_of_walk}
@@ -8,7 +7,7 @@ use Rattle.map_types.specs.declared.refusals.Refusal.TheVariants.{NoMemory}
 use Rattle.ticket_order.specs.declared.stripe.Entry.{Entry}
 use Rattle.flusher.specs.Hands.{Hand, Gains}
 use Rattle.flusher.specs.Gathering.{Collects}
-use Rattle.flusher.specs.Sweeping.{IsHolding, IsReady, IsSwept, Stands}
+use Rattle.flusher.specs.Sweeping.{IsReady, IsSwept, Stands}
 use Rattle.flusher.proofs.Standing.{IsNext, go_on_next, after_drain, stands_drained, done_drained, stands_put_back}
 use Rattle.flusher.proofs.sweeper.Sweeper.give.Goals as goal
 

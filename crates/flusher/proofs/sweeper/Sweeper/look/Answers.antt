@@ -1,6 +1,4 @@
-use Rattle.std.proofs.Common.{◌<◌, ◌≡◌, subst, sym, ◌∙◌, arith, ℕ, ap, refl}
-use Rattle.std.specs.Bool.{IsTrue}
-use Rattle.java_hash.specs.Stripes.{is_stripe_count}
+use Rattle.std.proofs.Common.{◌<◌, ◌≡◌, subst, sym, ◌∙◌}
 use Rattle.java_hash.proofs.StripeLaws.{some_stripe}
 use Rattle.flusher.specs.declared.sweeper.Sweeper.{Sweeper}
 use Rattle.flusher.specs.Sweeping.{Stands}

@@ -1,8 +1,7 @@
-use Rattle.std.proofs.Common.{◌≡◌, subst, sym, ◌∙◌, ap, ℕ}
+use Rattle.std.proofs.Common.{subst, sym, ◌∙◌, ap, ℕ}
 use Rattle.flusher.specs.declared.sweeper.Sweeper.{Sweeper}
-use Rattle.flusher.specs.Sweeping.{IsBetween, IsSwept, IsHolding, Stands}
-use Rattle.flusher.proofs.Gathered.{missed}
-use Rattle.flusher.proofs.Standing.{holding_stands, resting_stands}
+use Rattle.flusher.specs.Sweeping.{IsHolding, Stands}
+use Rattle.flusher.proofs.Standing.{holding_stands}
 use Rattle.flusher.proofs.sweeper.Sweeper.take.Goals as goal
 
 pub hold-requires : goal.hold-requires
