@@ -6,6 +6,7 @@ use crate::rule::Pass;
 use crate::stripes::Stripes;
 use java_hash::StripeCount;
 use map_types::{Change, Command, Func, Key, Question, Read, Refusal, Reply, Value};
+use one_history::empty_parts;
 use std::alloc::Global;
 use std::process::Abort;
 use std::sync::Wait;
@@ -84,6 +85,39 @@ fn a_pass_learns_of_positions(rt: HostRuntime) -> Result<(), Refusal> {
     assert!(rt; stripes.learn(&mut two, Position::new(1)));
     assert_eq!(rt; stripes.look(&mut two), 1);
     stripes.have_seen_one_history(two, stripes.pass()?);
+    Ok(())
+}
+
+// Stripes of an empty map, after so many changes.
+fn empty_after(alloc: Global, count: StripeCount, first: u64) -> Result<Stripes, Refusal> {
+    let parts = empty_parts(alloc, count)?;
+    Stripes::new(alloc, count, parts, first)
+}
+
+fn is_spent(answer: &Result<Held, Refusal>) -> bool {
+    matches!(answer, Err(Refusal::TicketsSpent))
+}
+
+fn is_absent_at(released: &Released, number: u64) -> bool {
+    match released {
+        Released::Reply(position, Reply::Now(None)) => position.number() == number,
+        _ => false,
+    }
+}
+
+#[test]
+fn tickets_are_spent_and_reads_are_not(rt: HostRuntime) -> Result<(), Refusal> {
+    let alloc = rt.alloc();
+    let stripes = empty_after(alloc, sixteen(&rt), 1 << 62)?;
+    let mut pass = stripes.pass()?;
+    let spent = stripes.try_call(&mut pass, put(alloc, "a", 1)?);
+    assert!(rt; is_spent(&spent));
+    let spent = stripes.try_call(&mut pass, put(alloc, "b", 1)?);
+    assert!(rt; is_spent(&spent));
+    let held = stripes.try_read(&mut pass, get(alloc, "a")?)?;
+    assert_eq!(rt; held.position().number(), 1 << 62);
+    let released = stripes.release(&mut pass, held);
+    assert!(rt; is_absent_at(&released, 1 << 62));
     Ok(())
 }
 

@@ -495,66 +495,6 @@ fn lose_five<D: Disk + Drop, R: Wait, S: Steps>(
     release_twice(rt, alloc, keeper, steps, stripes, worker, all)
 }
 
-// Whether a new pass of the stripes is refused with 9.
-fn refuses_calls(stripes: &Stripes, alloc: Global) -> Result<bool, Refusal> {
-    let mut worker = stripes.pass()?;
-    let command = put(alloc, "b", 5)?;
-    let answer = stripes.try_call(&mut worker, command);
-    Ok(matches!(answer, Err(Refusal::Failed)))
-}
-
-// How many of the replies come, how many wait before a FAIL and how many fail after it; and whether
-// later calls are refused with 9.
-fn release_twice<D: Disk + Drop, R: Wait, S: Steps>(
-    rt: &R,
-    alloc: Global,
-    keeper: Keeper<D>,
-    steps: &mut S,
-    stripes: &Stripes,
-    worker: &mut Pass,
-    all: Vec<Held>,
-) -> Result<([usize; 3], bool), Refusal>
-    requires kept { (done : List Command) × Fits D.states D.honest (S.stripe_count steps.old) [] done keeper (S.recorded steps.old) }
-    requires own { IsPassOf stripes.now worker.old }
-{
-    let before = release_all(stripes, worker, alloc, all)?;
-    let replies = before.replies;
-    let waiting = before.waiting.len();
-    let is_over = fail_in_commit(rt, keeper, steps);
-    let after = release_all(stripes, worker, alloc, before.waiting)?;
-    let counts = [replies.wrapping_add(after.replies), waiting, after.failed];
-    Ok((counts, is_over && refuses_calls(stripes, alloc)?))
-}
-
-// What becomes of ten changes; and whether later calls are refused with 9.
-fn lose_five<D: Disk + Drop, R: Wait, S: Steps>(
-    rt: &R,
-    alloc: Global,
-    disk: D,
-    steps: &mut S,
-    stripes: &Stripes,
-    worker: &mut Pass,
-    command: &Command,
-) -> Result<([usize; 3], bool), Refusal>
-    requires unused { IsUnused 0 (S.recorded steps.old) }
-    requires own { IsPassOf stripes.now worker.old }
-    requires free { (recorded worker.old).holding ≡ None }
-{
-    let mut all = Vec::new(alloc);
-    let keeper = make_ten(rt, alloc, disk, steps, stripes, worker, command, &mut all)?;
-    release_twice(rt, alloc, keeper, steps, stripes, worker, all)
-}
-
-// A disk whose call after so many fails.
-fn failing_disk(alloc: Global, after: u64) -> MemDisk {
-    let mut disk = MemDisk::new(alloc);
-    disk.plan(Some(Failure {
-        after,
-        fill: Fill::New,
-    }));
-    disk
-}
-
 // The same, where the call after so many fails.
 fn five_and_five<R: Wait>(
     rt: &R,
