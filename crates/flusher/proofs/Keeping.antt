@@ -28,7 +28,7 @@ use Rattle.flusher.specs.Sweeping.{Stands, StandsBy, HasNone, IsSwept}
 use Rattle.flusher.specs.Keeping.{is_walking}
 use Rattle.flusher.specs.Fitting.{Fits, IsEmptyIn, IsQuiet, IsUnused, IsTakenFront, WereTaken, batches_of}
 use Rattle.flusher.proofs.Staging.{taken_in_hand}
-use Rattle.flusher.proofs.Entries.{grown}
+use Rattle.flusher.proofs.Entries.{grown, shrunk}
 use Rattle.flusher.proofs.Passing.{reached_by, front_of_all}
 use Rattle.flusher.proofs.Quiet.{IsGrown, swept_grown}
 
@@ -191,6 +191,11 @@ taken_front {D} states honest n before done keeper p f =
       reached = f.counts.committed;
       taken = λ e has. k.taken e (grown p.opening.first done staged e has);
     }
+
+pub each_taken : {D : Type 0} (states : D → List Files) (honest : D → Type 0) (n : ℕ) (before done : List Command) (keeper : Keeper D) (p : Record) → Fits states honest n before done keeper p → (e : Entry) → Contains (entries_from p.opening.first p.seen) e → e.ticket < keeper.log.committed → Contains p.taken e
+each_taken {D} states honest n before done keeper p f e has low =
+    let k = taken_front states honest n before done keeper p f in
+    k.taken e (shrunk p.opening.first done k.rest e (subst (λ (xs : List Command). Contains (entries_from p.opening.first xs) e) k.front has) (omega (arith, low, k.reached)))
 
 run_taken_by : (n : ℕ) (o : Option Sweep) (v : Walking) (hand : Hand) (gone commands : List Command) (p : Record) → StandsBy n o v hand gone p → IsRun hand commands → WereTaken hand.next commands p
 run_taken_by n None Rests hand gone commands p h run = taken_in_hand hand gone commands p.opening.first p.taken p.seen h.gathers.accounts run

@@ -11,3 +11,5 @@ pub mod Keeping
 pub mod Moments
 pub mod Committing
 pub mod Trying
+pub mod Seeing
+pub mod Beside

@@ -82,25 +82,25 @@ refused_quiet b i refusal.TooEarly w r = absurd r
 refused_quiet b i refusal.NotText w r = absurd r
 refused_quiet b i refusal.SeatsSpent w r = absurd r
 
-by_change : (n : ℕ) (b : Record) (i : ℕ) (s : ChangeStage) (p : Record) → FitsStage n b (ToSweep i) (stage.Change s) p → ⊥
+pub by_change : (n : ℕ) (b : Record) (i : ℕ) (s : ChangeStage) (p : Record) → FitsStage n b (ToSweep i) (stage.Change s) p → ⊥
 by_change n b i (change.Begins new) p k = not_change i new.command k.task_is
 by_change n b i (change.HasTaken new t) p k = not_change i new.command k.0.task_is
 by_change n b i (change.IsAlive new t) p k = not_change i new.command k.0.task_is
 by_change n b i (change.IsReady new t prepared) p k = not_change i new.command k.0.task_is
 by_change n b i (change.HasDrawn t h) p k = not_change i k.command k.task_is
 
-by_read : (n : ℕ) (b : Record) (i : ℕ) (s : ReadStage) (p : Record) → FitsStage n b (ToSweep i) (stage.Read s) p → ⊥
+pub by_read : (n : ℕ) (b : Record) (i : ℕ) (s : ReadStage) (p : Record) → FitsStage n b (ToSweep i) (stage.Read s) p → ⊥
 by_read n b i (read.Begins r) p k = not_read i r k.task_is
 by_read n b i (read.HasTaken r t) p k = not_read i r k.0.task_is
 by_read n b i (read.IsAlive r t) p k = not_read i r k.0.task_is
 by_read n b i (read.HasRead r t h) p k = not_read i r k.0.task_is
 
-by_release : (n : ℕ) (b : Record) (i : ℕ) (s : ReleaseStage) (p : Record) → FitsStage n b (ToSweep i) (stage.Release s) p → ⊥
+pub by_release : (n : ℕ) (b : Record) (i : ℕ) (s : ReleaseStage) (p : Record) → FitsStage n b (ToSweep i) (stage.Release s) p → ⊥
 by_release n b i (release.Begins h) p k = not_release i h.position h.reply k.0
 by_release n b i (release.HasMissed h) p k = not_release i h.position h.reply k.0
 by_release n b i (release.FoundFailure h) p k = not_release i h.position h.reply k.0
 
-by_capture : (n : ℕ) (b : Record) (i : ℕ) (s : CaptureStage) (p : Record) → FitsStage n b (ToSweep i) (stage.Capture s) p → ⊥
+pub by_capture : (n : ℕ) (b : Record) (i : ℕ) (s : CaptureStage) (p : Record) → FitsStage n b (ToSweep i) (stage.Capture s) p → ⊥
 by_capture n b i (capture.Begins alloc j) p k = not_capture i j k.0.task_is
 by_capture n b i (capture.HasTaken alloc t) p k = not_capture i t.stripe k.0
 by_capture n b i (capture.HasLooked t z) p k = not_capture i t.stripe k.0
@@ -142,7 +142,7 @@ pub record IsGrown (b p : Record) : Type 0 where
 grown_at : (b v w : Record) → IsGrown b v → w ≡ v → IsGrown b w
 grown_at b v w k is = subst (IsGrown b) (sym is) k
 
-refused_grown : (b : Record) (i : ℕ) (e : Refusal) (w : Record) → RefusesSweep b i e w → IsGrown b w
+pub refused_grown : (b : Record) (i : ℕ) (e : Refusal) (w : Record) → RefusesSweep b i e w → IsGrown b w
 refused_grown b i (refusal.Busy j) w r = grown_at b (missing b i) w (record { opening = refl; taken = refl; more = []; seen = sym (append-nil b.seen) }) r.1
 refused_grown b i refusal.NoMemory w r =
     let x = r.before in

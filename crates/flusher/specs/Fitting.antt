@@ -6,6 +6,7 @@ use Rattle.map_types.specs.declared.commands.Command.{Command}
 use Rattle.map_types.specs.declared.refusals.Refusal.{Refusal}
 use Rattle.ticket_order.specs.declared.stripe.Entry.{Entry}
 use Rattle.ticket_order.specs.declared.record.Record.{Record}
+use Rattle.ticket_order.specs.declared.record.StepMade.{StepMade}
 use Rattle.ticket_order.specs.Legality.{entries_from}
 use Rattle.store_layout.specs.Logs.{Batch, commands_in, log_file}
 use Rattle.gate_log.specs.declared.phase.Phase.{Phase}
@@ -99,6 +100,22 @@ pub record IsQuiet (p w : Record) : Type 0 where
   pub calls : w.calls ≡ p.calls
   pub published : w.published ≡ p.published
   pub failed : w.failed ≡ p.failed
+
+-- the pass has seen what it had seen, and perhaps more
+pub record HasSeenMore (p w : Record) : Type 0 where
+  pub more : List Command
+  pub is : w.seen ≡ p.seen ++ more
+
+-- The pass made steps of calls and releases, none of them the keeper's.
+pub record IsBeside (p w : Record) : Type 0 where
+  pub opening : w.opening ≡ p.opening
+  pub keeper : w.keeper ≡ p.keeper
+  pub taken : w.taken ≡ p.taken
+  pub published : w.published ≡ p.published
+  pub failed : w.failed ≡ p.failed
+  pub seen : HasSeenMore p w
+  pub made : List StepMade
+  pub steps : w.steps ≡ p.steps ++ made
 
 -- the sweeps of the pass took these commands, from this ticket on
 abbrev pub WereTaken : ℕ → List Command → Record → Type 0

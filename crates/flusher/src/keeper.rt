@@ -14,9 +14,10 @@ ghost use Rattle.store_layout.specs.Logs.{Batch};
 ghost use Rattle.flusher.specs.Hands.{FitsBatch, IsLongest, IsRun, SameEntries};
 ghost use Rattle.flusher.specs.Sweeping.{HasGathered, IsDone, StepsOn, next_kind};
 ghost use Rattle.flusher.specs.Keeping.{IsFull, IsPast, Stages, StaysAt, SweepsOnce, is_too_long, is_walking, passed};
-ghost use Rattle.flusher.specs.Fitting.{Fits, IsQuiet, IsUnused, KeepsCommands, done_after};
+ghost use Rattle.flusher.specs.Fitting.{Fits, HasSeenMore, IsQuiet, IsUnused, KeepsCommands, done_after};
 
 use crate::sweeper::{Sweeper, Swept, Walking};
+use checkpoint_file::CheckpointWriter;
 use disk_model::Disk;
 use gate_log::{GateLog, Phase};
 use map_types::Refusal;
@@ -35,6 +36,8 @@ pub struct Keeper<D: Disk> {
     /// The entries of the staged batch, which are in hand until they are committed.
     pub staged: Vec<Entry>,
     pub alloc: Global,
+    /// The writer of the checkpoint that is under way.
+    pub checkpoint: Option<CheckpointWriter>,
     /// A device call has failed.
     pub is_broken: bool,
     /// `fail` was called.
@@ -52,6 +55,7 @@ impl<D: Disk> Keeper<D> {
         ensures hand { result.sweeper.in_hand ≡ record { next = first; slots = [] } }
         ensures sweep { (result.sweeper.sweep ≡ None) × (result.sweeper.walking ≡ Walking.Rests) }
         ensures staged { result.staged.items ≡ [] }
+        ensures checkpoint { result.checkpoint ≡ None }
         ensures works { (result.is_broken ≡ false) × (result.has_failed ≡ false) }
         ensures published { result.published ≡ first }
         ensures fits { (n : ℕ) (p : Record) → IsUnused first p → Fits D.states D.honest n [] [] result p }
@@ -62,6 +66,7 @@ impl<D: Disk> Keeper<D> {
             sweeper: Sweeper::new(alloc, first),
             staged: Vec::new(alloc),
             alloc,
+            checkpoint: None,
             is_broken: false,
             has_failed: false,
             published: first,
@@ -80,6 +85,7 @@ impl<D: Disk> Keeper<D> {
         ensures fits { (before : List Command) (done : List Command) → Fits D.states D.honest (S.stripe_count steps.old) before done self.old (S.recorded steps.old)
             → Fits D.states D.honest (S.stripe_count steps.new) before done self.new (S.recorded steps.new) }
         ensures quiet { IsQuiet (S.recorded steps.old) (S.recorded steps.new) }
+        ensures seen { HasSeenMore (S.recorded steps.old) (S.recorded steps.new) }
         ensures same { self.new ≡ record self.old { sweeper = self.new.sweeper } }
         ensures place { S.place steps.new ≡ S.place steps.old }
         ensures stripes { S.stripe_count steps.new ≡ S.stripe_count steps.old }
@@ -99,6 +105,7 @@ impl<D: Disk> Keeper<D> {
         ensures fits { (before : List Command) (done : List Command) → Fits D.states D.honest (S.stripe_count steps.old) before done self.old (S.recorded steps.old)
             → Fits D.states D.honest (S.stripe_count steps.new) before done self.new (S.recorded steps.new) }
         ensures quiet { IsQuiet (S.recorded steps.old) (S.recorded steps.new) }
+        ensures seen { HasSeenMore (S.recorded steps.old) (S.recorded steps.new) }
         ensures same { self.new ≡ record self.old { sweeper = self.new.sweeper } }
         ensures place { S.place steps.new ≡ S.place steps.old }
         ensures stripes { S.stripe_count steps.new ≡ S.stripe_count steps.old }
@@ -319,6 +326,7 @@ impl<D: Disk> Keeper<D> {
             sweeper: _sweeper,
             staged: _staged,
             alloc: _,
+            checkpoint: _checkpoint,
             is_broken: _,
             has_failed: _,
             published: _,

@@ -1,11 +1,15 @@
 //! What holds of every keeper between its calls.
-ghost use Rattle.std.specs.Prelude.{ℕ, List, ◌++◌};
+ghost use Rattle.std.specs.Prelude.{◌≡◌, ◌<◌, ℕ, List, ◌++◌, None, false};
+ghost use Rattle.std.specs.List.{Contains};
 ghost use Rattle.map_types.specs.declared.commands.Command.{Command};
 ghost use Rattle.ticket_order.specs.declared.record.Record.{Record};
+ghost use Rattle.ticket_order.specs.declared.stripe.Entry.{Entry};
+ghost use Rattle.ticket_order.specs.Legality.{entries_from};
 ghost use Rattle.disk_model.specs.Files.{now};
 ghost use Rattle.gate_log.specs.States.{commands_of};
-ghost use Rattle.flusher.specs.Fitting.{Fits, IsTakenFront, StopsHave, WereTaken};
+ghost use Rattle.flusher.specs.Fitting.{Fits, IsBeside, IsTakenFront, StopsHave, WereTaken};
 ghost use Rattle.flusher.specs.Hands.{IsRun};
+ghost use Rattle.flusher.specs.Keeping.{is_walking};
 
 use crate::keeper::Keeper;
 use disk_model::Disk;
@@ -21,14 +25,25 @@ pub fn stops_of_a_keeper<D: Disk>(_keeper: &Keeper<D>)
 }
 
 /// What is committed was taken by the sweeps of the keeper's pass, ticket by ticket, and is the front
-/// of the one history from the pass's opening on.
+/// of the one history from the pass's opening on: each entry of the history below the committed count
+/// was taken.
 pub fn committed_were_taken<D: Disk>(_keeper: &Keeper<D>)
-    ensures { (n : ℕ) (before : List Command) (done : List Command) (p : Record) → Fits D.states D.honest n before done _keeper.now p
+    ensures front { (n : ℕ) (before : List Command) (done : List Command) (p : Record) → Fits D.states D.honest n before done _keeper.now p
         → IsTakenFront done _keeper.now.log.committed p }
+    ensures each { (n : ℕ) (before : List Command) (done : List Command) (p : Record) → Fits D.states D.honest n before done _keeper.now p
+        → (e : Entry) → Contains (entries_from p.opening.first p.seen) e → e.ticket < _keeper.now.log.committed → Contains p.taken e }
 {}
 
 /// What is in hand was taken by the sweeps of the keeper's pass, and so was what may be the next batch.
 pub fn runs_were_taken<D: Disk>(_keeper: &Keeper<D>)
     ensures { (n : ℕ) (before : List Command) (done : List Command) (p : Record) → Fits D.states D.honest n before done _keeper.now p
         → (commands : List Command) → IsRun _keeper.now.sweeper.in_hand commands → WereTaken _keeper.now.log.committed commands p }
+{}
+
+/// Between its walks the keeper's pass holds no stripe, and may make calls and releases of its own.
+pub fn pass_goes_on<D: Disk>(_keeper: &Keeper<D>)
+    ensures free { (n : ℕ) (before : List Command) (done : List Command) (p : Record) → Fits D.states D.honest n before done _keeper.now p
+        → is_walking _keeper.now.sweeper.walking ≡ false → p.holding ≡ None }
+    ensures fits { (n : ℕ) (before : List Command) (done : List Command) (p : Record) → Fits D.states D.honest n before done _keeper.now p
+        → is_walking _keeper.now.sweeper.walking ≡ false → (w : Record) → IsBeside p w → w.holding ≡ None → Fits D.states D.honest n before done _keeper.now w }
 {}

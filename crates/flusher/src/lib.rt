@@ -9,5 +9,5 @@ mod sweeper;
 
 pub use in_hand::{InHand, Run};
 pub use keeper::Keeper;
-pub use laws::{committed_were_taken, runs_were_taken, stops_of_a_keeper};
+pub use laws::{committed_were_taken, pass_goes_on, runs_were_taken, stops_of_a_keeper};
 pub use sweeper::{Sweep, Sweeper, Swept, Walking};

@@ -5,6 +5,7 @@ use Rattle.flusher.specs.declared.keeper.Keeper.{Keeper}
 use Rattle.flusher.specs.declared.sweeper.Swept.TheVariants.{Done}
 use Rattle.flusher.specs.Sweeping.{IsDone}
 use Rattle.flusher.proofs.Quiet.{quiet_then}
+use Rattle.flusher.proofs.Seeing.{sees_none, sees_then}
 use Rattle.flusher.proofs.Trying.{put_back_at, stays_at}
 use Rattle.flusher.proofs.keeper.Keeper.sweep.Goals as goal
 
@@ -19,6 +20,12 @@ returns-in-Err-clause-err g c =
 
 pub returns-in-Err-clause-fits : goal.returns-in-Err-clause-fits
 returns-in-Err-clause-fits g c = λ before done f. c.in-Err.ensures.fits before done (c.loop-step.invariant.fits before done f)
+
+pub returns-in-Err-clause-seen : goal.returns-in-Err-clause-seen
+returns-in-Err-clause-seen g c = sees_then _ _ _ c.loop-step.invariant.seen c.sweep_step.ensures.seen
+
+pub returns-in-Done-clause-seen : goal.returns-in-Done-clause-seen
+returns-in-Done-clause-seen g c = sees_then _ _ _ c.loop-step.invariant.seen c.sweep_step.ensures.seen
 
 pub returns-in-Done-clause-done : goal.returns-in-Done-clause-done
 returns-in-Done-clause-done g c = λ before done f.
@@ -39,6 +46,7 @@ loop-step-preserved g c =
       finite = tt;
       fits = λ before done f. e.fits before done (i.fits before done f);
       quiet = quiet_then _ _ _ i.quiet e.quiet;
+      seen = sees_then _ _ _ i.seen e.seen;
       same = e.same ∙ ap (λ (k : Keeper g.row.D.Denot). record k { sweeper = c.sweep_step.new.self.sweeper }) i.same;
       place = e.place ∙ i.place;
       stripes = e.stripes ∙ i.stripes;

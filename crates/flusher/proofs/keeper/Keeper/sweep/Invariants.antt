@@ -1,6 +1,6 @@
 use Rattle.std.proofs.Common.{◌≡◌, List}
 use Rattle.map_types.specs.declared.commands.Command.{Command}
-use Rattle.flusher.specs.Fitting.{Fits, IsQuiet}
+use Rattle.flusher.specs.Fitting.{Fits, HasSeenMore, IsQuiet}
 use Rattle.flusher.proofs.keeper.Keeper.sweep.Given as goal
 
 abbrev pub invariant-loop-step : goal.invariant-loop-step
@@ -10,6 +10,7 @@ invariant-loop-step g l = record {
   fits : (before : List Command) (done : List Command) → Fits g.D.Disk.states g.D.Disk.honest (g.S.Steps.stripe_count l.initial.steps) before done l.initial.self (g.S.Steps.recorded l.initial.steps)
       → Fits g.D.Disk.states g.D.Disk.honest (g.S.Steps.stripe_count l.steps) before done l.self (g.S.Steps.recorded l.steps);
   quiet : IsQuiet (g.S.Steps.recorded l.initial.steps) (g.S.Steps.recorded l.steps);
+  seen : HasSeenMore (g.S.Steps.recorded l.initial.steps) (g.S.Steps.recorded l.steps);
   same : l.self ≡ record l.initial.self { sweeper = l.self.sweeper };
   place : g.S.Steps.place l.steps ≡ g.S.Steps.place l.initial.steps;
   stripes : g.S.Steps.stripe_count l.steps ≡ g.S.Steps.stripe_count l.initial.steps;

@@ -3,6 +3,7 @@ use Rattle.gate_log.specs.States.{commands_of}
 use Rattle.flusher.specs.Sweeping.{Stands}
 use Rattle.flusher.specs.Fitting.{Fits}
 use Rattle.flusher.proofs.Quiet.{calm_step}
+use Rattle.flusher.proofs.Seeing.{sees_more}
 use Rattle.flusher.proofs.Keeping.{fits_swept}
 use Rattle.flusher.proofs.keeper.Keeper.sweep_step.Goals as goal
 
@@ -21,3 +22,9 @@ returns-clause-quiet g c =
     let f = c.requires.2 in
     (calm_step (g.S.Steps.stripe_count c.args.steps.now) c.args.self.now.sweeper (c.requires.1 ++ commands_of c.args.self.now.staged.items) c.step.new.self (g.S.Steps.recorded c.args.steps.now) (g.S.Steps.recorded c.step.new.steps)
     c.step.result f.stands c.step.ensures.steps_on).quiet
+
+pub returns-clause-seen : goal.returns-clause-seen
+returns-clause-seen g c =
+    let f = c.requires.2 in
+    sees_more (g.S.Steps.stripe_count c.args.steps.now) c.args.self.now.sweeper (c.requires.1 ++ commands_of c.args.self.now.staged.items) c.step.new.self (g.S.Steps.recorded c.args.steps.now) (g.S.Steps.recorded c.step.new.steps)
+    c.step.result f.stands c.step.ensures.steps_on
