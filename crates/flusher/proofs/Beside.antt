@@ -1,5 +1,5 @@
 -- The keeper beside the calls and releases of its own pass.
-use Rattle.std.proofs.Common.{◌≡◌, ◌⊎◌, inl, inr, ℕ, ◌+◌, ◌<◌, ◌≤◌, List, [], ◌∷◌, ◌++◌, length, Option, Some, None, Bool, true, false, refl, sym, ◌∙◌, ap, subst, arith}
+use Rattle.std.proofs.Common.{◌≡◌, ℕ, ◌+◌, List, ◌++◌, length, Option, Some, None, false, sym, ◌∙◌, ap, subst, arith}
 use Rattle.std.specs.List.{Contains}
 use Rattle.std.proofs.lemmas.List.{length-append}
 use Rattle.std.proofs.lemmas.List.Elements.{Contains-append_left}
@@ -10,14 +10,12 @@ use Rattle.ticket_order.specs.declared.record.StepMade.{StepMade}
 use Rattle.ticket_order.specs.declared.record.StepMade.TheVariants.{Looked}
 use Rattle.ticket_order.specs.declared.record.Opening.{Opening}
 use Rattle.ticket_order.specs.declared.record.Record.{Record}
-use Rattle.ticket_order.specs.Records.{reach}
-use Rattle.ticket_order.specs.Legality.{entries_from}
 use Rattle.gate_log.specs.States.{commands_of}
 use Rattle.flusher.specs.declared.keeper.Keeper.{Keeper}
 use Rattle.flusher.specs.declared.sweeper.Sweep.{Sweep}
 use Rattle.flusher.specs.declared.sweeper.Walking.{Walking}
 use Rattle.flusher.specs.declared.sweeper.Walking.TheVariants.{Rests, SweepTakes, SweepGives}
-use Rattle.flusher.specs.Hands.{Hand, Holds}
+use Rattle.flusher.specs.Hands.{Hand}
 use Rattle.flusher.specs.Gathering.{Accounts, AreTaken, Gathers, HasSweptBelow}
 use Rattle.flusher.specs.Sweeping.{StandsBy}
 use Rattle.flusher.specs.Keeping.{is_walking}
@@ -44,7 +42,7 @@ swept_beside : (n count stripe : ℕ) (p w : Record) → IsBeside p w → HasSwe
 swept_beside n count stripe p w b h =
     let first : w.opening.first ≡ p.opening.first = ap (λ (o : Opening). o.first) b.opening in
     let all : AreTaken n count stripe p.opening.first p.taken (p.seen ++ b.seen.more) = λ e has below of_stripe.
-        h.all e (shrunk p.opening.first p.seen b.seen.more e has (omega (arith, below, h.reached))) below of_stripe in
+    h.all e (shrunk p.opening.first p.seen b.seen.more e has (omega (arith, below, h.reached))) below of_stripe in
     record {
       looked = subst (λ (s : List StepMade). Contains s (Looked count)) (sym b.steps) (Contains-append_left p.steps b.made (Looked count) h.looked);
       reached = omega (arith, h.reached, first, ap (λ (xs : List Command). length xs) b.seen.is, length-append p.seen b.seen.more);

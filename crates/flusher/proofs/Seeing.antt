@@ -1,10 +1,9 @@
 -- What a pass has seen only grows while its keeper sweeps.
-use Rattle.std.proofs.Common.{◌≡◌, ◌⊎◌, inl, inr, ℕ, ◌+◌, ◌≤◌, List, [], ◌∷◌, ◌++◌, length, Option, Some, None, Result, Ok, Err, append-nil, refl, sym, ◌∙◌, ap, subst, arith}
+use Rattle.std.proofs.Common.{◌≡◌, inl, inr, ℕ, ◌≤◌, List, [], ◌++◌, Option, Some, None, Result, Ok, Err, append-nil, refl, sym, ◌∙◌, ap, arith}
 use Rattle.std.proofs.lemmas.List.{append_assoc}
 use Rattle.map_types.specs.declared.commands.Command.{Command}
 use Rattle.map_types.specs.declared.refusals.Refusal.{Refusal}
 use Rattle.map_types.specs.declared.refusals.Refusal.TheVariants as refusal
-use Rattle.ticket_order.specs.declared.sweep_walk.SweepStage.{SweepStage}
 use Rattle.ticket_order.specs.declared.sweep_walk.SweepStage.TheVariants as sweep_stage
 use Rattle.ticket_order.specs.declared.walk.Stage.{Stage}
 use Rattle.ticket_order.specs.declared.walk.Stage.TheVariants as stage
@@ -13,7 +12,7 @@ use Rattle.ticket_order.specs.declared.stripe.Entry.{Entry}
 use Rattle.ticket_order.specs.declared.record.Purpose.TheVariants.{Nothing}
 use Rattle.ticket_order.specs.declared.record.Opening.{Opening}
 use Rattle.ticket_order.specs.declared.record.Record.{Record}
-use Rattle.ticket_order.specs.Records.{giving, missing, past, reach, taking}
+use Rattle.ticket_order.specs.Records.{giving, missing, past, taking}
 use Rattle.ticket_order.specs.StepRules.{Rises}
 use Rattle.ticket_order.specs.Calls.{SweepsStripe, RefusesSweep}
 use Rattle.ticket_order.specs.Walks.{ToSweep, FitsStage, left_of_stage}

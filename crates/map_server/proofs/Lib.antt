@@ -4,4 +4,5 @@ pub mod Parts
 pub mod Turns
 pub mod Connections
 pub mod CommandLines
+pub mod Beside
 pub mod Releasing

@@ -1,74 +1,61 @@
--- What the releases of one reply leave of a record, and what the answers then say.
-use Rattle.std.proofs.Common.{◌≡◌, ◌≤◌, ◌⊎◌, ◌∙◌, ℕ, Bool, List, [], ◌∷◌, length, Ok, Err, IfOk, IfErr, ap, subst, sym, refl, inl, inr, true, false}
+-- What the release of a reply leaves of a record, and what the answers then say.
+use Rattle.std.proofs.Common.{◌≡◌, ◌<◌, ◌≤◌, ◌⊎◌, ℕ, List, length, Ok, Err, IfOk, IfErr, ap, subst, sym, inl, inr, true, false, arith}
+use Rattle.std.specs.List.{Contains}
+use Rattle.map_types.specs.declared.commands.Command.{Command}
 use Rattle.map_types.specs.declared.commands.Reply.{Reply}
 use Rattle.map_types.specs.declared.refusals.Refusal.{Refusal}
 use Rattle.map_types.specs.declared.refusals.Refusal.TheVariants as refusal_type
+use Rattle.ticket_order.specs.declared.stripe.Entry.{Entry}
+use Rattle.ticket_order.specs.declared.record.Opening.{Opening}
 use Rattle.ticket_order.specs.declared.record.Record.{Record}
-use Rattle.ticket_order.specs.StepRules.{Sees}
-use Rattle.ticket_order.specs.Calls.{Misses, MissesAlive, Reaches, SeesAgain}
-use Rattle.map_types.specs.declared.commands.Command.{Command}
-use Rattle.ticket_order.specs.Records.{failing}
+use Rattle.ticket_order.specs.Records.{publishing}
+use Rattle.ticket_order.specs.Legality.{entries_from}
+use Rattle.ticket_order.specs.Calls.{Misses, Reaches, SeesAgain}
 use Rattle.gate_log.specs.States.{LogState}
 use Rattle.flusher.specs.declared.keeper.Keeper.{Keeper}
-use Rattle.flusher.specs.Fitting.{WereTaken}
+use Rattle.flusher.specs.Fitting.{IsTakenFront, WereTaken}
 use Rattle.flusher.specs.Hands.{FitsBatch, Hand, IsLongest}
 use Rattle.flusher.specs.Keeping.{is_too_long}
 use Rattle.wire_frames.specs.declared.requests.Request.{Request}
 use Rattle.map_server.specs.Dialogue.{Answer}
-use Rattle.map_server.specs.Served.{Kept, CannotCommit, IsGivenOut, IsIdle, IsWithheld, Makes, Took, TriesRelease, fails}
+use Rattle.map_server.specs.Served.{AreTaken, CannotCommit, IsCommitted, IsGivenOut, IsIdle, IsSwept, IsWithheld, Makes, Took, fails}
+use Rattle.map_server.proofs.Beside.{grown, own_taken}
 
--- releases of this position were tried, and left this record
-abbrev pub WasTried : ℕ → Record → Record → Type 0
-WasTried position v w = (tries : List Record) × TriesRelease position v tries w
+-- what is committed was published
+reached_published : (position : ℕ) (made w : Record) (log : LogState) → IsCommitted position made w log → position ≤ w.published
+reached_published position made w log k = omega (arith, k.reached, ap (λ (r : Record). r.published) k.is)
 
-pub tried_again : (position q : ℕ) (v w after : Record) → q ≡ position → WasTried position v w → MissesAlive q true w after → WasTried position v after
-tried_again position q v w after e t misses = (after ∷ t.0, (refl, (w, t.1, subst (λ (p : ℕ). MissesAlive p true w after) e misses)))
+pub never_missed : (position : ℕ) (made w after : Record) (log : LogState) → IsCommitted position made w log → Misses position w after → ⊥
+never_missed position made w after log k m = omega (arith, reached_published position made w log k, m.sees.published, m.missed)
 
--- a release found this position durable
-abbrev pub IsFound : ℕ → Record → Record → Type 0
-IsFound position v w = Reaches position v w ⊎ SeesAgain position v (Reaches position) w
+pub found : (position : ℕ) (made w after : Record) (log : LogState) → IsCommitted position made w log → Reaches position w after ⊎ SeesAgain position w (Reaches position) after → Reaches position w after
+found position made w after log k (inl r) = r
+found position made w after log k (inr s) = absurd (never_missed position made w s.first.between log k s.first.misses)
 
-pub given_out : (position q : ℕ) (v t w : Record) (kept : Kept) → q ≡ position → WasTried position v t → IsFound q t w → q ≤ kept.log.committed → kept.pass.failed ≡ false → IsGivenOut position v w kept
-given_out position q v t w kept e tried found committed unfailed = record {
-  tries = tried.0;
-  tried = t;
-  waits = tried.1;
-  reaches = subst (λ (p : ℕ). IsFound p t w) e found;
-  committed = subst (λ (p : ℕ). p ≤ kept.log.committed) e committed;
-  unfailed = unfailed;
-}
+pub committed_by : (position : ℕ) (made after w : Record) (log : LogState) (done : List Command) → IsSwept made after → position ≤ log.committed → IsTakenFront done log.committed after → w ≡ publishing after log.committed → IsCommitted position made w log
+committed_by position made after w log done swept reached front is = record { after = after; swept = swept; reached = reached; done = done; front = front; is = is }
 
-pub withheld : (position : ℕ) (v t : Record) (kept : Kept) → WasTried position v t → CannotCommit kept.log kept.pass → kept.pass.failed ≡ true → IsWithheld position v t kept
-withheld position v t kept tried cannot failed = record { tries = tried.0; tried = t; waits = tried.1; lost = inl (cannot, failed, refl) }
-
-pub shown_failed : (position q : ℕ) (v t w : Record) (kept : Kept) → q ≡ position → WasTried position v t → SeesAgain q t (Misses q) w → kept.pass.failed ≡ false → IsWithheld position v w kept
-shown_failed position q v t w kept e tried again unfailed = record {
-  tries = tried.0;
-  tried = t;
-  waits = tried.1;
-  lost = inr (subst (λ (p : ℕ). SeesAgain p t (Misses p) w) e again, unfailed);
-}
-
-holding_of_sees : (v : Record) (d : ℕ) (w : Record) → Sees v d w → w.holding ≡ v.holding
-holding_of_sees v d w s = ap (λ (r : Record). r.holding) s.is
-
-pub holding_of_miss : (p : ℕ) (is_alive : Bool) (v w : Record) → MissesAlive p is_alive v w → w.holding ≡ v.holding
-holding_of_miss p is_alive v w m = ap (λ (r : Record). r.holding) m.lives.is ∙ holding_of_sees v m.misses.durable m.between m.misses.sees
-
-pub holding_of_found : (p : ℕ) (v w : Record) → IsFound p v w → w.holding ≡ v.holding
-holding_of_found p v w (inl r) = holding_of_sees v r.durable w r.sees
-holding_of_found p v w (inr s) = holding_of_sees s.between s.second.durable w s.second.sees ∙ holding_of_miss p false v s.between s.first
-
-pub holding_of_failure : (p : ℕ) (v w : Record) → SeesAgain p v (Misses p) w → w.holding ≡ v.holding
-holding_of_failure p v w s = holding_of_sees s.between s.second.durable w s.second.sees ∙ holding_of_miss p false v s.between s.first
+-- each entry that the pass had seen before the sweeps was taken
+pub were_taken : (position count : ℕ) (made after w : Record) → IsSwept made after → position ≤ count → ((e : Entry) → Contains (entries_from after.opening.first after.seen) e → e.ticket < count → Contains after.taken e) → w.taken ≡ after.taken → AreTaken position made w
+were_taken position count made after w s reached each same = λ e has low.
+    subst (λ (es : List Entry). Contains es e) (sym same)
+    (each e (subst (λ (o : Opening). Contains (entries_from o.first after.seen) e) (sym s.quiet.opening) (subst (λ (xs : List Command). Contains (entries_from made.opening.first xs) e) (sym s.seen.is) (grown made.opening.first made.seen s.seen.more e has)))
+    (omega (arith, low, reached)))
 
 -- a call that was made is answered as its reply was given out or withheld
-pub took : (P : Type 0) (n : ℕ) (v : Record) (request : Request) (old : Kept) (result : Answer) (position : ℕ) (reply : Reply) (made w : Record) (new : Kept) → Makes n v request position reply made
+pub took : (P : Type 0) (n : ℕ) (v : Record) (request : Request) (old : LogState) (result : Answer) (position : ℕ) (reply : Reply) (made w : Record) (new : LogState) → Makes n v request position reply made
     → IfOk result (λ answer. (answer ≡ reply) × P × IsGivenOut position made w new)
-    → IfErr result (λ refusal. (refusal ≡ refusal_type.Failed) × IsWithheld position made w new)
+    → IfErr result (λ refusal. (refusal ≡ refusal_type.Failed) × IsWithheld made w new)
     → Took n v request result old w new
 took P n v request old (Ok answer) position reply made w new makes ok err =
-    record { position = position; made = made; makes = subst (λ (x : Reply). Makes n v request position x made) (sym ok.0) makes; given_out = ok.2 }
+    let out = ok.2 in
+    record {
+      position = position;
+      made = made;
+      makes = subst (λ (x : Reply). Makes n v request position x made) (sym ok.0) makes;
+      given_out = out;
+      own = own_taken n v request position reply made w makes (λ e has low. subst (λ (r : Record). Contains r.taken e) (sym out.reaches.sees.is) (out.taken e has low));
+    }
 took P n v request old (Err refusal) position reply made w new makes ok err =
     inr (err.0, record { position = position; reply = reply; made = made; makes = makes; withheld = err.1 })
 
@@ -81,14 +68,8 @@ holds_still A B C P (Err refusal) ok err still = both (subst (λ (r : Refusal). 
     both e = absurd (cc)
 
 -- a keeper that has published is idle still
-pub published_idle : {D : Type 0} (old new : Keeper D) (count position : ℕ) → new ≡ record old { published = count } → IsIdle old → position ≤ old.log.committed → IsIdle new × (position ≤ new.log.committed)
-published_idle {D} old new count position is idle committed =
-    subst (λ (k : Keeper D). IsIdle k × (position ≤ k.log.committed)) (sym is) (record { working = idle.working; unfailed = idle.unfailed; resting = idle.resting; still = idle.still }, committed)
-
--- after a FAIL it is as it was
-pub still_cannot : (log : LogState) (p : Record) → CannotCommit log p → CannotCommit log (failing p)
-still_cannot log p (inl broken) = inl broken
-still_cannot log p (inr full) = inr (record { commands = full.commands; some = full.some; taken = full.taken; fits = full.fits; too_long = full.too_long })
+pub published_idle : {D : Type 0} (old new : Keeper D) (count : ℕ) → new ≡ record old { published = count } → IsIdle old → IsIdle new
+published_idle {D} old new count is idle = subst (λ (k : Keeper D). IsIdle k) (sym is) (record { working = idle.working; unfailed = idle.unfailed; resting = idle.resting; still = idle.still })
 
 -- a batch that the keeper refuses as too long
 pub no_room : (hand : Hand) (old new : LogState) (p : Record) (commands : List Command) → new ≡ old → hand.next ≡ old.committed → 1 ≤ length commands → IsLongest 65536 hand commands → WereTaken old.committed commands p → is_too_long old commands → CannotCommit new p

@@ -5,42 +5,38 @@ use Rattle.std.specs.FinMap as finite
 use Rattle.ticket_order.specs.declared.record.Record.{Record}
 use Rattle.ticket_order.specs.declared.record.Opening.{Opening}
 use Rattle.stripe_locks.specs.Plays.{joining}
-use Rattle.gate_log.specs.States.{resumed}
+use Rattle.gate_log.specs.States.{LogState, resumed}
 use Rattle.wire_frames.specs.declared.requests.Request.{Request}
 use Rattle.map_server.specs.declared.connection.ConnectionError.{ConnectionError}
 use Rattle.map_server.specs.Connection.{Connection}
 use Rattle.map_server.specs.Dialogue.{Answer}
-use Rattle.map_server.specs.Served.{Kept, Took, fails}
+use Rattle.map_server.specs.Served.{Took, fails}
 use Rattle.map_types.specs.declared.refusals.Refusal.{Refusal}
 use Rattle.map_types.specs.declared.refusals.Refusal.TheVariants as refusal_type
 use Rattle.map_server.specs.CommandLine.{faults, Misuses}
 
--- a map in memory: the count of stripes, the record of the pass that makes the calls, the keeper, and whether it has failed
+-- a map in memory: the count of stripes, the record of its pass, its log, and whether it has failed
 pub record MapState : Type 0 where
   pub stripes : ℕ
   pub pass : Record
-  pub kept : Kept
+  pub log : LogState
   pub has_failed : Bool
 
 -- where an empty map begins
 abbrev pub nothing_yet : Opening
 nothing_yet = record { first = 0; map = finite.empty }
 
--- An empty map of 16 stripes: its two passes have made no step, and the log has its header alone.
+-- An empty map of 16 stripes: its pass has made no step, and the log has its header alone.
 pub record IsEmpty (map : MapState) : Type 0 where
   pub stripes : map.stripes ≡ 16
-  pub joined : ℕ
-  pub pass : map.pass ≡ joining nothing_yet joined
-  pub keeper : map.kept.pass ≡ joining nothing_yet 0
-  pub log : map.kept.log ≡ resumed 0 0 17 0
+  pub pass : map.pass ≡ joining nothing_yet 0
+  pub log : map.log ≡ resumed 0 0 17 0
   pub unfailed : map.has_failed ≡ false
 
--- 16 stripes of an empty map, and two passes that have made no step, one of them the keeper's
-pub record IsJoined (stripes : ℕ) (keeper pass : Record) : Type 0 where
+-- 16 stripes of an empty map, and the keeper's pass, which has made no step
+pub record IsJoined (stripes : ℕ) (pass : Record) : Type 0 where
   pub count : stripes ≡ 16
-  pub first : keeper ≡ joining nothing_yet 0
-  pub joined : ℕ
-  pub second : pass ≡ joining nothing_yet joined
+  pub first : pass ≡ joining nothing_yet 0
 
 -- no memory was found for the stripes, or they had no keeper's pass
 abbrev pub IsUnjoined : Refusal → Type 0
@@ -55,7 +51,7 @@ CannotBegin failures disk refusal left =
 pub record Works (before : MapState) (request : Request) (answer : Answer) (after : MapState) : Type 0 where
   pub working : before.has_failed ≡ false
   pub stripes : after.stripes ≡ before.stripes
-  pub took : Took before.stripes before.pass request answer before.kept after.pass after.kept
+  pub took : Took before.stripes before.pass request answer before.log after.pass after.log
   pub failed : after.has_failed ≡ fails answer
 
 -- a map that has failed refuses, and does nothing

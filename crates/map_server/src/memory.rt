@@ -2,15 +2,15 @@
 ghost use Rattle.std.specs.Prelude.{◌≡◌, ◌≢◌, ◌≤◌, ◌+◌, IfOk, IfErr, OnOk, OnErr, ℕ, None, false, true};
 ghost use Rattle.ticket_order.specs.declared.record.Record.{Record};
 ghost use Rattle.gate_log.specs.States.{IsResting, begun, log_after, resumed};
-ghost use Rattle.flusher.specs.Fitting.{IsUnused};
+ghost use Rattle.flusher.specs.Fitting.{HasSeenMore, IsBeside, IsQuiet, IsUnused};
 ghost use Rattle.flusher.specs.Keeping.{is_walking};
-ghost use Rattle.stripe_locks.specs.Passes.{recorded, stripe_count, IsPassOf, IsSamePass};
+ghost use Rattle.stripe_locks.specs.Passes.{recorded, stripe_count, IsPassOf};
 ghost use Rattle.map_server.specs.Program.{CannotBegin, IsEmpty, IsJoined, IsUnjoined};
-ghost use Rattle.map_server.specs.Served.{Took, IsKept, IsIdle, IsGivenOut, IsWithheld, CannotCommit, Makes, Refuses, fails};
+ghost use Rattle.map_server.specs.Served.{AreTaken, CannotCommit, IsCommitted, IsGivenOut, IsIdle, IsKept, IsWithheld, Makes, Refuses, Took, fails};
 
 use crate::calls::Calls;
 use disk_model::Disk;
-use flusher::{Keeper, runs_were_taken};
+use flusher::{Keeper, committed_were_taken, pass_goes_on, runs_were_taken};
 use gate_log::Phase;
 use java_hash::StripeCount;
 use map_types::{Refusal, Reply};
@@ -24,8 +24,8 @@ use wire_frames::Request;
 /// The longest batch.
 const MOST_COMMANDS: u32 = 65_536;
 
-/// A map of 16 stripes in memory, with a keeper whose log lies on a disk. One pass makes the calls; the
-/// keeper's sweeps the stripes, commits and publishes before a reply is given out. What the keeper is
+/// A map of 16 stripes in memory, with a keeper whose log lies on a disk. The keeper's pass makes the
+/// calls; the keeper sweeps the stripes, commits and publishes before a reply is given out. What it is
 /// refused for want of memory is tried again until memory is found. Where a device call fails, or the
 /// log is full, a call can't be committed: the map has failed, and each later call is refused with
 /// `Failed`.
@@ -35,13 +35,12 @@ pub struct Memory<'a, D: Disk + Drop, R: Wait> {
     alloc: Global,
     stripes: Stripes,
     pass: Pass,
-    keeper_pass: Pass,
     keeper: Keeper<D>,
     has_failed: bool,
 }
 
 impl<'a, D: Disk + Drop, R: Wait> Model for Memory<'a, D, R> {
-    ghost use Rattle.std.specs.Prelude.{◌≡◌, None, false};
+    ghost use Rattle.std.specs.Prelude.{◌≡◌, false};
     ghost use Rattle.stripe_locks.specs.Passes.{recorded, stripe_count, IsPassOf};
     ghost use Rattle.map_server.specs.Program.{MapState};
     ghost use Rattle.map_server.specs.Served.{IsKept, IsIdle};
@@ -52,11 +51,11 @@ impl<'a, D: Disk + Drop, R: Wait> Model for Memory<'a, D, R> {
 
     ghost coded = { Prim.hlevel (codes, record_type.the_row.coded) };
 
-    ghost view = { λ memory. record { stripes = stripe_count memory.stripes; pass = recorded memory.pass; kept = record { pass = recorded memory.keeper_pass; log = memory.keeper.log }; has_failed = memory.has_failed } };
+    ghost view = { λ memory. record { stripes = stripe_count memory.stripes; pass = recorded memory.pass; log = memory.keeper.log; has_failed = memory.has_failed } };
 
-    ghost invariant = { λ memory. IsPassOf memory.stripes memory.pass × IsPassOf memory.stripes memory.keeper_pass
-        × IsKept D.states D.honest (stripe_count memory.stripes) memory.keeper (recorded memory.keeper_pass)
-        × (memory.has_failed ≡ false → ((recorded memory.pass).holding ≡ None) × IsIdle memory.keeper) };
+    ghost invariant = { λ memory. IsPassOf memory.stripes memory.pass
+        × IsKept D.states D.honest (stripe_count memory.stripes) memory.keeper (recorded memory.pass)
+        × (memory.has_failed ≡ false → IsIdle memory.keeper) };
 }
 
 /// Makes the device call that is due in the log.
@@ -120,20 +119,21 @@ fn commit_some<D: Disk>(keeper: &mut Keeper<D>) -> Result<(), Refusal>
 }
 
 /// Sweeps and commits until all tickets below the position are committed.
-fn commit_in_time<K: Steps, D: Disk, R: Wait>(
+fn commit_in_time<S: Steps, D: Disk, R: Wait>(
     rt: &R,
-    steps: &mut K,
+    steps: &mut S,
     keeper: &mut Keeper<D>,
     position: Position,
 ) -> Result<(), Refusal>
     requires idle { IsIdle keeper.old }
-    requires kept { IsKept D.states D.honest (K.stripe_count steps.old) keeper.old (K.recorded steps.old) }
+    requires kept { IsKept D.states D.honest (S.stripe_count steps.old) keeper.old (S.recorded steps.old) }
     ensures ok { OnOk result (IsIdle keeper.new × (position ≤ keeper.new.log.committed)) }
-    ensures err { OnErr result (CannotCommit keeper.new.log (K.recorded steps.new) × (is_walking keeper.new.sweeper.walking ≡ false)) }
-    ensures kept { IsKept D.states D.honest (K.stripe_count steps.new) keeper.new (K.recorded steps.new) }
-    ensures quiet { (K.recorded steps.new).failed ≡ (K.recorded steps.old).failed }
-    ensures place { K.place steps.new ≡ K.place steps.old }
-    ensures stripes { K.stripe_count steps.new ≡ K.stripe_count steps.old }
+    ensures err { OnErr result (CannotCommit keeper.new.log (S.recorded steps.new) × (is_walking keeper.new.sweeper.walking ≡ false)) }
+    ensures kept { IsKept D.states D.honest (S.stripe_count steps.new) keeper.new (S.recorded steps.new) }
+    ensures quiet { IsQuiet (S.recorded steps.old) (S.recorded steps.new) }
+    ensures seen { HasSeenMore (S.recorded steps.old) (S.recorded steps.new) }
+    ensures place { S.place steps.new ≡ S.place steps.old }
+    ensures stripes { S.stripe_count steps.new ≡ S.stripe_count steps.old }
 {
     for _turn in rt.forever() {
         if position.number() <= keeper.committed() {
@@ -146,23 +146,25 @@ fn commit_in_time<K: Steps, D: Disk, R: Wait>(
 }
 
 /// Commits all tickets below the position, and publishes them. Where they can't be committed, the
-/// keeper's pass makes a FAIL.
-fn make_durable<K: Steps, D: Disk, R: Wait>(
+/// pass makes a FAIL.
+fn make_durable<S: Steps, D: Disk, R: Wait>(
     rt: &R,
-    steps: &mut K,
+    steps: &mut S,
     keeper: &mut Keeper<D>,
     position: Position,
 ) -> Result<(), Refusal>
     requires idle { IsIdle keeper.old }
-    requires kept { IsKept D.states D.honest (K.stripe_count steps.old) keeper.old (K.recorded steps.old) }
-    ensures ok { OnOk result (IsIdle keeper.new × (position ≤ keeper.new.log.committed) × ((K.recorded steps.new).failed ≡ false)) }
-    ensures err { IfErr result (λ refusal. (refusal ≡ Refusal.Failed) × CannotCommit keeper.new.log (K.recorded steps.new) × ((K.recorded steps.new).failed ≡ true)) }
-    ensures kept { IsKept D.states D.honest (K.stripe_count steps.new) keeper.new (K.recorded steps.new) }
-    ensures place { K.place steps.new ≡ K.place steps.old }
-    ensures stripes { K.stripe_count steps.new ≡ K.stripe_count steps.old }
+    requires kept { IsKept D.states D.honest (S.stripe_count steps.old) keeper.old (S.recorded steps.old) }
+    ensures ok { OnOk result (IsIdle keeper.new × IsCommitted position (S.recorded steps.old) (S.recorded steps.new) keeper.new.log) }
+    ensures taken { OnOk result (AreTaken position (S.recorded steps.old) (S.recorded steps.new)) }
+    ensures err { IfErr result (λ refusal. (refusal ≡ Refusal.Failed) × IsWithheld (S.recorded steps.old) (S.recorded steps.new) keeper.new.log) }
+    ensures kept { IsKept D.states D.honest (S.stripe_count steps.new) keeper.new (S.recorded steps.new) }
+    ensures place { S.place steps.new ≡ S.place steps.old }
+    ensures stripes { S.stripe_count steps.new ≡ S.stripe_count steps.old }
 {
     match commit_in_time(rt, steps, keeper, position) {
         Ok(()) => {
+            committed_were_taken(keeper);
             keeper.publish(steps);
             Ok(())
         }
@@ -173,33 +175,28 @@ fn make_durable<K: Steps, D: Disk, R: Wait>(
     }
 }
 
-/// Gives the reply of a call that was made out, once its position is committed and published.
-fn give_out<S: Steps, K: Steps, D: Disk, R: Wait>(
+/// Gives the reply of a call that was made out, once its position is committed and published: a SEE
+/// finds no less than what its own pass has published.
+fn give_out<S: Steps, D: Disk, R: Wait>(
     rt: &R,
     steps: &mut S,
-    keeper_steps: &mut K,
     keeper: &mut Keeper<D>,
     held: Held,
 ) -> Result<Reply, Refusal>
     requires idle { IsIdle keeper.old }
-    requires kept { IsKept D.states D.honest (K.stripe_count keeper_steps.old) keeper.old (K.recorded keeper_steps.old) }
-    ensures ok { IfOk result (λ reply. (reply ≡ held.reply) × IsIdle keeper.new × IsGivenOut held.position (S.recorded steps.old) (S.recorded steps.new) (record { pass = K.recorded keeper_steps.new; log = keeper.new.log })) }
-    ensures err { IfErr result (λ refusal. (refusal ≡ Refusal.Failed) × IsWithheld held.position (S.recorded steps.old) (S.recorded steps.new) (record { pass = K.recorded keeper_steps.new; log = keeper.new.log })) }
-    ensures kept { IsKept D.states D.honest (K.stripe_count keeper_steps.new) keeper.new (K.recorded keeper_steps.new) }
-    ensures holding { (S.recorded steps.new).holding ≡ (S.recorded steps.old).holding }
-    ensures place { (S.place steps.new ≡ S.place steps.old) × (K.place keeper_steps.new ≡ K.place keeper_steps.old) }
-    ensures stripes { (S.stripe_count steps.new ≡ S.stripe_count steps.old) × (K.stripe_count keeper_steps.new ≡ K.stripe_count keeper_steps.old) }
+    requires kept { IsKept D.states D.honest (S.stripe_count steps.old) keeper.old (S.recorded steps.old) }
+    ensures ok { IfOk result (λ reply. (reply ≡ held.reply) × IsIdle keeper.new × IsGivenOut held.position (S.recorded steps.old) (S.recorded steps.new) keeper.new.log) }
+    ensures err { IfErr result (λ refusal. (refusal ≡ Refusal.Failed) × IsWithheld (S.recorded steps.old) (S.recorded steps.new) keeper.new.log) }
+    ensures kept { IsKept D.states D.honest (S.stripe_count steps.new) keeper.new (S.recorded steps.new) }
+    ensures place { S.place steps.new ≡ S.place steps.old }
+    ensures stripes { S.stripe_count steps.new ≡ S.stripe_count steps.old }
 {
-    let mut held = held;
-    for _turn in rt.forever() {
-        make_durable(rt, keeper_steps, keeper, held.position())?;
-        match release(steps, held) {
-            Released::Reply(_, reply) => return Ok(reply),
-            Released::NotYet(again) => held = again,
-            Released::Failed => return Err(Refusal::Failed),
-        }
+    make_durable(rt, steps, keeper, held.position())?;
+    pass_goes_on(keeper);
+    match release(steps, held) {
+        Released::Reply(_, reply) => Ok(reply),
+        Released::NotYet(_) | Released::Failed => unreachable!(),
     }
-    unreachable!()
 }
 
 /// Makes the call of a request.
@@ -208,6 +205,7 @@ fn make<S: Steps>(steps: &mut S, alloc: Global, request: Request) -> Result<Held
     ensures ok { IfOk result (λ held. Makes (S.stripe_count steps.old) (S.recorded steps.old) request held.position held.reply (S.recorded steps.new)) }
     ensures err { IfErr result (λ refusal. Refuses (S.stripe_count steps.old) (S.recorded steps.old) request refusal (S.recorded steps.new)) }
     ensures free { (S.recorded steps.new).holding ≡ None }
+    ensures beside { IsBeside (S.recorded steps.old) (S.recorded steps.new) }
     ensures place { S.place steps.new ≡ S.place steps.old }
     ensures stripes { S.stripe_count steps.new ≡ S.stripe_count steps.old }
 {
@@ -218,25 +216,24 @@ fn make<S: Steps>(steps: &mut S, alloc: Global, request: Request) -> Result<Held
 }
 
 /// The answer to a request of a map that has not failed.
-fn answer<S: Steps, K: Steps, D: Disk, R: Wait>(
+fn answer<S: Steps, D: Disk, R: Wait>(
     rt: &R,
     alloc: Global,
     steps: &mut S,
-    keeper_steps: &mut K,
     keeper: &mut Keeper<D>,
     request: Request,
 ) -> Result<Reply, Refusal>
-    requires free { (S.recorded steps.old).holding ≡ None }
     requires idle { IsIdle keeper.old }
-    requires kept { IsKept D.states D.honest (K.stripe_count keeper_steps.old) keeper.old (K.recorded keeper_steps.old) }
-    ensures took { Took (S.stripe_count steps.old) (S.recorded steps.old) request result (record { pass = K.recorded keeper_steps.old; log = keeper.old.log }) (S.recorded steps.new) (record { pass = K.recorded keeper_steps.new; log = keeper.new.log }) }
-    ensures works { fails result ≡ false → ((S.recorded steps.new).holding ≡ None) × IsIdle keeper.new }
-    ensures kept { IsKept D.states D.honest (K.stripe_count keeper_steps.new) keeper.new (K.recorded keeper_steps.new) }
-    ensures place { (S.place steps.new ≡ S.place steps.old) × (K.place keeper_steps.new ≡ K.place keeper_steps.old) }
-    ensures stripes { (S.stripe_count steps.new ≡ S.stripe_count steps.old) × (K.stripe_count keeper_steps.new ≡ K.stripe_count keeper_steps.old) }
+    requires kept { IsKept D.states D.honest (S.stripe_count steps.old) keeper.old (S.recorded steps.old) }
+    ensures took { Took (S.stripe_count steps.old) (S.recorded steps.old) request result keeper.old.log (S.recorded steps.new) keeper.new.log }
+    ensures works { fails result ≡ false → IsIdle keeper.new }
+    ensures kept { IsKept D.states D.honest (S.stripe_count steps.new) keeper.new (S.recorded steps.new) }
+    ensures place { S.place steps.new ≡ S.place steps.old }
+    ensures stripes { S.stripe_count steps.new ≡ S.stripe_count steps.old }
 {
+    pass_goes_on(keeper);
     let held = make(steps, alloc, request)?;
-    give_out(rt, steps, keeper_steps, keeper, held)
+    give_out(rt, steps, keeper, held)
 }
 
 /// Makes the two device calls of the log's header.
@@ -269,34 +266,28 @@ fn begin<D: Disk + Drop>(alloc: Global, disk: D) -> Result<Keeper<D>, D>
     }
 }
 
-/// The stripes of an empty map.
+/// The stripes of an empty map, with the keeper's pass.
 #[derive(Drop)]
 struct Joined {
     stripes: Stripes,
-    keeper_pass: Pass,
     pass: Pass,
 }
 
-/// Stripes of an empty map, with the keeper's pass and another.
+/// Makes the stripes of an empty map, and takes the keeper's pass.
 fn join(alloc: Global) -> Result<Joined, Refusal>
-    ensures ok { IfOk result (λ joined. IsJoined (stripe_count joined.stripes) (recorded joined.keeper_pass) (recorded joined.pass)) }
-    ensures own { IfOk result (λ joined. IsPassOf joined.stripes joined.keeper_pass × IsPassOf joined.stripes joined.pass) }
+    ensures ok { IfOk result (λ joined. IsJoined (stripe_count joined.stripes) (recorded joined.pass)) }
+    ensures own { IfOk result (λ joined. IsPassOf joined.stripes joined.pass) }
     ensures err { IfErr result IsUnjoined }
 {
     let Some(count) = StripeCount::new(16) else {
         unreachable!()
     };
     let stripes = Stripes::empty(alloc, count)?;
-    let keeper_pass = stripes.pass()?;
     let pass = stripes.pass()?;
-    if !keeper_pass.is_keeper() {
+    if !pass.is_keeper() {
         return Err(Refusal::SeatsSpent);
     }
-    Ok(Joined {
-        stripes,
-        keeper_pass,
-        pass,
-    })
+    Ok(Joined { stripes, pass })
 }
 
 impl<'a, D: Disk + Drop, R: Wait> Memory<'a, D, R> {
@@ -315,17 +306,12 @@ impl<'a, D: Disk + Drop, R: Wait> Memory<'a, D, R> {
             Ok(keeper) => keeper,
             Err(disk) => return Err((disk, Refusal::Failed)),
         };
-        let Joined {
-            stripes,
-            keeper_pass,
-            pass,
-        } = joined;
+        let Joined { stripes, pass } = joined;
         Ok(Memory {
             rt,
             alloc,
             stripes,
             pass,
-            keeper_pass,
             keeper,
             has_failed: false,
         })
@@ -342,15 +328,7 @@ impl<D: Disk + Drop, R: Wait> Calls for Memory<'_, D, R> {
             return Err(Refusal::Failed);
         }
         let mut steps = self.stripes.at(&mut self.pass);
-        let mut keeper_steps = self.stripes.at(&mut self.keeper_pass);
-        let answer = answer(
-            self.rt,
-            self.alloc,
-            &mut steps,
-            &mut keeper_steps,
-            &mut self.keeper,
-            request,
-        );
+        let answer = answer(self.rt, self.alloc, &mut steps, &mut self.keeper, request);
         self.has_failed = matches!(answer, Err(Refusal::Failed));
         answer
     }

@@ -1,4 +1,4 @@
-use Rattle.std.proofs.Common.{ℕ, [], refl}
+use Rattle.std.proofs.Common.{[], refl}
 use Rattle.std.specs.FinMap as finite
 use Rattle.ticket_order.specs.declared.record.Record.{Record}
 use Rattle.ticket_order.specs.Records.{keeper_at_start}

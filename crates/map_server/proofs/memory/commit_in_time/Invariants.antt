@@ -1,4 +1,5 @@
 use Rattle.std.proofs.Common.{◌≡◌}
+use Rattle.flusher.specs.Fitting.{HasSeenMore, IsQuiet}
 use Rattle.map_server.specs.Served.{IsIdle, IsKept}
 use Rattle.map_server.proofs.memory.commit_in_time.Given as goal
 
@@ -7,8 +8,9 @@ invariant-loop-turn g l = record {
   next : (goal.iterator-loop-turn g).can_next l._turn-iterator;
   finite : (goal.iterator-loop-turn g).is_finite l._turn-iterator;
   idle : IsIdle l.keeper;
-  kept : IsKept g.D.Disk.states g.D.Disk.honest (g.K.Steps.stripe_count l.steps) l.keeper (g.K.Steps.recorded l.steps);
-  quiet : (g.K.Steps.recorded l.steps).failed ≡ (g.K.Steps.recorded l.initial.steps).failed;
-  place : g.K.Steps.place l.steps ≡ g.K.Steps.place l.initial.steps;
-  stripes : g.K.Steps.stripe_count l.steps ≡ g.K.Steps.stripe_count l.initial.steps;
+  kept : IsKept g.D.Disk.states g.D.Disk.honest (g.S.Steps.stripe_count l.steps) l.keeper (g.S.Steps.recorded l.steps);
+  quiet : IsQuiet (g.S.Steps.recorded l.initial.steps) (g.S.Steps.recorded l.steps);
+  seen : HasSeenMore (g.S.Steps.recorded l.initial.steps) (g.S.Steps.recorded l.steps);
+  place : g.S.Steps.place l.steps ≡ g.S.Steps.place l.initial.steps;
+  stripes : g.S.Steps.stripe_count l.steps ≡ g.S.Steps.stripe_count l.initial.steps;
 }

@@ -1,55 +1,48 @@
-use Rattle.std.proofs.Common.{rules, ◌≡◌, ◌≤◌, ◌∙◌, ℕ, IfErr, subst, sym, refl, true}
+use Rattle.std.proofs.Common.{rules, ◌≡◌, ◌∙◌, ℕ, [], IfErr, subst, sym, ap}
 use Rattle.std.proofs.lemmas.Result.{err_from_is_err_and}
 use Rattle.map_types.specs.declared.refusals.Refusal.TheVariants.{Failed}
+use Rattle.ticket_order.specs.declared.record.Record.{Record}
 use Rattle.map_server.specs.Dialogue.{Answer}
-use Rattle.map_server.specs.Served.{IsWithheld, Kept}
-use Rattle.map_server.proofs.Releasing.{given_out, holding_of_failure, holding_of_found, holding_of_miss, shown_failed, tried_again, withheld}
+use Rattle.map_server.specs.Served.{AreTaken, IsCommitted, IsKept, IsWithheld}
+use Rattle.map_server.proofs.Beside.{sees}
+use Rattle.map_server.proofs.Releasing.{found}
 use Rattle.map_server.proofs.memory.give_out.Goals as goal
 
 pub returns-in_err-make_durable-clause-err : goal.returns-in_err-make_durable-clause-err
 returns-in_err-make_durable-clause-err g c =
     let failing = c.in_err-make_durable.ensures.err in
-    let kept : Kept = record { pass = g.K.Steps.recorded c.make_durable.new.steps; log = c.make_durable.new.keeper.log } in
     let q = err_from_is_err_and c.from_residual.result c.from_residual.ensures.1 in
-    subst (λ (r : Answer). IfErr r (λ refusal. (refusal ≡ Failed) × IsWithheld c.args.held.position (g.S.Steps.recorded c.args.steps.now) (g.S.Steps.recorded c.loop-turn.steps) kept)) (sym q.1)
-    (q.2 ∙ failing.0, withheld c.args.held.position (g.S.Steps.recorded c.args.steps.now) (g.S.Steps.recorded c.loop-turn.steps) kept c.loop-turn.invariant.tried failing.1 failing.2)
+    subst (λ (r : Answer). IfErr r (λ refusal. (refusal ≡ Failed) × IsWithheld (g.S.Steps.recorded c.args.steps.now) (g.S.Steps.recorded c.make_durable.new.steps) c.make_durable.new.keeper.log)) (sym q.1) (q.2 ∙ failing.0, failing.1)
 
-pub returns-in-Reply-clause-ok : goal.returns-in-Reply-clause-ok
-returns-in-Reply-clause-ok g c =
-    let at : c.position.result ≡ c.loop-turn.held.position = search rules in
+pub returns-clause-ok : goal.returns-clause-ok
+returns-clause-ok g c =
+    let at : c.position.result ≡ c.args.held.position = search rules in
+    let made = g.S.Steps.recorded c.args.steps.now in
+    let p = g.S.Steps.recorded c.make_durable.new.steps in
     let done = c.in_ok-make_durable.ensures.ok in
-    let out = c.in-Reply.ensures.released in
-    let inv = c.loop-turn.invariant in
-    (out.1 ∙ inv.reply, done.0, given_out c.args.held.position c.loop-turn.held.position (g.S.Steps.recorded c.args.steps.now) (g.S.Steps.recorded c.loop-turn.steps) (g.S.Steps.recorded c.release.new.steps) (record { pass = g.K.Steps.recorded c.make_durable.new.steps; log = c.make_durable.new.keeper.log }) inv.position inv.tried out.2 (subst (λ (q : ℕ). q ≤ c.make_durable.new.keeper.log.committed) at done.1) done.2)
+    let commits = subst (λ (q : ℕ). IsCommitted q made p c.make_durable.new.keeper.log) at done.1 in
+    let out = c.in-Reply.ensures.released in (
+      out.1,
+      done.0,
+      record {
+        between = p;
+        commits = commits;
+        taken = subst (λ (q : ℕ). AreTaken q made p) at c.in_ok-make_durable.ensures.taken;
+        reaches = found c.args.held.position made p (g.S.Steps.recorded c.release.new.steps) c.make_durable.new.keeper.log commits out.2;
+      },
+    )
 
-pub returns-in-Reply-clause-holding : goal.returns-in-Reply-clause-holding
-returns-in-Reply-clause-holding g c =
-    holding_of_found c.loop-turn.held.position (g.S.Steps.recorded c.loop-turn.steps) (g.S.Steps.recorded c.release.new.steps) c.in-Reply.ensures.released.2 ∙ c.loop-turn.invariant.holding
-
-pub loop-turn-preserved : goal.loop-turn-preserved
-loop-turn-preserved g c =
-    let inv = c.loop-turn.invariant in
-    let left = c.in-NotYet.ensures.released in
-    record {
-      next = tt;
-      finite = tt;
-      idle = c.in_ok-make_durable.ensures.ok.0;
-      kept = c.make_durable.ensures.kept;
-      tried = tried_again c.args.held.position c.loop-turn.held.position (g.S.Steps.recorded c.args.steps.now) (g.S.Steps.recorded c.loop-turn.steps) (g.S.Steps.recorded c.release.new.steps) inv.position inv.tried left.2;
-      position = left.0 ∙ inv.position;
-      reply = left.1 ∙ inv.reply;
-      holding = holding_of_miss c.loop-turn.held.position true (g.S.Steps.recorded c.loop-turn.steps) (g.S.Steps.recorded c.release.new.steps) left.2 ∙ inv.holding;
-      place = c.release.ensures.place ∙ inv.place;
-      keeper_place = c.make_durable.ensures.place ∙ inv.keeper_place;
-      stripes = c.release.ensures.stripes ∙ inv.stripes;
-      keeper_stripes = c.make_durable.ensures.stripes ∙ inv.keeper_stripes;
-    }
-
-pub returns-in-Failed-clause-err : goal.returns-in-Failed-clause-err
-returns-in-Failed-clause-err g c =
-    let inv = c.loop-turn.invariant in
-    (refl, shown_failed c.args.held.position c.loop-turn.held.position (g.S.Steps.recorded c.args.steps.now) (g.S.Steps.recorded c.loop-turn.steps) (g.S.Steps.recorded c.release.new.steps) (record { pass = g.K.Steps.recorded c.make_durable.new.steps; log = c.make_durable.new.keeper.log }) inv.position inv.tried c.in-Failed.ensures.released c.in_ok-make_durable.ensures.ok.2)
-
-pub returns-in-Failed-clause-holding : goal.returns-in-Failed-clause-holding
-returns-in-Failed-clause-holding g c =
-    holding_of_failure c.loop-turn.held.position (g.S.Steps.recorded c.loop-turn.steps) (g.S.Steps.recorded c.release.new.steps) c.in-Failed.ensures.released ∙ c.loop-turn.invariant.holding
+pub returns-clause-kept : goal.returns-clause-kept
+returns-clause-kept g c =
+    let at : c.position.result ≡ c.args.held.position = search rules in
+    let made = g.S.Steps.recorded c.args.steps.now in
+    let p = g.S.Steps.recorded c.make_durable.new.steps in
+    let w = g.S.Steps.recorded c.release.new.steps in
+    let n = g.S.Steps.stripe_count c.make_durable.new.steps in
+    let done = c.in_ok-make_durable.ensures.ok in
+    let k = c.make_durable.ensures.kept in
+    let commits = subst (λ (q : ℕ). IsCommitted q made p c.make_durable.new.keeper.log) at done.1 in
+    let out = found c.args.held.position made p w c.make_durable.new.keeper.log commits c.in-Reply.ensures.released.2 in
+    let free = ap (λ (r : Record). r.holding) out.sees.is ∙ c.pass_goes_on.ensures.free n [] k.0 p k.1 done.0.still in
+    subst (λ (m : ℕ). IsKept g.D.Disk.states g.D.Disk.honest m c.make_durable.new.keeper w) (sym c.release.ensures.stripes)
+    (k.0, c.pass_goes_on.ensures.fits n [] k.0 p k.1 done.0.still w (sees p out.durable w out.sees) free)

@@ -5,7 +5,7 @@ use Rattle.flusher.specs.declared.keeper.Keeper.{Keeper}
 use Rattle.flusher.specs.declared.sweeper.Swept.TheVariants.{Done}
 use Rattle.flusher.specs.Sweeping.{IsDone}
 use Rattle.flusher.proofs.Quiet.{quiet_then}
-use Rattle.flusher.proofs.Seeing.{sees_none, sees_then}
+use Rattle.flusher.proofs.Seeing.{sees_then}
 use Rattle.flusher.proofs.Trying.{put_back_at, stays_at}
 use Rattle.flusher.proofs.keeper.Keeper.sweep.Goals as goal
 
