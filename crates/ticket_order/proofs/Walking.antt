@@ -54,7 +54,7 @@ content_looked b p t u k stripe part outbox = record {
   outbox_is = outbox;
 }
 
-took_looked : (b p w : Record) (q : ℕ) (t : Taken) → TookAlive b t p → Looks p q w → TookLooked b t w
+pub took_looked : (b p w : Record) (q : ℕ) (t : Taken) → TookAlive b t p → Looks p q w → TookLooked b t w
 took_looked b p w q t k l = record { taken = k.taken; looked = l.between; is = l.is ∙ ap (λ (y : Record). looking y l.between) k.is }
 
 looked_around : (b w : Record) (t : Taken) (j : ℕ) → TookLooked b t w → t.stripe ≡ j → GivesBack b (LooksAround b j) (giving Nothing w)

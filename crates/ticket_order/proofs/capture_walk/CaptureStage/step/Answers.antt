@@ -22,3 +22,19 @@ pub returns-in-HasLooked-clause-next : goal.returns-in-HasLooked-clause-next
 returns-in-HasLooked-clause-next g c = λ b task f.
     let h = rw c.in-HasLooked.is at f in
     rw h.0 (captured_stripe _ b _ _ c.in-HasLooked.taken c.in-HasLooked.captured h.1 c.give.ensures.step)
+
+pub returns-in-Ok-2-clause-next : goal.returns-in-Ok-2-clause-next
+returns-in-Ok-2-clause-next g c = λ b task f.
+    let h = rw c.in-HasTaken.is at f in
+    let seen = viewed b _ _ _ c.in-HasTaken.taken h.1 c.look-mark.ensures.step in
+    rw c.more-in-Ok-2.ensures (
+      h.0,
+      record {
+        taken = seen.taken;
+        looked = seen.looked;
+        is = seen.is;
+        mark_is = c.look-mark.ensures.step.count_is;
+        entries_are = c.in-Ok.ensures.ok;
+        few = omega (arith, c.len.ensures, c.if-len-gt-MOST_ENTRIES.false);
+      },
+    )

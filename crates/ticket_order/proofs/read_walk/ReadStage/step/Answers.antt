@@ -1,4 +1,5 @@
-use Rattle.ticket_order.proofs.Walking.{may_answer, read_failed, read_starved, made_read}
+use Rattle.std.proofs.Common.{◌∙◌}
+use Rattle.ticket_order.proofs.Walking.{took_looked, may_answer, read_failed, read_starved, made_read}
 use Rattle.ticket_order.proofs.read_walk.ReadStage.step.Goals as goal
 
 pub returns-else-alive-clause-next : goal.returns-else-alive-clause-next
@@ -20,3 +21,8 @@ pub returns-in-HasRead-clause-next : goal.returns-in-HasRead-clause-next
 returns-in-HasRead-clause-next g c = λ b task f.
     let h = rw c.in-HasRead.is at f in
     rw h.0.task_is (made_read _ b _ _ task c.in-HasRead.read c.in-HasRead.taken c.in-HasRead.held h.0 h.1 h.2 c.give.ensures.step)
+
+pub returns-in-Ok-clause-next : goal.returns-in-Ok-clause-next
+returns-in-Ok-clause-next g c = λ b task f.
+    let h = rw c.in-IsAlive.is at f in
+    rw c.more-in-Ok.ensures (h.0, took_looked b _ _ _ c.in-IsAlive.taken h.1 c.look.ensures.step, record { position_is = c.new-position.ensures ∙ c.look.ensures.step.count_is; reply_is = c.in-Ok.ensures.ok })
