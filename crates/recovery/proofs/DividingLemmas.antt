@@ -2,7 +2,7 @@
 use Rattle.std.proofs.Common.{◌≡◌, ◌≢◌, ℕ, zero, suc, ◌+◌, ◌<◌, Bool, true, false, cond, Option, None, List, [], ◌∷◌, ◌++◌, length, map, get_or, set, refl, sym, ap, ap₂, subst, ◌∙◌, arith, append_assoc}
 use Rattle.std.proofs.lemmas.Bool.{ne_eqb}
 use Rattle.std.proofs.lemmas.Bool.Decides.{nat_tests}
-use Rattle.std.proofs.lemmas.List.{map-set, get_or-map}
+use Rattle.std.proofs.lemmas.List.{append-nil, map-set, get_or-map}
 use Rattle.std.proofs.lemmas.List.FromFn.{get_or-map-range_with_len}
 use Rattle.std.specs.List.{AllByRecursion, range_with_len}
 use Rattle.std.specs.Ordering.{nat_cmp}
@@ -123,3 +123,18 @@ put_more n k e old new key value es made divided =
 
 pub split_more : {X : Type 0} (all before rest done : List X) (x : X) → all ≡ before ++ done → before ≡ rest ++ x ∷ [] → all ≡ rest ++ (x ∷ done)
 split_more all before rest done x one two = one ∙ ap (λ l. l ++ done) two ∙ append_assoc rest (x ∷ []) done
+
+-- the entries of one section more
+pub entries_more : (n k : ℕ) → k ≡ n → (old new : List PartState) (es more behind : List (List ℕ × Value))
+    → ((b : List (List ℕ × Value)) → IsDivided k (finite.from_entries b) old → IsDivided k (finite.from_entries (es ++ b)) new)
+    → IsDivided n (finite.from_entries (more ++ behind)) old → IsDivided n (finite.from_entries ((es ++ more) ++ behind)) new
+entries_more n k e old new es more behind added divided =
+    subst (λ (l : List (List ℕ × Value)). IsDivided n (finite.from_entries l) new) (sym (append_assoc es more behind))
+    (subst (λ j. IsDivided j (finite.from_entries (es ++ (more ++ behind))) new) e (added (more ++ behind) (subst (λ j. IsDivided j (finite.from_entries (more ++ behind)) old) (sym e) divided)))
+
+-- all entries, on the empty map
+pub all_added : (n k j : ℕ) → k ≡ n → j ≡ k → (old new : List PartState) (es : List (List ℕ × Value)) → IsDivided n finite.empty old
+    → ((b : List (List ℕ × Value)) → IsDivided k (finite.from_entries b) old → IsDivided k (finite.from_entries (es ++ b)) new) → IsDivided j (finite.from_entries es) new
+all_added n k j e f old new es start added =
+    subst (λ i. IsDivided i (finite.from_entries es) new) (sym f)
+    (subst (λ (l : List (List ℕ × Value)). IsDivided k (finite.from_entries l) new) (append-nil es) (added [] (subst (λ i. IsDivided i nothing old) (sym e) start)))

@@ -1,1 +1,6 @@
 mod DividingLemmas
+mod CountingLemmas
+mod ReplayLemmas
+mod LogReadingLemmas
+mod HeadsLemmas
+mod OpeningLemmas

@@ -1,1 +1,6 @@
 pub mod Dividing
+pub mod Counting
+pub mod Restoring
+pub mod LogReading
+pub mod Heads
+pub mod Opening

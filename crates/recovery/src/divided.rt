@@ -5,8 +5,10 @@ ghost use Rattle.map_types.specs.declared.texts.Value.{Value};
 ghost use Rattle.map_model.specs.Maps.{Map};
 ghost use Rattle.map_model.specs.Steps.{step};
 ghost use Rattle.recovery.specs.Dividing.{IsDivided};
+ghost use Rattle.recovery.specs.Counting.{entries_in};
 
 use atomic_methods::Part;
+use checkpoint_file::LoadedSection;
 use java_hash::{StripeCount, stripe_of};
 use map_types::{Change, Command, Key, Refusal, Value};
 use std::alloc::Global;
@@ -57,6 +59,23 @@ impl Divided {
         while let Some((key, value)) = entries.pop() {
             let change = Change::Put(value);
             self.change(alloc, &Command { key, change })?;
+        }
+        Ok(())
+    }
+
+    /// Maps the keys of the sections, of which each stands there once.
+    pub(crate) fn add_all(
+        &mut self,
+        alloc: Global,
+        mut sections: Vec<LoadedSection>,
+    ) -> Result<(), Refusal>
+        ensures stripes { self.new.stripes ≡ self.old.stripes }
+        ensures ok { OnOk result ((behind : List (List ℕ × Value)) → IsDivided self.old.stripes.count (finite.from_entries behind) self.old.parts.items
+            → IsDivided self.old.stripes.count (finite.from_entries (entries_in sections.items ++ behind)) self.new.parts.items) }
+        ensures err { IfErr result (λ refusal. refusal ≡ Refusal.NoMemory) }
+    {
+        while let Some(section) = sections.pop() {
+            self.add(alloc, section.entries)?;
         }
         Ok(())
     }
