@@ -1,11 +1,14 @@
 -- The heads of the two checkpoints.
-use Rattle.std.proofs.Common.{◌≡◌, ◌⊎◌, inl, inr, ℕ, ◌==◌, Bool, true, false, not, cond, ◌&&◌, nat_lt, Option, None, Some, List, refl, sym, ap, ap₂, ◌∙◌}
+use Rattle.std.proofs.Common.{◌≡◌, ◌⊎◌, inl, inr, ℕ, ◌==◌, Bool, true, false, not, cond, ◌&&◌, nat_lt, Option, None, Some, List, refl, sym, ap, ap₂, subst, IfSome, IfNone, ◌∙◌, ◌<◌, ◌≤◌, arith}
+use Rattle.std.proofs.lemmas.Bool.Decides.{nat_tests}
 use Rattle.map_types.specs.declared.refusals.Refusal.{Refusal}
-use Rattle.map_types.specs.declared.refusals.Refusal.TheVariants.{Damaged, NotFormatted, WrongVersion}
+use Rattle.map_types.specs.declared.refusals.Refusal.TheVariants.{Damaged, Failed, NotFormatted, WrongVersion}
 use Rattle.store_layout.specs.Checkpoints.{is_sealed}
 use Rattle.store_layout.specs.Faults.{generation_in, head_fault}
 use Rattle.store_layout.specs.Opening.{Contents, first_fault, heads_fault, newest_file}
 use Rattle.store_layout.proofs.Openings.{heads_by, newest_of_two}
+use Rattle.checkpoint_file.specs.declared.head.Head.{Head}
+use Rattle.checkpoint_file.specs.Heads.{IsHead}
 use Rattle.recovery.specs.Heads.{IsUsed}
 
 none_some : (r : Refusal) → None ≡ Some r → ⊥
@@ -91,3 +94,19 @@ module _ (contents : Contents) where
     opened = picked (λ file. is_sealed (contents file) ≡ true) e f b;
     head = picked NoFault p q b;
   }
+
+  pub is_younger : (f g : ℕ) → f ≡ generation_in (contents 0) → g ≡ generation_in (contents 1) → g < f → true ≡ younger
+  is_younger f g e d less = let l : nat_lt (generation_in (contents 1)) (generation_in (contents 0)) ≡ true = grind (arith, nat_tests, less, e, d) in sym l
+
+  pub is_older : (f g : ℕ) → f ≡ generation_in (contents 0) → g ≡ generation_in (contents 1) → f ≤ g → false ≡ younger
+  is_older f g e d more = let l : nat_lt (generation_in (contents 1)) (generation_in (contents 0)) ≡ false = grind (arith, nat_tests, more, e, d) in sym l
+
+  -- the second head has a fault, and the first has none
+  pub second_after : (content : List ℕ) (r : Refusal) (later before : Type 0) → (later → before) → (found : Option Head)
+      → (before → IfSome found (λ head. IsHead head 0 (contents 0))) → (before → IfNone found (is_sealed (contents 0) ≡ false)) → content ≡ contents 1
+      → (r ≡ Failed) ⊎ (later → head_fault 1 content ≡ Some r) → (r ≡ Failed) ⊎ (later → heads_fault contents ≡ Some r)
+  second_after content r later before was found some none same (inl e) = inl e
+  second_after content r later before was None some none same (inr bad) =
+      inr (λ is. second_refused r (unsealed 0 (none (was is))) (subst (λ (bytes : List ℕ). head_fault 1 bytes ≡ Some r) same (bad is)))
+  second_after content r later before was (Some head) some none same (inr bad) =
+      inr (λ is. second_refused r (some (was is)).faultless (subst (λ (bytes : List ℕ). head_fault 1 bytes ≡ Some r) same (bad is)))

@@ -29,6 +29,10 @@ refuses_more P Q refusal f (inl e) = inl e
 refuses_more P Q refusal f (inr (inl e)) = inr (inl e)
 refuses_more P Q refusal f (inr (inr p)) = inr (inr (f p))
 
+pub two_ends : (end : End) → (end ≡ Closed → ⊥) → end ≡ Ended
+two_ends Closed no_more = absurd (no_more refl)
+two_ends Ended no_more = refl
+
 -- ---- one log
 
 pub header_refused : (generation low : ℕ) (content : List ℕ) (refusal : Refusal) → (refusal ≡ Failed) ⊎ IsBadHeader generation low content refusal

@@ -1,9 +1,10 @@
 -- The map of a checkpoint and its logs, and what opening gives.
-use Rattle.std.proofs.Common.{◌≡◌, ◌⊎◌, inl, inr, ℕ, ◌+◌, ◌≤◌, ◌<◌, Option, None, Some, true, false, List, ◌++◌, length, map, refl, sym, ap, ap₂, subst, ◌∙◌, arith, length-append}
+use Rattle.std.proofs.Common.{◌≡◌, ◌⊎◌, inl, inr, ℕ, ◌+◌, ◌≤◌, ◌<◌, Option, None, Some, true, false, List, ◌++◌, length, map, Result, Ok, Err, IfOk, IfErr, refl, sym, ap, ap₂, subst, ◌∙◌, arith, length-append}
 use Rattle.std.specs.FinMap as finite
 use Rattle.map_types.specs.declared.commands.Command.{Command}
 use Rattle.map_types.specs.declared.refusals.Refusal.{Refusal}
 use Rattle.map_types.specs.declared.refusals.Refusal.TheVariants.{Damaged}
+use Rattle.map_types.specs.declared.refusals.Refusal.TheVariants as refusal
 use Rattle.map_model.specs.Maps.{Map}
 use Rattle.map_model.specs.Parts.{union_of}
 use Rattle.map_model.specs.Steps.{map_after}
@@ -16,7 +17,9 @@ use Rattle.store_layout.specs.Opening.{Contents, Opened, AreBadLogs, AreLogs, Re
 use Rattle.store_layout.proofs.Openings.{used_is_held}
 use Rattle.checkpoint_file.specs.declared.loading.LoadedCheckpoint.{LoadedCheckpoint}
 use Rattle.checkpoint_file.specs.declared.loading.LoadedSection.{LoadedSection}
+use Rattle.checkpoint_file.specs.Heads.{failed_in as heads_failed_in}
 use Rattle.checkpoint_file.specs.Loads.{AreRising, IsUnloadable, checkpoint_of, sections_of}
+use Rattle.gate_log.specs.Scan.{failed_in}
 use Rattle.recovery.specs.declared.logs.LogPlace.{LogPlace}
 use Rattle.recovery.specs.declared.opening.Restored.{Restored}
 use Rattle.recovery.specs.declared.restoring.Restoring.{Restoring}
@@ -54,7 +57,7 @@ module _ (contents : Contents) (loaded : LoadedCheckpoint) (before after : Resto
 
   -- the map of the sections, and of the changes behind them
   pub is_restored : (same : IsSameFrame before after) (n : ℕ) → before.of ≡ loaded.stripes → before.divided.stripes.count ≡ n → AreRising loaded.sections.items
-      → HasMap before (finite.from_entries (entries_in loaded.sections.items)) → (place.committed < greatest_of after.marks.items → ⊥) → (found : Restored)
+      → HasMap before (finite.from_entries (entries_in loaded.sections.items)) → greatest_of after.marks.items ≤ place.committed → (found : Restored)
       → found ≡ record { parts = after.divided.parts; sealed = loaded.generation; log = place } → IsRestored contents (checkpoint_of loaded) n found
   is_restored same n of stripes rising has reaches found is =
       let k = checkpoint_of loaded in
@@ -104,3 +107,36 @@ module _ (contents : Contents) (file : ℕ) (used : IsUsed contents file) where
   pub not_loaded : (refusal : Refusal) → IsUnloadable file (contents file) refusal → Refuses contents refusal
   not_loaded refusal (inl head) = absurd (let none = used.head in cc)
   not_loaded refusal (inr bad) = bad_checkpoint used.faultless (subst (λ number. IsBadCheckpoint first_layout number (contents number) refusal) used.newest bad.2)
+
+-- ---- counts of failures
+
+pub same_failed : (X Y : Type 0) (r : Refusal) → heads_failed_in {X = X} (Err r) ≡ failed_in {X = Y} (Err r)
+same_failed X Y refusal.NullValue = refl
+same_failed X Y refusal.KeyTooLong = refl
+same_failed X Y refusal.ValueTooLong = refl
+same_failed X Y refusal.UnknownMethod = refl
+same_failed X Y refusal.UnknownFunction = refl
+same_failed X Y refusal.BadFrame = refl
+same_failed X Y refusal.NoMemory = refl
+same_failed X Y (refusal.Busy stripe) = refl
+same_failed X Y refusal.Failed = refl
+same_failed X Y refusal.TicketsSpent = refl
+same_failed X Y refusal.NotFormatted = refl
+same_failed X Y (refusal.Damaged file offset) = refl
+same_failed X Y refusal.WrongVersion = refl
+same_failed X Y refusal.LogFull = refl
+same_failed X Y refusal.AlreadyFormatted = refl
+same_failed X Y refusal.WrongPhase = refl
+same_failed X Y refusal.TooEarly = refl
+same_failed X Y refusal.NotText = refl
+same_failed X Y refusal.SeatsSpent = refl
+
+-- ---- answers
+
+pub if_ok : {X : Type 0} (P Q : X → Type 0) (r : Result X Refusal) → ((x : X) → P x → Q x) → IfOk r P → IfOk r Q
+if_ok P Q (Ok x) f p = f x p
+if_ok P Q (Err e) f p = tt
+
+pub if_err : {X : Type 0} (P Q : Refusal → Type 0) (r : Result X Refusal) → ((x : Refusal) → P x → Q x) → IfErr r P → IfErr r Q
+if_err P Q (Ok x) f p = tt
+if_err P Q (Err e) f p = f e p

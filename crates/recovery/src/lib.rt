@@ -2,3 +2,13 @@
 #![tactic(auto)]
 
 mod divided;
+mod heads;
+mod logs;
+mod opening;
+mod replay;
+mod restoring;
+#[cfg(test)]
+mod tests;
+
+pub use logs::LogPlace;
+pub use opening::{Restored, restore};

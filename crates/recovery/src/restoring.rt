@@ -40,7 +40,7 @@ fn marks_of(alloc: Global, sections: &[LoadedSection]) -> Result<Vec<u64>, Refus
 pub(crate) fn greatest_of(marks: &[u64]) -> u64
     ensures { result ≡ greatest_of marks.now }
 {
-    let mut greatest = 0;
+    let mut greatest: u64 = 0;
     for mark in marks {
         greatest = greatest.max(*mark);
     }

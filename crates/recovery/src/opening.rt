@@ -1,0 +1,73 @@
+//! The map that a directory stands for.
+ghost use Rattle.std.specs.Prelude.{◌≡◌, IfOk, IfErr};
+ghost use Rattle.disk_model.specs.Calls.{Looks};
+ghost use Rattle.store_layout.specs.Opening.{AreBadLogs, Refuses};
+ghost use Rattle.checkpoint_file.specs.Loads.{checkpoint_of, AreRising};
+ghost use Rattle.gate_log.specs.Scan.{failed_in};
+ghost use Rattle.recovery.specs.LogReading.{contents_of, RefusesFor};
+ghost use Rattle.recovery.specs.Opening.{IsOpened, IsRestored};
+
+use crate::heads::newest_file;
+use crate::logs::{LogPlace, read_logs};
+use crate::restoring::{Restoring, greatest_of};
+use atomic_methods::Part;
+use checkpoint_file::{LoadedCheckpoint, load};
+use disk_model::Disk;
+use java_hash::StripeCount;
+use map_types::Refusal;
+use std::alloc::Global;
+
+/// What a directory stands for.
+#[derive(Drop)]
+pub struct Restored {
+    /// The parts of the map, one for each stripe in order.
+    pub parts: Vec<Part>,
+    /// The generation of the checkpoint that was used.
+    pub sealed: u64,
+    /// Where the newest log goes on.
+    pub log: LogPlace,
+}
+
+// The map of this checkpoint and its logs.
+fn restore_from<D: Disk>(
+    alloc: Global,
+    disk: &mut D,
+    stripes: StripeCount,
+    loaded: LoadedCheckpoint,
+) -> Result<Restored, Refusal>
+    ensures looks { Looks D.states D.failures D.honest (failed_in result) disk.old disk.new }
+    ensures ok { D.honest disk.new → AreRising loaded.sections.items → IfOk result (IsRestored (contents_of D.states disk.old) (checkpoint_of loaded) stripes.count) }
+    ensures err { D.honest disk.new → IfErr result (λ refusal. RefusesFor (AreBadLogs (contents_of D.states disk.old) (checkpoint_of loaded) refusal) refusal) }
+{
+    let generation = loaded.generation;
+    let low = loaded.low;
+    let mut restoring = Restoring::new(alloc, stripes, loaded)?;
+    let log = read_logs(alloc, disk, generation, low, &mut restoring)?;
+    if log.committed < greatest_of(&restoring.marks) {
+        return Err(log.damaged());
+    }
+    Ok(Restored {
+        parts: restoring.divided.parts,
+        sealed: generation,
+        log,
+    })
+}
+
+/// Restores the map that the files stand for, divided for so many stripes, and looks at the files
+/// alone. Besides the map it holds one section or one frame at a time. What was found is lost where it
+/// is refused.
+pub fn restore<D: Disk>(
+    alloc: Global,
+    disk: &mut D,
+    stripes: StripeCount,
+) -> Result<Restored, Refusal>
+    ensures looks { Looks D.states D.failures D.honest (failed_in result) disk.old disk.new }
+    ensures ok { D.honest disk.new → IfOk result (IsOpened (contents_of D.states disk.old) stripes.count) }
+    ensures err { D.honest disk.new → IfErr result (λ refusal. RefusesFor (Refuses (contents_of D.states disk.old) refusal) refusal) }
+{
+    let file = newest_file(disk)?;
+    let Some(loaded) = load(alloc, disk, file)? else {
+        return Err(Refusal::NotFormatted);
+    };
+    restore_from(alloc, disk, stripes, loaded)
+}
