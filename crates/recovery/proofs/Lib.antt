@@ -4,3 +4,4 @@ mod ReplayLemmas
 mod LogReadingLemmas
 mod HeadsLemmas
 mod OpeningLemmas
+mod SyncingLemmas

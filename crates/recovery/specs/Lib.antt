@@ -4,3 +4,4 @@ pub mod Restoring
 pub mod LogReading
 pub mod Heads
 pub mod Opening
+pub mod Syncing

@@ -7,8 +7,9 @@ mod logs;
 mod opening;
 mod replay;
 mod restoring;
+mod syncing;
 #[cfg(test)]
 mod tests;
 
 pub use logs::LogPlace;
-pub use opening::{Restored, restore};
+pub use opening::{Restored, open_parts};

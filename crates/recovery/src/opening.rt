@@ -1,15 +1,17 @@
 //! The map that a directory stands for.
-ghost use Rattle.std.specs.Prelude.{◌≡◌, IfOk, IfErr};
+ghost use Rattle.std.specs.Prelude.{◌≡◌, IfOk, IfErr, OnOk};
 ghost use Rattle.disk_model.specs.Calls.{Looks};
 ghost use Rattle.store_layout.specs.Opening.{AreBadLogs, Refuses};
 ghost use Rattle.checkpoint_file.specs.Loads.{checkpoint_of, AreRising};
 ghost use Rattle.gate_log.specs.Scan.{failed_in};
 ghost use Rattle.recovery.specs.LogReading.{contents_of, RefusesFor};
 ghost use Rattle.recovery.specs.Opening.{IsOpened, IsRestored};
+ghost use Rattle.recovery.specs.Syncing.{Stopped, SyncsAndLooks};
 
 use crate::heads::newest_file;
 use crate::logs::{LogPlace, read_logs};
 use crate::restoring::{Restoring, greatest_of};
+use crate::syncing::sync_all;
 use atomic_methods::Part;
 use checkpoint_file::{LoadedCheckpoint, load};
 use disk_model::Disk;
@@ -53,10 +55,9 @@ fn restore_from<D: Disk>(
     })
 }
 
-/// Restores the map that the files stand for, divided for so many stripes, and looks at the files
-/// alone. Besides the map it holds one section or one frame at a time. What was found is lost where it
-/// is refused.
-pub fn restore<D: Disk>(
+// Restores the map that the files stand for, divided for so many stripes, and looks at the files
+// alone.
+fn restore<D: Disk>(
     alloc: Global,
     disk: &mut D,
     stripes: StripeCount,
@@ -70,4 +71,39 @@ pub fn restore<D: Disk>(
         return Err(Refusal::NotFormatted);
     };
     restore_from(alloc, disk, stripes, loaded)
+}
+
+// Syncs the files, and restores the map that they stand for.
+fn open_files<D: Disk>(
+    alloc: Global,
+    disk: &mut D,
+    stripes: StripeCount,
+) -> Result<Restored, Refusal>
+    ensures calls { OnOk result (SyncsAndLooks D.states D.failures D.honest 0 disk.old disk.new) }
+    ensures stopped { IfErr result (Stopped D.states D.failures D.honest disk.old disk.new) }
+    ensures was_honest { D.honest disk.new → D.honest disk.old }
+    ensures ok { D.honest disk.new → IfOk result (IsOpened (contents_of D.states disk.old) stripes.count) }
+    ensures err { D.honest disk.new → IfErr result (λ refusal. RefusesFor (Refuses (contents_of D.states disk.old) refusal) refusal) }
+{
+    sync_all(disk)?;
+    restore(alloc, disk, stripes)
+}
+
+/// Opens the directory: syncs its files, and restores the map that they stand for, divided for so many
+/// stripes. It writes nothing, and besides the map it holds one section or one frame at a time. The disk
+/// is handed back with what was found, or with the refusal.
+pub fn open_parts<D: Disk>(
+    alloc: Global,
+    mut disk: D,
+    stripes: StripeCount,
+) -> Result<(D, Restored), (D, Refusal)>
+    ensures calls { IfOk result (λ x. SyncsAndLooks D.states D.failures D.honest 0 disk x.0) }
+    ensures stopped { IfErr result (λ x. Stopped D.states D.failures D.honest disk x.0 x.1) }
+    ensures ok { IfOk result (λ x. D.honest x.0 → D.honest disk × IsOpened (contents_of D.states disk) stripes.count x.1) }
+    ensures err { IfErr result (λ x. D.honest x.0 → D.honest disk × RefusesFor (Refuses (contents_of D.states disk) x.1) x.1) }
+{
+    match open_files(alloc, &mut disk, stripes) {
+        Ok(found) => Ok((disk, found)),
+        Err(refusal) => Err((disk, refusal)),
+    }
 }

@@ -1,6 +1,6 @@
 ghost use Rattle.std.specs.Prelude.{◌<◌};
 
-use crate::{Restored, restore};
+use crate::{Restored, open_parts};
 use disk_model::{Disk, MemDisk};
 use java_hash::StripeCount;
 use log_records::{put_key, put_number, put_value};
@@ -71,8 +71,11 @@ fn restored(alloc: Global, checkpoint: &[u8], stripes: u16) -> Result<Vec<u8>, R
     let Some(stripes) = StripeCount::new(stripes) else {
         return Err(Refusal::WrongPhase);
     };
-    let mut disk = disk_with(alloc, checkpoint)?;
-    shown(alloc, &restore(alloc, &mut disk, stripes)?)
+    let disk = disk_with(alloc, checkpoint)?;
+    match open_parts(alloc, disk, stripes) {
+        Ok((_, found)) => shown(alloc, &found),
+        Err((_, refusal)) => Err(refusal),
+    }
 }
 
 // Of the four commands the third alone is in no section.
@@ -82,7 +85,7 @@ fn sealed_while_changing(rt: HostRuntime) -> Result<(), Refusal> {
     let expected = [
         4, 1, 1, 83, 1, 0x62, 1, 0, 0, 0, 0, 0, 0, 0, 3, 1, 0x61, 1, 0, 0, 0, 0, 0, 0, 0, 4,
     ];
-    assert_eq!(rt; found.as_slice(), &expected);
+    assert_eq!(rt; found.as_slice(), expected.as_slice());
     Ok(())
 }
 
@@ -93,6 +96,6 @@ fn not_yet_sealed(rt: HostRuntime) -> Result<(), Refusal> {
     let expected = [
         4, 0, 1, 83, 1, 0x61, 1, 0, 0, 0, 0, 0, 0, 0, 4, 1, 0x62, 1, 0, 0, 0, 0, 0, 0, 0, 3,
     ];
-    assert_eq!(rt; found.as_slice(), &expected);
+    assert_eq!(rt; found.as_slice(), expected.as_slice());
     Ok(())
 }
