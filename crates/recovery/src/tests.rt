@@ -54,10 +54,10 @@ fn disk_with(alloc: Global, checkpoint: &[u8]) -> Result<MemDisk, Refusal> {
 // The numbers, and then each key and each value, part by part.
 fn shown(alloc: Global, found: &Restored) -> Result<Vec<u8>, Refusal> {
     let mut out = Vec::new(alloc);
-    put_number(1, found.log.committed, &mut out)?;
-    put_number(1, found.sealed, &mut out)?;
-    put_number(1, found.log.generation, &mut out)?;
-    put_number(1, found.log.gate as u64, &mut out)?;
+    put_number(8, found.log.committed, &mut out)?;
+    put_number(8, found.sealed, &mut out)?;
+    put_number(8, found.log.generation, &mut out)?;
+    put_number(8, found.log.gate as u64, &mut out)?;
     for part in &found.parts {
         for (key, value) in &part.entries_sorted(alloc)? {
             put_key(key, &mut out)?;
@@ -83,7 +83,8 @@ fn restored(alloc: Global, checkpoint: &[u8], stripes: u16) -> Result<Vec<u8>, R
 fn sealed_while_changing(rt: HostRuntime) -> Result<(), Refusal> {
     let found = restored(rt.alloc(), &CHECKPOINT, 2)?;
     let expected = [
-        4, 1, 1, 83, 1, 0x62, 1, 0, 0, 0, 0, 0, 0, 0, 3, 1, 0x61, 1, 0, 0, 0, 0, 0, 0, 0, 4,
+        0, 0, 0, 0, 0, 0, 0, 4, 0, 0, 0, 0, 0, 0, 0, 1, 0, 0, 0, 0, 0, 0, 0, 1, 0, 0, 0, 0, 0, 0, 0,
+        83, 1, 0x62, 1, 0, 0, 0, 0, 0, 0, 0, 3, 1, 0x61, 1, 0, 0, 0, 0, 0, 0, 0, 4,
     ];
     assert_eq!(rt; found.as_slice(), expected.as_slice());
     Ok(())
@@ -94,7 +95,8 @@ fn sealed_while_changing(rt: HostRuntime) -> Result<(), Refusal> {
 fn not_yet_sealed(rt: HostRuntime) -> Result<(), Refusal> {
     let found = restored(rt.alloc(), &[0], 1)?;
     let expected = [
-        4, 0, 1, 83, 1, 0x61, 1, 0, 0, 0, 0, 0, 0, 0, 4, 1, 0x62, 1, 0, 0, 0, 0, 0, 0, 0, 3,
+        0, 0, 0, 0, 0, 0, 0, 4, 0, 0, 0, 0, 0, 0, 0, 0, 0, 0, 0, 0, 0, 0, 0, 1, 0, 0, 0, 0, 0, 0, 0,
+        83, 1, 0x61, 1, 0, 0, 0, 0, 0, 0, 0, 4, 1, 0x62, 1, 0, 0, 0, 0, 0, 0, 0, 3,
     ];
     assert_eq!(rt; found.as_slice(), expected.as_slice());
     Ok(())
