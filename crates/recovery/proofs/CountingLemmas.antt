@@ -12,10 +12,10 @@ use Rattle.map_model.specs.Steps.{step, map_after}
 use Rattle.map_model.proofs.FoldLaws.{map_after-append}
 use Rattle.ticket_order.specs.declared.stripe.Entry.{Entry}
 use Rattle.store_layout.specs.Checkpoints.{Section, greatest_mark}
-use Rattle.store_layout.specs.Standing.{counted, mark_of}
+use Rattle.store_layout.specs.Standing.{counted}
 use Rattle.gate_log.specs.States.{AreFrom, commands_of}
 use Rattle.checkpoint_file.specs.declared.loading.LoadedSection.{LoadedSection}
-use Rattle.checkpoint_file.specs.Loads.{AreRising, section_of, sections_of}
+use Rattle.checkpoint_file.specs.Loads.{AreRising, sections_of}
 use Rattle.recovery.specs.declared.divided.Divided.{Divided}
 use Rattle.recovery.specs.declared.restoring.Restoring.{Restoring}
 use Rattle.recovery.specs.Counting.{counted_of, entries_in, greatest_of, marks_in}
@@ -111,7 +111,7 @@ module _ (before mid : Restoring) (entries : List Entry) (i : ℕ) (entry : Entr
   made_one b e counting divided stripes made m has =
       let done = counted_of before.of.count before.marks.items (take i entries) in
       let next : map_after m (counted_of before.of.count before.marks.items (take (i + 1) entries)) ≡ (step (map_after m done) entry.command).map =
-          ap (map_after m) (counted_next before.of.count before.marks.items entries i entry true low is (counts_so b e ∙ counting)) ∙ map_after-append m done (entry.command ∷ []) in
+      ap (map_after m) (counted_next before.of.count before.marks.items entries i entry true low is (counts_so b e ∙ counting)) ∙ map_after-append m done (entry.command ∷ []) in
       subst (λ (x : Map). IsDivided divided.stripes.count x divided.parts.items) (sym next)
       (subst (λ s. IsDivided s.count (step (map_after m done) entry.command).map divided.parts.items) (sym stripes) (made (map_after m done) (so_far m has)))
 
@@ -121,5 +121,5 @@ module _ (before mid : Restoring) (entries : List Entry) (i : ℕ) (entry : Entr
   passed_one b e passing m has =
       let done = counted_of before.of.count before.marks.items (take i entries) in
       let next : map_after m (counted_of before.of.count before.marks.items (take (i + 1) entries)) ≡ map_after m done =
-          ap (map_after m) (counted_next before.of.count before.marks.items entries i entry false low is (counts_so b e ∙ passing)) ∙ map_after-append m done [] in
+      ap (map_after m) (counted_next before.of.count before.marks.items entries i entry false low is (counts_so b e ∙ passing)) ∙ map_after-append m done [] in
       subst (λ (x : Map). HasMap mid x) (sym next) (so_far m has)

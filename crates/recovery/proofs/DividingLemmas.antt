@@ -1,5 +1,5 @@
 -- The parts of a map, and a change of one of them.
-use Rattle.std.proofs.Common.{◌≡◌, ◌≢◌, ℕ, zero, suc, ◌+◌, ◌<◌, Bool, true, false, cond, Option, None, List, [], ◌∷◌, ◌++◌, length, map, get_or, set, refl, sym, ap, ap₂, subst, ◌∙◌, arith, append_assoc}
+use Rattle.std.proofs.Common.{◌≡◌, ◌≢◌, ℕ, zero, suc, ◌+◌, ◌<◌, true, false, cond, None, List, [], ◌∷◌, ◌++◌, length, map, get_or, set, refl, sym, ap, ap₂, subst, ◌∙◌, arith, append_assoc}
 use Rattle.std.proofs.lemmas.Bool.{ne_eqb}
 use Rattle.std.proofs.lemmas.Bool.Decides.{nat_tests}
 use Rattle.std.proofs.lemmas.List.{append-nil, map-set, get_or-map}
@@ -13,7 +13,7 @@ use Rattle.map_types.specs.declared.commands.Change.TheVariants.{Put}
 use Rattle.map_types.specs.declared.commands.Command.{Command}
 use Rattle.map_types.specs.declared.texts.Value.{Value}
 use Rattle.map_model.specs.Maps.{Map}
-use Rattle.map_model.specs.Parts.{part_of, parts_of, is_in_stripe}
+use Rattle.map_model.specs.Parts.{part_of, is_in_stripe}
 use Rattle.map_model.specs.Steps.{step, Stepped}
 use Rattle.map_model.proofs.MapLaws.{same_gets, get-part_of, step-part_of, step-part_of_other}
 use Rattle.atomic_methods.specs.PartState.{PartState}
@@ -70,8 +70,8 @@ module _ (n : ℕ) (m : Map) (c : Command) where
   changed parts i d old new is within size there made laid divided =
       let low : i < length parts = omega (arith, within, size) in
       let here : old.map ≡ part_of n i m =
-          ap (λ (p : PartState). p.map) there ∙ sym (get_or-map (λ (p : PartState). p.map) parts i d finite.empty low)
-          ∙ ap (λ (l : List Map). get_or l i finite.empty) divided.maps ∙ get_or-map-range_with_len (λ s. part_of n s m) 0 n i i finite.empty within (omega arith) in
+      ap (λ (p : PartState). p.map) there ∙ sym (get_or-map (λ (p : PartState). p.map) parts i d finite.empty low)
+      ∙ ap (λ (l : List Map). get_or l i finite.empty) divided.maps ∙ get_or-map-range_with_len (λ s. part_of n s m) 0 n i i finite.empty within (omega arith) in
       record {
         maps = map-set (λ (p : PartState). p.map) parts i new
             ∙ ap₂ (λ (l : List Map) (x : Map). set l i x) divided.maps (made ∙ ap (λ (x : Map). (step x c).map) here)
@@ -90,9 +90,9 @@ unmapped q = finite.get-entries nothing q ∙ ap (λ (es : List (List ℕ × Val
 
 no_part : (n s : ℕ) → part_of n s nothing ≡ nothing
 no_part n s = same_gets _ _ (λ q. get-part_of n s nothing q ∙ elim (is_in_stripe n s q) as (λ b. cond b (finite.get nothing q) None ≡ finite.get nothing q) [
-    | true ↦ refl
-    | false ↦ sym (unmapped q)
-  ])
+  | true ↦ refl
+  | false ↦ sym (unmapped q)
+])
 
 abbrev pub IsBlank : ℕ → PartState → Type 0
 IsBlank n p = (p.map ≡ finite.empty) × (p.growth.stripes ≡ n)

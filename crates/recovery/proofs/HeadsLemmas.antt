@@ -1,11 +1,11 @@
 -- The heads of the two checkpoints.
-use Rattle.std.proofs.Common.{◌≡◌, ◌⊎◌, inl, inr, ℕ, ◌==◌, Bool, true, false, not, cond, ◌&&◌, nat_lt, Option, None, Some, List, refl, sym, ap, ap₂, subst, IfSome, IfNone, ◌∙◌, ◌<◌, ◌≤◌, arith}
+use Rattle.std.proofs.Common.{◌≡◌, ◌⊎◌, inl, inr, ℕ, Bool, true, false, not, cond, nat_lt, Option, None, Some, List, refl, sym, ap, ap₂, subst, IfSome, IfNone, ◌∙◌, ◌<◌, ◌≤◌, arith}
 use Rattle.std.proofs.lemmas.Bool.Decides.{nat_tests}
 use Rattle.map_types.specs.declared.refusals.Refusal.{Refusal}
-use Rattle.map_types.specs.declared.refusals.Refusal.TheVariants.{Damaged, Failed, NotFormatted, WrongVersion}
+use Rattle.map_types.specs.declared.refusals.Refusal.TheVariants.{Failed, NotFormatted}
 use Rattle.store_layout.specs.Checkpoints.{is_sealed}
 use Rattle.store_layout.specs.Faults.{generation_in, head_fault}
-use Rattle.store_layout.specs.Opening.{Contents, first_fault, heads_fault, newest_file}
+use Rattle.store_layout.specs.Opening.{Contents, first_fault, heads_fault}
 use Rattle.store_layout.proofs.Openings.{heads_by, newest_of_two}
 use Rattle.checkpoint_file.specs.declared.head.Head.{Head}
 use Rattle.checkpoint_file.specs.Heads.{IsHead}

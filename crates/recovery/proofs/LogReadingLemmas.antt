@@ -1,7 +1,5 @@
 -- The logs of a checkpoint, one after the other.
-use Rattle.std.proofs.Common.{◌≡◌, ◌⊎◌, inl, inr, ℕ, ◌+◌, ◌<◌, ◌^◌, List, [], ◌∷◌, ◌++◌, length, map, None, Some, refl, sym, ap, ap₂, subst, ◌∙◌, arith, length-append}
-use Rattle.disk_model.specs.Calls.{Looks}
-use Rattle.disk_model.specs.Files.{Files}
+use Rattle.std.proofs.Common.{◌≡◌, ◌⊎◌, inl, inr, ℕ, ◌+◌, ◌<◌, ◌^◌, List, [], ◌++◌, length, None, Some, refl, sym, ap, ap₂, subst, ◌∙◌}
 use Rattle.map_types.specs.declared.commands.Command.{Command}
 use Rattle.map_types.specs.declared.refusals.Refusal.{Refusal}
 use Rattle.map_types.specs.declared.refusals.Refusal.TheVariants.{Damaged, Failed}
@@ -9,20 +7,19 @@ use Rattle.map_model.specs.Maps.{Map}
 use Rattle.map_model.specs.Steps.{map_after}
 use Rattle.map_model.proofs.FoldLaws.{map_after-append}
 use Rattle.log_records.specs.Layout.{first_layout}
-use Rattle.store_layout.specs.Checkpoints.{Section, Checkpoint}
-use Rattle.store_layout.specs.Logs.{Batch, IsClosed, IsEnded, commands_in, log_file}
-use Rattle.store_layout.specs.Readings.{IsBadHeader, Reads, broken, ended}
-use Rattle.store_layout.specs.Opening.{Contents, AreBadLogs, bad_header, bad_frame, bad_next_header, bad_next_frame, second_end, damage_behind, newest_by}
+use Rattle.store_layout.specs.Checkpoints.{Checkpoint}
+use Rattle.store_layout.specs.Logs.{commands_in, log_file}
+use Rattle.store_layout.specs.Readings.{IsBadHeader}
+use Rattle.store_layout.specs.Opening.{Contents, AreBadLogs, bad_header, bad_frame, bad_next_header, bad_next_frame, second_end}
 use Rattle.store_layout.specs.Standing.{counted}
 use Rattle.store_layout.proofs.Growing.{counted-append}
-use Rattle.gate_log.specs.Scan.{HasRead, ScanState, log_bytes}
-use Rattle.gate_log.proofs.Scanning.{same_bytes}
+use Rattle.gate_log.specs.Scan.{HasRead, ScanState}
 use Rattle.recovery.specs.declared.logs.LogPlace.{LogPlace}
 use Rattle.recovery.specs.declared.replay.End.{End}
 use Rattle.recovery.specs.declared.replay.End.TheVariants.{Closed, Ended}
 use Rattle.recovery.specs.declared.restoring.Restoring.{Restoring}
 use Rattle.recovery.specs.Restoring.{Applies, HasMap, IsSameFrame}
-use Rattle.recovery.specs.LogReading.{AreReplayed, IsBadLog, IsBrokenFor, IsLogRead, IsPlaceOf, IsReplayed, RefusesFor, checkpoint_with}
+use Rattle.recovery.specs.LogReading.{AreReplayed, IsBadLog, IsBrokenFor, IsLogRead, IsReplayed, RefusesFor}
 
 pub refuses_more : (P Q : Type 0) (refusal : Refusal) → (P → Q) → RefusesFor P refusal → RefusesFor Q refusal
 refuses_more P Q refusal f (inl e) = inl e
@@ -74,9 +71,9 @@ applies_on low next first second a b c e same one two sections m marks has =
     let n = a.of.count in
     let done = counted n sections low first in
     let rest : counted b.of.count sections next second ≡ counted n sections (low + length first) second =
-        ap₂ (λ of t. counted of.count sections t second) same.of e in
+    ap₂ (λ of t. counted of.count sections t second) same.of e in
     let all : map_after m (counted n sections low (first ++ second)) ≡ map_after (map_after m done) (counted b.of.count sections next second) =
-        ap (map_after m) (counted-append n sections low first second ∙ ap (λ (l : List Command). done ++ l) (sym rest)) ∙ map_after-append m done (counted b.of.count sections next second) in
+    ap (map_after m) (counted-append n sections low first second ∙ ap (λ (l : List Command). done ++ l) (sym rest)) ∙ map_after-append m done (counted b.of.count sections next second) in
     subst (λ (x : Map). HasMap c x) (sym all) (two sections (map_after m done) (marks ∙ sym (ap (λ ms. ms.items) same.marks)) (one sections m marks has))
 
 module _ (contents : Contents) (k : Checkpoint) (before mid after : Restoring) (first : LogPlace) where

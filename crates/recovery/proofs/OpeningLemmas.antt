@@ -1,22 +1,20 @@
 -- The map of a checkpoint and its logs, and what opening gives.
-use Rattle.std.proofs.Common.{◌≡◌, ◌⊎◌, inl, inr, ℕ, ◌+◌, ◌≤◌, ◌<◌, Option, None, Some, true, false, List, ◌++◌, length, map, Result, Ok, Err, IfOk, IfErr, refl, sym, ap, ap₂, subst, ◌∙◌, arith, length-append}
+use Rattle.std.proofs.Common.{◌≡◌, inl, inr, ℕ, ◌+◌, ◌≤◌, ◌<◌, Option, None, Some, List, length, Result, Ok, Err, IfOk, IfErr, refl, sym, ap, ap₂, subst, ◌∙◌, arith, length-append}
 use Rattle.std.specs.FinMap as finite
 use Rattle.map_types.specs.declared.commands.Command.{Command}
 use Rattle.map_types.specs.declared.refusals.Refusal.{Refusal}
 use Rattle.map_types.specs.declared.refusals.Refusal.TheVariants.{Damaged}
 use Rattle.map_types.specs.declared.refusals.Refusal.TheVariants as refusal
 use Rattle.map_model.specs.Maps.{Map}
-use Rattle.map_model.specs.Parts.{union_of}
 use Rattle.map_model.specs.Steps.{map_after}
 use Rattle.log_records.specs.Layout.{first_layout}
-use Rattle.store_layout.specs.Checkpoints.{Section, Checkpoint, IsCheckpoint, greatest_mark}
-use Rattle.store_layout.specs.Faults.{IsBadCheckpoint, head_fault}
+use Rattle.store_layout.specs.Checkpoints.{Checkpoint, IsCheckpoint, greatest_mark}
+use Rattle.store_layout.specs.Faults.{IsBadCheckpoint}
 use Rattle.store_layout.specs.Logs.{Batch, commands_in, log_file}
 use Rattle.store_layout.specs.Standing.{counted, restored}
-use Rattle.store_layout.specs.Opening.{Contents, Opened, AreBadLogs, AreLogs, Refuses, bad_checkpoint, bad_heads, bad_logs, below_mark, heads_fault, logged_by, newest_by, newest_file}
+use Rattle.store_layout.specs.Opening.{Contents, Opened, AreBadLogs, Refuses, bad_checkpoint, bad_logs, below_mark, logged_by, newest_by}
 use Rattle.store_layout.proofs.Openings.{used_is_held}
 use Rattle.checkpoint_file.specs.declared.loading.LoadedCheckpoint.{LoadedCheckpoint}
-use Rattle.checkpoint_file.specs.declared.loading.LoadedSection.{LoadedSection}
 use Rattle.checkpoint_file.specs.Heads.{failed_in as heads_failed_in}
 use Rattle.checkpoint_file.specs.Loads.{AreRising, IsUnloadable, checkpoint_of, sections_of}
 use Rattle.gate_log.specs.Scan.{failed_in}
@@ -26,9 +24,9 @@ use Rattle.recovery.specs.declared.restoring.Restoring.{Restoring}
 use Rattle.recovery.specs.Counting.{entries_in, greatest_of, marks_in}
 use Rattle.recovery.specs.Dividing.{IsDivided}
 use Rattle.recovery.specs.Heads.{IsUsed}
-use Rattle.recovery.specs.LogReading.{AreReplayed, IsPlaceOf, RefusesFor}
+use Rattle.recovery.specs.LogReading.{AreReplayed, IsPlaceOf}
 use Rattle.recovery.specs.Opening.{IsOpened, IsRestored}
-use Rattle.recovery.specs.Restoring.{Applies, HasMap, IsSameFrame}
+use Rattle.recovery.specs.Restoring.{HasMap, IsSameFrame}
 use Rattle.recovery.proofs.CountingLemmas.{greatest_is, marks_are, union_is}
 
 -- ---- a checkpoint and its logs
@@ -66,12 +64,12 @@ module _ (contents : Contents) (loaded : LoadedCheckpoint) (before after : Resto
       let xs = sections_of loaded.sections.items in
       let start : Map = finite.from_entries (entries_in loaded.sections.items) in
       let made : HasMap after (map_after start (counted before.of.count xs k.low log)) =
-          replayed.applied xs start (marks_are loaded.sections.items ∙ sym marks) has in
+      replayed.applied xs start (marks_are loaded.sections.items ∙ sym marks) has in
       let same_map : map_after start (counted before.of.count xs k.low log) ≡ restored k.stripes xs k.low log =
-          ap₂ (λ (m : Map) s. map_after m (counted s.count xs k.low log)) (sym (union_is loaded.sections.items rising)) of in
+      ap₂ (λ (m : Map) s. map_after m (counted s.count xs k.low log)) (sym (union_is loaded.sections.items rising)) of in
       let divided : IsDivided n (restored k.stripes xs k.low log) after.divided.parts.items =
-          subst (λ j. IsDivided j (restored k.stripes xs k.low log) after.divided.parts.items) (ap (λ s. s.count) same.stripes ∙ stripes)
-          (subst (λ (m : Map). HasMap after m) same_map made) in
+      subst (λ j. IsDivided j (restored k.stripes xs k.low log) after.divided.parts.items) (ap (λ s. s.count) same.stripes ∙ stripes)
+      (subst (λ (m : Map). HasMap after m) same_map made) in
       subst (λ (r : Restored). IsRestored contents k n r) (sym is) (record {
         first = replayed.first;
         second = replayed.second;

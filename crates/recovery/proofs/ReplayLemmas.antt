@@ -11,19 +11,17 @@ use Rattle.map_model.specs.Steps.{map_after}
 use Rattle.map_model.proofs.FoldLaws.{map_after-append}
 use Rattle.log_records.specs.Layout.{first_layout}
 use Rattle.ticket_order.specs.declared.stripe.Entry.{Entry}
-use Rattle.store_layout.specs.Checkpoints.{Section}
 use Rattle.store_layout.specs.Logs.{Batch, commands_in, frame, header, log_file, log_front, opened}
 use Rattle.store_layout.specs.Readings.{IsBroken}
 use Rattle.store_layout.specs.Standing.{counted}
 use Rattle.store_layout.proofs.Growing.{counted-append}
-use Rattle.store_layout.proofs.LogLemmas.{length-header}
-use Rattle.gate_log.specs.States.{AreFrom, batch_of, commands_of}
+use Rattle.gate_log.specs.States.{batch_of, commands_of}
 use Rattle.gate_log.specs.Scan as scanning
 use Rattle.gate_log.specs.Scan.{HasRead, IsNextBatch, ScanState, log_bytes}
 use Rattle.gate_log.proofs.Scanning.{same_bytes}
 use Rattle.recovery.specs.declared.restoring.Restoring.{Restoring}
 use Rattle.recovery.specs.Counting.{counted_of}
-use Rattle.recovery.specs.Restoring.{Applies, HasMap, IsSameFrame}
+use Rattle.recovery.specs.Restoring.{HasMap, IsSameFrame}
 use Rattle.recovery.specs.LogReading.{IsBrokenFor, IsReading, RefusesFor}
 use Rattle.recovery.proofs.CountingLemmas.{counted_is}
 
@@ -74,14 +72,14 @@ batch_more low content before mid after scan new count entries given e same read
       let n = before.of.count in
       let done = counted n sections low (commands_in reading.batches) in
       let here : counted_of mid.of.count mid.marks.items given ≡ counted n sections (low + length (commands_in reading.batches)) (commands_of entries) =
-          ap (λ (l : List Entry). counted_of mid.of.count mid.marks.items l) e
-          ∙ ap (λ of. counted_of of.count mid.marks.items entries) same.of
-          ∙ counted_is n sections mid.marks.items scan.expected entries (marks ∙ sym (ap (λ ms. ms.items) same.marks)) next.tickets
-          ∙ ap (λ t. counted n sections t (commands_of entries)) reading.read.tickets in
+      ap (λ (l : List Entry). counted_of mid.of.count mid.marks.items l) e
+      ∙ ap (λ of. counted_of of.count mid.marks.items entries) same.of
+      ∙ counted_is n sections mid.marks.items scan.expected entries (marks ∙ sym (ap (λ ms. ms.items) same.marks)) next.tickets
+      ∙ ap (λ t. counted n sections t (commands_of entries)) reading.read.tickets in
       let all : counted n sections low (commands_in (reading.batches ++ batch_of scan.expected entries ∷ [])) ≡ done ++ counted_of mid.of.count mid.marks.items given =
-          ap (counted n sections low) (commands_in-push reading.batches (batch_of scan.expected entries))
-          ∙ counted-append n sections low (commands_in reading.batches) (commands_of entries)
-          ∙ ap (λ (l : List Command). done ++ l) (sym here) in
+      ap (counted n sections low) (commands_in-push reading.batches (batch_of scan.expected entries))
+      ∙ counted-append n sections low (commands_in reading.batches) (commands_of entries)
+      ∙ ap (λ (l : List Command). done ++ l) (sym here) in
       subst (λ (x : Map). HasMap after x) (sym (ap (map_after m) all ∙ map_after-append m done (counted_of mid.of.count mid.marks.items given)))
       (made (map_after m done) (reading.applied sections m marks has));
 }

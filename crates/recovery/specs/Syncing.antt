@@ -1,7 +1,7 @@
 -- The files are synced one after the other.
 use Rattle.std.specs.Prelude.{◌≡◌, ◌⊎◌, ℕ, zero, suc, ◌+◌, ◌<◌, List, ◌∷◌, Err}
 use Rattle.disk_model.specs.Calls.{Looks}
-use Rattle.disk_model.specs.Files.{Files, now, synced, with_file}
+use Rattle.disk_model.specs.Files.{Contents, Files, Leaves, now, synced, with_file}
 use Rattle.map_types.specs.declared.refusals.Refusal.{Refusal}
 use Rattle.map_types.specs.declared.refusals.Refusal.TheVariants.{Failed}
 use Rattle.gate_log.specs.Scan.{failed_in}
@@ -34,3 +34,7 @@ pub record SyncsAndLooks {D : Type 0} (states : D → List Files) (failures : D 
 abbrev pub Stopped : {D : Type 0} → (D → List Files) → (D → ℕ) → (D → Type 0) → D → D → Refusal → Type 0
 Stopped states failures honest old new refusal =
     ((refusal ≡ Failed) × StoppedSyncing states failures old new) ⊎ SyncsAndLooks states failures honest (failed_in {X = ℕ} (Err refusal)) old new
+
+-- whatever a stop may leave of these files is this content
+abbrev pub LeavesOnly : Files → Contents → Type 0
+LeavesOnly files only = (contents : Contents) → Leaves files contents → (number : ℕ) → number < 4 → contents number ≡ only number

@@ -50,7 +50,11 @@ impl Divided {
     }
 
     /// Maps these keys, of which each stands there once.
-    pub(crate) fn add(&mut self, alloc: Global, mut entries: Vec<(Key, Value)>) -> Result<(), Refusal>
+    pub(crate) fn add(
+        &mut self,
+        alloc: Global,
+        mut entries: Vec<(Key, Value)>,
+    ) -> Result<(), Refusal>
         ensures stripes { self.new.stripes ≡ self.old.stripes }
         ensures ok { OnOk result ((behind : List (List ℕ × Value)) → IsDivided self.old.stripes.count (finite.from_entries behind) self.old.parts.items
             → IsDivided self.old.stripes.count (finite.from_entries (entries.items ++ behind)) self.new.parts.items) }

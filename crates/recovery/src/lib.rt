@@ -5,6 +5,8 @@ mod divided;
 mod heads;
 mod logs;
 mod opening;
+#[cfg(test)]
+mod refusal_tests;
 mod replay;
 mod restoring;
 mod syncing;

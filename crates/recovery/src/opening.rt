@@ -1,12 +1,13 @@
 //! The map that a directory stands for.
 ghost use Rattle.std.specs.Prelude.{◌≡◌, IfOk, IfErr, OnOk};
 ghost use Rattle.disk_model.specs.Calls.{Looks};
+ghost use Rattle.disk_model.specs.Files.{now};
 ghost use Rattle.store_layout.specs.Opening.{AreBadLogs, Refuses};
 ghost use Rattle.checkpoint_file.specs.Loads.{checkpoint_of, AreRising};
 ghost use Rattle.gate_log.specs.Scan.{failed_in};
 ghost use Rattle.recovery.specs.LogReading.{contents_of, RefusesFor};
 ghost use Rattle.recovery.specs.Opening.{IsOpened, IsRestored};
-ghost use Rattle.recovery.specs.Syncing.{Stopped, SyncsAndLooks};
+ghost use Rattle.recovery.specs.Syncing.{LeavesOnly, Stopped, SyncsAndLooks};
 
 use crate::heads::newest_file;
 use crate::logs::{LogPlace, read_logs};
@@ -57,11 +58,7 @@ fn restore_from<D: Disk>(
 
 // Restores the map that the files stand for, divided for so many stripes, and looks at the files
 // alone.
-fn restore<D: Disk>(
-    alloc: Global,
-    disk: &mut D,
-    stripes: StripeCount,
-) -> Result<Restored, Refusal>
+fn restore<D: Disk>(alloc: Global, disk: &mut D, stripes: StripeCount) -> Result<Restored, Refusal>
     ensures looks { Looks D.states D.failures D.honest (failed_in result) disk.old disk.new }
     ensures ok { D.honest disk.new → IfOk result (IsOpened (contents_of D.states disk.old) stripes.count) }
     ensures err { D.honest disk.new → IfErr result (λ refusal. RefusesFor (Refuses (contents_of D.states disk.old) refusal) refusal) }
@@ -101,6 +98,7 @@ pub fn open_parts<D: Disk>(
     ensures stopped { IfErr result (λ x. Stopped D.states D.failures D.honest disk x.0 x.1) }
     ensures ok { IfOk result (λ x. D.honest x.0 → D.honest disk × IsOpened (contents_of D.states disk) stripes.count x.1) }
     ensures err { IfErr result (λ x. D.honest x.0 → D.honest disk × RefusesFor (Refuses (contents_of D.states disk) x.1) x.1) }
+    ensures stops { IfOk result (λ x. LeavesOnly (now (D.states x.0)) (contents_of D.states disk)) }
 {
     match open_files(alloc, &mut disk, stripes) {
         Ok(found) => Ok((disk, found)),

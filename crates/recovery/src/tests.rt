@@ -14,7 +14,7 @@ const NEW_CHECKPOINT: [u8; 60] = [
 ];
 
 // {b: 2} at mark 2, and {a: 4} at mark 4.
-const CHECKPOINT: [u8; 82] = [
+pub(crate) const CHECKPOINT: [u8; 82] = [
     0xA5, 1, 0, 0, 0, 0, 0, 0, 0, 1, 0, 0, 0, 0, 0, 0, 0, 0, 0, 0, 0, 0, 0, 0, 0, 4, 0, 2, 0, 0, 0,
     0, 0, 0, 0, 0x2E, 0, 0, 0, 0, 0, 0, 0, 2, 0, 0, 0, 1, 1, 0x62, 1, 0, 0, 0, 0, 0, 0, 0, 2, 0, 0,
     0, 0, 0, 0, 0, 4, 0, 0, 0, 1, 1, 0x61, 1, 0, 0, 0, 0, 0, 0, 0, 4,
@@ -42,7 +42,7 @@ fn put_file(disk: &mut MemDisk, file: usize, bytes: &[u8]) -> Result<(), Refusal
     }
 }
 
-fn disk_with(alloc: Global, checkpoint: &[u8]) -> Result<MemDisk, Refusal> {
+pub(crate) fn disk_with(alloc: Global, checkpoint: &[u8]) -> Result<MemDisk, Refusal> {
     let mut disk = MemDisk::new(alloc);
     put_file(&mut disk, 0, &NEW_CHECKPOINT)?;
     put_file(&mut disk, 1, checkpoint)?;
@@ -83,8 +83,8 @@ fn restored(alloc: Global, checkpoint: &[u8], stripes: u16) -> Result<Vec<u8>, R
 fn sealed_while_changing(rt: HostRuntime) -> Result<(), Refusal> {
     let found = restored(rt.alloc(), &CHECKPOINT, 2)?;
     let expected = [
-        0, 0, 0, 0, 0, 0, 0, 4, 0, 0, 0, 0, 0, 0, 0, 1, 0, 0, 0, 0, 0, 0, 0, 1, 0, 0, 0, 0, 0, 0, 0,
-        83, 1, 0x62, 1, 0, 0, 0, 0, 0, 0, 0, 3, 1, 0x61, 1, 0, 0, 0, 0, 0, 0, 0, 4,
+        0, 0, 0, 0, 0, 0, 0, 4, 0, 0, 0, 0, 0, 0, 0, 1, 0, 0, 0, 0, 0, 0, 0, 1, 0, 0, 0, 0, 0, 0,
+        0, 83, 1, 0x62, 1, 0, 0, 0, 0, 0, 0, 0, 3, 1, 0x61, 1, 0, 0, 0, 0, 0, 0, 0, 4,
     ];
     assert_eq!(rt; found.as_slice(), expected.as_slice());
     Ok(())
@@ -95,8 +95,8 @@ fn sealed_while_changing(rt: HostRuntime) -> Result<(), Refusal> {
 fn not_yet_sealed(rt: HostRuntime) -> Result<(), Refusal> {
     let found = restored(rt.alloc(), &[0], 1)?;
     let expected = [
-        0, 0, 0, 0, 0, 0, 0, 4, 0, 0, 0, 0, 0, 0, 0, 0, 0, 0, 0, 0, 0, 0, 0, 1, 0, 0, 0, 0, 0, 0, 0,
-        83, 1, 0x61, 1, 0, 0, 0, 0, 0, 0, 0, 4, 1, 0x62, 1, 0, 0, 0, 0, 0, 0, 0, 3,
+        0, 0, 0, 0, 0, 0, 0, 4, 0, 0, 0, 0, 0, 0, 0, 0, 0, 0, 0, 0, 0, 0, 0, 1, 0, 0, 0, 0, 0, 0,
+        0, 83, 1, 0x61, 1, 0, 0, 0, 0, 0, 0, 0, 4, 1, 0x62, 1, 0, 0, 0, 0, 0, 0, 0, 3,
     ];
     assert_eq!(rt; found.as_slice(), expected.as_slice());
     Ok(())

@@ -3,7 +3,7 @@ use Rattle.std.proofs.lemmas.Result.{err_from_is_err_and}
 use Rattle.store_layout.specs.Opening.{Contents}
 use Rattle.store_layout.specs.Logs.{log_file}
 use Rattle.gate_log.proofs.Scanning.{looks_on, same_bytes}
-use Rattle.recovery.specs.declared.replay.End.TheVariants.{Closed, Ended}
+use Rattle.recovery.specs.declared.replay.End.TheVariants.{Ended}
 use Rattle.recovery.specs.LogReading.{IsBadLog, IsLogRead, checkpoint_with, contents_of}
 use Rattle.recovery.proofs.LogReadingLemmas.{ended_twice, first_bad, next_bad, refuses_more, two_ends, two_logs}
 use Rattle.recovery.proofs.logs.read_logs.Goals as goal

@@ -1,4 +1,4 @@
-use Rattle.std.proofs.Common.{◌≡◌, subst}
+use Rattle.std.proofs.Common.{subst}
 use Rattle.store_layout.specs.Opening.{Contents, Refuses}
 use Rattle.recovery.specs.LogReading.{RefusesFor, contents_of}
 use Rattle.recovery.specs.Opening.{IsOpened}

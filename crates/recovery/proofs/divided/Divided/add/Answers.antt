@@ -1,5 +1,4 @@
-use Rattle.std.proofs.Common.{◌≡◌, ◌++◌, ◌∷◌, ℕ, List, ap, ◌∙◌}
-use Rattle.map_types.specs.declared.texts.Value.{Value}
+use Rattle.std.proofs.Common.{◌++◌, ◌∷◌, ap, ◌∙◌}
 use Rattle.recovery.proofs.DividingLemmas.{put_more, split_more}
 use Rattle.recovery.proofs.divided.Divided.add.Goals as goal
 

@@ -1,4 +1,4 @@
-use Rattle.std.proofs.Common.{◌≡◌, ◌∷◌, ap, ◌∙◌}
+use Rattle.std.proofs.Common.{◌∷◌, ap, ◌∙◌}
 use Rattle.recovery.specs.Counting.{entries_in}
 use Rattle.recovery.proofs.DividingLemmas.{entries_more, split_more}
 use Rattle.recovery.proofs.divided.Divided.add_all.Goals as goal

@@ -1,4 +1,4 @@
-use Rattle.std.proofs.Common.{◌≡◌, ◌∙◌, ap, arith}
+use Rattle.std.proofs.Common.{◌∙◌, ap}
 use Rattle.map_model.specs.Maps.{Map}
 use Rattle.atomic_methods.specs.Prepared.{acted}
 use Rattle.recovery.proofs.DividingLemmas.{changed}

@@ -1,4 +1,4 @@
-use Rattle.std.proofs.Common.{◌≡◌, take}
+use Rattle.std.proofs.Common.{take}
 use Rattle.map_model.specs.Maps.{Map}
 use Rattle.map_model.specs.Steps.{map_after}
 use Rattle.recovery.specs.Counting.{counted_of}

@@ -1,4 +1,4 @@
-use Rattle.std.proofs.Common.{◌≡◌, ap}
+use Rattle.std.proofs.Common.{ap}
 use Rattle.recovery.specs.Counting.{entries_in}
 use Rattle.recovery.proofs.DividingLemmas.{all_added}
 use Rattle.recovery.proofs.restoring.Restoring.new.Goals as goal
