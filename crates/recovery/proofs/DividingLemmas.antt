@@ -1,0 +1,140 @@
+-- The parts of a map, and a change of one of them.
+use Rattle.std.proofs.Common.{◌≡◌, ◌≢◌, ℕ, zero, suc, ◌+◌, ◌<◌, true, false, cond, None, List, [], ◌∷◌, ◌++◌, length, map, get_or, set, refl, sym, ap, ap₂, subst, ◌∙◌, arith, append_assoc}
+use Rattle.std.proofs.lemmas.Bool.{ne_eqb}
+use Rattle.std.proofs.lemmas.Bool.Decides.{nat_tests}
+use Rattle.std.proofs.lemmas.List.{append-nil, map-set, get_or-map}
+use Rattle.std.proofs.lemmas.List.FromFn.{get_or-map-range_with_len}
+use Rattle.std.specs.List.{AllByRecursion, range_with_len}
+use Rattle.std.specs.Ordering.{nat_cmp}
+use Rattle.std.specs.Cmp.Lexicographic.{slice_cmp}
+use Rattle.std.specs.FinMap as finite
+use Rattle.java_hash.specs.Stripes.{stripe_of}
+use Rattle.map_types.specs.declared.commands.Change.TheVariants.{Put}
+use Rattle.map_types.specs.declared.commands.Command.{Command}
+use Rattle.map_types.specs.declared.texts.Value.{Value}
+use Rattle.map_model.specs.Maps.{Map}
+use Rattle.map_model.specs.Parts.{part_of, is_in_stripe}
+use Rattle.map_model.specs.Steps.{step, Stepped}
+use Rattle.map_model.proofs.MapLaws.{same_gets, get-part_of, step-part_of, step-part_of_other}
+use Rattle.atomic_methods.specs.PartState.{PartState}
+use Rattle.store_layout.proofs.NewStores.{no_entries}
+use Rattle.recovery.specs.Dividing.{IsDivided}
+
+-- ---- lists
+
+pub all_set : {X : Type 0} (P : X → Type 0) (xs : List X) (i : ℕ) (y : X) → AllByRecursion P xs → P y → AllByRecursion P (set xs i y)
+all_set P [] i y all here = all
+all_set P (x ∷ xs) zero y all here = (here, all.1)
+all_set P (x ∷ xs) (suc i) y all here = (all.0, all_set P xs i y all.1 here)
+
+pub all_at : {X : Type 0} (P : X → Type 0) (xs : List X) (i : ℕ) (d : X) → AllByRecursion P xs → i < length xs → P (get_or xs i d)
+all_at P [] i d all low = absurd (omega (arith, low))
+all_at P (x ∷ xs) zero d all low = all.0
+all_at P (x ∷ xs) (suc i) d all low = all_at P xs i d all.1 (omega (arith, low))
+
+pub all_push : {X : Type 0} (P : X → Type 0) (xs : List X) (y : X) → AllByRecursion P xs → P y → AllByRecursion P (xs ++ y ∷ [])
+all_push P [] y all here = (here, tt)
+all_push P (x ∷ xs) y all here = (all.0, all_push P xs y all.1 here)
+
+-- ---- one change
+
+module _ (n : ℕ) (m : Map) (c : Command) where
+  parts_from : ℕ → ℕ → Map → List Map
+  parts_from a k m' = map (λ s. part_of n s m') (range_with_len a k)
+
+  same_part : (s : ℕ) → stripe_of n c.key ≢ s → part_of n s m ≡ part_of n s (step m c).map
+  same_part s other = sym (step-part_of_other n s m c (ne_eqb (stripe_of n c.key) s other))
+
+  same_parts : (a k : ℕ) → stripe_of n c.key < a → parts_from a k m ≡ parts_from a k (step m c).map
+  unfolding parts_from
+  same_parts a zero low = refl
+  same_parts a (suc k) low = ap₂ (λ (x : Map) (xs : List Map). x ∷ xs) (same_part a (λ e. omega (arith, e, low))) (same_parts (a + 1) k (omega (arith, low)))
+
+  own_part : (s : ℕ) → stripe_of n c.key ≡ s → (step (part_of n s m) c).map ≡ part_of n s (step m c).map
+  own_part s is =
+      let own : is_in_stripe n s c.key ≡ true = grind (arith, nat_tests) in
+      ap (λ (t : Stepped). t.map) (step-part_of n s m c own)
+
+  set_part : (a k i j : ℕ) → stripe_of n c.key ≡ j → j ≡ a + i → i < k → set (parts_from a k m) i (step (part_of n j m) c).map ≡ parts_from a k (step m c).map
+  unfolding parts_from
+  set_part a zero i j is place low = absurd (omega (arith, low))
+  set_part a (suc k) zero j is place low =
+      ap₂ (λ (x : Map) (xs : List Map). x ∷ xs) (own_part j is ∙ ap (λ s. part_of n s (step m c).map) (omega (arith, place))) (same_parts (a + 1) k (omega (arith, is, place)))
+  set_part a (suc k) (suc i) j is place low =
+      ap₂ (λ (x : Map) (xs : List Map). x ∷ xs) (same_part a (λ e. omega (arith, e, is, place))) (set_part (a + 1) k i j is (omega (arith, place)) (omega (arith, low)))
+
+  -- the part of the key makes the change, and the others stay
+  pub changed : (parts : List PartState) (i : ℕ) (d old new : PartState) → i ≡ stripe_of n c.key → i < n → length parts ≡ n → old ≡ get_or parts i d
+      → new.map ≡ (step old.map c).map → new.growth.stripes ≡ old.growth.stripes → IsDivided n m parts → IsDivided n (step m c).map (set parts i new)
+  unfolding parts_from
+  changed parts i d old new is within size there made laid divided =
+      let low : i < length parts = omega (arith, within, size) in
+      let here : old.map ≡ part_of n i m =
+      ap (λ (p : PartState). p.map) there ∙ sym (get_or-map (λ (p : PartState). p.map) parts i d finite.empty low)
+      ∙ ap (λ (l : List Map). get_or l i finite.empty) divided.maps ∙ get_or-map-range_with_len (λ s. part_of n s m) 0 n i i finite.empty within (omega arith) in
+      record {
+        maps = map-set (λ (p : PartState). p.map) parts i new
+            ∙ ap₂ (λ (l : List Map) (x : Map). set l i x) divided.maps (made ∙ ap (λ (x : Map). (step x c).map) here)
+            ∙ set_part 0 n i i (sym is) (omega arith) within;
+        laid = all_set (λ (p : PartState). p.growth.stripes ≡ n) parts i new divided.laid
+            (laid ∙ ap (λ (p : PartState). p.growth.stripes) there ∙ all_at (λ (p : PartState). p.growth.stripes ≡ n) parts i d divided.laid low);
+      }
+
+-- ---- the empty map
+
+abbrev nothing : Map
+nothing = finite.empty
+
+unmapped : (q : List ℕ) → finite.get nothing q ≡ None
+unmapped q = finite.get-entries nothing q ∙ ap (λ (es : List (List ℕ × Value)). finite.find (slice_cmp nat_cmp) q es) no_entries
+
+no_part : (n s : ℕ) → part_of n s nothing ≡ nothing
+no_part n s = same_gets _ _ (λ q. get-part_of n s nothing q ∙ elim (is_in_stripe n s q) as (λ b. cond b (finite.get nothing q) None ≡ finite.get nothing q) [
+  | true ↦ refl
+  | false ↦ sym (unmapped q)
+])
+
+abbrev pub IsBlank : ℕ → PartState → Type 0
+IsBlank n p = (p.map ≡ finite.empty) × (p.growth.stripes ≡ n)
+
+blank_maps : (n a : ℕ) (parts : List PartState) → AllByRecursion (IsBlank n) parts → map (λ (p : PartState). p.map) parts ≡ map (λ s. part_of n s nothing) (range_with_len a (length parts))
+blank_maps n a [] all = refl
+blank_maps n a (p ∷ parts) all = ap₂ (λ (x : Map) (xs : List Map). x ∷ xs) (all.0.0 ∙ sym (no_part n a)) (blank_maps n (a + 1) parts all.1)
+
+blank_laid : (n : ℕ) (parts : List PartState) → AllByRecursion (IsBlank n) parts → AllByRecursion (λ (p : PartState). p.growth.stripes ≡ n) parts
+blank_laid n [] all = tt
+blank_laid n (p ∷ parts) all = (all.0.1, blank_laid n parts all.1)
+
+-- empty parts are those of the empty map
+pub blank : (n : ℕ) (parts : List PartState) → length parts ≡ n → AllByRecursion (IsBlank n) parts → IsDivided n finite.empty parts
+blank n parts size all = record {
+  maps = blank_maps n 0 parts all ∙ ap (λ k. map (λ s. part_of n s nothing) (range_with_len 0 k)) size;
+  laid = blank_laid n parts all;
+}
+
+-- ---- entries
+
+-- one entry more at the front
+pub put_more : (n k : ℕ) → k ≡ n → (old new : List PartState) (key : List ℕ) (value : Value) (es : List (List ℕ × Value))
+    → ((m : Map) → IsDivided k m old → IsDivided k (step m (record { key = key; change = Put value })).map new)
+    → IsDivided n (finite.from_entries es) old → IsDivided n (finite.from_entries ((key, value) ∷ es)) new
+put_more n k e old new key value es made divided =
+    subst (λ j. IsDivided j (finite.from_entries ((key, value) ∷ es)) new) e (made (finite.from_entries es) (subst (λ j. IsDivided j (finite.from_entries es) old) (sym e) divided))
+
+pub split_more : {X : Type 0} (all before rest done : List X) (x : X) → all ≡ before ++ done → before ≡ rest ++ x ∷ [] → all ≡ rest ++ (x ∷ done)
+split_more all before rest done x one two = one ∙ ap (λ l. l ++ done) two ∙ append_assoc rest (x ∷ []) done
+
+-- the entries of one section more
+pub entries_more : (n k : ℕ) → k ≡ n → (old new : List PartState) (es more behind : List (List ℕ × Value))
+    → ((b : List (List ℕ × Value)) → IsDivided k (finite.from_entries b) old → IsDivided k (finite.from_entries (es ++ b)) new)
+    → IsDivided n (finite.from_entries (more ++ behind)) old → IsDivided n (finite.from_entries ((es ++ more) ++ behind)) new
+entries_more n k e old new es more behind added divided =
+    subst (λ (l : List (List ℕ × Value)). IsDivided n (finite.from_entries l) new) (sym (append_assoc es more behind))
+    (subst (λ j. IsDivided j (finite.from_entries (es ++ (more ++ behind))) new) e (added (more ++ behind) (subst (λ j. IsDivided j (finite.from_entries (more ++ behind)) old) (sym e) divided)))
+
+-- all entries, on the empty map
+pub all_added : (n k j : ℕ) → k ≡ n → j ≡ k → (old new : List PartState) (es : List (List ℕ × Value)) → IsDivided n finite.empty old
+    → ((b : List (List ℕ × Value)) → IsDivided k (finite.from_entries b) old → IsDivided k (finite.from_entries (es ++ b)) new) → IsDivided j (finite.from_entries es) new
+all_added n k j e f old new es start added =
+    subst (λ i. IsDivided i (finite.from_entries es) new) (sym f)
+    (subst (λ (l : List (List ℕ × Value)). IsDivided k (finite.from_entries l) new) (append-nil es) (added [] (subst (λ i. IsDivided i nothing old) (sym e) start)))

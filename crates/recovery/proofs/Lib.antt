@@ -1,0 +1,7 @@
+mod DividingLemmas
+mod CountingLemmas
+mod ReplayLemmas
+mod LogReadingLemmas
+mod HeadsLemmas
+mod OpeningLemmas
+mod SyncingLemmas

@@ -1,0 +1,62 @@
+-- Files that are synced one after the other.
+use Rattle.std.proofs.Common.{◌≡◌, ℕ, zero, suc, ◌==◌, ◌<◌, true, false, cond, List, length, refl, sym, ap, subst, arith, ◌∙◌}
+use Rattle.std.proofs.lemmas.List.{ext_get_or}
+use Rattle.std.proofs.lemmas.Bool.{eqb-true}
+use Rattle.std.proofs.lemmas.Bool.Decides.{nat_tests}
+use mathlib.Core.Path.{fun_ext}
+use Rattle.disk_model.specs.Files.{File, Files, MayLeave, at_rest, now, synced, with_file}
+use Rattle.store_layout.specs.Opening.{Contents}
+use Rattle.gate_log.proofs.Scanning.{same_now}
+use Rattle.recovery.specs.LogReading.{contents_of}
+use Rattle.recovery.specs.Syncing.{AfterSyncs, LeavesOnly, SyncsAndLooks, states_synced}
+
+-- a file at rest leaves its content
+rest_leaves : (old content : List ℕ) → MayLeave (at_rest old) content → content ≡ old
+rest_leaves old content left =
+    let size : length content ≡ length old = omega (arith, left.no_shorter, left.no_longer) in
+    ext_get_or 0 content old size (λ i h.
+    let below : i < length old = omega (arith, size, h) in
+    left.same i (grind (arith, nat_tests)))
+
+seen_once : (n : ℕ) (files : Files) (m : ℕ) → (with_file n (synced (files n)) files m).seen ≡ (files m).seen
+seen_once n files m = elim (m == n) as (λ b. (m == n) ≡ b → (cond b (synced (files n)) (files m)).seen ≡ (files m).seen) [
+  | true ↦ λ e. ap (λ i. (files i).seen) (sym (eqb-true _ _ e))
+  | false ↦ λ e. refl
+] refl
+
+abbrev seen_now : List Files → Contents
+seen_now past = λ number. (now past number).seen
+
+-- each file reads as before
+pub seen_synced : (count : ℕ) (past : List Files) → seen_now (states_synced count past) ≡ seen_now past
+seen_synced zero past = refl
+seen_synced (suc n) past =
+    let once : seen_now (states_synced (suc n) past) ≡ seen_now (states_synced n past) = fun_ext (λ m. seen_once n (now (states_synced n past)) m) in
+    once ∙ seen_synced n past
+
+below_last : (number n : ℕ) → number < suc n → (number == n) ≡ false → number < n
+below_last number n less other = grind (arith, nat_tests, less, other)
+
+-- on the disk is what was read
+rests : (count : ℕ) (past : List Files) (number : ℕ) → number < count → now (states_synced count past) number ≡ at_rest (seen_now past number)
+rests zero past number less = absurd (omega (arith, less))
+rests (suc n) past number less =
+    let before = now (states_synced n past) in
+    elim (number == n) as (λ b. (number == n) ≡ b → cond b (synced (before n)) (before number) ≡ at_rest (seen_now past number)) [
+      | true ↦ λ e. ap at_rest (ap (λ i. (before i).seen) (sym (eqb-true _ _ e)) ∙ ap (λ (c : Contents). c number) (seen_synced n past))
+      | false ↦ λ e. rests n past number (below_last number n less e)
+    ] refl
+
+module _ {D : Type 0} (states : D → List Files) (failures : D → ℕ) where
+  pub same_contents : (old new : D) → AfterSyncs states failures 4 old new → contents_of states new ≡ contents_of states old
+  same_contents old new is =
+      let one : contents_of states new ≡ seen_now (states_synced 4 (states old)) = ap {B = Contents} seen_now is.states_are in
+      one ∙ seen_synced 4 (states old)
+
+  -- a stop leaves what was read
+  pub left_as_read : (honest : D → Type 0) (failed : ℕ) (old new : D) → SyncsAndLooks states failures honest failed old new → LeavesOnly (now (states new)) (contents_of states old)
+  left_as_read honest failed old new is contents leaves number below =
+      let looked = same_now states failures honest failed is.mid new is.looks in
+      let rest : now (states new) number ≡ at_rest (contents_of states old number) =
+      ap (λ (files : Files). files number) looked ∙ (ap (λ (past : List Files). now past number) is.synced.states_are ∙ rests 4 (states old) number below) in
+      rest_leaves (contents_of states old number) (contents number) (subst (λ (file : File). MayLeave file (contents number)) rest (leaves number below))

@@ -1,0 +1,37 @@
+use Rattle.std.proofs.Common.{ℕ, List}
+use Rattle.std.proofs.lemmas.Result.{err_from_is_err_and}
+use Rattle.gate_log.specs.Scan.{log_bytes}
+use Rattle.gate_log.proofs.Scanning.{looks_on, same_bytes}
+use Rattle.recovery.proofs.LogReadingLemmas.{frames_refused, header_refused, log_read}
+use Rattle.recovery.proofs.logs.read_log.Goals as goal
+
+pub returns-in_err-scan-clause-err : goal.returns-in_err-scan-clause-err
+returns-in_err-scan-clause-err g c = λ honest.
+    let q = err_from_is_err_and c.from_residual.result c.from_residual.ensures.1 in
+    rw (q.1, q.2) (header_refused c.args.generation c.args.low (log_bytes g.D.Disk.states c.args.disk.now c.args.generation) _ (c.in_err-scan.ensures.refused honest))
+
+pub returns-in_err-end-clause-looks : goal.returns-in_err-end-clause-looks
+returns-in_err-end-clause-looks g c =
+    let q = err_from_is_err_and c.from_residual-in_err-end.result c.from_residual-in_err-end.ensures.1 in
+    rw (q.1, q.2)
+    (looks_on g.D.Disk.states g.D.Disk.failures g.D.Disk.honest _ c.args.disk.now c.begin.new.disk c.replay.new.disk c.in_ok-scan.ensures.looks c.in_err-end.ensures.looks)
+
+pub returns-in_err-end-clause-err : goal.returns-in_err-end-clause-err
+returns-in_err-end-clause-err g c = λ honest.
+    let q = err_from_is_err_and c.from_residual-in_err-end.result c.from_residual-in_err-end.ensures.1 in
+    let content : List ℕ = log_bytes g.D.Disk.states c.args.disk.now c.args.generation in
+    let same = same_bytes g.D.Disk.states g.D.Disk.failures g.D.Disk.honest 0 c.args.disk.now c.begin.new.disk c.args.generation c.in_ok-scan.ensures.looks in
+    rw (q.1, q.2)
+    (frames_refused c.args.generation c.args.low content _ same c.in_ok-scan.scan (c.in_ok-scan.ensures.read (c.in_err-end.ensures.looks.was_honest honest)) (g.D.Disk.honest c.replay.new.disk) _ honest
+    c.in_err-end.ensures.err)
+
+pub returns-clause-looks : goal.returns-clause-looks
+returns-clause-looks g c =
+    looks_on g.D.Disk.states g.D.Disk.failures g.D.Disk.honest 0 c.args.disk.now c.begin.new.disk c.replay.new.disk c.in_ok-scan.ensures.looks c.in_ok-end.ensures.looks
+
+pub returns-clause-ok : goal.returns-clause-ok
+returns-clause-ok g c = λ honest.
+    let content : List ℕ = log_bytes g.D.Disk.states c.args.disk.now c.args.generation in
+    let same = same_bytes g.D.Disk.states g.D.Disk.failures g.D.Disk.honest 0 c.args.disk.now c.begin.new.disk c.args.generation c.in_ok-scan.ensures.looks in
+    log_read c.args.generation c.args.low content _ same c.in_ok-scan.scan (c.in_ok-scan.ensures.read (c.in_ok-end.ensures.looks.was_honest honest)) c.args.restoring.now c.replay.new.restoring c.in_ok-end.end
+    c.replay.new.scan c.place.result c.place.ensures (c.in_ok-end.ensures.ok honest)

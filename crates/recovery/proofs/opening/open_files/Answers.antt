@@ -1,0 +1,20 @@
+use Rattle.std.proofs.Common.{subst}
+use Rattle.store_layout.specs.Opening.{Contents, Refuses}
+use Rattle.recovery.specs.LogReading.{RefusesFor, contents_of}
+use Rattle.recovery.specs.Opening.{IsOpened}
+use Rattle.recovery.proofs.LogReadingLemmas.{refuses_more}
+use Rattle.recovery.proofs.OpeningLemmas.{if_err, if_ok}
+use Rattle.recovery.proofs.SyncingLemmas.{same_contents}
+use Rattle.recovery.proofs.opening.open_files.Goals as goal
+
+pub returns-clause-ok : goal.returns-clause-ok
+returns-clause-ok g c = λ honest.
+    let contents : Contents = contents_of g.D.Disk.states c.args.disk.now in
+    let same = same_contents g.D.Disk.states g.D.Disk.failures c.args.disk.now c.sync_all.new.disk c.in_ok-sync_all.ensures.ok in
+    if_ok _ (IsOpened contents c.args.stripes.count) c.restore.result (λ found opened. subst (λ (x : Contents). IsOpened x c.args.stripes.count found) same opened) (c.restore.ensures.ok honest)
+
+pub returns-clause-err : goal.returns-clause-err
+returns-clause-err g c = λ honest.
+    let contents : Contents = contents_of g.D.Disk.states c.args.disk.now in
+    let same = same_contents g.D.Disk.states g.D.Disk.failures c.args.disk.now c.sync_all.new.disk c.in_ok-sync_all.ensures.ok in
+    if_err _ (λ r. RefusesFor (Refuses contents r) r) c.restore.result (λ r. refuses_more _ (Refuses contents r) r (λ bad. subst (λ (x : Contents). Refuses x r) same bad)) (c.restore.ensures.err honest)

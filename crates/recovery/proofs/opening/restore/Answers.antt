@@ -1,0 +1,77 @@
+use Rattle.std.proofs.Common.{◌≡◌, ℕ, List, Option, false, ap, subst}
+use Rattle.std.proofs.lemmas.Result.{err_from_is_err_and}
+use Rattle.disk_model.specs.Calls.{Looks}
+use Rattle.disk_model.specs.Files.{Files}
+use Rattle.log_records.specs.Layout.{first_layout}
+use Rattle.store_layout.specs.Checkpoints.{IsCheckpoint, is_sealed}
+use Rattle.store_layout.specs.Opening.{Contents, AreBadLogs, Refuses}
+use Rattle.checkpoint_file.specs.declared.loading.LoadedCheckpoint.{LoadedCheckpoint}
+use Rattle.checkpoint_file.specs.Loads.{IsUnloadable, checkpoint_of}
+use Rattle.gate_log.proofs.Scanning.{looks_on, same_now}
+use Rattle.recovery.specs.declared.opening.Restored.{Restored}
+use Rattle.recovery.specs.LogReading.{RefusesFor, contents_of}
+use Rattle.recovery.specs.Opening.{IsOpened, IsRestored}
+use Rattle.recovery.proofs.LogReadingLemmas.{refuses_more}
+use Rattle.recovery.proofs.OpeningLemmas.{if_err, if_ok, is_opened, logs_refused, not_loaded, same_failed}
+use Rattle.recovery.proofs.opening.restore.Goals as goal
+
+pub returns-in_err-loaded-clause-looks : goal.returns-in_err-loaded-clause-looks
+returns-in_err-loaded-clause-looks g c =
+    let q = err_from_is_err_and c.from_residual-in_err-loaded.result c.from_residual-in_err-loaded.ensures.1 in
+    rw (q.1, q.2)
+    (subst (λ (n : ℕ). Looks g.D.Disk.states g.D.Disk.failures g.D.Disk.honest n c.args.disk.now c.load.new.disk) (same_failed (Option LoadedCheckpoint) Restored c.in_err-loaded.field-0.0)
+    (looks_on g.D.Disk.states g.D.Disk.failures g.D.Disk.honest _ c.args.disk.now c.newest_file.new.disk c.load.new.disk c.in_ok-file.ensures.looks c.in_err-loaded.ensures.looks))
+
+pub returns-in_err-loaded-clause-err : goal.returns-in_err-loaded-clause-err
+returns-in_err-loaded-clause-err g c = λ honest.
+    let q = err_from_is_err_and c.from_residual-in_err-loaded.result c.from_residual-in_err-loaded.ensures.1 in
+    let contents : Contents = contents_of g.D.Disk.states c.args.disk.now in
+    let used = c.in_ok-file.ensures.ok (c.in_err-loaded.ensures.looks.was_honest honest) in
+    let same = ap (λ (files : Files). (files c.in_ok-file.file).seen) (same_now g.D.Disk.states g.D.Disk.failures g.D.Disk.honest 0 c.args.disk.now c.newest_file.new.disk c.in_ok-file.ensures.looks) in
+    let r = c.in_err-loaded.field-0.0 in
+    rw (q.1, q.2)
+    (refuses_more _ (Refuses contents r) r (λ why. not_loaded contents c.in_ok-file.file used r (subst (λ (content : List ℕ). IsUnloadable c.in_ok-file.file content r) same (why honest))) c.in_err-loaded.ensures.err)
+
+pub returns-in_default-clause-looks : goal.returns-in_default-clause-looks
+returns-in_default-clause-looks g c =
+    looks_on g.D.Disk.states g.D.Disk.failures g.D.Disk.honest 0 c.args.disk.now c.newest_file.new.disk c.load.new.disk c.in_ok-file.ensures.looks c.in_ok-loaded.ensures.looks
+
+pub returns-in_default-clause-err : goal.returns-in_default-clause-err
+returns-in_default-clause-err g c = λ honest.
+    let used = c.in_ok-file.ensures.ok (c.in_ok-loaded.ensures.looks.was_honest honest) in
+    let same = ap (λ (files : Files). (files c.in_ok-file.file).seen) (same_now g.D.Disk.states g.D.Disk.failures g.D.Disk.honest 0 c.args.disk.now c.newest_file.new.disk c.in_ok-file.ensures.looks) in
+    let none = subst (λ (content : List ℕ). is_sealed content ≡ false) same (rw c.in_default.is at (c.in_ok-loaded.ensures.none honest)) in
+    absurd (let opened = used.opened in cc)
+
+pub returns-clause-looks : goal.returns-clause-looks
+returns-clause-looks g c =
+    let first = looks_on g.D.Disk.states g.D.Disk.failures g.D.Disk.honest 0 c.args.disk.now c.newest_file.new.disk c.load.new.disk c.in_ok-file.ensures.looks c.in_ok-loaded.ensures.looks in
+    looks_on g.D.Disk.states g.D.Disk.failures g.D.Disk.honest _ c.args.disk.now c.load.new.disk c.restore_from.new.disk first c.restore_from.ensures.looks
+
+pub returns-clause-ok : goal.returns-clause-ok
+returns-clause-ok g c = λ honest.
+    let later = c.restore_from.ensures.looks.was_honest honest in
+    let contents : Contents = contents_of g.D.Disk.states c.args.disk.now in
+    let used = c.in_ok-file.ensures.ok (c.in_ok-loaded.ensures.looks.was_honest later) in
+    let first = looks_on g.D.Disk.states g.D.Disk.failures g.D.Disk.honest 0 c.args.disk.now c.newest_file.new.disk c.load.new.disk c.in_ok-file.ensures.looks c.in_ok-loaded.ensures.looks in
+    let same_contents = ap {B = Contents} (λ (files : Files) (n : ℕ). (files n).seen) (same_now g.D.Disk.states g.D.Disk.failures g.D.Disk.honest 0 c.args.disk.now c.load.new.disk first) in
+    let same = ap (λ (files : Files). (files c.in_ok-file.file).seen) (same_now g.D.Disk.states g.D.Disk.failures g.D.Disk.honest 0 c.args.disk.now c.newest_file.new.disk c.in_ok-file.ensures.looks) in
+    let checkpoint = subst (λ (content : List ℕ). IsCheckpoint first_layout (checkpoint_of c.in-Some.loaded) content) same (rw c.in-Some.is at (c.in_ok-loaded.ensures.some later)) in
+    let rising = rw c.in-Some.is at (c.in_ok-loaded.ensures.rising later) in
+    if_ok _ (IsOpened contents c.args.stripes.count) c.restore_from.result
+    (λ found restored. is_opened contents c.in_ok-file.file used c.in-Some.loaded c.args.stripes.count found checkpoint
+    (subst (λ (x : Contents). IsRestored x (checkpoint_of c.in-Some.loaded) c.args.stripes.count found) same_contents restored))
+    (c.restore_from.ensures.ok honest rising)
+
+pub returns-clause-err : goal.returns-clause-err
+returns-clause-err g c = λ honest.
+    let later = c.restore_from.ensures.looks.was_honest honest in
+    let contents : Contents = contents_of g.D.Disk.states c.args.disk.now in
+    let used = c.in_ok-file.ensures.ok (c.in_ok-loaded.ensures.looks.was_honest later) in
+    let first = looks_on g.D.Disk.states g.D.Disk.failures g.D.Disk.honest 0 c.args.disk.now c.newest_file.new.disk c.load.new.disk c.in_ok-file.ensures.looks c.in_ok-loaded.ensures.looks in
+    let same_contents = ap {B = Contents} (λ (files : Files) (n : ℕ). (files n).seen) (same_now g.D.Disk.states g.D.Disk.failures g.D.Disk.honest 0 c.args.disk.now c.load.new.disk first) in
+    let same = ap (λ (files : Files). (files c.in_ok-file.file).seen) (same_now g.D.Disk.states g.D.Disk.failures g.D.Disk.honest 0 c.args.disk.now c.newest_file.new.disk c.in_ok-file.ensures.looks) in
+    let checkpoint = subst (λ (content : List ℕ). IsCheckpoint first_layout (checkpoint_of c.in-Some.loaded) content) same (rw c.in-Some.is at (c.in_ok-loaded.ensures.some later)) in
+    if_err _ (λ r. RefusesFor (Refuses contents r) r) c.restore_from.result
+    (λ r. refuses_more _ (Refuses contents r) r (λ bad. logs_refused contents c.in_ok-file.file used c.in-Some.loaded r checkpoint (subst (λ (x : Contents). AreBadLogs x (checkpoint_of c.in-Some.loaded) r) same_contents bad)))
+    (c.restore_from.ensures.err honest)

@@ -1,0 +1,95 @@
+use Rattle.std.proofs.Common.{◌+◌, length, sym, ap, subst, ◌∙◌, inr, arith}
+use Rattle.std.proofs.lemmas.Result.{err_from_is_err_and}
+use Rattle.log_records.specs.Layout.{first_layout}
+use Rattle.store_layout.specs.Logs.{IsClosed, IsEnded, log_front}
+use Rattle.gate_log.specs.Scan.{HasRead, IsNextBatch, ScanState, log_bytes}
+use Rattle.gate_log.proofs.Scanning.{looks_on}
+use Rattle.recovery.proofs.ReplayLemmas.{batch_more, broken_for, few_batches, frame_on, same_log}
+use Rattle.recovery.proofs.replay.replay.Goals as goal
+
+pub returns-in_err-entries-clause-looks : goal.returns-in_err-entries-clause-looks
+returns-in_err-entries-clause-looks g c =
+    let q = err_from_is_err_and c.from_residual.result c.from_residual.ensures.1 in
+    rw (q.1, q.2)
+    (looks_on g.D.Disk.states g.D.Disk.failures g.D.Disk.honest _ c.args.disk.now c.loop.disk c.next_frame.new.disk c.loop.invariant.looks c.in_err-entries.ensures.looks)
+
+pub returns-in_err-entries-clause-err : goal.returns-in_err-entries-clause-err
+returns-in_err-entries-clause-err g c =
+    let q = err_from_is_err_and c.from_residual.result c.from_residual.ensures.1 in
+    let inv = c.loop.invariant in
+    rw (q.1, q.2)
+    (broken_for g.D.Disk.states g.D.Disk.failures g.D.Disk.honest c.args.disk.now c.loop.disk inv.looks c.next_frame.new.disk c.args.scan.now c.loop.scan c.args.restoring.now c.loop.restoring c.args.generation
+    c.loop.counter _ inv.generation c.in_err-entries.ensures.looks.was_honest inv.read c.in_err-entries.ensures.err)
+
+pub returns-in_err-apply-in-Batch-clause-looks : goal.returns-in_err-apply-in-Batch-clause-looks
+returns-in_err-apply-in-Batch-clause-looks g c =
+    let q = err_from_is_err_and c.from_residual-in_err-apply-in-Batch.result c.from_residual-in_err-apply-in-Batch.ensures.1 in
+    rw (q.1, q.2, c.in_err-apply-in-Batch.ensures.err)
+    (looks_on g.D.Disk.states g.D.Disk.failures g.D.Disk.honest 0 c.args.disk.now c.loop.disk c.next_frame.new.disk c.loop.invariant.looks c.in_ok-entries.ensures.looks)
+
+pub returns-in-Ended-clause-looks : goal.returns-in-Ended-clause-looks
+returns-in-Ended-clause-looks g c =
+    looks_on g.D.Disk.states g.D.Disk.failures g.D.Disk.honest 0 c.args.disk.now c.loop.disk c.next_frame.new.disk c.loop.invariant.looks c.in_ok-entries.ensures.looks
+
+pub returns-in-Ended-clause-ok : goal.returns-in-Ended-clause-ok
+returns-in-Ended-clause-ok g c = λ honest low begun.
+    let inv = c.loop.invariant in
+    let so_far = inv.read (c.in_ok-entries.ensures.looks.was_honest honest) low begun in
+    let same = same_log g.D.Disk.states g.D.Disk.failures g.D.Disk.honest c.args.disk.now c.loop.disk inv.looks c.loop.scan c.args.generation inv.generation in
+    let found = rw c.in-Ended.is at (c.in_ok-entries.ensures.found honest low so_far.batches (subst (λ content. HasRead first_layout low so_far.batches c.loop.scan content) (sym same) so_far.read)) in
+    let stays = rw c.in-Ended.is at c.in_ok-entries.ensures.goes_on in
+    record {
+      batches = so_far.batches;
+      ends = subst (λ n. IsEnded first_layout n low so_far.batches (n + 1) (log_bytes g.D.Disk.states c.args.disk.now c.args.generation)) inv.generation
+          (subst (λ content. IsEnded first_layout c.loop.scan.generation low so_far.batches (c.loop.scan.generation + 1) content) same found);
+      gate = ap (λ (s : ScanState). s.gate) stays ∙ so_far.read.place ∙ ap (λ n. length (log_front first_layout n low so_far.batches)) inv.generation;
+      committed = ap (λ (s : ScanState). s.expected) stays ∙ so_far.read.tickets;
+      applied = so_far.applied;
+    }
+
+pub returns-in-Closed-clause-looks : goal.returns-in-Closed-clause-looks
+returns-in-Closed-clause-looks g c =
+    looks_on g.D.Disk.states g.D.Disk.failures g.D.Disk.honest 0 c.args.disk.now c.loop.disk c.next_frame.new.disk c.loop.invariant.looks c.in_ok-entries.ensures.looks
+
+pub returns-in-Closed-clause-ok : goal.returns-in-Closed-clause-ok
+returns-in-Closed-clause-ok g c = λ honest low begun.
+    let inv = c.loop.invariant in
+    let so_far = inv.read (c.in_ok-entries.ensures.looks.was_honest honest) low begun in
+    let same = same_log g.D.Disk.states g.D.Disk.failures g.D.Disk.honest c.args.disk.now c.loop.disk inv.looks c.loop.scan c.args.generation inv.generation in
+    let found = rw c.in-Closed.is at (c.in_ok-entries.ensures.found honest low so_far.batches (subst (λ content. HasRead first_layout low so_far.batches c.loop.scan content) (sym same) so_far.read)) in
+    let stays = rw c.in-Closed.is at c.in_ok-entries.ensures.goes_on in
+    record {
+      batches = so_far.batches;
+      ends = subst (λ n. IsClosed first_layout n low so_far.batches (log_bytes g.D.Disk.states c.args.disk.now c.args.generation)) inv.generation
+          (subst (λ content. IsClosed first_layout c.loop.scan.generation low so_far.batches content) same found);
+      gate = ap (λ (s : ScanState). s.gate) stays ∙ so_far.read.place ∙ ap (λ n. length (log_front first_layout n low so_far.batches)) inv.generation;
+      committed = ap (λ (s : ScanState). s.expected) stays ∙ so_far.read.tickets;
+      applied = so_far.applied;
+    }
+
+pub loop-preserved : goal.loop-preserved
+loop-preserved g c =
+    let inv = c.loop.invariant in
+    let goes_on = rw c.in-Batch.is at c.in_ok-entries.ensures.goes_on in
+    record {
+      looks = looks_on g.D.Disk.states g.D.Disk.failures g.D.Disk.honest 0 c.args.disk.now c.loop.disk c.next_frame.new.disk inv.looks c.in_ok-entries.ensures.looks;
+      same = frame_on c.args.restoring.now c.loop.restoring c.apply.new.self inv.same c.in_ok-apply-in-Batch.ensures.same;
+      generation = goes_on.0 ∙ inv.generation;
+      read = λ honest low begun.
+          let so_far = inv.read (c.in_ok-entries.ensures.looks.was_honest honest) low begun in
+          let same = same_log g.D.Disk.states g.D.Disk.failures g.D.Disk.honest c.args.disk.now c.loop.disk inv.looks c.loop.scan c.args.generation inv.generation in
+          let found = rw c.in-Batch.is at (c.in_ok-entries.ensures.found honest low so_far.batches (subst (λ content. HasRead first_layout low so_far.batches c.loop.scan content) (sym same) so_far.read)) in
+          batch_more low (log_bytes g.D.Disk.states c.args.disk.now c.args.generation) c.args.restoring.now c.loop.restoring c.apply.new.self c.loop.scan c.next_frame.new.self c.loop.counter
+          c.in-Batch.entries.items c.deref.result.now c.deref.ensures.value inv.same so_far
+          (subst (λ content. IsNextBatch first_layout low so_far.batches c.in-Batch.entries.items c.loop.scan c.next_frame.new.self content) same found)
+          c.in_ok-apply-in-Batch.ensures.ok;
+    }
+
+pub returns-clause-err : goal.returns-clause-err
+returns-clause-err g c = inr (inr (λ honest low begun.
+    let so_far = c.loop.invariant.read honest low begun in
+    let many = so_far.many in
+    let few = few_batches low so_far.batches c.loop.scan (log_bytes g.D.Disk.states c.args.disk.now c.args.generation) so_far.read in
+    let over = c.loop-test.false in
+    let fits = c.damaged.ensures.fits in
+    absurd (omega (arith, many, few, over, fits))))

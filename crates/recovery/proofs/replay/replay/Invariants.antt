@@ -1,0 +1,17 @@
+use Rattle.std.proofs.Common.{◌≡◌, ℕ, []}
+use Rattle.disk_model.specs.Calls.{Looks}
+use Rattle.log_records.specs.Layout.{first_layout}
+use Rattle.gate_log.specs.Scan.{HasRead, log_bytes}
+use Rattle.recovery.specs.Restoring.{IsSameFrame}
+use Rattle.recovery.specs.LogReading.{IsReading}
+use Rattle.recovery.proofs.replay.replay.Given as goal
+
+-- so many batches were read with looks alone, and their changes were made
+abbrev pub invariant-loop : goal.invariant-loop
+invariant-loop g l = record {
+  looks : Looks g.D.Disk.states g.D.Disk.failures g.D.Disk.honest 0 l.fn.disk l.disk;
+  same : IsSameFrame l.fn.restoring l.restoring;
+  generation : l.scan.generation ≡ l.fn.generation;
+  read : g.D.Disk.honest l.disk → (low : ℕ) → HasRead first_layout low [] l.fn.scan (log_bytes g.D.Disk.states l.fn.disk l.fn.generation)
+      → IsReading low (log_bytes g.D.Disk.states l.fn.disk l.fn.generation) l.fn.restoring l.scan l.counter l.restoring;
+}

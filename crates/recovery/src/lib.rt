@@ -1,0 +1,17 @@
+//! A directory is formatted, and opened again: its map is restored from a sealed checkpoint and the logs.
+#![tactic(auto)]
+
+mod divided;
+mod heads;
+mod logs;
+mod opening;
+#[cfg(test)]
+mod refusal_tests;
+mod replay;
+mod restoring;
+mod syncing;
+#[cfg(test)]
+mod tests;
+
+pub use logs::LogPlace;
+pub use opening::{Restored, open_parts};

@@ -1,0 +1,99 @@
+//! The logs of a checkpoint.
+ghost use Rattle.std.specs.Prelude.{◌≡◌, ℕ, List, IfOk, IfErr};
+ghost use Rattle.disk_model.specs.Calls.{Looks};
+ghost use Rattle.store_layout.specs.Checkpoints.{Section};
+ghost use Rattle.store_layout.specs.Logs.{log_file};
+ghost use Rattle.store_layout.specs.Opening.{AreBadLogs};
+ghost use Rattle.gate_log.specs.Scan.{failed_in, log_bytes};
+ghost use Rattle.recovery.specs.Restoring.{IsSameFrame};
+ghost use Rattle.recovery.specs.LogReading.{contents_of, checkpoint_with, AreReplayed, IsBadLog, IsLogRead, RefusesFor};
+
+use crate::replay::{End, replay};
+use crate::restoring::Restoring;
+use disk_model::Disk;
+use gate_log::Scan;
+use map_types::Refusal;
+use std::alloc::Global;
+use store_layout::log_file;
+
+/// Where a log goes on.
+#[derive(Clone, Copy, Debug, PartialEq, Eq)]
+pub struct LogPlace {
+    pub generation: u64,
+    pub low: u64,
+    /// The offset of the gate behind its last batch.
+    pub gate: usize,
+    /// How many commands stand before that gate, with those before the log.
+    pub committed: u64,
+}
+
+impl LogPlace {
+    // The refusal of a log that is damaged here.
+    pub(crate) fn damaged(self) -> Refusal
+        ensures { result ≡ Refusal.Damaged (log_file self.generation) self.gate }
+    {
+        Refusal::Damaged {
+            file: log_file(self.generation) as u8,
+            offset: self.gate as u64,
+        }
+    }
+}
+
+fn place(generation: u64, low: u64, scan: &Scan) -> LogPlace
+    ensures { result ≡ record { generation = generation; low = low; gate = scan.now.gate; committed = scan.now.expected } }
+{
+    LogPlace {
+        generation,
+        low,
+        gate: scan.gate(),
+        committed: scan.expected(),
+    }
+}
+
+// Makes the changes of one log.
+fn read_log<D: Disk>(
+    alloc: Global,
+    disk: &mut D,
+    generation: u64,
+    low: u64,
+    restoring: &mut Restoring,
+) -> Result<(End, LogPlace), Refusal>
+    ensures looks { Looks D.states D.failures D.honest (failed_in result) disk.old disk.new }
+    ensures same { IsSameFrame restoring.old restoring.new }
+    ensures ok { D.honest disk.new → IfOk result (λ x. IsLogRead generation low (log_bytes D.states disk.old generation) restoring.old x.0 x.1 restoring.new) }
+    ensures err { D.honest disk.new → IfErr result (λ refusal. RefusesFor (IsBadLog generation low (log_bytes D.states disk.old generation) refusal) refusal) }
+{
+    let mut scan = Scan::begin(disk, generation, low)?;
+    let end = replay(alloc, disk, generation, &mut scan, restoring)?;
+    Ok((end, place(generation, low, &scan)))
+}
+
+/// Makes the changes of the log of this generation, and where that has ended those of the next. Where
+/// the newest of the two goes on is the answer.
+pub(crate) fn read_logs<D: Disk>(
+    alloc: Global,
+    disk: &mut D,
+    generation: u64,
+    low: u64,
+    restoring: &mut Restoring,
+) -> Result<LogPlace, Refusal>
+    ensures looks { Looks D.states D.failures D.honest (failed_in result) disk.old disk.new }
+    ensures same { IsSameFrame restoring.old restoring.new }
+    ensures ok { D.honest disk.new → (stripes : ℕ) (sections : List Section)
+        → IfOk result (AreReplayed (contents_of D.states disk.old) (checkpoint_with generation low stripes sections) restoring.old restoring.new) }
+    ensures err { D.honest disk.new → (stripes : ℕ) (sections : List Section)
+        → IfErr result (λ refusal. RefusesFor (AreBadLogs (contents_of D.states disk.old) (checkpoint_with generation low stripes sections) refusal) refusal) }
+{
+    let (end, first) = read_log(alloc, disk, generation, low, restoring)?;
+    if end == End::Closed {
+        return Ok(first);
+    }
+    let Some(next) = generation.checked_add(1) else {
+        return Err(first.damaged());
+    };
+    let (end, second) = read_log(alloc, disk, next, first.committed, restoring)?;
+    match end {
+        End::Closed => Ok(second),
+        End::Ended => Err(second.damaged()),
+    }
+}

@@ -1,0 +1,107 @@
+//! The map that a directory stands for.
+ghost use Rattle.std.specs.Prelude.{◌≡◌, IfOk, IfErr, OnOk};
+ghost use Rattle.disk_model.specs.Calls.{Looks};
+ghost use Rattle.disk_model.specs.Files.{now};
+ghost use Rattle.store_layout.specs.Opening.{AreBadLogs, Refuses};
+ghost use Rattle.checkpoint_file.specs.Loads.{checkpoint_of, AreRising};
+ghost use Rattle.gate_log.specs.Scan.{failed_in};
+ghost use Rattle.recovery.specs.LogReading.{contents_of, RefusesFor};
+ghost use Rattle.recovery.specs.Opening.{IsOpened, IsRestored};
+ghost use Rattle.recovery.specs.Syncing.{LeavesOnly, Stopped, SyncsAndLooks};
+
+use crate::heads::newest_file;
+use crate::logs::{LogPlace, read_logs};
+use crate::restoring::{Restoring, greatest_of};
+use crate::syncing::sync_all;
+use atomic_methods::Part;
+use checkpoint_file::{LoadedCheckpoint, load};
+use disk_model::Disk;
+use java_hash::StripeCount;
+use map_types::Refusal;
+use std::alloc::Global;
+
+/// What a directory stands for.
+#[derive(Drop)]
+pub struct Restored {
+    /// The parts of the map, one for each stripe in order.
+    pub parts: Vec<Part>,
+    /// The generation of the checkpoint that was used.
+    pub sealed: u64,
+    /// Where the newest log goes on.
+    pub log: LogPlace,
+}
+
+// The map of this checkpoint and its logs.
+fn restore_from<D: Disk>(
+    alloc: Global,
+    disk: &mut D,
+    stripes: StripeCount,
+    loaded: LoadedCheckpoint,
+) -> Result<Restored, Refusal>
+    ensures looks { Looks D.states D.failures D.honest (failed_in result) disk.old disk.new }
+    ensures ok { D.honest disk.new → AreRising loaded.sections.items → IfOk result (IsRestored (contents_of D.states disk.old) (checkpoint_of loaded) stripes.count) }
+    ensures err { D.honest disk.new → IfErr result (λ refusal. RefusesFor (AreBadLogs (contents_of D.states disk.old) (checkpoint_of loaded) refusal) refusal) }
+{
+    let generation = loaded.generation;
+    let low = loaded.low;
+    let mut restoring = Restoring::new(alloc, stripes, loaded)?;
+    let log = read_logs(alloc, disk, generation, low, &mut restoring)?;
+    if log.committed < greatest_of(&restoring.marks) {
+        return Err(log.damaged());
+    }
+    Ok(Restored {
+        parts: restoring.divided.parts,
+        sealed: generation,
+        log,
+    })
+}
+
+// Restores the map that the files stand for, divided for so many stripes, and looks at the files
+// alone.
+fn restore<D: Disk>(alloc: Global, disk: &mut D, stripes: StripeCount) -> Result<Restored, Refusal>
+    ensures looks { Looks D.states D.failures D.honest (failed_in result) disk.old disk.new }
+    ensures ok { D.honest disk.new → IfOk result (IsOpened (contents_of D.states disk.old) stripes.count) }
+    ensures err { D.honest disk.new → IfErr result (λ refusal. RefusesFor (Refuses (contents_of D.states disk.old) refusal) refusal) }
+{
+    let file = newest_file(disk)?;
+    let Some(loaded) = load(alloc, disk, file)? else {
+        return Err(Refusal::NotFormatted);
+    };
+    restore_from(alloc, disk, stripes, loaded)
+}
+
+// Syncs the files, and restores the map that they stand for.
+fn open_files<D: Disk>(
+    alloc: Global,
+    disk: &mut D,
+    stripes: StripeCount,
+) -> Result<Restored, Refusal>
+    ensures calls { OnOk result (SyncsAndLooks D.states D.failures D.honest 0 disk.old disk.new) }
+    ensures stopped { IfErr result (Stopped D.states D.failures D.honest disk.old disk.new) }
+    ensures was_honest { D.honest disk.new → D.honest disk.old }
+    ensures ok { D.honest disk.new → IfOk result (IsOpened (contents_of D.states disk.old) stripes.count) }
+    ensures err { D.honest disk.new → IfErr result (λ refusal. RefusesFor (Refuses (contents_of D.states disk.old) refusal) refusal) }
+{
+    sync_all(disk)?;
+    restore(alloc, disk, stripes)
+}
+
+/// Opens the directory: syncs its files, and restores the map that they stand for, divided for so many
+/// stripes. It writes nothing, and besides the map it holds one section or one frame at a time. The disk
+/// is handed back with what was found, or with the refusal.
+pub fn open_parts<D: Disk>(
+    alloc: Global,
+    mut disk: D,
+    stripes: StripeCount,
+) -> Result<(D, Restored), (D, Refusal)>
+    ensures calls { IfOk result (λ x. SyncsAndLooks D.states D.failures D.honest 0 disk x.0) }
+    ensures stopped { IfErr result (λ x. Stopped D.states D.failures D.honest disk x.0 x.1) }
+    ensures ok { IfOk result (λ x. D.honest x.0 → D.honest disk × IsOpened (contents_of D.states disk) stripes.count x.1) }
+    ensures err { IfErr result (λ x. D.honest x.0 → D.honest disk × RefusesFor (Refuses (contents_of D.states disk) x.1) x.1) }
+    ensures stops { IfOk result (λ x. LeavesOnly (now (D.states x.0)) (contents_of D.states disk)) }
+{
+    match open_files(alloc, &mut disk, stripes) {
+        Ok(found) => Ok((disk, found)),
+        Err(refusal) => Err((disk, refusal)),
+    }
+}

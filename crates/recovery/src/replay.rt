@@ -1,0 +1,60 @@
+//! A log is read frame by frame, and its changes are made.
+ghost use Rattle.std.specs.Prelude.{◌≡◌, ℕ, ◌+◌, ◌<◌, ◌^◌, [], IfOk, IfErr};
+ghost use Rattle.disk_model.specs.Calls.{Looks};
+ghost use Rattle.log_records.specs.Layout.{first_layout};
+ghost use Rattle.store_layout.specs.Logs.{Batch, log_file};
+ghost use Rattle.gate_log.specs.Scan.{HasRead, failed_in, log_bytes};
+ghost use Rattle.recovery.specs.Restoring.{IsSameFrame};
+ghost use Rattle.recovery.specs.LogReading.{IsBrokenFor, IsReplayed, RefusesFor};
+
+use crate::restoring::Restoring;
+use disk_model::Disk;
+use gate_log::{Found, Scan};
+use map_types::Refusal;
+use std::alloc::Global;
+use store_layout::log_file;
+
+/// What stands behind the last batch of a log.
+#[derive(Clone, Copy, Debug, PartialEq, Eq)]
+pub(crate) enum End {
+    Closed,
+    Ended,
+}
+
+/// The refusal of a log that is damaged at the gate of the scan.
+pub(crate) fn damaged(generation: u64, scan: &Scan) -> Refusal
+    ensures value { result ≡ Refusal.Damaged (log_file generation) scan.now.gate }
+    ensures fits { scan.now.gate + 1 < 2 ^ 64 }
+{
+    Refusal::Damaged {
+        file: log_file(generation) as u8,
+        offset: scan.gate() as u64,
+    }
+}
+
+/// Makes the changes of the log from its first gate on, but for those that are in a section. It holds
+/// one frame at a time.
+pub(crate) fn replay<D: Disk>(
+    alloc: Global,
+    disk: &mut D,
+    generation: u64,
+    scan: &mut Scan,
+    restoring: &mut Restoring,
+) -> Result<End, Refusal>
+    requires { scan.old.generation ≡ generation }
+    ensures looks { Looks D.states D.failures D.honest (failed_in result) disk.old disk.new }
+    ensures same { IsSameFrame restoring.old restoring.new }
+    ensures ok { D.honest disk.new → (low : ℕ) → HasRead first_layout low [] scan.old (log_bytes D.states disk.old generation)
+        → IfOk result (λ end. IsReplayed generation low (log_bytes D.states disk.old generation) restoring.old end scan.new restoring.new) }
+    ensures err { IfErr result (λ refusal. RefusesFor (D.honest disk.new → (low : ℕ) → HasRead first_layout low [] scan.old (log_bytes D.states disk.old generation)
+        → IsBrokenFor generation low (log_bytes D.states disk.old generation) refusal) refusal) }
+{
+    for _ in 0..u64::MAX {
+        match scan.next_frame(alloc, disk)? {
+            Found::Batch(entries) => restoring.apply(alloc, &entries)?,
+            Found::Ended => return Ok(End::Ended),
+            Found::Closed => return Ok(End::Closed),
+        }
+    }
+    Err(damaged(generation, scan))
+}

@@ -1,0 +1,94 @@
+//! The map while it is restored from the sections of a checkpoint and the changes behind them.
+ghost use Rattle.std.specs.Prelude.{◌≡◌, ◌++◌, ℕ, List, nat_le, slice_index_or, IfOk, IfErr, OnOk};
+ghost use Rattle.std.specs.FinMap as finite;
+ghost use Rattle.java_hash.specs.Stripes.{stripe_of};
+ghost use Rattle.map_model.specs.Maps.{Map};
+ghost use Rattle.map_model.specs.Steps.{map_after};
+ghost use Rattle.recovery.specs.Counting.{counted_of, entries_in, greatest_of, marks_in};
+ghost use Rattle.recovery.specs.Restoring.{HasMap, IsSameFrame};
+
+use crate::divided::Divided;
+use checkpoint_file::{LoadedCheckpoint, LoadedSection};
+use java_hash::{StripeCount, stripe_of};
+use map_types::Refusal;
+use std::alloc::Global;
+use ticket_order::Entry;
+
+/// The map so far, and what tells which changes are in it already.
+#[derive(Drop)]
+pub(crate) struct Restoring {
+    pub divided: Divided,
+    /// How many stripes the checkpoint has.
+    pub of: StripeCount,
+    /// The marks of its sections.
+    pub marks: Vec<u64>,
+}
+
+// The marks of the sections.
+fn marks_of(alloc: Global, sections: &[LoadedSection]) -> Result<Vec<u64>, Refusal>
+    ensures ok { IfOk result (λ marks. marks.items ≡ marks_in sections.now) }
+    ensures err { IfErr result (λ refusal. refusal ≡ Refusal.NoMemory) }
+{
+    let mut marks = Vec::new(alloc);
+    for section in sections {
+        marks.push(section.mark)?;
+    }
+    Ok(marks)
+}
+
+/// The greatest of the marks; 0 where there is none.
+pub(crate) fn greatest_of(marks: &[u64]) -> u64
+    ensures { result ≡ greatest_of marks.now }
+{
+    let mut greatest: u64 = 0;
+    for mark in marks {
+        greatest = greatest.max(*mark);
+    }
+    greatest
+}
+
+impl Restoring {
+    /// The map of the sections alone.
+    pub(crate) fn new(
+        alloc: Global,
+        stripes: StripeCount,
+        loaded: LoadedCheckpoint,
+    ) -> Result<Restoring, Refusal>
+        ensures map { IfOk result (λ restoring. HasMap restoring (finite.from_entries (entries_in loaded.sections.items))) }
+        ensures stripes { IfOk result (λ restoring. restoring.divided.stripes ≡ stripes) }
+        ensures of { IfOk result (λ restoring. restoring.of ≡ loaded.stripes) }
+        ensures marks { IfOk result (λ restoring. restoring.marks.items ≡ marks_in loaded.sections.items) }
+        ensures err { IfErr result (λ refusal. refusal ≡ Refusal.NoMemory) }
+    {
+        let marks = marks_of(alloc, &loaded.sections)?;
+        let mut divided = Divided::new(alloc, stripes)?;
+        divided.add_all(alloc, loaded.sections)?;
+        let of = loaded.stripes;
+        Ok(Restoring { divided, of, marks })
+    }
+
+    // Whether the change is in no section.
+    fn counts(&self, entry: &Entry) -> bool
+        ensures { result ≡ nat_le (slice_index_or self.now.marks.items (stripe_of self.now.of.count entry.now.command.key) 0) entry.now.ticket }
+    {
+        let stripe = stripe_of(entry.command.key.as_str(), self.of);
+        match self.marks.get(stripe) {
+            Some(mark) => *mark <= entry.ticket.number(),
+            None => true,
+        }
+    }
+
+    /// Makes those of the changes that are in no section, in their order.
+    pub(crate) fn apply(&mut self, alloc: Global, entries: &[Entry]) -> Result<(), Refusal>
+        ensures same { IsSameFrame self.old self.new }
+        ensures ok { OnOk result ((m : Map) → HasMap self.old m → HasMap self.new (map_after m (counted_of self.old.of.count self.old.marks.items entries.now))) }
+        ensures err { IfErr result (λ refusal. refusal ≡ Refusal.NoMemory) }
+    {
+        for entry in entries {
+            if self.counts(entry) {
+                self.divided.change(alloc, &entry.command)?;
+            }
+        }
+        Ok(())
+    }
+}
