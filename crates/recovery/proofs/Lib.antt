@@ -5,3 +5,4 @@ mod LogReadingLemmas
 mod HeadsLemmas
 mod OpeningLemmas
 mod SyncingLemmas
+mod FirstBytes

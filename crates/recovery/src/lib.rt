@@ -2,6 +2,7 @@
 #![tactic(auto)]
 
 mod divided;
+mod first_bytes;
 mod heads;
 mod logs;
 mod opening;
