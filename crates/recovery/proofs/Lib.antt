@@ -6,3 +6,6 @@ mod HeadsLemmas
 mod OpeningLemmas
 mod SyncingLemmas
 mod FirstBytes
+mod OneFileLemmas
+mod NewStoreLemmas
+mod GateClosing

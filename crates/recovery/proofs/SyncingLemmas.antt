@@ -11,7 +11,7 @@ use Rattle.recovery.specs.LogReading.{contents_of}
 use Rattle.recovery.specs.Syncing.{AfterSyncs, LeavesOnly, SyncsAndLooks, states_synced}
 
 -- a file at rest leaves its content
-rest_leaves : (old content : List ℕ) → MayLeave (at_rest old) content → content ≡ old
+pub rest_leaves : (old content : List ℕ) → MayLeave (at_rest old) content → content ≡ old
 rest_leaves old content left =
     let size : length content ≡ length old = omega (arith, left.no_shorter, left.no_longer) in
     ext_get_or 0 content old size (λ i h.

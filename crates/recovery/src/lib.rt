@@ -5,6 +5,7 @@ mod divided;
 mod first_bytes;
 mod heads;
 mod logs;
+mod new_store;
 mod opening;
 #[cfg(test)]
 mod refusal_tests;
