@@ -9,3 +9,4 @@ mod FirstBytes
 mod OneFileLemmas
 mod NewStoreLemmas
 mod GateClosing
+mod Sealing
