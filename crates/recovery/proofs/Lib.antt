@@ -10,3 +10,4 @@ mod OneFileLemmas
 mod NewStoreLemmas
 mod GateClosing
 mod Sealing
+mod LogBeginning
