@@ -11,3 +11,4 @@ mod NewStoreLemmas
 mod GateClosing
 mod Sealing
 mod LogBeginning
+mod Making

@@ -28,6 +28,11 @@ shut_unsealed gate rest closed = and_false (nat_le 36 (length (gate ∷ rest))) 
     not_equal : (n : ℕ) → n ≢ 165 → (n == 165) ≡ false
     not_equal n other = grind (arith, nat_tests)
 
+pub shut_stays : (behind : List ℕ) (file : File) → IsShut [] behind file → (left : List ℕ) → MayLeave file left → Unsealed left
+shut_stays behind file shut left may =
+    let kept = left_shut [] behind file left shut may in
+    ap is_sealed kept.1 ∙ shut_unsealed shut.gate kept.0 shut.closed
+
 -- ---- the gate is closed
 
 pub rest_unsealed : (content : List ℕ) → Unsealed content → (left : List ℕ) → MayLeave (at_rest content) left → Unsealed left
@@ -71,9 +76,7 @@ kept_shut file shut = go file.seen refl shut
 
 module _ (bytes : List ℕ) where
   pub shut_leaves : (behind : List ℕ) (file : File) → IsShut [] behind file → (left : List ℕ) → MayLeave file left → IsSealedWith bytes left
-  shut_leaves behind file shut left may =
-      let kept = left_shut [] behind file left shut may in
-      inl (ap is_sealed kept.1 ∙ shut_unsealed shut.gate kept.0 shut.closed)
+  shut_leaves behind file shut left may = inl (shut_stays behind file shut left may)
 
   pub opening_leaves : (file : File) → IsOpening [] bytes file → (left : List ℕ) → MayLeave file left → IsSealedWith bytes left
   opening_leaves file opening left may =

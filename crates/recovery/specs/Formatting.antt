@@ -1,7 +1,7 @@
 -- What formatting a directory leaves.
 use Rattle.std.specs.Prelude.{◌≡◌, ◌≢◌, ◌⊎◌, ℕ, true, false, List, ◌∷◌, ◌++◌}
 use Rattle.std.specs.FinMap as finite
-use Rattle.disk_model.specs.Files.{Contents, Files, Leaves, MayLeave}
+use Rattle.disk_model.specs.Files.{Contents, Files, Leaves, MayLeave, at_rest}
 use Rattle.store_layout.specs.Checkpoints.{is_sealed}
 use Rattle.store_layout.specs.Opening.{StandsFor}
 
@@ -32,3 +32,10 @@ IsSealedWith bytes content = (is_sealed content ≡ false) ⊎ ((rest : List ℕ
 pub record OneFile (number : ℕ) (P : List ℕ → Type 0) (start files : Files) : Type 0 where
   pub others : (n : ℕ) → n ≢ number → files n ≡ start n
   pub leaves : (content : List ℕ) → MayLeave (files number) content → P content
+
+-- nothing of the first file is pending, it has no sealed checkpoint, and no stop leaves one in the second
+pub record IsClear (files : Files) : Type 0 where
+  pub first : List ℕ
+  pub settled : files 0 ≡ at_rest first
+  pub unsealed : is_sealed first ≡ false
+  pub second : (content : List ℕ) → MayLeave (files 1) content → is_sealed content ≡ false

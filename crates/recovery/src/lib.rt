@@ -3,6 +3,7 @@
 
 mod divided;
 mod first_bytes;
+mod formatting;
 mod heads;
 mod logs;
 mod new_store;
@@ -15,5 +16,6 @@ mod syncing;
 #[cfg(test)]
 mod tests;
 
+pub use formatting::format;
 pub use logs::LogPlace;
 pub use opening::{Restored, open_parts};
