@@ -12,3 +12,4 @@ mod GateClosing
 mod Sealing
 mod LogBeginning
 mod Making
+mod FormattingLemmas
