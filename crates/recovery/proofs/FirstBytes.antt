@@ -1,10 +1,9 @@
 -- The bytes of a new store's checkpoint.
-use Rattle.std.proofs.Common.{◌≡◌, ℕ, zero, suc, ◌+◌, List, [], ◌∷◌, ◌++◌, length, refl, sym, ap, ap₂, ◌∙◌, append_assoc, append-nil, arith}
-use Rattle.std.specs.FinMap as finite
+use Rattle.std.proofs.Common.{◌≡◌, ℕ, zero, suc, ◌+◌, List, [], ◌++◌, length, sym, ap, ap₂, ◌∙◌, append_assoc, append-nil, arith}
 use Rattle.byteorder.specs.Endian.{big_bytes}
 use Rattle.map_types.specs.declared.texts.Value.{Value}
 use Rattle.log_records.specs.Layout.{first_layout}
-use Rattle.store_layout.specs.Checkpoints.{checkpoint_bytes, checkpoint_header, entries_bytes, marked_bytes, section_bytes, sections_bytes, greatest_mark}
+use Rattle.store_layout.specs.Checkpoints.{checkpoint_bytes, checkpoint_header, entries_bytes, marked_bytes, section_bytes, sections_bytes}
 use Rattle.store_layout.specs.Opening.{empty_section, first_checkpoint}
 use Rattle.store_layout.proofs.NewStores.{empties, greatest, no_entries}
 

@@ -1,5 +1,5 @@
 -- The syncs and looks before a store is made.
-use Rattle.std.proofs.Common.{◌≡◌, inl, ℕ, zero, suc, ◌+◌, ◌<◌, ◌≤◌, ◌==◌, ◌||◌, Bool, true, false, cond, List, [], ◌∷◌, ◌++◌, refl, sym, ap, subst, ◌∙◌, arith}
+use Rattle.std.proofs.Common.{◌≡◌, inl, ℕ, zero, suc, ◌<◌, ◌≤◌, ◌==◌, ◌||◌, Bool, true, false, cond, List, [], ◌∷◌, ◌++◌, refl, sym, ap, subst, ◌∙◌, arith}
 use Rattle.std.specs.List.{AllByRecursion}
 use Rattle.std.proofs.lemmas.Bool.{eqb-true}
 use Rattle.disk_model.specs.Calls.{Looks}
@@ -23,9 +23,9 @@ left_before file content coherent left = subst (λ (c : List ℕ). MayLeave file
 leaves_before : (number : ℕ) (files : Files) (contents : Contents) → number < 4 → AreCoherent files → Leaves (with_file number (synced (files number)) files) contents → Leaves files contents
 leaves_before number files contents low coherent leaves = λ m below.
     elim (m == number) as (λ b. (m == number) ≡ b → MayLeave (cond b (synced (files number)) (files m)) (contents m) → MayLeave (files m) (contents m)) [
-    | true ↦ λ e left. subst (λ (file : File). MayLeave file (contents m)) (ap files (sym (eqb-true _ _ e))) (left_before (files number) (contents m) (coherent number low) left)
-    | false ↦ λ e left. left
-  ] refl (leaves m below)
+      | true ↦ λ e left. subst (λ (file : File). MayLeave file (contents m)) (ap files (sym (eqb-true _ _ e))) (left_before (files number) (contents m) (coherent number low) left)
+      | false ↦ λ e left. left
+    ] refl (leaves m below)
 
 module _ (P : Contents → Type 0) where
   abbrev Keeps : Files → Type 0

@@ -1,14 +1,14 @@
 -- The gate of file 0 is closed.
-use Rattle.std.proofs.Common.{◌≡◌, ◌∷◌, [], ℕ, List, Result, Ok, Err, OnOk, OnErr, true, false, refl, sym, ap, subst, ◌∙◌, arith}
+use Rattle.std.proofs.Common.{◌≡◌, ◌∷◌, [], ℕ, List, Result, Ok, Err, OnOk, OnErr, true, false, sym, ap, subst, ◌∙◌, arith}
 use Rattle.disk_model.specs.Calls.{Fails, Looks, Makes}
-use Rattle.disk_model.specs.Files.{File, Files, MayLeave, at_rest, now, synced, written}
+use Rattle.disk_model.specs.Files.{File, Files, at_rest, now, synced, written}
 use Rattle.disk_model.specs.Gates.{IsShut, MayFailTo, syncs, writes}
 use Rattle.disk_model.specs.Moments.{AtEachMoment}
 use Rattle.map_types.specs.declared.refusals.Refusal.{Refusal}
 use Rattle.checkpoint_file.specs.Standing.{is_to_close}
 use Rattle.gate_log.proofs.Scanning.{same_now}
 use Rattle.recovery.specs.Formatting.{OneFile}
-use Rattle.recovery.proofs.OneFileLemmas.{Leave, looked, made, next, now_made, tried}
+use Rattle.recovery.proofs.OneFileLemmas.{Leave, looked, next, now_made, tried}
 use Rattle.recovery.proofs.NewStoreLemmas.{Unsealed, closed_shut, closing_synced, closing_torn, closing_written, kept_shut, rest_unsealed}
 
 pub on_ok : {E : Type 0} (P Q : Type 0) (r : Result (Unit {0}) E) → (P → Q) → OnOk r P → OnOk r Q
@@ -57,7 +57,7 @@ module _ {D : Type 0} (states : D → List Files) (failures : D → ℕ) (honest
           → Moments new
       syncing wrote new r is_written ok err =
           let now_is : now (states wrote) 0 ≡ written 0 (0 ∷ []) (at_rest content) =
-              now_made states failures 0 (writes 0 (0 ∷ [])) mid wrote is_written ∙ ap (λ (file : File). written 0 (0 ∷ []) file) there in
+          now_made states failures 0 (writes 0 (0 ∷ [])) mid wrote is_written ∙ ap (λ (file : File). written 0 (0 ∷ []) file) there in
           let after : Leave Unsealed (written 0 (0 ∷ []) (at_rest content)) = closing_written content opens is in
           next states failures 0 Unsealed old wrote new (writing wrote (Ok tt) is_written tt)
           (tried states failures 0 Unsealed syncs wrote new r ok err tt (subst (λ (file : File). Leave Unsealed file) (sym now_is) after)

@@ -1,5 +1,5 @@
 -- The first log of a new store is begun.
-use Rattle.std.proofs.Common.{◌≡◌, ◌≢◌, ◌⊎◌, inl, inr, [], ℕ, List, Result, Ok, Err, IfOk, OnOk, None, false, refl, sym, ap, subst, ◌∙◌}
+use Rattle.std.proofs.Common.{◌≡◌, ◌≢◌, inl, inr, [], ℕ, List, Result, Ok, IfOk, OnOk, false, sym, ap, subst, ◌∙◌}
 use Rattle.disk_model.specs.Calls.{Makes}
 use Rattle.disk_model.specs.Files.{File, Files, MayLeave, now}
 use Rattle.disk_model.specs.Moments.{AtEachMoment}

@@ -1,5 +1,5 @@
 -- The files of a new store.
-use Rattle.std.proofs.Common.{◌≡◌, ◌≢◌, ◌<◌, inl, inr, [], ℕ, List, ◌∷◌, ◌++◌, true, refl, sym, ap, subst, ◌∙◌, arith}
+use Rattle.std.proofs.Common.{◌≡◌, ◌≢◌, inl, inr, [], ℕ, List, ◌∷◌, ◌++◌, true, sym, ap, subst, ◌∙◌, arith}
 use Rattle.java_hash.specs.Stripes.{is_stripe_count}
 use Rattle.disk_model.specs.Files.{Contents, File, Files, MayLeave, now}
 use Rattle.disk_model.specs.Gates.{IsShut}

@@ -1,8 +1,8 @@
 -- The file of a new store's checkpoint, call by call.
-use Rattle.std.proofs.Common.{◌≡◌, ◌≢◌, ◌⊎◌, inl, inr, ⊎_elim, ℕ, ◌+◌, ◌<◌, ◌≤◌, ◌==◌, ◌&&◌, nat_le, max, Bool, true, false, List, [], ◌∷◌, ◌++◌, length, take, drop, slice_index_or, refl, sym, ap, subst, ◌∙◌, arith}
+use Rattle.std.proofs.Common.{◌≡◌, ◌≢◌, inl, inr, ⊎_elim, ℕ, ◌<◌, ◌==◌, ◌&&◌, nat_le, Bool, true, false, List, [], ◌∷◌, ◌++◌, length, drop, refl, ap, ◌∙◌, arith}
 use Rattle.std.proofs.lemmas.Bool.{cases_eq, cases_lt}
 use Rattle.std.proofs.lemmas.Bool.Decides.{nat_tests}
-use Rattle.disk_model.specs.Files.{File, MayLeave, at_rest, overwritten, synced, written}
+use Rattle.disk_model.specs.Files.{File, MayLeave, at_rest, synced, written}
 use Rattle.disk_model.specs.Files.{IsTorn}
 use Rattle.disk_model.specs.Gates.{IsOpening, IsShut}
 use Rattle.disk_model.proofs.FileLemmas.{length-overwritten}

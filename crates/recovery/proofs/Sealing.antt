@@ -1,12 +1,12 @@
 -- The checkpoint of a new store is written and sealed.
-use Rattle.std.proofs.Common.{◌≡◌, ◌∷◌, ◌++◌, [], inl, inr, ℕ, ◌≤◌, ◌+◌, List, length, Result, Ok, Err, OnOk, OnErr, refl, sym, ap, subst, ◌∙◌, arith}
+use Rattle.std.proofs.Common.{◌≡◌, ◌∷◌, ◌++◌, [], inr, ℕ, ◌≤◌, List, length, Result, Ok, OnOk, OnErr, sym, ap, subst, ◌∙◌, arith}
 use Rattle.disk_model.specs.Calls.{Fails, Makes}
 use Rattle.disk_model.specs.Files.{File, Files, MayLeave, now, synced, written}
 use Rattle.disk_model.specs.Gates.{IsShut, MayFailTo, syncs, writes}
 use Rattle.disk_model.specs.Moments.{AtEachMoment}
 use Rattle.map_types.specs.declared.refusals.Refusal.{Refusal}
 use Rattle.recovery.specs.Formatting.{IsSealedWith, OneFile}
-use Rattle.recovery.proofs.OneFileLemmas.{Leave, made, next, now_made, tried}
+use Rattle.recovery.proofs.OneFileLemmas.{Leave, next, now_made, tried}
 use Rattle.recovery.proofs.NewStoreLemmas.{behind, down, is_behind, is_down, is_opened, opened, opening_leaves, sealed, shut_leaves, torn_behind, torn_opening}
 
 pub shut_place : (file : File) → IsShut [] [] file → 1 ≤ length file.seen

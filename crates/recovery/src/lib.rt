@@ -4,6 +4,8 @@
 mod divided;
 mod first_bytes;
 mod formatting;
+#[cfg(test)]
+mod formatting_tests;
 mod heads;
 mod logs;
 mod new_store;

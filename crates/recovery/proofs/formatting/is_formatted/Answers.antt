@@ -1,6 +1,6 @@
-use Rattle.std.proofs.Common.{◌≡◌, ◌||◌, Bool, ap, sym, ◌∙◌}
+use Rattle.std.proofs.Common.{◌||◌, Bool, ap, sym, ◌∙◌}
 use Rattle.std.proofs.lemmas.Result.{err_from_is_err_and}
-use Rattle.disk_model.specs.Files.{Files, now}
+use Rattle.disk_model.specs.Files.{Files}
 use Rattle.store_layout.specs.Checkpoints.{is_sealed}
 use Rattle.gate_log.proofs.Scanning.{looks_on, same_now}
 use Rattle.recovery.specs.LogReading.{contents_of}

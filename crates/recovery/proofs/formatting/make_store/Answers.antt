@@ -1,4 +1,3 @@
-use Rattle.std.proofs.Common.{◌≡◌}
 use Rattle.recovery.proofs.GateClosing.{on_ok}
 use Rattle.recovery.proofs.Sealing.{shut_place}
 use Rattle.recovery.proofs.Making.{beginning_moments, closing_moments, new_in_the_end, sealing_moments, shut_on}

@@ -1,4 +1,4 @@
-use Rattle.std.proofs.Common.{◌≡◌, false, true, sym, ap, ◌∙◌}
+use Rattle.std.proofs.Common.{◌≡◌, true, sym, ap, ◌∙◌}
 use Rattle.disk_model.specs.Files.{File}
 use Rattle.checkpoint_file.specs.Standing.{is_to_close}
 use Rattle.recovery.proofs.GateClosing.{comes_shut, not_written, on_ok, stays_shut, syncing, writing}
@@ -22,7 +22,7 @@ returns-then-not-branch-clause-ok g c =
 pub returns-clause-moments : goal.returns-clause-moments
 returns-clause-moments g c = λ honest content at is.
     let opens : is_to_close content ≡ true =
-        ap (λ (file : File). is_to_close file.seen) (sym at) ∙ (sym (c.in_ok-must_close.ensures.value (c.in_ok-write.ensures.was_honest (c.sync-2.ensures.was_honest honest))) ∙ c.if-not-branch.false) in
+    ap (λ (file : File). is_to_close file.seen) (sym at) ∙ (sym (c.in_ok-must_close.ensures.value (c.in_ok-write.ensures.was_honest (c.sync-2.ensures.was_honest honest))) ∙ c.if-not-branch.false) in
     syncing g.D.Disk.states g.D.Disk.failures g.D.Disk.honest c.args.disk.now c.must_close.new.disk c.in_ok-must_close.ensures.looks content at is opens c.write.new.disk c.sync-2.new.disk c.sync-2.result c.in_ok-write.ensures.ok
     c.sync-2.ensures.ok c.sync-2.ensures.err
 
