@@ -5,3 +5,11 @@ mod LogReadingLemmas
 mod HeadsLemmas
 mod OpeningLemmas
 mod SyncingLemmas
+mod FirstBytes
+mod OneFileLemmas
+mod NewStoreLemmas
+mod GateClosing
+mod Sealing
+mod LogBeginning
+mod Making
+mod FormattingLemmas

@@ -11,7 +11,7 @@ use Rattle.recovery.specs.LogReading.{contents_of}
 use Rattle.recovery.specs.Syncing.{AfterSyncs, LeavesOnly, SyncsAndLooks, states_synced}
 
 -- a file at rest leaves its content
-rest_leaves : (old content : List ℕ) → MayLeave (at_rest old) content → content ≡ old
+pub rest_leaves : (old content : List ℕ) → MayLeave (at_rest old) content → content ≡ old
 rest_leaves old content left =
     let size : length content ≡ length old = omega (arith, left.no_shorter, left.no_longer) in
     ext_get_or 0 content old size (λ i h.
@@ -54,7 +54,7 @@ module _ {D : Type 0} (states : D → List Files) (failures : D → ℕ) where
       one ∙ seen_synced 4 (states old)
 
   -- a stop leaves what was read
-  pub left_as_read : (honest : D → Type 0) (failed : ℕ) (old new : D) → SyncsAndLooks states failures honest failed old new → LeavesOnly (now (states new)) (contents_of states old)
+  pub left_as_read : (honest : D → Type 0) (failed : ℕ) (old new : D) → SyncsAndLooks states failures honest 4 failed old new → LeavesOnly (now (states new)) (contents_of states old)
   left_as_read honest failed old new is contents leaves number below =
       let looked = same_now states failures honest failed is.mid new is.looks in
       let rest : now (states new) number ≡ at_rest (contents_of states old number) =

@@ -5,3 +5,4 @@ pub mod LogReading
 pub mod Heads
 pub mod Opening
 pub mod Syncing
+pub mod Formatting

@@ -17,23 +17,23 @@ pub record AfterSyncs {D : Type 0} (states : D → List Files) (failures : D →
   pub states_are : states new ≡ states_synced count (states old)
   pub counted : failures new ≡ failures old
 
--- the sync of one of the files failed, and those before it were synced
-pub record StoppedSyncing {D : Type 0} (states : D → List Files) (failures : D → ℕ) (old new : D) : Type 0 where
+-- the sync of one of the first so many files failed, and those before it were synced
+pub record StoppedSyncing {D : Type 0} (states : D → List Files) (failures : D → ℕ) (most : ℕ) (old new : D) : Type 0 where
   pub count : ℕ
-  pub few : count < 4
+  pub few : count < most
   pub states_are : states new ≡ now (states_synced count (states old)) ∷ states_synced count (states old)
   pub counted : failures new ≡ failures old + 1
 
--- all files were synced, and then they were only looked at: so many of these calls failed
-pub record SyncsAndLooks {D : Type 0} (states : D → List Files) (failures : D → ℕ) (honest : D → Type 0) (failed : ℕ) (old new : D) : Type 0 where
+-- the first so many files were synced, and then the files were only looked at: so many of these calls failed
+pub record SyncsAndLooks {D : Type 0} (states : D → List Files) (failures : D → ℕ) (honest : D → Type 0) (most failed : ℕ) (old new : D) : Type 0 where
   pub mid : D
-  pub synced : AfterSyncs states failures 4 old mid
+  pub synced : AfterSyncs states failures most old mid
   pub looks : Looks states failures honest failed mid new
 
 -- a sync failed, or they were synced and looked at
-abbrev pub Stopped : {D : Type 0} → (D → List Files) → (D → ℕ) → (D → Type 0) → D → D → Refusal → Type 0
-Stopped states failures honest old new refusal =
-    ((refusal ≡ Failed) × StoppedSyncing states failures old new) ⊎ SyncsAndLooks states failures honest (failed_in {X = ℕ} (Err refusal)) old new
+abbrev pub Stopped : {D : Type 0} → (D → List Files) → (D → ℕ) → (D → Type 0) → ℕ → D → D → Refusal → Type 0
+Stopped states failures honest most old new refusal =
+    ((refusal ≡ Failed) × StoppedSyncing states failures most old new) ⊎ SyncsAndLooks states failures honest most (failed_in {X = ℕ} (Err refusal)) old new
 
 -- whatever a stop may leave of these files is this content
 abbrev pub LeavesOnly : Files → Contents → Type 0

@@ -2,8 +2,13 @@
 #![tactic(auto)]
 
 mod divided;
+mod first_bytes;
+mod formatting;
+#[cfg(test)]
+mod formatting_tests;
 mod heads;
 mod logs;
+mod new_store;
 mod opening;
 #[cfg(test)]
 mod refusal_tests;
@@ -13,5 +18,6 @@ mod syncing;
 #[cfg(test)]
 mod tests;
 
+pub use formatting::format;
 pub use logs::LogPlace;
 pub use opening::{Restored, open_parts};

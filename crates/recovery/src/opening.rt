@@ -12,7 +12,7 @@ ghost use Rattle.recovery.specs.Syncing.{LeavesOnly, Stopped, SyncsAndLooks};
 use crate::heads::newest_file;
 use crate::logs::{LogPlace, read_logs};
 use crate::restoring::{Restoring, greatest_of};
-use crate::syncing::sync_all;
+use crate::syncing::sync_files;
 use atomic_methods::Part;
 use checkpoint_file::{LoadedCheckpoint, load};
 use disk_model::Disk;
@@ -76,13 +76,13 @@ fn open_files<D: Disk>(
     disk: &mut D,
     stripes: StripeCount,
 ) -> Result<Restored, Refusal>
-    ensures calls { OnOk result (SyncsAndLooks D.states D.failures D.honest 0 disk.old disk.new) }
-    ensures stopped { IfErr result (Stopped D.states D.failures D.honest disk.old disk.new) }
+    ensures calls { OnOk result (SyncsAndLooks D.states D.failures D.honest 4 0 disk.old disk.new) }
+    ensures stopped { IfErr result (Stopped D.states D.failures D.honest 4 disk.old disk.new) }
     ensures was_honest { D.honest disk.new → D.honest disk.old }
     ensures ok { D.honest disk.new → IfOk result (IsOpened (contents_of D.states disk.old) stripes.count) }
     ensures err { D.honest disk.new → IfErr result (λ refusal. RefusesFor (Refuses (contents_of D.states disk.old) refusal) refusal) }
 {
-    sync_all(disk)?;
+    sync_files(disk, 4)?;
     restore(alloc, disk, stripes)
 }
 
@@ -94,8 +94,8 @@ pub fn open_parts<D: Disk>(
     mut disk: D,
     stripes: StripeCount,
 ) -> Result<(D, Restored), (D, Refusal)>
-    ensures calls { IfOk result (λ x. SyncsAndLooks D.states D.failures D.honest 0 disk x.0) }
-    ensures stopped { IfErr result (λ x. Stopped D.states D.failures D.honest disk x.0 x.1) }
+    ensures calls { IfOk result (λ x. SyncsAndLooks D.states D.failures D.honest 4 0 disk x.0) }
+    ensures stopped { IfErr result (λ x. Stopped D.states D.failures D.honest 4 disk x.0 x.1) }
     ensures ok { IfOk result (λ x. D.honest x.0 → D.honest disk × IsOpened (contents_of D.states disk) stripes.count x.1) }
     ensures err { IfErr result (λ x. D.honest x.0 → D.honest disk × RefusesFor (Refuses (contents_of D.states disk) x.1) x.1) }
     ensures stops { IfOk result (λ x. LeavesOnly (now (D.states x.0)) (contents_of D.states disk)) }

@@ -10,11 +10,11 @@ use Rattle.recovery.proofs.opening.open_files.Goals as goal
 pub returns-clause-ok : goal.returns-clause-ok
 returns-clause-ok g c = λ honest.
     let contents : Contents = contents_of g.D.Disk.states c.args.disk.now in
-    let same = same_contents g.D.Disk.states g.D.Disk.failures c.args.disk.now c.sync_all.new.disk c.in_ok-sync_all.ensures.ok in
+    let same = same_contents g.D.Disk.states g.D.Disk.failures c.args.disk.now c.sync_files.new.disk c.in_ok-sync_files.ensures.ok in
     if_ok _ (IsOpened contents c.args.stripes.count) c.restore.result (λ found opened. subst (λ (x : Contents). IsOpened x c.args.stripes.count found) same opened) (c.restore.ensures.ok honest)
 
 pub returns-clause-err : goal.returns-clause-err
 returns-clause-err g c = λ honest.
     let contents : Contents = contents_of g.D.Disk.states c.args.disk.now in
-    let same = same_contents g.D.Disk.states g.D.Disk.failures c.args.disk.now c.sync_all.new.disk c.in_ok-sync_all.ensures.ok in
+    let same = same_contents g.D.Disk.states g.D.Disk.failures c.args.disk.now c.sync_files.new.disk c.in_ok-sync_files.ensures.ok in
     if_err _ (λ r. RefusesFor (Refuses contents r) r) c.restore.result (λ r. refuses_more _ (Refuses contents r) r (λ bad. subst (λ (x : Contents). Refuses x r) same bad)) (c.restore.ensures.err honest)

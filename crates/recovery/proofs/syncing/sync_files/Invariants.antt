@@ -1,5 +1,5 @@
 use Rattle.recovery.specs.Syncing.{AfterSyncs}
-use Rattle.recovery.proofs.syncing.sync_all.Given as goal
+use Rattle.recovery.proofs.syncing.sync_files.Given as goal
 
 -- so many files were synced
 abbrev pub invariant-loop-file : goal.invariant-loop-file

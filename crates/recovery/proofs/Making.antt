@@ -1,0 +1,99 @@
+-- The files of a new store.
+use Rattle.std.proofs.Common.{◌≡◌, ◌≢◌, inl, inr, [], ℕ, List, ◌∷◌, ◌++◌, true, sym, ap, subst, ◌∙◌, arith}
+use Rattle.java_hash.specs.Stripes.{is_stripe_count}
+use Rattle.disk_model.specs.Files.{Contents, File, Files, MayLeave, now}
+use Rattle.disk_model.specs.Gates.{IsShut}
+use Rattle.disk_model.specs.Moments.{AtEachMoment}
+use Rattle.disk_model.proofs.MomentLemmas.{goes_on, in_the_end, weaker}
+use Rattle.log_records.specs.Layout.{first_layout}
+use Rattle.store_layout.specs.Checkpoints.{IsCheckpoint, checkpoint_bytes}
+use Rattle.store_layout.specs.Logs.{IsClosed}
+use Rattle.store_layout.specs.Opening.{first_checkpoint}
+use Rattle.store_layout.proofs.NewStores.{first_is_whole, first_stands}
+use Rattle.recovery.specs.Formatting.{AtStops, IsClear, IsNew, IsNewOrUnformatted, IsSealedWith, OneFile}
+use Rattle.recovery.proofs.LogBeginning.{Others}
+use Rattle.recovery.proofs.NewStoreLemmas.{Unsealed, shut_stays}
+use Rattle.recovery.proofs.OneFileLemmas.{Leave}
+
+zero_two : ◌≢◌ {A = ℕ} 0 2
+zero_two = λ e. absurd cc
+
+one_two : ◌≢◌ {A = ℕ} 1 2
+one_two = λ e. absurd cc
+
+one_zero : ◌≢◌ {A = ℕ} 1 0
+one_zero = λ e. absurd cc
+
+two_zero : ◌≢◌ {A = ℕ} 2 0
+two_zero = λ e. absurd cc
+
+same_file : (P : List ℕ → Type 0) (a b : File) → b ≡ a → Leave P a → Leave P b
+same_file P a b e may = subst (λ (file : File). Leave P file) (sym e) may
+
+none_sealed : (files : Files) → Leave Unsealed (files 0) → Leave Unsealed (files 1) → AtStops IsNewOrUnformatted files
+none_sealed files first second contents leaves = inl (first (contents 0) (leaves 0 (omega arith)), second (contents 1) (leaves 1 (omega arith)))
+
+pub shut_on : {D : Type 0} (states : D → List Files) (one two : D) → IsShut [] [] (now (states one) 0) → AtEachMoment states one two (Others (now (states one))) → IsShut [] [] (now (states two) 0)
+shut_on states one two shut beginning =
+    let there = in_the_end states one two (Others (now (states one))) beginning in
+    subst (λ (file : File). IsShut [] [] file) (sym (there 0 zero_two)) shut
+
+module _ {D : Type 0} (states : D → List Files) (old one : D) (clear : IsClear (now (states old))) (closing : AtEachMoment states old one (OneFile 0 Unsealed (now (states old)))) where
+  abbrev pub Moments : D → Type 0
+  Moments new = AtEachMoment states old new (AtStops IsNewOrUnformatted)
+
+  pub closing_moments : Moments one
+  closing_moments =
+      weaker states old one (OneFile 0 Unsealed (now (states old))) (AtStops IsNewOrUnformatted)
+      (λ files o. none_sealed files o.leaves (same_file Unsealed (now (states old) 1) (files 1) (o.others 1 one_zero) clear.second)) closing
+
+  second_at_one : Leave Unsealed (now (states one) 1)
+  second_at_one = let there = in_the_end states old one (OneFile 0 Unsealed (now (states old))) closing in same_file Unsealed (now (states old) 1) (now (states one) 1) (there.others 1 one_zero) clear.second
+
+  module _ (two : D) (shut : IsShut [] [] (now (states one) 0)) (beginning : AtEachMoment states one two (Others (now (states one)))) where
+    pub beginning_moments : Moments two
+    beginning_moments =
+        goes_on states old one two (AtStops IsNewOrUnformatted) closing_moments
+        (weaker states one two (Others (now (states one))) (AtStops IsNewOrUnformatted)
+        (λ files o. none_sealed files (same_file Unsealed (now (states one) 0) (files 0) (o 0 zero_two) (shut_stays [] (now (states one) 0) shut))
+        (same_file Unsealed (now (states one) 1) (files 1) (o 1 one_two) second_at_one)) beginning)
+
+    there : Others (now (states one)) (now (states two))
+    there = in_the_end states one two (Others (now (states one))) beginning
+
+    second_at_two : Leave Unsealed (now (states two) 1)
+    second_at_two = same_file Unsealed (now (states one) 1) (now (states two) 1) (there 1 one_two) second_at_one
+
+    module _ (log : (content : List ℕ) → MayLeave (now (states two) 2) content → IsClosed first_layout 0 0 [] content) (stripes : ℕ) (whole : is_stripe_count stripes ≡ true) (bytes : List ℕ)
+        (are : bytes ≡ checkpoint_bytes first_layout (first_checkpoint stripes)) where
+      stands : (contents : Contents) (rest : List ℕ) → contents 0 ≡ 165 ∷ (bytes ++ rest) → MayLeave (now (states two) 1) (contents 1) → MayLeave (now (states two) 2) (contents 2) → IsNew contents
+      stands contents rest e left_one left_two =
+          let checkpoint : IsCheckpoint first_layout (first_checkpoint stripes) (contents 0) = record {
+            rest = rest;
+            bytes = e ∙ ap (λ (l : List ℕ). 165 ∷ (l ++ rest)) are;
+            whole = (first_is_whole stripes whole).0;
+          } in
+          first_stands contents stripes checkpoint (second_at_two (contents 1) left_one) (log (contents 2) left_two)
+
+      pub sealing_moments : (new : D) → AtEachMoment states two new (OneFile 0 (IsSealedWith bytes) (now (states two))) → Moments new
+      sealing_moments new sealing =
+          goes_on states old two new (AtStops IsNewOrUnformatted) beginning_moments
+          (weaker states two new (OneFile 0 (IsSealedWith bytes) (now (states two))) (AtStops IsNewOrUnformatted) each sealing)
+        where
+          each : (files : Files) → OneFile 0 (IsSealedWith bytes) (now (states two)) files → AtStops IsNewOrUnformatted files
+          each files o contents leaves =
+              let left_one = subst (λ (file : File). MayLeave file (contents 1)) (o.others 1 one_zero) (leaves 1 (omega arith)) in
+              let left_two = subst (λ (file : File). MayLeave file (contents 2)) (o.others 2 two_zero) (leaves 2 (omega arith)) in
+              elim (o.leaves (contents 0) (leaves 0 (omega arith))) [
+                | inl unsealed ↦ inl (unsealed, second_at_two (contents 1) left_one)
+                | inr kept ↦ inr (stands contents kept.0 kept.1 left_one left_two)
+              ]
+
+      pub new_in_the_end : (new : D) → AtEachMoment states two new (OneFile 0 (IsSealedWith bytes) (now (states two))) → ((content : List ℕ) → MayLeave (now (states new) 0) content → (rest : List ℕ) × (content ≡ 165 ∷ (bytes ++ rest)))
+          → AtStops IsNew (now (states new))
+      new_in_the_end new sealing sealed contents leaves =
+          let o = in_the_end states two new (OneFile 0 (IsSealedWith bytes) (now (states two))) sealing in
+          let left_one = subst (λ (file : File). MayLeave file (contents 1)) (o.others 1 one_zero) (leaves 1 (omega arith)) in
+          let left_two = subst (λ (file : File). MayLeave file (contents 2)) (o.others 2 two_zero) (leaves 2 (omega arith)) in
+          let kept = sealed (contents 0) (leaves 0 (omega arith)) in
+          stands contents kept.0 kept.1 left_one left_two

@@ -1,0 +1,43 @@
+use Rattle.std.proofs.Common.{◌∙◌, arith}
+use Rattle.disk_model.proofs.MomentLemmas.{goes_on}
+use Rattle.recovery.specs.Formatting.{AtStops, IsNewOrUnformatted}
+use Rattle.recovery.proofs.FormattingLemmas.{is_clear, looked_moments, starts, stopped_moments}
+use Rattle.recovery.proofs.GateClosing.{on_ok}
+use Rattle.recovery.proofs.formatting.format.Goals as goal
+
+pub returns-in_err-sync_files-clause-moments : goal.returns-in_err-sync_files-clause-moments
+returns-in_err-sync_files-clause-moments g c = λ honest at.
+    stopped_moments IsNewOrUnformatted g.D.Disk.states g.D.Disk.failures c.args.disk.now (g.met.D.Disk.are_coherent c.args.disk.now) (starts _ at) 2 c.sync_files.new.disk (omega arith) c.in_err-sync_files.ensures.err
+
+pub returns-in_err-is_formatted-clause-moments : goal.returns-in_err-is_formatted-clause-moments
+returns-in_err-is_formatted-clause-moments g c = λ honest at.
+    looked_moments IsNewOrUnformatted g.D.Disk.states g.D.Disk.failures c.args.disk.now (g.met.D.Disk.are_coherent c.args.disk.now) (starts _ at) g.D.Disk.honest 2 _ c.sync_files.new.disk c.is_formatted.new.disk (omega arith)
+    c.in_ok-sync_files.ensures.ok c.is_formatted.ensures.looks
+
+pub returns-then-branch-clause-moments : goal.returns-then-branch-clause-moments
+returns-then-branch-clause-moments g c = λ honest at.
+    looked_moments IsNewOrUnformatted g.D.Disk.states g.D.Disk.failures c.args.disk.now (g.met.D.Disk.are_coherent c.args.disk.now) (starts _ at) g.D.Disk.honest 2 _ c.sync_files.new.disk c.is_formatted.new.disk (omega arith)
+    c.in_ok-sync_files.ensures.ok c.is_formatted.ensures.looks
+
+pub returns-in_err-bytes-clause-moments : goal.returns-in_err-bytes-clause-moments
+returns-in_err-bytes-clause-moments g c = λ honest at.
+    looked_moments IsNewOrUnformatted g.D.Disk.states g.D.Disk.failures c.args.disk.now (g.met.D.Disk.are_coherent c.args.disk.now) (starts _ at) g.D.Disk.honest 2 _ c.sync_files.new.disk c.is_formatted.new.disk (omega arith)
+    c.in_ok-sync_files.ensures.ok c.is_formatted.ensures.looks
+
+pub returns-clause-moments : goal.returns-clause-moments
+returns-clause-moments g c = λ honest at.
+    let before = c.make_store.ensures.was_honest honest in
+    let clear = is_clear g.D.Disk.states g.D.Disk.failures g.D.Disk.honest c.args.disk.now c.sync_files.new.disk c.is_formatted.new.disk c.in_ok-sync_files.ensures.ok c.in_ok-is_formatted.ensures.looks _
+    (c.in_ok-is_formatted.ensures.value before) c.if-branch.false in
+    goes_on g.D.Disk.states c.args.disk.now c.is_formatted.new.disk c.make_store.new.disk (AtStops IsNewOrUnformatted)
+    (looked_moments IsNewOrUnformatted g.D.Disk.states g.D.Disk.failures c.args.disk.now (g.met.D.Disk.are_coherent c.args.disk.now) (starts _ at) g.D.Disk.honest 2 _ c.sync_files.new.disk c.is_formatted.new.disk (omega arith)
+    c.in_ok-sync_files.ensures.ok c.is_formatted.ensures.looks)
+    (c.make_store.ensures.moments honest c.args.stripes.count c.args.stripes.allowed (c.deref.ensures.value ∙ c.in_ok-bytes.ensures.ok) clear)
+
+pub returns-clause-ok : goal.returns-clause-ok
+returns-clause-ok g c =
+    on_ok _ _ c.make_store.result (λ made honest.
+    let before = c.make_store.ensures.was_honest honest in
+    let clear = is_clear g.D.Disk.states g.D.Disk.failures g.D.Disk.honest c.args.disk.now c.sync_files.new.disk c.is_formatted.new.disk c.in_ok-sync_files.ensures.ok c.in_ok-is_formatted.ensures.looks _
+    (c.in_ok-is_formatted.ensures.value before) c.if-branch.false in
+    made honest c.args.stripes.count c.args.stripes.allowed (c.deref.ensures.value ∙ c.in_ok-bytes.ensures.ok) clear) c.make_store.ensures.ok

@@ -1,0 +1,41 @@
+-- What formatting a directory leaves.
+use Rattle.std.specs.Prelude.{◌≡◌, ◌≢◌, ◌⊎◌, ℕ, true, false, List, ◌∷◌, ◌++◌}
+use Rattle.std.specs.FinMap as finite
+use Rattle.disk_model.specs.Files.{Contents, Files, Leaves, MayLeave, at_rest}
+use Rattle.store_layout.specs.Checkpoints.{is_sealed}
+use Rattle.store_layout.specs.Opening.{StandsFor}
+
+-- whatever a stop may leave of these files has P
+abbrev pub AtStops : (Contents → Type 0) → Files → Type 0
+AtStops P files = (contents : Contents) → Leaves files contents → P contents
+
+-- no checkpoint is sealed
+abbrev pub IsUnformatted : Contents → Type 0
+IsUnformatted contents = (is_sealed (contents 0) ≡ false) × (is_sealed (contents 1) ≡ false)
+
+-- one is
+abbrev pub IsFormatted : Contents → Type 0
+IsFormatted contents = (is_sealed (contents 0) ≡ true) ⊎ (is_sealed (contents 1) ≡ true)
+
+-- the files stand for no command and the empty map
+abbrev pub IsNew : Contents → Type 0
+IsNew contents = StandsFor contents 0 finite.empty
+
+abbrev pub IsNewOrUnformatted : Contents → Type 0
+IsNewOrUnformatted contents = IsUnformatted contents ⊎ IsNew contents
+
+-- the content is not sealed, or its gate is open and these bytes stand behind it
+abbrev pub IsSealedWith : List ℕ → List ℕ → Type 0
+IsSealedWith bytes content = (is_sealed content ≡ false) ⊎ ((rest : List ℕ) × (content ≡ 165 ∷ (bytes ++ rest)))
+
+-- the other files are as they were at the start, and whatever a stop may leave of this one has P
+pub record OneFile (number : ℕ) (P : List ℕ → Type 0) (start files : Files) : Type 0 where
+  pub others : (n : ℕ) → n ≢ number → files n ≡ start n
+  pub leaves : (content : List ℕ) → MayLeave (files number) content → P content
+
+-- nothing of the first file is pending, it has no sealed checkpoint, and no stop leaves one in the second
+pub record IsClear (files : Files) : Type 0 where
+  pub first : List ℕ
+  pub settled : files 0 ≡ at_rest first
+  pub unsealed : is_sealed first ≡ false
+  pub second : (content : List ℕ) → MayLeave (files 1) content → is_sealed content ≡ false

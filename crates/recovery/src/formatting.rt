@@ -1,0 +1,67 @@
+//! A directory is made that of an empty map.
+ghost use Rattle.std.specs.Prelude.{◌≡◌, ◌≢◌, ◌⊎◌, ◌+◌, ◌||◌, ℕ, true, Err, IfOk, IfErr, OnOk};
+ghost use Rattle.java_hash.specs.Stripes.{is_stripe_count};
+ghost use Rattle.disk_model.specs.Calls.{Looks};
+ghost use Rattle.disk_model.specs.Files.{now};
+ghost use Rattle.disk_model.specs.Moments.{AtEachMoment};
+ghost use Rattle.log_records.specs.Layout.{first_layout};
+ghost use Rattle.store_layout.specs.Checkpoints.{checkpoint_bytes, is_sealed};
+ghost use Rattle.store_layout.specs.Opening.{first_checkpoint};
+ghost use Rattle.gate_log.specs.Scan.{failed_in};
+ghost use Rattle.recovery.specs.LogReading.{contents_of};
+ghost use Rattle.recovery.specs.Formatting.{AtStops, IsClear, IsFormatted, IsNew, IsNewOrUnformatted, IsUnformatted};
+ghost use Rattle.recovery.specs.Syncing.{SyncsAndLooks};
+
+use crate::first_bytes::first_bytes;
+use crate::new_store::{begin_log, close_gate, has_seal, seal};
+use crate::syncing::sync_files;
+use disk_model::Disk;
+use java_hash::StripeCount;
+use map_types::Refusal;
+use std::alloc::Global;
+
+// Whether a checkpoint is sealed.
+fn is_formatted<D: Disk>(disk: &mut D) -> Result<bool, Refusal>
+    ensures looks { Looks D.states D.failures D.honest (failed_in result) disk.old disk.new }
+    ensures value { D.honest disk.new → IfOk result (λ is. is ≡ is_sealed (contents_of D.states disk.old 0) || is_sealed (contents_of D.states disk.old 1)) }
+    ensures err { IfErr result (λ refusal. refusal ≡ Refusal.Failed) }
+{
+    let first = has_seal(disk, 0)?;
+    let second = has_seal(disk, 1)?;
+    Ok(first || second)
+}
+
+// Makes the files those of a new store, with these bytes behind the gate of its checkpoint.
+fn make_store<D: Disk>(alloc: Global, disk: &mut D, bytes: &[u8]) -> Result<(), Refusal>
+    ensures was_honest { D.honest disk.new → D.honest disk.old }
+    ensures failed { IfErr result (λ refusal. refusal ≡ Refusal.Failed) }
+    ensures failures { D.failures disk.new ≡ D.failures disk.old + failed_in result }
+    ensures moments { D.honest disk.new → (stripes : ℕ) → is_stripe_count stripes ≡ true → bytes.now ≡ checkpoint_bytes first_layout (first_checkpoint stripes) → IsClear (now (D.states disk.old))
+        → AtEachMoment D.states disk.old disk.new (AtStops IsNewOrUnformatted) }
+    ensures ok { OnOk result (D.honest disk.new → (stripes : ℕ) → is_stripe_count stripes ≡ true → bytes.now ≡ checkpoint_bytes first_layout (first_checkpoint stripes)
+        → IsClear (now (D.states disk.old)) → AtStops IsNew (now (D.states disk.new))) }
+{
+    close_gate(disk)?;
+    begin_log(alloc, disk)?;
+    seal(disk, bytes)
+}
+
+/// Makes the directory that of an empty map, divided for so many stripes, where no checkpoint is sealed
+/// in it. All memory is taken before the first write.
+pub fn format<D: Disk>(alloc: Global, disk: &mut D, stripes: StripeCount) -> Result<(), Refusal>
+    ensures was_honest { D.honest disk.new → D.honest disk.old }
+    ensures failures { D.failures disk.new ≡ D.failures disk.old + failed_in result }
+    ensures refusals { IfErr result (λ refusal. (refusal ≡ Refusal.Failed) ⊎ ((refusal ≡ Refusal.NoMemory) ⊎ (refusal ≡ Refusal.AlreadyFormatted))) }
+    ensures formatted { IfErr result (λ refusal. refusal ≡ Refusal.AlreadyFormatted → D.honest disk.new → IsFormatted (contents_of D.states disk.old)) }
+    ensures unformatted { D.honest disk.new → result ≢ Err Refusal.AlreadyFormatted → result ≢ Err Refusal.Failed → IsUnformatted (contents_of D.states disk.old) }
+    ensures untouched { IfErr result (λ refusal. refusal ≢ Refusal.Failed → SyncsAndLooks D.states D.failures D.honest 2 0 disk.old disk.new) }
+    ensures moments { D.honest disk.new → AtStops IsUnformatted (now (D.states disk.old)) → AtEachMoment D.states disk.old disk.new (AtStops IsNewOrUnformatted) }
+    ensures ok { OnOk result (D.honest disk.new → AtStops IsNew (now (D.states disk.new))) }
+{
+    sync_files(disk, 2)?;
+    if is_formatted(disk)? {
+        return Err(Refusal::AlreadyFormatted);
+    }
+    let bytes = first_bytes(alloc, stripes)?;
+    make_store(alloc, disk, &bytes)
+}

@@ -1,0 +1,106 @@
+//! The device calls that make a new store.
+ghost use Rattle.std.specs.Prelude.{◌≡◌, ◌≢◌, ◌<◌, ◌≤◌, ◌+◌, ◌∷◌, ◌++◌, [], ℕ, false, List, length, IfOk, IfErr, OnOk, OnErr};
+ghost use Rattle.disk_model.specs.Calls.{Fails, Looks, Makes};
+ghost use Rattle.disk_model.specs.Files.{MayLeave, at_rest, now};
+ghost use Rattle.disk_model.specs.Gates.{Call, IsShut};
+ghost use Rattle.disk_model.specs.Moments.{AtEachMoment};
+ghost use Rattle.log_records.specs.Layout.{first_layout};
+ghost use Rattle.store_layout.specs.Checkpoints.{is_sealed};
+ghost use Rattle.store_layout.specs.Logs.{IsClosed};
+ghost use Rattle.gate_log.specs.Scan.{failed_in};
+ghost use Rattle.recovery.specs.Formatting.{IsSealedWith, OneFile};
+
+use checkpoint_file::must_close;
+use disk_model::Disk;
+use gate_log::GateLog;
+use map_types::Refusal;
+use std::alloc::Global;
+use store_layout::{BODY_OFFSET, CLOSED_GATE, OPEN_GATE};
+
+/// Whether a checkpoint is sealed in the file, by its gate and its length alone.
+pub(crate) fn has_seal<D: Disk>(disk: &mut D, file: usize) -> Result<bool, Refusal>
+    requires { file < 4 }
+    ensures looks { Looks D.states D.failures D.honest (failed_in result) disk.old disk.new }
+    ensures value { D.honest disk.new → IfOk result (λ is. is ≡ is_sealed (now (D.states disk.old) file).seen) }
+    ensures err { IfErr result (λ refusal. refusal ≡ Refusal.Failed) }
+{
+    let mut bytes = [0; BODY_OFFSET];
+    match disk.read(file, 0, &mut bytes) {
+        Ok(count) => Ok(count == BODY_OFFSET && bytes[0] == OPEN_GATE),
+        Err(_) => Err(Refusal::Failed),
+    }
+}
+
+// Writes to file 0.
+fn write<D: Disk>(disk: &mut D, at: usize, bytes: &[u8]) -> Result<(), Refusal>
+    requires place { D.honest disk.old → at ≤ length (now (D.states disk.old) 0).seen }
+    ensures was_honest { D.honest disk.new → D.honest disk.old }
+    ensures ok { OnOk result (Makes D.states D.failures 0 (Call.writes at bytes.now) disk.old disk.new) }
+    ensures err { OnErr result (Fails D.states D.failures 0 (Call.writes at bytes.now) disk.old disk.new) }
+    ensures failed { IfErr result (λ refusal. refusal ≡ Refusal.Failed) }
+{
+    match disk.write_at(0, at, bytes) {
+        Ok(()) => Ok(()),
+        Err(_) => Err(Refusal::Failed),
+    }
+}
+
+// Syncs file 0.
+fn sync<D: Disk>(disk: &mut D) -> Result<(), Refusal>
+    ensures was_honest { D.honest disk.new → D.honest disk.old }
+    ensures ok { OnOk result (Makes D.states D.failures 0 Call.syncs disk.old disk.new) }
+    ensures err { OnErr result (Fails D.states D.failures 0 Call.syncs disk.old disk.new) }
+    ensures failed { IfErr result (λ refusal. refusal ≡ Refusal.Failed) }
+{
+    match disk.sync(0) {
+        Ok(()) => Ok(()),
+        Err(_) => Err(Refusal::Failed),
+    }
+}
+
+/// Closes the gate of file 0, where it reads open or there is none, and syncs the file.
+pub(crate) fn close_gate<D: Disk>(disk: &mut D) -> Result<(), Refusal>
+    ensures was_honest { D.honest disk.new → D.honest disk.old }
+    ensures failed { IfErr result (λ refusal. refusal ≡ Refusal.Failed) }
+    ensures failures { D.failures disk.new ≡ D.failures disk.old + failed_in result }
+    ensures moments { D.honest disk.new → (content : List ℕ) → now (D.states disk.old) 0 ≡ at_rest content → is_sealed content ≡ false
+        → AtEachMoment D.states disk.old disk.new (OneFile 0 (λ left. is_sealed left ≡ false) (now (D.states disk.old))) }
+    ensures ok { OnOk result (D.honest disk.new → IsShut [] [] (now (D.states disk.new) 0)) }
+{
+    if !must_close(disk, 0)? {
+        return sync(disk);
+    }
+    write(disk, 0, &[CLOSED_GATE])?;
+    sync(disk)
+}
+
+/// Writes the header of the first log and a closed gate, and syncs them.
+pub(crate) fn begin_log<D: Disk>(alloc: Global, disk: &mut D) -> Result<(), Refusal>
+    ensures was_honest { D.honest disk.new → D.honest disk.old }
+    ensures failed { IfErr result (λ refusal. refusal ≡ Refusal.Failed) }
+    ensures failures { D.failures disk.new ≡ D.failures disk.old + failed_in result }
+    ensures others { AtEachMoment D.states disk.old disk.new (λ files. (n : ℕ) → n ≢ 2 → files n ≡ now (D.states disk.old) n) }
+    ensures ok { OnOk result ((content : List ℕ) → MayLeave (now (D.states disk.new) 2) content → IsClosed first_layout 0 0 [] content) }
+{
+    let mut log = GateLog::new(alloc, 0, 0);
+    let _written = log.advance(disk)?;
+    let _synced = log.advance(disk)?;
+    Ok(())
+}
+
+/// Writes the bytes behind the closed gate of file 0, syncs them, opens the gate and syncs that.
+pub(crate) fn seal<D: Disk>(disk: &mut D, bytes: &[u8]) -> Result<(), Refusal>
+    requires { D.honest disk.old → 1 ≤ length (now (D.states disk.old) 0).seen }
+    ensures was_honest { D.honest disk.new → D.honest disk.old }
+    ensures failed { IfErr result (λ refusal. refusal ≡ Refusal.Failed) }
+    ensures failures { D.failures disk.new ≡ D.failures disk.old + failed_in result }
+    ensures moments { IsShut [] [] (now (D.states disk.old) 0)
+        → AtEachMoment D.states disk.old disk.new (OneFile 0 (IsSealedWith bytes.now) (now (D.states disk.old))) }
+    ensures ok { OnOk result (IsShut [] [] (now (D.states disk.old) 0) → (content : List ℕ) → MayLeave (now (D.states disk.new) 0) content
+        → (rest : List ℕ) × (content ≡ 165 ∷ (bytes.now ++ rest))) }
+{
+    write(disk, 1, bytes)?;
+    sync(disk)?;
+    write(disk, 0, &[OPEN_GATE])?;
+    sync(disk)
+}
