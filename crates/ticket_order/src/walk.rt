@@ -142,7 +142,9 @@ impl Walk {
 
     /// A capture of the stripe: TAKE, LOOK, GIVE.
     pub fn capture(alloc: Global, stripe: usize) -> Walk
-        ensures { (n : ℕ) (b : Record) → b.holding ≡ None → stripe < n → Fits n b (ToCapture stripe) result b }
+        ensures fits { (n : ℕ) (b : Record) → b.holding ≡ None → stripe < n → Fits n b (ToCapture stripe) result b }
+        ensures first { (n : ℕ) → next_kind n result ≡ Take stripe }
+        ensures left { steps_left result ≡ 3 }
     {
         Walk {
             stage: Stage::Capture(CaptureStage::Begins(alloc, stripe)),
