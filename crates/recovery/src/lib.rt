@@ -14,10 +14,10 @@ mod opening;
 mod refusal_tests;
 mod replay;
 mod restoring;
+mod shared;
 mod syncing;
 #[cfg(test)]
 mod tests;
 
 pub use formatting::format;
-pub use logs::LogPlace;
 pub use opening::{Restored, open_parts};
