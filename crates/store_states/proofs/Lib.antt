@@ -1,2 +1,3 @@
 pub mod Places
 pub mod Beginnings
+pub mod LogSteps

@@ -1,0 +1,166 @@
+-- How a store stands after a step of one of its logs.
+use Rattle.std.proofs.Common.{◌≡◌, ◌≢◌, ℕ, ◌+◌, ◌<◌, ◌≤◌, List, [], ◌∷◌, ◌++◌, length, Option, None, Some, refl, sym, ◌∙◌, ap, subst, arith, append_assoc, length-append}
+use Rattle.std.proofs.lemmas.List.{append-nil}
+use Rattle.disk_model.specs.Files.{File, Files, MayLeave, with_file}
+use Rattle.map_types.specs.declared.commands.Command.{Command}
+use Rattle.map_model.specs.Histories.{History}
+use Rattle.log_records.specs.Layout.{first_layout}
+use Rattle.store_layout.specs.Checkpoints.{Section, Checkpoint, checkpoint_file, greatest_mark}
+use Rattle.store_layout.specs.Laws.{LogsGoOn, RestoringGoesOn}
+use Rattle.store_layout.specs.Logs.{Batch, IsEnded, commands_in, log_file}
+use Rattle.store_layout.specs.Opening.{Opened, log_of, logged_by, next_low}
+use Rattle.store_layout.specs.Standing.{IsLogOf, IsNextOf, Restores}
+use Rattle.checkpoint_file.specs.declared.phase.CheckpointPhase.{CheckpointPhase}
+use Rattle.checkpoint_file.specs.declared.phase.CheckpointPhase.TheVariants as checkpoint_phase
+use Rattle.checkpoint_file.specs.States.{CheckpointState}
+use Rattle.gate_log.specs.Advancing.{committed_after, staged_after}
+use Rattle.gate_log.specs.Standing as log
+use Rattle.gate_log.specs.declared.phase.Phase.{Phase}
+use Rattle.gate_log.specs.declared.phase.Phase.TheVariants.{Idle, Header, HeaderWritten, Staged, Written, Synced, Opened as log_opened}
+use Rattle.gate_log.specs.States.{LogState, IsResting, log_after}
+use Rattle.store_states.specs.Laws.{BatchIsStaged, EndStepsOn, LogEnds, LogStepsOn, NextIsReady, NextStepsOn, stepped}
+use Rattle.store_states.specs.States.{StoreState, Held, low_after, newest_batches, with_batches}
+use Rattle.store_states.specs.Standing.{Follows, HasEnded, HasFiles, HasHistory, HasNextLog, IsCapture, IsReached, IsSealedIn, IsTurn, IsUnderWay, LogsStand, MayCapture, NextLogIsOf, NextStands, Stands, WriterStands, Writes}
+use Rattle.store_states.proofs.Places.{checkpoint_is_no_log, elsewhere, here, log_before, next_log}
+
+-- ---- parts of a standing store
+
+pub commands_append : (xs ys : List Batch) → commands_in (xs ++ ys) ≡ commands_in xs ++ commands_in ys
+commands_append [] ys = refl
+commands_append (x ∷ xs) ys = ap (λ l. x.commands ++ l) (commands_append xs ys) ∙ sym (append_assoc x.commands (commands_in xs) (commands_in ys))
+
+-- how many commands are committed
+pub committed_is : (k : Checkpoint) (first : List Batch) (second : Option (List Batch)) (newest : LogState) (staged : List Batch) (files : Files) → LogsStand k first second newest staged files
+    → newest.committed ≡ k.low + length (logged_by first second)
+committed_is k first None newest staged files logs = omega (arith, logs.2.knows.committed, logs.1)
+committed_is k first (Some second) newest staged files logs = omega (arith, logs.2.knows.committed, logs.1, length-append (commands_in first) (commands_in second))
+
+-- the newest log's file
+pub newest_stands : (k : Checkpoint) (first : List Batch) (second : Option (List Batch)) (newest : LogState) (staged : List Batch) (files : Files) → LogsStand k first second newest staged files
+    → (file : File) × log.Stands newest (newest_batches first second) staged file
+newest_stands k first None newest staged files logs = (files (log_file k.generation), logs.2)
+newest_stands k first (Some second) newest staged files logs = (files (log_file (k.generation + 1)), logs.2)
+
+-- the marks stay committed where more commands are
+pub reached_up : (phase : CheckpointPhase) (sections : List Section) (a b : ℕ) → a ≤ b → IsReached phase sections a → IsReached phase sections b
+reached_up checkpoint_phase.Header sections a b up is = omega (arith, up, is)
+reached_up checkpoint_phase.HeaderWritten sections a b up is = omega (arith, up, is)
+reached_up checkpoint_phase.HeaderSynced sections a b up is = omega (arith, up, is)
+reached_up checkpoint_phase.Opened sections a b up is = omega (arith, up, is)
+reached_up checkpoint_phase.Idle sections a b up is = tt
+reached_up checkpoint_phase.Gate sections a b up is = tt
+reached_up checkpoint_phase.GateWritten sections a b up is = tt
+reached_up checkpoint_phase.GateSynced sections a b up is = tt
+reached_up checkpoint_phase.Ready sections a b up is = tt
+reached_up checkpoint_phase.Staged sections a b up is = tt
+reached_up checkpoint_phase.Sealed sections a b up is = tt
+
+pub capture_up : (h : History) (w : Option CheckpointState) (sections : List Section) (a b : ℕ) → a ≤ b → MayCapture h w sections a → MayCapture h w sections b
+capture_up h None sections a b up capture = tt
+capture_up h (Some w) sections a b up capture = record { parts = capture.parts; marks = capture.marks; reached = reached_up w.phase sections a b up capture.reached }
+
+low_kept : (next : Option LogState) (old newest : LogState) → newest.low ≡ old.low → low_after newest next ≡ low_after old next
+low_kept None old newest low = low
+low_kept (Some next) old newest low = refl
+
+-- the checkpoint that is written, where its log stays or becomes the newest
+writer_kept : (w : Option CheckpointState) (old new : StoreState) (held : Held) (found : Opened) (staged : List Batch) (file : File) → new.sealed ≡ old.sealed
+    → low_after new.log new.next ≡ low_after old.log old.next → (HasNextLog old.next held.found.second → HasNextLog new.next found.second)
+    → ((phase : CheckpointPhase) → IsUnderWay phase old.next → IsUnderWay phase new.next) → WriterStands w old held file
+    → WriterStands w new (record held { found = found; staged = staged }) file
+writer_kept None old new held found staged file sealed low has under writes = writes
+writer_kept (Some w) old new held found staged file sealed low has under writes = record {
+  generation = writes.generation ∙ ap (λ n. n + 1) (sym sealed);
+  low = writes.low ∙ sym low;
+  has_log = has writes.has_log;
+  under_way = under w.phase writes.under_way;
+  stands = writes.stands;
+}
+
+-- ---- the newest log has moved, and has the same batches
+
+-- while its end frame is committed
+turn_kept : (phase : Phase) (old newest : LogState) → old.phase ≢ Idle → newest.phase ≢ Idle → newest.generation ≡ old.generation → newest.ending ≡ old.ending → IsTurn phase old → IsTurn phase newest
+turn_kept Header old newest was is generation ending turn = absurd (was turn.0)
+turn_kept HeaderWritten old newest was is generation ending turn = absurd (was turn.0)
+turn_kept Idle old newest was is generation ending turn = (is, ending ∙ turn.1 ∙ ap (λ n. Some (n + 1)) (sym generation))
+turn_kept Staged old newest was is generation ending turn = absurd turn
+turn_kept Written old newest was is generation ending turn = absurd turn
+turn_kept Synced old newest was is generation ending turn = absurd turn
+turn_kept log_opened old newest was is generation ending turn = absurd turn
+
+module _ (old newest : LogState) (start : Files) (file : File) (generation : newest.generation ≡ old.generation) where
+  next_kept : (next : Option LogState) (second : Option (List Batch)) → newest.committed ≡ old.committed → newest.ending ≡ old.ending
+      → ((phase : Phase) → IsTurn phase old → IsTurn phase newest) → NextStands next old second start → NextStands next newest second (with_file (log_file old.generation) file start)
+  next_kept None second committed ending turn stands = ending ∙ stands
+  next_kept (Some next) second committed ending turn stands = record {
+    newest_is_first = stands.newest_is_first;
+    generation = stands.generation ∙ ap (λ n. n + 1) (sym generation);
+    low = stands.low ∙ sym committed;
+    goes_on = stands.goes_on;
+    turn = turn next.phase stands.turn;
+    stands = elsewhere (log.Stands next [] []) (log_file old.generation) file start (log_file next.generation) (log_before old.generation next.generation stands.generation) stands.stands;
+  }
+
+  logs_kept : (k : Checkpoint) (first : List Batch) (second : Option (List Batch)) (staged : List Batch) → newest.low ≡ old.low → LogsStand k first second old staged start
+      → log.Stands newest (newest_batches first second) staged file → LogsStand k first second newest staged (with_file (log_file old.generation) file start)
+  logs_kept k first None staged low logs stands =
+      (generation ∙ logs.0, low ∙ logs.1, here (log.Stands newest first staged) (log_file old.generation) file start (log_file k.generation) (ap log_file (sym logs.0)) stands)
+  logs_kept k first (Some second) staged low logs stands = (
+    generation ∙ logs.0,
+    low ∙ logs.1,
+    here (log.Stands newest second staged) (log_file old.generation) file start (log_file (k.generation + 1)) (ap log_file (sym logs.0)) stands,
+    elsewhere (HasEnded k.generation k.low first) (log_file old.generation) file start (log_file k.generation) (next_log k.generation old.generation logs.0) logs.3,
+  )
+
+module _ (h : History) (store : StoreState) (held : Held) (start : Files) (file : File) (stands : Stands h store held start) where
+  log_moved : (newest : LogState) → newest.generation ≡ store.log.generation → newest.low ≡ store.log.low → newest.committed ≡ store.log.committed → newest.ending ≡ store.log.ending
+      → log.IsReady newest.phase → ((phase : Phase) → IsTurn phase store.log → IsTurn phase newest)
+      → log.Stands newest (newest_batches held.found.first held.found.second) held.staged file
+      → Stands h (record store { log = newest }) held (with_file (log_file store.log.generation) file start)
+  log_moved newest generation low committed ending ready turn is =
+      let k = held.found.checkpoint in
+      let number = log_file store.log.generation in
+      let same : low_after newest store.next ≡ low_after store.log store.next = low_kept store.next store.log newest low in
+      record {
+        kept = record {
+          sealed = stands.kept.sealed;
+          checkpoint = elsewhere (IsSealedIn k) number file start (checkpoint_file store.sealed) (checkpoint_is_no_log store.sealed store.log.generation) stands.kept.checkpoint;
+          older = stands.kept.older;
+          ready = ready;
+          logs = logs_kept store.log newest start file generation k held.found.first held.found.second held.staged low stands.kept.logs is;
+          next = next_kept store.log newest start file generation store.next held.found.second committed ending turn stands.kept.next;
+          writer = elsewhere (WriterStands store.writer (record store { log = newest }) held) number file start (checkpoint_file (store.sealed + 1))
+              (checkpoint_is_no_log (store.sealed + 1) store.log.generation)
+              (writer_kept store.writer store (record store { log = newest }) held held.found held.staged (start (checkpoint_file (store.sealed + 1))) refl same (λ has. has) (λ phase under. under) stands.kept.writer);
+        };
+        of_history = record {
+          restores = stands.of_history.restores;
+          next = subst (λ t. IsNextOf h t (commands_in held.staged)) (sym committed) stands.of_history.next;
+          next_log = subst (NextLogIsOf h store.next held.found.second) (sym same) stands.of_history.next_log;
+          capture = subst (MayCapture h store.writer held.sections) (sym committed) stands.of_history.capture;
+        };
+      }
+
+  -- a step before the last
+  log_stepped : (phase : Phase) → store.log.phase ≢ Idle → phase ≢ Idle → log.IsReady phase
+      → log.Stands (record store.log { phase = phase }) (newest_batches held.found.first held.found.second) held.staged file
+      → Stands h (record store { log = record store.log { phase = phase } }) held (with_file (log_file store.log.generation) file start)
+  log_stepped phase was is ready stand =
+      log_moved (record store.log { phase = phase }) refl refl refl refl ready (λ turning turn. turn_kept turning store.log (record store.log { phase = phase }) was is refl refl turn) stand
+
+not_ready : (phase from : Phase) → phase ≡ from → log.IsReady phase → log.IsReady from
+not_ready phase from is ready = subst log.IsReady is ready
+
+pub end_steps_on : EndStepsOn
+end_steps_on h store held next start file stands follows idle other is = by_phase store.log.phase refl is
+  where
+    by_phase : (phase : Phase) → store.log.phase ≡ phase → log.Stands (log_after phase store.log) (newest_batches held.found.first held.found.second) held.staged file
+        → Stands h (record store { log = log_after phase store.log }) held (with_file (log_file store.log.generation) file start)
+    by_phase Idle from stand = log_moved h store held start file stands store.log refl refl refl refl stands.kept.ready (λ phase turn. turn) stand
+    by_phase Header from stand = absurd (not_ready store.log.phase Header from stands.kept.ready)
+    by_phase HeaderWritten from stand = absurd (not_ready store.log.phase HeaderWritten from stands.kept.ready)
+    by_phase Staged from stand = log_stepped h store held start file stands Written (λ e. cc) (λ e. cc) tt stand
+    by_phase Written from stand = log_stepped h store held start file stands Synced (λ e. cc) (λ e. cc) tt stand
+    by_phase Synced from stand = log_stepped h store held start file stands log_opened (λ e. cc) (λ e. cc) tt stand
+    by_phase log_opened from stand = absurd (other from)
