@@ -1,3 +1,4 @@
 pub mod Places
 pub mod Beginnings
 pub mod LogSteps
+pub mod CheckpointSteps

@@ -34,6 +34,9 @@ log_is_no_checkpoint a b e = omega (arith, e)
 pub next_checkpoint : (a b : ℕ) → b ≡ a + 1 → checkpoint_file a ≢ checkpoint_file b
 next_checkpoint a b next e = omega (arith, e, next)
 
+pub checkpoint_before : (a b : ℕ) → b ≡ a + 1 → checkpoint_file b ≢ checkpoint_file a
+checkpoint_before a b next e = omega (arith, e, next)
+
 pub next_log : (a b : ℕ) → b ≡ a + 1 → log_file a ≢ log_file b
 next_log a b next e = omega (arith, e, next)
 
