@@ -1,5 +1,5 @@
 -- How a store that was opened stands, also once its history has grown.
-use Rattle.std.proofs.Common.{◌≡◌, ℕ, ◌+◌, ◌<◌, ◌≤◌, max, List, [], Option, None, Some, refl, sym, ap₂, subst, arith}
+use Rattle.std.proofs.Common.{◌≡◌, ℕ, ◌+◌, ◌<◌, ◌≤◌, max, List, [], length, Option, None, Some, refl, sym, ap₂, subst, arith}
 use Rattle.std.proofs.lemmas.List.{length-append}
 use Rattle.disk_model.specs.Files.{Contents, File, Files, MayLeave, at_rest}
 use Rattle.map_types.specs.declared.commands.Command.{Command}
@@ -9,7 +9,7 @@ use Rattle.log_records.specs.Layout.{first_layout}
 use Rattle.store_layout.specs.Checkpoints.{Section, Checkpoint, checkpoint_file}
 use Rattle.store_layout.specs.Laws.{LogsAreOpened, LogsStay, MarksWiden, NextStays, PartsStay, RestoringStays}
 use Rattle.store_layout.specs.Logs.{Batch, IsEnded, commands_in, log_file}
-use Rattle.store_layout.specs.Opening.{AreLogs, Opened, history_of, log_of, map_of, newest_by, prefix_of}
+use Rattle.store_layout.specs.Opening.{AreLogs, Opened, history_of, log_of, logged_by, map_of, newest_by, prefix_of}
 use Rattle.store_layout.specs.OpeningLaws.{FoundRestores}
 use Rattle.store_layout.specs.Standing.{AreMarks, Restores, grown, reach}
 use Rattle.checkpoint_file.specs.States.{CheckpointState}
@@ -18,6 +18,7 @@ use Rattle.gate_log.specs.States.{LogState, IsResting}
 use Rattle.store_states.specs.Laws.{OpenedStands, StandingStays}
 use Rattle.store_states.specs.States.{low_after}
 use Rattle.store_states.specs.Standing.{LogsStand, MayCapture, NextLogIsOf}
+use Rattle.store_states.proofs.LogSteps.{committed_is}
 use Rattle.store_states.proofs.Places.{checkpoint_low, log_low, rest_leaves}
 
 -- ---- a history that grows
@@ -58,33 +59,28 @@ standing_stays restoring next_ logs parts widen h store held files more stands =
 ready_at_rest : (newest : LogState) → IsResting newest → log.IsReady newest.phase
 ready_at_rest newest rests = subst log.IsReady (sym rests.0) tt
 
-module _ (h : History) (contents : Contents) (newest : LogState) (files : Files) (at : (n : ℕ) → n < 4 → files n ≡ at_rest (contents n)) where
-  logs_of : (k : Checkpoint) (first : List Batch) (second : Option (List Batch)) → AreLogs contents k first second
-      → newest.generation ≡ (newest_by k first second).generation → newest.low ≡ (newest_by k first second).low
-      → log.Stands newest (newest_by k first second).batches [] (at_rest (contents (log_file newest.generation))) → LogsStand k first second newest [] files
-  logs_of k first None are generation low stands = (
-    generation,
-    low,
-    subst (λ f. log.Stands newest first [] f) (sym (at (log_file k.generation) (log_low k.generation))) (subst (λ g. log.Stands newest first [] (at_rest (contents (log_file g)))) generation stands),
-  )
-  logs_of k first (Some second) are generation low stands = (
-    generation,
-    low,
-    subst (λ f. log.Stands newest second [] f) (sym (at (log_file (k.generation + 1)) (log_low (k.generation + 1))))
-        (subst (λ g. log.Stands newest second [] (at_rest (contents (log_file g)))) generation stands),
-    λ content left. subst (IsEnded first_layout k.generation k.low first (k.generation + 1))
-        (sym (rest_leaves (contents (log_file k.generation)) content (subst (λ f. MayLeave f content) (at (log_file k.generation) (log_low k.generation)) left))) are.0,
-  )
+logs_opened : (contents : Contents) (newest : LogState) (files : Files) → ((n : ℕ) → n < 4 → files n ≡ at_rest (contents n)) → (k : Checkpoint) (first : List Batch) (second : Option (List Batch)) → AreLogs contents k first second
+    → newest.generation ≡ (newest_by k first second).generation → newest.low ≡ (newest_by k first second).low
+    → log.Stands newest (newest_by k first second).batches [] (at_rest (contents (log_file newest.generation))) → LogsStand k first second newest [] files
+logs_opened contents newest files at k first None are generation low stands = (
+  generation,
+  low,
+  subst (λ f. log.Stands newest first [] f) (sym (at (log_file k.generation) (log_low k.generation))) (subst (λ g. log.Stands newest first [] (at_rest (contents (log_file g)))) generation stands),
+)
+logs_opened contents newest files at k first (Some second) are generation low stands = (
+  generation,
+  low,
+  subst (λ f. log.Stands newest second [] f) (sym (at (log_file (k.generation + 1)) (log_low (k.generation + 1))))
+      (subst (λ g. log.Stands newest second [] (at_rest (contents (log_file g)))) generation stands),
+  λ content left. subst (IsEnded first_layout k.generation k.low first (k.generation + 1))
+      (sym (rest_leaves (contents (log_file k.generation)) content (subst (λ f. MayLeave f content) (at (log_file k.generation) (log_low k.generation)) left))) are.0,
+)
 
-  committed_by : (k : Checkpoint) (first : List Batch) (second : Option (List Batch)) (file : File) → newest.low ≡ (newest_by k first second).low
-      → log.Stands newest (newest_by k first second).batches [] file → newest.committed ≡ prefix_of (record { checkpoint = k; first = first; second = second })
-  committed_by k first None file low stands = omega (arith, stands.knows.committed, low)
-  committed_by k first (Some second) file low stands = omega (arith, stands.knows.committed, low, length-append (commands_in first) (commands_in second))
-
-  next_log_of : (k : Checkpoint) (first : List Batch) (second : Option (List Batch)) → LogsAreOpened → h.first ≡ prefix_of (record { checkpoint = k; first = first; second = second })
-      → newest.low ≡ (newest_by k first second).low → NextLogIsOf h None second newest.low
-  next_log_of k first None opened from low = tt
-  next_log_of k first (Some second) opened from low = opened h newest.low (commands_in second) (omega (arith, from, low, length-append (commands_in first) (commands_in second)))
+-- a second log that is found ends where the history is known from
+next_log_opened : (h : History) (k : Checkpoint) (first : List Batch) (second : Option (List Batch)) (low : ℕ) → LogsAreOpened → h.first ≡ k.low + length (logged_by first second)
+    → low ≡ (newest_by k first second).low → NextLogIsOf h None second low
+next_log_opened h k first None low opened from is = tt
+next_log_opened h k first (Some second) low opened from is = opened h low (commands_in second) (omega (arith, from, is, length-append (commands_in first) (commands_in second)))
 
 same_history : (h : History) (found : Opened) → h.first ≡ prefix_of found → h.opening ≡ map_of found → grown (history_of found) h.commands ≡ h
 same_history h found first opening =
@@ -94,14 +90,15 @@ same_history h found first opening =
 pub opened_stands : FoundRestores → RestoringStays → LogsAreOpened → OpenedStands
 opened_stands restores stay opened h found contents newest files holds at first opening generation low rests stands =
     let k = found.checkpoint in
-    let committed : newest.committed ≡ prefix_of found = committed_by h contents newest files at k found.first found.second (at_rest (contents (log_file newest.generation))) low stands in
+    let logs = logs_opened contents newest files at k found.first found.second holds.logs generation low stands in
+    let committed : newest.committed ≡ prefix_of found = committed_is k found.first found.second newest [] files logs in
     record {
       kept = record {
         sealed = refl;
         checkpoint = record { content = contents (checkpoint_file k.generation); settled = at (checkpoint_file k.generation) (checkpoint_low k.generation); checkpoint = holds.checkpoint };
         older = holds.other;
         ready = ready_at_rest newest rests;
-        logs = logs_of h contents newest files at k found.first found.second holds.logs generation low stands;
+        logs = logs;
         next = rests.1;
         writer = (at (checkpoint_file (k.generation + 1)) (checkpoint_low (k.generation + 1)), refl);
       };
@@ -109,7 +106,7 @@ opened_stands restores stay opened h found contents newest files holds at first 
         restores = subst (λ x. Restores x k.stripes k.sections k.low (log_of found)) (same_history h found first opening)
             (stay (history_of found) k.stripes k.low k.sections (log_of found) h.commands (restores contents found holds));
         next = record { front = []; back = h.commands; commands = refl; place = omega (arith, first, committed) };
-        next_log = next_log_of h contents newest files at k found.first found.second opened first low;
+        next_log = next_log_opened h k found.first found.second newest.low opened first low;
         capture = tt;
       };
     }
