@@ -14,7 +14,6 @@ mod opening;
 mod refusal_tests;
 mod replay;
 mod restoring;
-mod shared;
 mod syncing;
 #[cfg(test)]
 mod tests;

@@ -7,6 +7,7 @@ ghost use Rattle.store_layout.specs.Opening.{AreBadLogs, Refuses};
 ghost use Rattle.checkpoint_file.specs.Loads.{checkpoint_of, AreRising};
 ghost use Rattle.checkpoint_file.specs.Standing.{is_to_close};
 ghost use Rattle.gate_log.specs.Scan.{failed_in};
+ghost use Rattle.recovery.specs.Dividing.{ArePartsOf};
 ghost use Rattle.recovery.specs.LogReading.{contents_of, RefusesFor};
 ghost use Rattle.recovery.specs.Opening.{IsOpened, IsRestored};
 ghost use Rattle.recovery.specs.Syncing.{LeavesOnly, Stopped, SyncsAndLooks};
@@ -43,6 +44,7 @@ fn restore_from<D: Disk>(
     loaded: LoadedCheckpoint,
 ) -> Result<Restored, Refusal>
     ensures looks { Looks D.states D.failures D.honest (failed_in result) disk.old disk.new }
+    ensures parts { IfOk result (λ found. ArePartsOf stripes.count found.parts.items) }
     ensures ok { D.honest disk.new → AreRising loaded.sections.items → IfOk result (IsRestored (contents_of D.states disk.old) (checkpoint_of loaded) stripes.count) }
     ensures err { D.honest disk.new → IfErr result (λ refusal. RefusesFor (AreBadLogs (contents_of D.states disk.old) (checkpoint_of loaded) refusal) refusal) }
 {
@@ -64,6 +66,7 @@ fn restore_from<D: Disk>(
 // alone.
 fn restore<D: Disk>(alloc: Global, disk: &mut D, stripes: StripeCount) -> Result<Restored, Refusal>
     ensures looks { Looks D.states D.failures D.honest (failed_in result) disk.old disk.new }
+    ensures parts { IfOk result (λ found. ArePartsOf stripes.count found.parts.items) }
     ensures ok { D.honest disk.new → IfOk result (IsOpened (contents_of D.states disk.old) stripes.count) }
     ensures err { D.honest disk.new → IfErr result (λ refusal. RefusesFor (Refuses (contents_of D.states disk.old) refusal) refusal) }
 {
@@ -82,6 +85,7 @@ fn read_files<D: Disk>(
     stripes: StripeCount,
 ) -> Result<(Restored, bool), Refusal>
     ensures looks { Looks D.states D.failures D.honest (failed_in result) disk.old disk.new }
+    ensures parts { IfOk result (λ x. ArePartsOf stripes.count x.0.parts.items) }
     ensures ok { D.honest disk.new → IfOk result (λ x. IsOpened (contents_of D.states disk.old) stripes.count x.0) }
     ensures gate { D.honest disk.new → IfOk result (λ x. x.1 ≡ is_to_close (contents_of D.states disk.old (checkpoint_file (x.0.sealed + 1)))) }
     ensures err { D.honest disk.new → IfErr result (λ refusal. RefusesFor (Refuses (contents_of D.states disk.old) refusal) refusal) }
@@ -100,6 +104,7 @@ fn open_files<D: Disk>(
     ensures calls { OnOk result (SyncsAndLooks D.states D.failures D.honest 4 0 disk.old disk.new) }
     ensures stopped { IfErr result (Stopped D.states D.failures D.honest 4 disk.old disk.new) }
     ensures was_honest { D.honest disk.new → D.honest disk.old }
+    ensures parts { IfOk result (λ x. ArePartsOf stripes.count x.0.parts.items) }
     ensures ok { D.honest disk.new → IfOk result (λ x. IsOpened (contents_of D.states disk.old) stripes.count x.0) }
     ensures gate { D.honest disk.new → IfOk result (λ x. x.1 ≡ is_to_close (contents_of D.states disk.old (checkpoint_file (x.0.sealed + 1)))) }
     ensures err { D.honest disk.new → IfErr result (λ refusal. RefusesFor (Refuses (contents_of D.states disk.old) refusal) refusal) }
@@ -118,6 +123,7 @@ pub fn open_parts<D: Disk>(
 ) -> Result<(D, Restored), (D, Refusal)>
     ensures calls { IfOk result (λ x. SyncsAndLooks D.states D.failures D.honest 4 0 disk x.0) }
     ensures stopped { IfErr result (λ x. Stopped D.states D.failures D.honest 4 disk x.0 x.1) }
+    ensures parts { IfOk result (λ x. ArePartsOf stripes.count x.1.parts.items) }
     ensures ok { IfOk result (λ x. D.honest x.0 → D.honest disk × IsOpened (contents_of D.states disk) stripes.count x.1) }
     ensures err { IfErr result (λ x. D.honest x.0 → D.honest disk × RefusesFor (Refuses (contents_of D.states disk) x.1) x.1) }
     ensures stops { IfOk result (λ x. LeavesOnly (now (D.states x.0)) (contents_of D.states disk)) }
