@@ -13,3 +13,4 @@ mod Sealing
 mod LogBeginning
 mod Making
 mod FormattingLemmas
+pub mod Finding

@@ -58,7 +58,6 @@ module _ (generation low : ℕ) (content later : List ℕ) (same : later ≡ con
           low = ap (λ (p : LogState). p.low) is;
           gate = ap (λ (p : LogState). p.gate) is ∙ read.gate;
           committed = ap (λ (p : LogState). p.committed) is ∙ read.committed;
-          rests = is ∙ sym (ap (λ (p : LogState). resumed p.generation p.low p.gate p.committed) is);
         };
         applied = read.applied;
       }

@@ -49,13 +49,16 @@ pub record IsBrokenFor (generation low : ℕ) (content : List ℕ) (refusal : Re
   pub reads : Reads first_layout generation low content (broken batches)
   pub damage : refusal ≡ damage_behind (record { generation = generation; low = low; batches = batches })
 
--- the log goes on behind the last of its batches, and nothing is staged
+-- nothing is staged in the log, and no device call is due
+abbrev pub IsResumed : LogState → Type 0
+IsResumed log = log ≡ resumed log.generation log.low log.gate log.committed
+
+-- the log goes on behind the last of its batches
 pub record GoesOnFrom (found : FoundLog) (log : LogState) : Type 0 where
   pub generation : log.generation ≡ found.generation
   pub low : log.low ≡ found.low
   pub gate : log.gate ≡ gate_behind first_layout found.generation found.low found.batches
   pub committed : log.committed ≡ found.low + length (commands_in found.batches)
-  pub rests : log ≡ resumed log.generation log.low log.gate log.committed
 
 -- one log was read, and its changes were made
 pub record IsLogRead (generation low : ℕ) (content : List ℕ) (before : Restoring) (end : End) (log : LogState) (after : Restoring) : Type 0 where

@@ -1,12 +1,16 @@
 -- What opening a directory finds.
-use Rattle.std.specs.Prelude.{◌≡◌, ◌≤◌, ℕ, ◌+◌, List, length, Option}
+use Rattle.std.specs.Prelude.{◌≡◌, ◌≤◌, ℕ, ◌+◌, false, List, [], length, Option, None}
+use Rattle.java_hash.specs.declared.stripe_count.StripeCount.{StripeCount}
+use Rattle.atomic_methods.specs.PartState.{PartState}
+use Rattle.flusher.specs.declared.keeper.Keeper.{Keeper}
+use Rattle.flusher.specs.declared.sweeper.Walking.TheVariants.{Rests}
 use Rattle.store_layout.specs.Checkpoints.{Checkpoint, greatest_mark}
 use Rattle.store_layout.specs.Logs.{Batch}
 use Rattle.store_layout.specs.Standing.{restored}
 use Rattle.store_layout.specs.Opening.{Contents, Opened, Holds, AreLogs, logged_by, map_of, newest_by, newest_of, prefix_of}
 use Rattle.recovery.specs.declared.opening.Restored.{Restored}
 use Rattle.recovery.specs.Dividing.{IsDivided}
-use Rattle.recovery.specs.LogReading.{GoesOnFrom}
+use Rattle.recovery.specs.LogReading.{GoesOnFrom, IsResumed}
 
 -- the map of this checkpoint and its logs, divided for so many stripes
 pub record IsRestored (contents : Contents) (k : Checkpoint) (stripes : ℕ) (found : Restored) : Type 0 where
@@ -28,3 +32,30 @@ pub record IsOpened (contents : Contents) (stripes : ℕ) (restored : Restored) 
   pub log : GoesOnFrom (newest_of found) restored.log
   pub committed : restored.log.committed ≡ prefix_of found
   pub divided : IsDivided stripes (map_of found) restored.parts.items
+
+-- These are the parts of the map that the files stand for after so many first commands, one for each of so many stripes; the keeper knows the
+-- checkpoint that is used, and goes on behind the last batch of the newest log.
+pub record IsOpenedAs {D : Type 0} (contents : Contents) (stripes : ℕ) (keeper : Keeper D) (parts : List PartState) (first : ℕ) : Type 0 where
+  pub found : Opened
+  pub holds : Holds contents found
+  pub sealed : keeper.sealed ≡ found.checkpoint.generation
+  pub log : GoesOnFrom (newest_of found) keeper.log
+  pub first_is : first ≡ prefix_of found
+  pub divided : IsDivided stripes (map_of found) parts
+
+-- The keeper has done nothing yet: so many commands are committed and published, none is in hand or staged, and neither a sweep, a rotation
+-- nor a checkpoint is under way.
+pub record IsAtStart {D : Type 0} (stripes : StripeCount) (first : ℕ) (keeper : Keeper D) : Type 0 where
+  pub resumed : IsResumed keeper.log
+  pub committed : keeper.log.committed ≡ first
+  pub published : keeper.published ≡ first
+  pub hand : keeper.sweeper.in_hand ≡ record { next = first; slots = [] }
+  pub sweep : keeper.sweeper.sweep ≡ None
+  pub walking : keeper.sweeper.walking ≡ Rests
+  pub staged : keeper.staged.items ≡ []
+  pub next : keeper.next ≡ None
+  pub checkpoint : keeper.checkpoint ≡ None
+  pub capture : keeper.capture ≡ None
+  pub stripes_are : keeper.stripes ≡ stripes
+  pub working : keeper.is_broken ≡ false
+  pub unfailed : keeper.has_failed ≡ false

@@ -19,4 +19,4 @@ mod syncing;
 mod tests;
 
 pub use formatting::format;
-pub use opening::{Restored, open_parts};
+pub use opening::{open, open_parts};

@@ -6,7 +6,7 @@ ghost use Rattle.store_layout.specs.Logs.{log_file};
 ghost use Rattle.store_layout.specs.Opening.{AreBadLogs};
 ghost use Rattle.gate_log.specs.Scan.{failed_in, log_bytes};
 ghost use Rattle.recovery.specs.Restoring.{IsSameFrame};
-ghost use Rattle.recovery.specs.LogReading.{contents_of, checkpoint_with, AreReplayed, IsBadLog, IsLogRead, RefusesFor};
+ghost use Rattle.recovery.specs.LogReading.{contents_of, checkpoint_with, AreReplayed, IsBadLog, IsLogRead, IsResumed, RefusesFor};
 
 use crate::replay::{End, replay};
 use crate::restoring::Restoring;
@@ -36,6 +36,7 @@ fn read_log<D: Disk>(
 ) -> Result<(End, GateLog), Refusal>
     ensures looks { Looks D.states D.failures D.honest (failed_in result) disk.old disk.new }
     ensures same { IsSameFrame restoring.old restoring.new }
+    ensures resumed { IfOk result (λ x. IsResumed x.1) }
     ensures ok { D.honest disk.new → IfOk result (λ x. IsLogRead generation low (log_bytes D.states disk.old generation) restoring.old x.0 x.1 restoring.new) }
     ensures err { D.honest disk.new → IfErr result (λ refusal. RefusesFor (IsBadLog generation low (log_bytes D.states disk.old generation) refusal) refusal) }
 {
@@ -56,6 +57,7 @@ pub(crate) fn read_logs<D: Disk>(
 ) -> Result<GateLog, Refusal>
     ensures looks { Looks D.states D.failures D.honest (failed_in result) disk.old disk.new }
     ensures same { IsSameFrame restoring.old restoring.new }
+    ensures resumed { IfOk result IsResumed }
     ensures ok { D.honest disk.new → (stripes : ℕ) (sections : List Section)
         → IfOk result (AreReplayed (contents_of D.states disk.old) (checkpoint_with generation low stripes sections) restoring.old restoring.new) }
     ensures err { D.honest disk.new → (stripes : ℕ) (sections : List Section)

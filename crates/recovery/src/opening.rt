@@ -1,15 +1,19 @@
 //! The map that a directory stands for.
-ghost use Rattle.std.specs.Prelude.{◌≡◌, ◌+◌, IfOk, IfErr, OnOk};
+ghost use Rattle.std.specs.Prelude.{◌≡◌, ◌+◌, [], IfOk, IfErr, OnOk};
 ghost use Rattle.disk_model.specs.Calls.{Looks};
 ghost use Rattle.disk_model.specs.Files.{now};
 ghost use Rattle.store_layout.specs.Checkpoints.{checkpoint_file};
-ghost use Rattle.store_layout.specs.Opening.{AreBadLogs, Refuses};
+ghost use Rattle.ticket_order.specs.declared.record.Record.{Record};
+ghost use Rattle.one_history.specs.Turns.{opening_of};
+ghost use Rattle.stripe_locks.specs.Passes.{begun_with, stripe_count};
+ghost use Rattle.store_layout.specs.Opening.{AreBadLogs, Refuses, StandsFor};
 ghost use Rattle.checkpoint_file.specs.Loads.{checkpoint_of, AreRising};
 ghost use Rattle.checkpoint_file.specs.Standing.{is_to_close};
 ghost use Rattle.gate_log.specs.Scan.{failed_in};
 ghost use Rattle.recovery.specs.Dividing.{ArePartsOf};
-ghost use Rattle.recovery.specs.LogReading.{contents_of, RefusesFor};
-ghost use Rattle.recovery.specs.Opening.{IsOpened, IsRestored};
+ghost use Rattle.recovery.specs.LogReading.{contents_of, IsResumed, RefusesFor};
+ghost use Rattle.flusher.specs.Fitting.{Fits, IsUnused};
+ghost use Rattle.recovery.specs.Opening.{IsAtStart, IsOpened, IsOpenedAs, IsRestored};
 ghost use Rattle.recovery.specs.Syncing.{LeavesOnly, Stopped, SyncsAndLooks};
 
 use crate::heads::newest_file;
@@ -19,15 +23,18 @@ use crate::syncing::sync_files;
 use atomic_methods::Part;
 use checkpoint_file::{LoadedCheckpoint, load, must_close};
 use disk_model::Disk;
+use flusher::Keeper;
 use gate_log::GateLog;
 use java_hash::StripeCount;
+use map_model::laws::laws_of_parts;
 use map_types::Refusal;
 use std::alloc::Global;
 use store_layout::checkpoint_file;
+use stripe_locks::Stripes;
 
-/// What a directory stands for.
+// What a directory stands for.
 #[derive(Drop)]
-pub struct Restored {
+struct Restored {
     /// The parts of the map, one for each stripe in order.
     pub parts: Vec<Part>,
     /// The generation of the checkpoint that was used.
@@ -44,6 +51,7 @@ fn restore_from<D: Disk>(
     loaded: LoadedCheckpoint,
 ) -> Result<Restored, Refusal>
     ensures looks { Looks D.states D.failures D.honest (failed_in result) disk.old disk.new }
+    ensures resumed { IfOk result (λ found. IsResumed found.log) }
     ensures parts { IfOk result (λ found. ArePartsOf stripes.count found.parts.items) }
     ensures ok { D.honest disk.new → AreRising loaded.sections.items → IfOk result (IsRestored (contents_of D.states disk.old) (checkpoint_of loaded) stripes.count) }
     ensures err { D.honest disk.new → IfErr result (λ refusal. RefusesFor (AreBadLogs (contents_of D.states disk.old) (checkpoint_of loaded) refusal) refusal) }
@@ -66,6 +74,7 @@ fn restore_from<D: Disk>(
 // alone.
 fn restore<D: Disk>(alloc: Global, disk: &mut D, stripes: StripeCount) -> Result<Restored, Refusal>
     ensures looks { Looks D.states D.failures D.honest (failed_in result) disk.old disk.new }
+    ensures resumed { IfOk result (λ found. IsResumed found.log) }
     ensures parts { IfOk result (λ found. ArePartsOf stripes.count found.parts.items) }
     ensures ok { D.honest disk.new → IfOk result (IsOpened (contents_of D.states disk.old) stripes.count) }
     ensures err { D.honest disk.new → IfErr result (λ refusal. RefusesFor (Refuses (contents_of D.states disk.old) refusal) refusal) }
@@ -85,6 +94,7 @@ fn read_files<D: Disk>(
     stripes: StripeCount,
 ) -> Result<(Restored, bool), Refusal>
     ensures looks { Looks D.states D.failures D.honest (failed_in result) disk.old disk.new }
+    ensures resumed { IfOk result (λ x. IsResumed x.0.log) }
     ensures parts { IfOk result (λ x. ArePartsOf stripes.count x.0.parts.items) }
     ensures ok { D.honest disk.new → IfOk result (λ x. IsOpened (contents_of D.states disk.old) stripes.count x.0) }
     ensures gate { D.honest disk.new → IfOk result (λ x. x.1 ≡ is_to_close (contents_of D.states disk.old (checkpoint_file (x.0.sealed + 1)))) }
@@ -104,6 +114,7 @@ fn open_files<D: Disk>(
     ensures calls { OnOk result (SyncsAndLooks D.states D.failures D.honest 4 0 disk.old disk.new) }
     ensures stopped { IfErr result (Stopped D.states D.failures D.honest 4 disk.old disk.new) }
     ensures was_honest { D.honest disk.new → D.honest disk.old }
+    ensures resumed { IfOk result (λ x. IsResumed x.0.log) }
     ensures parts { IfOk result (λ x. ArePartsOf stripes.count x.0.parts.items) }
     ensures ok { D.honest disk.new → IfOk result (λ x. IsOpened (contents_of D.states disk.old) stripes.count x.0) }
     ensures gate { D.honest disk.new → IfOk result (λ x. x.1 ≡ is_to_close (contents_of D.states disk.old (checkpoint_file (x.0.sealed + 1)))) }
@@ -114,22 +125,55 @@ fn open_files<D: Disk>(
 }
 
 /// Opens the directory: syncs its files, and restores the map that they stand for, divided for so many
-/// stripes. It writes nothing, and besides the map it holds one section or one frame at a time. The disk
-/// is handed back with what was found, or with the refusal.
+/// stripes. It answers a keeper over the directory, the parts of the map in the order of their stripes,
+/// and how many commands were made. It writes nothing, and besides the map it holds one section or one
+/// frame at a time. The disk is handed back with a refusal.
 pub fn open_parts<D: Disk>(
     alloc: Global,
     mut disk: D,
     stripes: StripeCount,
-) -> Result<(D, Restored), (D, Refusal)>
-    ensures calls { IfOk result (λ x. SyncsAndLooks D.states D.failures D.honest 4 0 disk x.0) }
+) -> Result<(Keeper<D>, Vec<Part>, u64), (D, Refusal)>
+    ensures calls { IfOk result (λ x. SyncsAndLooks D.states D.failures D.honest 4 0 disk x.0.disk) }
     ensures stopped { IfErr result (λ x. Stopped D.states D.failures D.honest 4 disk x.0 x.1) }
-    ensures parts { IfOk result (λ x. ArePartsOf stripes.count x.1.parts.items) }
-    ensures ok { IfOk result (λ x. D.honest x.0 → D.honest disk × IsOpened (contents_of D.states disk) stripes.count x.1) }
+    ensures start { IfOk result (λ x. IsAtStart stripes x.2 x.0) }
+    ensures parts { IfOk result (λ x. ArePartsOf stripes.count x.1.items) }
+    ensures ok { IfOk result (λ x. D.honest x.0.disk → D.honest disk × IsOpenedAs (contents_of D.states disk) stripes.count x.0 x.1.items x.2) }
     ensures err { IfErr result (λ x. D.honest x.0 → D.honest disk × RefusesFor (Refuses (contents_of D.states disk) x.1) x.1) }
-    ensures stops { IfOk result (λ x. LeavesOnly (now (D.states x.0)) (contents_of D.states disk)) }
+    ensures stops { IfOk result (λ x. LeavesOnly (now (D.states x.0.disk)) (contents_of D.states disk)) }
+    ensures fits { IfOk result (λ x. (p : Record) → p.opening ≡ opening_of x.2 x.1.items → IsUnused x.2 p → Fits D.states D.honest stripes.count [] x.0 p) }
 {
+    laws_of_parts();
     match open_files(alloc, &mut disk, stripes) {
-        Ok((found, _must_close)) => Ok((disk, found)),
+        Ok((restored, must_close)) => {
+            let Restored { parts, sealed, log } = restored;
+            let first = log.committed();
+            let keeper = Keeper::opened(alloc, disk, stripes, sealed, log, must_close);
+            Ok((keeper, parts, first))
+        }
         Err(refusal) => Err((disk, refusal)),
+    }
+}
+
+/// Opens the directory, and shares the map that it stands for between the passes of `Stripes`; refused
+/// as `open_parts` is.
+pub fn open<D: Disk>(
+    alloc: Global,
+    disk: D,
+    stripes: StripeCount,
+) -> Result<(Keeper<D>, Stripes), (D, Refusal)>
+    ensures calls { IfOk result (λ x. SyncsAndLooks D.states D.failures D.honest 4 0 disk x.0.disk) }
+    ensures stopped { IfErr result (λ x. Stopped D.states D.failures D.honest 4 disk x.0 x.1) }
+    ensures start { IfOk result (λ x. IsAtStart stripes (begun_with x.1).first x.0) }
+    ensures stripes { IfOk result (λ x. stripe_count x.1 ≡ stripes.count) }
+    ensures ok { IfOk result (λ x. D.honest x.0.disk → D.honest disk × StandsFor (contents_of D.states disk) (begun_with x.1).first (begun_with x.1).map) }
+    ensures err { IfErr result (λ x. D.honest x.0 → D.honest disk × RefusesFor (Refuses (contents_of D.states disk) x.1) x.1) }
+    ensures stops { IfOk result (λ x. LeavesOnly (now (D.states x.0.disk)) (contents_of D.states disk)) }
+    ensures fits { IfOk result (λ x. (p : Record) → p.opening ≡ begun_with x.1 → IsUnused (begun_with x.1).first p → Fits D.states D.honest stripes.count [] x.0 p) }
+{
+    laws_of_parts();
+    let (keeper, parts, first) = open_parts(alloc, disk, stripes)?;
+    match Stripes::new(alloc, stripes, parts, first) {
+        Ok(shared) => Ok((keeper, shared)),
+        Err(refusal) => Err((keeper.into_disk(), refusal)),
     }
 }

@@ -1,7 +1,9 @@
 ghost use Rattle.std.specs.Prelude.{◌<◌};
 
-use crate::{Restored, open_parts};
+use crate::open_parts;
+use atomic_methods::Part;
 use disk_model::{Disk, MemDisk};
+use flusher::Keeper;
 use java_hash::StripeCount;
 use log_records::{put_key, put_number, put_value};
 use map_types::Refusal;
@@ -52,13 +54,18 @@ pub(crate) fn disk_with(alloc: Global, checkpoint: &[u8]) -> Result<MemDisk, Ref
 }
 
 // The numbers, and then each key and each value, part by part.
-fn shown(alloc: Global, found: &Restored) -> Result<Vec<u8>, Refusal> {
+fn shown(
+    alloc: Global,
+    keeper: &Keeper<MemDisk>,
+    parts: &[Part],
+    first: u64,
+) -> Result<Vec<u8>, Refusal> {
     let mut out = Vec::new(alloc);
-    put_number(8, found.log.committed(), &mut out)?;
-    put_number(8, found.sealed, &mut out)?;
-    put_number(8, found.log.generation, &mut out)?;
-    put_number(8, found.log.gate as u64, &mut out)?;
-    for part in &found.parts {
+    put_number(8, first, &mut out)?;
+    put_number(8, keeper.sealed, &mut out)?;
+    put_number(8, keeper.log.generation(), &mut out)?;
+    put_number(8, keeper.log.gate() as u64, &mut out)?;
+    for part in parts {
         for (key, value) in &part.entries_sorted(alloc)? {
             put_key(key, &mut out)?;
             put_value(value, &mut out)?;
@@ -73,7 +80,7 @@ fn restored(alloc: Global, checkpoint: &[u8], stripes: u16) -> Result<Vec<u8>, R
     };
     let disk = disk_with(alloc, checkpoint)?;
     match open_parts(alloc, disk, stripes) {
-        Ok((_, found)) => shown(alloc, &found),
+        Ok((keeper, parts, first)) => shown(alloc, &keeper, &parts, first),
         Err((_, refusal)) => Err(refusal),
     }
 }

@@ -1,4 +1,10 @@
-use Rattle.recovery.proofs.SyncingLemmas.{left_as_read}
+use Rattle.std.proofs.Common.{◌∙◌, sym, ap}
+use Rattle.disk_model.specs.Files.{now}
+use Rattle.store_layout.specs.Opening.{Contents}
+use Rattle.recovery.specs.LogReading.{contents_of}
+use Rattle.recovery.proofs.Finding.{found_for, some_stripes}
+use Rattle.gate_log.specs.States.{LogState}
+use Rattle.recovery.proofs.SyncingLemmas.{left_as_read, settled}
 use Rattle.recovery.proofs.opening.open_parts.Goals as goal
 
 pub returns-in-Err-clause-err : goal.returns-in-Err-clause-err
@@ -6,4 +12,35 @@ returns-in-Err-clause-err g c = λ honest. (c.in-Err.ensures.was_honest honest, 
 
 pub returns-in-Ok-clause-stops : goal.returns-in-Ok-clause-stops
 returns-in-Ok-clause-stops g c =
-    left_as_read g.D.Disk.states g.D.Disk.failures g.D.Disk.honest 0 c.args.disk c.open_files.new.disk c.in-Ok.ensures.calls
+    rw c.opened-keeper.ensures.disk (left_as_read g.D.Disk.states g.D.Disk.failures g.D.Disk.honest 0 c.args.disk c.open_files.new.disk c.in-Ok.ensures.calls)
+
+pub returns-in-Ok-clause-start : goal.returns-in-Ok-clause-start
+returns-in-Ok-clause-start g c =
+    let store = c.opened-keeper.ensures.store in
+    let other = c.opened-keeper.ensures.checkpoint in
+    record {
+      resumed = rw store.1 c.in-Ok.ensures.resumed;
+      committed = ap (λ (log : LogState). log.committed) store.1 ∙ sym c.committed-first.ensures;
+      published = c.opened-keeper.ensures.published ∙ sym c.committed-first.ensures;
+      hand = rw c.committed-first.ensures c.opened-keeper.ensures.hand;
+      sweep = c.opened-keeper.ensures.sweep.0;
+      walking = c.opened-keeper.ensures.sweep.1;
+      staged = c.opened-keeper.ensures.staged;
+      next = store.2;
+      checkpoint = other.0;
+      capture = other.1;
+      stripes_are = other.2;
+      working = c.opened-keeper.ensures.works.0;
+      unfailed = c.opened-keeper.ensures.works.1;
+    }
+
+pub returns-in-Ok-clause-fits : goal.returns-in-Ok-clause-fits
+returns-in-Ok-clause-fits g c = λ p opening unused.
+    let contents : Contents = contents_of g.D.Disk.states c.args.disk in
+    let some = some_stripes c.args.stripes.count c.args.stripes.allowed in
+    let log = c.in-Ok.restored.log in
+    c.opened-keeper.ensures.fits p c.in-Ok.ensures.resumed (rw c.committed-first.ensures at unused)
+    (λ honest. found_for c.laws_of_parts.ensures.union contents c.args.stripes.count some c.in-Ok.restored (c.in-Ok.ensures.ok honest) p
+    (now (g.D.Disk.states c.open_files.new.disk)) c.in-Ok.must_close
+    (settled g.D.Disk.states g.D.Disk.failures g.D.Disk.honest 0 c.args.disk c.open_files.new.disk c.in-Ok.ensures.calls)
+    (c.in-Ok.ensures.gate honest) c.in-Ok.ensures.resumed (rw c.committed-first.ensures at opening))
