@@ -10,6 +10,7 @@ pub mod Passing
 pub mod Storing
 pub mod Keeping
 pub mod Moments
+pub mod StoreSteps
 pub mod Committing
 pub mod Trying
 pub mod Seeing

@@ -373,7 +373,7 @@ impl<D: Disk> Keeper<D> {
         requires { (n : ℕ) × (done : List Command) × (p : Record) × Fits D.states D.honest n done self.old p }
         ensures failed { self.old.is_broken ≡ true → (result ≡ Err Refusal.Failed) × (self.new ≡ self.old) }
         ensures rests { self.old.is_broken ≡ false → (due_of (logs_of self.old)).phase ≡ Phase.Idle → (result ≡ Ok Phase.Idle) × (self.new ≡ self.old) }
-        ensures steps { self.old.is_broken ≡ false → (due_of (logs_of self.old)).phase ≢ Phase.Idle → StepsLogs D.states D.failures D.honest self.old self.new result }
+        ensures steps { self.old.is_broken ≡ false → (due_of (logs_of self.old)).phase ≢ Phase.Idle → StepsLogs D.states D.failures D.honest (logs_of self.old) (logs_of self.new) self.old.disk self.new.disk result }
         ensures hand { OnOk result (IsPast self.old.next self.old.log.phase self.old.sweeper self.old.staged.items self.new.sweeper self.new.staged.items) }
         ensures works { OnOk result (self.new.is_broken ≡ false) }
         ensures kept { OnErr result ((self.new.sweeper ≡ self.old.sweeper) × (self.new.staged ≡ self.old.staged) × (self.new.is_broken ≡ true)) }
