@@ -12,6 +12,7 @@ pub mod Keeping
 pub mod Moments
 pub mod StoreSteps
 pub mod Committing
+pub mod Advancing
 pub mod Trying
 pub mod Seeing
 pub mod Beside

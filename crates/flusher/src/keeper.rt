@@ -1,5 +1,5 @@
 //! The keeper of one store: its disk, its logs, and the entries in hand.
-ghost use Rattle.std.specs.Prelude.{◌||◌, is_some, ◌≡◌, ◌≢◌, ◌⊎◌, ◌↔◌, ◌+◌, ◌<◌, ◌≤◌, ◌^◌, ℕ, List, Some, None, [], ◌∷◌, ◌++◌, length, true, false, IfOk, IfErr, OnOk, OnErr};
+ghost use Rattle.std.specs.Prelude.{◌||◌, is_some, Result, Ok, ◌≡◌, ◌≢◌, ◌⊎◌, ◌↔◌, ◌+◌, ◌<◌, ◌≤◌, ◌^◌, ℕ, List, Some, None, [], ◌∷◌, ◌++◌, length, true, false, IfOk, IfErr, OnOk, OnErr};
 ghost use Rattle.map_types.specs.declared.commands.Command.{Command};
 ghost use Rattle.ticket_order.specs.declared.record.Record.{Record};
 ghost use Rattle.ticket_order.specs.Records.{failing, publishing};
@@ -308,8 +308,9 @@ impl<D: Disk> Keeper<D> {
     fn step_end(&mut self, next: GateLog) -> Result<Phase, Refusal>
         requires stands { MayAdvance D.states D.honest self.old.log self.old.disk }
         requires works { (self.old.is_broken ≡ false) × (self.old.log.is_broken ≡ false) }
-        ensures rests { self.old.log.phase ≡ Phase.Idle → result ≡ Ok Phase.Idle }
-        ensures advances { self.old.log.phase ≢ Phase.Idle → (log : LogState) × Advances D.states D.failures D.honest self.old.log log self.old.disk self.new.disk result }
+        requires moves { self.old.log.phase ≢ Phase.Idle }
+        requires alone { self.old.next ≡ None }
+        ensures advances { (log : LogState) × Advances D.states D.failures D.honest self.old.log log self.old.disk self.new.disk result }
         ensures ok { OnOk result ((logs_of self.new ≡ ended_in self.old.log.phase self.old.log next) × (self.new.is_broken ≡ false)) }
         ensures err { OnErr result ((logs_of self.new ≡ record { newest = record self.old.log { is_broken = true }; next = Some next }) × (self.new.is_broken ≡ true)) }
         ensures same { self.new ≡ record self.old { disk = self.new.disk; log = self.new.log; next = self.new.next; is_broken = self.new.is_broken } }

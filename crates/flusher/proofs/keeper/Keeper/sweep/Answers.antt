@@ -44,7 +44,7 @@ loop-step-preserved g c =
     record {
       next = tt;
       finite = tt;
-      fits = λ done f. e.fits before done (i.fits before done f);
+      fits = λ done f. e.fits done (i.fits done f);
       quiet = quiet_then _ _ _ i.quiet e.quiet;
       seen = sees_then _ _ _ i.seen e.seen;
       same = e.same ∙ ap (λ (k : Keeper g.row.D.Denot). record k { sweeper = c.sweep_step.new.self.sweeper }) i.same;
