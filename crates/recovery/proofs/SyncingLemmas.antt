@@ -1,10 +1,10 @@
 -- Files that are synced one after the other.
-use Rattle.std.proofs.Common.{◌≡◌, ℕ, zero, suc, ◌==◌, ◌<◌, true, false, cond, List, length, refl, sym, ap, subst, arith, ◌∙◌}
+use Rattle.std.proofs.Common.{◌≡◌, ℕ, zero, suc, ◌==◌, ◌<◌, true, false, cond, List, [], ◌∷◌, length, refl, sym, ap, subst, arith, ◌∙◌}
 use Rattle.std.proofs.lemmas.List.{ext_get_or}
 use Rattle.std.proofs.lemmas.Bool.{eqb-true}
 use Rattle.std.proofs.lemmas.Bool.Decides.{nat_tests}
 use mathlib.Core.Path.{fun_ext}
-use Rattle.disk_model.specs.Files.{File, Files, MayLeave, at_rest, now, synced, with_file}
+use Rattle.disk_model.specs.Files.{AllCoherent, File, Files, Leaves, MayLeave, at_rest, now, synced, with_file}
 use Rattle.store_layout.specs.Opening.{Contents}
 use Rattle.gate_log.proofs.Scanning.{same_now}
 use Rattle.recovery.specs.LogReading.{contents_of}
@@ -23,6 +23,13 @@ seen_once n files m = elim (m == n) as (λ b. (m == n) ≡ b → (cond b (synced
   | true ↦ λ e. ap (λ i. (files i).seen) (sym (eqb-true _ _ e))
   | false ↦ λ e. refl
 ] refl
+
+-- what is read is among what a stop may leave
+pub read_is_left : (past : List Files) → AllCoherent past → Leaves (now past) (λ number. (now past number).seen)
+read_is_left [] all number below = record { no_shorter = omega arith; no_longer = omega arith; bytes = λ i. omega arith; same = λ i clear. refl }
+read_is_left (files ∷ past) all number below =
+    let h = all.0 number below in
+    record { no_shorter = h.no_shorter; no_longer = h.no_longer; bytes = h.bytes; same = λ i clear. refl }
 
 abbrev seen_now : List Files → Contents
 seen_now past = λ number. (now past number).seen

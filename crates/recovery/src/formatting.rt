@@ -57,6 +57,7 @@ pub fn format<D: Disk>(alloc: Global, disk: &mut D, stripes: StripeCount) -> Res
     ensures untouched { IfErr result (λ refusal. refusal ≢ Refusal.Failed → SyncsAndLooks D.states D.failures D.honest 2 0 disk.old disk.new) }
     ensures moments { D.honest disk.new → AtStops IsUnformatted (now (D.states disk.old)) → AtEachMoment D.states disk.old disk.new (AtStops IsNewOrUnformatted) }
     ensures ok { OnOk result (D.honest disk.new → AtStops IsNew (now (D.states disk.new))) }
+    ensures reads { OnOk result (D.honest disk.new → IsNew (contents_of D.states disk.new)) }
 {
     sync_files(disk, 2)?;
     if is_formatted(disk)? {
