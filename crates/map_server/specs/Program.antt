@@ -5,7 +5,10 @@ use Rattle.std.specs.FinMap as finite
 use Rattle.ticket_order.specs.declared.record.Record.{Record}
 use Rattle.ticket_order.specs.declared.record.Opening.{Opening}
 use Rattle.stripe_locks.specs.Plays.{joining}
-use Rattle.gate_log.specs.States.{LogState, resumed}
+use Rattle.disk_model.specs.Files.{Files}
+use Rattle.gate_log.specs.States.{LogState}
+use Rattle.recovery.specs.Formatting.{IsFormatted}
+use Rattle.recovery.specs.LogReading.{IsResumed, contents_of}
 use Rattle.wire_frames.specs.declared.requests.Request.{Request}
 use Rattle.map_server.specs.declared.connection.ConnectionError.{ConnectionError}
 use Rattle.map_server.specs.Connection.{Connection}
@@ -26,26 +29,25 @@ pub record MapState : Type 0 where
 abbrev pub nothing_yet : Opening
 nothing_yet = record { first = 0; map = finite.empty }
 
--- An empty map of 16 stripes: its pass has made no step, and the log has its header alone.
+-- An empty map of 16 stripes: its pass has made no step, and its log goes on from the first ticket.
 pub record IsEmpty (map : MapState) : Type 0 where
   pub stripes : map.stripes ≡ 16
   pub pass : map.pass ≡ joining nothing_yet 0
-  pub log : map.log ≡ resumed 0 0 17 0
+  pub log : IsResumed map.log
+  pub committed : map.log.committed ≡ 0
   pub unfailed : map.has_failed ≡ false
 
--- 16 stripes of an empty map, and the keeper's pass, which has made no step
-pub record IsJoined (stripes : ℕ) (pass : Record) : Type 0 where
-  pub count : stripes ≡ 16
-  pub first : pass ≡ joining nothing_yet 0
+-- Why a disk was not made that of an empty map and opened, and how it was left: a device call has failed; or none has, and a checkpoint is
+-- sealed there, or no memory was found.
+pub data CannotOpen {D : Type 0} (states : D → List Files) (failures : D → ℕ) (disk : D) (refusal : Refusal) (left : D) : Type 0 where
+  failed : refusal ≡ refusal_type.Failed → failures left ≡ failures disk + 1 → CannotOpen states failures disk refusal left
+  formatted : refusal ≡ refusal_type.AlreadyFormatted → IsFormatted (contents_of states disk) → failures left ≡ failures disk → CannotOpen states failures disk refusal left
+  forgotten : refusal ≡ refusal_type.NoMemory → failures left ≡ failures disk → CannotOpen states failures disk refusal left
 
--- no memory was found for the stripes, or they had no keeper's pass
-abbrev pub IsUnjoined : Refusal → Type 0
-IsUnjoined refusal = (refusal ≡ refusal_type.NoMemory) ⊎ (refusal ≡ refusal_type.SeatsSpent)
-
--- Why no map was begun over a disk, and how that was left: a device call has failed, or the disk was not used.
-abbrev pub CannotBegin : {D : Type 0} → (D → ℕ) → D → Refusal → D → Type 0
-CannotBegin failures disk refusal left =
-    ((refusal ≡ refusal_type.Failed) × (failures left ≡ failures disk + 1)) ⊎ (IsUnjoined refusal × (left ≡ disk))
+-- why no map was begun over it: for such a reason, or there was no keeper's pass
+abbrev pub CannotBegin : {D : Type 0} → (D → List Files) → (D → ℕ) → D → Refusal → D → Type 0
+CannotBegin states failures disk refusal left =
+    CannotOpen states failures disk refusal left ⊎ ((refusal ≡ refusal_type.SeatsSpent) × (failures left ≡ failures disk))
 
 -- a map that has not failed answered a request so
 pub record Works (before : MapState) (request : Request) (answer : Answer) (after : MapState) : Type 0 where

@@ -1,5 +1,5 @@
 -- What a request that is served leaves of the record of the keeper's pass, which also makes the calls, and of the log.
-use Rattle.std.specs.Prelude.{◌≡◌, ◌⊎◌, ℕ, ◌+◌, ◌<◌, ◌≤◌, Bool, true, false, Ok, Err, List, [], length}
+use Rattle.std.specs.Prelude.{◌≡◌, ◌⊎◌, ℕ, ◌+◌, ◌<◌, ◌≤◌, Bool, true, false, None, Ok, Err, List, length}
 use Rattle.std.specs.List.{Contains}
 use Rattle.disk_model.specs.Files.{Files}
 use Rattle.java_hash.specs.Stripes.{stripe_of}
@@ -21,15 +21,16 @@ use Rattle.wire_frames.specs.declared.requests.Request.{Request}
 use Rattle.wire_frames.specs.declared.requests.Request.TheVariants.{Change, Read}
 use Rattle.map_server.specs.Dialogue.{Answer}
 
--- the keeper and its pass over n stripes, whose log began with them
+-- the keeper and its pass over n stripes
 abbrev pub IsKept : {D : Type 0} → (D → List Files) → (D → Type 0) → ℕ → Keeper D → Record → Type 0
-IsKept states honest n keeper p = (done : List Command) × Fits states honest n [] done keeper p
+IsKept states honest n keeper p = (done : List Command) × Fits states honest n done keeper p
 
 -- between two commits of a keeper that has not failed
 pub record IsIdle {D : Type 0} (keeper : Keeper D) : Type 0 where
   pub working : keeper.is_broken ≡ false
   pub unfailed : keeper.has_failed ≡ false
   pub resting : IsResting keeper.log
+  pub alone : keeper.next ≡ None
   pub still : is_walking keeper.sweeper.walking ≡ false
 
 -- no call was added

@@ -1,22 +1,26 @@
 //! The map in memory: the shared stripes on one thread, and a keeper with its log on a disk.
 ghost use Rattle.std.specs.Prelude.{◌≡◌, ◌≢◌, ◌≤◌, ◌+◌, IfOk, IfErr, OnOk, OnErr, ℕ, None, false, true};
 ghost use Rattle.ticket_order.specs.declared.record.Record.{Record};
-ghost use Rattle.gate_log.specs.States.{IsResting, begun, log_after, resumed};
+ghost use Rattle.gate_log.specs.States.{IsResting, log_after};
 ghost use Rattle.flusher.specs.Fitting.{HasSeenMore, IsBeside, IsQuiet, IsUnused};
 ghost use Rattle.flusher.specs.Keeping.{is_walking};
-ghost use Rattle.stripe_locks.specs.Passes.{recorded, stripe_count, IsPassOf};
-ghost use Rattle.map_server.specs.Program.{CannotBegin, IsEmpty, IsJoined, IsUnjoined};
+ghost use Rattle.recovery.specs.LogReading.{IsResumed};
+ghost use Rattle.stripe_locks.specs.Passes.{begun_with, recorded, stripe_count, IsPassOf};
+ghost use Rattle.stripe_locks.specs.Plays.{joining};
+ghost use Rattle.map_server.specs.Program.{CannotBegin, CannotOpen, IsEmpty, nothing_yet};
 ghost use Rattle.map_server.specs.Served.{AreTaken, CannotCommit, IsCommitted, IsGivenOut, IsIdle, IsKept, IsWithheld, Makes, Refuses, Took, fails};
 
 use crate::calls::Calls;
-use disk_model::Disk;
+use disk_model::{Disk, MemDisk};
 use flusher::{Keeper, committed_were_taken, pass_goes_on, runs_were_taken};
 use gate_log::Phase;
 use java_hash::StripeCount;
 use map_types::{Refusal, Reply};
+use recovery::{format, open};
 use std::alloc::Global;
 use std::marker::Model;
 use std::sync::Wait;
+use store_layout::laws::laws_of_opening;
 use stripe_locks::{Pass, Stripes};
 use ticket_order::{Held, Position, Released, Steps, release, try_call, try_read};
 use wire_frames::Request;
@@ -61,10 +65,12 @@ impl<'a, D: Disk + Drop, R: Wait> Model for Memory<'a, D, R> {
 /// Makes the device call that is due in the log.
 fn advance<D: Disk>(keeper: &mut Keeper<D>) -> Result<(), Refusal>
     requires working { keeper.old.is_broken ≡ false }
+    requires alone { keeper.old.next ≡ None }
     requires due { keeper.old.log.phase ≢ Phase.Idle }
     requires kept { (n : ℕ) × (p : Record) × IsKept D.states D.honest n keeper.old p }
-    ensures ok { OnOk result ((keeper.new.log ≡ log_after keeper.old.log.phase keeper.old.log) × (keeper.new.is_broken ≡ false) × (D.failures keeper.new.disk ≡ D.failures keeper.old.disk)) }
-    ensures err { OnErr result ((keeper.new.is_broken ≡ true) × (D.failures keeper.new.disk ≡ D.failures keeper.old.disk + 1)) }
+    ensures ok { OnOk result ((keeper.new.log ≡ log_after keeper.old.log.phase keeper.old.log) × (keeper.new.is_broken ≡ false)) }
+    ensures err { OnErr result (keeper.new.log.is_broken ≡ true) }
+    ensures alone { keeper.new.next ≡ None }
     ensures kept { (n : ℕ) (p : Record) → IsKept D.states D.honest n keeper.old p → IsKept D.states D.honest n keeper.new p }
     ensures walking { keeper.new.sweeper.walking ≡ keeper.old.sweeper.walking }
     ensures has_failed { keeper.new.has_failed ≡ keeper.old.has_failed }
@@ -78,9 +84,11 @@ fn commit_staged<D: Disk>(keeper: &mut Keeper<D>) -> Result<(), Refusal>
     requires staged { keeper.old.log.phase ≡ Phase.Staged }
     requires ends { keeper.old.log.ending ≡ None }
     requires working { keeper.old.is_broken ≡ false }
+    requires alone { keeper.old.next ≡ None }
     requires kept { (n : ℕ) × (p : Record) × IsKept D.states D.honest n keeper.old p }
     ensures ok { OnOk result (IsResting keeper.new.log × (keeper.new.is_broken ≡ false)) }
-    ensures err { OnErr result (keeper.new.is_broken ≡ true) }
+    ensures err { OnErr result (keeper.new.log.is_broken ≡ true) }
+    ensures alone { keeper.new.next ≡ None }
     ensures kept { (n : ℕ) (p : Record) → IsKept D.states D.honest n keeper.old p → IsKept D.states D.honest n keeper.new p }
     ensures walking { keeper.new.sweeper.walking ≡ keeper.old.sweeper.walking }
     ensures has_failed { keeper.new.has_failed ≡ keeper.old.has_failed }
@@ -236,77 +244,58 @@ fn answer<S: Steps, D: Disk, R: Wait>(
     give_out(rt, steps, keeper, held)
 }
 
-/// Makes the two device calls of the log's header.
-fn write_header<D: Disk>(keeper: &mut Keeper<D>) -> Result<(), Refusal>
-    requires new { keeper.old.log ≡ begun 0 0 }
-    requires working { keeper.old.is_broken ≡ false }
-    requires kept { (n : ℕ) × (p : Record) × IsKept D.states D.honest n keeper.old p }
-    ensures ok { OnOk result ((keeper.new.log ≡ resumed 0 0 17 0) × (keeper.new.is_broken ≡ false)) }
-    ensures err { OnErr result (D.failures keeper.new.disk ≡ D.failures keeper.old.disk + 1) }
-    ensures kept { (n : ℕ) (p : Record) → IsKept D.states D.honest n keeper.old p → IsKept D.states D.honest n keeper.new p }
-    ensures walking { keeper.new.sweeper.walking ≡ keeper.old.sweeper.walking }
-    ensures has_failed { keeper.new.has_failed ≡ keeper.old.has_failed }
+/// Makes the disk that of an empty map of 16 stripes, and opens it.
+fn open_new<D: Disk + Drop>(alloc: Global, disk: D) -> Result<(Keeper<D>, Stripes), (D, Refusal)>
+    ensures idle { IfOk result (λ x. IsIdle x.0) }
+    ensures stripes { IfOk result (λ x. stripe_count x.1 ≡ 16) }
+    ensures log { IfOk result (λ x. IsResumed x.0.log × (x.0.log.committed ≡ (begun_with x.1).first)) }
+    ensures new { IfOk result (λ x. D.honest x.0.disk → begun_with x.1 ≡ nothing_yet) }
+    ensures kept { IfOk result (λ x. (p : Record) → p.opening ≡ begun_with x.1 → IsUnused (begun_with x.1).first p → IsKept D.states D.honest 16 x.0 p) }
+    ensures failures { IfOk result (λ x. D.failures x.0.disk ≡ D.failures disk) }
+    ensures err { IfErr result (λ x. D.honest x.0 → CannotOpen D.states D.failures disk x.1 x.0) }
 {
-    advance(keeper)?;
-    advance(keeper)
-}
-
-/// A keeper over an empty disk, whose log has its header alone; else the disk, of which a call has
-/// failed.
-fn begin<D: Disk + Drop>(alloc: Global, disk: D) -> Result<Keeper<D>, D>
-    ensures idle { IfOk result IsIdle }
-    ensures log { IfOk result (λ keeper. keeper.log ≡ resumed 0 0 17 0) }
-    ensures kept { IfOk result (λ keeper. (n : ℕ) (p : Record) → IsUnused 0 p → IsKept D.states D.honest n keeper p) }
-    ensures err { IfErr result (λ left. D.failures left ≡ D.failures disk + 1) }
-{
-    let mut keeper = Keeper::fresh(alloc, disk, 0);
-    match write_header(&mut keeper) {
-        Ok(()) => Ok(keeper),
-        Err(_refusal) => Err(keeper.into_disk()),
-    }
-}
-
-/// The stripes of an empty map, with the keeper's pass.
-#[derive(Drop)]
-struct Joined {
-    stripes: Stripes,
-    pass: Pass,
-}
-
-/// Makes the stripes of an empty map, and takes the keeper's pass.
-fn join(alloc: Global) -> Result<Joined, Refusal>
-    ensures ok { IfOk result (λ joined. IsJoined (stripe_count joined.stripes) (recorded joined.pass)) }
-    ensures own { IfOk result (λ joined. IsPassOf joined.stripes joined.pass) }
-    ensures err { IfErr result IsUnjoined }
-{
+    laws_of_opening();
     let Some(count) = StripeCount::new(16) else {
         unreachable!()
     };
-    let stripes = Stripes::empty(alloc, count)?;
+    let mut disk = disk;
+    match format(alloc, &mut disk, count) {
+        Ok(()) => open(alloc, disk, count),
+        Err(refusal) => Err((disk, refusal)),
+    }
+}
+
+/// The keeper's pass of the stripes.
+fn keepers_pass(stripes: &Stripes) -> Result<Pass, Refusal>
+    ensures own { IfOk result (λ pass. IsPassOf stripes.now pass) }
+    ensures first { IfOk result (λ pass. recorded pass ≡ joining (begun_with stripes.now) 0) }
+    ensures err { IfErr result (λ refusal. refusal ≡ Refusal.SeatsSpent) }
+{
     let pass = stripes.pass()?;
     if !pass.is_keeper() {
         return Err(Refusal::SeatsSpent);
     }
-    Ok(Joined { stripes, pass })
+    Ok(pass)
 }
 
-impl<'a, D: Disk + Drop, R: Wait> Memory<'a, D, R> {
-    /// An empty map, with a new log on the disk. Refuses with `Failed` exactly where a device call
-    /// fails, which is then the last one. With `NoMemory`, and with `SeatsSpent` where its stripes have
-    /// no keeper's pass, it refuses before it uses the disk. The disk is handed back.
-    pub fn new(rt: &'a R, alloc: Global, disk: D) -> Result<Memory<'a, D, R>, (D, Refusal)>
+impl<'a, R: Wait> Memory<'a, MemDisk, R> {
+    /// An empty map, over a disk in memory that is made that of an empty map and opened. Refuses with
+    /// `AlreadyFormatted` where a checkpoint is sealed there, with `Failed` exactly where a device call
+    /// fails, with `NoMemory`, and with `SeatsSpent` where the stripes have no keeper's pass. The disk is
+    /// handed back.
+    pub fn new(
+        rt: &'a R,
+        alloc: Global,
+        disk: MemDisk,
+    ) -> Result<Memory<'a, MemDisk, R>, (MemDisk, Refusal)>
         ensures empty { IfOk result IsEmpty }
-        ensures err { IfErr result (λ refused. CannotBegin D.failures disk refused.1 refused.0) }
+        ensures err { IfErr result (λ refused. CannotBegin ⟦<MemDisk as Disk>⟧.states ⟦<MemDisk as Disk>⟧.failures disk refused.1 refused.0) }
     {
-        let joined = match join(alloc) {
-            Ok(joined) => joined,
-            Err(refusal) => return Err((disk, refusal)),
+        let (keeper, stripes) = open_new(alloc, disk)?;
+        let pass = match keepers_pass(&stripes) {
+            Ok(pass) => pass,
+            Err(refusal) => return Err((keeper.into_disk(), refusal)),
         };
-        let keeper = match begin(alloc, disk) {
-            Ok(keeper) => keeper,
-            Err(disk) => return Err((disk, Refusal::Failed)),
-        };
-        let Joined { stripes, pass } = joined;
         Ok(Memory {
             rt,
             alloc,

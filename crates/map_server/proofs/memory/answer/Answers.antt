@@ -1,4 +1,4 @@
-use Rattle.std.proofs.Common.{ℕ, [], subst, sym}
+use Rattle.std.proofs.Common.{ℕ, subst, sym}
 use Rattle.map_server.specs.Served.{IsIdle, IsKept}
 use Rattle.map_server.proofs.Releasing.{holds_still, took}
 use Rattle.map_server.proofs.memory.answer.Goals as goal
@@ -6,19 +6,19 @@ use Rattle.map_server.proofs.memory.answer.Goals as goal
 pub make-requires : goal.make-requires
 make-requires g c =
     let k = c.requires.kept in
-    record { free = c.pass_goes_on.ensures.free (g.S.Steps.stripe_count c.args.steps.now) [] k.0 (g.S.Steps.recorded c.args.steps.now) k.1 c.requires.idle.still }
+    record { free = c.pass_goes_on.ensures.free (g.S.Steps.stripe_count c.args.steps.now) k.0 (g.S.Steps.recorded c.args.steps.now) k.1 c.requires.idle.still }
 
 pub give_out-requires-clause-kept : goal.give_out-requires-clause-kept
 give_out-requires-clause-kept g c =
     let k = c.requires.kept in
     subst (λ (m : ℕ). IsKept g.D.Disk.states g.D.Disk.honest m c.args.keeper.now (g.S.Steps.recorded c.make.new.steps)) (sym c.make.ensures.stripes)
-    (k.0, c.pass_goes_on.ensures.fits (g.S.Steps.stripe_count c.args.steps.now) [] k.0 (g.S.Steps.recorded c.args.steps.now) k.1 c.requires.idle.still (g.S.Steps.recorded c.make.new.steps) c.make.ensures.beside c.make.ensures.free)
+    (k.0, c.pass_goes_on.ensures.fits (g.S.Steps.stripe_count c.args.steps.now) k.0 (g.S.Steps.recorded c.args.steps.now) k.1 c.requires.idle.still (g.S.Steps.recorded c.make.new.steps) c.make.ensures.beside c.make.ensures.free)
 
 pub returns-in_err-held-clause-kept : goal.returns-in_err-held-clause-kept
 returns-in_err-held-clause-kept g c =
     let k = c.requires.kept in
     subst (λ (m : ℕ). IsKept g.D.Disk.states g.D.Disk.honest m c.args.keeper.now (g.S.Steps.recorded c.make.new.steps)) (sym c.make.ensures.stripes)
-    (k.0, c.pass_goes_on.ensures.fits (g.S.Steps.stripe_count c.args.steps.now) [] k.0 (g.S.Steps.recorded c.args.steps.now) k.1 c.requires.idle.still (g.S.Steps.recorded c.make.new.steps) c.make.ensures.beside c.make.ensures.free)
+    (k.0, c.pass_goes_on.ensures.fits (g.S.Steps.stripe_count c.args.steps.now) k.0 (g.S.Steps.recorded c.args.steps.now) k.1 c.requires.idle.still (g.S.Steps.recorded c.make.new.steps) c.make.ensures.beside c.make.ensures.free)
 
 pub returns-clause-took : goal.returns-clause-took
 returns-clause-took g c =

@@ -1,4 +1,4 @@
-use Rattle.std.proofs.Common.{rules, ◌≡◌, ◌∙◌, ℕ, [], IfErr, subst, sym, ap}
+use Rattle.std.proofs.Common.{rules, ◌≡◌, ◌∙◌, ℕ, IfErr, subst, sym, ap}
 use Rattle.std.proofs.lemmas.Result.{err_from_is_err_and}
 use Rattle.map_types.specs.declared.refusals.Refusal.TheVariants.{Failed}
 use Rattle.ticket_order.specs.declared.record.Record.{Record}
@@ -43,6 +43,6 @@ returns-clause-kept g c =
     let k = c.make_durable.ensures.kept in
     let commits = subst (λ (q : ℕ). IsCommitted q made p c.make_durable.new.keeper.log) at done.1 in
     let out = found c.args.held.position made p w c.make_durable.new.keeper.log commits c.in-Reply.ensures.released.2 in
-    let free = ap (λ (r : Record). r.holding) out.sees.is ∙ c.pass_goes_on.ensures.free n [] k.0 p k.1 done.0.still in
+    let free = ap (λ (r : Record). r.holding) out.sees.is ∙ c.pass_goes_on.ensures.free n k.0 p k.1 done.0.still in
     subst (λ (m : ℕ). IsKept g.D.Disk.states g.D.Disk.honest m c.make_durable.new.keeper w) (sym c.release.ensures.stripes)
-    (k.0, c.pass_goes_on.ensures.fits n [] k.0 p k.1 done.0.still w (sees p out.durable w out.sees) free)
+    (k.0, c.pass_goes_on.ensures.fits n k.0 p k.1 done.0.still w (sees p out.durable w out.sees) free)
