@@ -6,3 +6,4 @@ pub mod Connections
 pub mod CommandLines
 pub mod Beside
 pub mod Releasing
+pub mod Summaries

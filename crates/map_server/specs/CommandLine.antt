@@ -3,7 +3,6 @@ use Rattle.std.specs.Prelude.{◌≡◌, ◌≢◌, ◌⊎◌, ℕ, true, List, 
 use Rattle.clap.specs.Words.{App, Rule, Text, IsAmong, Kinds, fault_of, new_app, new_rule, subcommand_of, with_rule, with_subcommand}
 use Rattle.clap.specs.Simple.{on_top}
 use Rattle.clap.specs.declared.builder.action.ArgAction.TheVariants.{Set}
-use Rattle.clap.specs.declared.builder.value_parser.ValueParser.TheVariants.{Unsigned}
 use Rattle.map_server.specs.declared.program.Order.{Order}
 use Rattle.map_server.specs.declared.program.Order.TheVariants.{Mem, Init, Check}
 use Rattle.clap.specs.declared.error.kind.ErrorKind.{ErrorKind}
@@ -13,9 +12,9 @@ use Rattle.clap.specs.declared.error.kind.ErrorKind.TheVariants.{DisplayHelp, Di
 abbrev pub directory_rule : Rule
 directory_rule = record (new_rule (codes "DIR")) { required = true; action = Some Set }
 
--- `--stripes S`, a number of 16 bits
+-- `--stripes S`
 abbrev pub stripes_rule : Rule
-stripes_rule = record (new_rule (codes "stripes")) { long = Some (codes "stripes"); action = Some Set; value_names = 1; parser = Some (Unsigned 0 65535) }
+stripes_rule = record (new_rule (codes "stripes")) { long = Some (codes "stripes"); action = Some Set; value_names = 1 }
 
 -- `dchm`, which wants one of its subcommands: `mem`, which takes nothing, `init`, and `check`
 abbrev pub command_line : App

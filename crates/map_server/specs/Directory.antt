@@ -1,6 +1,9 @@
 -- What formatting a directory and checking one print, and what they do to it.
 use Rattle.std.specs.Prelude.{◌≡◌, ◌≢◌, ◌⊎◌, ℕ, ◌+◌, ◌-◌, ◌^◌, min, true, List, ◌++◌, Option, codes, decimal}
 use Rattle.std.specs.FinMap as finite
+use Rattle.std.specs.List.{sum_by}
+use Rattle.map_model.specs.Maps.{Map}
+use Rattle.map_model.specs.Parts.{parts_of}
 use Rattle.std.specs.Io.KnownBytes.{Appends}
 use Rattle.map_types.specs.declared.refusals.Refusal.{Refusal}
 use Rattle.map_types.specs.declared.refusals.Refusal.TheVariants.{AlreadyFormatted, Failed, NoMemory}
@@ -21,13 +24,13 @@ use Rattle.map_server.specs.declared.summary.Counts.{Counts}
 
 -- the line of a directory that was formatted
 abbrev pub formatted_line : ℕ → List ℕ
-formatted_line stripes = codes "formatted " ++ decimal stripes ++ codes "\n"
+formatted_line stripes = codes "formatted " ++ (decimal stripes ++ codes "\n")
 
 -- a line for each number
 abbrev pub summary_text : Summary → List ℕ
 summary_text s =
-    codes "generation " ++ decimal s.generation ++ codes "\nstripes " ++ decimal s.stripes ++ codes "\nprefix " ++ decimal s.prefix
-    ++ codes "\nentries " ++ decimal s.entries ++ codes "\n"
+    codes "generation " ++ (decimal s.generation ++ (codes "\nstripes " ++ (decimal s.stripes ++ (codes "\nprefix " ++ (decimal s.prefix
+    ++ (codes "\nentries " ++ (decimal s.entries ++ codes "\n")))))))
 
 -- The text was written, with status 0; or with status 1 nothing, where no memory was found for it, or a part of it, where the writer failed.
 abbrev pub Prints : List ℕ → Option (List ℕ) → Option (List ℕ) → ℕ → Type 0
@@ -66,6 +69,10 @@ pub record Formats {D : Type 0} (states : D → List Files) (failures : D → �
 
 -- ---- checking
 
+-- how many entries the parts of the map have, which together are the map; the greatest number stands for all that are greater
+abbrev pub entry_count : Map → ℕ
+entry_count m = min (sum_by (λ part. finite.len part) (parts_of 16 m)) (2 ^ 64 - 1)
+
 -- the numbers of what the files hold: of the checkpoint that is used, of the commands, and of the entries of their map
 pub record Summarizes (contents : Contents) (summary : Summary) : Type 0 where
   pub found : Opened
@@ -73,14 +80,14 @@ pub record Summarizes (contents : Contents) (summary : Summary) : Type 0 where
   pub generation : summary.generation ≡ found.checkpoint.generation
   pub stripes : summary.stripes ≡ found.checkpoint.stripes
   pub prefix : summary.prefix ≡ prefix_of found
-  pub entries : summary.entries ≡ min (finite.len (map_of found)) (2 ^ 64 - 1)
+  pub entries : summary.entries ≡ entry_count (map_of found)
 
 -- the numbers of what the files hold, but for the stripes of the checkpoint
 pub record IsCountOf (contents : Contents) (counts : Counts) (found : Opened) : Type 0 where
   pub holds : Holds contents found
   pub generation : counts.generation ≡ found.checkpoint.generation
   pub prefix : counts.prefix ≡ prefix_of found
-  pub entries : counts.entries ≡ min (finite.len (map_of found)) (2 ^ 64 - 1)
+  pub entries : counts.entries ≡ entry_count (map_of found)
 
 -- the disk was opened and nothing was written to it, and this was counted
 pub record IsCounted {D : Type 0} (states : D → List Files) (failures : D → ℕ) (honest : D → Type 0) (old new : D) (counts : Counts) : Type 0 where

@@ -73,19 +73,27 @@ fn cannot_open<E: Write>(alloc: Global, failure: &io::Error, error: &mut E) -> u
     break_off(error)
 }
 
+// The number of stripes that the word names, if that is allowed.
+fn stripes_named(word: &str) -> Option<StripeCount> {
+    match word.parse::<u16>() {
+        Ok(count) => StripeCount::new(count),
+        Err(_) => None,
+    }
+}
+
 /// Makes the directory that of an empty map of so many stripes.
 pub(crate) fn init<F: Files<File = File>, S: Start, W: Write, E: Write>(
     rt: &F,
     alloc: Global,
     start: S,
     directory: &str,
-    stripes: u16,
+    stripes: &str,
     output: &mut W,
     error: &mut E,
 ) -> u8
     ensures { Inits S.Start.files S.Start.left (W.contents output.old) (W.contents output.new) result }
 {
-    let Some(stripes) = StripeCount::new(stripes) else {
+    let Some(stripes) = stripes_named(stripes) else {
         say(error, "S is a power of two from 1 to 256\n");
         return MISUSED;
     };

@@ -10,7 +10,7 @@ use crate::directory::{check, init};
 use crate::exits::{DONE, MISUSED, break_off, refuse, say};
 use crate::memory::Memory;
 use clap::error::ErrorKind;
-use clap::{Arg, ArgAction, ArgMatches, Command, Error, value_parser};
+use clap::{Arg, ArgAction, ArgMatches, Command, Error};
 use disk_model::{MemDisk, Start};
 use map_types::Refusal;
 use std::alloc::{AllocError, Global};
@@ -24,13 +24,18 @@ enum Order<'a> {
     /// Serve the map in memory on the standard streams.
     Mem,
     /// Make the directory that of an empty map.
-    Init { directory: &'a str, stripes: u16 },
+    Init {
+        directory: &'a str,
+        stripes: &'a str,
+    },
     /// Print what the directory stands for.
-    Check { directory: &'a str },
+    Check {
+        directory: &'a str,
+    },
 }
 
 /// The number of stripes where no other is asked for.
-const STRIPES: u16 = 16;
+const STRIPES: &str = "16";
 
 /// The argument that names a directory.
 fn directory<'a>(alloc: Global) -> Arg<'a>
@@ -52,8 +57,9 @@ fn stripes<'a>(alloc: Global) -> Arg<'a>
         .long("stripes")
         .action(ArgAction::Set)
         .value_name("S")
-        .value_parser(value_parser!(u16))
-        .help("How many stripes the map is divided into: a power of two from 1 to 256, 16 if left out")
+        .help(
+            "How many stripes the map is divided into: a power of two from 1 to 256, 16 if left out",
+        )
 }
 
 /// The command lines that are known.
@@ -85,7 +91,7 @@ fn order_in<'a>(matches: &ArgMatches<'a>) -> Order<'a>
     match matches.subcommand() {
         Some(("init", found)) => Order::Init {
             directory: found.get_str("DIR").unwrap_or(""),
-            stripes: found.get_one::<u16>("stripes").unwrap_or(STRIPES),
+            stripes: found.get_str("stripes").unwrap_or(STRIPES),
         },
         Some(("check", found)) => Order::Check {
             directory: found.get_str("DIR").unwrap_or(""),

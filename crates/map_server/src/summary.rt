@@ -40,7 +40,8 @@ impl Summary {
             entries,
         } = *self;
         format!(in alloc;
-            "generation {generation}\nstripes {stripes}\nprefix {prefix}\nentries {entries}\n")
+            "generation {generation}\nstripes {stripes}\nprefix {prefix}\nentries {entries}\n"
+        )
     }
 }
 
@@ -105,10 +106,7 @@ fn stripes_of<D: Disk>(alloc: Global, disk: &mut D, generation: u64) -> Result<u
 }
 
 /// Opens the disk, and sums up what it stands for. It writes nothing. The disk is handed back.
-pub(crate) fn summarize<D: Disk>(
-    alloc: Global,
-    disk: D,
-) -> Result<(D, Summary), (D, Refusal)>
+pub(crate) fn summarize<D: Disk>(alloc: Global, disk: D) -> Result<(D, Summary), (D, Refusal)>
     ensures ok { IfOk result (λ x. IsSummed D.states D.failures D.honest disk x.0 x.1) }
     ensures err { IfErr result (λ x. IsNotOpened D.states D.failures D.honest disk x.0 x.1) }
 {
