@@ -26,7 +26,7 @@ fn print<W: Write, E: Write>(text: &str, output: &mut W, error: &mut E) -> u8
 }
 
 /// Formats the disk, and prints the number of stripes. The line's memory is taken first.
-fn init_disk<D: Disk, W: Write, E: Write>(
+pub(crate) fn init_disk<D: Disk, W: Write, E: Write>(
     alloc: Global,
     disk: &mut D,
     stripes: StripeCount,
@@ -46,7 +46,7 @@ fn init_disk<D: Disk, W: Write, E: Write>(
 }
 
 /// Opens the disk, and then prints what it stands for.
-fn check_disk<D: Disk + Drop, W: Write, E: Write>(
+pub(crate) fn check_disk<D: Disk + Drop, W: Write, E: Write>(
     alloc: Global,
     disk: D,
     output: &mut W,
