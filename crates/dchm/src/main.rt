@@ -1,6 +1,7 @@
 //! The program `dchm`.
 #![tactic(auto)]
 
+use disk_model::Unknown;
 use map_server::dchm;
 use std::process::ExitCode;
 use std::{env, io};
@@ -13,6 +14,14 @@ fn main(rt: HostRuntime) -> io::Result<ExitCode> {
     let mut input = rt.reader();
     let mut output = io::writer(&rt);
     let mut error = rt.stderr();
-    let status = dchm(&rt, rt.alloc(), &words, &mut input, &mut output, &mut error);
+    let status = dchm(
+        &rt,
+        rt.alloc(),
+        Unknown,
+        &words,
+        &mut input,
+        &mut output,
+        &mut error,
+    );
     Ok(ExitCode::from(status))
 }

@@ -45,9 +45,11 @@ impl Start for Unknown {
 
 /// The files `ckpt-a`, `ckpt-b`, `log-a` and `log-b` of a directory, in this order. One that is
 /// absent has length 0. A sync is the system's `fdatasync`, which covers the file's length. What the
-/// files hold is the premise `honest`.
+/// files hold is the premise `honest`. As long as the value lives it holds the system's exclusive lock
+/// on the directory's file `lock`.
 #[derive(Drop)]
 pub struct DirDisk<S: Start> {
+    _lock: File,
     files: [Option<File>; 4],
     past: Past,
     start: PhantomData<S>,
@@ -56,7 +58,9 @@ pub struct DirDisk<S: Start> {
 
 impl<S: Start> DirDisk<S> {
     /// Opens the files that are there. A write to one that is absent fails. `S` stands for what the
-    /// files hold; its value is used up, so that code over any `S` opens one directory.
+    /// files hold; its value is used up, so that code over any `S` opens one directory. The directory is
+    /// locked first: an error comes where it is missing, or where another value or program holds its lock,
+    /// and then none of the four files was touched.
     pub fn open<R: FileSystem<File = File>>(
         rt: &R,
         alloc: Global,
@@ -70,7 +74,8 @@ impl<S: Start> DirDisk<S> {
         open_files(rt, alloc, directory, &how)
     }
 
-    /// The same, but makes the files that are absent. They and their names are on the disk after it.
+    /// The same, but makes the files that are absent once the directory is locked. They and their names
+    /// are on the disk after it.
     pub fn create<R: FileSystem<File = File>>(
         rt: &R,
         alloc: Global,
@@ -93,6 +98,7 @@ fn open_files<R: FileSystem<File = File>, S: Start>(
 ) -> io::Result<DirDisk<S>>
     ensures { IfOk result (λ disk. disk.past.events ≡ []) }
 {
+    let lock = lock_file(rt, format!(in alloc; "{directory}/lock")?)?;
     let files = [
         open_one(rt, how, format!(in alloc; "{directory}/ckpt-a")?)?,
         open_one(rt, how, format!(in alloc; "{directory}/ckpt-b")?)?,
@@ -102,10 +108,20 @@ fn open_files<R: FileSystem<File = File>, S: Start>(
     // The names too are to be there after a stop.
     File::open(rt, directory)?.sync_all()?;
     Ok(DirDisk {
+        _lock: lock,
         files,
         past: Past::new(),
         start: PhantomData,
     })
+}
+
+// Opens the file, or makes it, and locks it. The lock lasts until the file is closed.
+fn lock_file<R: FileSystem<File = File>>(rt: &R, path: String) -> io::Result<File> {
+    let mut how = OpenOptions::new();
+    how.read(true).write(true).create(true);
+    let file = how.open(rt, path.as_str())?;
+    file.try_lock()?;
+    Ok(file)
 }
 
 fn open_one<R: FileSystem<File = File>>(

@@ -200,10 +200,29 @@ fn a_directory_keeps_what_was_synced(rt: HostRuntime) -> Result<(), Fail> {
 #[test]
 fn absent_files_have_length_0(rt: HostRuntime) -> Result<(), Fail> {
     assert!(rt; DirDisk::open(&rt, rt.alloc(), "no_such_directory", Unknown).is_err());
+    assert!(rt; DirDisk::create(&rt, rt.alloc(), "no_such_directory", Unknown).is_err());
+    assert!(rt; fs::metadata(&rt, "no_such_directory").is_err());
     make_directory(&rt, "empty")?;
     let mut disk = DirDisk::open(&rt, rt.alloc(), "empty", Unknown)?;
     assert!(rt; put(&mut disk, 3, 0, b"lost").is_err());
     assert_eq!(rt; disk.len(3)?, 0);
     fs::remove_dir_all(&rt, "empty")?;
+    Ok(())
+}
+
+// The lock is held as long as the first disk lives.
+fn open_beside(rt: &HostRuntime, directory: &str) -> Result<bool, Fail> {
+    let _first = DirDisk::open(rt, rt.alloc(), directory, Unknown)?;
+    Ok(DirDisk::create(rt, rt.alloc(), directory, Unknown).is_ok())
+}
+
+#[test]
+fn a_directory_is_open_once(rt: HostRuntime) -> Result<(), Fail> {
+    make_directory(&rt, "locked")?;
+    assert!(rt; !open_beside(&rt, "locked")?);
+    assert!(rt; fs::metadata(&rt, "locked/ckpt-a").is_err());
+    assert!(rt; DirDisk::create(&rt, rt.alloc(), "locked", Unknown).is_ok());
+    assert!(rt; fs::metadata(&rt, "locked/ckpt-a").is_ok());
+    fs::remove_dir_all(&rt, "locked")?;
     Ok(())
 }

@@ -1,11 +1,14 @@
 -- What the program does with the words of its command line.
-use Rattle.std.proofs.Common.{◌≡◌, ◌⊎◌, ℕ, List, [], ◌∷◌, Option, refl, ◌∙◌, ap, subst, inl, inr, codes}
+use Rattle.std.proofs.Common.{◌≡◌, ◌⊎◌, ℕ, List, [], ◌∷◌, Option, None, Some, refl, sym, ◌∙◌, ap, subst, inl, inr, codes, arith}
 use Rattle.clap.specs.Words.{Text, Kinds, IsAmong}
 use Rattle.clap.specs.declared.error.kind.ErrorKind.{ErrorKind}
 use Rattle.clap.specs.declared.error.kind.ErrorKind.TheVariants.{OutOfMemory}
 use Rattle.clap.proofs.OnLiterals.{clap_on_literals}
-use Rattle.map_server.specs.CommandLine.{faults, Advises, FindsNoMemory}
-use Rattle.map_server.specs.Program.{Serves, Ran}
+use Rattle.disk_model.specs.Files.{Files}
+use Rattle.disk_model.specs.declared.fill.Fill.{Fill}
+use Rattle.map_server.specs.CommandLine.{faults, named_by, Advises, FindsNoMemory}
+use Rattle.map_server.specs.Directory.{Inits, Inspects}
+use Rattle.map_server.specs.Program.{Ran}
 
 pub mem_is_known : (name : Text) → faults (name ∷ codes "mem" ∷ []) ≡ []
 unfolding clap_on_literals
@@ -16,13 +19,49 @@ no_memory : (kinds : Kinds) (fault : ErrorKind) (w0 w1 : Option (List ℕ)) (sta
 no_memory kinds fault w0 w1 status (inl e) a none = subst (λ k. Advises k w0 w1 status) e a
 no_memory kinds fault w0 w1 status (inr h) a none = absurd (let no : IsAmong fault [] = subst (IsAmong fault) none h in no)
 
-pub advised : (words : List Text) (fault : ErrorKind) (r w0 w1 : Option (List ℕ)) (status : ℕ) → (fault ≡ OutOfMemory) ⊎ IsAmong fault (faults words) → Advises fault w0 w1 status → Ran words r r w0 w1 status
-advised words fault r w0 w1 status is a =
-    let unserved : faults words ≡ [] → Serves r r w0 w1 status = λ e.
-    let m : FindsNoMemory w0 w1 status = no_memory (faults words) fault w0 w1 status is a e in
-    inr (refl, m.1, m.0) in
-    record {
-      mem = λ name e. unserved (ap faults e ∙ mem_is_known name);
-      known = unserved;
-      unknown = λ e. (refl, record { fault = fault; is = is; advises = a });
-    }
+pub mem_is_named : (name : Text) → named_by (name ∷ codes "mem" ∷ []) ≡ Some (codes "mem")
+unfolding clap_on_literals
+mem_is_named name = refl
+
+first_code : Option Text → ℕ
+first_code None = 0
+first_code (Some []) = 0
+first_code (Some (code ∷ text)) = code
+
+apart : (name : Option Text) (a b : ℕ) (xs ys : Text) → name ≡ Some (a ∷ xs) → name ≡ Some (b ∷ ys) → a ≡ b
+unfolding first_code
+apart name a b xs ys p q = ap first_code (sym p ∙ q)
+
+module _ (files : Files) (left : ℕ → Fill) (words : List Text) (r w0 w1 : Option (List ℕ)) (status : ℕ) where
+  pub inits : faults words ≡ [] → named_by words ≡ Some (codes "init") → Inits files left w0 w1 status → Ran files left words r r w0 w1 status
+  inits none named done = record {
+    mem = λ name e. let bad = apart (named_by words) 105 109 _ _ named (ap named_by e ∙ mem_is_named name) in absurd (omega arith);
+    known = λ e. record {
+      mem = λ n. let bad = apart (named_by words) 105 109 _ _ named n in absurd (omega arith);
+      init = λ n. (refl, done);
+      check = λ n. let bad = apart (named_by words) 105 99 _ _ named n in absurd (omega arith);
+    };
+    unknown = λ some. absurd (some none);
+  }
+
+  pub checks : faults words ≡ [] → named_by words ≡ Some (codes "check") → Inspects files left w0 w1 status → Ran files left words r r w0 w1 status
+  checks none named done = record {
+    mem = λ name e. let bad = apart (named_by words) 99 109 _ _ named (ap named_by e ∙ mem_is_named name) in absurd (omega arith);
+    known = λ e. record {
+      mem = λ n. let bad = apart (named_by words) 99 109 _ _ named n in absurd (omega arith);
+      init = λ n. let bad = apart (named_by words) 99 105 _ _ named n in absurd (omega arith);
+      check = λ n. (refl, done);
+    };
+    unknown = λ some. absurd (some none);
+  }
+
+  pub advised : (fault : ErrorKind) → (fault ≡ OutOfMemory) ⊎ IsAmong fault (faults words) → Advises fault w0 w1 status → Ran files left words r r w0 w1 status
+  advised fault is a =
+      let wanting : faults words ≡ [] → FindsNoMemory w0 w1 status = λ e. no_memory (faults words) fault w0 w1 status is a e in
+      record {
+        mem = λ name e. let m = wanting (ap faults e ∙ mem_is_known name) in inr (refl, m.1, m.0);
+        known = λ e.
+            let m = wanting e in
+            record { mem = λ n. inr (refl, m.1, m.0); init = λ n. (refl, inr (m.1, inl m.0)); check = λ n. (refl, inr (m.1, m.0)) };
+        unknown = λ e. (refl, record { fault = fault; is = is; advises = a });
+      }

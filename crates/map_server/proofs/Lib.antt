@@ -7,3 +7,4 @@ pub mod CommandLines
 pub mod Beside
 pub mod Releasing
 pub mod NewMaps
+pub mod Summaries

@@ -1,17 +1,40 @@
 -- The command lines that are known, as the library that reads them sees them.
-use Rattle.std.specs.Prelude.{◌≡◌, ◌⊎◌, ℕ, true, List, Option, codes}
-use Rattle.clap.specs.Words.{App, Text, IsAmong, Kinds, fault_of, new_app, with_subcommand}
+use Rattle.std.specs.Prelude.{◌≡◌, ◌≢◌, ◌⊎◌, ℕ, true, List, Option, Some, codes, option_map}
+use Rattle.clap.specs.Words.{App, Rule, Text, IsAmong, Kinds, fault_of, new_app, new_rule, subcommand_of, with_rule, with_subcommand}
 use Rattle.clap.specs.Simple.{on_top}
+use Rattle.clap.specs.declared.builder.action.ArgAction.TheVariants.{Set}
+use Rattle.map_server.specs.declared.program.Order.{Order}
+use Rattle.map_server.specs.declared.program.Order.TheVariants.{Mem, Init, Check}
 use Rattle.clap.specs.declared.error.kind.ErrorKind.{ErrorKind}
 use Rattle.clap.specs.declared.error.kind.ErrorKind.TheVariants.{DisplayHelp, DisplayVersion, OutOfMemory}
 
--- `dchm`, which wants one of its subcommands: `mem`, which takes nothing
+-- the directory's name, which is wanted
+abbrev pub directory_rule : Rule
+directory_rule = record (new_rule (codes "DIR")) { required = true; action = Some Set }
+
+-- `--stripes S`
+abbrev pub stripes_rule : Rule
+stripes_rule = record (new_rule (codes "stripes")) { long = Some (codes "stripes"); action = Some Set; value_names = 1 }
+
+-- `dchm`, which wants one of its subcommands: `mem`, which takes nothing, `init`, and `check`
 abbrev pub command_line : App
-command_line = with_subcommand (on_top (λ s. record s { subcommand_required = true }) (new_app (codes "dchm"))) (new_app (codes "mem")).top
+command_line =
+    with_subcommand (with_subcommand (with_subcommand (on_top (λ s. record s { subcommand_required = true }) (new_app (codes "dchm"))) (new_app (codes "mem")).top)
+    (with_rule (with_rule (new_app (codes "init")) directory_rule) stripes_rule).top) (with_rule (new_app (codes "check")) directory_rule).top
 
 -- what is wrong with the words, the program's name first, or help where they ask for it; nothing where they are known
 abbrev pub faults : List Text → Kinds
 faults words = fault_of command_line words
+
+-- the name of the subcommand that the words name
+abbrev pub named_by : List Text → Option Text
+named_by words = option_map (λ named. named.0) (subcommand_of command_line words)
+
+-- the name of a subcommand and what is asked for belong together
+abbrev pub Asks : Option Text → Order → Type 0
+Asks name Mem = (name ≢ Some (codes "init")) × (name ≢ Some (codes "check"))
+Asks name (Init directory stripes) = name ≡ Some (codes "init")
+Asks name (Check directory) = name ≡ Some (codes "check")
 
 -- no memory was found, and nothing was written to the output
 abbrev pub FindsNoMemory : Option (List ℕ) → Option (List ℕ) → ℕ → Type 0

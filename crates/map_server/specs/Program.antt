@@ -1,5 +1,5 @@
 -- What a run of the program leaves of its streams.
-use Rattle.std.specs.Prelude.{◌≡◌, ◌≢◌, ◌⊎◌, ℕ, ◌+◌, Bool, true, false, List, [], ◌∷◌, Option, Result, Err, MatchResult, codes}
+use Rattle.std.specs.Prelude.{◌≡◌, ◌≢◌, ◌⊎◌, ℕ, ◌+◌, Bool, true, false, List, [], ◌∷◌, Option, Some, Result, Err, MatchResult, codes}
 use Rattle.clap.specs.Words.{Text}
 use Rattle.std.specs.FinMap as finite
 use Rattle.ticket_order.specs.declared.record.Record.{Record}
@@ -16,7 +16,10 @@ use Rattle.map_server.specs.Dialogue.{Answer}
 use Rattle.map_server.specs.Served.{Took, fails}
 use Rattle.map_types.specs.declared.refusals.Refusal.{Refusal}
 use Rattle.map_types.specs.declared.refusals.Refusal.TheVariants as refusal_type
-use Rattle.map_server.specs.CommandLine.{faults, Misuses}
+use Rattle.disk_model.specs.Files.{Files}
+use Rattle.disk_model.specs.declared.fill.Fill.{Fill}
+use Rattle.map_server.specs.CommandLine.{faults, named_by, Misuses}
+use Rattle.map_server.specs.Directory.{Inits, Inspects}
 
 -- a map in memory: the count of stripes, the record of its pass, its log, and whether it has failed
 pub record MapState : Type 0 where
@@ -79,8 +82,15 @@ pub record Dialogues (r0 r1 w0 w1 : Option (List ℕ)) (status : ℕ) : Type 0 w
 abbrev pub Serves : Option (List ℕ) → Option (List ℕ) → Option (List ℕ) → Option (List ℕ) → ℕ → Type 0
 Serves r0 r1 w0 w1 status = Dialogues r0 r1 w0 w1 status ⊎ ((r1 ≡ r0) × (w1 ≡ w0) × (status ≡ 1))
 
--- The map is served for the words that are known, those of `dchm mem` among them; for other words nothing is read.
-pub record Ran (words : List Text) (r0 r1 w0 w1 : Option (List ℕ)) (status : ℕ) : Type 0 where
+-- What was asked for by this name was done.
+pub record Obeys (files : Files) (left : ℕ → Fill) (name : Option Text) (r0 r1 w0 w1 : Option (List ℕ)) (status : ℕ) : Type 0 where
+  pub mem : name ≡ Some (codes "mem") → Serves r0 r1 w0 w1 status
+  pub init : name ≡ Some (codes "init") → (r1 ≡ r0) × Inits files left w0 w1 status
+  pub check : name ≡ Some (codes "check") → (r1 ≡ r0) × Inspects files left w0 w1 status
+
+-- For words that are known it is done what they name, and for those of `dchm mem` the map is served; for other words nothing is read. The files held this at first, and
+-- writes that broke left that to be read.
+pub record Ran (files : Files) (left : ℕ → Fill) (words : List Text) (r0 r1 w0 w1 : Option (List ℕ)) (status : ℕ) : Type 0 where
   pub mem : (name : Text) → words ≡ name ∷ codes "mem" ∷ [] → Serves r0 r1 w0 w1 status
-  pub known : faults words ≡ [] → Serves r0 r1 w0 w1 status
+  pub known : faults words ≡ [] → Obeys files left (named_by words) r0 r1 w0 w1 status
   pub unknown : faults words ≢ [] → (r1 ≡ r0) × Misuses (faults words) w0 w1 status

@@ -3,8 +3,11 @@
 
 pub mod calls;
 pub mod connection;
+mod directory;
+mod exits;
 pub mod memory;
 pub mod program;
+mod summary;
 #[cfg(test)]
 mod tests;
 

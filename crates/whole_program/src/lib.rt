@@ -1,10 +1,12 @@
 //! Tests of the whole program: its table of bytes however cut, its command line, failing streams and
-//! disks, the map that it serves beside the plain program of the model, and a keeper over shared
-//! stripes.
+//! disks, the map that it serves beside the plain program of the model, directories that it formats and
+//! checks, and a keeper over shared stripes.
 #![tactic(auto)]
 
 #[cfg(test)]
 mod dice;
+#[cfg(test)]
+mod directories;
 #[cfg(test)]
 mod journal;
 #[cfg(test)]

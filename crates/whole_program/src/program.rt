@@ -1,4 +1,5 @@
 //! The program over its words and its streams.
+use disk_model::Unknown;
 use map_server::dchm;
 use std::alloc::{AllocError, Global};
 use std::io;
@@ -48,7 +49,7 @@ const WAS_ABSENT_NOW_FIVE: &[u8] =
 
 const UNREADABLE: &[u8] = b"unreadable\n";
 
-fn words_of(alloc: Global, texts: &[&str]) -> Result<Vec<String>, AllocError> {
+pub(crate) fn words_of(alloc: Global, texts: &[&str]) -> Result<Vec<String>, AllocError> {
     let mut words = Vec::new(alloc);
     for text in texts {
         words.push(String::from_str(alloc, text)?)?;
@@ -68,7 +69,15 @@ fn table_in_pieces(rt: HostRuntime) -> Result<(), Fail> {
         };
         let mut output = Vec::new(alloc);
         let mut error = Vec::new(alloc);
-        let status = dchm(&rt, alloc, &words, &mut input, &mut output, &mut error);
+        let status = dchm(
+            &rt,
+            alloc,
+            Unknown,
+            &words,
+            &mut input,
+            &mut output,
+            &mut error,
+        );
         assert_eq!(rt; status, 0);
         assert_eq!(rt;
             output.as_slice(),
@@ -92,7 +101,15 @@ fn streams_that_fail(rt: HostRuntime) -> Result<(), Fail> {
     let mut output = Vec::new(alloc);
     let mut error = Vec::new(alloc);
     assert_eq!(rt;
-        dchm(&rt, alloc, &words, &mut input, &mut output, &mut error),
+        dchm(
+            &rt,
+            alloc,
+            Unknown,
+            &words,
+            &mut input,
+            &mut output,
+            &mut error
+        ),
         1
     );
     assert_eq!(rt; output.as_slice(), WAS_ABSENT_NOW_FIVE);
@@ -100,7 +117,15 @@ fn streams_that_fail(rt: HostRuntime) -> Result<(), Fail> {
     let mut rest = PUT_AND_GET;
     let mut error = Vec::new(alloc);
     assert_eq!(rt;
-        dchm(&rt, alloc, &words, &mut rest, &mut Closed, &mut error),
+        dchm(
+            &rt,
+            alloc,
+            Unknown,
+            &words,
+            &mut rest,
+            &mut Closed,
+            &mut error
+        ),
         1
     );
     assert_eq!(rt; error.as_slice(), UNREADABLE);
@@ -116,7 +141,15 @@ fn command_lines_not_known(rt: HostRuntime) -> Result<(), Fail> {
         let mut output = Vec::new(alloc);
         let mut error = Vec::new(alloc);
         assert_eq!(rt;
-            dchm(&rt, alloc, &words, &mut input, &mut output, &mut error),
+            dchm(
+                &rt,
+                alloc,
+                Unknown,
+                &words,
+                &mut input,
+                &mut output,
+                &mut error
+            ),
             2
         );
         assert!(rt; output.is_empty());
@@ -134,7 +167,15 @@ fn help_is_no_mistake(rt: HostRuntime) -> Result<(), Fail> {
         let mut output = Vec::new(alloc);
         let mut error = Vec::new(alloc);
         assert_eq!(rt;
-            dchm(&rt, alloc, &words, &mut input, &mut output, &mut error),
+            dchm(
+                &rt,
+                alloc,
+                Unknown,
+                &words,
+                &mut input,
+                &mut output,
+                &mut error
+            ),
             0
         );
         assert!(rt; !output.is_empty());

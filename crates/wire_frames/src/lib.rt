@@ -8,5 +8,5 @@ pub mod requests;
 mod tests;
 
 pub use feeder::{Feeder, every_division, one_division};
-pub use replies::write_reply;
+pub use replies::{write_reply, write_whole};
 pub use requests::{Request, read_request, requests_agree};

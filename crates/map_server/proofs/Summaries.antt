@@ -1,0 +1,88 @@
+-- The numbers of a directory.
+use Rattle.std.proofs.Common.{◌≡◌, ℕ, zero, suc, ◌%◌, ◌==◌, ◌∙◌, cond, true, false, None, List, [], ◌∷◌, map, sum_by, inl, inr, ap, sum, subst, sym, refl, arith}
+use Rattle.std.proofs.lemmas.Bool.{eqb-true}
+use Rattle.std.proofs.lemmas.List.Sums.{sum-map}
+use mathlib.Core.Path.{fun_ext}
+use Rattle.std.specs.FinMap as finite
+use Rattle.map_types.specs.declared.refusals.Refusal.{Refusal}
+use Rattle.map_model.specs.Maps.{Map}
+use Rattle.map_model.specs.Parts.{parts_of}
+use Rattle.atomic_methods.specs.PartState.{PartState}
+use Rattle.disk_model.specs.Calls.{Looks}
+use Rattle.disk_model.specs.Files.{Files, now, synced, with_file}
+use Rattle.log_records.specs.Layout.{IsLayout, first_layout}
+use Rattle.store_layout.specs.Checkpoints.{Checkpoint, IsCheckpoint, is_sealed}
+use Rattle.store_layout.specs.Faults.{head_fault}
+use Rattle.store_layout.specs.Opening.{Contents, Opened, Holds}
+use Rattle.store_layout.proofs.CheckpointFields.{has_head, never_bad, one_checkpoint, sealed}
+use Rattle.checkpoint_file.specs.Loads.{IsUnloadable}
+use Rattle.gate_log.proofs.Scanning.{looks_on, same_now}
+use Rattle.recovery.specs.Dividing.{IsDivided}
+use Rattle.recovery.specs.LogReading.{contents_of}
+use Rattle.recovery.specs.Syncing.{SyncsAndLooks, states_synced}
+
+-- ---- entries
+
+map-twice : (parts : List PartState) → map (λ (m : Map). finite.len m) (map (λ (part : PartState). part.map) parts) ≡ map (λ (part : PartState). finite.len part.map) parts
+map-twice [] = refl
+map-twice (part ∷ parts) = ap (λ (ns : List ℕ). finite.len part.map ∷ ns) (map-twice parts)
+
+pub entries_are : (n : ℕ) → n ≡ 16 → (m : Map) (parts : List PartState) → IsDivided n m parts
+    → sum_by (λ (part : PartState). finite.len part.map) parts ≡ sum_by (λ (part : Map). finite.len part) (parts_of 16 m)
+entries_are n is m parts divided =
+    sym (sum-map (λ (part : PartState). finite.len part.map) parts) ∙ ap sum (sym (map-twice parts))
+    ∙ sum-map (λ (part : Map). finite.len part) (map (λ (part : PartState). part.map) parts)
+    ∙ ap (λ (ms : List Map). sum_by (λ (part : Map). finite.len part) ms) (divided.maps ∙ ap (λ (k : ℕ). parts_of k m) is)
+
+-- ---- the checkpoint that is used
+
+first_is_layout : IsLayout first_layout
+first_is_layout = omega arith
+
+module _ (contents : Contents) (found : Opened) (generation : ℕ) (same : found.checkpoint.generation ≡ generation) (holds : Holds contents found) where
+  checkpoint : IsCheckpoint first_layout found.checkpoint (contents (generation % 2))
+  checkpoint = subst (λ (n : ℕ). IsCheckpoint first_layout found.checkpoint (contents (n % 2))) same holds.checkpoint
+
+  pub is_there : is_sealed (contents (generation % 2)) ≡ true
+  is_there = sealed first_layout found.checkpoint (contents (generation % 2)) checkpoint
+
+  pub same_stripes : (k : Checkpoint) → IsCheckpoint first_layout k (contents (generation % 2)) → k.stripes ≡ found.checkpoint.stripes
+  same_stripes k is = ap (λ (c : Checkpoint). c.stripes) (one_checkpoint first_layout first_is_layout k found.checkpoint (contents (generation % 2)) is checkpoint)
+
+  pub is_loadable : (refusal : Refusal) → IsUnloadable (generation % 2) (contents (generation % 2)) refusal → ⊥
+  is_loadable refusal (inl head) =
+      let none : head_fault (generation % 2) (contents (generation % 2)) ≡ None =
+      has_head first_layout found.checkpoint (contents (generation % 2)) checkpoint (generation % 2) (ap (λ (n : ℕ). n % 2) same) in absurd (cc)
+  is_loadable refusal (inr bad) = never_bad first_layout first_is_layout (generation % 2) (contents (generation % 2)) found.checkpoint refusal checkpoint bad.2
+
+-- ---- looking on
+
+abbrev seen_now : List Files → Contents
+seen_now past = λ number. (now past number).seen
+
+seen_once : (n : ℕ) (files : Files) (m : ℕ) → (with_file n (synced (files n)) files m).seen ≡ (files m).seen
+seen_once n files m = elim (m == n) as (λ b. (m == n) ≡ b → (cond b (synced (files n)) (files m)).seen ≡ (files m).seen) [
+  | true ↦ λ e. ap (λ i. (files i).seen) (sym (eqb-true _ _ e))
+  | false ↦ λ e. refl
+] refl
+
+-- after syncs each file reads as before
+seen_synced : (count : ℕ) (past : List Files) → seen_now (states_synced count past) ≡ seen_now past
+seen_synced zero past = refl
+seen_synced (suc n) past =
+    let once : seen_now (states_synced (suc n) past) ≡ seen_now (states_synced n past) = fun_ext (λ m. seen_once n (now (states_synced n past)) m) in
+    once ∙ seen_synced n past
+
+module _ {D : Type 0} (states : D → List Files) (failures : D → ℕ) (honest : D → Type 0) where
+  pub same_after : (old new : D) → SyncsAndLooks states failures honest 4 0 old new → contents_of states new ≡ contents_of states old
+  same_after old new is =
+      let looked : contents_of states new ≡ contents_of states is.mid = ap {B = Contents} (λ (files : Files) (n : ℕ). (files n).seen) (same_now states failures honest 0 is.mid new is.looks) in
+      let synced_all : contents_of states is.mid ≡ seen_now (states_synced 4 (states old)) = ap {B = Contents} seen_now is.synced.states_are in
+      looked ∙ (synced_all ∙ seen_synced 4 (states old))
+
+  pub looks_further : (failed : ℕ) (old mid new : D) → SyncsAndLooks states failures honest 4 0 old mid → Looks states failures honest failed mid new → SyncsAndLooks states failures honest 4 failed old new
+  looks_further failed old mid new is more = record {
+    mid = is.mid;
+    synced = is.synced;
+    looks = looks_on states failures honest failed is.mid mid new is.looks more;
+  }

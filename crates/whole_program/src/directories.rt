@@ -1,0 +1,178 @@
+//! Directories of the system: the program formats and checks them, and they are opened again.
+use crate::program::words_of;
+use disk_model::{DirDisk, Unknown};
+use java_hash::StripeCount;
+use map_server::dchm;
+use map_types::Refusal;
+use recovery::open_parts;
+use std::fs;
+use std::fs::File;
+use std::rt::Files;
+use std::sync::Wait;
+use std::test::Fail;
+
+/// What a run of the program left.
+#[derive(Drop)]
+struct Ended {
+    status: u8,
+    output: Vec<u8>,
+    error: Vec<u8>,
+}
+
+impl Ended {
+    fn is(&self, status: u8, output: &[u8], error: &[u8]) -> bool {
+        self.status == status && self.output.as_slice() == output && self.error.as_slice() == error
+    }
+}
+
+fn run<R: Wait + Files<File = File> + AllocGlobal>(rt: &R, texts: &[&str]) -> Result<Ended, Fail> {
+    let alloc = rt.alloc();
+    let words = words_of(alloc, texts)?;
+    let mut input = b"unread".as_slice();
+    let mut output = Vec::new(alloc);
+    let mut error = Vec::new(alloc);
+    let status = dchm(
+        rt,
+        alloc,
+        Unknown,
+        &words,
+        &mut input,
+        &mut output,
+        &mut error,
+    );
+    Ok(Ended {
+        status,
+        output,
+        error,
+    })
+}
+
+fn ends<R: Wait + Files<File = File> + AllocGlobal>(
+    rt: &R,
+    texts: &[&str],
+    status: u8,
+    output: &[u8],
+    error: &[u8],
+) -> Result<bool, Fail> {
+    let ended = run(rt, texts)?;
+    Ok(ended.is(status, output, error))
+}
+
+fn make_directory(rt: &HostRuntime, directory: &str) -> Result<(), Fail> {
+    let _ = fs::remove_dir_all(rt, directory);
+    fs::create_dir(rt, directory)?;
+    Ok(())
+}
+
+fn length_of(rt: &HostRuntime, path: &str) -> Result<u64, Fail> {
+    Ok(fs::metadata(rt, path)?.len())
+}
+
+const EMPTY: &[u8] = b"generation 0\nstripes 16\nprefix 0\nentries 0\n";
+
+const UNREADABLE: &[u8] = b"unreadable\n";
+
+#[test]
+fn a_directory_is_formatted_once(rt: HostRuntime) -> Result<(), Fail> {
+    make_directory(&rt, "once")?;
+    let init = ["dchm", "init", "once"];
+    assert!(rt; ends(&rt, &init, 0, b"formatted 16\n", b"")?);
+    assert_eq!(rt; length_of(&rt, "once/ckpt-a")?, 228);
+    assert_eq!(rt; length_of(&rt, "once/ckpt-b")?, 0);
+    assert_eq!(rt; length_of(&rt, "once/log-a")?, 18);
+    assert_eq!(rt; length_of(&rt, "once/log-b")?, 0);
+    assert!(rt; ends(&rt, &["dchm", "check", "once"], 0, EMPTY, b"")?);
+    assert!(rt; ends(&rt, &init, 1, b"", b"refused 15 AlreadyFormatted\n")?);
+    fs::remove_dir_all(&rt, "once")?;
+    Ok(())
+}
+
+/// The log of one `Put "a" 5`.
+const LOG: [u8; 48] = [
+    1, 0, 0, 0, 0, 0, 0, 0, 0, 0, 0, 0, 0, 0, 0, 0, 0, 0xA5, 1, 0, 0, 0, 24, 0, 0, 0, 0, 0, 0, 0,
+    0, 0, 0, 0, 1, 16, 1, 0x61, 1, 0, 0, 0, 0, 0, 0, 0, 5, 0,
+];
+
+// How many commands are committed, how many parts there are, and how many entries they have.
+fn opened(
+    rt: &HostRuntime,
+    directory: &str,
+    stripes: StripeCount,
+) -> Result<(u64, usize, usize), Fail> {
+    let alloc = rt.alloc();
+    let disk = DirDisk::open(rt, alloc, directory, Unknown)?;
+    match open_parts(alloc, disk, stripes) {
+        Ok((_, parts, first)) => {
+            let mut entries = 0usize;
+            for part in &parts {
+                entries = entries.saturating_add(part.len());
+            }
+            Ok((first, parts.len(), entries))
+        }
+        Err((_, refusal)) => Err(Fail::from(refusal)),
+    }
+}
+
+#[test]
+fn another_number_of_stripes(rt: HostRuntime) -> Result<(), Fail> {
+    make_directory(&rt, "other")?;
+    let init = ["dchm", "init", "other", "--stripes", "2"];
+    assert!(rt; ends(&rt, &init, 0, b"formatted 2\n", b"")?);
+    fs::write(&rt, "other/log-a", LOG.as_slice())?;
+    let one = b"generation 0\nstripes 2\nprefix 1\nentries 1\n";
+    assert!(rt; ends(&rt, &["dchm", "check", "other"], 0, one, b"")?);
+    let four = StripeCount::new(4).ok_or(Refusal::WrongPhase)?;
+    assert_eq!(rt; opened(&rt, "other", four)?, (1, 4, 1));
+    fs::remove_dir_all(&rt, "other")?;
+    Ok(())
+}
+
+// Both programs while the lock is held.
+fn held<R: Wait + Files<File = File> + AllocGlobal>(rt: &R, directory: &str) -> Result<bool, Fail> {
+    let _disk = DirDisk::open(rt, rt.alloc(), directory, Unknown)?;
+    let init = ends(rt, &["dchm", "init", directory], 1, b"", UNREADABLE)?;
+    let check = ends(rt, &["dchm", "check", directory], 1, b"", UNREADABLE)?;
+    Ok(init && check)
+}
+
+#[test]
+fn a_directory_in_use(rt: HostRuntime) -> Result<(), Fail> {
+    make_directory(&rt, "used")?;
+    assert!(rt; held(&rt, "used")?);
+    assert!(rt; fs::metadata(&rt, "used/ckpt-a").is_err());
+    assert!(rt; ends(&rt, &["dchm", "init", "used"], 0, b"formatted 16\n", b"")?);
+    assert!(rt; held(&rt, "used")?);
+    assert!(rt; ends(&rt, &["dchm", "check", "used"], 0, EMPTY, b"")?);
+    fs::remove_dir_all(&rt, "used")?;
+    Ok(())
+}
+
+#[test]
+fn no_directory(rt: HostRuntime) -> Result<(), Fail> {
+    assert!(rt; ends(&rt, &["dchm", "init", "nowhere"], 1, b"", UNREADABLE)?);
+    assert!(rt; ends(&rt, &["dchm", "check", "nowhere"], 1, b"", UNREADABLE)?);
+    assert!(rt; fs::metadata(&rt, "nowhere").is_err());
+    Ok(())
+}
+
+#[test]
+fn a_directory_not_formatted(rt: HostRuntime) -> Result<(), Fail> {
+    make_directory(&rt, "bare")?;
+    let refused = b"refused 11 NotFormatted\n";
+    assert!(rt; ends(&rt, &["dchm", "check", "bare"], 1, b"", refused)?);
+    assert!(rt; fs::metadata(&rt, "bare/ckpt-a").is_err());
+    fs::remove_dir_all(&rt, "bare")?;
+    Ok(())
+}
+
+// A word that isn't allowed is told before the directory is looked at.
+#[test]
+fn numbers_of_stripes_not_allowed(rt: HostRuntime) -> Result<(), Fail> {
+    for stripes in ["3", "0", "512", "x", ""] {
+        let ended = run(&rt, &["dchm", "init", "nowhere", "--stripes", stripes])?;
+        assert_eq!(rt; ended.status, 2);
+        assert!(rt; ended.output.is_empty());
+        assert!(rt; !ended.error.is_empty());
+    }
+    Ok(())
+}
