@@ -7,8 +7,8 @@ use std::sync::Wait;
 use std::test::Fail;
 use wire_frames::Request;
 
-/// A new log's header is written and synced.
-const HEADER_CALLS: u64 = 2;
+/// More device calls than are made before the first change.
+const MANY: u64 = 100;
 
 /// A change's frame is written and synced, and so is its gate.
 const CHANGE_CALLS: u64 = 4;
@@ -57,19 +57,32 @@ fn put_status<R: Wait>(memory: &mut Memory<MemDisk, R>, alloc: Global, number: i
     }
 }
 
-#[test]
-fn no_header(rt: HostRuntime) {
-    for after in 0..HEADER_CALLS {
-        let memory = begun(&rt, rt.alloc(), failing_disk(rt.alloc(), after));
-        assert_eq!(rt; status(memory), 9);
+// How many device calls are made before the first change. Where one of them fails the map is not begun,
+// and the refusal is 9: else the answer is `MANY`.
+fn first_calls<R: Wait>(rt: &R, alloc: Global) -> u64 {
+    for after in 0..MANY {
+        match status(begun(rt, alloc, failing_disk(alloc, after))) {
+            0 => return after,
+            9 => {}
+            _ => return MANY,
+        }
     }
+    MANY
+}
+
+// A directory is formatted by 13 calls, and opened by 4 syncs and reads.
+#[test]
+fn a_failure_before_the_first_change(rt: HostRuntime) {
+    let calls = first_calls(&rt, rt.alloc());
+    assert!(rt; calls > 17 && calls < MANY, "{calls}");
 }
 
 #[test]
 fn a_failure_at_each_device_call(rt: HostRuntime) -> Result<(), Refusal> {
     let alloc = rt.alloc();
+    let calls = first_calls(&rt, alloc);
     for call in 0..CHANGE_CALLS {
-        let disk = failing_disk(alloc, HEADER_CALLS + CHANGE_CALLS + call);
+        let disk = failing_disk(alloc, calls.saturating_add(CHANGE_CALLS + call));
         let mut memory = begun(&rt, alloc, disk)?;
         assert_eq!(rt; put_status(&mut memory, alloc, 5), 0);
         assert_eq!(rt; put_status(&mut memory, alloc, 6), 9);
@@ -87,7 +100,9 @@ const WAS_ABSENT_THEN_FAILED: &[u8] = b"\x00\x02\x00\x00\x00\x02\x89\x00";
 #[test]
 fn a_failure_ends_the_connection(rt: HostRuntime) -> Result<(), Fail> {
     let alloc = rt.alloc();
-    let mut memory = begun(&rt, alloc, failing_disk(alloc, HEADER_CALLS + CHANGE_CALLS))?;
+    let calls = first_calls(&rt, alloc);
+    let disk = failing_disk(alloc, calls.saturating_add(CHANGE_CALLS));
+    let mut memory = begun(&rt, alloc, disk)?;
     let mut reader = PUT_TWICE;
     let mut writer = Vec::new(alloc);
     serve_connection(alloc, &mut reader, &mut writer, &mut memory)?;

@@ -10,6 +10,7 @@ use disk_model::{Disk, MemDisk};
 use flusher::{Keeper, committed_were_taken, stops_of_a_keeper};
 use java_hash::StripeCount;
 use map_types::{Change, Command, Key, Question, Read, Refusal, Reply, Value};
+use recovery::{format, open};
 use std::alloc::Global;
 use std::process::Abort;
 use std::sync::Wait;
@@ -27,9 +28,9 @@ fn sixteen<R: Abort>(rt: &R) -> StripeCount
 
 // The first pass of the stripes, which is the keeper's.
 fn keepers_pass(stripes: &Stripes) -> Result<Pass, Refusal>
-    requires first { (begun_with stripes.now).first ≡ 0 }
     ensures own { IfOk result (λ pass. IsPassOf stripes.now pass) }
-    ensures unused { IfOk result (λ pass. IsUnused 0 (recorded pass)) }
+    ensures opening { IfOk result (λ pass. (recorded pass).opening ≡ begun_with stripes.now) }
+    ensures unused { IfOk result (λ pass. IsUnused (begun_with stripes.now).first (recorded pass)) }
 {
     let pass = stripes.pass()?;
     if !pass.is_keeper() {
@@ -38,28 +39,61 @@ fn keepers_pass(stripes: &Stripes) -> Result<Pass, Refusal>
     Ok(pass)
 }
 
-/// Stripes of an empty map, with the keeper's pass and another.
+/// A keeper over a disk, the stripes of its map, with the keeper's pass and another.
 #[derive(Drop)]
 struct Joined {
+    keeper: Keeper<MemDisk>,
     stripes: Stripes,
     pass: Pass,
     worker: Pass,
 }
 
-fn join(alloc: Global, count: StripeCount) -> Result<Joined, Refusal>
+// Makes the disk that of an empty map, and opens it.
+fn open_new(
+    alloc: Global,
+    disk: MemDisk,
+    count: StripeCount,
+) -> Result<(Keeper<MemDisk>, Stripes), Refusal>
+    ensures count { IfOk result (λ x. stripe_count x.1 ≡ count.count) }
+    ensures fits { IfOk result (λ x. (p : Record) → p.opening ≡ begun_with x.1 → IsUnused (begun_with x.1).first p
+        → Fits ⟦<MemDisk as Disk>⟧.states ⟦<MemDisk as Disk>⟧.honest count.count [] x.0 p) }
+{
+    let mut disk = disk;
+    format(alloc, &mut disk, count)?;
+    match open(alloc, disk, count) {
+        Ok(opened) => Ok(opened),
+        Err((_disk, refusal)) => Err(refusal),
+    }
+}
+
+fn join(alloc: Global, disk: MemDisk, count: StripeCount) -> Result<Joined, Refusal>
     ensures count { IfOk result (λ joined. stripe_count joined.stripes ≡ count.count) }
     ensures own { IfOk result (λ joined. IsPassOf joined.stripes joined.pass × IsPassOf joined.stripes joined.worker) }
-    ensures unused { IfOk result (λ joined. IsUnused 0 (recorded joined.pass)) }
+    ensures fits { IfOk result (λ joined. Fits ⟦<MemDisk as Disk>⟧.states ⟦<MemDisk as Disk>⟧.honest (stripe_count joined.stripes) [] joined.keeper (recorded joined.pass)) }
     ensures free { IfOk result (λ joined. (recorded joined.worker).holding ≡ None) }
 {
-    let stripes = Stripes::empty(alloc, count)?;
+    let (keeper, stripes) = open_new(alloc, disk, count)?;
     let pass = keepers_pass(&stripes)?;
     let worker = stripes.pass()?;
     Ok(Joined {
+        keeper,
         stripes,
         pass,
         worker,
     })
+}
+
+/// More device calls than are made before the first batch.
+const MANY: u64 = 100;
+
+// How many device calls are made before the first batch.
+fn first_calls(alloc: Global, count: StripeCount) -> u64 {
+    for after in 0..MANY {
+        if join(alloc, failing_disk(alloc, after), count).is_ok() {
+            return after;
+        }
+    }
+    MANY
 }
 
 fn put(alloc: Global, key: &str, number: i64) -> Result<Command, Refusal> {
@@ -131,27 +165,18 @@ fn make_often(
 
 // Makes so many steps of the log.
 fn advance_times<D: Disk>(keeper: &mut Keeper<D>, times: u32)
-    requires { (n : ℕ) × (p : Record) × (done : List Command) × Fits D.states D.honest n [] done keeper.old p }
-    ensures { (n : ℕ) (p : Record) (done : List Command) → Fits D.states D.honest n [] done keeper.old p → (more : List Command) × Fits D.states D.honest n [] more keeper.new p }
+    requires { (n : ℕ) × (done : List Command) × (p : Record) × Fits D.states D.honest n done keeper.old p }
+    ensures { (n : ℕ) (p : Record) (done : List Command) → Fits D.states D.honest n done keeper.old p → (more : List Command) × Fits D.states D.honest n more keeper.new p }
 {
     for _ in 0..times {
         let _phase = keeper.advance();
     }
 }
 
-// A keeper on a disk of empty files, with its log's header written.
-fn begin<D: Disk + Drop>(alloc: Global, disk: D) -> Keeper<D>
-    ensures { (n : ℕ) (p : Record) → IsUnused 0 p → (done : List Command) × Fits D.states D.honest n [] done result p }
-{
-    let mut keeper = Keeper::fresh(alloc, disk, 0);
-    advance_times(&mut keeper, 2);
-    keeper
-}
-
 // Stages a batch, and makes the four steps that commit it.
 fn commit<D: Disk>(keeper: &mut Keeper<D>) -> Result<u32, Refusal>
-    requires { (n : ℕ) × (p : Record) × (done : List Command) × Fits D.states D.honest n [] done keeper.old p }
-    ensures { (n : ℕ) (p : Record) (done : List Command) → Fits D.states D.honest n [] done keeper.old p → (more : List Command) × Fits D.states D.honest n [] more keeper.new p }
+    requires { (n : ℕ) × (done : List Command) × (p : Record) × Fits D.states D.honest n done keeper.old p }
+    ensures { (n : ℕ) (p : Record) (done : List Command) → Fits D.states D.honest n done keeper.old p → (more : List Command) × Fits D.states D.honest n more keeper.new p }
 {
     let staged = keeper.stage_batch(MOST);
     advance_times(keeper, 4);
@@ -164,8 +189,8 @@ fn sweep_and_commit<D: Disk, R: Wait, S: Steps>(
     keeper: &mut Keeper<D>,
     steps: &mut S,
 ) -> Result<u32, Refusal>
-    requires { (done : List Command) × Fits D.states D.honest (S.stripe_count steps.old) [] done keeper.old (S.recorded steps.old) }
-    ensures { (done : List Command) × Fits D.states D.honest (S.stripe_count steps.new) [] done keeper.new (S.recorded steps.new) }
+    requires { (done : List Command) × Fits D.states D.honest (S.stripe_count steps.old) done keeper.old (S.recorded steps.old) }
+    ensures { (done : List Command) × Fits D.states D.honest (S.stripe_count steps.new) done keeper.new (S.recorded steps.new) }
 {
     let _count = keeper.sweep(rt, steps)?;
     commit(keeper)
@@ -173,16 +198,14 @@ fn sweep_and_commit<D: Disk, R: Wait, S: Steps>(
 
 // Two batches: the length of the first, the gate behind it, and the length of the second, which is
 // staged alone.
-fn stage_twice<D: Disk + Drop, R: Wait, S: Steps>(
+fn stage_twice<D: Disk, R: Wait, S: Steps>(
     rt: &R,
-    alloc: Global,
-    disk: D,
+    keeper: &mut Keeper<D>,
     steps: &mut S,
 ) -> Result<(u32, usize, u32), Refusal>
-    requires { IsUnused 0 (S.recorded steps.old) }
+    requires { (done : List Command) × Fits D.states D.honest (S.stripe_count steps.old) done keeper.old (S.recorded steps.old) }
 {
-    let mut keeper = begin(alloc, disk);
-    let first = sweep_and_commit(rt, &mut keeper, steps)?;
+    let first = sweep_and_commit(rt, keeper, steps)?;
     let gate = keeper.log.gate();
     let second = keeper.stage_batch(MOST)?;
     Ok((first, gate, second))
@@ -196,10 +219,10 @@ fn stage_times<R: Wait>(
     command: &Command,
     times: u64,
 ) -> Result<(u32, usize, u32), Refusal> {
-    let mut joined = join(alloc, count)?;
+    let mut joined = join(alloc, MemDisk::new(alloc), count)?;
     make_often(&joined.stripes, &mut joined.worker, command, times)?;
     let mut steps = joined.stripes.at(&mut joined.pass);
-    stage_twice(rt, alloc, MemDisk::new(alloc), &mut steps)
+    stage_twice(rt, &mut joined.keeper, &mut steps)
 }
 
 #[test]
@@ -221,16 +244,14 @@ fn a_frame_has_1048576_bytes(rt: HostRuntime) -> Result<(), Refusal> {
 }
 
 // Stages what this stripe alone has.
-fn stage_one_stripe<D: Disk + Drop, S: Steps>(
-    alloc: Global,
-    disk: D,
+fn stage_one_stripe<D: Disk, S: Steps>(
+    keeper: &mut Keeper<D>,
     steps: &mut S,
     stripe: usize,
 ) -> Result<u32, Refusal>
-    requires unused { IsUnused 0 (S.recorded steps.old) }
+    requires kept { (done : List Command) × Fits D.states D.honest (S.stripe_count steps.old) done keeper.old (S.recorded steps.old) }
     requires within { stripe < S.stripe_count steps.old }
 {
-    let mut keeper = begin(alloc, disk);
     if keeper.is_walking() {
         return Err(Refusal::WrongPhase);
     }
@@ -252,10 +273,10 @@ fn make_three(stripes: &Stripes, worker: &mut Pass, alloc: Global) -> Result<(),
 fn stage_all_but_the_first(alloc: Global, count: StripeCount) -> Result<u32, Refusal>
     requires { 1 < count.count }
 {
-    let mut joined = join(alloc, count)?;
+    let mut joined = join(alloc, MemDisk::new(alloc), count)?;
     make_three(&joined.stripes, &mut joined.worker, alloc)?;
     let mut steps = joined.stripes.at(&mut joined.pass);
-    stage_one_stripe(alloc, MemDisk::new(alloc), &mut steps, 1)
+    stage_one_stripe(&mut joined.keeper, &mut steps, 1)
 }
 
 #[test]
@@ -271,8 +292,8 @@ fn publish_all<D: Disk, R: Wait, S: Steps>(
     keeper: &mut Keeper<D>,
     steps: &mut S,
 ) -> Result<u32, Refusal>
-    requires { (done : List Command) × Fits D.states D.honest (S.stripe_count steps.old) [] done keeper.old (S.recorded steps.old) }
-    ensures { (done : List Command) × Fits D.states D.honest (S.stripe_count steps.new) [] done keeper.new (S.recorded steps.new) }
+    requires { (done : List Command) × Fits D.states D.honest (S.stripe_count steps.old) done keeper.old (S.recorded steps.old) }
+    ensures { (done : List Command) × Fits D.states D.honest (S.stripe_count steps.new) done keeper.new (S.recorded steps.new) }
 {
     let count = sweep_and_commit(rt, keeper, steps);
     if keeper.is_walking() {
@@ -280,21 +301,6 @@ fn publish_all<D: Disk, R: Wait, S: Steps>(
     }
     keeper.publish(steps);
     count
-}
-
-// A keeper whose log has all that the stripes have, published.
-fn begin_published<D: Disk + Drop, R: Wait, S: Steps>(
-    rt: &R,
-    alloc: Global,
-    disk: D,
-    steps: &mut S,
-) -> Result<Keeper<D>, Refusal>
-    requires { IsUnused 0 (S.recorded steps.old) }
-    ensures { IfOk result (λ keeper. (done : List Command) × Fits D.states D.honest (S.stripe_count steps.new) [] done keeper (S.recorded steps.new)) }
-{
-    let mut keeper = begin(alloc, disk);
-    let _count = publish_all(rt, &mut keeper, steps)?;
-    Ok(keeper)
 }
 
 // Makes a put of 1 and a read, and holds the read's reply.
@@ -327,34 +333,31 @@ fn is_one_at_one(released: &Released) -> bool {
 }
 
 // Releases a reply before and after all that the stripes have is published.
-fn release_in_time<D: Disk + Drop, R: Wait, S: Steps>(
+fn release_in_time<D: Disk, R: Wait, S: Steps>(
     rt: &R,
-    alloc: Global,
-    disk: D,
+    keeper: &mut Keeper<D>,
     steps: &mut S,
     stripes: &Stripes,
     worker: &mut Pass,
     held: Held,
 ) -> Result<Released, Refusal>
-    requires unused { IsUnused 0 (S.recorded steps.old) }
+    requires kept { (done : List Command) × Fits D.states D.honest (S.stripe_count steps.old) done keeper.old (S.recorded steps.old) }
     requires own { IsPassOf stripes.now worker.old }
 {
     let Released::NotYet(held) = stripes.release(worker, held) else {
         return Err(Refusal::TooEarly);
     };
-    drop(begin_published(rt, alloc, disk, steps)?);
+    let _count = publish_all(rt, keeper, steps)?;
     Ok(stripes.release(worker, held))
 }
 
 fn read_in_time<R: Wait>(rt: &R, alloc: Global, count: StripeCount) -> Result<Released, Refusal> {
-    let mut joined = join(alloc, count)?;
+    let mut joined = join(alloc, MemDisk::new(alloc), count)?;
     let held = put_and_read(&joined.stripes, &mut joined.worker, alloc, "k")?;
     let mut steps = joined.stripes.at(&mut joined.pass);
-    let disk = MemDisk::new(alloc);
     release_in_time(
         rt,
-        alloc,
-        disk,
+        &mut joined.keeper,
         &mut steps,
         &joined.stripes,
         &mut joined.worker,
@@ -402,47 +405,43 @@ fn release_all(
 }
 
 // Commits a batch that fails, and makes a FAIL: whether a later commit is refused with 9.
-fn fail_in_commit<D: Disk + Drop, R: Wait, S: Steps>(
+fn fail_in_commit<D: Disk, R: Wait, S: Steps>(
     rt: &R,
-    keeper: Keeper<D>,
+    keeper: &mut Keeper<D>,
     steps: &mut S,
 ) -> bool
-    requires { (done : List Command) × Fits D.states D.honest (S.stripe_count steps.old) [] done keeper (S.recorded steps.old) }
+    requires { (done : List Command) × Fits D.states D.honest (S.stripe_count steps.old) done keeper.old (S.recorded steps.old) }
 {
-    let mut keeper = keeper;
-    let _staged = sweep_and_commit(rt, &mut keeper, steps);
-    let later = commit(&mut keeper);
+    let _staged = sweep_and_commit(rt, keeper, steps);
+    let later = commit(keeper);
     if keeper.is_walking() {
         return false;
     }
     keeper.fail(steps);
-    stops_of_a_keeper(&keeper);
-    committed_were_taken(&keeper);
-    drop(keeper.into_disk());
+    stops_of_a_keeper(keeper);
+    committed_were_taken(keeper);
     matches!(later, Err(Refusal::Failed))
 }
 
 // Five changes that are committed and published, and five that are not.
-fn make_ten<D: Disk + Drop, R: Wait, S: Steps>(
+fn make_ten<D: Disk, R: Wait, S: Steps>(
     rt: &R,
-    alloc: Global,
-    disk: D,
+    keeper: &mut Keeper<D>,
     steps: &mut S,
     stripes: &Stripes,
     worker: &mut Pass,
     command: &Command,
     all: &mut Vec<Held>,
-) -> Result<Keeper<D>, Refusal>
-    requires unused { IsUnused 0 (S.recorded steps.old) }
+) -> Result<(), Refusal>
+    requires kept { (done : List Command) × Fits D.states D.honest (S.stripe_count steps.old) done keeper.old (S.recorded steps.old) }
     requires own { IsPassOf stripes.now worker.old }
     requires free { (recorded worker.old).holding ≡ None }
     ensures own { IsPassOf stripes.now worker.new }
-    ensures kept { IfOk result (λ keeper. (done : List Command) × Fits D.states D.honest (S.stripe_count steps.new) [] done keeper (S.recorded steps.new)) }
+    ensures kept { (done : List Command) × Fits D.states D.honest (S.stripe_count steps.new) done keeper.new (S.recorded steps.new) }
 {
     make_times(stripes, worker, command, 5, all)?;
-    let keeper = begin_published(rt, alloc, disk, steps)?;
-    make_times(stripes, worker, command, 5, all)?;
-    Ok(keeper)
+    let _count = publish_all(rt, keeper, steps)?;
+    make_times(stripes, worker, command, 5, all)
 }
 
 // Whether a new pass of the stripes is refused with 9.
@@ -455,16 +454,16 @@ fn refuses_calls(stripes: &Stripes, alloc: Global) -> Result<bool, Refusal> {
 
 // How many of the replies come, how many wait before a FAIL and how many fail after it; and whether
 // later calls are refused with 9.
-fn release_twice<D: Disk + Drop, R: Wait, S: Steps>(
+fn release_twice<D: Disk, R: Wait, S: Steps>(
     rt: &R,
     alloc: Global,
-    keeper: Keeper<D>,
+    keeper: &mut Keeper<D>,
     steps: &mut S,
     stripes: &Stripes,
     worker: &mut Pass,
     all: Vec<Held>,
 ) -> Result<([usize; 3], bool), Refusal>
-    requires kept { (done : List Command) × Fits D.states D.honest (S.stripe_count steps.old) [] done keeper (S.recorded steps.old) }
+    requires kept { (done : List Command) × Fits D.states D.honest (S.stripe_count steps.old) done keeper.old (S.recorded steps.old) }
     requires own { IsPassOf stripes.now worker.old }
 {
     let before = release_all(stripes, worker, alloc, all)?;
@@ -477,25 +476,25 @@ fn release_twice<D: Disk + Drop, R: Wait, S: Steps>(
 }
 
 // What becomes of ten changes; and whether later calls are refused with 9.
-fn lose_five<D: Disk + Drop, R: Wait, S: Steps>(
+fn lose_five<D: Disk, R: Wait, S: Steps>(
     rt: &R,
     alloc: Global,
-    disk: D,
+    keeper: &mut Keeper<D>,
     steps: &mut S,
     stripes: &Stripes,
     worker: &mut Pass,
     command: &Command,
 ) -> Result<([usize; 3], bool), Refusal>
-    requires unused { IsUnused 0 (S.recorded steps.old) }
+    requires kept { (done : List Command) × Fits D.states D.honest (S.stripe_count steps.old) done keeper.old (S.recorded steps.old) }
     requires own { IsPassOf stripes.now worker.old }
     requires free { (recorded worker.old).holding ≡ None }
 {
     let mut all = Vec::new(alloc);
-    let keeper = make_ten(rt, alloc, disk, steps, stripes, worker, command, &mut all)?;
+    make_ten(rt, keeper, steps, stripes, worker, command, &mut all)?;
     release_twice(rt, alloc, keeper, steps, stripes, worker, all)
 }
 
-// The same, where the call after so many fails.
+// The same, where the device call fails that comes after so many since the opening.
 fn five_and_five<R: Wait>(
     rt: &R,
     alloc: Global,
@@ -503,13 +502,13 @@ fn five_and_five<R: Wait>(
     command: &Command,
     after: u64,
 ) -> Result<([usize; 3], bool), Refusal> {
-    let mut joined = join(alloc, count)?;
+    let after = first_calls(alloc, count).saturating_add(after);
+    let mut joined = join(alloc, failing_disk(alloc, after), count)?;
     let mut steps = joined.stripes.at(&mut joined.pass);
-    let disk = failing_disk(alloc, after);
     lose_five(
         rt,
         alloc,
-        disk,
+        &mut joined.keeper,
         &mut steps,
         &joined.stripes,
         &mut joined.worker,
@@ -521,7 +520,7 @@ fn five_and_five<R: Wait>(
 fn replies_of_a_failed_batch_never_come(rt: HostRuntime) -> Result<(), Refusal> {
     let alloc = rt.alloc();
     let command = put(alloc, "a", 5)?;
-    for after in [7, 9] {
+    for after in [5, 7] {
         let outcome = five_and_five(&rt, alloc, sixteen(&rt), &command, after)?;
         assert!(rt; outcome == ([5, 5, 5], true));
     }
