@@ -1,12 +1,12 @@
 //! The keeper of one store: its disk, its logs, and the entries in hand.
-ghost use Rattle.std.specs.Prelude.{◌||◌, is_some, Result, Ok, ◌≡◌, ◌≢◌, ◌⊎◌, ◌↔◌, ◌+◌, ◌<◌, ◌≤◌, ◌^◌, ℕ, List, Some, None, [], ◌∷◌, ◌++◌, length, true, false, IfOk, IfErr, OnOk, OnErr};
+ghost use Rattle.std.specs.Prelude.{◌≡◌, ◌≢◌, ◌⊎◌, ◌↔◌, ◌||◌, ◌+◌, ◌<◌, ◌≤◌, ◌^◌, ℕ, List, Some, None, is_some, [], ◌∷◌, ◌++◌, length, true, false, Result, Ok, IfOk, IfErr, OnOk, OnErr};
 ghost use Rattle.map_types.specs.declared.commands.Command.{Command};
 ghost use Rattle.ticket_order.specs.declared.record.Record.{Record};
 ghost use Rattle.ticket_order.specs.Records.{failing, publishing};
 ghost use Rattle.ticket_order.specs.Calls.{RefusesSweep};
 ghost use Rattle.ticket_order.specs.Legality.{history_of};
 ghost use Rattle.ticket_order.specs.Walks.{MakesOne, Durable, Fail};
-ghost use Rattle.gate_log.specs.States.{LogState, batch_of, commands_of, log_after, resumed, IsResting};
+ghost use Rattle.gate_log.specs.States.{IsResting, LogState, batch_of, commands_of, resumed};
 ghost use Rattle.gate_log.specs.Standing as log;
 ghost use Rattle.gate_log.specs.Advancing.{Advances, MayAdvance};
 ghost use Rattle.disk_model.specs.Files.{File, now};
