@@ -1,12 +1,11 @@
 -- How a store's four files stand between two device calls while none has failed, and what a stop may leave of them.
 use Rattle.std.specs.Prelude.{◌≡◌, ◌≢◌, ℕ, ◌+◌, ◌≤◌, max, List, [], length, Option, None, Some}
 use Rattle.disk_model.specs.Files.{Contents, File, Files, Leaves, MayLeave, at_rest}
-use Rattle.map_types.specs.declared.commands.Command.{Command}
 use Rattle.map_model.specs.Histories.{History}
 use Rattle.log_records.specs.Layout.{first_layout}
 use Rattle.store_layout.specs.Checkpoints.{Section, Checkpoint, IsCheckpoint, checkpoint_file, greatest_mark}
 use Rattle.store_layout.specs.Logs.{Batch, IsEnded, commands_in, log_file}
-use Rattle.store_layout.specs.Opening.{IsOlder, Opened, StandsForFront, log_of, next_low}
+use Rattle.store_layout.specs.Opening.{IsOlder, StandsForFront, log_of, next_low}
 use Rattle.store_layout.specs.Standing.{AreMarks, AreParts, IsLogOf, IsNextOf, Restores, reach}
 use Rattle.checkpoint_file.specs.Standing as checkpoint
 use Rattle.checkpoint_file.specs.States.{CheckpointState}
@@ -74,11 +73,20 @@ HasNextLog None None = ⊥
 HasNextLog None (Some second) = Unit {0}
 HasNextLog (Some next) second = Unit {0}
 
+-- it has begun and is not over, and its gate is not opened before its log is there
+abbrev pub IsUnderWay : CheckpointPhase → Option LogState → Type 0
+IsUnderWay checkpoint_phase.Idle next = ⊥
+IsUnderWay checkpoint_phase.Sealed next = ⊥
+IsUnderWay checkpoint_phase.HeaderSynced next = next ≡ None
+IsUnderWay checkpoint_phase.Opened next = next ≡ None
+IsUnderWay _ next = Unit {0}
+
 -- the checkpoint that is written, and its file
 pub record Writes (w : CheckpointState) (store : StoreState) (held : Held) (file : File) : Type 0 where
   pub generation : w.generation ≡ store.sealed + 1
   pub low : w.low ≡ low_after store.log store.next
   pub has_log : HasNextLog store.next held.found.second
+  pub under_way : IsUnderWay w.phase store.next
   pub stands : checkpoint.Stands w held.other held.sections file
 
 -- none is written, and nothing is pending in its file; or one is
