@@ -1,0 +1,4 @@
+pub mod Contents
+pub mod Logs
+pub mod Stops
+pub mod Moments

@@ -74,11 +74,20 @@ HasNextLog None None = ⊥
 HasNextLog None (Some second) = Unit {0}
 HasNextLog (Some next) second = Unit {0}
 
+-- it has begun and is not over, and its gate is not opened before its log is there
+abbrev pub IsUnderWay : CheckpointPhase → Option LogState → Type 0
+IsUnderWay checkpoint_phase.Idle next = ⊥
+IsUnderWay checkpoint_phase.Sealed next = ⊥
+IsUnderWay checkpoint_phase.HeaderSynced next = next ≡ None
+IsUnderWay checkpoint_phase.Opened next = next ≡ None
+IsUnderWay _ next = Unit {0}
+
 -- the checkpoint that is written, and its file
 pub record Writes (w : CheckpointState) (store : StoreState) (held : Held) (file : File) : Type 0 where
   pub generation : w.generation ≡ store.sealed + 1
   pub low : w.low ≡ low_after store.log store.next
   pub has_log : HasNextLog store.next held.found.second
+  pub under_way : IsUnderWay w.phase store.next
   pub stands : checkpoint.Stands w held.other held.sections file
 
 -- none is written, and nothing is pending in its file; or one is
