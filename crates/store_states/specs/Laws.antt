@@ -1,12 +1,12 @@
 -- Laws of stores: what a stop leaves between two device calls and at every moment of one, and how a store stands after each step.
-use Rattle.std.specs.Prelude.{◌≡◌, ◌≢◌, ◌⊎◌, ℕ, ◌+◌, ◌<◌, ◌≤◌, max, Bool, List, [], ◌∷◌, ◌++◌, length, None, Some}
+use Rattle.std.specs.Prelude.{◌≡◌, ◌≢◌, ℕ, ◌+◌, ◌<◌, ◌≤◌, max, Bool, List, [], ◌∷◌, ◌++◌, length, None, Some}
 use Rattle.disk_model.specs.Files.{Contents, File, Files, Leaves, at_rest, with_file}
 use Rattle.map_types.specs.declared.commands.Command.{Command}
 use Rattle.map_types.specs.declared.texts.Value.{Value}
 use Rattle.map_model.specs.Histories.{History, fold_to}
 use Rattle.map_model.specs.Parts.{part_of}
 use Rattle.store_layout.specs.Checkpoints.{Section, checkpoint_file, greatest_mark}
-use Rattle.store_layout.specs.Logs.{Batch, commands_in, log_file}
+use Rattle.store_layout.specs.Logs.{Batch, log_file}
 use Rattle.store_layout.specs.Opening.{Opened, Holds, map_of, newest_of, prefix_of}
 use Rattle.store_layout.specs.Standing.{IsNextOf, grown, reach}
 use Rattle.checkpoint_file.specs.Standing as checkpoint
@@ -67,7 +67,7 @@ OpenedStands = (h : History) (found : Opened) (contents : Contents) (newest : Lo
     → newest.generation ≡ (newest_of found).generation → newest.low ≡ (newest_of found).low → IsResting newest
     → log.Stands newest (newest_of found).batches [] (at_rest (contents (log_file newest.generation)))
     → Stands h (record { sealed = found.checkpoint.generation; log = newest; next = None; writer = None })
-        (record { found = found; staged = []; other = contents (checkpoint_file (found.checkpoint.generation + 1)); sections = [] }) files
+    (record { found = found; staged = []; other = contents (checkpoint_file (found.checkpoint.generation + 1)); sections = [] }) files
 
 -- it stands so where the history grows
 abbrev pub StandingStays : Type 0
@@ -96,7 +96,7 @@ BatchIsStaged = (h : History) (store : StoreState) (held : Held) (files : Files)
 abbrev pub LogStepsOn : Type 0
 LogStepsOn = (h : History) (store : StoreState) (held : Held) (start : Files) (file : File) → Stands h store held start → store.log.ending ≡ None
     → log.Stands (log_after store.log.phase store.log) (committed_after store.log.phase (newest_batches held.found.first held.found.second) held.staged)
-        (staged_after store.log.phase held.staged) file
+    (staged_after store.log.phase held.staged) file
     → Stands h (record store { log = log_after store.log.phase store.log }) (stepped store.log.phase held) (with_file (log_file store.log.generation) file start)
 
 -- the header of the log that follows is written
@@ -142,8 +142,10 @@ RotationBegins = (h : History) (store : StoreState) (held : Held) (files : Files
     → store.writer ≡ None → store.next ≡ None → store.log.generation ≡ store.sealed → IsResting store.log
     → ((file : File) → log.Stands (begun (store.sealed + 1) store.log.committed) [] [] file)
     → checkpoint.Stands (checkpoint_states.begun (store.sealed + 1) store.log.committed stripes must_close) held.other [] (at_rest held.other)
-    → Stands h (record store { next = Some (begun (store.sealed + 1) store.log.committed);
-        writer = Some (checkpoint_states.begun (store.sealed + 1) store.log.committed stripes must_close) }) held files
+    → Stands h (record store {
+      next = Some (begun (store.sealed + 1) store.log.committed);
+      writer = Some (checkpoint_states.begun (store.sealed + 1) store.log.committed stripes must_close);
+    }) held files
 
 -- one section more is given
 abbrev pub SectionIsGiven : Type 0
@@ -182,4 +184,4 @@ CheckpointIsSealed = (h : History) (store : StoreState) (held : Held) (w : Check
     → store.writer ≡ Some w → store.next ≡ None → w.phase ≡ checkpoint_phase.Opened
     → checkpoint.Stands (state_after checkpoint_phase.Opened w) held.other held.sections file
     → Stands h (record store { sealed = store.sealed + 1; writer = None }) (sealed_with w held stands.kept.checkpoint.content)
-        (with_file (checkpoint_file w.generation) file start)
+    (with_file (checkpoint_file w.generation) file start)

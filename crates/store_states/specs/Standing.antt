@@ -1,12 +1,11 @@
 -- How a store's four files stand between two device calls while none has failed, and what a stop may leave of them.
 use Rattle.std.specs.Prelude.{◌≡◌, ◌≢◌, ℕ, ◌+◌, ◌≤◌, max, List, [], length, Option, None, Some}
 use Rattle.disk_model.specs.Files.{Contents, File, Files, Leaves, MayLeave, at_rest}
-use Rattle.map_types.specs.declared.commands.Command.{Command}
 use Rattle.map_model.specs.Histories.{History}
 use Rattle.log_records.specs.Layout.{first_layout}
 use Rattle.store_layout.specs.Checkpoints.{Section, Checkpoint, IsCheckpoint, checkpoint_file, greatest_mark}
 use Rattle.store_layout.specs.Logs.{Batch, IsEnded, commands_in, log_file}
-use Rattle.store_layout.specs.Opening.{IsOlder, Opened, StandsForFront, log_of, next_low}
+use Rattle.store_layout.specs.Opening.{IsOlder, StandsForFront, log_of, next_low}
 use Rattle.store_layout.specs.Standing.{AreMarks, AreParts, IsLogOf, IsNextOf, Restores, reach}
 use Rattle.checkpoint_file.specs.Standing as checkpoint
 use Rattle.checkpoint_file.specs.States.{CheckpointState}

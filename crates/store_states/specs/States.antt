@@ -2,7 +2,7 @@
 use Rattle.std.specs.Prelude.{ℕ, ◌++◌, List, [], Option, None, Some}
 use Rattle.checkpoint_file.specs.States.{CheckpointState}
 use Rattle.gate_log.specs.States.{LogState}
-use Rattle.store_layout.specs.Checkpoints.{Section, Checkpoint}
+use Rattle.store_layout.specs.Checkpoints.{Section}
 use Rattle.store_layout.specs.Logs.{Batch}
 use Rattle.store_layout.specs.Opening.{Opened}
 

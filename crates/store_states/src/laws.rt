@@ -3,7 +3,9 @@ ghost use Rattle.store_states.specs.Laws.{BatchIsStaged, CheckpointBegins, Check
 
 use checkpoint_file::stops_of_a_checkpoint;
 use gate_log::stops_of_a_log;
-use store_layout::laws::{laws_of_checkpoints, laws_of_found, laws_of_logs, laws_of_restoring, laws_of_sections};
+use store_layout::laws::{
+    laws_of_checkpoints, laws_of_found, laws_of_logs, laws_of_restoring, laws_of_sections,
+};
 
 /// Whatever a stop leaves of a store, now and at each moment of a step, stands for a front of its history
 /// that has the committed commands, and no more than the staged ones besides.

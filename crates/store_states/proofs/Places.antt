@@ -1,0 +1,67 @@
+-- Which files differ, and what a file at rest leaves.
+use Rattle.std.proofs.Common.{◌≡◌, ◌≢◌, ℕ, ◌+◌, ◌<◌, List, length, sym, subst, arith}
+use Rattle.std.proofs.lemmas.List.{ext_get_or}
+use Rattle.std.proofs.lemmas.Bool.Decides.{nat_tests}
+use Rattle.disk_model.specs.Files.{File, Files, MayLeave, at_rest, with_file}
+use Rattle.store_layout.specs.Checkpoints.{Section, checkpoint_file}
+use Rattle.store_layout.specs.Logs.{log_file}
+use Rattle.checkpoint_file.specs.States.{CheckpointState}
+use Rattle.checkpoint_file.specs.Standing.{HasGiven}
+
+-- ---- one file changed
+
+pub with_same : (number : ℕ) (file : File) (files : Files) → with_file number file files number ≡ file
+with_same number file files = grind (arith, nat_tests)
+
+pub with_other : (number : ℕ) (file : File) (files : Files) (n : ℕ) → n ≢ number → with_file number file files n ≡ files n
+with_other number file files n other = grind (arith, nat_tests)
+
+-- what holds of a file that is not changed, and of the one that is
+pub elsewhere : (P : File → Type 0) (number : ℕ) (file : File) (files : Files) (n : ℕ) → n ≢ number → P (files n) → P (with_file number file files n)
+elsewhere P number file files n other p = subst P (sym (with_other number file files n other)) p
+
+pub here : (P : File → Type 0) (number : ℕ) (file : File) (files : Files) (n : ℕ) → n ≡ number → P file → P (with_file number file files n)
+here P number file files n same p = subst (λ k. P (with_file number file files k)) (sym same) (subst P (sym (with_same number file files)) p)
+
+-- ---- the numbers of the files
+
+pub checkpoint_is_no_log : (a b : ℕ) → checkpoint_file a ≢ log_file b
+checkpoint_is_no_log a b e = omega (arith, e)
+
+pub log_is_no_checkpoint : (a b : ℕ) → log_file a ≢ checkpoint_file b
+log_is_no_checkpoint a b e = omega (arith, e)
+
+pub next_checkpoint : (a b : ℕ) → b ≡ a + 1 → checkpoint_file a ≢ checkpoint_file b
+next_checkpoint a b next e = omega (arith, e, next)
+
+pub checkpoint_before : (a b : ℕ) → b ≡ a + 1 → checkpoint_file b ≢ checkpoint_file a
+checkpoint_before a b next e = omega (arith, e, next)
+
+pub next_log : (a b : ℕ) → b ≡ a + 1 → log_file a ≢ log_file b
+next_log a b next e = omega (arith, e, next)
+
+pub log_before : (a b : ℕ) → b ≡ a + 1 → log_file b ≢ log_file a
+log_before a b next e = omega (arith, e, next)
+
+pub checkpoint_again : (a : ℕ) → checkpoint_file (a + 1 + 1) ≡ checkpoint_file a
+checkpoint_again a = omega arith
+
+pub checkpoint_low : (a : ℕ) → checkpoint_file a < 4
+checkpoint_low a = omega arith
+
+pub log_low : (a : ℕ) → log_file a < 4
+log_low a = omega arith
+
+-- ---- a file at rest
+
+pub rest_leaves : (old content : List ℕ) → MayLeave (at_rest old) content → content ≡ old
+rest_leaves old content left =
+    let size : length content ≡ length old = omega (arith, left.no_shorter, left.no_longer) in
+    ext_get_or 0 content old size (λ i h.
+    let below : i < length old = omega (arith, size, h) in
+    left.same i (grind (arith, nat_tests)))
+
+-- ---- stripes
+
+pub some_stripes : (w : CheckpointState) (sections : List Section) → HasGiven w sections → 0 < w.stripes
+some_stripes w sections knows = let allowed = knows.allowed in grind (arith, nat_tests)
