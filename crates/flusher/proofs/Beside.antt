@@ -63,9 +63,9 @@ stands_beside n (Some sweep) Rests hand gone p w r b free h = record {
 stands_beside n (Some sweep) SweepTakes hand gone p w r b free h = cc
 stands_beside n (Some sweep) (SweepGives walk) hand gone p w r b free h = cc
 
-pub fits_beside : {D : Type 0} (states : D → List Files) (honest : D → Type 0) (n : ℕ) (before done : List Command) (keeper : Keeper D) (p w : Record) → Fits states honest n before done keeper p → is_walking keeper.sweeper.walking ≡ false
-    → IsBeside p w → w.holding ≡ None → Fits states honest n before done keeper w
-fits_beside {D} states honest n before done keeper p w f r b free = record {
+pub fits_beside : {D : Type 0} (states : D → List Files) (honest : D → Type 0) (n : ℕ) (done : List Command) (keeper : Keeper D) (p w : Record) → Fits states honest n done keeper p → is_walking keeper.sweeper.walking ≡ false
+    → IsBeside p w → w.holding ≡ None → Fits states honest n done keeper w
+fits_beside {D} states honest n done keeper p w f r b free = record {
   stands = stands_beside n keeper.sweeper.sweep keeper.sweeper.walking keeper.sweeper.in_hand (done ++ commands_of keeper.staged.items) p w r b free f.stands;
   counts = record {
     committed = ap (λ (o : Opening). o.first + length done) b.opening ∙ f.counts.committed;

@@ -38,12 +38,12 @@ one_batch first (e ∷ es) h = refl
 
 -- ---- a batch is staged, or put back
 
-pub fits_staged : {D : Type 0} (states : D → List Files) (honest : D → Type 0) (n : ℕ) (before done : List Command) (old new : Keeper D) (p : Record) (commands : List Command) → Fits states honest n before done old p
+pub fits_staged : {D : Type 0} (states : D → List Files) (honest : D → Type 0) (n : ℕ) (done : List Command) (old new : Keeper D) (p : Record) (commands : List Command) → Fits states honest n done old p
     → new ≡ record old { log = new.log; sweeper = record old.sweeper { in_hand = new.sweeper.in_hand }; staged = new.staged } → old.is_broken ≡ false → IsResting old.log → IsRun old.sweeper.in_hand commands
     → old.log.committed + length commands < 2 ^ 64 → 1 ≤ length commands → Stages commands old.log old.sweeper.in_hand new.log new.sweeper.in_hand new.staged.items
     → ((batches : List Batch) (file : File) → gate_log.Stands old.log batches [] file → gate_log.Stands new.log batches (batch_of old.log.committed new.staged.items ∷ []) file)
-    → Fits states honest n before done new p
-fits_staged {D} states honest n before done old new p commands f same works resting run small some st on =
+    → Fits states honest n done new p
+fits_staged {D} states honest n done old new p commands f same works resting run small some st on =
     let none_ : old.staged.items ≡ [] = subst (λ ph. IsEmptyIn ph old.staged.items) resting.0 f.counts.empty in
     let staged_is : new.staged.items ≡ entries_from old.log.committed commands = st.entries ∙ ap (λ t. entries_from t commands) f.counts.next in
     let theirs : commands_of new.staged.items ≡ commands = ap commands_of staged_is ∙ commands_there old.log.committed commands in
@@ -97,21 +97,21 @@ fits_staged {D} states honest n before done old new p commands f same works rest
       };
     }
 
-pub fits_same : {D : Type 0} (states : D → List Files) (honest : D → Type 0) (n : ℕ) (before done : List Command) (old new : Keeper D) (p : Record) → Fits states honest n before done old p
+pub fits_same : {D : Type 0} (states : D → List Files) (honest : D → Type 0) (n : ℕ) (done : List Command) (old new : Keeper D) (p : Record) → Fits states honest n done old p
     → new ≡ record old { log = new.log; sweeper = record old.sweeper { in_hand = new.sweeper.in_hand }; staged = new.staged } → new.log ≡ old.log → new.staged ≡ old.staged → SameEntries old.sweeper.in_hand new.sweeper.in_hand
-    → Fits states honest n before done new p
-fits_same {D} states honest n before done old new p f same l s entries =
+    → Fits states honest n done new p
+fits_same {D} states honest n done old new p f same l s entries =
     let sweeper : Sweeper = record old.sweeper { in_hand = new.sweeper.in_hand } in
     let is : new ≡ record old { sweeper = sweeper } = same ∙ ap (λ (x : LogState). record old { log = x; sweeper = sweeper; staged = new.staged }) l ∙ ap (λ x. record old { sweeper = sweeper; staged = x }) s in
     let moved : (q : Record) → q.opening ≡ p.opening → Gathers old.sweeper.in_hand (done ++ commands_of old.staged.items) q → Gathers new.sweeper.in_hand (done ++ commands_of old.staged.items) q =
     λ q o k. record { keeper = k.keeper; accounts = accounts_same old.sweeper.in_hand new.sweeper.in_hand (done ++ commands_of old.staged.items) q.opening.first q.taken q.seen entries k.accounts } in
-    subst (λ (k : Keeper D). Fits states honest n before done k p) (sym is)
-    (fits_swept states honest n before done old sweeper p p f (stands_moved n old.sweeper sweeper (done ++ commands_of old.staged.items) (done ++ commands_of old.staged.items) p refl refl moved f.stands) (record { opening = refl; calls = refl; published = refl; failed = refl }) entries.next)
+    subst (λ (k : Keeper D). Fits states honest n done k p) (sym is)
+    (fits_swept states honest n done old sweeper p p f (stands_moved n old.sweeper sweeper (done ++ commands_of old.staged.items) (done ++ commands_of old.staged.items) p refl refl moved f.stands) (record { opening = refl; calls = refl; published = refl; failed = refl }) entries.next)
 
 -- ---- a step of the log
 
-pub may_advance : {D : Type 0} (states : D → List Files) (honest : D → Type 0) (n : ℕ) (before done : List Command) (keeper : Keeper D) (p : Record) → Fits states honest n before done keeper p → MayAdvance states honest keeper.log keeper.disk
-may_advance {D} states honest n before done keeper p f = λ works h.
+pub may_advance : {D : Type 0} (states : D → List Files) (honest : D → Type 0) (n : ℕ) (done : List Command) (keeper : Keeper D) (p : Record) → Fits states honest n done keeper p → MayAdvance states honest keeper.log keeper.disk
+may_advance {D} states honest n done keeper p f = λ works h.
     let b = f.stores.works (f.stores.broken ∙ works) h in
     (b.batches, batches_of keeper.log.committed keeper.staged.items, b.stands)
 
@@ -126,10 +126,10 @@ pub record Goes {D : Type 0} (states : D → List Files) (honest : D → Type 0)
   pub stands : (batches staged : List Batch) → gate_log.Stands old.log batches staged (now (states old.disk) (log_file old.log.generation))
       → gate_log.Stands new.log (batches_then batches staged) (staged_then staged) (now (states new.disk) (log_file old.log.generation))
 
-goes_on : {D : Type 0} (states : D → List Files) (honest : D → Type 0) (n : ℕ) (before done : List Command) (old new : Keeper D) (p : Record) (phase : Phase) → Fits states honest n before done old p
+goes_on : {D : Type 0} (states : D → List Files) (honest : D → Type 0) (n : ℕ) (done : List Command) (old new : Keeper D) (p : Record) (phase : Phase) → Fits states honest n done old p
     → Goes states honest old new (record old.log { phase = phase }) (λ batches staged. batches) (λ staged. staged) → IsEmptyIn phase old.staged.items → new.sweeper ≡ old.sweeper → new.staged.items ≡ old.staged.items
-    → Fits states honest n before done new p
-goes_on {D} states honest n before done old new p phase f g empty s w =
+    → Fits states honest n done new p
+goes_on {D} states honest n done old new p phase f g empty s w =
     let count : new.log.committed ≡ old.log.committed = ap (λ (x : LogState). x.committed) g.is in
     record {
       stands = subst (λ (x : Sweeper). Stands n x (done ++ commands_of new.staged.items) p) (sym s) (subst (λ (xs : List Entry). Stands n old.sweeper (done ++ commands_of xs) p) (sym w) f.stands);
@@ -163,10 +163,10 @@ commands_staged : (first : ℕ) (es : List Entry) → commands_in (batches_of fi
 commands_staged first [] = refl
 commands_staged first (e ∷ es) = append-nil (commands_of (e ∷ es))
 
-commits : {D : Type 0} (states : D → List Files) (honest : D → Type 0) (n : ℕ) (before done : List Command) (old new : Keeper D) (p : Record) → Fits states honest n before done old p
+commits : {D : Type 0} (states : D → List Files) (honest : D → Type 0) (n : ℕ) (done : List Command) (old new : Keeper D) (p : Record) → Fits states honest n done old p
     → Goes states honest old new (log_after Opened old.log) (λ batches staged. batches ++ staged) (λ staged. []) → new.sweeper ≡ record old.sweeper { in_hand = passed (length old.staged.items) old.sweeper.in_hand } → new.staged.items ≡ []
     → Fits states honest n before (done ++ commands_of old.staged.items) new p
-commits {D} states honest n before done old new p f g s w =
+commits {D} states honest n done old new p f g s w =
     let staged : List Command = commands_of old.staged.items in
     let long : length staged ≡ length old.staged.items = length-map old.staged.items (λ (e : Entry). e.command) in
     let count : new.log.committed ≡ old.log.committed + old.log.count = ap (λ (x : LogState). x.committed) g.is in
@@ -223,22 +223,22 @@ goes_in {D} states failures honest old new next ph is works on failed published 
   stands = λ batches staged k. subst (λ x. gate_log.Stands new.log (committed_after x batches staged) (staged_after x staged) (now (states new.disk) (log_file old.log.generation))) is (a.stands batches staged k);
 }
 
-ok_in : {D : Type 0} (states : D → List Files) (failures : D → ℕ) (honest : D → Type 0) (n : ℕ) (before done : List Command) (old new : Keeper D) (p : Record) (next ph : Phase) → old.log.phase ≡ ph → Fits states honest n before done old p
+ok_in : {D : Type 0} (states : D → List Files) (failures : D → ℕ) (honest : D → Type 0) (n : ℕ) (done : List Command) (old new : Keeper D) (p : Record) (next ph : Phase) → old.log.phase ≡ ph → Fits states honest n done old p
     → old.is_broken ≡ false → new.is_broken ≡ false → new.has_failed ≡ old.has_failed → new.published ≡ old.published → IsPast ph old.sweeper old.staged.items new.sweeper new.staged.items → (ph ≡ Idle → new ≡ old)
     → (old.log.phase ≢ Idle → Advances states failures honest old.log new.log old.disk new.disk (Ok next)) → Fits states honest n before (done_after (Ok next) ph done old.staged.items) new p
-ok_in {D} states failures honest n before done old new p next Idle is f works on failed published past rests adv = subst (λ (k : Keeper D). Fits states honest n before done k p) (sym (rests refl)) f
-ok_in {D} states failures honest n before done old new p next Header is f works on failed published past rests adv =
-    goes_on states honest n before done old new p HeaderWritten f (goes_in states failures honest old new next Header is works on failed published (adv (not_idle Header old.log.phase is (λ e. cc)))) (subst (λ x. IsEmptyIn x old.staged.items) is f.counts.empty) past.0 past.1
-ok_in {D} states failures honest n before done old new p next HeaderWritten is f works on failed published past rests adv =
-    goes_on states honest n before done old new p Idle f (goes_in states failures honest old new next HeaderWritten is works on failed published (adv (not_idle HeaderWritten old.log.phase is (λ e. cc)))) (subst (λ x. IsEmptyIn x old.staged.items) is f.counts.empty) past.0 past.1
-ok_in {D} states failures honest n before done old new p next Staged is f works on failed published past rests adv =
-    goes_on states honest n before done old new p Written f (goes_in states failures honest old new next Staged is works on failed published (adv (not_idle Staged old.log.phase is (λ e. cc)))) tt past.0 past.1
-ok_in {D} states failures honest n before done old new p next Written is f works on failed published past rests adv =
-    goes_on states honest n before done old new p Synced f (goes_in states failures honest old new next Written is works on failed published (adv (not_idle Written old.log.phase is (λ e. cc)))) tt past.0 past.1
-ok_in {D} states failures honest n before done old new p next Synced is f works on failed published past rests adv =
-    goes_on states honest n before done old new p Opened f (goes_in states failures honest old new next Synced is works on failed published (adv (not_idle Synced old.log.phase is (λ e. cc)))) tt past.0 past.1
-ok_in {D} states failures honest n before done old new p next Opened is f works on failed published past rests adv =
-    commits states honest n before done old new p f (goes_in states failures honest old new next Opened is works on failed published (adv (not_idle Opened old.log.phase is (λ e. cc)))) past.0 past.1
+ok_in {D} states failures honest n done old new p next Idle is f works on failed published past rests adv = subst (λ (k : Keeper D). Fits states honest n done k p) (sym (rests refl)) f
+ok_in {D} states failures honest n done old new p next Header is f works on failed published past rests adv =
+    goes_on states honest n done old new p HeaderWritten f (goes_in states failures honest old new next Header is works on failed published (adv (not_idle Header old.log.phase is (λ e. cc)))) (subst (λ x. IsEmptyIn x old.staged.items) is f.counts.empty) past.0 past.1
+ok_in {D} states failures honest n done old new p next HeaderWritten is f works on failed published past rests adv =
+    goes_on states honest n done old new p Idle f (goes_in states failures honest old new next HeaderWritten is works on failed published (adv (not_idle HeaderWritten old.log.phase is (λ e. cc)))) (subst (λ x. IsEmptyIn x old.staged.items) is f.counts.empty) past.0 past.1
+ok_in {D} states failures honest n done old new p next Staged is f works on failed published past rests adv =
+    goes_on states honest n done old new p Written f (goes_in states failures honest old new next Staged is works on failed published (adv (not_idle Staged old.log.phase is (λ e. cc)))) tt past.0 past.1
+ok_in {D} states failures honest n done old new p next Written is f works on failed published past rests adv =
+    goes_on states honest n done old new p Synced f (goes_in states failures honest old new next Written is works on failed published (adv (not_idle Written old.log.phase is (λ e. cc)))) tt past.0 past.1
+ok_in {D} states failures honest n done old new p next Synced is f works on failed published past rests adv =
+    goes_on states honest n done old new p Opened f (goes_in states failures honest old new next Synced is works on failed published (adv (not_idle Synced old.log.phase is (λ e. cc)))) tt past.0 past.1
+ok_in {D} states failures honest n done old new p next Opened is f works on failed published past rests adv =
+    commits states honest n done old new p f (goes_in states failures honest old new next Opened is works on failed published (adv (not_idle Opened old.log.phase is (λ e. cc)))) past.0 past.1
 
 done_same : (e : Option ℕ) (x : LogState) (batches staged : List Batch) (content : List ℕ) → gate_log.IsDone e x batches staged content → gate_log.IsDone e (record x { is_broken = true }) batches staged content
 done_same None x batches staged content k = k
@@ -258,10 +258,10 @@ read_same Written e x batches staged content k = both_same x batches staged cont
 read_same Synced e x batches staged content k = both_same x batches staged content k
 read_same Opened e x batches staged content k = both_same x batches staged content k
 
-pub kept_moments : {D : Type 0} (states : D → List Files) (failures : D → ℕ) (honest : D → Type 0) (n : ℕ) (before done : List Command) (old : Keeper D) (log : LogState) (disk : D) (p : Record) (result : Result Phase Refusal)
-    → Fits states honest n before done old p → old.is_broken ≡ false → honest old.disk → Advances states failures honest old.log log old.disk disk result
+pub kept_moments : {D : Type 0} (states : D → List Files) (failures : D → ℕ) (honest : D → Type 0) (n : ℕ) (done : List Command) (old : Keeper D) (log : LogState) (disk : D) (p : Record) (result : Result Phase Refusal)
+    → Fits states honest n done old p → old.is_broken ≡ false → honest old.disk → Advances states failures honest old.log log old.disk disk result
     → AtEachMoment states old.disk disk (KeepsCommands old.log (before ++ done) (commands_of old.staged.items) (now (states old.disk)))
-kept_moments {D} states failures honest n before done old log disk p result f works h a =
+kept_moments {D} states failures honest n done old log disk p result f works h a =
     let b = f.stores.works works h in
     let next : List Batch = batches_of old.log.committed old.staged.items in
     moments_so states old.disk disk (gate_log.IsKept old.log b.batches next (now (states old.disk))) (KeepsCommands old.log (before ++ done) (commands_of old.staged.items) (now (states old.disk))) (λ files k. record {
@@ -269,9 +269,9 @@ kept_moments {D} states failures honest n before done old log disk p result f wo
       stops = record { batches = b.batches; next = next; are = b.are; next_are = commands_staged old.log.committed old.staged.items; reads = k.reads };
     }) (a.any_moment b.batches next b.stands)
 
-fails : {D : Type 0} (states : D → List Files) (failures : D → ℕ) (honest : D → Type 0) (n : ℕ) (before done : List Command) (old new : Keeper D) (p : Record) (e : Refusal) → Fits states honest n before done old p → old.is_broken ≡ false → new.is_broken ≡ true
-    → new.has_failed ≡ old.has_failed → new.published ≡ old.published → new.sweeper ≡ old.sweeper → new.staged ≡ old.staged → Advances states failures honest old.log new.log old.disk new.disk (Err e) → Fits states honest n before done new p
-fails {D} states failures honest n before done old new p e f works on failed published s w a =
+fails : {D : Type 0} (states : D → List Files) (failures : D → ℕ) (honest : D → Type 0) (n : ℕ) (done : List Command) (old new : Keeper D) (p : Record) (e : Refusal) → Fits states honest n done old p → old.is_broken ≡ false → new.is_broken ≡ true
+    → new.has_failed ≡ old.has_failed → new.published ≡ old.published → new.sweeper ≡ old.sweeper → new.staged ≡ old.staged → Advances states failures honest old.log new.log old.disk new.disk (Err e) → Fits states honest n done new p
+fails {D} states failures honest n done old new p e f works on failed published s w a =
     let broken : LogState = record old.log { is_broken = true } in
     let is : new.log ≡ broken = a.err.1 in
     let items : new.staged.items ≡ old.staged.items = ap (λ x. x.items) w in
@@ -292,7 +292,7 @@ fails {D} states failures honest n before done old new p e f works on failed pub
         works = λ off h. absurd (two_ways new.is_broken on off);
         stopped = λ _ h. (
             let m : KeepsCommands old.log (before ++ done) (commands_of old.staged.items) (now (states old.disk)) (now (states new.disk)) =
-            at_end states old.disk new.disk _ (kept_moments states failures honest n before done old new.log new.disk p (Err e) f works (a.was_honest h) a) in
+            at_end states old.disk new.disk _ (kept_moments states failures honest n done old new.log new.disk p (Err e) f works (a.was_honest h) a) in
             let k = m.stops in
             let there : StopsHave broken (before ++ done) (commands_of old.staged.items) (now (states new.disk)) =
             record { batches = k.batches; next = k.next; are = k.are; next_are = k.next_are; reads = λ ready content may. read_same old.log.phase old.log.ending old.log k.batches k.next content (k.reads ready content may) } in
@@ -325,36 +325,36 @@ pub record Steps {D : Type 0} (states : D → List Files) (failures : D → ℕ)
   pub has_failed : new.has_failed ≡ old.has_failed
   pub published : new.published ≡ old.published
 
-pub fits_ok : {D : Type 0} (states : D → List Files) (failures : D → ℕ) (honest : D → Type 0) (n : ℕ) (before done : List Command) (old new : Keeper D) (p : Record) (next : Phase) (refused : Refusal) → Fits states honest n before done old p
+pub fits_ok : {D : Type 0} (states : D → List Files) (failures : D → ℕ) (honest : D → Type 0) (n : ℕ) (done : List Command) (old new : Keeper D) (p : Record) (next : Phase) (refused : Refusal) → Fits states honest n done old p
     → Steps states failures honest old new (Ok next) refused → new.is_broken ≡ false → IsPast old.log.phase old.sweeper old.staged.items new.sweeper new.staged.items
     → Fits states honest n before (done_after (Ok next) old.log.phase done old.staged.items) new p
-fits_ok {D} states failures honest n before done old new p next refused f s on past = elim (bool_cases old.is_broken) [
+fits_ok {D} states failures honest n done old new p next refused f s on past = elim (bool_cases old.is_broken) [
   | inl is ↦ absurd (ok_not_err next refused (s.failed is).0)
-  | inr works ↦ ok_in states failures honest n before done old new p next old.log.phase refl f works on s.has_failed s.published past (λ e. (s.rests works e).1) (λ e. s.advances works e)
+  | inr works ↦ ok_in states failures honest n done old new p next old.log.phase refl f works on s.has_failed s.published past (λ e. (s.rests works e).1) (λ e. s.advances works e)
 ]
 
-pub fits_err : {D : Type 0} (states : D → List Files) (failures : D → ℕ) (honest : D → Type 0) (n : ℕ) (before done : List Command) (old new : Keeper D) (p : Record) (e : Refusal) (refused : Refusal) → Fits states honest n before done old p
-    → Steps states failures honest old new (Err e) refused → (new.sweeper ≡ old.sweeper) × (new.staged ≡ old.staged) × (new.is_broken ≡ true) → Fits states honest n before done new p
-fits_err {D} states failures honest n before done old new p e refused f s kept = elim (bool_cases old.is_broken) [
-  | inl is ↦ subst (λ (k : Keeper D). Fits states honest n before done k p) (sym (s.failed is).1) f
+pub fits_err : {D : Type 0} (states : D → List Files) (failures : D → ℕ) (honest : D → Type 0) (n : ℕ) (done : List Command) (old new : Keeper D) (p : Record) (e : Refusal) (refused : Refusal) → Fits states honest n done old p
+    → Steps states failures honest old new (Err e) refused → (new.sweeper ≡ old.sweeper) × (new.staged ≡ old.staged) × (new.is_broken ≡ true) → Fits states honest n done new p
+fits_err {D} states failures honest n done old new p e refused f s kept = elim (bool_cases old.is_broken) [
+  | inl is ↦ subst (λ (k : Keeper D). Fits states honest n done k p) (sym (s.failed is).1) f
   | inr works ↦ elim (idle_or_not old.log.phase) [
     | inl rests ↦ absurd (ok_not_err Idle e (sym (s.rests works rests).0))
-    | inr moves ↦ fails states failures honest n before done old new p e f works kept.2 s.has_failed s.published kept.0 kept.1 (s.advances works moves)
+    | inr moves ↦ fails states failures honest n done old new p e f works kept.2 s.has_failed s.published kept.0 kept.1 (s.advances works moves)
   ]
 ]
 
-pub fits_stepped : {D : Type 0} (states : D → List Files) (failures : D → ℕ) (honest : D → Type 0) (n : ℕ) (before done : List Command) (old new : Keeper D) (p : Record) (result : Result Phase Refusal) (refused : Refusal) → Fits states honest n before done old p
+pub fits_stepped : {D : Type 0} (states : D → List Files) (failures : D → ℕ) (honest : D → Type 0) (n : ℕ) (done : List Command) (old new : Keeper D) (p : Record) (result : Result Phase Refusal) (refused : Refusal) → Fits states honest n done old p
     → Steps states failures honest old new result refused → OnOk result (new.is_broken ≡ false) → OnOk result (IsPast old.log.phase old.sweeper old.staged.items new.sweeper new.staged.items)
     → OnErr result ((new.sweeper ≡ old.sweeper) × (new.staged ≡ old.staged) × (new.is_broken ≡ true)) → Fits states honest n before (done_after result old.log.phase done old.staged.items) new p
-fits_stepped {D} states failures honest n before done old new p (Ok next) refused f s on past kept = fits_ok states failures honest n before done old new p next refused f s on past
-fits_stepped {D} states failures honest n before done old new p (Err e) refused f s on past kept = fits_err states failures honest n before done old new p e refused f s kept
+fits_stepped {D} states failures honest n done old new p (Ok next) refused f s on past kept = fits_ok states failures honest n done old new p next refused f s on past
+fits_stepped {D} states failures honest n done old new p (Err e) refused f s on past kept = fits_err states failures honest n done old new p e refused f s kept
 
 -- ---- what a stop leaves between the calls
 
-pub stops_by : {D : Type 0} (states : D → List Files) (honest : D → Type 0) (n : ℕ) (before done : List Command) (keeper : Keeper D) (p : Record) → Fits states honest n before done keeper p → honest keeper.disk
+pub stops_by : {D : Type 0} (states : D → List Files) (honest : D → Type 0) (n : ℕ) (done : List Command) (keeper : Keeper D) (p : Record) → Fits states honest n done keeper p → honest keeper.disk
     → ((log : LogState) (batches : List Batch) (staged : List Batch) (file : File) (content : List ℕ) → gate_log.Stands log batches staged file → gate_log.IsReady log.phase → MayLeave file content
     → gate_log.MayRead log.phase log.ending log batches staged content) → StopsHave keeper.log (before ++ done) (commands_of keeper.staged.items) (now (states keeper.disk))
-stops_by {D} states honest n before done keeper p f h law = elim (bool_cases keeper.is_broken) [
+stops_by {D} states honest n done keeper p f h law = elim (bool_cases keeper.is_broken) [
   | inl is ↦ f.stores.stopped is h
   | inr works ↦ (
       let b = f.stores.works works h in

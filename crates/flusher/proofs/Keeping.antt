@@ -1,9 +1,9 @@
 -- What holds of a keeper after each of its calls.
-use Rattle.std.proofs.Common.{◌≡◌, ℕ, ◌+◌, ◌<◌, ◌^◌, max, List, [], ◌∷◌, ◌++◌, length, Option, Some, None, Bool, true, false, refl, sym, ◌∙◌, ap, subst, arith}
+use Rattle.std.proofs.Common.{◌≡◌, ℕ, ◌+◌, ◌<◌, ◌^◌, max, List, [], ◌∷◌, ◌++◌, length, Option, Some, None, IfSome, Bool, true, false, refl, sym, ◌∙◌, ap, subst, arith}
 use Rattle.std.specs.List.{Contains}
 use Rattle.std.proofs.lemmas.List.{length-append, append_assoc}
 use Rattle.std.proofs.lemmas.List.Elements.{Contains-append_left}
-use Rattle.disk_model.specs.Files.{File, Files, now}
+use Rattle.disk_model.specs.Files.{Files, now}
 use Rattle.map_types.specs.declared.commands.Command.{Command}
 use Rattle.ticket_order.specs.declared.stripe.Entry.{Entry}
 use Rattle.ticket_order.specs.declared.record.StepMade.{StepMade}
@@ -12,11 +12,13 @@ use Rattle.ticket_order.specs.declared.record.Opening.{Opening}
 use Rattle.ticket_order.specs.declared.record.Record.{Record}
 use Rattle.ticket_order.specs.declared.walk.Walk.{Walk}
 use Rattle.ticket_order.specs.Records.{publishing, failing}
-use Rattle.ticket_order.specs.Legality.{entries_from}
 use Rattle.ticket_order.specs.StepRules.{MayPublish}
-use Rattle.store_layout.specs.Logs.{log_file}
-use Rattle.gate_log.specs.States.{LogState, commands_of, begun}
-use Rattle.gate_log.specs.Standing as gate_log
+use Rattle.ticket_order.specs.Legality.{entries_from, history_of}
+use Rattle.store_layout.specs.OpeningLaws.{FrontStays}
+use Rattle.checkpoint_file.specs.States.{CheckpointState}
+use Rattle.gate_log.specs.States.{LogState, commands_of, resumed}
+use Rattle.store_states.specs.States.{StoreState}
+use Rattle.store_states.specs.Laws.{OpenedStands, StandingStays}
 use Rattle.flusher.specs.declared.keeper.Keeper.{Keeper}
 use Rattle.flusher.specs.declared.sweeper.Sweep.{Sweep}
 use Rattle.flusher.specs.declared.sweeper.Walking.{Walking}
@@ -26,7 +28,9 @@ use Rattle.flusher.specs.Hands.{Hand, IsRun}
 use Rattle.flusher.specs.Gathering.{Accounts, Gathers}
 use Rattle.flusher.specs.Sweeping.{Stands, StandsBy, HasNone, IsSwept}
 use Rattle.flusher.specs.Keeping.{is_walking}
-use Rattle.flusher.specs.Fitting.{Fits, IsEmptyIn, IsQuiet, IsUnused, IsTakenFront, WereTaken, batches_of}
+use Rattle.flusher.specs.Rotating.{MayRotate}
+use Rattle.flusher.specs.Fitting.{Fits, HasSeenMore, HoldsFront, IsEmptyIn, IsFoundFor, IsQuiet, IsUnbroken, IsUnused, IsTakenFront, Stores, WereTaken, store_of}
+use Rattle.flusher.proofs.Storing.{holds_found, stores_seen}
 use Rattle.flusher.proofs.Staging.{taken_in_hand}
 use Rattle.flusher.proofs.Entries.{grown, shrunk}
 use Rattle.flusher.proofs.Passing.{reached_by, front_of_all}
@@ -34,10 +38,27 @@ use Rattle.flusher.proofs.Quiet.{IsGrown, swept_grown}
 
 -- ---- at first
 
-pub fits_fresh : {D : Type 0} (states : D → List Files) (honest : D → Type 0) (n first : ℕ) (keeper : Keeper D) (p : Record) → IsUnused first p → first < 2 ^ 64 → keeper.log ≡ begun 0 first
-    → keeper.sweeper.in_hand ≡ record { next = first; slots = [] } → keeper.sweeper.sweep ≡ None → keeper.sweeper.walking ≡ Rests → keeper.staged.items ≡ [] → keeper.is_broken ≡ false → keeper.has_failed ≡ false
-    → keeper.published ≡ first → ((file : File) → gate_log.Stands keeper.log [] [] file) → Fits states honest n [] [] keeper p
-fits_fresh {D} states honest n first keeper p u small l h s w g b f d stands =
+-- what a keeper is at first
+pub record IsOpened {D : Type 0} (stripes first : ℕ) (sealed : ℕ) (log : LogState) (must_close : Bool) (keeper : Keeper D) : Type 0 where
+  pub store : store_of keeper ≡ record { sealed = sealed; log = log; next = None; writer = None }
+  pub hand : keeper.sweeper.in_hand ≡ record { next = first; slots = [] }
+  pub sweep : keeper.sweeper.sweep ≡ None
+  pub walking : keeper.sweeper.walking ≡ Rests
+  pub staged : keeper.staged.items ≡ []
+  pub must_close_is : keeper.must_close ≡ must_close
+  pub works : keeper.is_broken ≡ false
+  pub failed : keeper.has_failed ≡ false
+  pub published : keeper.published ≡ first
+  pub stripes_are : keeper.stripes.count ≡ stripes
+
+pub fits_opened : {D : Type 0} (states : D → List Files) (honest : D → Type 0) (n sealed : ℕ) (log : LogState) (must_close : Bool) (keeper : Keeper D) (p : Record) → OpenedStands → log.committed < 2 ^ 64
+    → IsOpened n log.committed sealed log must_close keeper → log ≡ resumed log.generation log.low log.gate log.committed → IsUnused log.committed p
+    → (honest keeper.disk → IsFoundFor p sealed log must_close (now (states keeper.disk))) → Fits states honest n [] keeper p
+fits_opened {D} states honest n sealed log must_close keeper p law small k is u found =
+    let first : ℕ = log.committed in
+    let l : keeper.log ≡ log = ap (λ (x : StoreState). x.log) k.store in
+    let g : keeper.staged.items ≡ [] = k.staged in
+    let count : keeper.log.committed ≡ first = ap (λ (x : LogState). x.committed) l in
     let none_ : Accounts (record { next = first; slots = [] }) [] p.opening.first [] p.seen = record {
       low = omega (arith, u.opening);
       reached = omega (arith, u.opening);
@@ -46,24 +67,32 @@ fits_fresh {D} states honest n first keeper p u small l h s w g b f d stands =
       held = λ t c k. absurd (no_place c (k.there));
       known = λ e has. absurd (omega (arith, has.1));
     } in
-    let gathers : Gathers keeper.sweeper.in_hand [] p = record { keeper = u.keeper; accounts = subst (λ x. Accounts x [] p.opening.first p.taken p.seen) (sym h) (subst (λ x. Accounts (record { next = first; slots = [] }) [] p.opening.first x p.seen) (sym u.none_taken) none_) } in
+    let gathers : Gathers keeper.sweeper.in_hand [] p = record { keeper = u.keeper; accounts = subst (λ x. Accounts x [] p.opening.first p.taken p.seen) (sym k.hand) (subst (λ x. Accounts (record { next = first; slots = [] }) [] p.opening.first x p.seen) (sym u.none_taken) none_) } in
     let has_none : HasNone keeper.sweeper.in_hand [] p = record { free = u.free; gathers = gathers } in
-    let at : Stands n keeper.sweeper [] p = subst (λ o. StandsBy n o keeper.sweeper.walking keeper.sweeper.in_hand [] p) (sym s) (subst (λ v. StandsBy n None v keeper.sweeper.in_hand [] p) (sym w) has_none) in
+    let at : Stands n keeper.sweeper [] p = subst (λ o. StandsBy n o keeper.sweeper.walking keeper.sweeper.in_hand [] p) (sym k.sweep) (subst (λ v. StandsBy n None v keeper.sweeper.in_hand [] p) (sym k.walking) has_none) in
     record {
       stands = subst (λ (xs : List Entry). Stands n keeper.sweeper (commands_of xs) p) (sym g) at;
       counts = record {
-        committed = omega (arith, u.opening, ap (λ (x : LogState). x.committed) l);
-        next = ap (λ (x : Hand). x.next) h ∙ sym (ap (λ (x : LogState). x.committed) l);
-        count = ap (λ (x : LogState). x.count) l ∙ sym (ap (λ (xs : List Entry). length xs) g);
+        committed = omega (arith, u.opening, count);
+        next = ap (λ (x : Hand). x.next) k.hand ∙ sym count;
+        count = ap (λ (x : LogState). x.count) (l ∙ is) ∙ sym (ap (λ (xs : List Entry). length xs) g);
         tickets = subst (λ (xs : List Entry). xs ≡ entries_from keeper.log.committed (commands_of xs)) (sym g) refl;
-        fits = omega (arith, small, ap (λ (x : LogState). x.committed) l, ap (λ (xs : List Entry). length xs) g);
-        empty = subst (λ (x : LogState). IsEmptyIn x.phase keeper.staged.items) (sym l) g;
+        fits = omega (arith, small, count, ap (λ (xs : List Entry). length xs) g);
+        empty = subst (λ (x : LogState). IsEmptyIn x.phase keeper.staged.items) (sym (l ∙ is)) g;
       };
-      tells = record { published = d ∙ sym u.published; durable = omega (arith, d, ap (λ (x : LogState). x.committed) l); failed = f ∙ sym u.works };
+      tells = record { published = k.published ∙ sym u.published; durable = omega (arith, k.published, count); failed = k.failed ∙ sym u.works };
+      stripes = record {
+        count = k.stripes_are;
+        writer = subst (λ (x : StoreState). IfSome x.writer (λ (w : CheckpointState). w.stripes ≡ n)) (sym k.store) tt;
+      };
+      rotation = subst (λ (x : StoreState). MayRotate x.next x.log keeper.staged.items) (sym k.store) (ap (λ (x : LogState). x.ending) is);
       stores = record {
-        broken = b ∙ sym (ap (λ (x : LogState). x.is_broken) l);
-        works = λ _ _. record { batches = []; are = refl; stands = subst (λ (xs : List Entry). gate_log.Stands keeper.log [] (batches_of keeper.log.committed xs) (now (states keeper.disk) (log_file keeper.log.generation))) (sym g) (stands _) };
-        stopped = λ is. absurd (two_ways keeper.is_broken is b);
+        unbroken = λ _. subst IsUnbroken (sym k.store) (record { log = ap (λ (x : LogState). x.is_broken) is; next = tt; writer = tt });
+        works = λ _ h. subst (λ (x : StoreState). HoldsFront (history_of p) x keeper.staged.items keeper.must_close (now (states keeper.disk))) (sym k.store)
+            (subst (λ (xs : List Entry). HoldsFront (history_of p) (record { sealed = sealed; log = log; next = None; writer = None }) xs keeper.must_close (now (states keeper.disk))) (sym g)
+            (subst (λ (b : Bool). HoldsFront (history_of p) (record { sealed = sealed; log = log; next = None; writer = None }) [] b (now (states keeper.disk))) (sym k.must_close_is)
+            (holds_found p sealed log must_close (now (states keeper.disk)) law is (found h))));
+        stopped = λ broken. absurd (two_ways keeper.is_broken broken k.works);
       };
     }
   where
@@ -75,9 +104,10 @@ fits_fresh {D} states honest n first keeper p u small l h s w g b f d stands =
 
 -- ---- after a step of the sweep
 
-pub fits_swept : {D : Type 0} (states : D → List Files) (honest : D → Type 0) (n : ℕ) (before done : List Command) (keeper : Keeper D) (new : Sweeper) (p w : Record) → Fits states honest n before done keeper p
-    → Stands n new (done ++ commands_of keeper.staged.items) w → IsQuiet p w → new.in_hand.next ≡ keeper.sweeper.in_hand.next → Fits states honest n before done (record keeper { sweeper = new }) w
-fits_swept {D} states honest n before done keeper new p w f stands q next = record {
+-- the sweeper and the record have changed, and the store stands so
+pub fits_moved : {D : Type 0} (states : D → List Files) (honest : D → Type 0) (n : ℕ) (done : List Command) (keeper : Keeper D) (new : Sweeper) (p w : Record) → Fits states honest n done keeper p
+    → Stands n new (done ++ commands_of keeper.staged.items) w → IsQuiet p w → new.in_hand.next ≡ keeper.sweeper.in_hand.next → Stores states honest keeper w → Fits states honest n done (record keeper { sweeper = new }) w
+fits_moved {D} states honest n done keeper new p w f stands q next stores = record {
   stands = stands;
   counts = record {
     committed = subst (λ o. o.first + length done ≡ keeper.log.committed) (sym q.opening) f.counts.committed;
@@ -88,8 +118,16 @@ fits_swept {D} states honest n before done keeper new p w f stands q next = reco
     empty = f.counts.empty;
   };
   tells = record { published = f.tells.published ∙ sym q.published; durable = f.tells.durable; failed = f.tells.failed ∙ sym q.failed };
-  stores = record { broken = f.stores.broken; works = f.stores.works; stopped = f.stores.stopped };
+  stripes = record { count = f.stripes.count; writer = f.stripes.writer };
+  rotation = f.rotation;
+  stores = record { unbroken = stores.unbroken; works = stores.works; stopped = stores.stopped };
 }
+
+-- the sweep has gone on, and has perhaps seen more
+pub fits_swept : {D : Type 0} (states : D → List Files) (honest : D → Type 0) (n : ℕ) (done : List Command) (keeper : Keeper D) (new : Sweeper) (p w : Record) → StandingStays → FrontStays → Fits states honest n done keeper p
+    → Stands n new (done ++ commands_of keeper.staged.items) w → IsQuiet p w → HasSeenMore p w → new.in_hand.next ≡ keeper.sweeper.in_hand.next → Fits states honest n done (record keeper { sweeper = new }) w
+fits_swept {D} states honest n done keeper new p w stay front f stands q m next =
+    fits_moved states honest n done keeper new p w f stands q next (stores_seen states honest keeper p w stay front q.opening m f.stores)
 
 -- ---- after DURABLE and FAIL
 
@@ -120,36 +158,40 @@ free_by n (Some sweep) Rests hand gone p r h = record { free = h.free; gathers =
 free_by n (Some sweep) SweepTakes hand gone p r h = cc
 free_by n (Some sweep) (SweepGives walk) hand gone p r h = cc
 
-pub is_free : {D : Type 0} (states : D → List Files) (honest : D → Type 0) (n : ℕ) (before done : List Command) (keeper : Keeper D) (p : Record) → Fits states honest n before done keeper p → is_walking keeper.sweeper.walking ≡ false
+pub is_free : {D : Type 0} (states : D → List Files) (honest : D → Type 0) (n : ℕ) (done : List Command) (keeper : Keeper D) (p : Record) → Fits states honest n done keeper p → is_walking keeper.sweeper.walking ≡ false
     → IsFree keeper.sweeper.in_hand (done ++ commands_of keeper.staged.items) p
-is_free {D} states honest n before done keeper p f r = free_by n keeper.sweeper.sweep keeper.sweeper.walking keeper.sweeper.in_hand _ p r f.stands
+is_free {D} states honest n done keeper p f r = free_by n keeper.sweeper.sweep keeper.sweeper.walking keeper.sweeper.in_hand _ p r f.stands
 
-pub may_publish : {D : Type 0} (states : D → List Files) (honest : D → Type 0) (n : ℕ) (before done : List Command) (keeper : Keeper D) (p : Record) → Fits states honest n before done keeper p → is_walking keeper.sweeper.walking ≡ false
+pub may_publish : {D : Type 0} (states : D → List Files) (honest : D → Type 0) (n : ℕ) (done : List Command) (keeper : Keeper D) (p : Record) → Fits states honest n done keeper p → is_walking keeper.sweeper.walking ≡ false
     → keeper.has_failed ≡ false → MayPublish p keeper.log.committed
-may_publish {D} states honest n before done keeper p f r works =
-    let k = is_free states honest n before done keeper p f r in
+may_publish {D} states honest n done keeper p f r works =
+    let k = is_free states honest n done keeper p f r in
     record {
       keeper = k.gathers.keeper;
       seen = omega (arith, reached_by keeper.sweeper.in_hand (done ++ commands_of keeper.staged.items) p k.gathers, f.counts.committed, length-append done (commands_of keeper.staged.items));
       unfailed = sym f.tells.failed ∙ works;
     }
 
-pub fits_published : {D : Type 0} (states : D → List Files) (honest : D → Type 0) (n : ℕ) (before done : List Command) (keeper : Keeper D) (p : Record) → Fits states honest n before done keeper p → is_walking keeper.sweeper.walking ≡ false
-    → Fits states honest n before done (record keeper { published = keeper.log.committed }) (publishing p keeper.log.committed)
-fits_published {D} states honest n before done keeper p f r = record {
+pub fits_published : {D : Type 0} (states : D → List Files) (honest : D → Type 0) (n : ℕ) (done : List Command) (keeper : Keeper D) (p : Record) → Fits states honest n done keeper p → is_walking keeper.sweeper.walking ≡ false
+    → Fits states honest n done (record keeper { published = keeper.log.committed }) (publishing p keeper.log.committed)
+fits_published {D} states honest n done keeper p f r = record {
   stands = noted_by n keeper.sweeper.sweep keeper.sweeper.walking keeper.sweeper.in_hand (done ++ commands_of keeper.staged.items) p (Published keeper.log.committed) (max p.published keeper.log.committed) p.failed r f.stands;
   counts = record { committed = f.counts.committed; next = f.counts.next; count = f.counts.count; tickets = f.counts.tickets; fits = f.counts.fits; empty = f.counts.empty };
   tells = record { published = omega (arith, f.tells.published, f.tells.durable); durable = omega arith; failed = f.tells.failed };
-  stores = record { broken = f.stores.broken; works = f.stores.works; stopped = f.stores.stopped };
+  stripes = record { count = f.stripes.count; writer = f.stripes.writer };
+  rotation = f.rotation;
+  stores = record { unbroken = f.stores.unbroken; works = f.stores.works; stopped = f.stores.stopped };
 }
 
-pub fits_failed : {D : Type 0} (states : D → List Files) (honest : D → Type 0) (n : ℕ) (before done : List Command) (keeper : Keeper D) (p : Record) → Fits states honest n before done keeper p → is_walking keeper.sweeper.walking ≡ false
-    → Fits states honest n before done (record keeper { has_failed = true }) (failing p)
-fits_failed {D} states honest n before done keeper p f r = record {
+pub fits_failed : {D : Type 0} (states : D → List Files) (honest : D → Type 0) (n : ℕ) (done : List Command) (keeper : Keeper D) (p : Record) → Fits states honest n done keeper p → is_walking keeper.sweeper.walking ≡ false
+    → Fits states honest n done (record keeper { has_failed = true }) (failing p)
+fits_failed {D} states honest n done keeper p f r = record {
   stands = noted_by n keeper.sweeper.sweep keeper.sweeper.walking keeper.sweeper.in_hand (done ++ commands_of keeper.staged.items) p Failed p.published true r f.stands;
   counts = record { committed = f.counts.committed; next = f.counts.next; count = f.counts.count; tickets = f.counts.tickets; fits = f.counts.fits; empty = f.counts.empty };
   tells = record { published = f.tells.published; durable = f.tells.durable; failed = refl };
-  stores = record { broken = f.stores.broken; works = f.stores.works; stopped = f.stores.stopped };
+  stripes = record { count = f.stripes.count; writer = f.stripes.writer };
+  rotation = f.rotation;
+  stores = record { unbroken = f.stores.unbroken; works = f.stores.works; stopped = f.stores.stopped };
 }
 
 -- ---- what is committed was taken
@@ -181,8 +223,8 @@ knows_by n (Some sweep) Rests hand gone p h = knows hand gone p h.gathers
 knows_by n (Some sweep) SweepTakes hand gone p h = knows hand gone p h.gathers
 knows_by n (Some sweep) (SweepGives walk) hand gone p h = knows_on n hand gone h.begun p sweep.stripe walk (knows hand gone h.begun h.between.gathers) h.taken
 
-pub taken_front : {D : Type 0} (states : D → List Files) (honest : D → Type 0) (n : ℕ) (before done : List Command) (keeper : Keeper D) (p : Record) → Fits states honest n before done keeper p → IsTakenFront done keeper.log.committed p
-taken_front {D} states honest n before done keeper p f =
+pub taken_front : {D : Type 0} (states : D → List Files) (honest : D → Type 0) (n : ℕ) (done : List Command) (keeper : Keeper D) (p : Record) → Fits states honest n done keeper p → IsTakenFront done keeper.log.committed p
+taken_front {D} states honest n done keeper p f =
     let staged : List Command = commands_of keeper.staged.items in
     let k = knows_by n keeper.sweeper.sweep keeper.sweeper.walking keeper.sweeper.in_hand (done ++ staged) p f.stands in
     record {
@@ -192,9 +234,9 @@ taken_front {D} states honest n before done keeper p f =
       taken = λ e has. k.taken e (grown p.opening.first done staged e has);
     }
 
-pub each_taken : {D : Type 0} (states : D → List Files) (honest : D → Type 0) (n : ℕ) (before done : List Command) (keeper : Keeper D) (p : Record) → Fits states honest n before done keeper p → (e : Entry) → Contains (entries_from p.opening.first p.seen) e → e.ticket < keeper.log.committed → Contains p.taken e
-each_taken {D} states honest n before done keeper p f e has low =
-    let k = taken_front states honest n before done keeper p f in
+pub each_taken : {D : Type 0} (states : D → List Files) (honest : D → Type 0) (n : ℕ) (done : List Command) (keeper : Keeper D) (p : Record) → Fits states honest n done keeper p → (e : Entry) → Contains (entries_from p.opening.first p.seen) e → e.ticket < keeper.log.committed → Contains p.taken e
+each_taken {D} states honest n done keeper p f e has low =
+    let k = taken_front states honest n done keeper p f in
     k.taken e (shrunk p.opening.first done k.rest e (subst (λ (xs : List Command). Contains (entries_from p.opening.first xs) e) k.front has) (omega (arith, low, k.reached)))
 
 run_taken_by : (n : ℕ) (o : Option Sweep) (v : Walking) (hand : Hand) (gone commands : List Command) (p : Record) → StandsBy n o v hand gone p → IsRun hand commands → WereTaken hand.next commands p
@@ -207,6 +249,6 @@ run_taken_by n (Some sweep) (SweepGives walk) hand gone commands p h run = λ e 
     let b = h.begun in
     subst (λ es. Contains es e) (sym (swept_grown n b sweep.stripe walk p h.taken).taken) (taken_in_hand hand gone commands b.opening.first b.taken b.seen h.between.gathers.accounts run e has)
 
-pub run_taken : {D : Type 0} (states : D → List Files) (honest : D → Type 0) (n : ℕ) (before done : List Command) (keeper : Keeper D) (p : Record) → Fits states honest n before done keeper p → (commands : List Command) → IsRun keeper.sweeper.in_hand commands → WereTaken keeper.log.committed commands p
-run_taken {D} states honest n before done keeper p f commands run =
+pub run_taken : {D : Type 0} (states : D → List Files) (honest : D → Type 0) (n : ℕ) (done : List Command) (keeper : Keeper D) (p : Record) → Fits states honest n done keeper p → (commands : List Command) → IsRun keeper.sweeper.in_hand commands → WereTaken keeper.log.committed commands p
+run_taken {D} states honest n done keeper p f commands run =
     subst (λ t. WereTaken t commands p) f.counts.next (run_taken_by n keeper.sweeper.sweep keeper.sweeper.walking keeper.sweeper.in_hand (done ++ commands_of keeper.staged.items) commands p f.stands run)

@@ -7,6 +7,7 @@ pub mod Standing
 pub mod Staging
 pub mod Quiet
 pub mod Passing
+pub mod Storing
 pub mod Keeping
 pub mod Moments
 pub mod Committing

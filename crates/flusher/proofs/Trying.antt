@@ -144,15 +144,15 @@ brings_by n (Some sweep) Rests old new gone p w rests b h = record { free = b.fr
 brings_by n (Some sweep) SweepTakes old new gone p w rests b h = cc
 brings_by n (Some sweep) (SweepGives walk) old new gone p w rests b h = cc
 
-pub fits_tried : {D : Type 0} {X : Type 0} (states : D → List Files) (honest : D → Type 0) (n i : ℕ) (before done : List Command) (keeper : Keeper D) (hand : Hand) (p w : Record) (result : Result X Refusal) → Fits states honest n before done keeper p
+pub fits_tried : {D : Type 0} {X : Type 0} (states : D → List Files) (honest : D → Type 0) (n i : ℕ) (done : List Command) (keeper : Keeper D) (hand : Hand) (p w : Record) (result : Result X Refusal) → Fits states honest n done keeper p
     → is_walking keeper.sweeper.walking ≡ false → p.holding ≡ None → OnOk result (SweepsOnce n i keeper.sweeper.in_hand hand p w) → IfErr result (λ e. RefusesSweep p i e w) → OnErr result (Collects keeper.sweeper.in_hand [] hand)
-    → Fits states honest n before done (record keeper { sweeper = record keeper.sweeper { in_hand = hand } }) w
-fits_tried {D} {X} states honest n i before done keeper hand p w (Ok x) f rests free ok err kept =
-    fits_swept states honest n before done keeper (record keeper.sweeper { in_hand = hand }) p w f
+    → Fits states honest n done (record keeper { sweeper = record keeper.sweeper { in_hand = hand } }) w
+fits_tried {D} {X} states honest n i done keeper hand p w (Ok x) f rests free ok err kept =
+    fits_swept states honest n done keeper (record keeper.sweeper { in_hand = hand }) p w f
     (brings_by n keeper.sweeper.sweep keeper.sweeper.walking keeper.sweeper.in_hand hand (done ++ commands_of keeper.staged.items) p w rests (brought n i keeper.sweeper.in_hand hand (done ++ commands_of keeper.staged.items) p w ok) f.stands)
     (sweeps_quiet n p i ok.entries w ok.sweeps) ok.collects.next
-fits_tried {D} {X} states honest n i before done keeper hand p w (Err e) f rests free ok err kept =
-    fits_swept states honest n before done keeper (record keeper.sweeper { in_hand = hand }) p w f
+fits_tried {D} {X} states honest n i done keeper hand p w (Err e) f rests free ok err kept =
+    fits_swept states honest n done keeper (record keeper.sweeper { in_hand = hand }) p w f
     (brings_by n keeper.sweeper.sweep keeper.sweeper.walking keeper.sweeper.in_hand hand (done ++ commands_of keeper.staged.items) p w rests (left_alone n i e keeper.sweeper.in_hand hand (done ++ commands_of keeper.staged.items) p w free err kept) f.stands)
     (refuses_quiet p i e w err) kept.next
 

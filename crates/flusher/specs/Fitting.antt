@@ -1,45 +1,56 @@
 -- What holds of a keeper between any two of its calls.
-use Rattle.std.specs.Prelude.{◌≡◌, ◌≢◌, ℕ, ◌+◌, ◌<◌, ◌≤◌, ◌^◌, true, false, List, [], ◌∷◌, ◌++◌, length, None, Result, Ok}
+use Rattle.std.specs.Prelude.{◌≡◌, ℕ, ◌+◌, ◌<◌, ◌≤◌, ◌^◌, Bool, true, false, List, [], ◌∷◌, ◌++◌, length, IfSome, None, Result, Ok}
 use Rattle.std.specs.List.{Contains}
-use Rattle.disk_model.specs.Files.{File, Files, MayLeave, now}
+use Rattle.disk_model.specs.Files.{Contents, Files, at_rest, now}
 use Rattle.map_types.specs.declared.commands.Command.{Command}
 use Rattle.map_types.specs.declared.refusals.Refusal.{Refusal}
+use Rattle.map_model.specs.Histories.{History}
 use Rattle.ticket_order.specs.declared.stripe.Entry.{Entry}
 use Rattle.ticket_order.specs.declared.record.Record.{Record}
 use Rattle.ticket_order.specs.declared.record.StepMade.{StepMade}
-use Rattle.ticket_order.specs.Legality.{entries_from}
-use Rattle.store_layout.specs.Logs.{Batch, commands_in, log_file}
+use Rattle.ticket_order.specs.Legality.{entries_from, history_of}
+use Rattle.store_layout.specs.Checkpoints.{checkpoint_file}
+use Rattle.store_layout.specs.Logs.{Batch, log_file}
+use Rattle.store_layout.specs.Opening.{Opened as FoundStore, Holds, map_of, newest_of, prefix_of}
 use Rattle.gate_log.specs.declared.phase.Phase.{Phase}
 use Rattle.gate_log.specs.declared.phase.Phase.TheVariants.{Idle, Header, HeaderWritten, Staged, Written, Synced, Opened}
 use Rattle.gate_log.specs.States.{LogState, batch_of, commands_of}
 use Rattle.gate_log.specs.Standing as gate_log
+use Rattle.checkpoint_file.specs.Standing.{is_to_close}
+use Rattle.store_states.specs.States.{StoreState, Held}
+use Rattle.store_states.specs.Standing as store
 use Rattle.flusher.specs.declared.keeper.Keeper.{Keeper}
 use Rattle.flusher.specs.Sweeping.{Stands}
+use Rattle.flusher.specs.Rotating.{MayRotate}
 
 -- the staged entries as a batch, or none
 abbrev pub batches_of : ℕ → List Entry → List Batch
 batches_of first [] = []
 batches_of first (e ∷ es) = batch_of first (e ∷ es) ∷ []
 
--- The log's file holds the committed commands, in batches, and stands as a log does with these entries staged.
-pub record HasBatches (log : LogState) (committed : List Command) (staged : List Entry) (file : File) : Type 0 where
-  pub batches : List Batch
-  pub are : commands_in batches ≡ committed
-  pub stands : gate_log.Stands log batches (batches_of log.committed staged) file
+-- what it knows of the store
+abbrev pub store_of : {D : Type 0} → Keeper D → StoreState
+store_of keeper = record { sealed = keeper.sealed; log = keeper.log; next = keeper.next; writer = keeper.checkpoint }
 
--- Once the log's header is on the disk, whatever a stop leaves of its file is a log with the committed commands, or with these and the
--- staged ones.
-pub record StopsHave (log : LogState) (committed staged : List Command) (files : Files) : Type 0 where
-  pub batches : List Batch
-  pub next : List Batch
-  pub are : commands_in batches ≡ committed
-  pub next_are : commands_in next ≡ staged
-  pub reads : gate_log.IsReady log.phase → (content : List ℕ) → MayLeave (files (log_file log.generation)) content → gate_log.MayRead log.phase log.ending log batches next content
+-- no part of it has failed
+pub record IsUnbroken (store : StoreState) : Type 0 where
+  pub log : store.log.is_broken ≡ false
+  pub next : IfSome store.next (λ next. next.is_broken ≡ false)
+  pub writer : IfSome store.writer (λ w. w.is_broken ≡ false)
 
--- so it is, and the other files are as they were at the start
-pub record KeepsCommands (log : LogState) (committed staged : List Command) (start files : Files) : Type 0 where
-  pub others : (n : ℕ) → n ≢ log_file log.generation → files n ≡ start n
-  pub stops : StopsHave log committed staged files
+-- The files hold a front of the history, with these entries staged as a batch, as the one knows who writes the store.
+pub record HoldsFront (h : History) (state : StoreState) (staged : List Entry) (must_close : Bool) (files : Files) : Type 0 where
+  pub held : Held
+  pub stands : store.Stands h state held files
+  pub staged_is : held.staged ≡ batches_of state.log.committed staged
+  pub must_close_is : must_close ≡ is_to_close held.other
+
+abbrev pub HoldsFor : {D : Type 0} → History → Keeper D → Files → Type 0
+HoldsFor h keeper files = HoldsFront h (store_of keeper) keeper.staged.items keeper.must_close files
+
+-- Whatever a stop leaves of these files stands for a front of the history, with the committed commands and no more than the staged ones besides.
+abbrev pub StopsFit : {D : Type 0} → History → Keeper D → Files → Type 0
+StopsFit h keeper files = store.StopsStand h keeper.log.committed (keeper.log.committed + length keeper.staged.items) files
 
 -- in these phases nothing is staged
 abbrev pub IsEmptyIn : Phase → List Entry → Type 0
@@ -66,19 +77,25 @@ pub record Tells {D : Type 0} (keeper : Keeper D) (p : Record) : Type 0 where
   pub durable : keeper.published ≤ keeper.log.committed
   pub failed : keeper.has_failed ≡ p.failed
 
--- What the disk holds, where it gives what was written.
-pub record Stores {D : Type 0} (states : D → List Files) (honest : D → Type 0) (before done : List Command) (keeper : Keeper D) : Type 0 where
-  pub broken : keeper.is_broken ≡ keeper.log.is_broken
-  pub works : keeper.is_broken ≡ false → honest keeper.disk → HasBatches keeper.log (before ++ done) keeper.staged.items (now (states keeper.disk) (log_file keeper.log.generation))
-  pub stopped : keeper.is_broken ≡ true → honest keeper.disk → StopsHave keeper.log (before ++ done) (commands_of keeper.staged.items) (now (states keeper.disk))
+-- A checkpoint is written for as many stripes as the pass has.
+pub record HasStripes {D : Type 0} (n : ℕ) (keeper : Keeper D) : Type 0 where
+  pub count : keeper.stripes.count ≡ n
+  pub writer : IfSome keeper.checkpoint (λ w. w.stripes ≡ n)
 
--- The keeper over n stripes, and the record of its pass. In the log the commands `before` stand before the pass's opening; those of `done`
--- were committed since.
-pub record Fits {D : Type 0} (states : D → List Files) (honest : D → Type 0) (n : ℕ) (before done : List Command) (keeper : Keeper D) (p : Record) : Type 0 where
+-- What the disk holds, where it gives what was written.
+pub record Stores {D : Type 0} (states : D → List Files) (honest : D → Type 0) (keeper : Keeper D) (p : Record) : Type 0 where
+  pub unbroken : keeper.is_broken ≡ false → IsUnbroken (store_of keeper)
+  pub works : keeper.is_broken ≡ false → honest keeper.disk → HoldsFor (history_of p) keeper (now (states keeper.disk))
+  pub stopped : keeper.is_broken ≡ true → honest keeper.disk → StopsFit (history_of p) keeper (now (states keeper.disk))
+
+-- The keeper over n stripes, and the record of its pass; the commands of `done` were committed since the pass's opening.
+pub record Fits {D : Type 0} (states : D → List Files) (honest : D → Type 0) (n : ℕ) (done : List Command) (keeper : Keeper D) (p : Record) : Type 0 where
   pub stands : Stands n keeper.sweeper (done ++ commands_of keeper.staged.items) p
   pub counts : Counts done keeper p
   pub tells : Tells keeper p
-  pub stores : Stores states honest before done keeper
+  pub stripes : HasStripes n keeper
+  pub rotation : MayRotate keeper.next keeper.log keeper.staged.items
+  pub stores : Stores states honest keeper p
 
 -- what is committed after a step of the log
 abbrev pub done_after : Result Phase Refusal → Phase → List Command → List Entry → List Command
@@ -93,6 +110,21 @@ pub record IsUnused (first : ℕ) (p : Record) : Type 0 where
   pub none_taken : p.taken ≡ []
   pub published : p.published ≡ first
   pub works : p.failed ≡ false
+
+-- An opening found these files, in which nothing is pending: of this generation is the sealed checkpoint, the log goes on behind the last
+-- batch, and the pass begins with the map that they stand for.
+pub record IsFoundFor (p : Record) (sealed : ℕ) (log : LogState) (must_close : Bool) (files : Files) : Type 0 where
+  pub contents : Contents
+  pub settled : (n : ℕ) → n < 4 → files n ≡ at_rest (contents n)
+  pub found : FoundStore
+  pub holds : Holds contents found
+  pub sealed_is : sealed ≡ found.checkpoint.generation
+  pub generation : log.generation ≡ (newest_of found).generation
+  pub low : log.low ≡ (newest_of found).low
+  pub goes_on : gate_log.Stands log (newest_of found).batches [] (at_rest (contents (log_file log.generation)))
+  pub must_close_is : must_close ≡ is_to_close (contents (checkpoint_file (sealed + 1)))
+  pub first : p.opening.first ≡ prefix_of found
+  pub map : p.opening.map ≡ map_of found
 
 -- Neither DURABLE nor FAIL was made, and no call.
 pub record IsQuiet (p w : Record) : Type 0 where

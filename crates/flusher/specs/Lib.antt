@@ -2,4 +2,5 @@ pub mod Hands
 pub mod Gathering
 pub mod Sweeping
 pub mod Keeping
+pub mod Rotating
 pub mod Fitting

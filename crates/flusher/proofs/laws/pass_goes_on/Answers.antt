@@ -3,7 +3,7 @@ use Rattle.flusher.proofs.Keeping.{is_free}
 use Rattle.flusher.proofs.laws.pass_goes_on.Goals as goal
 
 pub returns-clause-free : goal.returns-clause-free
-returns-clause-free g c = λ n before done p f r. (is_free g.D.Disk.states g.D.Disk.honest n before done c.args._keeper.now p f r).free
+returns-clause-free g c = λ n done p f r. (is_free g.D.Disk.states g.D.Disk.honest n done c.args._keeper.now p f r).free
 
 pub returns-clause-fits : goal.returns-clause-fits
-returns-clause-fits g c = λ n before done p f r w b free. fits_beside g.D.Disk.states g.D.Disk.honest n before done c.args._keeper.now p w f r b free
+returns-clause-fits g c = λ n done p f r w b free. fits_beside g.D.Disk.states g.D.Disk.honest n done c.args._keeper.now p w f r b free

@@ -13,12 +13,12 @@ step_log-requires g c =
     }
 
 pub returns-clause-any_moment : goal.returns-clause-any_moment
-returns-clause-any_moment g c = λ n before done p f h works moves.
-    kept_moments g.D.Disk.states g.D.Disk.failures g.D.Disk.honest n before done c.args.self.now c.step_log.new.self.log c.step_log.new.self.disk p c.step_log.result f works h (c.step_log.ensures.advances works moves)
+returns-clause-any_moment g c = λ n done p f h works moves.
+    kept_moments g.D.Disk.states g.D.Disk.failures g.D.Disk.honest n done c.args.self.now c.step_log.new.self.log c.step_log.new.self.disk p c.step_log.result f works h (c.step_log.ensures.advances works moves)
 
 pub returns-clause-fits : goal.returns-clause-fits
-returns-clause-fits g c = λ n before done p f.
+returns-clause-fits g c = λ n done p f.
     let e = c.step_log.ensures in
     let same = e.same in
-    fits_stepped g.D.Disk.states g.D.Disk.failures g.D.Disk.honest n before done c.args.self.now c.step_log.new.self p c.step_log.result Failed f
+    fits_stepped g.D.Disk.states g.D.Disk.failures g.D.Disk.honest n done c.args.self.now c.step_log.new.self p c.step_log.result Failed f
     (record { failed = e.failed; rests = e.rests; advances = e.advances; has_failed = ap (λ k. k.has_failed) same; published = ap (λ k. k.published) same }) e.works e.hand e.kept

@@ -14,12 +14,12 @@ durable-requires g c =
     record { fits = subst (λ (x : ℕ). MayPublish (g.S.Steps.recorded c.args.steps.now) x) (sym c.committed-committed.ensures) may }
 
 pub returns-clause-fits : goal.returns-clause-fits
-returns-clause-fits g c = λ before done f.
+returns-clause-fits g c = λ done f.
     let n = g.S.Steps.stripe_count c.args.steps.now in
     let p = g.S.Steps.recorded c.args.steps.now in
     let same : c.committed-committed.result ≡ c.args.self.now.log.committed = c.committed-committed.ensures in
     let is : g.S.Steps.recorded c.durable.new.self ≡ publishing p c.args.self.now.log.committed = c.durable.ensures.step ∙ ap (publishing p) same in
-    subst (λ (m : ℕ). Fits g.D.Disk.states g.D.Disk.honest m before done (record c.args.self.now { published = c.committed-committed.result }) (g.S.Steps.recorded c.durable.new.self)) (sym c.durable.ensures.stripes)
-    (subst (λ (x : ℕ). Fits g.D.Disk.states g.D.Disk.honest n before done (record c.args.self.now { published = x }) (g.S.Steps.recorded c.durable.new.self)) (sym same)
-    (subst (λ (w : Record). Fits g.D.Disk.states g.D.Disk.honest n before done (record c.args.self.now { published = c.args.self.now.log.committed }) w) (sym is)
-    (fits_published g.D.Disk.states g.D.Disk.honest n before done c.args.self.now p f c.requires.rests)))
+    subst (λ (m : ℕ). Fits g.D.Disk.states g.D.Disk.honest m done (record c.args.self.now { published = c.committed-committed.result }) (g.S.Steps.recorded c.durable.new.self)) (sym c.durable.ensures.stripes)
+    (subst (λ (x : ℕ). Fits g.D.Disk.states g.D.Disk.honest n done (record c.args.self.now { published = x }) (g.S.Steps.recorded c.durable.new.self)) (sym same)
+    (subst (λ (w : Record). Fits g.D.Disk.states g.D.Disk.honest n done (record c.args.self.now { published = c.args.self.now.log.committed }) w) (sym is)
+    (fits_published g.D.Disk.states g.D.Disk.honest n done c.args.self.now p f c.requires.rests)))

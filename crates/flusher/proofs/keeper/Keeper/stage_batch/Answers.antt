@@ -13,15 +13,15 @@ not_this : (e : Refusal) → e ≡ NoMemory → (let a : Result ℕ Refusal = Er
 not_this e is h = cc
 
 pub returns-in-Ok-clause-fits : goal.returns-in-Ok-clause-fits
-returns-in-Ok-clause-fits g c = λ n before done p f.
+returns-in-Ok-clause-fits g c = λ n done p f.
     let run = c.longest_run-run.ensures in
     let resting : IsResting c.args.self.now.log = search rules in
-    fits_staged g.D.Disk.states g.D.Disk.honest n before done c.args.self.now c.stage_run.new.self p run.0 f c.in-Ok.ensures.same c.if-self.false resting run.1.run (omega (arith, run.1.fits.fits, f.counts.next)) (omega (arith, c.if-run-eq0.false, run.2))
+    fits_staged g.D.Disk.states g.D.Disk.honest n done c.args.self.now c.stage_run.new.self p run.0 f c.in-Ok.ensures.same c.if-self.false resting run.1.run (omega (arith, run.1.fits.fits, f.counts.next)) (omega (arith, c.if-run-eq0.false, run.2))
     (c.in-Ok.ensures.ok run.0 run.1.run (sym run.2)) c.in-Ok.ensures.stands
 
 pub returns-in-Err-clause-fits : goal.returns-in-Err-clause-fits
-returns-in-Err-clause-fits g c = λ n before done p f.
-    fits_same g.D.Disk.states g.D.Disk.honest n before done c.args.self.now c.stage_run.new.self p f c.in-Err.ensures.same c.in-Err.ensures.err.0 c.in-Err.ensures.err.1 c.in-Err.ensures.err.2
+returns-in-Err-clause-fits g c = λ n done p f.
+    fits_same g.D.Disk.states g.D.Disk.honest n done c.args.self.now c.stage_run.new.self p f c.in-Err.ensures.same c.in-Err.ensures.err.0 c.in-Err.ensures.err.1 c.in-Err.ensures.err.2
 
 pub returns-in-Ok-clause-full : goal.returns-in-Ok-clause-full
 returns-in-Ok-clause-full g c =

@@ -19,7 +19,7 @@ returns-in-Err-clause-err g c =
     (k.refused, stays_at _ _ _ _ k.sweep f.stands k.sweep_is k.walking)
 
 pub returns-in-Err-clause-fits : goal.returns-in-Err-clause-fits
-returns-in-Err-clause-fits g c = λ before done f. c.in-Err.ensures.fits before done (c.loop-step.invariant.fits before done f)
+returns-in-Err-clause-fits g c = λ done f. c.in-Err.ensures.fits done (c.loop-step.invariant.fits done f)
 
 pub returns-in-Err-clause-seen : goal.returns-in-Err-clause-seen
 returns-in-Err-clause-seen g c = sees_then _ _ _ c.loop-step.invariant.seen c.sweep_step.ensures.seen
@@ -28,14 +28,14 @@ pub returns-in-Done-clause-seen : goal.returns-in-Done-clause-seen
 returns-in-Done-clause-seen g c = sees_then _ _ _ c.loop-step.invariant.seen c.sweep_step.ensures.seen
 
 pub returns-in-Done-clause-done : goal.returns-in-Done-clause-done
-returns-in-Done-clause-done g c = λ before done f.
+returns-in-Done-clause-done g c = λ done f.
     let w = g.S.Steps.recorded c.sweep_step.new.steps in
     let same : c.loop-step.self.staged.items ≡ c.args.self.now.staged.items = ap (λ (k : Keeper g.row.D.Denot). k.staged.items) c.loop-step.invariant.same in
     subst (λ (es : List Entry). IsDone c.sweep_step.new.self.sweeper (done ++ commands_of es) w (Done c.in-Done.count)) same
-    (subst (λ s. IsDone c.sweep_step.new.self.sweeper (done ++ commands_of c.loop-step.self.staged.items) w s) c.in-Done.is (c.in-Ok.ensures.done before done (c.loop-step.invariant.fits before done f)))
+    (subst (λ s. IsDone c.sweep_step.new.self.sweeper (done ++ commands_of c.loop-step.self.staged.items) w s) c.in-Done.is (c.in-Ok.ensures.done done (c.loop-step.invariant.fits done f)))
 
 pub returns-in-Done-clause-fits : goal.returns-in-Done-clause-fits
-returns-in-Done-clause-fits g c = λ before done f. c.in-Ok.ensures.fits before done (c.loop-step.invariant.fits before done f)
+returns-in-Done-clause-fits g c = λ done f. c.in-Ok.ensures.fits done (c.loop-step.invariant.fits done f)
 
 pub loop-step-preserved : goal.loop-step-preserved
 loop-step-preserved g c =
@@ -44,7 +44,7 @@ loop-step-preserved g c =
     record {
       next = tt;
       finite = tt;
-      fits = λ before done f. e.fits before done (i.fits before done f);
+      fits = λ done f. e.fits before done (i.fits before done f);
       quiet = quiet_then _ _ _ i.quiet e.quiet;
       seen = sees_then _ _ _ i.seen e.seen;
       same = e.same ∙ ap (λ (k : Keeper g.row.D.Denot). record k { sweeper = c.sweep_step.new.self.sweeper }) i.same;

@@ -7,8 +7,8 @@ abbrev pub invariant-loop-step : goal.invariant-loop-step
 invariant-loop-step g l = record {
   next : (goal.iterator-loop-step g).can_next l._step-iterator;
   finite : (goal.iterator-loop-step g).is_finite l._step-iterator;
-  fits : (before : List Command) (done : List Command) → Fits g.D.Disk.states g.D.Disk.honest (g.S.Steps.stripe_count l.initial.steps) before done l.initial.self (g.S.Steps.recorded l.initial.steps)
-      → Fits g.D.Disk.states g.D.Disk.honest (g.S.Steps.stripe_count l.steps) before done l.self (g.S.Steps.recorded l.steps);
+  fits : (done : List Command) → Fits g.D.Disk.states g.D.Disk.honest (g.S.Steps.stripe_count l.initial.steps) done l.initial.self (g.S.Steps.recorded l.initial.steps)
+      → Fits g.D.Disk.states g.D.Disk.honest (g.S.Steps.stripe_count l.steps) done l.self (g.S.Steps.recorded l.steps);
   quiet : IsQuiet (g.S.Steps.recorded l.initial.steps) (g.S.Steps.recorded l.steps);
   seen : HasSeenMore (g.S.Steps.recorded l.initial.steps) (g.S.Steps.recorded l.steps);
   same : l.self ≡ record l.initial.self { sweeper = l.self.sweeper };

@@ -8,13 +8,13 @@ use Rattle.flusher.proofs.Keeping.{fits_swept}
 use Rattle.flusher.proofs.keeper.Keeper.sweep_step.Goals as goal
 
 pub returns-clause-fits : goal.returns-clause-fits
-returns-clause-fits g c = λ before done f.
+returns-clause-fits g c = λ done f.
     let n = g.S.Steps.stripe_count c.args.steps.now in
     let w = g.S.Steps.recorded c.step.new.steps in
     let gone = done ++ commands_of c.args.self.now.staged.items in
     let calm = calm_step n c.args.self.now.sweeper gone c.step.new.self (g.S.Steps.recorded c.args.steps.now) w c.step.result f.stands c.step.ensures.steps_on in
-    subst (λ (m : ℕ). Fits g.D.Disk.states g.D.Disk.honest m before done (record c.args.self.now { sweeper = c.step.new.self }) w) (sym c.step.ensures.stripes)
-    (fits_swept g.D.Disk.states g.D.Disk.honest n before done c.args.self.now c.step.new.self (g.S.Steps.recorded c.args.steps.now) w f
+    subst (λ (m : ℕ). Fits g.D.Disk.states g.D.Disk.honest m done (record c.args.self.now { sweeper = c.step.new.self }) w) (sym c.step.ensures.stripes)
+    (fits_swept g.D.Disk.states g.D.Disk.honest n done c.args.self.now c.step.new.self (g.S.Steps.recorded c.args.steps.now) w f
     (subst (λ (m : ℕ). Stands m c.step.new.self gone w) c.step.ensures.stripes (c.step.ensures.stands gone f.stands)) calm.quiet calm.next)
 
 pub returns-clause-quiet : goal.returns-clause-quiet
