@@ -1,2 +1,5 @@
 pub mod Keys
 pub mod Walked
+pub mod Standing
+pub mod Sealed
+pub mod Begun

@@ -1,5 +1,10 @@
 //! A checkpoint is written while other threads work: the stripes are captured one by one, each at its
-//! own mark.
+//! own mark, and once all of them are committed the checkpoint is sealed.
 #![tactic(auto)]
 
+mod beginning;
 mod capturing;
+mod sealing;
+
+pub use beginning::begin;
+pub use sealing::seal;
