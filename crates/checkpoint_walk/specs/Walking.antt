@@ -1,20 +1,21 @@
 -- Where a keeper stands between the steps of a capture.
-use Rattle.std.specs.Prelude.{◌≡◌, ◌⊎◌, ℕ, List, Option, None, Some, false, Result, Ok, Err}
+use Rattle.std.specs.Prelude.{◌≡◌, ◌⊎◌, ℕ, List, ◌++◌, replicate, Option, None, Some, false, Result, Ok, Err}
 use Rattle.disk_model.specs.Files.{Files}
 use Rattle.map_types.specs.declared.commands.Command.{Command}
 use Rattle.map_types.specs.declared.refusals.Refusal.{Refusal}
-use Rattle.map_types.specs.declared.refusals.Refusal.TheVariants.{Busy, LogFull, NoMemory}
+use Rattle.map_types.specs.declared.refusals.Refusal.TheVariants.{Busy, Failed, LogFull, NoMemory, WrongPhase}
 use Rattle.map_types.specs.declared.texts.Value.{Value}
 use Rattle.ticket_order.specs.declared.record.Record.{Record}
 use Rattle.ticket_order.specs.declared.walk.Walk.{Walk}
 use Rattle.ticket_order.specs.Records.{missing}
 use Rattle.ticket_order.specs.Calls.{CapturesStripe, RefusesCapture}
-use Rattle.ticket_order.specs.Walks.{Kind, Take, next_kind}
+use Rattle.ticket_order.specs.Walks.{Give, Kind, Look, Take, next_kind}
+use Rattle.ticket_order.specs.declared.record.StepMade.TheVariants.{FoundHeld}
 use Rattle.checkpoint_file.specs.States.{CheckpointState, with_section}
 use Rattle.flusher.specs.declared.keeper.Keeper.{Keeper}
 use Rattle.flusher.specs.Fitting.{Fits}
 use Rattle.flusher.specs.Keeping.{is_walking}
-use Rattle.checkpoint_walk.specs.Capturing.{HasLooked, HasTaken}
+use Rattle.checkpoint_walk.specs.Capturing.{HasLooked, HasTaken, StandsWith}
 use Rattle.checkpoint_walk.specs.Checkpointing.{IsNextStripe}
 
 -- The capture of stripe i, which is the next, began at the record `begun`, and its walk has come from there. The keeper stands as it did
@@ -49,6 +50,7 @@ pub record GivesSection {D : Type 0} (n : ℕ) (b : Record) (stripe mark : ℕ) 
   pub writer : CheckpointState
   pub was : old.checkpoint ≡ Some writer
   pub is : new ≡ record old { checkpoint = Some (with_section mark entries writer); capture = None }
+  pub stands : StandsWith writer mark entries
 
 -- GIVE: the stripe is put back as it was taken
 pub record PutsBack {D : Type 0} (b : Record) (stripe : ℕ) (refusal : Refusal) (old new : Keeper D) (w : Record) : Type 0 where
@@ -68,8 +70,46 @@ pub record MissesStripe {D : Type 0} (stripe i : ℕ) (old new : Keeper D) (p w 
   pub missed : w ≡ missing p stripe
   pub is : new ≡ old
 
+-- nothing was done
+pub record StaysAt {D : Type 0} (old new : Keeper D) (p w : Record) : Type 0 where
+  pub keeper : new ≡ old
+  pub record_is : w ≡ p
+
+-- the first step of a capture of this stripe
+abbrev pub AfterTake : {D : Type 0} → ℕ → ℕ → Keeper D → Keeper D → Record → Record → Result (Option ℕ) Refusal → Type 0
+AfterTake n stripe old new p w (Ok None) = TakesStripe n stripe old new p w
+AfterTake n stripe old new p w (Ok (Some mark)) = ⊥
+AfterTake n stripe old new p w (Err (Busy i)) = MissesStripe stripe i old new p w
+AfterTake n stripe old new p w (Err Failed) = StaysAt old new p w
+AfterTake n stripe old new p w (Err WrongPhase) = StaysAt old new p w
+AfterTake n stripe old new p w (Err refusal) = ⊥
+
 -- LOOK
 pub record LooksAt {D : Type 0} (n : ℕ) (walk : Walk) (old new : Keeper D) (p w : Record) : Type 0 where
+  pub kind : next_kind n walk ≡ Look
   pub next : Walk
   pub looked : (b : Record) (i : ℕ) → HasTaken n b i walk p → HasLooked n b i next w
   pub is : new ≡ record old { capture = Some next }
+
+-- a step of a capture whose walk is under way
+abbrev pub AfterWalk : {D : Type 0} → ℕ → Walk → Keeper D → Keeper D → Record → Record → Result (Option ℕ) Refusal → Type 0
+AfterWalk n walk old new p w (Ok None) = LooksAt n walk old new p w
+AfterWalk n walk old new p w (Ok (Some mark)) = (i : ℕ) × (next_kind n walk ≡ Give i) × ((b : Record) → HasLooked n b i walk p → GivesSection n b i mark old new w)
+AfterWalk n walk old new p w (Err refusal) = (i : ℕ) × (next_kind n walk ≡ Give i) × ((b : Record) → HasLooked n b i walk p → PutsBack b i refusal old new w)
+
+-- what one step of a capture leaves, by where it stood
+abbrev pub AfterStep : {D : Type 0} → ℕ → ℕ → Option Walk → Keeper D → Keeper D → Record → Record → Result (Option ℕ) Refusal → Type 0
+AfterStep n stripe None old new p w result = AfterTake n stripe old new p w result
+AfterStep n stripe (Some walk) old new p w result = AfterWalk n walk old new p w result
+
+-- what a refused capture of this stripe leaves
+abbrev pub AfterRefusal : {D : Type 0} → ℕ → Keeper D → Keeper D → Record → Record → Refusal → Type 0
+AfterRefusal stripe old new p w (Busy i) = MissesStripe stripe i old new p w
+AfterRefusal stripe old new p w Failed = StaysAt old new p w
+AfterRefusal stripe old new p w WrongPhase = StaysAt old new p w
+AfterRefusal stripe old new p w refusal = PutsBack p stripe refusal old new w
+
+-- TAKEs of the stripe, each of which found it held
+pub record HasWaited (stripe : ℕ) (p b : Record) : Type 0 where
+  pub tries : ℕ
+  pub is : b ≡ record p { steps = p.steps ++ replicate tries (FoundHeld stripe) }

@@ -11,7 +11,7 @@ use std::alloc::Global;
 use ticket_order::{Captured, Stepped, Steps, Walk};
 
 // TAKE of the stripe; `None` where another holds it.
-fn hold<S: Steps>(alloc: Global, stripe: usize, steps: &mut S) -> Option<Walk>
+pub(crate) fn hold<S: Steps>(alloc: Global, stripe: usize, steps: &mut S) -> Option<Walk>
     requires free { (S.recorded steps.old).holding ≡ None }
     requires within { stripe < S.stripe_count steps.old }
     ensures one { MakesOne S.recorded S.moves (Take stripe) steps.old steps.new }
@@ -31,7 +31,7 @@ fn hold<S: Steps>(alloc: Global, stripe: usize, steps: &mut S) -> Option<Walk>
 
 // LOOK, and then the entries of the stripe are copied. The walk has then only its GIVE left, which
 // hands out what was copied, or puts the stripe back.
-fn look<S: Steps>(walk: Walk, steps: &mut S) -> Walk
+pub(crate) fn look<S: Steps>(walk: Walk, steps: &mut S) -> Walk
     requires { (b : Record) × (i : ℕ) × HasTaken (S.stripe_count steps.old) b i walk (S.recorded steps.old) }
     ensures one { MakesOne S.recorded S.moves Look steps.old steps.new }
     ensures looked { (b : Record) (i : ℕ) → HasTaken (S.stripe_count steps.old) b i walk (S.recorded steps.old) → HasLooked (S.stripe_count steps.old) b i result (S.recorded steps.new) }
@@ -49,7 +49,7 @@ fn look<S: Steps>(walk: Walk, steps: &mut S) -> Walk
 }
 
 // GIVE: what was copied, or the refusal for which the stripe is put back.
-fn hand_out<S: Steps>(walk: Walk, steps: &mut S) -> Result<Captured, Refusal>
+pub(crate) fn hand_out<S: Steps>(walk: Walk, steps: &mut S) -> Result<Captured, Refusal>
     requires { (b : Record) × (i : ℕ) × HasLooked (S.stripe_count steps.old) b i walk (S.recorded steps.old) }
     ensures one { (b : Record) (i : ℕ) → HasLooked (S.stripe_count steps.old) b i walk (S.recorded steps.old) → MakesOne S.recorded S.moves (Give i) steps.old steps.new }
     ensures captured { IfOk result (λ z. (captured_of_walk walk ≡ Some z) × (refusal_of_walk walk ≡ None)) }

@@ -5,6 +5,7 @@
 mod beginning;
 mod capturing;
 mod sealing;
+mod sections;
 
 pub use beginning::begin;
 pub use sealing::seal;
