@@ -10,7 +10,9 @@ use Rattle.ticket_order.specs.declared.record.StepMade.{StepMade}
 use Rattle.ticket_order.specs.declared.record.StepMade.TheVariants.{Looked}
 use Rattle.ticket_order.specs.declared.record.Opening.{Opening}
 use Rattle.ticket_order.specs.declared.record.Record.{Record}
+use Rattle.store_layout.specs.OpeningLaws.{FrontStays}
 use Rattle.gate_log.specs.States.{commands_of}
+use Rattle.store_states.specs.Laws.{StandingStays}
 use Rattle.flusher.specs.declared.keeper.Keeper.{Keeper}
 use Rattle.flusher.specs.declared.sweeper.Sweep.{Sweep}
 use Rattle.flusher.specs.declared.sweeper.Walking.{Walking}
@@ -21,6 +23,7 @@ use Rattle.flusher.specs.Sweeping.{StandsBy}
 use Rattle.flusher.specs.Keeping.{is_walking}
 use Rattle.flusher.specs.Fitting.{Fits, IsBeside}
 use Rattle.flusher.proofs.Entries.{grown, shrunk}
+use Rattle.flusher.proofs.Storing.{stores_seen}
 
 gathers_beside : (hand : Hand) (gone : List Command) (p w : Record) → IsBeside p w → Gathers hand gone p → Gathers hand gone w
 gathers_beside hand gone p w b k =
@@ -63,9 +66,9 @@ stands_beside n (Some sweep) Rests hand gone p w r b free h = record {
 stands_beside n (Some sweep) SweepTakes hand gone p w r b free h = cc
 stands_beside n (Some sweep) (SweepGives walk) hand gone p w r b free h = cc
 
-pub fits_beside : {D : Type 0} (states : D → List Files) (honest : D → Type 0) (n : ℕ) (done : List Command) (keeper : Keeper D) (p w : Record) → Fits states honest n done keeper p → is_walking keeper.sweeper.walking ≡ false
-    → IsBeside p w → w.holding ≡ None → Fits states honest n done keeper w
-fits_beside {D} states honest n done keeper p w f r b free = record {
+pub fits_beside : {D : Type 0} (states : D → List Files) (honest : D → Type 0) (n : ℕ) (done : List Command) (keeper : Keeper D) (p w : Record) → StandingStays → FrontStays → Fits states honest n done keeper p
+    → is_walking keeper.sweeper.walking ≡ false → IsBeside p w → w.holding ≡ None → Fits states honest n done keeper w
+fits_beside {D} states honest n done keeper p w stay front f r b free = record {
   stands = stands_beside n keeper.sweeper.sweep keeper.sweeper.walking keeper.sweeper.in_hand (done ++ commands_of keeper.staged.items) p w r b free f.stands;
   counts = record {
     committed = ap (λ (o : Opening). o.first + length done) b.opening ∙ f.counts.committed;
@@ -76,5 +79,7 @@ fits_beside {D} states honest n done keeper p w f r b free = record {
     empty = f.counts.empty;
   };
   tells = record { published = f.tells.published ∙ sym b.published; durable = f.tells.durable; failed = f.tells.failed ∙ sym b.failed };
-  stores = record { broken = f.stores.broken; works = f.stores.works; stopped = f.stores.stopped };
+  stripes = f.stripes;
+  rotation = f.rotation;
+  stores = stores_seen states honest keeper p w stay front b.opening b.seen f.stores;
 }

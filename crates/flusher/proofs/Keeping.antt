@@ -215,7 +215,7 @@ knows_on n hand gone b p i walk k s =
       taken = λ e has. subst (λ es. Contains es e) (sym m.taken) (k.taken e (subst (λ (o : Opening). Contains (entries_from o.first gone) e) m.opening has));
     }
 
-knows_by : (n : ℕ) (o : Option Sweep) (v : Walking) (hand : Hand) (gone : List Command) (p : Record) → StandsBy n o v hand gone p → Knows hand gone p
+pub knows_by : (n : ℕ) (o : Option Sweep) (v : Walking) (hand : Hand) (gone : List Command) (p : Record) → StandsBy n o v hand gone p → Knows hand gone p
 knows_by n None Rests hand gone p h = knows hand gone p h.gathers
 knows_by n None SweepTakes hand gone p h = absurd h
 knows_by n None (SweepGives walk) hand gone p h = absurd h

@@ -10,7 +10,9 @@ pub mod Passing
 pub mod Storing
 pub mod Keeping
 pub mod Moments
+pub mod StoreSteps
 pub mod Committing
+pub mod Advancing
 pub mod Trying
 pub mod Seeing
 pub mod Beside

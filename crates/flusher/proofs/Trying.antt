@@ -18,7 +18,9 @@ use Rattle.ticket_order.specs.Records.{reach, past, giving}
 use Rattle.ticket_order.specs.Legality.{entries_from, entries_of}
 use Rattle.ticket_order.specs.StepRules as rules_of
 use Rattle.ticket_order.specs.Calls.{RefusesSweep}
+use Rattle.store_layout.specs.OpeningLaws.{FrontStays}
 use Rattle.gate_log.specs.States.{commands_of}
+use Rattle.store_states.specs.Laws.{StandingStays}
 use Rattle.flusher.specs.declared.keeper.Keeper.{Keeper}
 use Rattle.flusher.specs.declared.sweeper.Sweep.{Sweep}
 use Rattle.flusher.specs.declared.sweeper.Walking.{Walking}
@@ -144,17 +146,18 @@ brings_by n (Some sweep) Rests old new gone p w rests b h = record { free = b.fr
 brings_by n (Some sweep) SweepTakes old new gone p w rests b h = cc
 brings_by n (Some sweep) (SweepGives walk) old new gone p w rests b h = cc
 
-pub fits_tried : {D : Type 0} {X : Type 0} (states : D → List Files) (honest : D → Type 0) (n i : ℕ) (done : List Command) (keeper : Keeper D) (hand : Hand) (p w : Record) (result : Result X Refusal) → Fits states honest n done keeper p
+pub fits_tried : {D : Type 0} {X : Type 0} (states : D → List Files) (honest : D → Type 0) (n i : ℕ) (done : List Command) (keeper : Keeper D) (hand : Hand) (p w : Record) (result : Result X Refusal) → StandingStays → FrontStays → Fits states honest n done keeper p
     → is_walking keeper.sweeper.walking ≡ false → p.holding ≡ None → OnOk result (SweepsOnce n i keeper.sweeper.in_hand hand p w) → IfErr result (λ e. RefusesSweep p i e w) → OnErr result (Collects keeper.sweeper.in_hand [] hand)
     → Fits states honest n done (record keeper { sweeper = record keeper.sweeper { in_hand = hand } }) w
-fits_tried {D} {X} states honest n i done keeper hand p w (Ok x) f rests free ok err kept =
-    fits_swept states honest n done keeper (record keeper.sweeper { in_hand = hand }) p w f
+fits_tried {D} {X} states honest n i done keeper hand p w (Ok x) stay front f rests free ok err kept =
+    fits_swept states honest n done keeper (record keeper.sweeper { in_hand = hand }) p w stay front f
     (brings_by n keeper.sweeper.sweep keeper.sweeper.walking keeper.sweeper.in_hand hand (done ++ commands_of keeper.staged.items) p w rests (brought n i keeper.sweeper.in_hand hand (done ++ commands_of keeper.staged.items) p w ok) f.stands)
-    (sweeps_quiet n p i ok.entries w ok.sweeps) ok.collects.next
-fits_tried {D} {X} states honest n i done keeper hand p w (Err e) f rests free ok err kept =
-    fits_swept states honest n done keeper (record keeper.sweeper { in_hand = hand }) p w f
+    (sweeps_quiet n p i ok.entries w ok.sweeps) (record { more = ok.sweeps.between; is = ap (λ (r : Record). r.seen) ok.sweeps.is }) ok.collects.next
+fits_tried {D} {X} states honest n i done keeper hand p w (Err e) stay front f rests free ok err kept =
+    let l : IsLeft p w = left_by p i e w free err in
+    fits_swept states honest n done keeper (record keeper.sweeper { in_hand = hand }) p w stay front f
     (brings_by n keeper.sweeper.sweep keeper.sweeper.walking keeper.sweeper.in_hand hand (done ++ commands_of keeper.staged.items) p w rests (left_alone n i e keeper.sweeper.in_hand hand (done ++ commands_of keeper.staged.items) p w free err kept) f.stands)
-    (refuses_quiet p i e w err) kept.next
+    (refuses_quiet p i e w err) (record { more = l.more; is = l.seen }) kept.next
 
 -- ---- how a sweep ends
 

@@ -10,6 +10,7 @@ use Rattle.store_layout.specs.Logs.{log_file}
 use Rattle.gate_log.specs.declared.phase.Phase.{Phase}
 use Rattle.gate_log.specs.declared.phase.Phase.TheVariants.{Idle, Header, HeaderWritten, Staged, Written, Synced, Opened}
 use Rattle.gate_log.specs.States.{LogState, begun, call_in, log_after}
+use Rattle.gate_log.specs.Standing.{IsReady}
 use Rattle.store_states.specs.Standing.{IsTurn}
 use Rattle.flusher.specs.declared.keeper.Keeper.{Keeper}
 
@@ -72,16 +73,14 @@ abbrev pub broken : Logs → Logs
 broken logs = broken_by logs.newest logs.next
 
 -- One step of the logs, in one of which a device call is due: it makes that call, and no other.
-pub record StepsLogs {D : Type 0} (states : D → List Files) (failures : D → ℕ) (honest : D → Type 0) (old new : Keeper D) (result : Result Phase Refusal) : Type 0 where
+pub record StepsLogs {D : Type 0} (states : D → List Files) (failures : D → ℕ) (honest : D → Type 0) (old new : Logs) (disk_old disk_new : D) (result : Result Phase Refusal) : Type 0 where
   pub call : Call
-  pub due : call_in (due_of (logs_of old)).phase (due_of (logs_of old)) ≡ Some call
-  pub was_honest : honest new.disk → honest old.disk
+  pub due : call_in (due_of old).phase (due_of old) ≡ Some call
+  pub was_honest : honest disk_new → honest disk_old
   -- where it succeeds, the logs go on, and the phase is that of the log whose call comes next
-  pub ok : IfOk result (λ phase. (logs_of new ≡ stepped (logs_of old)) × (phase ≡ (due_of (logs_of new)).phase)
-      × Makes states failures (log_file (due_of (logs_of old)).generation) call old.disk new.disk)
+  pub ok : IfOk result (λ phase. (new ≡ stepped old) × (phase ≡ (due_of new).phase) × Makes states failures (log_file (due_of old).generation) call disk_old disk_new)
   -- where it fails, nothing of the logs changes but that one has failed
-  pub err : IfErr result (λ refusal. (refusal ≡ Failed) × (logs_of new ≡ broken (logs_of old))
-      × Fails states failures (log_file (due_of (logs_of old)).generation) call old.disk new.disk)
+  pub err : IfErr result (λ refusal. (refusal ≡ Failed) × (new ≡ broken old) × Fails states failures (log_file (due_of old).generation) call disk_old disk_new)
 
 -- once its header is on the disk the newest log is told to end with this generation
 abbrev pub IsTold : Result Phase Refusal → ℕ → LogState → LogState → Result Phase Refusal → Type 0
@@ -90,11 +89,12 @@ IsTold stepped generation old new result = (result ≡ stepped) × (new ≡ old)
 
 -- ---- between the calls
 
--- The log that follows is begun behind the committed commands, and has its header alone. While that is written the newest log rests; then
--- that one ends. No batch is staged.
+-- The log that follows is begun behind the committed commands, and has its header alone. While that is written the newest log rests; then the
+-- newest one ends. No batch is staged.
 pub record Rotates (next newest : LogState) (staged : List Entry) : Type 0 where
   pub is : next ≡ record (begun (newest.generation + 1) newest.committed) { phase = next.phase; is_broken = next.is_broken }
   pub turn : IsTurn next.phase newest
+  pub ready : IsReady newest.phase
   pub none_staged : staged ≡ []
 
 -- no log follows, and the newest one goes on; or one does

@@ -1,5 +1,5 @@
 //! The keeper of one store: its disk, its logs, and the entries in hand.
-ghost use Rattle.std.specs.Prelude.{◌||◌, is_some, ◌≡◌, ◌≢◌, ◌⊎◌, ◌↔◌, ◌+◌, ◌<◌, ◌≤◌, ◌^◌, ℕ, List, Some, None, [], ◌∷◌, ◌++◌, length, true, false, IfOk, IfErr, OnOk, OnErr};
+ghost use Rattle.std.specs.Prelude.{◌||◌, is_some, Result, Ok, ◌≡◌, ◌≢◌, ◌⊎◌, ◌↔◌, ◌+◌, ◌<◌, ◌≤◌, ◌^◌, ℕ, List, Some, None, [], ◌∷◌, ◌++◌, length, true, false, IfOk, IfErr, OnOk, OnErr};
 ghost use Rattle.map_types.specs.declared.commands.Command.{Command};
 ghost use Rattle.ticket_order.specs.declared.record.Record.{Record};
 ghost use Rattle.ticket_order.specs.Records.{failing, publishing};
@@ -308,8 +308,9 @@ impl<D: Disk> Keeper<D> {
     fn step_end(&mut self, next: GateLog) -> Result<Phase, Refusal>
         requires stands { MayAdvance D.states D.honest self.old.log self.old.disk }
         requires works { (self.old.is_broken ≡ false) × (self.old.log.is_broken ≡ false) }
-        ensures rests { self.old.log.phase ≡ Phase.Idle → result ≡ Ok Phase.Idle }
-        ensures advances { self.old.log.phase ≢ Phase.Idle → (log : LogState) × Advances D.states D.failures D.honest self.old.log log self.old.disk self.new.disk result }
+        requires moves { self.old.log.phase ≢ Phase.Idle }
+        requires alone { self.old.next ≡ None }
+        ensures advances { (log : LogState) × Advances D.states D.failures D.honest self.old.log log self.old.disk self.new.disk result }
         ensures ok { OnOk result ((logs_of self.new ≡ ended_in self.old.log.phase self.old.log next) × (self.new.is_broken ≡ false)) }
         ensures err { OnErr result ((logs_of self.new ≡ record { newest = record self.old.log { is_broken = true }; next = Some next }) × (self.new.is_broken ≡ true)) }
         ensures same { self.new ≡ record self.old { disk = self.new.disk; log = self.new.log; next = self.new.next; is_broken = self.new.is_broken } }
@@ -373,7 +374,7 @@ impl<D: Disk> Keeper<D> {
         requires { (n : ℕ) × (done : List Command) × (p : Record) × Fits D.states D.honest n done self.old p }
         ensures failed { self.old.is_broken ≡ true → (result ≡ Err Refusal.Failed) × (self.new ≡ self.old) }
         ensures rests { self.old.is_broken ≡ false → (due_of (logs_of self.old)).phase ≡ Phase.Idle → (result ≡ Ok Phase.Idle) × (self.new ≡ self.old) }
-        ensures steps { self.old.is_broken ≡ false → (due_of (logs_of self.old)).phase ≢ Phase.Idle → StepsLogs D.states D.failures D.honest self.old self.new result }
+        ensures steps { self.old.is_broken ≡ false → (due_of (logs_of self.old)).phase ≢ Phase.Idle → StepsLogs D.states D.failures D.honest (logs_of self.old) (logs_of self.new) self.old.disk self.new.disk result }
         ensures hand { OnOk result (IsPast self.old.next self.old.log.phase self.old.sweeper self.old.staged.items self.new.sweeper self.new.staged.items) }
         ensures works { OnOk result (self.new.is_broken ≡ false) }
         ensures kept { OnErr result ((self.new.sweeper ≡ self.old.sweeper) × (self.new.staged ≡ self.old.staged) × (self.new.is_broken ≡ true)) }

@@ -10,7 +10,7 @@ pub durable-requires : goal.durable-requires
 durable-requires g c =
     let f = c.requires.fits in
     let may : MayPublish (g.S.Steps.recorded c.args.steps.now) c.args.self.now.log.committed =
-    may_publish g.D.Disk.states g.D.Disk.honest (g.S.Steps.stripe_count c.args.steps.now) f.0 f.1 c.args.self.now (g.S.Steps.recorded c.args.steps.now) f.2 c.requires.rests c.if-self.false in
+    may_publish g.D.Disk.states g.D.Disk.honest (g.S.Steps.stripe_count c.args.steps.now) f.0 c.args.self.now (g.S.Steps.recorded c.args.steps.now) f.1 c.requires.rests c.if-self.false in
     record { fits = subst (λ (x : ℕ). MayPublish (g.S.Steps.recorded c.args.steps.now) x) (sym c.committed-committed.ensures) may }
 
 pub returns-clause-fits : goal.returns-clause-fits

@@ -1,4 +1,4 @@
-use Rattle.std.proofs.Common.{◌≡◌, Ok, Err, Result, sym, arith, rules, ℕ}
+use Rattle.std.proofs.Common.{◌≡◌, Ok, Err, Result, sym, arith, rules, ℕ, None}
 use Rattle.map_types.specs.declared.refusals.Refusal.{Refusal}
 use Rattle.map_types.specs.declared.refusals.Refusal.TheVariants.{LogFull, NoMemory}
 use Rattle.gate_log.specs.States.{IsResting}
@@ -16,7 +16,8 @@ pub returns-in-Ok-clause-fits : goal.returns-in-Ok-clause-fits
 returns-in-Ok-clause-fits g c = λ n done p f.
     let run = c.longest_run-run.ensures in
     let resting : IsResting c.args.self.now.log = search rules in
-    fits_staged g.D.Disk.states g.D.Disk.honest n done c.args.self.now c.stage_run.new.self p run.0 f c.in-Ok.ensures.same c.if-self.false resting run.1.run (omega (arith, run.1.fits.fits, f.counts.next)) (omega (arith, c.if-run-eq0.false, run.2))
+    let alone : c.args.self.now.next ≡ None = search rules in
+    fits_staged g.D.Disk.states g.D.Disk.honest n done c.args.self.now c.stage_run.new.self p run.0 c.steps_of_logs.ensures.staged f c.in-Ok.ensures.same c.if-self.false (resting, alone) run.1.run (omega (arith, run.1.fits.fits, f.counts.next)) (omega (arith, c.if-run-eq0.false, run.2))
     (c.in-Ok.ensures.ok run.0 run.1.run (sym run.2)) c.in-Ok.ensures.stands
 
 pub returns-in-Err-clause-fits : goal.returns-in-Err-clause-fits
@@ -26,9 +27,9 @@ returns-in-Err-clause-fits g c = λ n done p f.
 pub returns-in-Ok-clause-full : goal.returns-in-Ok-clause-full
 returns-in-Ok-clause-full g c =
     let run = c.longest_run-run.ensures in
-    (λ e. absurd (no_ok _ e), λ k. absurd (not_full c.args.most c.args.self.now.log c.args.self.now.sweeper.in_hand run.0 c.longest_run-run.result.frame_len run.1 c.requires.4.counts.next run.3 (omega (arith, c.if-gate-run.false, c.gate-gate.ensures.place, run.1.fits.short, run.3)) k.2))
+    (λ e. absurd (no_ok _ e), λ k. absurd (not_full c.args.most c.args.self.now.log c.args.self.now.sweeper.in_hand run.0 c.longest_run-run.result.frame_len run.1 c.requires.3.counts.next run.3 (omega (arith, c.if-gate-run.false, c.gate-gate.ensures.place, run.1.fits.short, run.3)) k.2))
 
 pub returns-in-Err-clause-full : goal.returns-in-Err-clause-full
 returns-in-Err-clause-full g c =
     let run = c.longest_run-run.ensures in
-    (λ e. absurd (not_this _ c.in-Err.ensures.no_other e), λ k. absurd (not_full c.args.most c.args.self.now.log c.args.self.now.sweeper.in_hand run.0 c.longest_run-run.result.frame_len run.1 c.requires.4.counts.next run.3 (omega (arith, c.if-gate-run.false, c.gate-gate.ensures.place, run.1.fits.short, run.3)) k.2))
+    (λ e. absurd (not_this _ c.in-Err.ensures.no_other e), λ k. absurd (not_full c.args.most c.args.self.now.log c.args.self.now.sweeper.in_hand run.0 c.longest_run-run.result.frame_len run.1 c.requires.3.counts.next run.3 (omega (arith, c.if-gate-run.false, c.gate-gate.ensures.place, run.1.fits.short, run.3)) k.2))

@@ -10,11 +10,11 @@ use Rattle.flusher.proofs.Trying.{put_back_at, stays_at}
 use Rattle.flusher.proofs.keeper.Keeper.sweep.Goals as goal
 
 pub sweep_step-requires : goal.sweep_step-requires
-sweep_step-requires g c = (c.requires.0, c.requires.1, c.loop-step.invariant.fits c.requires.0 c.requires.1 c.requires.2)
+sweep_step-requires g c = (c.requires.0, c.loop-step.invariant.fits c.requires.0 c.requires.1)
 
 pub returns-in-Err-clause-err : goal.returns-in-Err-clause-err
 returns-in-Err-clause-err g c =
-    let f = c.in-Err.ensures.fits c.requires.0 c.requires.1 (c.loop-step.invariant.fits c.requires.0 c.requires.1 c.requires.2) in
+    let f = c.in-Err.ensures.fits c.requires.0 (c.loop-step.invariant.fits c.requires.0 c.requires.1) in
     let k = put_back_at _ _ _ _ _ _ _ _ c.in-Err.ensures.steps_on in
     (k.refused, stays_at _ _ _ _ k.sweep f.stands k.sweep_is k.walking)
 
@@ -44,7 +44,7 @@ loop-step-preserved g c =
     record {
       next = tt;
       finite = tt;
-      fits = λ done f. e.fits before done (i.fits before done f);
+      fits = λ done f. e.fits done (i.fits done f);
       quiet = quiet_then _ _ _ i.quiet e.quiet;
       seen = sees_then _ _ _ i.seen e.seen;
       same = e.same ∙ ap (λ (k : Keeper g.row.D.Denot). record k { sweeper = c.sweep_step.new.self.sweeper }) i.same;
