@@ -80,6 +80,7 @@ fits_rotating {D} states honest n done old p log v begins f works none_ alone sa
     let turns : Rotates next old.log old.staged.items = record {
       is = ap (λ g. log_states.begun (g + 1) old.log.committed) (sym same);
       turn = rests;
+      ready = subst gate_log.IsReady (sym rests.0) tt;
       none_staged = no_batch old.log.phase old.staged.items rests.0 f.counts.empty;
     } in
     subst (λ (z : CheckpointState). Fits states honest n done (record old { next = Some log; checkpoint = Some z }) p) (sym is)

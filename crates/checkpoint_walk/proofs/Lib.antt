@@ -3,3 +3,4 @@ pub mod Walked
 pub mod Standing
 pub mod Sealed
 pub mod Begun
+pub mod Given

@@ -1,5 +1,5 @@
 -- What the three steps of a capture of one stripe leave.
-use Rattle.std.proofs.Common.{◌≡◌, ◌⊎◌, inl, inr, ℕ, ◌+◌, ◌<◌, List, [], ◌∷◌, ◌++◌, length, Some, None, append-nil, refl, sym, ◌∙◌, ap, subst, arith}
+use Rattle.std.proofs.Common.{◌≡◌, ◌⊎◌, inl, inr, ℕ, ◌+◌, ◌<◌, ◌≤◌, List, [], ◌∷◌, ◌++◌, length, Some, None, append-nil, refl, sym, ◌∙◌, ap, subst, arith}
 use Rattle.std.proofs.lemmas.List.{append_assoc, length_push, same_from_push}
 use Rattle.map_types.specs.declared.refusals.Refusal.{Refusal}
 use Rattle.map_types.specs.declared.refusals.Refusal.TheVariants as refusal
@@ -7,6 +7,7 @@ use Rattle.map_types.specs.declared.commands.Command.{Command}
 use Rattle.map_types.specs.declared.commands.Read as read_type
 use Rattle.map_types.specs.declared.commands.Reply.{Reply}
 use Rattle.map_types.specs.declared.texts.Value.{Value}
+use Rattle.ticket_order.specs.declared.capture_walk.Captured.{Captured}
 use Rattle.ticket_order.specs.declared.capture_walk.CaptureStage.TheVariants as capture
 use Rattle.ticket_order.specs.declared.change_walk.ChangeStage.{ChangeStage}
 use Rattle.ticket_order.specs.declared.change_walk.ChangeStage.TheVariants as change
@@ -33,7 +34,12 @@ use Rattle.ticket_order.specs.Walks.{Fits, FitsStage, Give, HasContent, KeepsCap
 use Rattle.ticket_order.proofs.Left.{some_left}
 use Rattle.map_model.specs.Maps.{Map}
 use Rattle.flusher.specs.Fitting.{IsBeside}
-use Rattle.checkpoint_walk.specs.Capturing.{HasLooked, HasTaken}
+use Rattle.std.specs.FinMap as finite
+use Rattle.disk_model.specs.Files.{File}
+use Rattle.store_layout.specs.Checkpoints.{Section}
+use Rattle.checkpoint_file.specs.States.{AreKeysOf, CheckpointState, with_section}
+use Rattle.checkpoint_file.specs.Standing.{Stands}
+use Rattle.checkpoint_walk.specs.Capturing.{HasLooked, HasTaken, IsStaged, StandsWith}
 
 -- ---- which walk it is
 
@@ -251,7 +257,7 @@ refuses n b i walk p e k kept refused = refused_at n b i walk.stage p e k.fits k
 beside_at : (b v w : Record) → IsBeside b v → w ≡ v → IsBeside b w
 beside_at b v w k is = subst (IsBeside b) (sym is) k
 
-beside_missed : (b : Record) (i : ℕ) → IsBeside b (missing b i)
+pub beside_missed : (b : Record) (i : ℕ) → IsBeside b (missing b i)
 beside_missed b i = record { opening = refl; keeper = refl; taken = refl; published = refl; failed = refl; seen = record { more = []; is = sym (append-nil b.seen) }; made = FoundHeld i ∷ []; steps = refl }
 
 beside_begun : (b : Record) → IsBeside b b
@@ -342,3 +348,32 @@ captured_free n b i mark es w k = ap (λ (r : Record). r.holding) k.is
 
 pub refused_free : (b : Record) (i : ℕ) (e : Refusal) (w : Record) → b.holding ≡ None → RefusesCapture b i e w → w.holding ≡ None
 refused_free b i e w free r = elim (refused_by b i e w r) [ inl is ↦ ap (λ (z : Record). z.holding) is ∙ free | inr k ↦ ap (λ (z : Record). z.holding) k.is ]
+
+-- ---- what was copied is given to the checkpoint
+
+some_same : (x y : Captured) → Some x ≡ Some y → x ≡ y
+some_same x y e = cc
+
+not_both : (s : Stage) (z : Captured) (e : Refusal) → captured_of_stage s ≡ Some z → refusal_of_stage s ≡ Some e → ⊥
+not_both (stage.Change s) z e c r = cc
+not_both (stage.Read s) z e c r = cc
+not_both (stage.Release s) z e c r = cc
+not_both (stage.Sweep s) z e c r = cc
+not_both (stage.Capture s) z e c r = cc
+not_both (stage.GivingBack t f) z e c r = cc
+
+staged_with : (old new : CheckpointState) (walk : Walk) (z : Captured) → captured_of_walk walk ≡ Some z → new ≡ with_section z.mark z.entries.items old → StandsWith old z.mark z.entries.items → IsStaged old new walk walk
+staged_with old new walk z copied is stands = record {
+  looked = λ n b i p k. k;
+  given = λ y e. subst (λ (x : Captured). (new ≡ with_section x.mark x.entries.items old) × StandsWith old x.mark x.entries.items) (some_same z y (sym copied ∙ e)) (is, stands);
+  same = λ e r. absurd (not_both walk.stage z e copied r);
+}
+
+pub staged_ok : (old new : CheckpointState) (walk : Walk) (z : Captured) (es : List (List ℕ × Value)) → captured_of_walk walk ≡ Some z → es ≡ z.entries.items → new ≡ with_section z.mark es old
+    → ((map : Map) (content : List ℕ) (sections : List Section) (file : File) → es ≡ finite.entries map → AreKeysOf old.stripes old.count es → old.low ≤ z.mark → Stands old content sections file
+    → Stands new content (sections ++ record { mark = z.mark; map = map } ∷ []) file) → IsStaged old new walk walk
+staged_ok old new walk z es copied same is stands =
+    let to : new ≡ with_section z.mark z.entries.items old = is ∙ ap (λ (l : List (List ℕ × Value)). with_section z.mark l old) same in
+    staged_with old new walk z copied to (λ map content sections file e keys low k.
+    subst (λ (v : CheckpointState). Stands v content (sections ++ record { mark = z.mark; map = map } ∷ []) file) to
+    (stands map content sections file (same ∙ e) (subst (λ (l : List (List ℕ × Value)). AreKeysOf old.stripes old.count l) (sym same) keys) low k))

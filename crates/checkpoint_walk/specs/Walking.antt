@@ -60,6 +60,8 @@ pub record PutsBack {D : Type 0} (b : Record) (stripe : ℕ) (refusal : Refusal)
 
 -- TAKE found the stripe free
 pub record TakesStripe {D : Type 0} (n stripe : ℕ) (old new : Keeper D) (p w : Record) : Type 0 where
+  pub works : old.is_broken ≡ false
+  pub next : IsNextStripe stripe old.next old.checkpoint
   pub walk : Walk
   pub taken : HasTaken n p stripe walk w
   pub is : new ≡ record old { capture = Some walk }

@@ -3,9 +3,11 @@
 #![tactic(auto)]
 
 mod beginning;
+mod captures;
 mod capturing;
 mod sealing;
 mod sections;
 
 pub use beginning::begin;
+pub use captures::try_capture;
 pub use sealing::seal;

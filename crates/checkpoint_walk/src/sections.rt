@@ -1,5 +1,5 @@
 //! The sections of a checkpoint, captured one after another.
-ghost use Rattle.std.specs.Prelude.{◌≡◌, ◌⊎◌, ◌↔◌, ℕ, None, true, false, IfErr, IfOk};
+ghost use Rattle.std.specs.Prelude.{◌≡◌, ◌⊎◌, ◌↔◌, ℕ, None, true, false, IfErr, IfOk, OnOk};
 ghost use Rattle.ticket_order.specs.declared.record.Record.{Record};
 ghost use Rattle.ticket_order.specs.Walks.{Give, MakesOne};
 ghost use Rattle.checkpoint_file.specs.States.{TakesSection};
@@ -31,6 +31,7 @@ pub(crate) fn is_next<D: Disk>(keeper: &Keeper<D>, stripe: usize) -> bool
 pub(crate) fn check<D: Disk>(keeper: &Keeper<D>, stripe: usize) -> Result<(), Refusal>
     ensures failed { (result ≡ Err Refusal.Failed) ↔ (keeper.now.is_broken ≡ true) }
     ensures wrong_phase { (result ≡ Err Refusal.WrongPhase) ↔ ((keeper.now.is_broken ≡ false) × (IsNextStripe stripe keeper.now.next keeper.now.checkpoint → ⊥)) }
+    ensures ok { OnOk result ((keeper.now.is_broken ≡ false) × IsNextStripe stripe keeper.now.next keeper.now.checkpoint) }
     ensures no_other { IfErr result (λ refusal. (refusal ≡ Refusal.Failed) ⊎ (refusal ≡ Refusal.WrongPhase)) }
 {
     if keeper.is_broken {
