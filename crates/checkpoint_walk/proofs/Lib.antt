@@ -4,3 +4,4 @@ pub mod Standing
 pub mod Sealed
 pub mod Begun
 pub mod Given
+pub mod Waiting

@@ -1,5 +1,5 @@
 -- Where a keeper stands between the steps of a capture.
-use Rattle.std.specs.Prelude.{◌≡◌, ◌⊎◌, ℕ, List, ◌++◌, replicate, Option, None, Some, false, Result, Ok, Err}
+use Rattle.std.specs.Prelude.{◌≡◌, ◌⊎◌, ℕ, List, ◌++◌, replicate, Option, None, Some, true, false, Result, Ok, Err}
 use Rattle.disk_model.specs.Files.{Files}
 use Rattle.map_types.specs.declared.commands.Command.{Command}
 use Rattle.map_types.specs.declared.refusals.Refusal.{Refusal}
@@ -115,3 +115,26 @@ AfterRefusal stripe old new p w refusal = PutsBack p stripe refusal old new w
 pub record HasWaited (stripe : ℕ) (p b : Record) : Type 0 where
   pub tries : ℕ
   pub is : b ≡ record p { steps = p.steps ++ replicate tries (FoundHeld stripe) }
+
+-- then a capture of it gave its section
+pub record GivesWaiting {D : Type 0} (n : ℕ) (p : Record) (stripe mark : ℕ) (old new : Keeper D) (w : Record) : Type 0 where
+  pub begun : Record
+  pub waited : HasWaited stripe p begun
+  pub gives : GivesSection n begun stripe mark old new w
+
+-- or put it back
+pub record BackWaiting {D : Type 0} (p : Record) (stripe : ℕ) (refusal : Refusal) (old new : Keeper D) (w : Record) : Type 0 where
+  pub begun : Record
+  pub waited : HasWaited stripe p begun
+  pub back : PutsBack begun stripe refusal old new w
+
+-- what a refused capture of this stripe leaves, which waited for it
+abbrev pub AfterWaiting : {D : Type 0} → ℕ → Keeper D → Keeper D → Record → Record → Refusal → Type 0
+AfterWaiting stripe old new p w Failed = StaysAt old new p w
+AfterWaiting stripe old new p w WrongPhase = StaysAt old new p w
+AfterWaiting stripe old new p w refusal = BackWaiting p stripe refusal old new w
+
+-- the capture of this stripe isn't refused before its first step
+pub record MayCapture {D : Type 0} (stripe : ℕ) (keeper : Keeper D) : Type 0 where
+  pub works : keeper.is_broken ≡ true → ⊥
+  pub next : (IsNextStripe stripe keeper.next keeper.checkpoint → ⊥) → ⊥

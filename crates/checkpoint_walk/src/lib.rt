@@ -9,5 +9,5 @@ mod sealing;
 mod sections;
 
 pub use beginning::begin;
-pub use captures::try_capture;
+pub use captures::{capture, try_capture};
 pub use sealing::seal;
