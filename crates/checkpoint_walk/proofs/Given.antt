@@ -51,7 +51,7 @@ committed_there : (h : History) (ticket : ℕ) (new : List Command) → IsNextOf
 committed_there h ticket new k = (
     let long : length h.commands ≡ length (k.front ++ (new ++ k.back)) = ap (λ (xs : List Command). length xs) k.commands in
     omega (arith, long, length-append k.front (new ++ k.back), k.place)
-)
+    )
 
 next_of : (stripe : ℕ) (next : Option LogState) (writer : Option CheckpointState) (w : CheckpointState) → writer ≡ Some w → IsNextStripe stripe next writer → (next ≡ None) × TakesSection w × (w.count ≡ stripe)
 next_of stripe next writer w is k = subst (IsNextStripe stripe next) is k

@@ -5,3 +5,5 @@ pub mod Sealed
 pub mod Begun
 pub mod Given
 pub mod Waiting
+pub mod Advanced
+pub mod Stepped

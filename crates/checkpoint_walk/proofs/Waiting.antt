@@ -60,8 +60,10 @@ may_capture {D} stripe old e i is failed wrong = record {
   where
     no_failure : (i : ℕ) → refusal.Busy i ≡ refusal.Failed → ⊥
     no_failure i e = cc
+
     no_phase : (i : ℕ) → refusal.Busy i ≡ refusal.WrongPhase → ⊥
     no_phase i e = cc
+
     by_works : (x : Bool) → (x ≡ true → ⊥) → (x ≡ false → ⊥) → ⊥
     by_works true a b = a refl
     by_works false a b = b refl

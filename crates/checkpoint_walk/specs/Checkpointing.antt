@@ -1,5 +1,5 @@
 -- The checkpoint that a keeper writes, as its callers see it.
-use Rattle.std.specs.Prelude.{◌≡◌, ◌≢◌, ℕ, ◌+◌, ◌<◌, ◌^◌, Bool, true, List, Option, None, Some, Result, Ok, IfOk, IfErr}
+use Rattle.std.specs.Prelude.{◌≡◌, ◌≢◌, ℕ, ◌+◌, ◌<◌, ◌^◌, Bool, true, List, Option, None, Some, Result, Ok, Err, IfOk, IfErr}
 use Rattle.disk_model.specs.Calls.{Makes, Fails}
 use Rattle.disk_model.specs.Files.{Contents, Files, Leaves}
 use Rattle.disk_model.specs.Gates.{Call}
@@ -81,16 +81,21 @@ pub record Checkpoints : Type 0 where
 abbrev pub checkpoints_of : {D : Type 0} → Keeper D → Checkpoints
 checkpoints_of keeper = record { sealed = keeper.sealed; writer = keeper.checkpoint; must_close = keeper.must_close }
 
--- after the last sync of a seal the checkpoint is the sealed one, and the next goes to the file of the one before, whose gate is open
-abbrev pub stepped_in : CheckpointPhase → CheckpointState → Checkpoints → Checkpoints
-stepped_in Opened w before = record { sealed = w.generation; writer = None; must_close = true }
-stepped_in phase w before = record before { writer = Some (state_after phase w) }
+-- with the checkpoint as it is after a call; after the last sync of a seal it is the sealed one, and the next goes to the file of the one
+-- before, whose gate is open
+abbrev pub kept_in : CheckpointPhase → CheckpointState → Checkpoints → Checkpoints
+kept_in Opened after before = record { sealed = after.generation; writer = None; must_close = true }
+kept_in phase after before = record before { writer = Some after }
+
+abbrev pub KeepsAfter : Result CheckpointPhase Refusal → CheckpointPhase → CheckpointState → Checkpoints → Checkpoints → Type 0
+KeepsAfter (Ok next) phase after old new = new ≡ kept_in phase after old
+KeepsAfter (Err refusal) phase after old new = new ≡ record old { writer = Some after }
 
 -- One step of a checkpoint in whose file a device call is due: it makes that call, and no other.
 pub record StepsCheckpoint {D : Type 0} (states : D → List Files) (failures : D → ℕ) (honest : D → Type 0) (call : Call) (w : CheckpointState) (old new : Keeper D) (result : Result CheckpointPhase Refusal) : Type 0 where
   pub was_honest : honest new.disk → honest old.disk
   -- where it succeeds, the checkpoint goes on
-  pub ok : IfOk result (λ phase. (checkpoints_of new ≡ stepped_in w.phase w (checkpoints_of old)) × (phase ≡ (state_after w.phase w).phase)
+  pub ok : IfOk result (λ phase. (checkpoints_of new ≡ kept_in w.phase (state_after w.phase w) (checkpoints_of old)) × (phase ≡ (state_after w.phase w).phase)
       × Makes states failures (checkpoint_file w.generation) call old.disk new.disk)
   -- where it fails, nothing of it changes but that it has failed
   pub err : IfErr result (λ refusal. (refusal ≡ Failed) × (checkpoints_of new ≡ record (checkpoints_of old) { writer = Some (record w { is_broken = true }) })

@@ -2,12 +2,14 @@
 //! own mark, and once all of them are committed the checkpoint is sealed.
 #![tactic(auto)]
 
+mod advancing;
 mod beginning;
 mod captures;
 mod capturing;
 mod sealing;
 mod sections;
 
+pub use advancing::advance;
 pub use beginning::begin;
 pub use captures::{capture, try_capture};
 pub use sealing::seal;

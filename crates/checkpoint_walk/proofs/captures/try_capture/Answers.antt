@@ -17,9 +17,9 @@ returns-in_default-clause-fits g c = λ done f.
 
 pub look-walk-requires : goal.look-walk-requires
 look-walk-requires g c = (
-    g.S.Steps.recorded c.args.steps.now,
-    c.args.stripe,
-    subst (λ (m : ℕ). HasTaken m (g.S.Steps.recorded c.args.steps.now) c.args.stripe c.in-Some.walk (g.S.Steps.recorded c.hold.new.steps)) (sym c.in-Some.ensures.stripes) c.in-Some.ensures.some,
+  g.S.Steps.recorded c.args.steps.now,
+  c.args.stripe,
+  subst (λ (m : ℕ). HasTaken m (g.S.Steps.recorded c.args.steps.now) c.args.stripe c.in-Some.walk (g.S.Steps.recorded c.hold.new.steps)) (sym c.in-Some.ensures.stripes) c.in-Some.ensures.some,
 )
 
 pub give-requires-clause-next : goal.give-requires-clause-next
