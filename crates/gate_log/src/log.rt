@@ -107,6 +107,13 @@ impl GateLog {
         self.generation
     }
 
+    /// The ticket of the first command that it may hold.
+    pub fn low(&self) -> u64
+        ensures { result ≡ self.now.low }
+    {
+        self.low
+    }
+
     /// How many commands are committed, with those before this log.
     pub fn committed(&self) -> u64
         ensures { result ≡ self.now.committed }

@@ -132,6 +132,7 @@ fn an_end(rt: HostRuntime) -> Result<(), Fail> {
     assert_eq!(rt; stage_one(&mut log, put(alloc)?), Err(Refusal::WrongPhase));
     assert_eq!(rt; log.begin(1, 0), Ok(()));
     assert_eq!(rt; log.generation(), 1);
+    assert_eq!(rt; log.low(), 0);
     Ok(())
 }
 

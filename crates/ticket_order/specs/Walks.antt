@@ -178,10 +178,11 @@ captured_of_stage s = None
 abbrev pub captured_of_walk : Walk → Option Captured
 captured_of_walk w = captured_of_stage w.stage
 
--- what a capture hands out
+-- a capture that has copied its stripe hands that out, and no other does
 abbrev pub KeepsCaptured : Option Captured → Stepped → Type 0
-KeepsCaptured taken (stepped.Captured z) = taken ≡ Some z
-KeepsCaptured taken end = Unit {0}
+KeepsCaptured (Some z) end = end ≡ stepped.Captured z
+KeepsCaptured None (stepped.Captured z) = ⊥
+KeepsCaptured None end = Unit {0}
 
 -- the refusal of a walk that gives its stripe back
 abbrev pub refusal_of_stage : Stage → Option Refusal

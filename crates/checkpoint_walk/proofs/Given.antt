@@ -1,0 +1,158 @@
+-- What a keeper fits after each step of a capture.
+use Rattle.std.proofs.Common.{◌≡◌, ◌⊎◌, inl, inr, ℕ, ◌+◌, ◌≤◌, max, List, [], ◌∷◌, ◌++◌, length, Option, None, Some, Bool, true, false, IfSome, Result, Ok, Err, IfOk, IfErr, refl, sym, ◌∙◌, ap, subst, arith}
+use Rattle.std.proofs.lemmas.List.{length-append}
+use Rattle.std.specs.FinMap as finite
+use Rattle.disk_model.specs.Files.{File, Files, now}
+use Rattle.map_types.specs.declared.commands.Command.{Command}
+use Rattle.map_types.specs.declared.refusals.Refusal.{Refusal}
+use Rattle.map_types.specs.declared.refusals.Refusal.TheVariants as refusal
+use Rattle.map_types.specs.declared.texts.Value.{Value}
+use Rattle.map_model.specs.Histories.{History, fold_to}
+use Rattle.map_model.specs.Parts.{part_of}
+use Rattle.ticket_order.specs.declared.record.Record.{Record}
+use Rattle.ticket_order.specs.declared.walk.Walk.{Walk}
+use Rattle.ticket_order.specs.Legality.{history_of}
+use Rattle.ticket_order.specs.Calls.{CapturesStripe, RefusesCapture}
+use Rattle.ticket_order.specs.Records.{missing}
+use Rattle.ticket_order.specs.Walks.{Give, Look, next_kind}
+use Rattle.store_layout.specs.Checkpoints.{Checkpoint, Section, checkpoint_file}
+use Rattle.store_layout.specs.Logs.{Batch, commands_in}
+use Rattle.store_layout.specs.Standing.{IsNextOf, reach}
+use Rattle.gate_log.specs.States.{LogState}
+use Rattle.gate_log.specs.Standing as gate_log
+use Rattle.checkpoint_file.specs.States.{AreKeysOf, CheckpointState, TakesSection, with_section}
+use Rattle.checkpoint_file.specs.Standing as checkpoint
+use Rattle.store_states.specs.Laws.{SectionIsGiven}
+use Rattle.store_states.specs.States.{Held, StoreState, low_after}
+use Rattle.store_states.specs.Standing as store
+use Rattle.flusher.specs.declared.keeper.Keeper.{Keeper}
+use Rattle.flusher.specs.Fitting.{Fits, HoldsFor, IsBeside, store_of}
+use Rattle.flusher.specs.Keeping.{is_walking}
+use Rattle.checkpoint_walk.specs.Capturing.{HasLooked, HasTaken, StandsWith}
+use Rattle.checkpoint_walk.specs.Checkpointing.{HasGiven, IsNextStripe}
+use Rattle.checkpoint_walk.specs.Walking.{AfterRefusal, AfterStep, AfterTake, AfterWalk, FitsBy, FitsWalking, GivesSection, IsCapturing, PutsBack}
+use Rattle.checkpoint_walk.proofs.Keys.{keys_of_part}
+use Rattle.checkpoint_walk.proofs.Sealed.{of_writer, writes_in}
+use Rattle.checkpoint_walk.proofs.Standing.{fits_capture, fits_changed}
+use Rattle.checkpoint_walk.proofs.Walked.{beside_missed, captured_beside, captured_free, refused_beside, refused_free}
+
+-- ---- a section is a part at its mark
+
+-- the log's low ticket is committed
+low_there : (log : LogState) (batches staged : List Batch) (file : File) → gate_log.Stands log batches staged file → log.low ≤ log.committed
+low_there log batches staged file k = omega (arith, k.knows.committed)
+
+newest_low : (k : Checkpoint) (first : List Batch) (second : Option (List Batch)) (newest : LogState) (staged : List Batch) (files : Files) → store.LogsStand k first second newest staged files → newest.low ≤ newest.committed
+newest_low k first None newest staged files x = low_there newest first staged _ x.2
+newest_low k first (Some second) newest staged files x = low_there newest second staged _ x.2
+
+-- and what is committed is of the history
+committed_there : (h : History) (ticket : ℕ) (new : List Command) → IsNextOf h ticket new → ticket ≤ reach h
+committed_there h ticket new k = (
+    let long : length h.commands ≡ length (k.front ++ (new ++ k.back)) = ap (λ (xs : List Command). length xs) k.commands in
+    omega (arith, long, length-append k.front (new ++ k.back), k.place)
+    )
+
+next_of : (stripe : ℕ) (next : Option LogState) (writer : Option CheckpointState) (w : CheckpointState) → writer ≡ Some w → IsNextStripe stripe next writer → (next ≡ None) × TakesSection w × (w.count ≡ stripe)
+next_of stripe next writer w is k = subst (IsNextStripe stripe next) is k
+
+-- What is known of a section that was captured, for the checkpoint that runs.
+pub record Belongs (h : History) (held : Held) (w : CheckpointState) (mark : ℕ) (entries : List (List ℕ × Value)) (section : Section) (file : File) : Type 0 where
+  pub mark_is : section.mark ≡ mark
+  pub map : section.map ≡ part_of w.stripes (length held.sections) (fold_to h mark)
+  pub low : max h.first w.low ≤ mark
+  pub within : mark ≤ reach h
+  pub entries_are : entries ≡ finite.entries section.map
+  pub keys : AreKeysOf w.stripes w.count entries
+  pub stands : checkpoint.Stands w held.other held.sections file
+
+belongs : {D : Type 0} (n : ℕ) (old : Keeper D) (b w : Record) (stripe mark : ℕ) (entries : List (List ℕ × Value)) (writer : CheckpointState) (files : Files) (k : HoldsFor (history_of w) old files) (c : CapturesStripe n b stripe mark entries w)
+    → old.checkpoint ≡ Some writer → IsNextStripe stripe old.next old.checkpoint → writer.stripes ≡ n
+    → Belongs (history_of w) k.held writer mark entries (record { mark = mark; map = c.part }) (files (checkpoint_file writer.generation))
+belongs {D} n old b w stripe mark entries writer files k c is next stripes =
+    let x : store.Writes writer (store_of old) k.held (files (checkpoint_file (old.sealed + 1))) = writes_in (store_of old) k.held _ writer is k.stands.kept.writer in
+    let at : checkpoint.Stands writer k.held.other k.held.sections (files (checkpoint_file writer.generation)) =
+    subst (λ (g : ℕ). checkpoint.Stands writer k.held.other k.held.sections (files (checkpoint_file g))) (sym x.generation) x.stands in
+    let takes = next_of stripe old.next old.checkpoint writer is next in
+    let count : stripe ≡ length k.held.sections = sym takes.2 ∙ at.knows.count in
+    let part : part_of n stripe (fold_to (history_of w) mark) ≡ c.part = c.legal.part_is in
+    let low : writer.low ≡ old.log.low = x.low ∙ ap (low_after old.log) takes.0 in
+    let committed : old.log.low ≤ old.log.committed = newest_low k.held.found.checkpoint k.held.found.first k.held.found.second old.log k.held.staged files k.stands.kept.logs in
+    let seen : old.log.committed ≤ reach (history_of w) = committed_there (history_of w) old.log.committed _ k.stands.of_history.next in
+    let mark_is : mark ≡ reach (history_of w) = c.mark_is in
+    let first : w.opening.first ≤ mark = c.legal.from_first in
+    record {
+      mark_is = refl;
+      map = sym part ∙ ap (λ s. part_of s stripe (fold_to (history_of w) mark)) (sym stripes) ∙ ap (λ i. part_of writer.stripes i (fold_to (history_of w) mark)) count;
+      low = omega (arith, low, committed, seen, mark_is, first);
+      within = omega (arith, mark_is);
+      entries_are = c.entries_are;
+      keys = subst (λ (l : List (List ℕ × Value)). AreKeysOf writer.stripes writer.count l) (sym c.entries_are)
+          (subst (λ s. AreKeysOf s writer.count (finite.entries c.part)) (sym stripes)
+          (subst (λ i. AreKeysOf n i (finite.entries c.part)) (sym takes.2)
+          (subst (λ m. AreKeysOf n stripe (finite.entries m)) part (keys_of_part n stripe (fold_to (history_of w) mark)))));
+      stands = at;
+    }
+
+-- the checkpoint once it is given a section
+standing : (h : History) (held : Held) (w : CheckpointState) (mark : ℕ) (entries : List (List ℕ × Value)) (section : Section) (file : File) → Belongs h held w mark entries section file → StandsWith w mark entries
+    → checkpoint.Stands (with_section section.mark entries w) held.other (held.sections ++ section ∷ []) file
+standing h held w mark entries section file k stands =
+    subst (λ m. checkpoint.Stands (with_section m entries w) held.other (held.sections ++ section ∷ []) file) (sym k.mark_is)
+    (subst (λ m. checkpoint.Stands (with_section mark entries w) held.other (held.sections ++ record { mark = m; map = section.map } ∷ []) file) (sym k.mark_is)
+    (stands section.map held.other held.sections file k.entries_are k.keys (omega (arith, k.low)) k.stands))
+
+-- ---- the keeper after a step
+
+pub gives_fit : {D : Type 0} (states : D → List Files) (honest : D → Type 0) (n : ℕ) (done : List Command) (old : Keeper D) (b w : Record) (stripe mark : ℕ) (new : Keeper D) → SectionIsGiven → Fits states honest n done old w → old.is_broken ≡ false
+    → IsNextStripe stripe old.next old.checkpoint → GivesSection n b stripe mark old new w → Fits states honest n done new w
+gives_fit {D} states honest n done old b w stripe mark new given f works next g =
+    let u = f.stores.unbroken works in
+    let stripes : g.writer.stripes ≡ n = of_writer (λ x. x.stripes ≡ n) old.checkpoint g.writer g.was f.stripes.writer in
+    let section : Section = record { mark = mark; map = g.captures.part } in
+    subst (λ (k : Keeper D). Fits states honest n done k w) (sym g.is)
+    (fits_changed states honest n done old w old.next (Some (with_section mark g.entries g.writer)) None f works stripes f.rotation
+    (record { log = u.log; next = u.next; writer = of_writer (λ x. x.is_broken ≡ false) old.checkpoint g.writer g.was u.writer })
+    (λ h. (
+    let k = f.stores.works works h in
+    let x = belongs n old b w stripe mark g.entries g.writer (now (states old.disk)) k g.captures g.was next stripes in
+    record {
+      held = record k.held { sections = k.held.sections ++ section ∷ [] };
+      stands = given (history_of w) (store_of old) k.held (now (states old.disk)) g.writer g.entries section k.stands g.was x.map x.low x.within
+          (standing (history_of w) k.held g.writer mark g.entries section (now (states old.disk) (checkpoint_file g.writer.generation)) x g.stands);
+      staged_is = k.staged_is;
+      must_close_is = k.must_close_is;
+    }
+    )))
+
+-- The keeper's pass goes on beside it.
+abbrev pub GoesOn : {D : Type 0} → (D → List Files) → (D → Type 0) → Keeper D → Type 0
+GoesOn {D} states honest keeper = (n : ℕ) (done : List Command) (p : Record) → Fits states honest n done keeper p → is_walking keeper.sweeper.walking ≡ false → (w : Record) → IsBeside p w → w.holding ≡ None → Fits states honest n done keeper w
+
+abbrev pub IsFreeAt : {D : Type 0} → (D → List Files) → (D → Type 0) → Keeper D → Type 0
+IsFreeAt {D} states honest keeper = (n : ℕ) (done : List Command) (p : Record) → Fits states honest n done keeper p → is_walking keeper.sweeper.walking ≡ false → p.holding ≡ None
+
+-- a whole capture has given its section
+pub gives_from : {D : Type 0} (states : D → List Files) (honest : D → Type 0) (n : ℕ) (done : List Command) (old : Keeper D) (b w : Record) (stripe mark : ℕ) (new : Keeper D) → SectionIsGiven → GoesOn states honest old
+    → Fits states honest n done old b → is_walking old.sweeper.walking ≡ false → old.is_broken ≡ false → IsNextStripe stripe old.next old.checkpoint → GivesSection n b stripe mark old new w → Fits states honest n done new w
+gives_from {D} states honest n done old b w stripe mark new given on f rests works next g =
+    gives_fit states honest n done old b w stripe mark new given
+    (on n done b f rests w (captured_beside n b stripe mark g.entries w g.captures) (captured_free n b stripe mark g.entries w g.captures)) works next g
+
+-- or has put the stripe back
+pub back_from : {D : Type 0} (states : D → List Files) (honest : D → Type 0) (n : ℕ) (done : List Command) (old : Keeper D) (b w : Record) (stripe : ℕ) (e : Refusal) (new : Keeper D) → GoesOn states honest old → IsFreeAt states honest old
+    → Fits states honest n done old b → is_walking old.sweeper.walking ≡ false → PutsBack b stripe e old new w → Fits states honest n done new w
+back_from {D} states honest n done old b w stripe e new on free f rests g =
+    subst (λ (k : Keeper D). Fits states honest n done k w) (sym g.is)
+    (fits_capture states honest n done old w None (on n done b f rests w (refused_beside b stripe e w g.back) (refused_free b stripe e w (free n done b f rests) g.back)))
+
+pub missed_from : {D : Type 0} (states : D → List Files) (honest : D → Type 0) (n : ℕ) (done : List Command) (old : Keeper D) (p : Record) (stripe : ℕ) → GoesOn states honest old → IsFreeAt states honest old
+    → Fits states honest n done old p → is_walking old.sweeper.walking ≡ false → Fits states honest n done old (missing p stripe)
+missed_from {D} states honest n done old p stripe on free f rests = on n done p f rests (missing p stripe) (beside_missed p stripe) (free n done p f rests)
+
+-- either
+pub whole_from : {D : Type 0} (states : D → List Files) (honest : D → Type 0) (n : ℕ) (done : List Command) (old : Keeper D) (b p w : Record) (stripe : ℕ) (walk : Walk) (r : Result ℕ Refusal) (new : Keeper D) → SectionIsGiven → GoesOn states honest old
+    → IsFreeAt states honest old → Fits states honest n done old b → is_walking old.sweeper.walking ≡ false → old.is_broken ≡ false → IsNextStripe stripe old.next old.checkpoint → HasLooked n b stripe walk p
+    → IfOk r (λ mark. (b : Record) (i : ℕ) → HasLooked n b i walk p → GivesSection n b i mark old new w) → IfErr r (λ e. (b : Record) (i : ℕ) → HasLooked n b i walk p → PutsBack b i e old new w) → Fits states honest n done new w
+whole_from {D} states honest n done old b p w stripe walk (Ok mark) new given on free f rests works next k ok err = gives_from states honest n done old b w stripe mark new given on f rests works next (ok b stripe k)
+whole_from {D} states honest n done old b p w stripe walk (Err e) new given on free f rests works next k ok err = back_from states honest n done old b w stripe e new on free f rests (err b stripe k)

@@ -1,0 +1,9 @@
+pub mod Keys
+pub mod Walked
+pub mod Standing
+pub mod Sealed
+pub mod Begun
+pub mod Given
+pub mod Waiting
+pub mod Advanced
+pub mod Stepped

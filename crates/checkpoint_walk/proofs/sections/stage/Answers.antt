@@ -1,0 +1,8 @@
+use Rattle.std.proofs.Common.{ap, sym, ◌∙◌}
+use Rattle.std.specs.Option.{option_copied}
+use Rattle.checkpoint_walk.proofs.Walked.{staged_ok}
+use Rattle.checkpoint_walk.proofs.sections.stage.Goals as goal
+
+pub returns-in-Ok : goal.returns-in-Ok
+returns-in-Ok c =
+    staged_ok c.args.writer.now c.section-staged.new.self c.args.walk c.in-Some.captured.now c.deref.result.now (sym c.captured.ensures ∙ ap option_copied c.in-Some.is) c.deref.ensures.value c.in-Ok.ensures.ok c.in-Ok.ensures.staged

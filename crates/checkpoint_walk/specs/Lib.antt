@@ -1,0 +1,3 @@
+pub mod Capturing
+pub mod Checkpointing
+pub mod Walking

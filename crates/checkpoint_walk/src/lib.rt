@@ -1,0 +1,15 @@
+//! A checkpoint is written while other threads work: the stripes are captured one by one, each at its
+//! own mark, and once all of them are committed the checkpoint is sealed.
+#![tactic(auto)]
+
+mod advancing;
+mod beginning;
+mod captures;
+mod capturing;
+mod sealing;
+mod sections;
+
+pub use advancing::advance;
+pub use beginning::begin;
+pub use captures::{capture, try_capture};
+pub use sealing::seal;

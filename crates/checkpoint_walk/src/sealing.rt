@@ -1,0 +1,62 @@
+//! A checkpoint is to be sealed.
+ghost use Rattle.std.specs.Prelude.{◌≡◌, ◌⊎◌, ◌↔◌, ◌<◌, ◌≤◌, ℕ, List, Some, true, false, IfErr, OnOk, OnErr};
+ghost use Rattle.disk_model.specs.Files.{now};
+ghost use Rattle.map_types.specs.declared.commands.Command.{Command};
+ghost use Rattle.ticket_order.specs.declared.record.Record.{Record};
+ghost use Rattle.store_layout.specs.Checkpoints.{Section};
+ghost use Rattle.checkpoint_file.specs.States.{TakesSeal};
+ghost use Rattle.checkpoint_file.specs.Standing as checkpoint;
+ghost use Rattle.disk_model.specs.Files.{File};
+ghost use Rattle.flusher.specs.Fitting.{Fits};
+ghost use Rattle.checkpoint_walk.specs.Checkpointing.{HasAllSections, HasGiven, IsMarkedAbove, sealing};
+
+use checkpoint_file::{CheckpointPhase, CheckpointWriter};
+use disk_model::Disk;
+use flusher::Keeper;
+use map_types::Refusal;
+use store_states::laws::steps_of_checkpoints;
+
+/// Goes on to the header of the checkpoint, once the sections of all stripes are written and the count
+/// that was last published has reached the greatest of their marks. Until then it may be tried again.
+/// It makes no device call.
+pub fn seal<D: Disk>(keeper: &mut Keeper<D>) -> Result<(), Refusal>
+    requires { (n : ℕ) × (done : List Command) × (p : Record) × Fits D.states D.honest n done keeper.old p }
+    ensures failed { (result ≡ Err Refusal.Failed) ↔ (keeper.old.is_broken ≡ true) }
+    ensures wrong_phase { (result ≡ Err Refusal.WrongPhase) ↔ ((keeper.old.is_broken ≡ false) × (HasAllSections keeper.old.checkpoint → ⊥)) }
+    ensures early { (result ≡ Err Refusal.TooEarly) ↔ ((keeper.old.is_broken ≡ false) × HasAllSections keeper.old.checkpoint × IsMarkedAbove keeper.old.published keeper.old.checkpoint) }
+    ensures no_other { IfErr result (λ refusal. (refusal ≡ Refusal.Failed) ⊎ (refusal ≡ Refusal.WrongPhase) ⊎ (refusal ≡ Refusal.TooEarly)) }
+    ensures ok { OnOk result (keeper.new ≡ record keeper.old { checkpoint = sealing keeper.old.checkpoint }) }
+    ensures given { (sections : List Section) → HasGiven keeper.old.checkpoint sections (now (D.states keeper.old.disk)) → HasGiven keeper.new.checkpoint sections (now (D.states keeper.new.disk)) }
+    ensures err { OnErr result (keeper.new ≡ keeper.old) }
+    ensures fits { (n : ℕ) (done : List Command) (p : Record) → Fits D.states D.honest n done keeper.old p → Fits D.states D.honest n done keeper.new p }
+{
+    steps_of_checkpoints();
+    if keeper.is_broken {
+        return Err(Refusal::Failed);
+    }
+    match &mut keeper.checkpoint {
+        Some(writer) => seal_by(writer, keeper.published),
+        None => Err(Refusal::WrongPhase),
+    }
+}
+
+// The same, where this many commands are published.
+fn seal_by(writer: &mut CheckpointWriter, published: u64) -> Result<(), Refusal>
+    ensures wrong_phase { (result ≡ Err Refusal.WrongPhase) ↔ (TakesSeal writer.old → ⊥) }
+    ensures early { (result ≡ Err Refusal.TooEarly) ↔ (TakesSeal writer.old × (published < writer.old.greatest)) }
+    ensures no_other { IfErr result (λ refusal. (refusal ≡ Refusal.WrongPhase) ⊎ (refusal ≡ Refusal.TooEarly)) }
+    ensures ok { OnOk result (writer.new ≡ record writer.old { phase = CheckpointPhase.Header }) }
+    ensures reached { OnOk result (writer.old.greatest ≤ published) }
+    ensures stands { OnOk result ((old : List ℕ) (sections : List Section) (file : File) → checkpoint.Stands writer.old old sections file → checkpoint.Stands writer.new old sections file) }
+    ensures err { OnErr result (writer.new ≡ writer.old) }
+{
+    if writer.phase() != CheckpointPhase::Ready
+        || writer.count() as usize != writer.stripes().get()
+    {
+        return Err(Refusal::WrongPhase);
+    }
+    if published < writer.greatest_mark() {
+        return Err(Refusal::TooEarly);
+    }
+    writer.seal()
+}
