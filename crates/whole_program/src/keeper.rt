@@ -41,38 +41,24 @@ fn keepers_pass(stripes: &Stripes) -> Result<Pass, Refusal>
 
 /// A keeper over a disk, the stripes of its map, with the keeper's pass and another.
 #[derive(Drop)]
-struct Joined {
-    keeper: Keeper<MemDisk>,
-    stripes: Stripes,
-    pass: Pass,
-    worker: Pass,
+pub(crate) struct Joined {
+    pub keeper: Keeper<MemDisk>,
+    pub stripes: Stripes,
+    pub pass: Pass,
+    pub worker: Pass,
 }
 
-// Makes the disk that of an empty map, and opens it.
-fn open_new(
-    alloc: Global,
-    disk: MemDisk,
-    count: StripeCount,
-) -> Result<(Keeper<MemDisk>, Stripes), Refusal>
-    ensures count { IfOk result (λ x. stripe_count x.1 ≡ count.count) }
-    ensures fits { IfOk result (λ x. (p : Record) → p.opening ≡ begun_with x.1 → IsUnused (begun_with x.1).first p
-        → Fits ⟦<MemDisk as Disk>⟧.states ⟦<MemDisk as Disk>⟧.honest count.count [] x.0 p) }
-{
-    let mut disk = disk;
-    format(alloc, &mut disk, count)?;
-    match open(alloc, disk, count) {
-        Ok(opened) => Ok(opened),
-        Err((_disk, refusal)) => Err(refusal),
-    }
-}
-
-fn join(alloc: Global, disk: MemDisk, count: StripeCount) -> Result<Joined, Refusal>
+// Opens the disk, and takes two passes of its stripes.
+pub(crate) fn rejoin(alloc: Global, disk: MemDisk, count: StripeCount) -> Result<Joined, Refusal>
     ensures count { IfOk result (λ joined. stripe_count joined.stripes ≡ count.count) }
     ensures own { IfOk result (λ joined. IsPassOf joined.stripes joined.pass × IsPassOf joined.stripes joined.worker) }
     ensures fits { IfOk result (λ joined. Fits ⟦<MemDisk as Disk>⟧.states ⟦<MemDisk as Disk>⟧.honest (stripe_count joined.stripes) [] joined.keeper (recorded joined.pass)) }
     ensures free { IfOk result (λ joined. (recorded joined.worker).holding ≡ None) }
 {
-    let (keeper, stripes) = open_new(alloc, disk, count)?;
+    let (keeper, stripes) = match open(alloc, disk, count) {
+        Ok(opened) => opened,
+        Err((_disk, refusal)) => return Err(refusal),
+    };
     let pass = keepers_pass(&stripes)?;
     let worker = stripes.pass()?;
     Ok(Joined {
@@ -81,6 +67,18 @@ fn join(alloc: Global, disk: MemDisk, count: StripeCount) -> Result<Joined, Refu
         pass,
         worker,
     })
+}
+
+// Makes the disk that of an empty map, and opens it.
+pub(crate) fn join(alloc: Global, disk: MemDisk, count: StripeCount) -> Result<Joined, Refusal>
+    ensures count { IfOk result (λ joined. stripe_count joined.stripes ≡ count.count) }
+    ensures own { IfOk result (λ joined. IsPassOf joined.stripes joined.pass × IsPassOf joined.stripes joined.worker) }
+    ensures fits { IfOk result (λ joined. Fits ⟦<MemDisk as Disk>⟧.states ⟦<MemDisk as Disk>⟧.honest (stripe_count joined.stripes) [] joined.keeper (recorded joined.pass)) }
+    ensures free { IfOk result (λ joined. (recorded joined.worker).holding ≡ None) }
+{
+    let mut disk = disk;
+    format(alloc, &mut disk, count)?;
+    rejoin(alloc, disk, count)
 }
 
 /// More device calls than are made before the first batch.
@@ -96,7 +94,7 @@ fn first_calls(alloc: Global, count: StripeCount) -> u64 {
     MANY
 }
 
-fn put(alloc: Global, key: &str, number: i64) -> Result<Command, Refusal> {
+pub(crate) fn put(alloc: Global, key: &str, number: i64) -> Result<Command, Refusal> {
     Ok(Command {
         key: Key::new(alloc, key)?,
         change: Change::Put(Value::Int(number)),
@@ -164,7 +162,7 @@ fn make_often(
 }
 
 // Makes so many steps of the log.
-fn advance_times<D: Disk>(keeper: &mut Keeper<D>, times: u32)
+pub(crate) fn advance_times<D: Disk>(keeper: &mut Keeper<D>, times: u32)
     requires { (n : ℕ) × (done : List Command) × (p : Record) × Fits D.states D.honest n done keeper.old p }
     ensures { (n : ℕ) (p : Record) (done : List Command) → Fits D.states D.honest n done keeper.old p → (more : List Command) × Fits D.states D.honest n more keeper.new p }
 {
