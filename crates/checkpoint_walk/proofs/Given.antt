@@ -1,36 +1,35 @@
 -- What a keeper fits after each step of a capture.
-use Rattle.std.proofs.Common.{◌≡◌, ◌⊎◌, inl, inr, ℕ, ◌+◌, ◌≤◌, max, List, [], ◌∷◌, ◌++◌, length, Option, None, Some, Bool, true, false, IfSome, Result, Ok, Err, IfOk, IfErr, refl, sym, ◌∙◌, ap, subst, arith}
+use Rattle.std.proofs.Common.{◌≡◌, inl, inr, ℕ, ◌+◌, ◌≤◌, max, List, [], ◌∷◌, ◌++◌, length, Option, None, Some, false, Result, Ok, Err, IfOk, IfErr, refl, sym, ◌∙◌, ap, subst, arith}
 use Rattle.std.proofs.lemmas.List.{length-append}
 use Rattle.std.specs.FinMap as finite
 use Rattle.disk_model.specs.Files.{File, Files, now}
 use Rattle.map_types.specs.declared.commands.Command.{Command}
 use Rattle.map_types.specs.declared.refusals.Refusal.{Refusal}
-use Rattle.map_types.specs.declared.refusals.Refusal.TheVariants as refusal
 use Rattle.map_types.specs.declared.texts.Value.{Value}
 use Rattle.map_model.specs.Histories.{History, fold_to}
 use Rattle.map_model.specs.Parts.{part_of}
 use Rattle.ticket_order.specs.declared.record.Record.{Record}
 use Rattle.ticket_order.specs.declared.walk.Walk.{Walk}
 use Rattle.ticket_order.specs.Legality.{history_of}
-use Rattle.ticket_order.specs.Calls.{CapturesStripe, RefusesCapture}
+use Rattle.ticket_order.specs.Calls.{CapturesStripe}
 use Rattle.ticket_order.specs.Records.{missing}
 use Rattle.ticket_order.specs.Walks.{Give, Look, next_kind}
 use Rattle.store_layout.specs.Checkpoints.{Checkpoint, Section, checkpoint_file}
-use Rattle.store_layout.specs.Logs.{Batch, commands_in}
+use Rattle.store_layout.specs.Logs.{Batch}
 use Rattle.store_layout.specs.Standing.{IsNextOf, reach}
 use Rattle.gate_log.specs.States.{LogState}
 use Rattle.gate_log.specs.Standing as gate_log
 use Rattle.checkpoint_file.specs.States.{AreKeysOf, CheckpointState, TakesSection, with_section}
 use Rattle.checkpoint_file.specs.Standing as checkpoint
 use Rattle.store_states.specs.Laws.{SectionIsGiven}
-use Rattle.store_states.specs.States.{Held, StoreState, low_after}
+use Rattle.store_states.specs.States.{Held, low_after}
 use Rattle.store_states.specs.Standing as store
 use Rattle.flusher.specs.declared.keeper.Keeper.{Keeper}
 use Rattle.flusher.specs.Fitting.{Fits, HoldsFor, IsBeside, store_of}
 use Rattle.flusher.specs.Keeping.{is_walking}
 use Rattle.checkpoint_walk.specs.Capturing.{HasLooked, HasTaken, StandsWith}
-use Rattle.checkpoint_walk.specs.Checkpointing.{HasGiven, IsNextStripe}
-use Rattle.checkpoint_walk.specs.Walking.{AfterRefusal, AfterStep, AfterTake, AfterWalk, FitsBy, FitsWalking, GivesSection, IsCapturing, PutsBack}
+use Rattle.checkpoint_walk.specs.Checkpointing.{IsNextStripe}
+use Rattle.checkpoint_walk.specs.Walking.{AfterWalk, FitsBy, FitsWalking, GivesSection, IsCapturing, PutsBack}
 use Rattle.checkpoint_walk.proofs.Keys.{keys_of_part}
 use Rattle.checkpoint_walk.proofs.Sealed.{of_writer, writes_in}
 use Rattle.checkpoint_walk.proofs.Standing.{fits_capture, fits_changed}
@@ -156,3 +155,67 @@ pub whole_from : {D : Type 0} (states : D → List Files) (honest : D → Type 0
     → IfOk r (λ mark. (b : Record) (i : ℕ) → HasLooked n b i walk p → GivesSection n b i mark old new w) → IfErr r (λ e. (b : Record) (i : ℕ) → HasLooked n b i walk p → PutsBack b i e old new w) → Fits states honest n done new w
 whole_from {D} states honest n done old b p w stripe walk (Ok mark) new given on free f rests works next k ok err = gives_from states honest n done old b w stripe mark new given on f rests works next (ok b stripe k)
 whole_from {D} states honest n done old b p w stripe walk (Err e) new given on free f rests works next k ok err = back_from states honest n done old b w stripe e new on free f rests (err b stripe k)
+
+-- ---- step by step
+
+-- a keeper between its captures
+pub over_fits : {D : Type 0} (states : D → List Files) (honest : D → Type 0) (n : ℕ) (done : List Command) (k : Keeper D) (p : Record) → k.capture ≡ None → Fits states honest n done k p → FitsWalking states honest n done k p
+over_fits {D} states honest n done k p over f = subst (λ (o : Option Walk). FitsBy o states honest n done k p) (sym over) f
+
+pub taking_fits : {D : Type 0} (states : D → List Files) (honest : D → Type 0) (n : ℕ) (done : List Command) (old : Keeper D) (p w : Record) (stripe : ℕ) (walk : Walk) → Fits states honest n done old p → is_walking old.sweeper.walking ≡ false → old.is_broken ≡ false
+    → IsNextStripe stripe old.next old.checkpoint → HasTaken n p stripe walk w → FitsWalking states honest n done (record old { capture = Some walk }) w
+taking_fits {D} states honest n done old p w stripe walk f rests works next taken = record {
+  begun = p;
+  stripe = stripe;
+  fits = fits_capture states honest n done old p (Some walk) f;
+  rests = rests;
+  works = works;
+  next = next;
+  walked = inl taken;
+}
+
+look_give : (n i : ℕ) (walk : Walk) → next_kind n walk ≡ Look → next_kind n walk ≡ Give i → ⊥
+look_give n i walk a b = not_both i (sym a ∙ b)
+  where
+    not_both : (i : ℕ) → Look ≡ Give i → ⊥
+    not_both i e = cc
+
+same_give : (i j : ℕ) → Give i ≡ Give j → i ≡ j
+same_give i j e = cc
+
+pub walked_fits : {D : Type 0} (states : D → List Files) (honest : D → Type 0) (n : ℕ) (done : List Command) (old new : Keeper D) (p w : Record) (walk : Walk) (r : Result (Option ℕ) Refusal) → SectionIsGiven → GoesOn states honest old → IsFreeAt states honest old
+    → IsCapturing states honest n done old walk p → AfterWalk n walk old new p w r → FitsWalking states honest n done new w
+walked_fits {D} states honest n done old new p w walk (Ok None) given on free k a = elim k.walked [
+  | inl t ↦ subst (λ (x : Keeper D). FitsWalking states honest n done x w) (sym a.is) (record {
+    begun = k.begun;
+    stripe = k.stripe;
+    fits = fits_capture states honest n done old k.begun (Some a.next) k.fits;
+    rests = k.rests;
+    works = k.works;
+    next = k.next;
+    walked = inr (a.looked k.begun k.stripe t);
+  })
+  | inr l ↦ absurd (look_give n k.stripe walk a.kind l.next)
+]
+walked_fits {D} states honest n done old new p w walk (Ok (Some mark)) given on free k a = elim k.walked [
+  | inl t ↦ absurd (look_give n a.0 walk t.next a.1)
+  | inr l ↦ (
+      let same : a.0 ≡ k.stripe = same_give a.0 k.stripe (sym a.1 ∙ l.next) in
+      let g : GivesSection n k.begun k.stripe mark old new w = subst (λ i. GivesSection n k.begun i mark old new w) same (a.2 k.begun (subst (λ i. HasLooked n k.begun i walk p) (sym same) l)) in
+      over_fits states honest n done new w (ap (λ (x : Keeper D). x.capture) g.is) (gives_from states honest n done old k.begun w k.stripe mark new given on k.fits k.rests k.works k.next g)
+      )
+]
+walked_fits {D} states honest n done old new p w walk (Err e) given on free k a = elim k.walked [
+  | inl t ↦ absurd (look_give n a.0 walk t.next a.1)
+  | inr l ↦ (
+      let same : a.0 ≡ k.stripe = same_give a.0 k.stripe (sym a.1 ∙ l.next) in
+      let g : PutsBack k.begun k.stripe e old new w = subst (λ i. PutsBack k.begun i e old new w) same (a.2 k.begun (subst (λ i. HasLooked n k.begun i walk p) (sym same) l)) in
+      over_fits states honest n done new w (ap (λ (x : Keeper D). x.capture) g.is) (back_from states honest n done old k.begun w k.stripe e new on free k.fits k.rests g)
+      )
+]
+
+-- the same step, of a keeper whose walk was taken out
+pub walk_moved : {D : Type 0} (n : ℕ) (walk : Walk) (old new : Keeper D) (o : Option Walk) (p w : Record) (r : Result (Option ℕ) Refusal) → AfterWalk n walk (record old { capture = o }) new p w r → AfterWalk n walk old new p w r
+walk_moved {D} n walk old new o p w (Ok None) a = record { kind = a.kind; next = a.next; looked = a.looked; is = a.is }
+walk_moved {D} n walk old new o p w (Ok (Some mark)) a = (a.0, a.1, λ b l. (let g = a.2 b l in record { entries = g.entries; captures = g.captures; writer = g.writer; was = g.was; is = g.is; stands = g.stands }))
+walk_moved {D} n walk old new o p w (Err e) a = (a.0, a.1, λ b l. (let g = a.2 b l in record { no_other = g.no_other; back = g.back; is = g.is }))

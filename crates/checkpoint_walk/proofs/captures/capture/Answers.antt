@@ -1,9 +1,8 @@
-use Rattle.std.proofs.Common.{◌≡◌, ◌↔◌, inl, inr, ℕ, true, Err, ap, sym, ◌∙◌, subst}
+use Rattle.std.proofs.Common.{inl, inr, ℕ, Err, ap, sym, ◌∙◌, subst}
 use Rattle.map_types.specs.declared.refusals.Refusal.TheVariants.{Failed, WrongPhase}
-use Rattle.ticket_order.specs.declared.record.Record.{Record}
 use Rattle.flusher.specs.declared.keeper.Keeper.{Keeper}
 use Rattle.checkpoint_walk.specs.Checkpointing.{IsNextStripe}
-use Rattle.checkpoint_walk.specs.Walking.{AfterRefusal, GivesSection, MayCapture, MissesStripe}
+use Rattle.checkpoint_walk.specs.Walking.{AfterRefusal, GivesSection, MayCapture}
 use Rattle.checkpoint_walk.proofs.Waiting.{may_capture, refused_last, same_refusal, waited_again}
 use Rattle.checkpoint_walk.proofs.captures.capture.Goals as goal
 
