@@ -3,11 +3,14 @@ ghost use Rattle.std.specs.Prelude.{◌≡◌, ◌≢◌, ◌⊎◌, ◌↔◌, 
 ghost use Rattle.map_types.specs.declared.commands.Command.{Command};
 ghost use Rattle.flusher.specs.Fitting.{Fits};
 ghost use Rattle.flusher.specs.Keeping.{is_walking};
-ghost use Rattle.checkpoint_walk.specs.Checkpointing.{IsNextStripe};
+ghost use Rattle.disk_model.specs.Files.{now};
+ghost use Rattle.store_layout.specs.Checkpoints.{Section};
+ghost use Rattle.ticket_order.specs.Legality.{history_of};
+ghost use Rattle.checkpoint_walk.specs.Checkpointing.{HasGiven, IsNextStripe};
 ghost use Rattle.ticket_order.specs.declared.record.Record.{Record};
 ghost use Rattle.ticket_order.specs.Walks.{MakesOne, Take, next_kind};
 ghost use Rattle.checkpoint_walk.specs.Capturing.{HasLooked, HasTaken};
-ghost use Rattle.checkpoint_walk.specs.Walking.{AfterRefusal, AfterStep, AfterTake, AfterWaiting, AfterWalk, FitsWalking, GivesSection, GivesWaiting, kind_next};
+ghost use Rattle.checkpoint_walk.specs.Walking.{AfterRefusal, AfterStep, AfterTake, AfterWaiting, AfterWalk, FitsWalking, GivesPart, GivesPartIn, GivesSection, GivesWaiting, kind_next};
 
 use crate::capturing::{hold, look};
 use crate::sections::{check, give};
@@ -34,6 +37,8 @@ pub fn capture_step<D: Disk, S: Steps>(
     ensures first { ((result ≡ Err Refusal.Failed) ⊎ (result ≡ Err Refusal.WrongPhase)) → (steps.new ≡ steps.old) × (keeper.new ≡ keeper.old) }
     ensures one { (result ≢ Err Refusal.Failed) → (result ≢ Err Refusal.WrongPhase) → MakesOne S.recorded S.moves (kind_next (S.stripe_count steps.old) stripe keeper.old.capture) steps.old steps.new }
     ensures after { AfterStep (S.stripe_count steps.old) stripe keeper.old.capture keeper.old keeper.new (S.recorded steps.old) (S.recorded steps.new) result }
+    ensures given { (done : List Command) (sections : List Section) → FitsWalking D.states D.honest (S.stripe_count steps.old) done keeper.old (S.recorded steps.old) → D.honest keeper.old.disk → HasGiven keeper.old.checkpoint sections (now (D.states keeper.old.disk))
+        → GivesPartIn D.states (S.stripe_count steps.old) (history_of (S.recorded steps.new)) result sections keeper.new }
     ensures fits { (done : List Command) → FitsWalking D.states D.honest (S.stripe_count steps.old) done keeper.old (S.recorded steps.old) → FitsWalking D.states D.honest (S.stripe_count steps.new) done keeper.new (S.recorded steps.new) }
     ensures place { S.place steps.new ≡ S.place steps.old }
     ensures stripes { S.stripe_count steps.new ≡ S.stripe_count steps.old }
@@ -125,6 +130,8 @@ pub fn try_capture<D: Disk, S: Steps>(
     ensures first { ((result ≡ Err Refusal.Failed) ⊎ (result ≡ Err Refusal.WrongPhase)) → (steps.new ≡ steps.old) × (keeper.new ≡ keeper.old) }
     ensures ok { IfOk result (λ mark. GivesSection (S.stripe_count steps.old) (S.recorded steps.old) stripe mark keeper.old keeper.new (S.recorded steps.new)) }
     ensures err { IfErr result (λ refusal. AfterRefusal stripe keeper.old keeper.new (S.recorded steps.old) (S.recorded steps.new) refusal) }
+    ensures given { (done : List Command) (sections : List Section) → Fits D.states D.honest (S.stripe_count steps.old) done keeper.old (S.recorded steps.old) → D.honest keeper.old.disk → HasGiven keeper.old.checkpoint sections (now (D.states keeper.old.disk))
+        → IfOk result (λ mark. GivesPart D.states (S.stripe_count steps.old) (history_of (S.recorded steps.new)) mark sections keeper.new) }
     ensures fits { (done : List Command) → Fits D.states D.honest (S.stripe_count steps.old) done keeper.old (S.recorded steps.old) → Fits D.states D.honest (S.stripe_count steps.new) done keeper.new (S.recorded steps.new) }
     ensures place { S.place steps.new ≡ S.place steps.old }
     ensures stripes { S.stripe_count steps.new ≡ S.stripe_count steps.old }
@@ -157,6 +164,8 @@ pub fn capture<D: Disk, R: Wait, S: Steps>(
     ensures first { ((result ≡ Err Refusal.Failed) ⊎ (result ≡ Err Refusal.WrongPhase)) → (steps.new ≡ steps.old) × (keeper.new ≡ keeper.old) }
     ensures ok { IfOk result (λ mark. GivesWaiting (S.stripe_count steps.old) (S.recorded steps.old) stripe mark keeper.old keeper.new (S.recorded steps.new)) }
     ensures err { IfErr result (λ refusal. AfterWaiting stripe keeper.old keeper.new (S.recorded steps.old) (S.recorded steps.new) refusal) }
+    ensures given { (done : List Command) (sections : List Section) → Fits D.states D.honest (S.stripe_count steps.old) done keeper.old (S.recorded steps.old) → D.honest keeper.old.disk → HasGiven keeper.old.checkpoint sections (now (D.states keeper.old.disk))
+        → IfOk result (λ mark. GivesPart D.states (S.stripe_count steps.old) (history_of (S.recorded steps.new)) mark sections keeper.new) }
     ensures fits { (done : List Command) → Fits D.states D.honest (S.stripe_count steps.old) done keeper.old (S.recorded steps.old) → Fits D.states D.honest (S.stripe_count steps.new) done keeper.new (S.recorded steps.new) }
     ensures place { S.place steps.new ≡ S.place steps.old }
     ensures stripes { S.stripe_count steps.new ≡ S.stripe_count steps.old }
