@@ -1,19 +1,17 @@
 -- What holds of a keeper after a step of its logs.
-use Rattle.std.proofs.Common.{◌≡◌, ◌≢◌, ◌⊎◌, inl, inr, ℕ, ◌+◌, List, [], ◌∷◌, ◌++◌, length, Option, Some, None, IfSome, Bool, true, false, Result, Ok, Err, OnOk, OnErr, append-nil, refl, sym, ◌∙◌, ap, subst, arith}
+use Rattle.std.proofs.Common.{◌≡◌, ◌≢◌, ◌⊎◌, inl, inr, ℕ, ◌+◌, List, [], ◌++◌, length, Option, Some, None, IfSome, Bool, true, false, Result, Ok, Err, OnOk, OnErr, append-nil, refl, sym, ◌∙◌, ap, subst, arith}
+use Rattle.std.proofs.lemmas.List.{length-append, length-map}
 use Rattle.disk_model.specs.Files.{File, Files, now}
 use Rattle.disk_model.specs.Moments.{AtEachMoment}
 use Rattle.map_types.specs.declared.commands.Command.{Command}
 use Rattle.map_types.specs.declared.refusals.Refusal.{Refusal}
-use Rattle.map_types.specs.declared.refusals.Refusal.TheVariants.{Failed}
-use Rattle.map_model.specs.Histories.{History}
 use Rattle.ticket_order.specs.declared.stripe.Entry.{Entry}
 use Rattle.ticket_order.specs.declared.record.Record.{Record}
 use Rattle.ticket_order.specs.Legality.{history_of}
 use Rattle.store_layout.specs.Logs.{Batch}
-use Rattle.checkpoint_file.specs.States.{CheckpointState}
 use Rattle.gate_log.specs.declared.phase.Phase.{Phase}
 use Rattle.gate_log.specs.declared.phase.Phase.TheVariants.{Idle, Header, HeaderWritten, Staged, Written, Synced, Opened}
-use Rattle.gate_log.specs.States.{LogState, IsResting, begun, commands_of, log_after}
+use Rattle.gate_log.specs.States.{LogState, begun, commands_of, log_after}
 use Rattle.gate_log.specs.Standing as gate_log
 use Rattle.gate_log.specs.Advancing.{Advances, MayAdvance}
 use Rattle.store_states.specs.States.{StoreState}
@@ -21,8 +19,8 @@ use Rattle.store_states.specs.Standing as store
 use Rattle.store_states.specs.Laws.{EndStepsOn, LogEnds, LogStepsOn, LogStepsStop, NextIsReady, NextStepsOn, NextStepsStop, StoresStop}
 use Rattle.flusher.specs.declared.keeper.Keeper.{Keeper}
 use Rattle.flusher.specs.declared.sweeper.Sweeper.{Sweeper}
-use Rattle.flusher.specs.Keeping.{IsPast, passed}
-use Rattle.flusher.specs.Rotating.{IsTold, Logs, MayRotate, Rotates, StepsLogs, broken, due_of, ended_in, logs_of, stepped}
+use Rattle.flusher.specs.Keeping.{IsPast, committed_by}
+use Rattle.flusher.specs.Rotating.{IsTold, Logs, MayRotate, Rotates, ended_in, logs_of}
 use Rattle.flusher.specs.Fitting.{Fits, HoldsFor, HoldsFront, IsEmptyIn, IsUnbroken, StopsFit, Stores, done_after, store_of}
 use Rattle.flusher.proofs.Committing.{IsSame, fits_committed, fits_gone, state_then, stops_by, two_ways}
 use Rattle.flusher.proofs.Moments.{at_end}
@@ -425,7 +423,7 @@ fits_over {D} states failures honest n done old new p next phase law f s last =
           (λ h. (
           let held : HoldsFor (history_of p) old (now (states old.disk)) = f.stores.works s.works (s.advances.was_honest h) in
           let there = log_is_over states failures honest (history_of p) (store_of old) old.must_close next s.log old.disk new.disk phase law s.next_is s.idle last
-              (subst (λ (es : List Entry). HoldsFront (history_of p) (store_of old) es old.must_close (now (states old.disk))) none_old held) s.advances in
+          (subst (λ (es : List Entry). HoldsFront (history_of p) (store_of old) es old.must_close (now (states old.disk))) none_old held) s.advances in
           subst (λ (b : Bool). HoldsFront (history_of p) (store_of new) new.staged.items b (now (states new.disk))) (sym (ap (λ (k : Keeper D). k.must_close) s.same))
           (subst (λ (es : List Entry). HoldsFront (history_of p) (store_of new) es old.must_close (now (states new.disk))) (sym none_new)
           (subst (λ (x : StoreState). HoldsFront (history_of p) x [] old.must_close (now (states new.disk))) (sym state) there))
@@ -599,6 +597,22 @@ pub fits_headed : {D : Type 0} (states : D → List Files) (failures : D → ℕ
 fits_headed {D} states failures honest n done old new p next log made result on ready stop f s =
     gone_after states honest n done old new p result (rotates states honest n done old p next f s.next_is).none_staged (headed_in states failures honest n done old new p next log made result on ready stop f s)
 
+-- ---- how many commands are committed
+
+length_done : (result : Result Phase Refusal) (ph : Phase) (done : List Command) (es : List Entry) → length (done_after result ph done es) ≡ length done + committed_by result ph es
+length_done (Err e) ph done es = omega arith
+length_done (Ok x) Idle done es = omega arith
+length_done (Ok x) Header done es = omega arith
+length_done (Ok x) HeaderWritten done es = omega arith
+length_done (Ok x) Staged done es = omega arith
+length_done (Ok x) Written done es = omega arith
+length_done (Ok x) Synced done es = omega arith
+length_done (Ok x) Opened done es = length-append done (commands_of es) ∙ ap (λ (n : ℕ). length done + n) (length-map es (λ (e : Entry). e.command))
+
+pub count_after : {D : Type 0} (states : D → List Files) (honest : D → Type 0) (n : ℕ) (done : List Command) (old new : Keeper D) (p : Record) (result : Result Phase Refusal) → Fits states honest n done old p
+    → Fits states honest n (done_after result old.log.phase done old.staged.items) new p → new.log.committed ≡ old.log.committed + committed_by result old.log.phase old.staged.items
+count_after {D} states honest n done old new p result f g = omega (arith, f.counts.committed, g.counts.committed, length_done result old.log.phase done old.staged.items)
+
 -- ---- at every moment
 
 -- no device call was made
@@ -623,3 +637,14 @@ pub same_hand : {D : Type 0} (old new : Keeper D) → new ≡ record old { disk 
 same_hand {D} old new is =
     is ∙ ap (λ (x : Sweeper). let k : Keeper D = record old { disk = new.disk; log = new.log; next = new.next; sweeper = x; is_broken = new.is_broken } in k) (sym (ap (λ (k : Keeper D). k.sweeper) is))
     ∙ ap (λ x. let k : Keeper D = record old { disk = new.disk; log = new.log; next = new.next; sweeper = new.sweeper; staged = x; is_broken = new.is_broken } in k) (sym (ap (λ (k : Keeper D). k.staged) is))
+
+-- ---- whether the newest log is told to end
+
+pub told_nothing : (ph : Phase) (generation : ℕ) (old new : LogState) → ph ≢ Idle → new ≡ old → IsTold (Ok ph) generation old new (Ok ph)
+told_nothing Idle generation old new moves same = absurd (moves refl)
+told_nothing Header generation old new moves same = (refl, same)
+told_nothing HeaderWritten generation old new moves same = (refl, same)
+told_nothing Staged generation old new moves same = (refl, same)
+told_nothing Written generation old new moves same = (refl, same)
+told_nothing Synced generation old new moves same = (refl, same)
+told_nothing Opened generation old new moves same = (refl, same)

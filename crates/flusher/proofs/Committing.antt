@@ -1,5 +1,5 @@
 -- What holds of a keeper once a batch is staged or put back, and after a step that commits nothing or a batch.
-use Rattle.std.proofs.Common.{◌≡◌, ℕ, ◌+◌, ◌<◌, ◌≤◌, ◌^◌, List, [], ◌∷◌, ◌++◌, length, drop, replicate, Option, Some, None, IfSome, Bool, true, false, append-nil, refl, sym, ◌∙◌, ap, subst, arith}
+use Rattle.std.proofs.Common.{◌≡◌, ℕ, ◌+◌, ◌<◌, ◌≤◌, ◌^◌, List, [], ◌∷◌, ◌++◌, length, drop, replicate, Option, None, IfSome, Bool, true, false, append-nil, refl, sym, ◌∙◌, ap, subst, arith}
 use Rattle.std.proofs.lemmas.List.{length-append, append_assoc, length-map}
 use Rattle.disk_model.specs.Files.{File, Files, now}
 use Rattle.map_types.specs.declared.commands.Command.{Command}

@@ -1,6 +1,7 @@
 -- What the keeper shows.
-use Rattle.std.specs.Prelude.{◌≡◌, ℕ, ◌+◌, ◌<◌, ◌≤◌, ◌^◌, Bool, true, false, List, [], ◌∷◌, ◌++◌, drop, length, replicate, Option, None, Some}
+use Rattle.std.specs.Prelude.{◌≡◌, ℕ, ◌+◌, ◌<◌, ◌≤◌, ◌^◌, Bool, true, false, List, [], ◌∷◌, ◌++◌, drop, length, replicate, Option, None, Some, Result, Ok}
 use Rattle.map_types.specs.declared.commands.Command.{Command}
+use Rattle.map_types.specs.declared.refusals.Refusal.{Refusal}
 use Rattle.ticket_order.specs.Legality.{entries_from}
 use Rattle.log_records.specs.Layout.{first_layout}
 use Rattle.store_layout.specs.Logs.{frame}
@@ -31,6 +32,11 @@ passed count hand = record { next = hand.next + count; slots = drop count hand.s
 abbrev pub IsPast : Option LogState → Phase → Sweeper → List Entry → Sweeper → List Entry → Type 0
 IsPast None Opened old staged new left = (new ≡ record old { in_hand = passed (length staged) old.in_hand }) × (left ≡ [])
 IsPast next phase old staged new left = (new ≡ old) × (left ≡ staged)
+
+-- how many commands a step of the logs commits: with the last sync of a batch those of the batch, and none with an end frame's
+abbrev pub committed_by : Result Phase Refusal → Phase → List Entry → ℕ
+committed_by (Ok next) Opened staged = length staged
+committed_by result phase staged = 0
 
 -- these commands were staged as one batch, and taken out of their places
 pub record Stages (commands : List Command) (old : LogState) (hand : Hand) (new : LogState) (left : Hand) (staged : List Entry) : Type 0 where

@@ -1,12 +1,12 @@
 //! The keeper of one store: its disk, its logs, and the entries in hand.
-ghost use Rattle.std.specs.Prelude.{◌||◌, is_some, Result, Ok, ◌≡◌, ◌≢◌, ◌⊎◌, ◌↔◌, ◌+◌, ◌<◌, ◌≤◌, ◌^◌, ℕ, List, Some, None, [], ◌∷◌, ◌++◌, length, true, false, IfOk, IfErr, OnOk, OnErr};
+ghost use Rattle.std.specs.Prelude.{◌≡◌, ◌≢◌, ◌⊎◌, ◌↔◌, ◌||◌, ◌+◌, ◌<◌, ◌≤◌, ◌^◌, ℕ, List, Some, None, is_some, [], ◌∷◌, ◌++◌, length, true, false, Result, Ok, IfOk, IfErr, OnOk, OnErr};
 ghost use Rattle.map_types.specs.declared.commands.Command.{Command};
 ghost use Rattle.ticket_order.specs.declared.record.Record.{Record};
 ghost use Rattle.ticket_order.specs.Records.{failing, publishing};
 ghost use Rattle.ticket_order.specs.Calls.{RefusesSweep};
 ghost use Rattle.ticket_order.specs.Legality.{history_of};
 ghost use Rattle.ticket_order.specs.Walks.{MakesOne, Durable, Fail};
-ghost use Rattle.gate_log.specs.States.{LogState, batch_of, commands_of, log_after, resumed, IsResting};
+ghost use Rattle.gate_log.specs.States.{IsResting, LogState, batch_of, commands_of, resumed};
 ghost use Rattle.gate_log.specs.Standing as log;
 ghost use Rattle.gate_log.specs.Advancing.{Advances, MayAdvance};
 ghost use Rattle.disk_model.specs.Files.{File, now};
@@ -14,7 +14,7 @@ ghost use Rattle.disk_model.specs.Moments.{AtEachMoment};
 ghost use Rattle.store_layout.specs.Logs.{Batch};
 ghost use Rattle.flusher.specs.Hands.{FitsBatch, IsLongest, IsRun, SameEntries};
 ghost use Rattle.flusher.specs.Sweeping.{HasGathered, IsDone, StepsOn, next_kind};
-ghost use Rattle.flusher.specs.Keeping.{IsFull, IsPast, MayStage, Stages, StaysAt, SweepsOnce, is_too_long, is_walking, passed};
+ghost use Rattle.flusher.specs.Keeping.{IsFull, IsPast, MayStage, Stages, StaysAt, SweepsOnce, committed_by, is_too_long, is_walking, passed};
 ghost use Rattle.flusher.specs.Rotating.{IsTold, StepsLogs, due_of, ended_in, logs_of};
 ghost use Rattle.flusher.specs.Fitting.{Fits, HasSeenMore, IsFoundFor, IsQuiet, IsUnused, StopsFit, done_after};
 
@@ -264,6 +264,18 @@ impl<D: Disk> Keeper<D> {
         self.staged.clear();
     }
 
+    // Notes whether the device call failed: after that no other is made.
+    fn noted(&mut self, stepped: Result<Phase, Refusal>) -> Result<Phase, Refusal>
+        ensures result { result ≡ stepped }
+        ensures ok { OnOk stepped (self.new ≡ self.old) }
+        ensures err { OnErr stepped (self.new ≡ record self.old { is_broken = true }) }
+    {
+        if stepped.is_err() {
+            self.is_broken = true;
+        }
+        stepped
+    }
+
     // Makes the device call that is due in the newest log.
     fn step_newest(&mut self) -> Result<Phase, Refusal>
         requires stands { MayAdvance D.states D.honest self.old.log self.old.disk }
@@ -274,13 +286,8 @@ impl<D: Disk> Keeper<D> {
         ensures err { OnErr result (self.new.is_broken ≡ true) }
         ensures same { self.new ≡ record self.old { disk = self.new.disk; log = self.new.log; is_broken = self.new.is_broken } }
     {
-        match self.log.advance(&mut self.disk) {
-            Ok(phase) => Ok(phase),
-            Err(refusal) => {
-                self.is_broken = true;
-                Err(refusal)
-            }
-        }
+        let stepped = self.log.advance(&mut self.disk);
+        self.noted(stepped)
     }
 
     // Makes the device call that is due in the log, and lets the batch go that it commits.
@@ -352,18 +359,11 @@ impl<D: Disk> Keeper<D> {
         let stepped = next.advance(&mut self.disk);
         let generation = next.generation();
         self.next = Some(next);
-        match stepped {
-            Ok(phase) => {
-                if phase == Phase::Idle {
-                    return self.end_newest(generation);
-                }
-                Ok(phase)
-            }
-            Err(refusal) => {
-                self.is_broken = true;
-                Err(refusal)
-            }
+        let phase = self.noted(stepped)?;
+        if phase == Phase::Idle {
+            return self.end_newest(generation);
         }
+        Ok(phase)
     }
 
     /// Makes the device call that is due in the logs, and no other; where none is due it makes none.
@@ -375,6 +375,7 @@ impl<D: Disk> Keeper<D> {
         ensures failed { self.old.is_broken ≡ true → (result ≡ Err Refusal.Failed) × (self.new ≡ self.old) }
         ensures rests { self.old.is_broken ≡ false → (due_of (logs_of self.old)).phase ≡ Phase.Idle → (result ≡ Ok Phase.Idle) × (self.new ≡ self.old) }
         ensures steps { self.old.is_broken ≡ false → (due_of (logs_of self.old)).phase ≢ Phase.Idle → StepsLogs D.states D.failures D.honest (logs_of self.old) (logs_of self.new) self.old.disk self.new.disk result }
+        ensures committed { self.new.log.committed ≡ self.old.log.committed + committed_by result self.old.log.phase self.old.staged.items }
         ensures hand { OnOk result (IsPast self.old.next self.old.log.phase self.old.sweeper self.old.staged.items self.new.sweeper self.new.staged.items) }
         ensures works { OnOk result (self.new.is_broken ≡ false) }
         ensures kept { OnErr result ((self.new.sweeper ≡ self.old.sweeper) × (self.new.staged ≡ self.old.staged) × (self.new.is_broken ≡ true)) }

@@ -2,6 +2,7 @@
 use Rattle.std.proofs.Common.{◌≡◌, ◌≢◌, ℕ, zero, suc, ◌+◌, ◌<◌, true, false, cond, None, List, [], ◌∷◌, ◌++◌, length, map, get_or, set, refl, sym, ap, ap₂, subst, ◌∙◌, arith, append_assoc}
 use Rattle.std.proofs.lemmas.Bool.{ne_eqb}
 use Rattle.std.proofs.lemmas.Bool.Decides.{nat_tests}
+use Rattle.std.proofs.Math.Seq.{map-set_same}
 use Rattle.std.proofs.lemmas.List.{append-nil, map-set, get_or-map}
 use Rattle.std.proofs.lemmas.List.FromFn.{get_or-map-range_with_len}
 use Rattle.std.specs.List.{AllByRecursion, range_with_len}
@@ -13,10 +14,13 @@ use Rattle.map_types.specs.declared.commands.Change.TheVariants.{Put}
 use Rattle.map_types.specs.declared.commands.Command.{Command}
 use Rattle.map_types.specs.declared.texts.Value.{Value}
 use Rattle.map_model.specs.Maps.{Map}
-use Rattle.map_model.specs.Parts.{part_of, is_in_stripe}
+use Rattle.map_model.specs.Laws.{PartsMakeTheMap}
+use Rattle.map_model.specs.Parts.{part_of, parts_of, is_in_stripe, union_of}
 use Rattle.map_model.specs.Steps.{step, Stepped}
 use Rattle.map_model.proofs.MapLaws.{same_gets, get-part_of, step-part_of, step-part_of_other}
 use Rattle.atomic_methods.specs.PartState.{PartState}
+use Rattle.one_history.specs.OneHistory.{AreParts}
+use Rattle.one_history.specs.Turns.{maps_of}
 use Rattle.store_layout.proofs.NewStores.{no_entries}
 use Rattle.recovery.specs.Dividing.{IsDivided}
 
@@ -64,21 +68,45 @@ module _ (n : ℕ) (m : Map) (c : Command) where
       ap₂ (λ (x : Map) (xs : List Map). x ∷ xs) (same_part a (λ e. omega (arith, e, is, place))) (set_part (a + 1) k i j is (omega (arith, place)) (omega (arith, low)))
 
   -- the part of the key makes the change, and the others stay
-  pub changed : (parts : List PartState) (i : ℕ) (d old new : PartState) → i ≡ stripe_of n c.key → i < n → length parts ≡ n → old ≡ get_or parts i d
-      → new.map ≡ (step old.map c).map → new.growth.stripes ≡ old.growth.stripes → IsDivided n m parts → IsDivided n (step m c).map (set parts i new)
+  pub maps_changed : (parts : List PartState) (i : ℕ) (d old new : PartState) → i ≡ stripe_of n c.key → i < n → length parts ≡ n → old ≡ get_or parts i d
+      → new.map ≡ (step old.map c).map → maps_of parts ≡ parts_of n m → maps_of (set parts i new) ≡ parts_of n (step m c).map
   unfolding parts_from
-  changed parts i d old new is within size there made laid divided =
+  maps_changed parts i d old new is within size there made maps =
       let low : i < length parts = omega (arith, within, size) in
       let here : old.map ≡ part_of n i m =
       ap (λ (p : PartState). p.map) there ∙ sym (get_or-map (λ (p : PartState). p.map) parts i d finite.empty low)
-      ∙ ap (λ (l : List Map). get_or l i finite.empty) divided.maps ∙ get_or-map-range_with_len (λ s. part_of n s m) 0 n i i finite.empty within (omega arith) in
+      ∙ ap (λ (l : List Map). get_or l i finite.empty) maps ∙ get_or-map-range_with_len (λ s. part_of n s m) 0 n i i finite.empty within (omega arith) in
+      map-set (λ (p : PartState). p.map) parts i new
+      ∙ ap₂ (λ (l : List Map) (x : Map). set l i x) maps (made ∙ ap (λ (x : Map). (step x c).map) here)
+      ∙ set_part 0 n i i (sym is) (omega arith) within
+
+  pub changed : (parts : List PartState) (i : ℕ) (d old new : PartState) → i ≡ stripe_of n c.key → i < n → length parts ≡ n → old ≡ get_or parts i d
+      → new.map ≡ (step old.map c).map → new.growth.stripes ≡ old.growth.stripes → IsDivided n m parts → IsDivided n (step m c).map (set parts i new)
+  changed parts i d old new is within size there made laid divided =
+      let low : i < length parts = omega (arith, within, size) in
       record {
-        maps = map-set (λ (p : PartState). p.map) parts i new
-            ∙ ap₂ (λ (l : List Map) (x : Map). set l i x) divided.maps (made ∙ ap (λ (x : Map). (step x c).map) here)
-            ∙ set_part 0 n i i (sym is) (omega arith) within;
+        maps = maps_changed parts i d old new is within size there made divided.maps;
         laid = all_set (λ (p : PartState). p.growth.stripes ≡ n) parts i new divided.laid
             (laid ∙ ap (λ (p : PartState). p.growth.stripes) there ∙ all_at (λ (p : PartState). p.growth.stripes ≡ n) parts i d divided.laid low);
       }
+
+-- ---- parts of the map that they make
+
+module _ (law : PartsMakeTheMap) (n : ℕ) (some : 0 < n) where
+  pub own_parts : (m : Map) (parts : List PartState) → maps_of parts ≡ parts_of n m → AreParts n parts
+  own_parts m parts maps = maps ∙ ap (parts_of n) (sym (ap union_of maps ∙ law n m some))
+
+  -- the part of a key makes a change
+  pub own_changed : (c : Command) (parts : List PartState) (i : ℕ) (d old new : PartState) → i ≡ stripe_of n c.key → i < n → length parts ≡ n → old ≡ get_or parts i d
+      → new.map ≡ (step old.map c).map → AreParts n parts → AreParts n (set parts i new)
+  own_changed c parts i d old new is within size there made are =
+      own_parts _ (set parts i new) (maps_changed n (union_of (maps_of parts)) c parts i d old new is within size there made are)
+
+-- one of them is replaced by one with the same map
+pub own_same : (n : ℕ) (parts : List PartState) (i : ℕ) (d old new : PartState) → old ≡ get_or parts i d → new.map ≡ old.map → AreParts n parts → AreParts n (set parts i new)
+own_same n parts i d old new there same are =
+    let maps : maps_of (set parts i new) ≡ maps_of parts = map-set_same (λ (p : PartState). p.map) parts i new d (same ∙ ap (λ (p : PartState). p.map) there) in
+    subst (λ (l : List Map). l ≡ parts_of n (union_of l)) (sym maps) are
 
 -- ---- the empty map
 

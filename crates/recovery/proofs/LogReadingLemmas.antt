@@ -14,7 +14,7 @@ use Rattle.store_layout.specs.Opening.{Contents, AreBadLogs, bad_header, bad_fra
 use Rattle.store_layout.specs.Standing.{counted}
 use Rattle.store_layout.proofs.Growing.{counted-append}
 use Rattle.gate_log.specs.Scan.{HasRead, ScanState}
-use Rattle.recovery.specs.declared.logs.LogPlace.{LogPlace}
+use Rattle.gate_log.specs.States.{LogState, resumed}
 use Rattle.recovery.specs.declared.replay.End.{End}
 use Rattle.recovery.specs.declared.replay.End.TheVariants.{Closed, Ended}
 use Rattle.recovery.specs.declared.restoring.Restoring.{Restoring}
@@ -46,18 +46,19 @@ module _ (generation low : ℕ) (content later : List ℕ) (same : later ≡ con
       refuses_more (honest → Broken later refusal) (IsBadLog generation low content refusal) refusal
       (λ f. inr (subst (λ (bytes : List ℕ). Broken bytes refusal) same (f is) low begun)) why
 
-  pub log_read : (before after : Restoring) (end : End) (ending : ScanState) (place : LogPlace) → place ≡ record { generation = generation; low = low; gate = ending.gate; committed = ending.expected }
+  pub log_read : (before after : Restoring) (end : End) (ending : ScanState) (place : LogState) → place ≡ resumed generation low ending.gate ending.expected
       → ((l : ℕ) → HasRead first_layout l [] scan later → IsReplayed generation l later before end ending after) → IsLogRead generation low content before end place after
   log_read before after end ending place is made =
       let read = subst (λ (bytes : List ℕ). (l : ℕ) → HasRead first_layout l [] scan bytes → IsReplayed generation l bytes before end ending after) same made low begun in
       record {
         batches = read.batches;
         ends = read.ends;
-        place_is = record {
-          generation = ap (λ (p : LogPlace). p.generation) is;
-          low = ap (λ (p : LogPlace). p.low) is;
-          gate = ap (λ (p : LogPlace). p.gate) is ∙ read.gate;
-          committed = ap (λ (p : LogPlace). p.committed) is ∙ read.committed;
+        goes_on = record {
+          generation = ap (λ (p : LogState). p.generation) is;
+          low = ap (λ (p : LogState). p.low) is;
+          gate = ap (λ (p : LogState). p.gate) is ∙ read.gate;
+          committed = ap (λ (p : LogState). p.committed) is ∙ read.committed;
+          rests = is ∙ sym (ap (λ (p : LogState). resumed p.generation p.low p.gate p.committed) is);
         };
         applied = read.applied;
       }
@@ -76,13 +77,13 @@ applies_on low next first second a b c e same one two sections m marks has =
     ap (map_after m) (counted-append n sections low first second ∙ ap (λ (l : List Command). done ++ l) (sym rest)) ∙ map_after-append m done (counted b.of.count sections next second) in
     subst (λ (x : Map). HasMap c x) (sym all) (two sections (map_after m done) (marks ∙ sym (ap (λ ms. ms.items) same.marks)) (one sections m marks has))
 
-module _ (contents : Contents) (k : Checkpoint) (before mid after : Restoring) (first : LogPlace) where
+module _ (contents : Contents) (k : Checkpoint) (before mid after : Restoring) (first : LogState) where
   abbrev content : ℕ → List ℕ
   content generation = contents (log_file generation)
 
   -- the first log is closed
   pub one_log : IsLogRead k.generation k.low (content k.generation) before Closed first mid → AreReplayed contents k before mid first
-  one_log read = record { first = read.batches; second = None; logs = read.ends; place_is = read.place_is; applied = read.applied }
+  one_log read = record { first = read.batches; second = None; logs = read.ends; goes_on = read.goes_on; applied = read.applied }
 
   pub first_bad : (refusal : Refusal) → IsBadLog k.generation k.low (content k.generation) refusal → AreBadLogs contents k refusal
   first_bad refusal (inl bad) = bad_header bad
@@ -95,18 +96,18 @@ module _ (contents : Contents) (k : Checkpoint) (before mid after : Restoring) (
 
     pub next_bad : (next : ℕ) (refusal : Refusal) → next ≡ k.generation + 1 → IsBadLog next first.committed (content next) refusal → AreBadLogs contents k refusal
     next_bad next refusal e bad =
-        go (subst (λ n. IsBadLog n (k.low + length (commands_in read.batches)) (content n) refusal) e (subst (λ l. IsBadLog next l (content next) refusal) read.place_is.committed bad))
+        go (subst (λ n. IsBadLog n (k.low + length (commands_in read.batches)) (content n) refusal) e (subst (λ l. IsBadLog next l (content next) refusal) read.goes_on.committed bad))
       where
         go : IsBadLog (k.generation + 1) (k.low + length (commands_in read.batches)) (content (k.generation + 1)) refusal → AreBadLogs contents k refusal
         go (inl bad) = bad_next_header read.batches read.ends bad
         go (inr bad) = bad_next_frame read.batches bad.batches read.ends bad.reads bad.damage
 
-    module _ (next : ℕ) (e : next ≡ k.generation + 1) (second : LogPlace) (same : IsSameFrame before mid) where
+    module _ (next : ℕ) (e : next ≡ k.generation + 1) (second : LogState) (same : IsSameFrame before mid) where
       abbrev Next : End → ℕ → ℕ → Type 0
       Next end n low = IsLogRead n low (content n) mid end second after
 
       moved : (end : End) → Next end next first.committed → Next end (k.generation + 1) (k.low + length (commands_in read.batches))
-      moved end other = subst (λ n. Next end n (k.low + length (commands_in read.batches))) e (subst (λ l. Next end next l) read.place_is.committed other)
+      moved end other = subst (λ n. Next end n (k.low + length (commands_in read.batches))) e (subst (λ l. Next end next l) read.goes_on.committed other)
 
       pub two_logs : Next Closed next first.committed → AreReplayed contents k before after second
       two_logs other =
@@ -115,11 +116,11 @@ module _ (contents : Contents) (k : Checkpoint) (before mid after : Restoring) (
             first = read.batches;
             second = Some there.batches;
             logs = (read.ends, there.ends);
-            place_is = there.place_is;
+            goes_on = there.goes_on;
             applied = applies_on k.low (k.low + length (commands_in read.batches)) (commands_in read.batches) (commands_in there.batches) before mid after refl same read.applied there.applied;
           }
 
       pub ended_twice : (refusal : Refusal) → refusal ≡ Damaged (log_file second.generation) second.gate → Next Ended next first.committed → AreBadLogs contents k refusal
       ended_twice refusal is other =
           let there = moved Ended other in
-          second_end read.batches there.batches read.ends there.ends (is ∙ ap₂ Damaged (ap log_file there.place_is.generation) there.place_is.gate)
+          second_end read.batches there.batches read.ends there.ends (is ∙ ap₂ Damaged (ap log_file there.goes_on.generation) there.goes_on.gate)

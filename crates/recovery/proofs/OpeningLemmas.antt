@@ -18,25 +18,25 @@ use Rattle.checkpoint_file.specs.declared.loading.LoadedCheckpoint.{LoadedCheckp
 use Rattle.checkpoint_file.specs.Heads.{failed_in as heads_failed_in}
 use Rattle.checkpoint_file.specs.Loads.{AreRising, IsUnloadable, checkpoint_of, sections_of}
 use Rattle.gate_log.specs.Scan.{failed_in}
-use Rattle.recovery.specs.declared.logs.LogPlace.{LogPlace}
+use Rattle.gate_log.specs.States.{LogState}
 use Rattle.recovery.specs.declared.opening.Restored.{Restored}
 use Rattle.recovery.specs.declared.restoring.Restoring.{Restoring}
 use Rattle.recovery.specs.Counting.{entries_in, greatest_of, marks_in}
 use Rattle.recovery.specs.Dividing.{IsDivided}
 use Rattle.recovery.specs.Heads.{IsUsed}
-use Rattle.recovery.specs.LogReading.{AreReplayed, IsPlaceOf}
+use Rattle.recovery.specs.LogReading.{AreReplayed, GoesOnFrom}
 use Rattle.recovery.specs.Opening.{IsOpened, IsRestored}
 use Rattle.recovery.specs.Restoring.{HasMap, IsSameFrame}
 use Rattle.recovery.proofs.CountingLemmas.{greatest_is, marks_are, union_is}
 
 -- ---- a checkpoint and its logs
 
-committed_is : (k : Checkpoint) (first : List Batch) (second : Option (List Batch)) (place : LogPlace) → IsPlaceOf (newest_by k first second) place
+committed_is : (k : Checkpoint) (first : List Batch) (second : Option (List Batch)) (place : LogState) → GoesOnFrom (newest_by k first second) place
     → place.committed ≡ k.low + length (logged_by first second)
 committed_is k first None place is = is.committed
 committed_is k first (Some second) place is = let e = is.committed in omega (arith, e, length-append (commands_in first) (commands_in second))
 
-module _ (contents : Contents) (loaded : LoadedCheckpoint) (before after : Restoring) (place : LogPlace) (marks : before.marks.items ≡ marks_in loaded.sections.items)
+module _ (contents : Contents) (loaded : LoadedCheckpoint) (before after : Restoring) (place : LogState) (marks : before.marks.items ≡ marks_in loaded.sections.items)
     (replayed : AreReplayed contents (checkpoint_of loaded) before after place) where
   -- the greatest mark, as it is kept
   greatest : (same : IsSameFrame before after) → greatest_of after.marks.items ≡ greatest_mark (sections_of loaded.sections.items)
@@ -45,10 +45,10 @@ module _ (contents : Contents) (loaded : LoadedCheckpoint) (before after : Resto
   pub below : (same : IsSameFrame before after) (refusal : Refusal) → refusal ≡ Damaged (log_file place.generation) place.gate → place.committed < greatest_of after.marks.items
       → AreBadLogs contents (checkpoint_of loaded) refusal
   below same refusal damage less =
-      let committed = committed_is (checkpoint_of loaded) replayed.first replayed.second place replayed.place_is in
+      let committed = committed_is (checkpoint_of loaded) replayed.first replayed.second place replayed.goes_on in
       let most = greatest same in
       below_mark replayed.first replayed.second replayed.logs (omega (arith, less, committed, most))
-      (damage ∙ ap₂ Damaged (ap log_file replayed.place_is.generation) replayed.place_is.gate)
+      (damage ∙ ap₂ Damaged (ap log_file replayed.goes_on.generation) replayed.goes_on.gate)
 
   abbrev log : List Command
   log = logged_by replayed.first replayed.second
@@ -59,7 +59,7 @@ module _ (contents : Contents) (loaded : LoadedCheckpoint) (before after : Resto
       → found ≡ record { parts = after.divided.parts; sealed = loaded.generation; log = place } → IsRestored contents (checkpoint_of loaded) n found
   is_restored same n of stripes rising has reaches found is =
       let k = checkpoint_of loaded in
-      let committed = committed_is k replayed.first replayed.second place replayed.place_is in
+      let committed = committed_is k replayed.first replayed.second place replayed.goes_on in
       let most = greatest same in
       let xs = sections_of loaded.sections.items in
       let start : Map = finite.from_entries (entries_in loaded.sections.items) in
@@ -76,7 +76,7 @@ module _ (contents : Contents) (loaded : LoadedCheckpoint) (before after : Resto
         logs = replayed.logs;
         reaches = omega (arith, reaches, committed, most);
         sealed = refl;
-        place = replayed.place_is;
+        goes_on = replayed.goes_on;
         committed = committed;
         divided = divided;
       })
@@ -92,7 +92,7 @@ module _ (contents : Contents) (file : ℕ) (used : IsUsed contents file) where
         found = opened;
         holds = used_is_held contents opened used.faultless (subst (λ number. IsCheckpoint first_layout (checkpoint_of loaded) (contents number)) used.newest checkpoint) restored.logs restored.reaches;
         sealed = restored.sealed;
-        log = restored.place;
+        log = restored.goes_on;
         committed = restored.committed;
         divided = restored.divided;
       }

@@ -53,10 +53,15 @@ module _ {D : Type 0} (states : D → List Files) (failures : D → ℕ) where
       let one : contents_of states new ≡ seen_now (states_synced 4 (states old)) = ap {B = Contents} seen_now is.states_are in
       one ∙ seen_synced 4 (states old)
 
+  -- nothing is pending, and the files hold what was read
+  pub settled : (honest : D → Type 0) (failed : ℕ) (old new : D) → SyncsAndLooks states failures honest 4 failed old new → (number : ℕ) → number < 4
+      → now (states new) number ≡ at_rest (contents_of states old number)
+  settled honest failed old new is number below =
+      let looked = same_now states failures honest failed is.mid new is.looks in
+      ap (λ (files : Files). files number) looked ∙ (ap (λ (past : List Files). now past number) is.synced.states_are ∙ rests 4 (states old) number below)
+
   -- a stop leaves what was read
   pub left_as_read : (honest : D → Type 0) (failed : ℕ) (old new : D) → SyncsAndLooks states failures honest 4 failed old new → LeavesOnly (now (states new)) (contents_of states old)
   left_as_read honest failed old new is contents leaves number below =
-      let looked = same_now states failures honest failed is.mid new is.looks in
-      let rest : now (states new) number ≡ at_rest (contents_of states old number) =
-      ap (λ (files : Files). files number) looked ∙ (ap (λ (past : List Files). now past number) is.synced.states_are ∙ rests 4 (states old) number below) in
-      rest_leaves (contents_of states old number) (contents number) (subst (λ (file : File). MayLeave file (contents number)) rest (leaves number below))
+      rest_leaves (contents_of states old number) (contents number)
+      (subst (λ (file : File). MayLeave file (contents number)) (settled honest failed old new is number below) (leaves number below))

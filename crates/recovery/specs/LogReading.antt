@@ -9,10 +9,10 @@ use Rattle.store_layout.specs.Logs.{Batch, IsClosed, IsEnded, commands_in}
 use Rattle.store_layout.specs.Readings.{IsBadHeader, Reads, broken, gate_behind}
 use Rattle.store_layout.specs.Opening.{Contents, AreLogs, FoundLog, damage_behind, logged_by, newest_by}
 use Rattle.gate_log.specs.Scan.{ScanState, HasRead}
+use Rattle.gate_log.specs.States.{LogState, resumed}
 use Rattle.recovery.specs.declared.replay.End.{End}
 use Rattle.recovery.specs.declared.replay.End.TheVariants.{Closed, Ended}
 use Rattle.recovery.specs.declared.restoring.Restoring.{Restoring}
-use Rattle.recovery.specs.declared.logs.LogPlace.{LogPlace}
 use Rattle.recovery.specs.Restoring.{Applies}
 
 -- what a read gives of each file
@@ -49,18 +49,19 @@ pub record IsBrokenFor (generation low : ℕ) (content : List ℕ) (refusal : Re
   pub reads : Reads first_layout generation low content (broken batches)
   pub damage : refusal ≡ damage_behind (record { generation = generation; low = low; batches = batches })
 
--- the place behind the last batch of the log
-pub record IsPlaceOf (log : FoundLog) (place : LogPlace) : Type 0 where
-  pub generation : place.generation ≡ log.generation
-  pub low : place.low ≡ log.low
-  pub gate : place.gate ≡ gate_behind first_layout log.generation log.low log.batches
-  pub committed : place.committed ≡ log.low + length (commands_in log.batches)
+-- the log goes on behind the last of its batches, and nothing is staged
+pub record GoesOnFrom (found : FoundLog) (log : LogState) : Type 0 where
+  pub generation : log.generation ≡ found.generation
+  pub low : log.low ≡ found.low
+  pub gate : log.gate ≡ gate_behind first_layout found.generation found.low found.batches
+  pub committed : log.committed ≡ found.low + length (commands_in found.batches)
+  pub rests : log ≡ resumed log.generation log.low log.gate log.committed
 
 -- one log was read, and its changes were made
-pub record IsLogRead (generation low : ℕ) (content : List ℕ) (before : Restoring) (end : End) (place : LogPlace) (after : Restoring) : Type 0 where
+pub record IsLogRead (generation low : ℕ) (content : List ℕ) (before : Restoring) (end : End) (log : LogState) (after : Restoring) : Type 0 where
   pub batches : List Batch
   pub ends : IsEnd end generation low batches content
-  pub place_is : IsPlaceOf (record { generation = generation; low = low; batches = batches }) place
+  pub goes_on : GoesOnFrom (record { generation = generation; low = low; batches = batches }) log
   pub applied : Applies low (commands_in batches) before after
 
 -- what is wrong with one log: its header, or one of its frames
@@ -72,9 +73,9 @@ abbrev pub checkpoint_with : ℕ → ℕ → ℕ → List Section → Checkpoint
 checkpoint_with generation low stripes sections = record { generation = generation; low = low; stripes = stripes; sections = sections }
 
 -- the logs of the checkpoint were read, and their changes were made
-pub record AreReplayed (contents : Contents) (k : Checkpoint) (before after : Restoring) (place : LogPlace) : Type 0 where
+pub record AreReplayed (contents : Contents) (k : Checkpoint) (before after : Restoring) (log : LogState) : Type 0 where
   pub first : List Batch
   pub second : Option (List Batch)
   pub logs : AreLogs contents k first second
-  pub place_is : IsPlaceOf (newest_by k first second) place
+  pub goes_on : GoesOnFrom (newest_by k first second) log
   pub applied : Applies k.low (logged_by first second) before after

@@ -6,7 +6,7 @@ use Rattle.store_layout.specs.Standing.{restored}
 use Rattle.store_layout.specs.Opening.{Contents, Opened, Holds, AreLogs, logged_by, map_of, newest_by, newest_of, prefix_of}
 use Rattle.recovery.specs.declared.opening.Restored.{Restored}
 use Rattle.recovery.specs.Dividing.{IsDivided}
-use Rattle.recovery.specs.LogReading.{IsPlaceOf}
+use Rattle.recovery.specs.LogReading.{GoesOnFrom}
 
 -- the map of this checkpoint and its logs, divided for so many stripes
 pub record IsRestored (contents : Contents) (k : Checkpoint) (stripes : ℕ) (found : Restored) : Type 0 where
@@ -15,16 +15,16 @@ pub record IsRestored (contents : Contents) (k : Checkpoint) (stripes : ℕ) (fo
   pub logs : AreLogs contents k first second
   pub reaches : greatest_mark k.sections ≤ k.low + length (logged_by first second)
   pub sealed : found.sealed ≡ k.generation
-  pub place : IsPlaceOf (newest_by k first second) found.log
+  pub goes_on : GoesOnFrom (newest_by k first second) found.log
   pub committed : found.log.committed ≡ k.low + length (logged_by first second)
   pub divided : IsDivided stripes (restored k.stripes k.sections k.low (logged_by first second)) found.parts.items
 
--- These are the parts of the map that the files stand for, one for each of so many stripes; the checkpoint that was used; and the place behind
--- the last batch of the newest log, up to which so many commands are committed.
+-- These are the parts of the map that the files stand for, one for each of so many stripes; the checkpoint that was used; and the newest log,
+-- which goes on behind its last batch, up to which so many commands are committed.
 pub record IsOpened (contents : Contents) (stripes : ℕ) (restored : Restored) : Type 0 where
   pub found : Opened
   pub holds : Holds contents found
   pub sealed : restored.sealed ≡ found.checkpoint.generation
-  pub log : IsPlaceOf (newest_of found) restored.log
+  pub log : GoesOnFrom (newest_of found) restored.log
   pub committed : restored.log.committed ≡ prefix_of found
   pub divided : IsDivided stripes (map_of found) restored.parts.items

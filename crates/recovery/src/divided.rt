@@ -1,15 +1,21 @@
 //! The map while it is restored, divided into the parts of its stripes.
 ghost use Rattle.std.specs.Prelude.{◌≡◌, ◌++◌, ◌∷◌, ℕ, List, length, IfOk, IfErr, OnOk};
+ghost use Rattle.std.specs.Coded.{Coded-set, coded_ℕ, coded_list};
 ghost use Rattle.std.specs.FinMap as finite;
+ghost use Rattle.map_types.specs.contracts.texts.Value as value_type;
 ghost use Rattle.map_types.specs.declared.texts.Value.{Value};
 ghost use Rattle.map_model.specs.Maps.{Map};
+ghost use Rattle.map_model.specs.Parts.{parts_of, union_of};
 ghost use Rattle.map_model.specs.Steps.{step};
+ghost use Rattle.one_history.specs.OneHistory.{AreParts};
+ghost use Rattle.one_history.specs.Turns.{maps_of};
 ghost use Rattle.recovery.specs.Dividing.{IsDivided};
 ghost use Rattle.recovery.specs.Counting.{entries_in};
 
 use atomic_methods::Part;
 use checkpoint_file::LoadedSection;
 use java_hash::{StripeCount, stripe_of};
+use map_model::laws::laws_of_parts;
 use map_types::{Change, Command, Key, Refusal, Value};
 use std::alloc::Global;
 
@@ -19,6 +25,7 @@ pub(crate) struct Divided {
     pub stripes: StripeCount,
     pub parts: Vec<Part>,
     ghost one_each: { length parts.items ≡ stripes.count },
+    ghost are_parts: { AreParts stripes.count parts.items } by { Coded-set (coded_list (finite.code (coded_list coded_ℕ) value_type.the_row.coded)) (maps_of parts.items) (parts_of stripes.count (union_of (maps_of parts.items))) },
 }
 
 impl Divided {
@@ -28,6 +35,7 @@ impl Divided {
         ensures stripes { IfOk result (λ divided. divided.stripes ≡ stripes) }
         ensures err { IfErr result (λ refusal. refusal ≡ Refusal.NoMemory) }
     {
+        laws_of_parts();
         let mut parts = Vec::new(alloc);
         for _ in 0..stripes.get() {
             parts.push(Part::new(stripes))?;
@@ -42,6 +50,7 @@ impl Divided {
             → IsDivided self.old.stripes.count (step m command.now).map self.new.parts.items) }
         ensures err { IfErr result (λ refusal. refusal ≡ Refusal.NoMemory) }
     {
+        laws_of_parts();
         let stripe = stripe_of(command.key.as_str(), self.stripes);
         let part = &mut self.parts[stripe];
         let prepared = part.prepare(alloc, command)?;

@@ -49,7 +49,7 @@ fn refused(alloc: Global, disk: MemDisk) -> Option<Refusal> {
 fn opened(alloc: Global, disk: MemDisk, stripes: u16) -> Option<(u64, usize)> {
     let stripes = StripeCount::new(stripes)?;
     match open_parts(alloc, disk, stripes) {
-        Ok((_, found)) => Some((found.log.committed, found.parts.len())),
+        Ok((_, found)) => Some((found.log.committed(), found.parts.len())),
         Err(_) => None,
     }
 }

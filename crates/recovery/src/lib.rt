@@ -19,5 +19,4 @@ mod syncing;
 mod tests;
 
 pub use formatting::format;
-pub use logs::LogPlace;
 pub use opening::{Restored, open_parts};

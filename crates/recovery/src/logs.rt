@@ -11,42 +11,18 @@ ghost use Rattle.recovery.specs.LogReading.{contents_of, checkpoint_with, AreRep
 use crate::replay::{End, replay};
 use crate::restoring::Restoring;
 use disk_model::Disk;
-use gate_log::Scan;
+use gate_log::{GateLog, Scan};
 use map_types::Refusal;
 use std::alloc::Global;
 use store_layout::log_file;
 
-/// Where a log goes on.
-#[derive(Clone, Copy, Debug, PartialEq, Eq)]
-pub struct LogPlace {
-    pub generation: u64,
-    pub low: u64,
-    /// The offset of the gate behind its last batch.
-    pub gate: usize,
-    /// How many commands stand before that gate, with those before the log.
-    pub committed: u64,
-}
-
-impl LogPlace {
-    // The refusal of a log that is damaged here.
-    pub(crate) fn damaged(self) -> Refusal
-        ensures { result ≡ Refusal.Damaged (log_file self.generation) self.gate }
-    {
-        Refusal::Damaged {
-            file: log_file(self.generation) as u8,
-            offset: self.gate as u64,
-        }
-    }
-}
-
-fn place(generation: u64, low: u64, scan: &Scan) -> LogPlace
-    ensures { result ≡ record { generation = generation; low = low; gate = scan.now.gate; committed = scan.now.expected } }
+/// The refusal of a log that is damaged at its last gate.
+pub(crate) fn damaged(log: &GateLog) -> Refusal
+    ensures { result ≡ Refusal.Damaged (log_file log.now.generation) log.now.gate }
 {
-    LogPlace {
-        generation,
-        low,
-        gate: scan.gate(),
-        committed: scan.expected(),
+    Refusal::Damaged {
+        file: log_file(log.generation()) as u8,
+        offset: log.gate() as u64,
     }
 }
 
@@ -57,7 +33,7 @@ fn read_log<D: Disk>(
     generation: u64,
     low: u64,
     restoring: &mut Restoring,
-) -> Result<(End, LogPlace), Refusal>
+) -> Result<(End, GateLog), Refusal>
     ensures looks { Looks D.states D.failures D.honest (failed_in result) disk.old disk.new }
     ensures same { IsSameFrame restoring.old restoring.new }
     ensures ok { D.honest disk.new → IfOk result (λ x. IsLogRead generation low (log_bytes D.states disk.old generation) restoring.old x.0 x.1 restoring.new) }
@@ -65,18 +41,19 @@ fn read_log<D: Disk>(
 {
     let mut scan = Scan::begin(disk, generation, low)?;
     let end = replay(alloc, disk, generation, &mut scan, restoring)?;
-    Ok((end, place(generation, low, &scan)))
+    let log = GateLog::resume(alloc, generation, low, scan.gate(), scan.expected());
+    Ok((end, log))
 }
 
-/// Makes the changes of the log of this generation, and where that has ended those of the next. Where
-/// the newest of the two goes on is the answer.
+/// Makes the changes of the log of this generation, and where that has ended those of the next. The
+/// newest of the two is the answer.
 pub(crate) fn read_logs<D: Disk>(
     alloc: Global,
     disk: &mut D,
     generation: u64,
     low: u64,
     restoring: &mut Restoring,
-) -> Result<LogPlace, Refusal>
+) -> Result<GateLog, Refusal>
     ensures looks { Looks D.states D.failures D.honest (failed_in result) disk.old disk.new }
     ensures same { IsSameFrame restoring.old restoring.new }
     ensures ok { D.honest disk.new → (stripes : ℕ) (sections : List Section)
@@ -89,11 +66,11 @@ pub(crate) fn read_logs<D: Disk>(
         return Ok(first);
     }
     let Some(next) = generation.checked_add(1) else {
-        return Err(first.damaged());
+        return Err(damaged(&first));
     };
-    let (end, second) = read_log(alloc, disk, next, first.committed, restoring)?;
+    let (end, second) = read_log(alloc, disk, next, first.committed(), restoring)?;
     match end {
         End::Closed => Ok(second),
-        End::Ended => Err(second.damaged()),
+        End::Ended => Err(damaged(&second)),
     }
 }

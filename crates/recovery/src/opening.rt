@@ -1,24 +1,29 @@
 //! The map that a directory stands for.
-ghost use Rattle.std.specs.Prelude.{◌≡◌, IfOk, IfErr, OnOk};
+ghost use Rattle.std.specs.Prelude.{◌≡◌, ◌+◌, IfOk, IfErr, OnOk};
 ghost use Rattle.disk_model.specs.Calls.{Looks};
 ghost use Rattle.disk_model.specs.Files.{now};
+ghost use Rattle.store_layout.specs.Checkpoints.{checkpoint_file};
 ghost use Rattle.store_layout.specs.Opening.{AreBadLogs, Refuses};
 ghost use Rattle.checkpoint_file.specs.Loads.{checkpoint_of, AreRising};
+ghost use Rattle.checkpoint_file.specs.Standing.{is_to_close};
 ghost use Rattle.gate_log.specs.Scan.{failed_in};
+ghost use Rattle.recovery.specs.Dividing.{ArePartsOf};
 ghost use Rattle.recovery.specs.LogReading.{contents_of, RefusesFor};
 ghost use Rattle.recovery.specs.Opening.{IsOpened, IsRestored};
 ghost use Rattle.recovery.specs.Syncing.{LeavesOnly, Stopped, SyncsAndLooks};
 
 use crate::heads::newest_file;
-use crate::logs::{LogPlace, read_logs};
+use crate::logs::{damaged, read_logs};
 use crate::restoring::{Restoring, greatest_of};
 use crate::syncing::sync_files;
 use atomic_methods::Part;
-use checkpoint_file::{LoadedCheckpoint, load};
+use checkpoint_file::{LoadedCheckpoint, load, must_close};
 use disk_model::Disk;
+use gate_log::GateLog;
 use java_hash::StripeCount;
 use map_types::Refusal;
 use std::alloc::Global;
+use store_layout::checkpoint_file;
 
 /// What a directory stands for.
 #[derive(Drop)]
@@ -27,8 +32,8 @@ pub struct Restored {
     pub parts: Vec<Part>,
     /// The generation of the checkpoint that was used.
     pub sealed: u64,
-    /// Where the newest log goes on.
-    pub log: LogPlace,
+    /// The newest log, which goes on behind its last batch.
+    pub log: GateLog,
 }
 
 // The map of this checkpoint and its logs.
@@ -39,6 +44,7 @@ fn restore_from<D: Disk>(
     loaded: LoadedCheckpoint,
 ) -> Result<Restored, Refusal>
     ensures looks { Looks D.states D.failures D.honest (failed_in result) disk.old disk.new }
+    ensures parts { IfOk result (λ found. ArePartsOf stripes.count found.parts.items) }
     ensures ok { D.honest disk.new → AreRising loaded.sections.items → IfOk result (IsRestored (contents_of D.states disk.old) (checkpoint_of loaded) stripes.count) }
     ensures err { D.honest disk.new → IfErr result (λ refusal. RefusesFor (AreBadLogs (contents_of D.states disk.old) (checkpoint_of loaded) refusal) refusal) }
 {
@@ -46,8 +52,8 @@ fn restore_from<D: Disk>(
     let low = loaded.low;
     let mut restoring = Restoring::new(alloc, stripes, loaded)?;
     let log = read_logs(alloc, disk, generation, low, &mut restoring)?;
-    if log.committed < greatest_of(&restoring.marks) {
-        return Err(log.damaged());
+    if log.committed() < greatest_of(&restoring.marks) {
+        return Err(damaged(&log));
     }
     Ok(Restored {
         parts: restoring.divided.parts,
@@ -60,6 +66,7 @@ fn restore_from<D: Disk>(
 // alone.
 fn restore<D: Disk>(alloc: Global, disk: &mut D, stripes: StripeCount) -> Result<Restored, Refusal>
     ensures looks { Looks D.states D.failures D.honest (failed_in result) disk.old disk.new }
+    ensures parts { IfOk result (λ found. ArePartsOf stripes.count found.parts.items) }
     ensures ok { D.honest disk.new → IfOk result (IsOpened (contents_of D.states disk.old) stripes.count) }
     ensures err { D.honest disk.new → IfErr result (λ refusal. RefusesFor (Refuses (contents_of D.states disk.old) refusal) refusal) }
 {
@@ -70,20 +77,40 @@ fn restore<D: Disk>(alloc: Global, disk: &mut D, stripes: StripeCount) -> Result
     restore_from(alloc, disk, stripes, loaded)
 }
 
-// Syncs the files, and restores the map that they stand for.
+// Restores the map that the files stand for, and says whether the gate of the file that the next
+// checkpoint goes to is to be closed. It looks at the files alone.
+fn read_files<D: Disk>(
+    alloc: Global,
+    disk: &mut D,
+    stripes: StripeCount,
+) -> Result<(Restored, bool), Refusal>
+    ensures looks { Looks D.states D.failures D.honest (failed_in result) disk.old disk.new }
+    ensures parts { IfOk result (λ x. ArePartsOf stripes.count x.0.parts.items) }
+    ensures ok { D.honest disk.new → IfOk result (λ x. IsOpened (contents_of D.states disk.old) stripes.count x.0) }
+    ensures gate { D.honest disk.new → IfOk result (λ x. x.1 ≡ is_to_close (contents_of D.states disk.old (checkpoint_file (x.0.sealed + 1)))) }
+    ensures err { D.honest disk.new → IfErr result (λ refusal. RefusesFor (Refuses (contents_of D.states disk.old) refusal) refusal) }
+{
+    let restored = restore(alloc, disk, stripes)?;
+    let must_close = must_close(disk, 1 - checkpoint_file(restored.sealed))?;
+    Ok((restored, must_close))
+}
+
+// Syncs the files, and reads them.
 fn open_files<D: Disk>(
     alloc: Global,
     disk: &mut D,
     stripes: StripeCount,
-) -> Result<Restored, Refusal>
+) -> Result<(Restored, bool), Refusal>
     ensures calls { OnOk result (SyncsAndLooks D.states D.failures D.honest 4 0 disk.old disk.new) }
     ensures stopped { IfErr result (Stopped D.states D.failures D.honest 4 disk.old disk.new) }
     ensures was_honest { D.honest disk.new → D.honest disk.old }
-    ensures ok { D.honest disk.new → IfOk result (IsOpened (contents_of D.states disk.old) stripes.count) }
+    ensures parts { IfOk result (λ x. ArePartsOf stripes.count x.0.parts.items) }
+    ensures ok { D.honest disk.new → IfOk result (λ x. IsOpened (contents_of D.states disk.old) stripes.count x.0) }
+    ensures gate { D.honest disk.new → IfOk result (λ x. x.1 ≡ is_to_close (contents_of D.states disk.old (checkpoint_file (x.0.sealed + 1)))) }
     ensures err { D.honest disk.new → IfErr result (λ refusal. RefusesFor (Refuses (contents_of D.states disk.old) refusal) refusal) }
 {
     sync_files(disk, 4)?;
-    restore(alloc, disk, stripes)
+    read_files(alloc, disk, stripes)
 }
 
 /// Opens the directory: syncs its files, and restores the map that they stand for, divided for so many
@@ -96,12 +123,13 @@ pub fn open_parts<D: Disk>(
 ) -> Result<(D, Restored), (D, Refusal)>
     ensures calls { IfOk result (λ x. SyncsAndLooks D.states D.failures D.honest 4 0 disk x.0) }
     ensures stopped { IfErr result (λ x. Stopped D.states D.failures D.honest 4 disk x.0 x.1) }
+    ensures parts { IfOk result (λ x. ArePartsOf stripes.count x.1.parts.items) }
     ensures ok { IfOk result (λ x. D.honest x.0 → D.honest disk × IsOpened (contents_of D.states disk) stripes.count x.1) }
     ensures err { IfErr result (λ x. D.honest x.0 → D.honest disk × RefusesFor (Refuses (contents_of D.states disk) x.1) x.1) }
     ensures stops { IfOk result (λ x. LeavesOnly (now (D.states x.0)) (contents_of D.states disk)) }
 {
     match open_files(alloc, &mut disk, stripes) {
-        Ok(found) => Ok((disk, found)),
+        Ok((found, _must_close)) => Ok((disk, found)),
         Err(refusal) => Err((disk, refusal)),
     }
 }

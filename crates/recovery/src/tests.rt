@@ -54,7 +54,7 @@ pub(crate) fn disk_with(alloc: Global, checkpoint: &[u8]) -> Result<MemDisk, Ref
 // The numbers, and then each key and each value, part by part.
 fn shown(alloc: Global, found: &Restored) -> Result<Vec<u8>, Refusal> {
     let mut out = Vec::new(alloc);
-    put_number(8, found.log.committed, &mut out)?;
+    put_number(8, found.log.committed(), &mut out)?;
     put_number(8, found.sealed, &mut out)?;
     put_number(8, found.log.generation, &mut out)?;
     put_number(8, found.log.gate as u64, &mut out)?;

@@ -1,7 +1,7 @@
 -- How a store that was opened stands, also once its history has grown.
 use Rattle.std.proofs.Common.{◌≡◌, ℕ, ◌+◌, ◌<◌, ◌≤◌, max, List, [], length, Option, None, Some, refl, sym, ap₂, subst, arith}
 use Rattle.std.proofs.lemmas.List.{length-append}
-use Rattle.disk_model.specs.Files.{Contents, File, Files, MayLeave, at_rest}
+use Rattle.disk_model.specs.Files.{Contents, Files, MayLeave, at_rest}
 use Rattle.map_types.specs.declared.commands.Command.{Command}
 use Rattle.map_model.specs.Histories.{History}
 use Rattle.map_model.specs.Maps.{Map}
@@ -19,7 +19,8 @@ use Rattle.store_states.specs.Laws.{OpenedStands, StandingStays}
 use Rattle.store_states.specs.States.{low_after}
 use Rattle.store_states.specs.Standing.{LogsStand, MayCapture, NextLogIsOf}
 use Rattle.store_states.proofs.LogSteps.{committed_is}
-use Rattle.store_states.proofs.Places.{checkpoint_low, log_low, rest_leaves}
+use Rattle.store_states.proofs.Contents.{rest_leaves}
+use Rattle.store_states.proofs.Places.{checkpoint_low, log_low}
 
 -- ---- a history that grows
 

@@ -20,8 +20,9 @@ use Rattle.gate_log.specs.States.{LogState, begun}
 use Rattle.store_states.specs.Laws.{CheckpointBegins, CheckpointIsSealed, RotationBegins, SealBegins, SectionIsGiven, WriterStepsOn}
 use Rattle.store_states.specs.States.{StoreState, Held, low_after, next_batches}
 use Rattle.store_states.specs.Standing.{Follows, HasEnded, HasNextLog, IsCapture, IsReached, IsSealedIn, IsUnderWay, LogsStand, MayCapture, NextLogIsOf, NextStands, Stands, WriterStands, Writes}
+use Rattle.store_states.proofs.Contents.{marks_below, some_stripes}
 use Rattle.store_states.proofs.LogSteps.{committed_is}
-use Rattle.store_states.proofs.Places.{checkpoint_again, checkpoint_before, elsewhere, here, log_is_no_checkpoint, next_checkpoint, some_stripes, with_other}
+use Rattle.store_states.proofs.Places.{checkpoint_again, checkpoint_before, elsewhere, here, log_is_no_checkpoint, next_checkpoint, with_other}
 
 -- ---- the files of the logs stay
 
@@ -225,10 +226,6 @@ writer_steps_on h store held w start file stands is alone other stand = by_phase
 
 -- ---- it is sealed
 
-marks_below : (low high most : ℕ) (sections : List Section) → AreMarks low high sections → greatest_mark sections ≤ most → AreMarks low most sections
-marks_below low high most [] marks up = tt
-marks_below low high most (x ∷ xs) marks up = (marks.0, omega (arith, up), marks_below low high most xs marks.2 (omega (arith, up)))
-
 -- its log
 log_there : (h : History) (second : Option (List Batch)) (low : ℕ) → HasNextLog None second → NextLogIsOf h None second low → IsLogOf h low (commands_in (next_batches second))
 log_there h None low has is = absurd has
@@ -275,7 +272,7 @@ checkpoint_is_sealed restore older h store held w start file stands is alone ope
       of_history = record {
         restores = restore h w.stripes w.low held.sections (commands_in (next_batches second)) capture.parts
             (subst (λ n. AreMarks (max h.first w.low) n held.sections) committed (marks_below (max h.first w.low) (reach h) store.log.committed held.sections capture.marks reached))
-            (sym stand.knows.count ∙ stand.stands.0) (some_stripes (state_after checkpoint_phase.Opened w) held.sections stand.knows)
+            (sym stand.knows.count ∙ stand.stands.0) (some_stripes w.stripes stand.knows.allowed)
             (subst (λ n. IsLogOf h n (commands_in (next_batches second))) (sym low)
             (log_there h second store.log.low has (subst (λ o. NextLogIsOf h o second (low_after store.log o)) alone stands.of_history.next_log)));
         next = stands.of_history.next;

@@ -1,5 +1,5 @@
 -- How a store stands after a step of one of its logs.
-use Rattle.std.proofs.Common.{◌≡◌, ◌≢◌, ℕ, ◌+◌, ◌≤◌, List, [], ◌∷◌, ◌++◌, length, Option, None, Some, refl, sym, ◌∙◌, ap, subst, arith, append_assoc, length-append}
+use Rattle.std.proofs.Common.{◌≡◌, ◌≢◌, ℕ, ◌+◌, ◌≤◌, List, [], ◌++◌, length, Option, None, Some, refl, sym, ◌∙◌, ap, subst, arith, append_assoc, length-append}
 use Rattle.std.proofs.lemmas.List.{append-nil}
 use Rattle.disk_model.specs.Files.{File, Files, MayLeave, with_file}
 use Rattle.map_types.specs.declared.commands.Command.{Command}
@@ -20,16 +20,13 @@ use Rattle.gate_log.specs.States.{LogState, log_after}
 use Rattle.store_states.specs.Laws.{EndStepsOn, LogEnds, LogStepsOn, NextIsReady, NextStepsOn, stepped}
 use Rattle.store_states.specs.States.{StoreState, Held, low_after, newest_batches, with_batches}
 use Rattle.store_states.specs.Standing.{Follows, HasEnded, HasNextLog, IsReached, IsSealedIn, IsTurn, IsUnderWay, LogsStand, MayCapture, NextLogIsOf, NextStands, Stands, WriterStands}
+use Rattle.store_states.proofs.Contents.{commands_append}
 use Rattle.store_states.proofs.Places.{checkpoint_is_no_log, elsewhere, here, log_before, next_log}
 
 -- ---- parts of a standing store
 
 none_is_some : {X : Type 0} (x : X) → None ≡ Some x → ⊥
 none_is_some x e = cc
-
-pub commands_append : (xs ys : List Batch) → commands_in (xs ++ ys) ≡ commands_in xs ++ commands_in ys
-commands_append [] ys = refl
-commands_append (x ∷ xs) ys = ap (λ l. x.commands ++ l) (commands_append xs ys) ∙ sym (append_assoc x.commands (commands_in xs) (commands_in ys))
 
 -- how many commands are committed
 pub committed_is : (k : Checkpoint) (first : List Batch) (second : Option (List Batch)) (newest : LogState) (staged : List Batch) (files : Files) → LogsStand k first second newest staged files

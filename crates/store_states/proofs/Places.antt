@@ -1,12 +1,9 @@
--- Which files differ, and what a file at rest leaves.
-use Rattle.std.proofs.Common.{◌≡◌, ◌≢◌, ℕ, ◌+◌, ◌<◌, List, length, sym, subst, arith}
-use Rattle.std.proofs.lemmas.List.{ext_get_or}
+-- Which files differ.
+use Rattle.std.proofs.Common.{◌≡◌, ◌≢◌, ℕ, ◌+◌, ◌<◌, sym, subst, arith}
 use Rattle.std.proofs.lemmas.Bool.Decides.{nat_tests}
-use Rattle.disk_model.specs.Files.{File, Files, MayLeave, at_rest, with_file}
-use Rattle.store_layout.specs.Checkpoints.{Section, checkpoint_file}
+use Rattle.disk_model.specs.Files.{File, Files, with_file}
+use Rattle.store_layout.specs.Checkpoints.{checkpoint_file}
 use Rattle.store_layout.specs.Logs.{log_file}
-use Rattle.checkpoint_file.specs.States.{CheckpointState}
-use Rattle.checkpoint_file.specs.Standing.{HasGiven}
 
 -- ---- one file changed
 
@@ -51,17 +48,3 @@ checkpoint_low a = omega arith
 
 pub log_low : (a : ℕ) → log_file a < 4
 log_low a = omega arith
-
--- ---- a file at rest
-
-pub rest_leaves : (old content : List ℕ) → MayLeave (at_rest old) content → content ≡ old
-rest_leaves old content left =
-    let size : length content ≡ length old = omega (arith, left.no_shorter, left.no_longer) in
-    ext_get_or 0 content old size (λ i h.
-    let below : i < length old = omega (arith, size, h) in
-    left.same i (grind (arith, nat_tests)))
-
--- ---- stripes
-
-pub some_stripes : (w : CheckpointState) (sections : List Section) → HasGiven w sections → 0 < w.stripes
-some_stripes w sections knows = let allowed = knows.allowed in grind (arith, nat_tests)

@@ -1,6 +1,7 @@
-use Rattle.std.proofs.Common.{ℕ, List}
+use Rattle.std.proofs.Common.{ℕ, List, ap₂, ◌∙◌}
 use Rattle.std.proofs.lemmas.Result.{err_from_is_err_and}
 use Rattle.gate_log.specs.Scan.{log_bytes}
+use Rattle.gate_log.specs.States.{resumed}
 use Rattle.gate_log.proofs.Scanning.{looks_on, same_bytes}
 use Rattle.recovery.proofs.LogReadingLemmas.{frames_refused, header_refused, log_read}
 use Rattle.recovery.proofs.logs.read_log.Goals as goal
@@ -34,4 +35,4 @@ returns-clause-ok g c = λ honest.
     let content : List ℕ = log_bytes g.D.Disk.states c.args.disk.now c.args.generation in
     let same = same_bytes g.D.Disk.states g.D.Disk.failures g.D.Disk.honest 0 c.args.disk.now c.begin.new.disk c.args.generation c.in_ok-scan.ensures.looks in
     log_read c.args.generation c.args.low content _ same c.in_ok-scan.scan (c.in_ok-scan.ensures.read (c.in_ok-end.ensures.looks.was_honest honest)) c.args.restoring.now c.replay.new.restoring c.in_ok-end.end
-    c.replay.new.scan c.place.result c.place.ensures (c.in_ok-end.ensures.ok honest)
+    c.replay.new.scan c.resume-log.result (c.resume-log.ensures.state ∙ ap₂ (λ i j. resumed c.args.generation c.args.low i j) c.gate.ensures.place c.expected.ensures) (c.in_ok-end.ensures.ok honest)

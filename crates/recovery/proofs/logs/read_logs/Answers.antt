@@ -3,6 +3,7 @@ use Rattle.std.proofs.lemmas.Result.{err_from_is_err_and}
 use Rattle.store_layout.specs.Opening.{Contents}
 use Rattle.store_layout.specs.Logs.{log_file}
 use Rattle.gate_log.proofs.Scanning.{looks_on, same_bytes}
+use Rattle.gate_log.specs.States.{begun}
 use Rattle.recovery.specs.declared.replay.End.TheVariants.{Ended}
 use Rattle.recovery.specs.LogReading.{IsBadLog, IsLogRead, checkpoint_with, contents_of}
 use Rattle.recovery.proofs.LogReadingLemmas.{ended_twice, first_bad, next_bad, refuses_more, two_ends, two_logs}
@@ -13,7 +14,7 @@ returns-in_err-end-clause-err g c = λ honest stripes sections.
     let q = err_from_is_err_and c.from_residual.result c.from_residual.ensures.1 in
     let contents : Contents = contents_of g.D.Disk.states c.args.disk.now in
     let k = checkpoint_with c.args.generation c.args.low stripes sections in
-    rw (q.1, q.2) (refuses_more _ _ _ (first_bad contents k c.args.restoring.now c.args.restoring.now c.args.restoring.now (record { generation = 0; low = 0; gate = 0; committed = 0 }) _) (c.in_err-end.ensures.err honest))
+    rw (q.1, q.2) (refuses_more _ _ _ (first_bad contents k c.args.restoring.now c.args.restoring.now c.args.restoring.now (begun 0 0) _) (c.in_err-end.ensures.err honest))
 
 pub returns-in_err-end-2-clause-looks : goal.returns-in_err-end-2-clause-looks
 returns-in_err-end-2-clause-looks g c =
@@ -32,7 +33,7 @@ returns-in_err-end-2-clause-err g c = λ honest stripes sections.
     let same = same_bytes g.D.Disk.states g.D.Disk.failures g.D.Disk.honest 0 c.args.disk.now c.read_log.new.disk c.in-Some.next c.in_ok-end.ensures.looks in
     rw (q.1, q.2)
     (refuses_more _ _ _ (next_bad contents k c.args.restoring.now c.read_log.new.restoring c.read_log-2.new.restoring c.in_ok-end.first read c.in-Some.next c.in_err-end-2.field-0.0 next)
-    (refuses_more _ _ _ (λ bad. subst (λ content. IsBadLog c.in-Some.next c.in_ok-end.first.committed content c.in_err-end-2.field-0.0) same bad) (c.in_err-end-2.ensures.err honest)))
+    (refuses_more _ _ _ (λ bad. subst (λ content. IsBadLog c.in-Some.next c.in_ok-end.first.committed content c.in_err-end-2.field-0.0) same bad) (rw c.committed.ensures at (c.in_err-end-2.ensures.err honest))))
 
 pub returns-in-Closed-clause-looks : goal.returns-in-Closed-clause-looks
 returns-in-Closed-clause-looks g c =
@@ -47,16 +48,16 @@ returns-in-Closed-clause-ok g c = λ honest stripes sections.
     let read = subst (λ x. IsLogRead c.args.generation c.args.low (contents (log_file c.args.generation)) c.args.restoring.now x c.in_ok-end.first c.read_log.new.restoring) end (c.in_ok-end.ensures.ok (c.in_ok-end-2.ensures.looks.was_honest honest)) in
     let same = same_bytes g.D.Disk.states g.D.Disk.failures g.D.Disk.honest 0 c.args.disk.now c.read_log.new.disk c.in-Some.next c.in_ok-end.ensures.looks in
     let other = subst (λ x. IsLogRead c.in-Some.next c.in_ok-end.first.committed (contents (log_file c.in-Some.next)) c.read_log.new.restoring x c.in_ok-end-2.second c.read_log-2.new.restoring) c.in-Closed.is
-    (subst (λ content. IsLogRead c.in-Some.next c.in_ok-end.first.committed content c.read_log.new.restoring c.in_ok-end-2.end c.in_ok-end-2.second c.read_log-2.new.restoring) same (c.in_ok-end-2.ensures.ok honest)) in
+    (subst (λ content. IsLogRead c.in-Some.next c.in_ok-end.first.committed content c.read_log.new.restoring c.in_ok-end-2.end c.in_ok-end-2.second c.read_log-2.new.restoring) same (rw c.committed.ensures at (c.in_ok-end-2.ensures.ok honest))) in
     two_logs contents k c.args.restoring.now c.read_log.new.restoring c.read_log-2.new.restoring c.in_ok-end.first read c.in-Some.next next c.in_ok-end-2.second c.in_ok-end.ensures.same other
 
-pub returns-in-Ended-clause-looks : goal.returns-in-Ended-clause-looks
-returns-in-Ended-clause-looks g c =
+pub returns-clause-looks : goal.returns-clause-looks
+returns-clause-looks g c =
     rw (c.damaged-in-Ended.ensures)
     (looks_on g.D.Disk.states g.D.Disk.failures g.D.Disk.honest 0 c.args.disk.now c.read_log.new.disk c.read_log-2.new.disk c.in_ok-end.ensures.looks c.in_ok-end-2.ensures.looks)
 
-pub returns-in-Ended-clause-err : goal.returns-in-Ended-clause-err
-returns-in-Ended-clause-err g c = λ honest stripes sections.
+pub returns-clause-err : goal.returns-clause-err
+returns-clause-err g c = λ honest stripes sections.
     let contents : Contents = contents_of g.D.Disk.states c.args.disk.now in
     let k = checkpoint_with c.args.generation c.args.low stripes sections in
     let end : c.in_ok-end.end ≡ Ended = two_ends c.in_ok-end.end (λ is. absurd (let same = rw is at c.if-eq.ensures in cc)) in
@@ -64,6 +65,6 @@ returns-in-Ended-clause-err g c = λ honest stripes sections.
     let read = subst (λ x. IsLogRead c.args.generation c.args.low (contents (log_file c.args.generation)) c.args.restoring.now x c.in_ok-end.first c.read_log.new.restoring) end (c.in_ok-end.ensures.ok (c.in_ok-end-2.ensures.looks.was_honest honest)) in
     let same = same_bytes g.D.Disk.states g.D.Disk.failures g.D.Disk.honest 0 c.args.disk.now c.read_log.new.disk c.in-Some.next c.in_ok-end.ensures.looks in
     let other = subst (λ x. IsLogRead c.in-Some.next c.in_ok-end.first.committed (contents (log_file c.in-Some.next)) c.read_log.new.restoring x c.in_ok-end-2.second c.read_log-2.new.restoring) c.in-Ended.is
-    (subst (λ content. IsLogRead c.in-Some.next c.in_ok-end.first.committed content c.read_log.new.restoring c.in_ok-end-2.end c.in_ok-end-2.second c.read_log-2.new.restoring) same (c.in_ok-end-2.ensures.ok honest)) in
+    (subst (λ content. IsLogRead c.in-Some.next c.in_ok-end.first.committed content c.read_log.new.restoring c.in_ok-end-2.end c.in_ok-end-2.second c.read_log-2.new.restoring) same (rw c.committed.ensures at (c.in_ok-end-2.ensures.ok honest))) in
     inr (inr (ended_twice contents k c.args.restoring.now c.read_log.new.restoring c.read_log-2.new.restoring c.in_ok-end.first read c.in-Some.next next c.in_ok-end-2.second c.in_ok-end.ensures.same c.damaged-in-Ended.result
     c.damaged-in-Ended.ensures other))

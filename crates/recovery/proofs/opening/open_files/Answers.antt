@@ -1,4 +1,6 @@
-use Rattle.std.proofs.Common.{subst}
+use Rattle.std.proofs.Common.{◌≡◌, ◌+◌, subst}
+use Rattle.checkpoint_file.specs.Standing.{is_to_close}
+use Rattle.store_layout.specs.Checkpoints.{checkpoint_file}
 use Rattle.store_layout.specs.Opening.{Contents, Refuses}
 use Rattle.recovery.specs.LogReading.{RefusesFor, contents_of}
 use Rattle.recovery.specs.Opening.{IsOpened}
@@ -11,10 +13,17 @@ pub returns-clause-ok : goal.returns-clause-ok
 returns-clause-ok g c = λ honest.
     let contents : Contents = contents_of g.D.Disk.states c.args.disk.now in
     let same = same_contents g.D.Disk.states g.D.Disk.failures c.args.disk.now c.sync_files.new.disk c.in_ok-sync_files.ensures.ok in
-    if_ok _ (IsOpened contents c.args.stripes.count) c.restore.result (λ found opened. subst (λ (x : Contents). IsOpened x c.args.stripes.count found) same opened) (c.restore.ensures.ok honest)
+    if_ok _ (λ found. IsOpened contents c.args.stripes.count found.0) c.read_files.result (λ found opened. subst (λ (x : Contents). IsOpened x c.args.stripes.count found.0) same opened) (c.read_files.ensures.ok honest)
 
 pub returns-clause-err : goal.returns-clause-err
 returns-clause-err g c = λ honest.
     let contents : Contents = contents_of g.D.Disk.states c.args.disk.now in
     let same = same_contents g.D.Disk.states g.D.Disk.failures c.args.disk.now c.sync_files.new.disk c.in_ok-sync_files.ensures.ok in
-    if_err _ (λ r. RefusesFor (Refuses contents r) r) c.restore.result (λ r. refuses_more _ (Refuses contents r) r (λ bad. subst (λ (x : Contents). Refuses x r) same bad)) (c.restore.ensures.err honest)
+    if_err _ (λ r. RefusesFor (Refuses contents r) r) c.read_files.result (λ r. refuses_more _ (Refuses contents r) r (λ bad. subst (λ (x : Contents). Refuses x r) same bad)) (c.read_files.ensures.err honest)
+
+pub returns-clause-gate : goal.returns-clause-gate
+returns-clause-gate g c = λ honest.
+    let contents : Contents = contents_of g.D.Disk.states c.args.disk.now in
+    let same = same_contents g.D.Disk.states g.D.Disk.failures c.args.disk.now c.sync_files.new.disk c.in_ok-sync_files.ensures.ok in
+    if_ok _ (λ found. found.1 ≡ is_to_close (contents (checkpoint_file (found.0.sealed + 1)))) c.read_files.result
+    (λ found is. subst (λ (x : Contents). found.1 ≡ is_to_close (x (checkpoint_file (found.0.sealed + 1)))) same is) (c.read_files.ensures.gate honest)

@@ -12,20 +12,20 @@ returns-in_err-log-clause-err g c = λ honest.
     let q = err_from_is_err_and c.from_residual-in_err-log.result c.from_residual-in_err-log.ensures.1 in
     rw (q.1, q.2) (c.in_err-log.ensures.err honest c.args.loaded.stripes.count (sections_of c.args.loaded.sections.items))
 
-pub returns-then-log-greatest_of-clause-err : goal.returns-then-log-greatest_of-clause-err
-returns-then-log-greatest_of-clause-err g c = λ honest.
+pub returns-then-committed-greatest_of-clause-err : goal.returns-then-committed-greatest_of-clause-err
+returns-then-committed-greatest_of-clause-err g c = λ honest.
     let contents : Contents = contents_of g.D.Disk.states c.args.disk.now in
     let replayed = c.in_ok-log.ensures.ok honest c.args.loaded.stripes.count (sections_of c.args.loaded.sections.items) in
     let most : c.greatest_of.result ≡ greatest_of c.read_logs.new.restoring.marks.items = c.greatest_of.ensures ∙ ap greatest_of c.deref.ensures.value in
-    let less = c.if-log-greatest_of.true in
+    let less = c.if-committed-greatest_of.true in
     inr (inr (below contents c.args.loaded c.in_ok-restoring.restoring c.read_logs.new.restoring c.in_ok-log.log c.in_ok-restoring.ensures.marks replayed c.in_ok-log.ensures.same c.damaged.result c.damaged.ensures
-    (omega (arith, most, less))))
+    (omega (arith, most, less, c.committed.ensures))))
 
 pub returns-clause-ok : goal.returns-clause-ok
 returns-clause-ok g c = λ honest rising.
     let contents : Contents = contents_of g.D.Disk.states c.args.disk.now in
     let replayed = c.in_ok-log.ensures.ok honest c.args.loaded.stripes.count (sections_of c.args.loaded.sections.items) in
     let most : c.greatest_of.result ≡ greatest_of c.read_logs.new.restoring.marks.items = c.greatest_of.ensures ∙ ap greatest_of c.deref.ensures.value in
-    let more = c.if-log-greatest_of.false in
+    let more = c.if-committed-greatest_of.false in
     is_restored contents c.args.loaded c.in_ok-restoring.restoring c.read_logs.new.restoring c.in_ok-log.log c.in_ok-restoring.ensures.marks replayed c.in_ok-log.ensures.same c.args.stripes.count c.in_ok-restoring.ensures.of
-    (ap (λ s. s.count) c.in_ok-restoring.ensures.stripes) rising c.in_ok-restoring.ensures.map (omega (arith, most, more)) _ refl
+    (ap (λ s. s.count) c.in_ok-restoring.ensures.stripes) rising c.in_ok-restoring.ensures.map (omega (arith, most, more, c.committed.ensures)) _ refl

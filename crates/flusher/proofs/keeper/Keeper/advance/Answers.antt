@@ -1,8 +1,8 @@
 use Rattle.std.proofs.Common.{◌≡◌, ◌≢◌, Some, None, ap, ◌∙◌, refl, sym, rules}
 use Rattle.gate_log.specs.declared.phase.Phase.TheVariants.{Idle}
 use Rattle.flusher.specs.declared.keeper.Keeper.{Keeper}
-use Rattle.flusher.proofs.Committing.{IsSame, stops_by}
-use Rattle.flusher.proofs.Advancing.{fits_ended, fits_headed, fits_logged, log_at_moments, log_may, logged_moments, next_at_moments, same_hand, same_next, still_moments}
+use Rattle.flusher.proofs.Committing.{stops_by}
+use Rattle.flusher.proofs.Advancing.{count_after, fits_ended, fits_headed, fits_logged, log_at_moments, log_may, logged_moments, next_at_moments, same_hand, same_next, still_moments}
 use Rattle.flusher.proofs.keeper.Keeper.advance.Goals as goal
 
 pub returns-then-self-clause-any_moment : goal.returns-then-self-clause-any_moment
@@ -38,6 +38,11 @@ returns-in-None-clause-fits g c = λ n done p f.
       kept = e.err;
     })
 
+pub returns-in-None-clause-committed : goal.returns-in-None-clause-committed
+returns-in-None-clause-committed g c =
+    let r = c.requires in
+    count_after g.D.Disk.states g.D.Disk.honest r.0 r.1 c.args.self.now c.step_log.new.self r.2 c.step_log.result r.3 (returns-in-None-clause-fits g c r.0 r.1 r.2 r.3)
+
 pub returns-then-eq-clause-any_moment : goal.returns-then-eq-clause-any_moment
 returns-then-eq-clause-any_moment g c = λ n done p f h.
     log_at_moments g.D.Disk.states g.D.Disk.failures g.D.Disk.honest n done c.args.self.now c.step_end.ensures.advances.0 c.step_end.new.self.disk p c.step_end.result c.stops_of_a_store.ensures.log f c.if-self.false h c.step_end.ensures.advances.1
@@ -61,6 +66,11 @@ returns-then-eq-clause-fits g c = λ n done p f.
       ok = e.ok;
       err = e.err;
     })
+
+pub returns-then-eq-clause-committed : goal.returns-then-eq-clause-committed
+returns-then-eq-clause-committed g c =
+    let r = c.requires in
+    count_after g.D.Disk.states g.D.Disk.honest r.0 r.1 c.args.self.now c.step_end.new.self r.2 c.step_end.result r.3 (returns-then-eq-clause-fits g c r.0 r.1 r.2 r.3)
 
 pub returns-else-eq-clause-any_moment : goal.returns-else-eq-clause-any_moment
 returns-else-eq-clause-any_moment g c = λ n done p f h.
@@ -91,3 +101,8 @@ returns-else-eq-clause-fits g c = λ n done p f.
       ok = e.ok;
       err = e.err;
     })
+
+pub returns-else-eq-clause-committed : goal.returns-else-eq-clause-committed
+returns-else-eq-clause-committed g c =
+    let r = c.requires in
+    count_after g.D.Disk.states g.D.Disk.honest r.0 r.1 c.args.self.now c.step_next.new.self r.2 c.step_next.result r.3 (returns-else-eq-clause-fits g c r.0 r.1 r.2 r.3)
