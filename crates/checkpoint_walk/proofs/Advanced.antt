@@ -1,10 +1,10 @@
 -- What a keeper fits after a device call of its checkpoint.
-use Rattle.std.proofs.Common.{◌≡◌, ◌≢◌, ◌⊎◌, inl, inr, ℕ, ◌+◌, ◌<◌, ◌^◌, List, [], ◌∷◌, ◌++◌, length, Option, None, Some, Bool, true, false, if◌then◌else◌, IfSome, Result, Ok, Err, OnOk, OnErr, append-nil, refl, sym, ◌∙◌, ap, subst, arith}
+use Rattle.std.proofs.Common.{◌≡◌, ◌≢◌, ◌⊎◌, inl, inr, ℕ, ◌+◌, List, [], ◌∷◌, ◌++◌, length, Option, None, Some, Bool, true, false, if◌then◌else◌, IfSome, Result, Ok, Err, OnOk, OnErr, append-nil, refl, sym, ◌∙◌, ap, subst, arith}
 use Rattle.std.specs.List.{AllByRecursion}
 use Rattle.std.proofs.lemmas.Bool.{eq-eqb}
 use Rattle.std.proofs.lemmas.List.{length-map}
 use Rattle.disk_model.specs.Calls.{Makes}
-use Rattle.disk_model.specs.Files.{Contents, File, Files, Leaves, at_rest, now, with_file}
+use Rattle.disk_model.specs.Files.{File, Files, now, with_file}
 use Rattle.disk_model.specs.Gates.{Call, called}
 use Rattle.disk_model.specs.Moments.{AtEachMoment}
 use Rattle.map_types.specs.declared.commands.Command.{Command}
@@ -16,20 +16,19 @@ use Rattle.log_records.specs.Layout.{IsLayout, first_layout}
 use Rattle.store_layout.specs.Checkpoints.{IsCheckpoint, Section, checkpoint_file}
 use Rattle.store_layout.specs.Logs.{commands_in}
 use Rattle.store_layout.specs.OpeningLaws.{OneCheckpoint}
-use Rattle.store_layout.specs.Standing.{reach}
 use Rattle.gate_log.specs.States.{commands_of}
 use Rattle.checkpoint_file.specs.declared.phase.CheckpointPhase.{CheckpointPhase}
 use Rattle.checkpoint_file.specs.declared.phase.CheckpointPhase.TheVariants as phase
 use Rattle.checkpoint_file.specs.Advancing.{Advances, MayAdvance}
-use Rattle.checkpoint_file.specs.States.{CheckpointState, call_in, state_after}
+use Rattle.checkpoint_file.specs.States.{CheckpointState, state_after}
 use Rattle.checkpoint_file.specs.Standing as checkpoint
 use Rattle.checkpoint_file.specs.Standing.{checkpoint_of, is_to_close}
 use Rattle.store_states.specs.Laws.{CheckpointIsSealed, StopsUseCheckpoint, StoresStop, WriterStepsOn, WriterStepsStop, sealed_with}
 use Rattle.store_states.specs.Standing as store
 use Rattle.store_states.specs.States.{Held}
 use Rattle.flusher.specs.declared.keeper.Keeper.{Keeper}
-use Rattle.flusher.specs.Fitting.{Fits, HoldsFor, IsUnbroken, StopsFit, Stores, batches_of, store_of}
-use Rattle.checkpoint_walk.specs.Checkpointing.{Checkpoints, HasGiven, KeepsAfter, StepsCheckpoint, UsesCheckpoint, checkpoints_of, kept_in}
+use Rattle.flusher.specs.Fitting.{Fits, HoldsFor, StopsFit, Stores, batches_of, store_of}
+use Rattle.checkpoint_walk.specs.Checkpointing.{Checkpoints, HasGiven, KeepsAfter, UsesCheckpoint, checkpoints_of, kept_in}
 use Rattle.checkpoint_walk.proofs.Sealed.{of_writer, writes_in}
 use Rattle.checkpoint_walk.proofs.Standing.{two_ways}
 

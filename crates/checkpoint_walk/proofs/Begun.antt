@@ -1,5 +1,5 @@
 -- What a keeper fits once a checkpoint is begun.
-use Rattle.std.proofs.Common.{◌≡◌, ◌≢◌, ℕ, ◌+◌, List, [], Option, None, Some, Bool, false, IfSome, refl, sym, ◌∙◌, ap, subst}
+use Rattle.std.proofs.Common.{◌≡◌, ◌≢◌, ℕ, ◌+◌, List, [], Option, None, Some, false, refl, sym, ◌∙◌, ap, subst}
 use Rattle.disk_model.specs.Files.{File, Files, at_rest, now}
 use Rattle.map_types.specs.declared.commands.Command.{Command}
 use Rattle.ticket_order.specs.declared.stripe.Entry.{Entry}
@@ -19,8 +19,8 @@ use Rattle.store_states.specs.Laws.{CheckpointBegins, RotationBegins}
 use Rattle.store_states.specs.States.{Held, StoreState}
 use Rattle.store_states.specs.Standing as store
 use Rattle.flusher.specs.declared.keeper.Keeper.{Keeper}
-use Rattle.flusher.specs.Fitting.{Fits, HoldsFor, IsEmptyIn, store_of}
-use Rattle.flusher.specs.Rotating.{MayRotate, Rotates}
+use Rattle.flusher.specs.Fitting.{Fits, IsEmptyIn, store_of}
+use Rattle.flusher.specs.Rotating.{Rotates}
 use Rattle.checkpoint_walk.specs.Checkpointing.{HasGiven}
 use Rattle.checkpoint_walk.proofs.Standing.{fits_changed}
 

@@ -1,5 +1,5 @@
 -- What a keeper fits once its checkpoint is to be sealed.
-use Rattle.std.proofs.Common.{◌≡◌, ℕ, ◌+◌, ◌≤◌, List, Option, Some, false, IfSome, Result, Ok, Err, OnOk, OnErr, refl, sym, ◌∙◌, ap, subst, arith}
+use Rattle.std.proofs.Common.{◌≡◌, ℕ, ◌+◌, ◌≤◌, List, Option, Some, false, IfSome, Result, Ok, Err, OnOk, OnErr, sym, ◌∙◌, ap, subst, arith}
 use Rattle.disk_model.specs.Files.{File, Files, now}
 use Rattle.map_types.specs.declared.commands.Command.{Command}
 use Rattle.map_types.specs.declared.refusals.Refusal.{Refusal}
@@ -13,7 +13,7 @@ use Rattle.store_states.specs.Laws.{SealBegins}
 use Rattle.store_states.specs.States.{StoreState}
 use Rattle.store_states.specs.Standing as store
 use Rattle.flusher.specs.declared.keeper.Keeper.{Keeper}
-use Rattle.flusher.specs.Fitting.{Fits, HoldsFront, store_of}
+use Rattle.flusher.specs.Fitting.{Fits, store_of}
 use Rattle.checkpoint_walk.specs.Checkpointing.{HasGiven}
 use Rattle.checkpoint_walk.proofs.Standing.{fits_changed}
 

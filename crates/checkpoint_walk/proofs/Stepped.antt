@@ -1,6 +1,6 @@
 -- What the step of a checkpoint shows.
-use Rattle.std.proofs.Common.{◌≡◌, ◌⊎◌, inl, inr, ℕ, List, Option, None, Some, Bool, true, false, Result, Ok, Err, OnOk, OnErr, refl, sym, ◌∙◌, ap, subst}
-use Rattle.disk_model.specs.Files.{File, Files, now}
+use Rattle.std.proofs.Common.{◌≡◌, inl, inr, ℕ, List, Option, None, Some, true, false, Result, Ok, Err, OnOk, OnErr, sym, ◌∙◌, ap, subst}
+use Rattle.disk_model.specs.Files.{Files, now}
 use Rattle.disk_model.specs.Gates.{Call}
 use Rattle.disk_model.specs.Moments.{AtEachMoment}
 use Rattle.map_types.specs.declared.commands.Command.{Command}
@@ -13,7 +13,7 @@ use Rattle.store_layout.specs.OpeningLaws.{OneCheckpoint}
 use Rattle.checkpoint_file.specs.declared.phase.CheckpointPhase.{CheckpointPhase}
 use Rattle.checkpoint_file.specs.declared.phase.CheckpointPhase.TheVariants as phase
 use Rattle.checkpoint_file.specs.Advancing.{Advances}
-use Rattle.checkpoint_file.specs.States.{CheckpointState, call_in, state_after}
+use Rattle.checkpoint_file.specs.States.{CheckpointState, call_in}
 use Rattle.checkpoint_file.specs.Standing as checkpoint
 use Rattle.checkpoint_file.specs.Standing.{checkpoint_of}
 use Rattle.store_states.specs.Laws.{CheckpointIsSealed, StopsUseCheckpoint, StoresStop, WriterStepsOn, WriterStepsStop}

@@ -1,5 +1,5 @@
 -- What the three steps of a capture of one stripe leave.
-use Rattle.std.proofs.Common.{◌≡◌, ◌⊎◌, inl, inr, ℕ, ◌+◌, ◌<◌, ◌≤◌, List, [], ◌∷◌, ◌++◌, length, Some, None, append-nil, refl, sym, ◌∙◌, ap, subst, arith}
+use Rattle.std.proofs.Common.{Option, is_some, Bool, true, false, ◌≡◌, ◌⊎◌, inl, inr, ℕ, ◌+◌, ◌<◌, ◌≤◌, List, [], ◌∷◌, ◌++◌, length, Some, None, append-nil, refl, sym, ◌∙◌, ap, subst, arith}
 use Rattle.std.proofs.lemmas.List.{append_assoc, length_push, same_from_push}
 use Rattle.map_types.specs.declared.refusals.Refusal.{Refusal}
 use Rattle.map_types.specs.declared.refusals.Refusal.TheVariants as refusal
@@ -30,7 +30,7 @@ use Rattle.ticket_order.specs.declared.record.StepMade.TheVariants.{FoundHeld, G
 use Rattle.ticket_order.specs.declared.record.Record.{Record}
 use Rattle.ticket_order.specs.Records.{giving, looking, missing, stripe_held, taking}
 use Rattle.ticket_order.specs.Calls.{CapturesStripe, HasLookedAt, RefusesCapture}
-use Rattle.ticket_order.specs.Walks.{Fits, FitsStage, Give, HasContent, KeepsCaptured, KeepsRefusal, Look, Next, ToCapture, ToChange, ToRead, ToRelease, ToSweep, captured_of_stage, captured_of_walk, left_of_stage, next_of_stage, refusal_of_stage, refusal_of_walk, steps_left}
+use Rattle.ticket_order.specs.Walks.{Fits, FitsStage, Give, HasContent, KeepsCaptured, KeepsRefusal, Look, Next, ToCapture, ToChange, ToRead, ToRelease, ToSweep, captured_of_stage, captured_of_walk, left_of_stage, next_of_stage, refusal_of_stage, refusal_of_walk, steps_left, IsUnderWay}
 use Rattle.ticket_order.proofs.Left.{some_left}
 use Rattle.map_model.specs.Maps.{Map}
 use Rattle.flusher.specs.Fitting.{IsBeside}
@@ -377,3 +377,39 @@ staged_ok old new walk z es copied same is stands =
     staged_with old new walk z copied to (λ map content sections file e keys low k.
     subst (λ (v : CheckpointState). Stands v content (sections ++ record { mark = z.mark; map = map } ∷ []) file) to
     (stands map content sections file (same ∙ e) (subst (λ (l : List (List ℕ × Value)). AreKeysOf old.stripes old.count l) (sym same) keys) low k))
+
+-- ---- which step comes next
+
+copied_at : (n : ℕ) (s : Stage) (z : Captured) → next_of_stage n s ≡ Look → captured_of_stage s ≡ Some z → ⊥
+copied_at n (stage.Change s) z look copied = cc
+copied_at n (stage.Read s) z look copied = cc
+copied_at n (stage.Release s) z look copied = cc
+copied_at n (stage.Sweep s) z look copied = cc
+copied_at n (stage.Capture (capture.Begins alloc i)) z look copied = cc
+copied_at n (stage.Capture (capture.HasTaken alloc t)) z look copied = cc
+copied_at n (stage.Capture (capture.HasLooked t y)) z look copied = cc
+copied_at n (stage.GivingBack t e) z look copied = cc
+
+-- a walk that has copied its stripe has looked
+pub looked_of : (n : ℕ) (b : Record) (i : ℕ) (walk : Walk) (p : Record) (z : Captured) → captured_of_walk walk ≡ Some z → HasTaken n b i walk p ⊎ HasLooked n b i walk p → HasLooked n b i walk p
+looked_of n b i walk p z copied (inl t) = absurd (copied_at n walk.stage z t.next copied)
+looked_of n b i walk p z copied (inr l) = l
+
+pub under_way : (n : ℕ) (b : Record) (i : ℕ) (walk : Walk) (p : Record) → HasTaken n b i walk p ⊎ HasLooked n b i walk p → IsUnderWay n walk p
+under_way n b i walk p (inl t) = (b, ToCapture i, t.fits)
+under_way n b i walk p (inr l) = (b, ToCapture i, l.fits)
+
+-- a walk that goes on has only taken its stripe
+pub taken_of : (n : ℕ) (b : Record) (i : ℕ) (walk next : Walk) (p : Record) → steps_left next < steps_left walk → HasTaken n b i walk p ⊎ HasLooked n b i walk p → HasTaken n b i walk p
+taken_of n b i walk next p fewer (inl t) = t
+taken_of n b i walk next p fewer (inr l) = absurd (ends n b i walk p next l fewer)
+
+pub some_there : {A : Type 0} (o : Option A) (b : Bool) → b ≡ is_some o → b ≡ true → (x : A) × (o ≡ Some x)
+some_there None b is on = absurd (off_on (sym is ∙ on))
+  where
+    off_on : false ≡ true → ⊥
+    off_on e = cc
+some_there (Some x) b is on = (x, refl)
+
+pub looked_after : (n : ℕ) (b : Record) (i : ℕ) (walk next : Walk) (p w : Record) (made : StepMade) → HasTaken n b i walk p → w.steps ≡ p.steps ++ made ∷ [] → Fits n b (ToCapture i) next w → HasLooked n b i next w
+looked_after n b i walk next p w made t steps fits = looked_next n b i next w fits (let one = t.one_made in omega (arith, ap (λ (xs : List StepMade). length xs) steps, length_push p.steps made, one))

@@ -1,6 +1,6 @@
 -- Where the walk of a capture stands between its steps.
 use Rattle.std.specs.FinMap as finite
-use Rattle.std.specs.Prelude.{◌≡◌, ℕ, ◌+◌, ◌≤◌, List, [], ◌∷◌, ◌++◌, length, None, Some}
+use Rattle.std.specs.Prelude.{◌≡◌, ℕ, ◌+◌, ◌≤◌, List, [], ◌∷◌, ◌++◌, length, Some}
 use Rattle.disk_model.specs.Files.{File}
 use Rattle.map_model.specs.Maps.{Map}
 use Rattle.map_types.specs.declared.refusals.Refusal.{Refusal}

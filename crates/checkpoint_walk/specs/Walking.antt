@@ -1,10 +1,13 @@
 -- Where a keeper stands between the steps of a capture.
-use Rattle.std.specs.Prelude.{◌≡◌, ◌⊎◌, ℕ, List, ◌++◌, replicate, Option, None, Some, true, false, Result, Ok, Err}
-use Rattle.disk_model.specs.Files.{Files}
+use Rattle.std.specs.Prelude.{◌≡◌, ◌⊎◌, ℕ, List, ◌++◌, replicate, Option, None, Some, true, false, Result, Ok, Err, [], ◌∷◌, length}
+use Rattle.disk_model.specs.Files.{Files, now}
 use Rattle.map_types.specs.declared.commands.Command.{Command}
 use Rattle.map_types.specs.declared.refusals.Refusal.{Refusal}
 use Rattle.map_types.specs.declared.refusals.Refusal.TheVariants.{Busy, Failed, LogFull, NoMemory, WrongPhase}
 use Rattle.map_types.specs.declared.texts.Value.{Value}
+use Rattle.map_model.specs.Histories.{History, fold_to}
+use Rattle.map_model.specs.Parts.{part_of}
+use Rattle.store_layout.specs.Checkpoints.{Section}
 use Rattle.ticket_order.specs.declared.record.Record.{Record}
 use Rattle.ticket_order.specs.declared.walk.Walk.{Walk}
 use Rattle.ticket_order.specs.Records.{missing}
@@ -16,7 +19,7 @@ use Rattle.flusher.specs.declared.keeper.Keeper.{Keeper}
 use Rattle.flusher.specs.Fitting.{Fits}
 use Rattle.flusher.specs.Keeping.{is_walking}
 use Rattle.checkpoint_walk.specs.Capturing.{HasLooked, HasTaken, StandsWith}
-use Rattle.checkpoint_walk.specs.Checkpointing.{IsNextStripe}
+use Rattle.checkpoint_walk.specs.Checkpointing.{HasGiven, IsNextStripe}
 
 -- The capture of stripe i, which is the next, began at the record `begun`, and its walk has come from there. The keeper stands as it did
 -- there, and no sweep walks.
@@ -138,3 +141,16 @@ AfterWaiting stripe old new p w refusal = BackWaiting p stripe refusal old new w
 pub record MayCapture {D : Type 0} (stripe : ℕ) (keeper : Keeper D) : Type 0 where
   pub works : keeper.is_broken ≡ true → ⊥
   pub next : (IsNextStripe stripe keeper.next keeper.checkpoint → ⊥) → ⊥
+
+-- The section of this mark, given behind these, is the part of the next stripe after the first so many commands.
+pub record GivesPart {D : Type 0} (states : D → List Files) (n : ℕ) (h : History) (mark : ℕ) (sections : List Section) (new : Keeper D) : Type 0 where
+  pub section : Section
+  pub mark_is : section.mark ≡ mark
+  pub map : section.map ≡ part_of n (length sections) (fold_to h mark)
+  pub given : HasGiven new.checkpoint (sections ++ section ∷ []) (now (states new.disk))
+
+-- the same, once the capture is over
+abbrev pub GivesPartIn : {D : Type 0} → (D → List Files) → ℕ → History → Result (Option ℕ) Refusal → List Section → Keeper D → Type 0
+GivesPartIn states n h (Ok None) sections new = Unit {0}
+GivesPartIn states n h (Ok (Some mark)) sections new = GivesPart states n h mark sections new
+GivesPartIn states n h (Err refusal) sections new = Unit {0}

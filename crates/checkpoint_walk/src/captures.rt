@@ -1,10 +1,16 @@
 //! Captures, step by step or whole.
-ghost use Rattle.std.specs.Prelude.{◌≡◌, ◌⊎◌, ◌↔◌, ℕ, List, None, Some, false, true, IfErr, IfOk};
+ghost use Rattle.std.specs.Prelude.{◌≡◌, ◌≢◌, ◌⊎◌, ◌↔◌, ℕ, List, None, Some, false, true, IfErr, IfOk};
 ghost use Rattle.map_types.specs.declared.commands.Command.{Command};
 ghost use Rattle.flusher.specs.Fitting.{Fits};
 ghost use Rattle.flusher.specs.Keeping.{is_walking};
-ghost use Rattle.checkpoint_walk.specs.Checkpointing.{IsNextStripe};
-ghost use Rattle.checkpoint_walk.specs.Walking.{AfterRefusal, AfterWaiting, GivesSection, GivesWaiting};
+ghost use Rattle.disk_model.specs.Files.{now};
+ghost use Rattle.store_layout.specs.Checkpoints.{Section};
+ghost use Rattle.ticket_order.specs.Legality.{history_of};
+ghost use Rattle.checkpoint_walk.specs.Checkpointing.{HasGiven, IsNextStripe};
+ghost use Rattle.ticket_order.specs.declared.record.Record.{Record};
+ghost use Rattle.ticket_order.specs.Walks.{MakesOne, Take, next_kind};
+ghost use Rattle.checkpoint_walk.specs.Capturing.{HasLooked, HasTaken};
+ghost use Rattle.checkpoint_walk.specs.Walking.{AfterRefusal, AfterStep, AfterTake, AfterWaiting, AfterWalk, FitsWalking, GivesPart, GivesPartIn, GivesSection, GivesWaiting, kind_next};
 
 use crate::capturing::{hold, look};
 use crate::sections::{check, give};
@@ -13,7 +19,101 @@ use flusher::{Keeper, pass_goes_on};
 use map_types::Refusal;
 use std::sync::Wait;
 use store_states::laws::steps_of_checkpoints;
-use ticket_order::Steps;
+use ticket_order::{Stepped, Steps, Walk};
+
+/// Makes exactly one step of a capture: TAKE of the stripe whose section is the next, LOOK, or GIVE. With
+/// its GIVE the section is given to the checkpoint, and its mark is answered. Before its first step it
+/// may be refused, with `Failed` or `WrongPhase`, and makes no step then. After any other refusal the
+/// capture is over. A capture that is under way goes on, whatever stripe is named.
+pub fn capture_step<D: Disk, S: Steps>(
+    keeper: &mut Keeper<D>,
+    stripe: usize,
+    steps: &mut S,
+) -> Result<Option<u64>, Refusal>
+    requires fits { (done : List Command) × FitsWalking D.states D.honest (S.stripe_count steps.old) done keeper.old (S.recorded steps.old) }
+    requires rests { is_walking keeper.old.sweeper.walking ≡ false }
+    ensures failed { (result ≡ Err Refusal.Failed) ↔ ((keeper.old.capture ≡ None) × (keeper.old.is_broken ≡ true)) }
+    ensures wrong_phase { (result ≡ Err Refusal.WrongPhase) ↔ ((keeper.old.capture ≡ None) × (keeper.old.is_broken ≡ false) × (IsNextStripe stripe keeper.old.next keeper.old.checkpoint → ⊥)) }
+    ensures first { ((result ≡ Err Refusal.Failed) ⊎ (result ≡ Err Refusal.WrongPhase)) → (steps.new ≡ steps.old) × (keeper.new ≡ keeper.old) }
+    ensures one { (result ≢ Err Refusal.Failed) → (result ≢ Err Refusal.WrongPhase) → MakesOne S.recorded S.moves (kind_next (S.stripe_count steps.old) stripe keeper.old.capture) steps.old steps.new }
+    ensures after { AfterStep (S.stripe_count steps.old) stripe keeper.old.capture keeper.old keeper.new (S.recorded steps.old) (S.recorded steps.new) result }
+    ensures given { (done : List Command) (sections : List Section) → FitsWalking D.states D.honest (S.stripe_count steps.old) done keeper.old (S.recorded steps.old) → D.honest keeper.old.disk → HasGiven keeper.old.checkpoint sections (now (D.states keeper.old.disk))
+        → GivesPartIn D.states (S.stripe_count steps.old) (history_of (S.recorded steps.new)) result sections keeper.new }
+    ensures fits { (done : List Command) → FitsWalking D.states D.honest (S.stripe_count steps.old) done keeper.old (S.recorded steps.old) → FitsWalking D.states D.honest (S.stripe_count steps.new) done keeper.new (S.recorded steps.new) }
+    ensures place { S.place steps.new ≡ S.place steps.old }
+    ensures stripes { S.stripe_count steps.new ≡ S.stripe_count steps.old }
+{
+    steps_of_checkpoints();
+    pass_goes_on(keeper);
+    match keeper.capture.take() {
+        Some(walk) => go_on(keeper, walk, steps),
+        None => take(keeper, stripe, steps),
+    }
+}
+
+// The first step.
+fn take<D: Disk, S: Steps>(
+    keeper: &mut Keeper<D>,
+    stripe: usize,
+    steps: &mut S,
+) -> Result<Option<u64>, Refusal>
+    requires fits { (done : List Command) × Fits D.states D.honest (S.stripe_count steps.old) done keeper.old (S.recorded steps.old) }
+    requires rests { is_walking keeper.old.sweeper.walking ≡ false }
+    requires over { keeper.old.capture ≡ None }
+    ensures failed { (result ≡ Err Refusal.Failed) ↔ (keeper.old.is_broken ≡ true) }
+    ensures wrong_phase { (result ≡ Err Refusal.WrongPhase) ↔ ((keeper.old.is_broken ≡ false) × (IsNextStripe stripe keeper.old.next keeper.old.checkpoint → ⊥)) }
+    ensures first { ((result ≡ Err Refusal.Failed) ⊎ (result ≡ Err Refusal.WrongPhase)) → (steps.new ≡ steps.old) × (keeper.new ≡ keeper.old) }
+    ensures one { (result ≢ Err Refusal.Failed) → (result ≢ Err Refusal.WrongPhase) → MakesOne S.recorded S.moves (Take stripe) steps.old steps.new }
+    ensures after { AfterTake (S.stripe_count steps.old) stripe keeper.old keeper.new (S.recorded steps.old) (S.recorded steps.new) result }
+    ensures fits { (done : List Command) → Fits D.states D.honest (S.stripe_count steps.old) done keeper.old (S.recorded steps.old) → FitsWalking D.states D.honest (S.stripe_count steps.new) done keeper.new (S.recorded steps.new) }
+    ensures place { S.place steps.new ≡ S.place steps.old }
+    ensures stripes { S.stripe_count steps.new ≡ S.stripe_count steps.old }
+{
+    pass_goes_on(keeper);
+    match check(keeper, stripe) {
+        Ok(()) => {}
+        Err(refusal) => return Err(refusal),
+    }
+    match hold(keeper.alloc, stripe, steps) {
+        Some(walk) => {
+            keeper.capture = Some(walk);
+            Ok(None)
+        }
+        None => Err(Refusal::Busy { stripe }),
+    }
+}
+
+// LOOK or GIVE.
+fn go_on<D: Disk, S: Steps>(
+    keeper: &mut Keeper<D>,
+    walk: Walk,
+    steps: &mut S,
+) -> Result<Option<u64>, Refusal>
+    requires next { (stripe : ℕ) × IsNextStripe stripe keeper.old.next keeper.old.checkpoint }
+    requires walked { (b : Record) × (i : ℕ) × (HasTaken (S.stripe_count steps.old) b i walk (S.recorded steps.old) ⊎ HasLooked (S.stripe_count steps.old) b i walk (S.recorded steps.old)) }
+    requires over { keeper.old.capture ≡ None }
+    ensures one { MakesOne S.recorded S.moves (next_kind (S.stripe_count steps.old) walk) steps.old steps.new }
+    ensures after { AfterWalk (S.stripe_count steps.old) walk keeper.old keeper.new (S.recorded steps.old) (S.recorded steps.new) result }
+    ensures place { S.place steps.new ≡ S.place steps.old }
+    ensures stripes { S.stripe_count steps.new ≡ S.stripe_count steps.old }
+{
+    let has_copied = walk.captured().is_some();
+    if has_copied {
+        return match give(keeper, walk, steps) {
+            Ok(mark) => Ok(Some(mark)),
+            Err(refusal) => Err(refusal),
+        };
+    }
+    match walk.step(steps) {
+        Stepped::More(walk) => {
+            keeper.capture = Some(walk);
+            Ok(None)
+        }
+        Stepped::Refused(refusal) => Err(refusal),
+        Stepped::Held(_) | Stepped::Released(_) | Stepped::Swept(_) | Stepped::Captured(_) =>
+            unreachable!(),
+    }
+}
 
 /// Captures the stripe whose section is the next, by TAKE, LOOK and GIVE, gives the section to the
 /// checkpoint, and answers its mark. It doesn't wait for a stripe that another holds.
@@ -30,6 +130,8 @@ pub fn try_capture<D: Disk, S: Steps>(
     ensures first { ((result ≡ Err Refusal.Failed) ⊎ (result ≡ Err Refusal.WrongPhase)) → (steps.new ≡ steps.old) × (keeper.new ≡ keeper.old) }
     ensures ok { IfOk result (λ mark. GivesSection (S.stripe_count steps.old) (S.recorded steps.old) stripe mark keeper.old keeper.new (S.recorded steps.new)) }
     ensures err { IfErr result (λ refusal. AfterRefusal stripe keeper.old keeper.new (S.recorded steps.old) (S.recorded steps.new) refusal) }
+    ensures given { (done : List Command) (sections : List Section) → Fits D.states D.honest (S.stripe_count steps.old) done keeper.old (S.recorded steps.old) → D.honest keeper.old.disk → HasGiven keeper.old.checkpoint sections (now (D.states keeper.old.disk))
+        → IfOk result (λ mark. GivesPart D.states (S.stripe_count steps.old) (history_of (S.recorded steps.new)) mark sections keeper.new) }
     ensures fits { (done : List Command) → Fits D.states D.honest (S.stripe_count steps.old) done keeper.old (S.recorded steps.old) → Fits D.states D.honest (S.stripe_count steps.new) done keeper.new (S.recorded steps.new) }
     ensures place { S.place steps.new ≡ S.place steps.old }
     ensures stripes { S.stripe_count steps.new ≡ S.stripe_count steps.old }
@@ -62,6 +164,8 @@ pub fn capture<D: Disk, R: Wait, S: Steps>(
     ensures first { ((result ≡ Err Refusal.Failed) ⊎ (result ≡ Err Refusal.WrongPhase)) → (steps.new ≡ steps.old) × (keeper.new ≡ keeper.old) }
     ensures ok { IfOk result (λ mark. GivesWaiting (S.stripe_count steps.old) (S.recorded steps.old) stripe mark keeper.old keeper.new (S.recorded steps.new)) }
     ensures err { IfErr result (λ refusal. AfterWaiting stripe keeper.old keeper.new (S.recorded steps.old) (S.recorded steps.new) refusal) }
+    ensures given { (done : List Command) (sections : List Section) → Fits D.states D.honest (S.stripe_count steps.old) done keeper.old (S.recorded steps.old) → D.honest keeper.old.disk → HasGiven keeper.old.checkpoint sections (now (D.states keeper.old.disk))
+        → IfOk result (λ mark. GivesPart D.states (S.stripe_count steps.old) (history_of (S.recorded steps.new)) mark sections keeper.new) }
     ensures fits { (done : List Command) → Fits D.states D.honest (S.stripe_count steps.old) done keeper.old (S.recorded steps.old) → Fits D.states D.honest (S.stripe_count steps.new) done keeper.new (S.recorded steps.new) }
     ensures place { S.place steps.new ≡ S.place steps.old }
     ensures stripes { S.stripe_count steps.new ≡ S.stripe_count steps.old }

@@ -11,5 +11,5 @@ mod sections;
 
 pub use advancing::advance;
 pub use beginning::begin;
-pub use captures::{capture, try_capture};
+pub use captures::{capture, capture_step, try_capture};
 pub use sealing::seal;

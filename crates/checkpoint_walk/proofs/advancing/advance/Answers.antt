@@ -1,5 +1,4 @@
-use Rattle.std.proofs.Common.{◌≡◌, None, Some, refl, sym, ◌∙◌}
-use Rattle.flusher.specs.declared.keeper.Keeper.{Keeper}
+use Rattle.std.proofs.Common.{refl, sym, ◌∙◌}
 use Rattle.ticket_order.specs.Legality.{history_of}
 use Rattle.flusher.specs.Fitting.{StopsFit}
 use Rattle.checkpoint_walk.proofs.Advanced.{none_made, stops_now}

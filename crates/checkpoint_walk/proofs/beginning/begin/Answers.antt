@@ -1,7 +1,7 @@
-use Rattle.std.proofs.Common.{◌≡◌, Option, None, Some, ◌+◌, ap, sym, ◌∙◌}
+use Rattle.std.proofs.Common.{◌≡◌, None, ◌+◌, ap, sym, ◌∙◌}
 use Rattle.gate_log.specs.States.{IsResting, LogState}
 use Rattle.gate_log.specs.States as log_states
-use Rattle.checkpoint_file.specs.States.{CheckpointState, begun}
+use Rattle.checkpoint_file.specs.States.{begun}
 use Rattle.checkpoint_walk.proofs.Begun.{fits_begun, fits_rotating, given_begun}
 use Rattle.checkpoint_walk.proofs.Standing.{none_there}
 use Rattle.checkpoint_walk.proofs.beginning.begin.Goals as goal

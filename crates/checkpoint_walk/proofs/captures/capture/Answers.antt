@@ -1,9 +1,10 @@
-use Rattle.std.proofs.Common.{◌≡◌, ◌↔◌, inl, inr, ℕ, true, Err, ap, sym, ◌∙◌, subst}
+use Rattle.std.proofs.Common.{inl, inr, ℕ, Err, ap, sym, ◌∙◌, subst}
 use Rattle.map_types.specs.declared.refusals.Refusal.TheVariants.{Failed, WrongPhase}
-use Rattle.ticket_order.specs.declared.record.Record.{Record}
 use Rattle.flusher.specs.declared.keeper.Keeper.{Keeper}
-use Rattle.checkpoint_walk.specs.Checkpointing.{IsNextStripe}
-use Rattle.checkpoint_walk.specs.Walking.{AfterRefusal, GivesSection, MayCapture, MissesStripe}
+use Rattle.disk_model.specs.Files.{now}
+use Rattle.ticket_order.specs.Legality.{history_of}
+use Rattle.checkpoint_walk.specs.Checkpointing.{HasGiven, IsNextStripe}
+use Rattle.checkpoint_walk.specs.Walking.{AfterRefusal, GivesPart, GivesSection, MayCapture}
 use Rattle.checkpoint_walk.proofs.Waiting.{may_capture, refused_last, same_refusal, waited_again}
 use Rattle.checkpoint_walk.proofs.captures.capture.Goals as goal
 
@@ -60,3 +61,12 @@ returns-in_default-clause-err g c =
       wrong_phase = λ is. subst (λ (x : Keeper g.row.D.Denot). IsNextStripe c.args.stripe x.next x.checkpoint → ⊥) i.keeper (c.in-Err.ensures.wrong_phase.0 (ap Err is)).1;
       not_held = c.in_default.not-Busy;
     }) (subst (λ (x : Keeper g.row.D.Denot). AfterRefusal c.args.stripe x c.try_capture.new.keeper b w e) i.keeper c.in-Err.ensures.err)
+
+pub returns-in-Ok-clause-given : goal.returns-in-Ok-clause-given
+returns-in-Ok-clause-given g c = λ done sections f h given.
+    let i = c.loop-try.invariant in
+    let states = g.D.Disk.states in
+    let w = g.S.Steps.recorded c.try_capture.new.steps in
+    let there : HasGiven c.loop-try.keeper.checkpoint sections (now (states c.loop-try.keeper.disk)) = subst (λ (k : Keeper g.row.D.Denot). HasGiven k.checkpoint sections (now (states k.disk))) (sym i.keeper) given in
+    let honest = subst (λ (k : Keeper g.row.D.Denot). g.D.Disk.honest k.disk) (sym i.keeper) h in
+    subst (λ (n : ℕ). GivesPart states n (history_of w) c.in-Ok.mark sections c.try_capture.new.keeper) i.stripes (c.in-Ok.ensures.given done sections (i.fits done f) honest there)

@@ -2,7 +2,7 @@ use Rattle.std.proofs.Common.{ℕ, sym, ◌∙◌, subst}
 use Rattle.ticket_order.specs.declared.record.Record.{Record}
 use Rattle.flusher.specs.Fitting.{Fits}
 use Rattle.checkpoint_walk.specs.Capturing.{HasLooked, HasTaken}
-use Rattle.checkpoint_walk.proofs.Given.{missed_from, whole_from}
+use Rattle.checkpoint_walk.proofs.Given.{missed_from, whole_from, whole_given}
 use Rattle.checkpoint_walk.proofs.captures.try_capture.Goals as goal
 
 pub returns-in_default-clause-fits : goal.returns-in_default-clause-fits
@@ -47,3 +47,17 @@ returns-clause-fits g c = λ done f.
     subst (λ (m : ℕ). Fits states honest m done c.give.new.keeper w) (sym c.give.ensures.stripes)
     (whole_from states honest m done k b (g.S.Steps.recorded c.look-walk.new.steps) w i c.look-walk.result c.give.result c.give.new.keeper c.steps_of_checkpoints.ensures.section c.pass_goes_on.ensures.fits c.pass_goes_on.ensures.free
     (subst (λ (m : ℕ). Fits states honest m done k b) (sym same) f) c.requires.rests c.in-Ok.ensures.ok.0 c.in-Ok.ensures.ok.1 looked c.give.ensures.given c.give.ensures.back)
+
+pub returns-clause-given : goal.returns-clause-given
+returns-clause-given g c = λ done sections f h given.
+    let states = g.D.Disk.states in
+    let honest = g.D.Disk.honest in
+    let n = g.S.Steps.stripe_count c.args.steps.now in
+    let b = g.S.Steps.recorded c.args.steps.now in
+    let w = g.S.Steps.recorded c.give.new.steps in
+    let i = c.args.stripe in
+    let m = g.S.Steps.stripe_count c.look-walk.new.steps in
+    let taken = subst (λ (m : ℕ). HasTaken m b i c.in-Some.walk (g.S.Steps.recorded c.hold.new.steps)) (sym c.in-Some.ensures.stripes) c.in-Some.ensures.some in
+    let looked = subst (λ (m : ℕ). HasLooked m b i c.look-walk.result (g.S.Steps.recorded c.look-walk.new.steps)) (sym c.look-walk.ensures.stripes) (c.look-walk.ensures.looked b i taken) in
+    let same = c.look-walk.ensures.stripes ∙ c.in-Some.ensures.stripes in
+    whole_given states honest n m done c.args.keeper.now b (g.S.Steps.recorded c.look-walk.new.steps) w i c.look-walk.result c.give.result c.give.new.keeper sections same c.pass_goes_on.ensures.fits f c.requires.rests c.in-Ok.ensures.ok.0 c.in-Ok.ensures.ok.1 looked c.give.ensures.given h given

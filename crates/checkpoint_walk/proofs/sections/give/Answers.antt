@@ -1,4 +1,4 @@
-use Rattle.std.proofs.Common.{◌≡◌, Option, Some, None, ap, ◌∙◌}
+use Rattle.std.proofs.Common.{Option, Some, ap, ◌∙◌}
 use Rattle.ticket_order.specs.declared.walk.Walk.{Walk}
 use Rattle.checkpoint_file.specs.States.{CheckpointState, with_section}
 use Rattle.checkpoint_walk.proofs.sections.give.Goals as goal
