@@ -75,11 +75,11 @@ fn commit_most<D: Disk, S: Steps>(
     requires { (done : List Command) × Fits D.states D.honest (S.stripe_count steps.old) done keeper.old (S.recorded steps.old) }
     ensures { (done : List Command) × Fits D.states D.honest (S.stripe_count steps.new) done keeper.new (S.recorded steps.new) }
 {
+    let staged = keeper.stage_batch(most)?;
+    advance_times(keeper, 4);
     if keeper.is_walking() {
         return Err(Refusal::WrongPhase);
     }
-    let staged = keeper.stage_batch(most)?;
-    advance_times(keeper, 4);
     keeper.publish(steps);
     Ok(staged)
 }
