@@ -4,7 +4,8 @@ use Rattle.std.specs.List.{AllByRecursion}
 use Rattle.std.proofs.lemmas.Bool.{eq-eqb}
 use Rattle.std.proofs.lemmas.List.{length-map}
 use Rattle.disk_model.specs.Calls.{Makes}
-use Rattle.disk_model.specs.Files.{File, Files, now, with_file}
+use Rattle.disk_model.proofs.FileLemmas.{seen_may_stay}
+use Rattle.disk_model.specs.Files.{AreCoherent, Contents, Leaves, File, Files, now, with_file}
 use Rattle.disk_model.specs.Gates.{Call, called}
 use Rattle.disk_model.specs.Moments.{AtEachMoment}
 use Rattle.map_types.specs.declared.commands.Command.{Command}
@@ -28,7 +29,7 @@ use Rattle.store_states.specs.Standing as store
 use Rattle.store_states.specs.States.{Held}
 use Rattle.flusher.specs.declared.keeper.Keeper.{Keeper}
 use Rattle.flusher.specs.Fitting.{Fits, HoldsFor, StopsFit, Stores, batches_of, store_of}
-use Rattle.checkpoint_walk.specs.Checkpointing.{Checkpoints, HasGiven, KeepsAfter, UsesCheckpoint, checkpoints_of, kept_in}
+use Rattle.checkpoint_walk.specs.Checkpointing.{Checkpoints, HasGiven, KeepsAfter, IsUsed, UsesCheckpoint, checkpoints_of, kept_in}
 use Rattle.checkpoint_walk.proofs.Sealed.{of_writer, writes_in}
 use Rattle.checkpoint_walk.proofs.Standing.{two_ways}
 
@@ -307,9 +308,9 @@ none_some v e = cc
 
 pub used_then : {D : Type 0} (states : D → List Files) (failures : D → ℕ) (honest : D → Type 0) (n : ℕ) (done : List Command) (call : Call) (w : CheckpointState) (old new : Keeper D) (p : Record) (result : Result CheckpointPhase Refusal) (sections : List Section)
     → OneCheckpoint → CheckpointIsSealed → StopsUseCheckpoint → Fits states honest n done old p → Steps states failures honest call w old new result → honest new.disk → w.phase ≡ phase.Opened → HasGiven old.checkpoint sections (now (states old.disk))
-    → OnOk result (UsesCheckpoint (checkpoint_of w sections) (now (states new.disk)))
-used_then {D} states failures honest n done call w old new p (Err e) sections one seals uses f s h is given = tt
-used_then {D} states failures honest n done call w old new p (Ok ph) sections one seals uses f s h is given =
+    → AreCoherent (now (states new.disk)) → OnOk result (UsesCheckpoint (checkpoint_of w sections) (now (states new.disk)))
+used_then {D} states failures honest n done call w old new p (Err e) sections one seals uses f s h is given whole = tt
+used_then {D} states failures honest n done call w old new p (Ok ph) sections one seals uses f s h is given whole =
     let k = f.stores.works s.works (s.made.was_honest h) in
     let x = sealed_now states failures honest call w old new p ph seals k s is in
     let at = written_in (history_of p) old w (now (states old.disk)) k s.writer in
@@ -320,10 +321,11 @@ used_then {D} states failures honest n done call w old new p (Ok ph) sections on
     sealed_once one s.after k.held.sections sections k.held.other theirs.0 (now (states new.disk) number) (ap (λ (z : CheckpointState). z.phase) after)
     (s.made.stands k.held.other k.held.sections at.stands) (s.made.stands theirs.0 sections theirs.1) in
     let same : checkpoint_of w k.held.sections ≡ checkpoint_of w sections = subst (λ (z : CheckpointState). checkpoint_of z k.held.sections ≡ checkpoint_of z sections) after once in
-    λ contents leaves. (
+    let all : (contents : Contents) → Leaves (now (states new.disk)) contents → IsUsed (checkpoint_of w sections) contents = λ contents leaves. (
     let found = uses (history_of p) (record (store_of old) { sealed = w.generation; writer = None }) (sealed_with w k.held k.stands.kept.checkpoint.content) (now (states new.disk)) x.stands (λ v e. absurd (none_some v e)) contents leaves in
     (found.0, found.1, found.2 ∙ same)
-    )
+    ) in
+    record { read = all _ (λ n below. seen_may_stay (now (states new.disk) n) (whole n below)); left = all }
 
 -- ---- where no call is due
 

@@ -7,3 +7,4 @@ pub mod Given
 pub mod Waiting
 pub mod Advanced
 pub mod Stepped
+pub mod Stopped

@@ -1,6 +1,6 @@
 -- What the step of a checkpoint shows.
 use Rattle.std.proofs.Common.{◌≡◌, inl, inr, ℕ, List, Option, None, Some, true, false, Result, Ok, Err, OnOk, OnErr, sym, ◌∙◌, ap, subst}
-use Rattle.disk_model.specs.Files.{Files, now}
+use Rattle.disk_model.specs.Files.{AreCoherent, Files, now}
 use Rattle.disk_model.specs.Gates.{Call}
 use Rattle.disk_model.specs.Moments.{AtEachMoment}
 use Rattle.map_types.specs.declared.commands.Command.{Command}
@@ -125,12 +125,12 @@ due_opened w call is none_ = cc
 
 pub made_uses : {D : Type 0} (states : D → List Files) (failures : D → ℕ) (honest : D → Type 0) (n : ℕ) (done : List Command) (w v : CheckpointState) (old new : Keeper D) (p : Record) (result : Result CheckpointPhase Refusal) (sections : List Section)
     → OneCheckpoint → CheckpointIsSealed → StopsUseCheckpoint → Made states failures honest w old new result → Fits states honest n done old p → honest new.disk → old.checkpoint ≡ Some v → v.phase ≡ phase.Opened → HasGiven old.checkpoint sections (now (states old.disk))
-    → OnOk result (UsesCheckpoint (checkpoint_of v sections) (now (states new.disk)))
-made_uses {D} states failures honest n done w v old new p result sections one seals uses m f h is last given =
+    → AreCoherent (now (states new.disk)) → OnOk result (UsesCheckpoint (checkpoint_of v sections) (now (states new.disk)))
+made_uses {D} states failures honest n done w v old new p result sections one seals uses m f h is last given whole =
     let same : w ≡ v = some_same w v (sym m.writer ∙ is) in
     let opened : w.phase ≡ phase.Opened = ap (λ (z : CheckpointState). z.phase) same ∙ last in
     subst (λ (z : CheckpointState). OnOk result (UsesCheckpoint (checkpoint_of z sections) (now (states new.disk)))) same
     (elim (due_or (call_in w.phase w)) [
       | inl none_ ↦ absurd (due_opened w (call_in w.phase w) (ap (λ (z : CheckpointPhase). call_in z w) opened) none_)
-      | inr x ↦ used_then states failures honest n done x.0 w old new p result sections one seals uses f (steps_of states failures honest w old new result x.0 m x.1) h opened given
+      | inr x ↦ used_then states failures honest n done x.0 w old new p result sections one seals uses f (steps_of states failures honest w old new result x.0 m x.1) h opened given whole
     ])

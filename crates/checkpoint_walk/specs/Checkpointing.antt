@@ -101,6 +101,11 @@ pub record StepsCheckpoint {D : Type 0} (states : D → List Files) (failures : 
   pub err : IfErr result (λ refusal. (refusal ≡ Failed) × (checkpoints_of new ≡ record (checkpoints_of old) { writer = Some (record w { is_broken = true }) })
       × Fails states failures (checkpoint_file w.generation) call old.disk new.disk)
 
+-- these contents use this checkpoint
+abbrev pub IsUsed : Checkpoint → Contents → Type 0
+IsUsed k contents = (found : Found) × Holds contents found × (found.checkpoint ≡ k)
+
 -- What is read, and whatever a stop leaves, uses this checkpoint.
-abbrev pub UsesCheckpoint : Checkpoint → Files → Type 0
-UsesCheckpoint k files = (contents : Contents) → Leaves files contents → (found : Found) × Holds contents found × (found.checkpoint ≡ k)
+pub record UsesCheckpoint (k : Checkpoint) (files : Files) : Type 0 where
+  pub read : IsUsed k (λ n. (files n).seen)
+  pub left : (contents : Contents) → Leaves files contents → IsUsed k contents

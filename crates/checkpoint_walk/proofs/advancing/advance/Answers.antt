@@ -1,3 +1,4 @@
+use Rattle.disk_model.proofs.FileLemmas.{now_coherent}
 use Rattle.std.proofs.Common.{refl, sym, ◌∙◌}
 use Rattle.ticket_order.specs.Legality.{history_of}
 use Rattle.flusher.specs.Fitting.{StopsFit}
@@ -43,6 +44,7 @@ returns-clause-given g c = λ sections w given is. made_given g.D.Disk.states g.
 pub returns-clause-sealed : goal.returns-clause-sealed
 returns-clause-sealed g c = λ n done p w sections f h alone is last given.
     made_uses g.D.Disk.states g.D.Disk.failures g.D.Disk.honest n done c.in-Some.writer w c.args.keeper.now c.step.new.keeper p c.step.result sections c.laws_of_checkpoints.ensures.one c.steps_of_checkpoints.ensures.sealed c.stops_of_a_store.ensures.checkpoint (made g c) f h is last given
+    (now_coherent (g.D.Disk.states c.step.new.keeper.disk) (g.met.D.Disk.are_coherent c.step.new.keeper.disk))
 
 pub returns-clause-fits : goal.returns-clause-fits
 returns-clause-fits g c = λ n done p f.

@@ -1,0 +1,21 @@
+//! What holds of every keeper, also between the steps of a capture.
+ghost use Rattle.std.specs.Prelude.{ℕ, List};
+ghost use Rattle.disk_model.specs.Files.{now};
+ghost use Rattle.map_types.specs.declared.commands.Command.{Command};
+ghost use Rattle.ticket_order.specs.declared.record.Record.{Record};
+ghost use Rattle.ticket_order.specs.Legality.{history_of};
+ghost use Rattle.flusher.specs.Fitting.{StopsFit};
+ghost use Rattle.checkpoint_walk.specs.Walking.{FitsWalking};
+
+use disk_model::Disk;
+use flusher::{Keeper, stops_of_a_keeper};
+use store_layout::laws::laws_of_found;
+
+/// Whatever a stop leaves of the four files stands for a front of the history that the keeper's pass has
+/// seen, with the committed commands and no more than the staged ones besides.
+pub fn stops_while_capturing<D: Disk>(keeper: &Keeper<D>)
+    ensures { (n : ℕ) (done : List Command) (p : Record) → FitsWalking D.states D.honest n done keeper.now p → D.honest keeper.now.disk → StopsFit (history_of p) keeper.now (now (D.states keeper.now.disk)) }
+{
+    stops_of_a_keeper(keeper);
+    laws_of_found();
+}
