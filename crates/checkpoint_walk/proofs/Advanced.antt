@@ -4,8 +4,7 @@ use Rattle.std.specs.List.{AllByRecursion}
 use Rattle.std.proofs.lemmas.Bool.{eq-eqb}
 use Rattle.std.proofs.lemmas.List.{length-map}
 use Rattle.disk_model.specs.Calls.{Makes}
-use Rattle.disk_model.proofs.FileLemmas.{seen_may_stay}
-use Rattle.disk_model.specs.Files.{AreCoherent, Contents, Leaves, File, Files, now, with_file}
+use Rattle.disk_model.specs.Files.{AllCoherent, AreCoherent, empty_coherent, IsCoherent, MayLeave, Contents, Leaves, File, Files, now, with_file}
 use Rattle.disk_model.specs.Gates.{Call, called}
 use Rattle.disk_model.specs.Moments.{AtEachMoment}
 use Rattle.map_types.specs.declared.commands.Command.{Command}
@@ -293,6 +292,14 @@ fits_stepped {D} states failures honest n done call w old new p (Ok ph) stops go
 fits_stepped {D} states failures honest n done call w old new p (Err e) stops goes seals f s = fits_failed states failures honest n done call w old new p e stops f s
 
 -- ---- what is used then
+
+-- what is read is among what a stop may leave
+seen_may_stay : (file : File) → IsCoherent file → MayLeave file file.seen
+seen_may_stay file h = record { no_shorter = h.no_shorter; no_longer = h.no_longer; bytes = h.bytes; same = λ i clear. refl }
+
+pub now_coherent : (states : List Files) → AllCoherent states → AreCoherent (now states)
+now_coherent [] all = empty_coherent
+now_coherent (files ∷ past) all = all.0
 
 -- two lists of sections of which a file is sealed are the same
 sealed_once : (one : OneCheckpoint) (w : CheckpointState) (xs ys : List Section) (a b : List ℕ) (file : File) → w.phase ≡ phase.Sealed → checkpoint.Stands w a xs file → checkpoint.Stands w b ys file → checkpoint_of w xs ≡ checkpoint_of w ys
