@@ -156,7 +156,13 @@ fn walk_on_two<R: Wait>(
     two: StripeCount,
 ) -> Result<(Walked, MemDisk), Refusal> {
     let mut joined = join(alloc, MemDisk::new(alloc), two)?;
-    change_two(&joined.stripes, &mut joined.worker, alloc, ("a", 1), ("b", 2))?;
+    change_two(
+        &joined.stripes,
+        &mut joined.worker,
+        alloc,
+        ("a", 1),
+        ("b", 2),
+    )?;
     let mut steps = joined.stripes.at(&mut joined.pass);
     let walked = walk(
         rt,

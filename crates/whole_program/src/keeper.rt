@@ -403,11 +403,7 @@ fn release_all(
 }
 
 // Commits a batch that fails, and makes a FAIL: whether a later commit is refused with 9.
-fn fail_in_commit<D: Disk, R: Wait, S: Steps>(
-    rt: &R,
-    keeper: &mut Keeper<D>,
-    steps: &mut S,
-) -> bool
+fn fail_in_commit<D: Disk, R: Wait, S: Steps>(rt: &R, keeper: &mut Keeper<D>, steps: &mut S) -> bool
     requires { (done : List Command) × Fits D.states D.honest (S.stripe_count steps.old) done keeper.old (S.recorded steps.old) }
 {
     let _staged = sweep_and_commit(rt, keeper, steps);
