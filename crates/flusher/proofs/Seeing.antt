@@ -1,5 +1,5 @@
 -- What a pass has seen only grows while its keeper sweeps.
-use Rattle.std.proofs.Common.{◌≡◌, inl, inr, ℕ, ◌≤◌, List, [], ◌++◌, Option, Some, None, Result, Ok, Err, append-nil, refl, sym, ◌∙◌, ap, arith}
+use Rattle.std.proofs.Common.{◌≡◌, inl, inr, ℕ, ◌≤◌, List, [], ◌++◌, Option, Some, None, Result, Ok, Err, append-nil, refl, sym, ◌∙◌, ap, subst, arith}
 use Rattle.std.proofs.lemmas.List.{append_assoc}
 use Rattle.map_types.specs.declared.commands.Command.{Command}
 use Rattle.map_types.specs.declared.refusals.Refusal.{Refusal}
@@ -98,7 +98,12 @@ stage_known n b i (stage.Sweep (sweep_stage.HasTaken alloc t)) p one k =
       };
     }
 stage_known n b i (stage.Capture s) p one k = absurd (by_capture n b i s p k)
-stage_known n b i (stage.GivingBack t e) p one k = record { content = k.content; refused = refused_known b p i e (giving Nothing p) refl k.refused }
+stage_known n b i (stage.GivingBack t e) p one k = record {
+  content = k.content;
+  refused = refused_known b p i e (giving Nothing p) refl k.refused;
+  -- no sweep is refused so
+  too_many = λ full. absurd (subst (λ z. RefusesSweep b i z (giving Nothing p)) full k.refused);
+}
 
 known : (n : ℕ) (b : Record) (i : ℕ) (walk : Walk) (p : Record) → IsSwept n b i walk p → IsSwept n (knowing b p.seen) i walk p
 known n b i walk p k = record { fits = stage_known n b i walk.stage p k.one_left k.fits; one_left = k.one_left; one_made = k.one_made }

@@ -1,3 +1,4 @@
+mod Apart
 pub mod Taking
 pub mod Walking
 mod Refusing

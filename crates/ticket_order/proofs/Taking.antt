@@ -14,8 +14,9 @@ use Rattle.ticket_order.specs.declared.record.Record.{Record}
 use Rattle.ticket_order.specs.Records.{reach, taking, looking, giving, sections_for}
 use Rattle.ticket_order.specs.Legality.{history_of, IsLegalSection}
 use Rattle.ticket_order.specs.StepRules.{Looks, Gives, MayGive, AllLegalSections}
-use Rattle.ticket_order.specs.Calls.{CapturesStripe, HasLookedAt}
+use Rattle.ticket_order.specs.Calls.{CapturesStripe, HasLookedAt, HasTooMany}
 use Rattle.ticket_order.specs.Walks.{Task, ToCapture, Refuses, HasContent, TookContent, HasSwept, HasCopied, IsRefusing}
+use Rattle.ticket_order.proofs.Apart.{not_full_by_memory}
 
 pub may_sweep : (n : ℕ) (b p : Record) (task : Task) (t : Taken) (x : Stripe) → HasSwept n b task t p → x.part.map ≡ t.content.part.map → x.outbox.items ≡ [] → MayGive n p t.stripe x Sweep
 may_sweep n b p task t x k part outbox = record {
@@ -26,6 +27,11 @@ may_sweep n b p task t x k part outbox = record {
   outbox_is = outbox;
   suits = (ap (λ (z : Record). z.keeper) k.took.is ∙ k.keeper, refl);
 }
+
+-- which stripe a capture is of
+abbrev captured_stripe_of : Task → ℕ
+captured_stripe_of (ToCapture i) = i
+captured_stripe_of task = 0
 
 pub swept_back : (n : ℕ) (b p : Record) (task : Task) (t : Taken) → HasSwept n b task t p → IsRefusing n b task t refusal.NoMemory p
 swept_back n b p task t k = record {
@@ -42,6 +48,7 @@ swept_back n b p task t k = record {
     is = refl;
     same_calls = append-nil p.calls ∙ ap (λ (z : Record). z.calls) k.took.is;
   });
+  too_many = λ full. absurd (not_full_by_memory full);
 }
 
 -- since b: TAKE of this stripe, which had this content, and LOOK
@@ -72,6 +79,7 @@ pub capture_starved : (n : ℕ) (b p : Record) (task : Task) (t : Taken) (e : Re
 capture_starved n b p task t e j k starved = record {
   content = content_viewed b p t k;
   refused = subst (λ z. Refuses n b task z (giving Nothing p)) (sym starved) (subst (λ z. Refuses n b z refusal.NoMemory (giving Nothing p)) (sym j) (record { holder = p; before = looked_at b p t k; is = refl; same_calls = same_calls b p t k }));
+  too_many = λ full. absurd (not_full_by_memory (sym starved ∙ full));
 }
 
 pub capture_full : (n : ℕ) (b p : Record) (task : Task) (t : Taken) → task ≡ ToCapture t.stripe → Viewed b t p → 2 ^ 32 ≤ length (finite.entries t.content.part.map) → IsRefusing n b task t refusal.LogFull p
@@ -79,6 +87,7 @@ unfolding looked_at
 capture_full n b p task t j k many = record {
   content = content_viewed b p t k;
   refused = subst (λ z. Refuses n b z refusal.LogFull (giving Nothing p)) (sym j) (record { holder = p; before = record { at = looked_at b p t k; many = many }; is = refl; same_calls = same_calls b p t k });
+  too_many = λ full i is. subst (λ z. HasTooMany b z p) (ap captured_stripe_of (sym j ∙ is)) (record { at = looked_at b p t k; many = many });
 }
 
 pub may_capture : (n : ℕ) (b p : Record) (t : Taken) (z : Captured) → HasCopied b t z p → MayGive n p t.stripe t.content Capture

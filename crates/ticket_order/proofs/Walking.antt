@@ -17,6 +17,7 @@ use Rattle.ticket_order.specs.Legality.{history_of}
 use Rattle.ticket_order.specs.StepRules.{Looks, Draws, Gives, Lives, MayDraw, MayGive, AllLegalCalls}
 use Rattle.ticket_order.specs.Calls.{walked, FindsFailure, LooksAround, GivesBack, MakesRead}
 use Rattle.ticket_order.specs.Walks.{Task, ToChange, ToRead, Refuses, HasContent, TookContent, TookAlive, TookLooked, OfTask, HasChanged, HasMade, HasAnswer, IsRefusing}
+use Rattle.ticket_order.proofs.Apart.{not_full_by_memory, not_full_by_failure, not_full_by_tickets}
 
 -- what is held may be given back
 pub may_give_back : (n : ℕ) (p : Record) (t : Taken) → HasContent p t → MayGive n p t.stripe t.content Nothing
@@ -70,6 +71,7 @@ pub change_failed : (n : ℕ) (b p w : Record) (task : Task) (c : Command) (t : 
 change_failed n b p w task c t o k l = record {
   content = content_failed b p w t k l;
   refused = subst (λ z. Refuses n b z refusal.Failed (giving Nothing w)) (sym o.task_is) (failed b p w t _ k l o.stripe_is);
+  too_many = λ full. absurd (not_full_by_failure full);
 }
 
 pub change_spent : (n : ℕ) (b p w : Record) (task : Task) (c : Command) (q : ℕ) (t : Taken) → OfTask n task (ToChange c) t.stripe (stripe_of n c.key) → TookAlive b t p → Looks p q w → ticket_limit ≤ q → IsRefusing n b task t refusal.TicketsSpent w
@@ -79,6 +81,7 @@ change_spent n b p w task c q t o k l big =
     record {
       content = content_looked b w t t k' refl refl refl;
       refused = subst (λ z. Refuses n b z refusal.TicketsSpent (giving Nothing w)) (sym o.task_is) (looked_around b w t _ k' o.stripe_is, far);
+      too_many = λ full. absurd (not_full_by_tickets full);
     }
 
 pub change_starved : (n : ℕ) (b p w : Record) (task : Task) (c : Command) (q : ℕ) (t u : Taken) (e : Refusal) → OfTask n task (ToChange c) t.stripe (stripe_of n c.key) → TookAlive b t p → Looks p q w → q < ticket_limit
@@ -89,6 +92,7 @@ change_starved n b p w task c q t u e o k l small stripe part outbox starved =
     record {
       content = content_looked b w t u k' stripe part outbox;
       refused = subst (λ z. Refuses n b task z (giving Nothing w)) (sym starved) (subst (λ z. Refuses n b z refusal.NoMemory (giving Nothing w)) (sym o.task_is) (looked_around b w t _ k' o.stripe_is, near));
+      too_many = λ full. absurd (not_full_by_memory (sym starved ∙ full));
     }
 
 pub may_draw : (n : ℕ) (b p : Record) (c : Command) (t : Taken) → t.stripe ≡ stripe_of n c.key → TookLooked b t p → reach p < ticket_limit → MayDraw n p c
@@ -142,6 +146,7 @@ pub read_failed : (n : ℕ) (b p w : Record) (task : Task) (r : read_type.Read) 
 read_failed n b p w task r t o k l = record {
   content = content_failed b p w t k l;
   refused = subst (λ z. Refuses n b z refusal.Failed (giving Nothing w)) (sym o.task_is) (failed b p w t _ k l o.stripe_is);
+  too_many = λ full. absurd (not_full_by_failure full);
 }
 
 pub read_starved : (n : ℕ) (b p w : Record) (task : Task) (r : read_type.Read) (q : ℕ) (t : Taken) (e : Refusal) → OfTask n task (ToRead r) t.stripe (stripe_of n r.key) → TookAlive b t p → Looks p q w
@@ -151,6 +156,7 @@ read_starved n b p w task r q t e o k l starved =
     record {
       content = content_looked b w t t k' refl refl refl;
       refused = subst (λ z. Refuses n b task z (giving Nothing w)) (sym starved) (subst (λ z. Refuses n b z refusal.NoMemory (giving Nothing w)) (sym o.task_is) (looked_around b w t _ k' o.stripe_is));
+      too_many = λ full. absurd (not_full_by_memory (sym starved ∙ full));
     }
 
 pub may_answer : (n : ℕ) (b p : Record) (r : read_type.Read) (t : Taken) → t.stripe ≡ stripe_of n r.key → TookLooked b t p → MayGive n p t.stripe t.content (Answer r)

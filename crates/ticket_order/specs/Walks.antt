@@ -6,6 +6,7 @@ use Rattle.map_types.specs.declared.commands.Command.{Command}
 use Rattle.map_types.specs.declared.commands.Read as read_type
 use Rattle.map_types.specs.declared.commands.Reply.{Reply}
 use Rattle.map_types.specs.declared.refusals.Refusal.{Refusal}
+use Rattle.map_types.specs.declared.refusals.Refusal.TheVariants as refusal
 use Rattle.map_model.specs.Steps.{step, answer}
 use Rattle.ticket_order.specs.declared.stripe.Entry.{Entry}
 use Rattle.ticket_order.specs.declared.held.Held.{Held}
@@ -34,7 +35,7 @@ use Rattle.ticket_order.specs.declared.walk.Stepped.TheVariants as stepped
 use Rattle.ticket_order.specs.Records.{ticket_limit, entry, reach, taking, living, looking, giving}
 use Rattle.ticket_order.specs.Memory.{HasMemory}
 use Rattle.ticket_order.specs.StepRules.{TakesStripe}
-use Rattle.ticket_order.specs.Calls.{walked, MakesCall, MakesRead, RefusesChange, RefusesRead, RefusesSweep, RefusesCapture, Misses, MissesAlive, Releases, SweepsStripe, CapturesStripe}
+use Rattle.ticket_order.specs.Calls.{walked, MakesCall, MakesRead, RefusesChange, RefusesRead, RefusesSweep, RefusesCapture, HasTooMany, Misses, MissesAlive, Releases, SweepsStripe, CapturesStripe}
 
 -- what a walk is for
 pub data Task : Type 0 where
@@ -274,6 +275,8 @@ pub record HasMade (n : ℕ) (b : Record) (task : Task) (t : Taken) (h : Held) (
 pub record IsRefusing (n : ℕ) (b : Record) (task : Task) (t : Taken) (e : Refusal) (p : Record) : Type 0 where
   pub content : HasContent p t
   pub refused : Refuses n b task e (giving Nothing p)
+  -- a capture is full only where what it holds since its LOOK has too many entries
+  pub too_many : e ≡ refusal.LogFull → (i : ℕ) → task ≡ ToCapture i → HasTooMany b i p
 
 -- the position and the reply are those of the read at the count that was looked at
 pub record HasAnswer (r : read_type.Read) (t : Taken) (h : Held) (p : Record) : Type 0 where
