@@ -12,5 +12,6 @@ mod GateClosing
 mod Sealing
 mod LogBeginning
 mod Making
+mod NewFiles
 mod FormattingLemmas
 pub mod Finding

@@ -1,18 +1,21 @@
 -- The first log of a new store is begun.
-use Rattle.std.proofs.Common.{◌≡◌, ◌≢◌, inl, inr, [], ℕ, List, Result, Ok, IfOk, OnOk, false, sym, ap, subst, ◌∙◌}
+use Rattle.std.proofs.Common.{◌≡◌, ◌≢◌, inl, inr, [], ◌∷◌, ◌++◌, ℕ, List, Some, Result, Ok, IfOk, OnOk, false, refl, sym, ap, subst, ◌∙◌}
 use Rattle.disk_model.specs.Calls.{Makes}
-use Rattle.disk_model.specs.Files.{File, Files, MayLeave, now}
+use Rattle.disk_model.specs.Files.{File, Files, MayLeave, at_rest, now}
+use Rattle.disk_model.specs.Gates.{Call, syncs, writes}
 use Rattle.disk_model.specs.Moments.{AtEachMoment}
 use Rattle.disk_model.proofs.MomentLemmas.{goes_on, in_the_end, weaker}
 use Rattle.map_types.specs.declared.refusals.Refusal.{Refusal}
 use Rattle.log_records.specs.Layout.{first_layout}
-use Rattle.store_layout.specs.Logs.{Batch, IsClosed}
+use Rattle.store_layout.specs.Logs.{Batch, IsClosed, header}
 use Rattle.gate_log.specs.declared.phase.Phase.{Phase}
 use Rattle.gate_log.specs.declared.phase.Phase.TheVariants.{Header, HeaderWritten, Idle}
-use Rattle.gate_log.specs.States.{LogState, begun, log_after}
+use Rattle.gate_log.specs.States.{LogState, begun, call_in, log_after}
 use Rattle.gate_log.specs.Standing.{IsBeforeOrAfter, IsKept, Stands}
 use Rattle.gate_log.specs.Advancing.{Advances, committed_after, staged_after}
 use Rattle.gate_log.proofs.StandingLemmas.{reads_in}
+use Rattle.recovery.specs.Formatting.{Becomes, first_log}
+use Rattle.recovery.proofs.NewFiles.{log_is, written_down, written_first}
 
 -- but for the first log's, the files are as they were
 abbrev pub Others : Files → Files → Type 0
@@ -20,6 +23,9 @@ Others start files = (n : ℕ) → n ≢ 2 → files n ≡ start n
 
 abbrev at_phase : Phase → LogState
 at_phase phase = record (begun 0 0) { phase = phase }
+
+some_inj : {A : Type 0} {x y : A} → Some x ≡ Some y → x ≡ y
+some_inj e = cc
 
 header_not_idle : Header ≡ Idle → ⊥
 header_not_idle e = absurd cc
@@ -51,6 +57,10 @@ module _ {D : Type 0} (states : D → List Files) (failures : D → ℕ) (honest
     pub state_then : (reached : Phase) → r ≡ Ok reached → after ≡ log_after phase (at_phase phase)
     unfolding Ok_of
     state_then reached e = (subst Ok_of e step.ok).0
+
+    pub made_then : (reached : Phase) (call : Call) → r ≡ Ok reached → call_in phase (at_phase phase) ≡ Some call → Makes states failures 2 call old new
+    unfolding Ok_of
+    made_then reached call e due = subst (λ (c : Call). Makes states failures 2 c old new) (some_inj (sym step.due ∙ due)) (subst Ok_of e step.ok).2
 
     Stands_of : Result Phase Refusal → Type 0
     Stands_of x = OnOk x ((batches staged : List Batch) → Stands (at_phase phase) batches staged (now (states old) 2) → Stands after (committed_after phase batches staged) (staged_after phase staged) (now (states new) 2))
@@ -87,3 +97,10 @@ module _ {D : Type 0} (states : D → List Files) (failures : D → ℕ) (honest
           log_closed (now (states new) 2)
           (subst (λ (l : LogState). Stands l [] [] (now (states new) 2)) (state_then HeaderWritten mid_log new_log mid new r2 mid_is second written_not_idle mid_stands reached ok2)
           (stands_then HeaderWritten mid_log new_log mid new r2 mid_is second written_not_idle mid_stands reached ok2))
+
+      pub begins : (last : Phase) → r2 ≡ Ok last → now (states old) 2 ≡ at_rest [] → Becomes 2 (at_rest first_log) (now (states old)) (now (states new))
+      begins last ok2 at =
+          written_down states failures 2 0 (header 0 0 ++ 0 ∷ []) (at_rest []) (at_rest first_log) old mid new at
+          (made_then Header log mid_log old mid r is first header_not_idle start reached (writes 0 (header 0 0 ++ 0 ∷ [])) ok refl)
+          (made_then HeaderWritten mid_log new_log mid new r2 mid_is second written_not_idle mid_stands last syncs ok2 refl)
+          (written_first (header 0 0 ++ 0 ∷ []) ∙ ap at_rest log_is)

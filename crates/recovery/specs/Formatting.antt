@@ -1,9 +1,11 @@
 -- What formatting a directory leaves.
-use Rattle.std.specs.Prelude.{◌≡◌, ◌≢◌, ◌⊎◌, ℕ, true, false, List, ◌∷◌, ◌++◌}
+use Rattle.std.specs.Prelude.{◌≡◌, ◌≢◌, ◌⊎◌, ℕ, ◌==◌, true, false, if◌then◌else◌, List, [], ◌∷◌, ◌++◌}
 use Rattle.std.specs.FinMap as finite
-use Rattle.disk_model.specs.Files.{Contents, Files, Leaves, MayLeave, at_rest}
-use Rattle.store_layout.specs.Checkpoints.{is_sealed}
-use Rattle.store_layout.specs.Opening.{StandsFor}
+use Rattle.disk_model.specs.Files.{Contents, File, Files, Leaves, MayLeave, at_rest}
+use Rattle.log_records.specs.Layout.{first_layout}
+use Rattle.store_layout.specs.Checkpoints.{checkpoint_bytes, is_sealed}
+use Rattle.store_layout.specs.Logs.{log_front}
+use Rattle.store_layout.specs.Opening.{StandsFor, first_checkpoint}
 
 -- whatever a stop may leave of these files has P
 abbrev pub AtStops : (Contents → Type 0) → Files → Type 0
@@ -39,3 +41,26 @@ pub record IsClear (files : Files) : Type 0 where
   pub settled : files 0 ≡ at_rest first
   pub unsealed : is_sealed first ≡ false
   pub second : (content : List ℕ) → MayLeave (files 1) content → is_sealed content ≡ false
+
+-- ---- files that were empty
+
+-- the other files are as they were at the start, and this one is so now
+pub record Becomes (number : ℕ) (file : File) (start files : Files) : Type 0 where
+  pub others : (n : ℕ) → n ≢ number → files n ≡ start n
+  pub is : files number ≡ file
+
+-- a log without batches, behind whose header the gate is closed
+abbrev pub first_log : List ℕ
+first_log = log_front first_layout 0 0 [] ++ 0 ∷ []
+
+-- What empty files hold once they are those of a new store: a sealed checkpoint of so many stripes without entries, and the log that goes on
+-- from it.
+abbrev pub new_contents : ℕ → Contents
+new_contents stripes = λ number.
+    if number == 0 then 165 ∷ checkpoint_bytes first_layout (first_checkpoint stripes)
+    else if number == 2 then first_log
+    else []
+
+-- and nothing of them is pending
+abbrev pub new_files : ℕ → Files
+new_files stripes = λ number. at_rest (new_contents stripes number)

@@ -2,14 +2,14 @@
 ghost use Rattle.std.specs.Prelude.{◌≡◌, ◌≢◌, ◌⊎◌, ◌+◌, ◌||◌, ℕ, true, Err, IfOk, IfErr, OnOk};
 ghost use Rattle.java_hash.specs.Stripes.{is_stripe_count};
 ghost use Rattle.disk_model.specs.Calls.{Looks};
-ghost use Rattle.disk_model.specs.Files.{now};
+ghost use Rattle.disk_model.specs.Files.{empty_files, now};
 ghost use Rattle.disk_model.specs.Moments.{AtEachMoment};
 ghost use Rattle.log_records.specs.Layout.{first_layout};
 ghost use Rattle.store_layout.specs.Checkpoints.{checkpoint_bytes, is_sealed};
 ghost use Rattle.store_layout.specs.Opening.{first_checkpoint};
 ghost use Rattle.gate_log.specs.Scan.{failed_in};
 ghost use Rattle.recovery.specs.LogReading.{contents_of};
-ghost use Rattle.recovery.specs.Formatting.{AtStops, IsClear, IsFormatted, IsNew, IsNewOrUnformatted, IsUnformatted};
+ghost use Rattle.recovery.specs.Formatting.{AtStops, IsClear, IsFormatted, IsNew, IsNewOrUnformatted, IsUnformatted, new_files};
 ghost use Rattle.recovery.specs.Syncing.{SyncsAndLooks};
 
 use crate::first_bytes::first_bytes;
@@ -40,6 +40,7 @@ fn make_store<D: Disk>(alloc: Global, disk: &mut D, bytes: &[u8]) -> Result<(), 
         → AtEachMoment D.states disk.old disk.new (AtStops IsNewOrUnformatted) }
     ensures ok { OnOk result (D.honest disk.new → (stripes : ℕ) → is_stripe_count stripes ≡ true → bytes.now ≡ checkpoint_bytes first_layout (first_checkpoint stripes)
         → IsClear (now (D.states disk.old)) → AtStops IsNew (now (D.states disk.new))) }
+    ensures files { OnOk result (D.honest disk.new → (stripes : ℕ) → bytes.now ≡ checkpoint_bytes first_layout (first_checkpoint stripes) → now (D.states disk.old) ≡ empty_files → now (D.states disk.new) ≡ new_files stripes) }
 {
     close_gate(disk)?;
     begin_log(alloc, disk)?;
@@ -58,6 +59,7 @@ pub fn format<D: Disk>(alloc: Global, disk: &mut D, stripes: StripeCount) -> Res
     ensures moments { D.honest disk.new → AtStops IsUnformatted (now (D.states disk.old)) → AtEachMoment D.states disk.old disk.new (AtStops IsNewOrUnformatted) }
     ensures ok { OnOk result (D.honest disk.new → AtStops IsNew (now (D.states disk.new))) }
     ensures reads { OnOk result (D.honest disk.new → IsNew (contents_of D.states disk.new)) }
+    ensures files { OnOk result (D.honest disk.new → now (D.states disk.old) ≡ empty_files → now (D.states disk.new) ≡ new_files stripes.count) }
 {
     sync_files(disk, 2)?;
     if is_formatted(disk)? {

@@ -8,7 +8,7 @@ ghost use Rattle.log_records.specs.Layout.{first_layout};
 ghost use Rattle.store_layout.specs.Checkpoints.{is_sealed};
 ghost use Rattle.store_layout.specs.Logs.{IsClosed};
 ghost use Rattle.gate_log.specs.Scan.{failed_in};
-ghost use Rattle.recovery.specs.Formatting.{IsSealedWith, OneFile};
+ghost use Rattle.recovery.specs.Formatting.{Becomes, IsSealedWith, OneFile, first_log};
 
 use checkpoint_file::must_close;
 use disk_model::Disk;
@@ -66,6 +66,7 @@ pub(crate) fn close_gate<D: Disk>(disk: &mut D) -> Result<(), Refusal>
     ensures moments { D.honest disk.new → (content : List ℕ) → now (D.states disk.old) 0 ≡ at_rest content → is_sealed content ≡ false
         → AtEachMoment D.states disk.old disk.new (OneFile 0 (λ left. is_sealed left ≡ false) (now (D.states disk.old))) }
     ensures ok { OnOk result (D.honest disk.new → IsShut [] [] (now (D.states disk.new) 0)) }
+    ensures left { OnOk result (D.honest disk.new → now (D.states disk.old) 0 ≡ at_rest [] → Becomes 0 (at_rest (0 ∷ [])) (now (D.states disk.old)) (now (D.states disk.new))) }
 {
     if !must_close(disk, 0)? {
         return sync(disk);
@@ -81,6 +82,7 @@ pub(crate) fn begin_log<D: Disk>(alloc: Global, disk: &mut D) -> Result<(), Refu
     ensures failures { D.failures disk.new ≡ D.failures disk.old + failed_in result }
     ensures others { AtEachMoment D.states disk.old disk.new (λ files. (n : ℕ) → n ≢ 2 → files n ≡ now (D.states disk.old) n) }
     ensures ok { OnOk result ((content : List ℕ) → MayLeave (now (D.states disk.new) 2) content → IsClosed first_layout 0 0 [] content) }
+    ensures left { OnOk result (now (D.states disk.old) 2 ≡ at_rest [] → Becomes 2 (at_rest first_log) (now (D.states disk.old)) (now (D.states disk.new))) }
 {
     let mut log = GateLog::new(alloc, 0, 0);
     let _written = log.advance(disk)?;
@@ -98,6 +100,7 @@ pub(crate) fn seal<D: Disk>(disk: &mut D, bytes: &[u8]) -> Result<(), Refusal>
         → AtEachMoment D.states disk.old disk.new (OneFile 0 (IsSealedWith bytes.now) (now (D.states disk.old))) }
     ensures ok { OnOk result (IsShut [] [] (now (D.states disk.old) 0) → (content : List ℕ) → MayLeave (now (D.states disk.new) 0) content
         → (rest : List ℕ) × (content ≡ 165 ∷ (bytes.now ++ rest))) }
+    ensures left { OnOk result (now (D.states disk.old) 0 ≡ at_rest (0 ∷ []) → Becomes 0 (at_rest (165 ∷ bytes.now)) (now (D.states disk.old)) (now (D.states disk.new))) }
 {
     write(disk, 1, bytes)?;
     sync(disk)?;

@@ -3,6 +3,7 @@ use Rattle.disk_model.proofs.MomentLemmas.{goes_on}
 use Rattle.recovery.specs.Formatting.{AtStops, IsNewOrUnformatted}
 use Rattle.recovery.proofs.FormattingLemmas.{is_clear, looked_moments, starts, stopped_moments}
 use Rattle.recovery.proofs.GateClosing.{on_ok}
+use Rattle.recovery.proofs.NewFiles.{still_empty}
 use Rattle.recovery.specs.LogReading.{contents_of}
 use Rattle.recovery.proofs.SyncingLemmas.{read_is_left}
 use Rattle.recovery.proofs.formatting.format.Goals as goal
@@ -52,3 +53,9 @@ returns-clause-reads g c =
     (c.in_ok-is_formatted.ensures.value before) c.if-branch.false in
     (made honest c.args.stripes.count c.args.stripes.allowed (c.deref.ensures.value ∙ c.in_ok-bytes.ensures.ok) clear) (contents_of g.D.Disk.states c.make_store.new.disk)
     (read_is_left (g.D.Disk.states c.make_store.new.disk) (g.met.D.Disk.are_coherent c.make_store.new.disk))) c.make_store.ensures.ok
+
+pub returns-clause-files : goal.returns-clause-files
+returns-clause-files g c =
+    on_ok _ _ c.make_store.result (λ made honest empty.
+    made honest c.args.stripes.count (c.deref.ensures.value ∙ c.in_ok-bytes.ensures.ok)
+    (still_empty g.D.Disk.states g.D.Disk.failures g.D.Disk.honest c.args.disk.now c.sync_files.new.disk c.is_formatted.new.disk c.in_ok-sync_files.ensures.ok c.in_ok-is_formatted.ensures.looks empty)) c.make_store.ensures.files

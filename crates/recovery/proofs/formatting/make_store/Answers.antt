@@ -1,5 +1,6 @@
 use Rattle.recovery.proofs.GateClosing.{on_ok}
 use Rattle.recovery.proofs.Sealing.{shut_place}
+use Rattle.recovery.proofs.NewFiles.{made_new}
 use Rattle.recovery.proofs.Making.{beginning_moments, closing_moments, new_in_the_end, sealing_moments, shut_on}
 use Rattle.recovery.proofs.formatting.make_store.Goals as goal
 
@@ -35,3 +36,9 @@ returns-clause-ok g c =
     let shut_then = shut_on g.D.Disk.states c.close_gate.new.disk c.begin_log.new.disk shut others in
     new_in_the_end g.D.Disk.states c.args.disk.now c.close_gate.new.disk clear (c.in_ok-close_gate.ensures.moments at_one clear.first clear.settled clear.unsealed) c.begin_log.new.disk shut others c.in_ok-begin_log.ensures.ok
     stripes whole c.args.bytes.now are c.seal.new.disk (c.seal.ensures.moments shut_then) (sealed shut_then)) c.seal.ensures.ok
+
+pub returns-clause-files : goal.returns-clause-files
+returns-clause-files g c =
+    on_ok _ _ c.seal.result (λ sealed honest stripes are empty.
+    let at_one = c.in_ok-begin_log.ensures.was_honest (c.seal.ensures.was_honest honest) in
+    made_new c.args.bytes.now stripes _ _ _ _ are empty (c.in_ok-close_gate.ensures.left at_one) c.in_ok-begin_log.ensures.left sealed) c.seal.ensures.left

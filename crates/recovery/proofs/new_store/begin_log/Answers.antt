@@ -1,7 +1,7 @@
 use Rattle.std.proofs.Common.{[]}
 use Rattle.disk_model.specs.Files.{now}
 use Rattle.store_layout.specs.Logs.{log_file}
-use Rattle.recovery.proofs.LogBeginning.{first_others, is_closed, second_others}
+use Rattle.recovery.proofs.LogBeginning.{begins, first_others, is_closed, second_others}
 use Rattle.recovery.proofs.new_store.begin_log.Goals as goal
 
 pub advance-requires : goal.advance-requires
@@ -24,4 +24,9 @@ returns-clause-others g c =
 pub returns-clause-ok : goal.returns-clause-ok
 returns-clause-ok g c =
     is_closed g.D.Disk.states g.D.Disk.failures g.D.Disk.honest c.new-log.result c.advance.new.self c.args.disk.now c.advance.new.disk c.advance.result c.new-log.ensures.state c.new-log.ensures.stands c.advance.ensures.advances
+    c.advance-2.new.self c.advance-2.new.disk c.advance-2.result c.in_ok-_written._written c.in_ok-_written.was c.advance-2.ensures.advances c.in_ok-_synced._synced c.in_ok-_synced.was
+
+pub returns-clause-left : goal.returns-clause-left
+returns-clause-left g c =
+    begins g.D.Disk.states g.D.Disk.failures g.D.Disk.honest c.new-log.result c.advance.new.self c.args.disk.now c.advance.new.disk c.advance.result c.new-log.ensures.state c.new-log.ensures.stands c.advance.ensures.advances
     c.advance-2.new.self c.advance-2.new.disk c.advance-2.result c.in_ok-_written._written c.in_ok-_written.was c.advance-2.ensures.advances c.in_ok-_synced._synced c.in_ok-_synced.was

@@ -1,4 +1,5 @@
 use Rattle.recovery.proofs.GateClosing.{on_ok}
+use Rattle.recovery.proofs.NewFiles.{sealed_first}
 use Rattle.recovery.proofs.Sealing.{first_sync, first_write, is_sealed_so, second_sync, second_write}
 use Rattle.recovery.proofs.new_store.seal.Goals as goal
 
@@ -24,3 +25,9 @@ returns-clause-ok g c =
     on_ok _ _ c.sync-2.result (λ made shut.
     is_sealed_so g.D.Disk.states g.D.Disk.failures c.args.bytes.now c.args.disk.now shut c.write.new.disk c.in_ok-write.ensures.ok c.sync.new.disk c.in_ok-sync.ensures.ok c.write-2.new.disk c.in_ok-write-2.ensures.ok
     c.sync-2.new.disk made) c.sync-2.ensures.ok
+
+pub returns-clause-left : goal.returns-clause-left
+returns-clause-left g c =
+    on_ok _ _ c.sync-2.result (λ made at.
+    sealed_first g.D.Disk.states g.D.Disk.failures c.args.bytes.now c.args.disk.now c.write.new.disk c.sync.new.disk c.write-2.new.disk c.sync-2.new.disk at c.in_ok-write.ensures.ok c.in_ok-sync.ensures.ok
+    c.in_ok-write-2.ensures.ok made) c.sync-2.ensures.ok
