@@ -367,6 +367,7 @@ staged_with old new walk z copied is stands = record {
   looked = λ n b i p k. k;
   given = λ y e. subst (λ (x : Captured). (new ≡ with_section x.mark x.entries.items old) × StandsWith old x.mark x.entries.items) (some_same z y (sym copied ∙ e)) (is, stands);
   same = λ e r. absurd (not_both walk.stage z e copied r);
+  cause = λ e r. inr r;
 }
 
 pub staged_ok : (old new : CheckpointState) (walk : Walk) (z : Captured) (es : List (List ℕ × Value)) → captured_of_walk walk ≡ Some z → es ≡ z.entries.items → new ≡ with_section z.mark es old

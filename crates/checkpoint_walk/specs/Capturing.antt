@@ -1,9 +1,10 @@
 -- Where the walk of a capture stands between its steps.
 use Rattle.std.specs.FinMap as finite
-use Rattle.std.specs.Prelude.{◌≡◌, ℕ, ◌+◌, ◌≤◌, List, [], ◌∷◌, ◌++◌, length, Some}
+use Rattle.std.specs.Prelude.{◌≡◌, ◌⊎◌, ℕ, ◌+◌, ◌≤◌, List, [], ◌∷◌, ◌++◌, length, Some}
 use Rattle.disk_model.specs.Files.{File}
 use Rattle.map_model.specs.Maps.{Map}
 use Rattle.map_types.specs.declared.refusals.Refusal.{Refusal}
+use Rattle.map_types.specs.declared.refusals.Refusal.TheVariants.{NoMemory}
 use Rattle.map_types.specs.declared.texts.Value.{Value}
 use Rattle.ticket_order.specs.declared.capture_walk.Captured.{Captured}
 use Rattle.ticket_order.specs.declared.record.Record.{Record}
@@ -30,8 +31,13 @@ abbrev pub StandsWith : CheckpointState → ℕ → List (List ℕ × Value) →
 StandsWith w mark entries = (map : Map) (old : List ℕ) (sections : List Section) (file : File) → entries ≡ finite.entries map → AreKeysOf w.stripes w.count entries → w.low ≤ mark
     → Stands w old sections file → Stands (with_section mark entries w) old (sections ++ record { mark = mark; map = map } ∷ []) file
 
+-- A walk that has looked is refused for want of memory, or as it was to be refused since its LOOK.
+abbrev pub IsCauseOf : Walk → Refusal → Type 0
+IsCauseOf walk refusal = (refusal ≡ NoMemory) ⊎ (refusal_of_walk walk ≡ Some refusal)
+
 -- What the walk has copied was given to the checkpoint; or the walk is to put its stripe back, and nothing was given.
 pub record IsStaged (old new : CheckpointState) (before walk : Walk) : Type 0 where
   pub looked : (n : ℕ) (b : Record) (i : ℕ) (p : Record) → HasLooked n b i before p → HasLooked n b i walk p
   pub given : (z : Captured) → captured_of_walk walk ≡ Some z → (new ≡ with_section z.mark z.entries.items old) × StandsWith old z.mark z.entries.items
   pub same : (e : Refusal) → refusal_of_walk walk ≡ Some e → new ≡ old
+  pub cause : (e : Refusal) → refusal_of_walk walk ≡ Some e → IsCauseOf before e

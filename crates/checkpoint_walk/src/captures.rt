@@ -8,8 +8,9 @@ ghost use Rattle.store_layout.specs.Checkpoints.{Section};
 ghost use Rattle.ticket_order.specs.Legality.{history_of};
 ghost use Rattle.checkpoint_walk.specs.Checkpointing.{HasGiven, IsNextStripe};
 ghost use Rattle.ticket_order.specs.declared.record.Record.{Record};
+ghost use Rattle.ticket_order.specs.declared.walk.Walk.{Walk as TheWalk};
 ghost use Rattle.ticket_order.specs.Walks.{MakesOne, Take, next_kind};
-ghost use Rattle.checkpoint_walk.specs.Capturing.{HasLooked, HasTaken};
+ghost use Rattle.checkpoint_walk.specs.Capturing.{HasLooked, HasTaken, IsCauseOf};
 ghost use Rattle.checkpoint_walk.specs.Walking.{AfterRefusal, AfterStep, AfterTake, AfterWaiting, AfterWalk, FitsWalking, GivesPart, GivesPartIn, GivesSection, GivesWaiting, kind_next};
 
 use crate::capturing::{hold, look};
@@ -37,6 +38,7 @@ pub fn capture_step<D: Disk, S: Steps>(
     ensures first { ((result ≡ Err Refusal.Failed) ⊎ (result ≡ Err Refusal.WrongPhase)) → (steps.new ≡ steps.old) × (keeper.new ≡ keeper.old) }
     ensures one { (result ≢ Err Refusal.Failed) → (result ≢ Err Refusal.WrongPhase) → MakesOne S.recorded S.moves (kind_next (S.stripe_count steps.old) stripe keeper.old.capture) steps.old steps.new }
     ensures after { AfterStep (S.stripe_count steps.old) stripe keeper.old.capture keeper.old keeper.new (S.recorded steps.old) (S.recorded steps.new) result }
+    ensures cause { (walk : TheWalk) → keeper.old.capture ≡ Some walk → IfErr result (IsCauseOf walk) }
     ensures given { (done : List Command) (sections : List Section) → FitsWalking D.states D.honest (S.stripe_count steps.old) done keeper.old (S.recorded steps.old) → D.honest keeper.old.disk → HasGiven keeper.old.checkpoint sections (now (D.states keeper.old.disk))
         → GivesPartIn D.states (S.stripe_count steps.old) (history_of (S.recorded steps.new)) result sections keeper.new }
     ensures fits { (done : List Command) → FitsWalking D.states D.honest (S.stripe_count steps.old) done keeper.old (S.recorded steps.old) → FitsWalking D.states D.honest (S.stripe_count steps.new) done keeper.new (S.recorded steps.new) }
@@ -94,6 +96,7 @@ fn go_on<D: Disk, S: Steps>(
     requires over { keeper.old.capture ≡ None }
     ensures one { MakesOne S.recorded S.moves (next_kind (S.stripe_count steps.old) walk) steps.old steps.new }
     ensures after { AfterWalk (S.stripe_count steps.old) walk keeper.old keeper.new (S.recorded steps.old) (S.recorded steps.new) result }
+    ensures cause { IfErr result (IsCauseOf walk) }
     ensures place { S.place steps.new ≡ S.place steps.old }
     ensures stripes { S.stripe_count steps.new ≡ S.stripe_count steps.old }
 {

@@ -3,7 +3,7 @@ ghost use Rattle.std.specs.Prelude.{◌≡◌, ◌⊎◌, ◌↔◌, ℕ, None, 
 ghost use Rattle.ticket_order.specs.declared.record.Record.{Record};
 ghost use Rattle.ticket_order.specs.Walks.{Give, MakesOne};
 ghost use Rattle.checkpoint_file.specs.States.{TakesSection};
-ghost use Rattle.checkpoint_walk.specs.Capturing.{HasLooked, IsStaged};
+ghost use Rattle.checkpoint_walk.specs.Capturing.{HasLooked, IsCauseOf, IsStaged};
 ghost use Rattle.checkpoint_walk.specs.Checkpointing.{IsNextStripe};
 ghost use Rattle.checkpoint_walk.specs.Walking.{GivesSection, PutsBack};
 
@@ -71,6 +71,7 @@ pub(crate) fn give<D: Disk, S: Steps>(
     ensures one { (b : Record) (i : ℕ) → HasLooked (S.stripe_count steps.old) b i walk (S.recorded steps.old) → MakesOne S.recorded S.moves (Give i) steps.old steps.new }
     ensures given { IfOk result (λ mark. (b : Record) (i : ℕ) → HasLooked (S.stripe_count steps.old) b i walk (S.recorded steps.old) → GivesSection (S.stripe_count steps.old) b i mark keeper.old keeper.new (S.recorded steps.new)) }
     ensures back { IfErr result (λ refusal. (b : Record) (i : ℕ) → HasLooked (S.stripe_count steps.old) b i walk (S.recorded steps.old) → PutsBack b i refusal keeper.old keeper.new (S.recorded steps.new)) }
+    ensures cause { IfErr result (IsCauseOf walk) }
     ensures place { S.place steps.new ≡ S.place steps.old }
     ensures stripes { S.stripe_count steps.new ≡ S.stripe_count steps.old }
 {
