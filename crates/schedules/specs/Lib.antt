@@ -1,3 +1,5 @@
 pub mod Machine
 pub mod World
 pub mod Fitting
+pub mod After
+pub mod Cases
