@@ -1,8 +1,6 @@
 -- What may come of each event, by what came before it. The clauses of one definition exclude each other.
-use Rattle.std.specs.Prelude.{◌≡◌, ◌⊎◌, ℕ, ◌+◌, ◌-◌, ◌^◌, ◌<◌, ◌≤◌, List, length, take, map, Option, Some, None, Bool, true, false, ◌&&◌, ◌||◌, ◌==◌, not, nat_lt, nat_le, if◌then◌else◌, is_some, MatchBool}
+use Rattle.std.specs.Prelude.{◌≡◌, ◌⊎◌, ℕ, ◌+◌, ◌-◌, ◌^◌, ◌<◌, ◌≤◌, List, length, map, Option, Some, None, Bool, true, false, ◌&&◌, ◌||◌, ◌==◌, not, nat_lt, nat_le, if◌then◌else◌, is_some, MatchBool}
 use Rattle.std.specs.FinMap as finite
-use Rattle.map_types.specs.declared.commands.Command.{Command}
-use Rattle.map_types.specs.declared.refusals.Refusal.{Refusal}
 use Rattle.map_types.specs.declared.refusals.Refusal.TheVariants as refusal
 use Rattle.map_types.specs.declared.texts.Value.{Value}
 use Rattle.ticket_order.specs.declared.record.Asked.{Asked}
@@ -32,7 +30,7 @@ use Rattle.schedules.specs.declared.outcome.Made.TheVariants as made
 use Rattle.schedules.specs.declared.outcome.MapEntry.{MapEntry}
 use Rattle.schedules.specs.declared.outcome.Outcome.{Outcome}
 use Rattle.schedules.specs.declared.outcome.Outcome.TheVariants as outcome
-use Rattle.schedules.specs.World.{World, Life, Job, Idle, Walks, Keeps, Releasing, Stage, Begins, HasTaken, IsAlive, IsDead, HasLooked, HasDrawn, Asking, FirstSees, HasMissed, FoundFailure, Place, InHand, Sweep, KeeperWalk, Rests, SweepTakes, SweepGives, CaptureLooks, CaptureGives, LogWork, Resting, Committing, Rotating, Running, count, gate_after, is_held, is_resting, job_of, needs_rotation, next_commands, next_section, place_of, seen_of, stripe_asked, sweep_or}
+use Rattle.schedules.specs.World.{World, Life, Job, Idle, Walks, Keeps, Releasing, Stage, Begins, HasTaken, IsAlive, IsDead, HasLooked, HasDrawn, Asking, FirstSees, HasMissed, FoundFailure, InHand, Sweep, KeeperWalk, Rests, SweepTakes, SweepGives, CaptureLooks, CaptureGives, LogWork, Resting, Committing, Rotating, Running, count, gate_after, is_held, is_resting, job_of, needs_rotation, next_commands, next_section, place_of, seen_of, stripe_asked, sweep_or}
 use Rattle.schedules.specs.Fitting.{fits}
 use Rattle.schedules.specs.After.{bytes_of, call_of, called, checkpoint_called, file_of, log_called, section_at}
 

@@ -3,3 +3,5 @@ pub mod World
 pub mod Fitting
 pub mod After
 pub mod Cases
+pub mod Runs
+pub mod Sound
