@@ -5,3 +5,4 @@ pub mod After
 pub mod Cases
 pub mod Runs
 pub mod Sound
+pub mod Laws

@@ -3,6 +3,7 @@
 #![tactic(auto)]
 
 pub mod event;
+pub mod laws;
 pub mod outcome;
 
 pub use event::{Ending, Event, Side};

@@ -1,0 +1,3 @@
+pub mod CaseLaws
+pub mod MachineLaws
+pub mod RunLaws

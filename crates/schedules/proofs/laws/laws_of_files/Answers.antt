@@ -1,0 +1,4 @@
+use Rattle.schedules.proofs.laws.laws_of_files.Goals as goal
+
+pub returns : goal.returns
+returns c = ?

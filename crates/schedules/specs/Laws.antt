@@ -1,0 +1,110 @@
+-- Laws of the machine, of whole runs, and of what the loop of a run keeps.
+use Rattle.std.specs.Prelude.{◌≡◌, ◌↔◌, ℕ, ◌≤◌, List, [], ◌∷◌, ◌++◌, length, take, Some, None, false}
+use Rattle.std.specs.FinMap as finite
+use Rattle.std.specs.List.{AllByRecursion}
+use Rattle.map_types.specs.declared.commands.Command.{Command}
+use Rattle.map_model.specs.Maps.{Map}
+use Rattle.map_model.specs.Steps.{fold_of}
+use Rattle.ticket_order.specs.declared.record.Call.{Call}
+use Rattle.ticket_order.specs.Legality.{IsLegalCall}
+use Rattle.disk_model.specs.Files.{Files}
+use Rattle.disk_model.specs.declared.fill.Fill.TheVariants.{New}
+use Rattle.store_layout.specs.Opening.{Opened, StandsFor}
+use Rattle.schedules.specs.declared.event.Event.{Event}
+use Rattle.schedules.specs.declared.outcome.DeviceCall.{DeviceCall}
+use Rattle.schedules.specs.declared.outcome.Outcome.{Outcome}
+use Rattle.schedules.specs.declared.outcome.Outcome.TheVariants as outcome
+use Rattle.schedules.specs.Machine.{Machine, Move, Calls, Releases, Stops, Opens, AreAllowed, MayStop, machine, machine_after, whole}
+use Rattle.schedules.specs.World.{World, seen_of, start}
+use Rattle.schedules.specs.Fitting.{fits}
+use Rattle.schedules.specs.After.{entered, failed}
+use Rattle.schedules.specs.Cases.{IsPossible, Meets}
+use Rattle.schedules.specs.Runs.{Row, Happens, IsMove, IsRun, LeadsTo, OpensWell, rows_of}
+use Rattle.schedules.specs.Sound.{IsSoundInside, IsSoundOutside}
+
+-- ---- the machine
+
+-- However many lives came after it, each reply that was released is one thread's at its position in the history.
+abbrev pub ReleasedStayLegal : Type 0
+ReleasedStayLegal = (moves : List Move) → AreAllowed moves → AllByRecursion (IsLegalCall (whole (machine_after moves).history)) (machine_after moves).released
+
+-- ---- runs
+
+-- what the outcomes are is a list of moves, each of which the machine allows after those before it
+abbrev pub OutcomesAreMoves : Type 0
+OutcomesAreMoves = (rows : List Row) (w : World) (a : Machine) → LeadsTo rows w a → (moves : List Move) × AreAllowed moves × (machine_after moves ≡ a)
+
+-- each reply that a run released is one thread's at its position
+abbrev pub RunsAnswerAsOneThread : Type 0
+RunsAnswerAsOneThread = (events : List Event) (outcomes : List Outcome) (run : IsRun events outcomes) → AllByRecursion (IsLegalCall (whole run.machine.history)) run.machine.released
+
+-- an event is skipped exactly where it doesn't fit
+abbrev pub SkippedWhereUnfit : Type 0
+SkippedWhereUnfit = (w : World) (found : Opened) (e : Event) → (Meets w found e outcome.Skipped ↔ (fits w e ≡ false)) × ((x : Outcome) → fits w e ≡ false → Meets w found e x → x ≡ outcome.Skipped)
+
+-- with one event more, and its outcome, there is one row more
+abbrev pub RowsGoOn : Type 0
+RowsGoOn = (events : List Event) (outcomes : List Outcome) (e : Event) (x : Outcome) → length outcomes ≡ length events → rows_of (events ++ e ∷ []) (outcomes ++ x ∷ []) ≡ (e, x) ∷ rows_of events outcomes
+
+-- ---- the disk
+
+-- A schedule begins with files that stand for no command and the empty map.
+abbrev pub BeginsEmpty : Type 0
+BeginsEmpty = StandsFor (seen_of start.files) 0 finite.empty
+
+-- A call within which a stop falls leaves what it leaves where it fails and a write is read as made.
+abbrev pub EnteredAsFailed : Type 0
+EnteredAsFailed = (call : DeviceCall) (files : Files) → IsPossible files call → entered call files ≡ failed New call files
+
+-- ---- what the loop of a run keeps
+
+-- at the beginning
+abbrev pub SoundAtStart : Type 0
+SoundAtStart = IsSoundOutside [] start 0 []
+
+-- an event of a life that is no move
+abbrev pub QuietInside : Type 0
+QuietInside = (rows : List Row) (w : World) (durable : ℕ) (released : List Call) (row : Row) (w' : World) (durable' : ℕ) → IsSoundInside rows w durable released
+    → Happens w row w' → IsMove w row.0 row.1 None → w'.history ≡ w.history → durable ≤ durable' → IsSoundInside (row ∷ rows) w' durable' released
+
+-- a TICKET
+abbrev pub DrawsInside : Type 0
+DrawsInside = (rows : List Row) (w : World) (durable : ℕ) (released : List Call) (row : Row) (w' : World) (c : Command) → IsSoundInside rows w durable released
+    → Happens w row w' → IsMove w row.0 row.1 (Some (Calls c)) → w'.history ≡ w.history ++ c ∷ [] → IsSoundInside (row ∷ rows) w' durable released
+
+-- a reply that is released
+abbrev pub ReleasesInside : Type 0
+ReleasesInside = (rows : List Row) (w : World) (durable : ℕ) (released : List Call) (row : Row) (w' : World) (call : Call) → IsSoundInside rows w durable released
+    → Happens w row w' → IsMove w row.0 row.1 (Some (Releases call)) → w'.history ≡ w.history → IsLegalCall (whole w.history) call → call.position ≤ durable
+    → IsSoundInside (row ∷ rows) w' durable (call ∷ released)
+
+-- a stop, or a life that is left
+abbrev pub EndsInside : Type 0
+EndsInside = (rows : List Row) (w : World) (durable : ℕ) (released : List Call) (row : Row) (w' : World) (least : ℕ) → IsSoundInside rows w durable released
+    → Happens w row w' → ((p : ℕ) → IsMove w row.0 row.1 (Some (Stops p))) → w'.history ≡ w.history → durable ≤ least → least ≤ length w.history
+    → IsSoundOutside (row ∷ rows) w' least released
+
+-- a stop between lives
+abbrev pub StopsOutside : Type 0
+StopsOutside = (rows : List Row) (w : World) (least : ℕ) (released : List Call) (row : Row) (w' : World) → IsSoundOutside rows w least released
+    → Happens w row w' → ((p : ℕ) → IsMove w row.0 row.1 (Some (Stops p))) → w'.history ≡ w.history → IsSoundOutside (row ∷ rows) w' least released
+
+-- an event between lives that is no move
+abbrev pub QuietOutside : Type 0
+QuietOutside = (rows : List Row) (w : World) (least : ℕ) (released : List Call) (row : Row) (w' : World) → IsSoundOutside rows w least released
+    → Happens w row w' → IsMove w row.0 row.1 None → w'.history ≡ w.history → IsSoundOutside (row ∷ rows) w' least released
+
+-- an opening that finds the map after the first p commands, and loses none at whose position a reply was released
+abbrev pub OpensOutside : Type 0
+OpensOutside = (rows : List Row) (w : World) (least : ℕ) (released : List Call) (row : Row) (w' : World) (p : ℕ) (m : Map) → IsSoundOutside rows w least released
+    → Happens w row w' → IsMove w row.0 row.1 (Some (Opens p m)) → w'.history ≡ take p w.history
+    → least ≤ p → p ≤ length w.history → m ≡ fold_of (take p w.history) → IsSoundInside (row ∷ rows) w' p released
+
+-- What is kept to the end makes a run, whether the last life is over or not.
+abbrev pub SoundIsRun : Type 0
+SoundIsRun = (events : List Event) (outcomes : List Outcome) (w : World) (durable : ℕ) (released : List Call) → length outcomes ≡ length events
+    → IsSoundInside (rows_of events outcomes) w durable released → AllByRecursion OpensWell (rows_of events outcomes) → IsRun events outcomes
+
+abbrev pub SoundBetweenIsRun : Type 0
+SoundBetweenIsRun = (events : List Event) (outcomes : List Outcome) (w : World) (least : ℕ) (released : List Call) → length outcomes ≡ length events
+    → IsSoundOutside (rows_of events outcomes) w least released → AllByRecursion OpensWell (rows_of events outcomes) → IsRun events outcomes

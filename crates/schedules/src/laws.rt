@@ -1,0 +1,48 @@
+//! Laws of whole schedules, each as the contract of a function.
+ghost use Rattle.schedules.specs.Laws.{BeginsEmpty, DrawsInside, EndsInside, EnteredAsFailed, OpensOutside, OutcomesAreMoves, QuietInside, QuietOutside, ReleasedStayLegal, ReleasesInside, RowsGoOn, RunsAnswerAsOneThread, SkippedWhereUnfit, SoundAtStart, SoundBetweenIsRun, SoundIsRun, StopsOutside};
+
+use store_layout::laws::laws_of_new_stores;
+
+/// In any run of the machine of one list each reply that was released is that of one thread at its
+/// position, however many lives came after it.
+pub fn laws_of_the_machine()
+    ensures released { ReleasedStayLegal }
+{}
+
+/// The outcomes of a run are moves of the machine; and an event is skipped exactly where it doesn't fit.
+pub fn laws_of_runs()
+    ensures moves { OutcomesAreMoves }
+    ensures answers { RunsAnswerAsOneThread }
+    ensures skipped { SkippedWhereUnfit }
+    ensures rows { RowsGoOn }
+{}
+
+/// What a schedule begins with, and what a call leaves within which a stop falls.
+pub fn laws_of_files()
+    ensures begins { BeginsEmpty }
+    ensures entered { EnteredAsFailed }
+{
+    laws_of_new_stores();
+}
+
+/// What the loop of a run keeps in a life, event by event.
+pub fn steps_of_a_life()
+    ensures quiet { QuietInside }
+    ensures draws { DrawsInside }
+    ensures releases { ReleasesInside }
+    ensures ends { EndsInside }
+{}
+
+/// What it keeps at the beginning and between lives, up to the opening of the next.
+pub fn steps_between_lives()
+    ensures start { SoundAtStart }
+    ensures stops { StopsOutside }
+    ensures quiet { QuietOutside }
+    ensures opens { OpensOutside }
+{}
+
+/// What was kept to the end makes a run.
+pub fn ends_of_runs()
+    ensures inside { SoundIsRun }
+    ensures outside { SoundBetweenIsRun }
+{}
