@@ -1,3 +1,4 @@
 pub mod CaseLaws
+pub mod FileLaws
 pub mod MachineLaws
 pub mod RunLaws
