@@ -17,7 +17,7 @@ use Rattle.schedules.specs.Laws.{BeginsEmpty, EnteredAsFailed}
 
 -- ---- the beginning
 
-first_sealed : FirstIsWhole → IsCheckpoint first_layout (first_checkpoint 16) (seen_of start.files 0)
+pub first_sealed : FirstIsWhole → IsCheckpoint first_layout (first_checkpoint 16) (seen_of start.files 0)
 unfolding start formatted
 first_sealed whole = record {
   rest = [];
@@ -25,7 +25,7 @@ first_sealed whole = record {
   whole = (whole 16 refl).0;
 }
 
-first_closed : IsClosed first_layout 0 0 [] (seen_of start.files 2)
+pub first_closed : IsClosed first_layout 0 0 [] (seen_of start.files 2)
 unfolding start formatted
 first_closed = record {
   gate = 0;
@@ -41,7 +41,7 @@ begins_empty whole stands = stands (seen_of start.files) 16 (first_sealed whole)
 
 -- ---- a call within which a stop falls
 
-all_bytes : (bytes : List ℕ) → bytes_by (length bytes) (λ i. byte_at i bytes) ≡ bytes
+pub all_bytes : (bytes : List ℕ) → bytes_by (length bytes) (λ i. byte_at i bytes) ≡ bytes
 all_bytes bytes =
     ext_get_or 0 (bytes_by (length bytes) (λ i. byte_at i bytes)) bytes (length-map-range_with_len (λ i. byte_at i bytes) 0 (length bytes))
     (λ i l. get_or-map-range_with_len (λ j. byte_at j bytes) 0 (length bytes) i i 0 (omega (arith, l, length-map-range_with_len (λ j. byte_at j bytes) 0 (length bytes))) (omega arith))

@@ -6,3 +6,4 @@ pub mod Cases
 pub mod Runs
 pub mod Sound
 pub mod Laws
+pub mod Examples

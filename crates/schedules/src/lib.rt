@@ -3,6 +3,7 @@
 #![tactic(auto)]
 
 pub mod event;
+pub mod examples;
 pub mod laws;
 pub mod outcome;
 
