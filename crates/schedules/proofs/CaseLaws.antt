@@ -1,5 +1,5 @@
 -- An event is skipped exactly where it doesn't fit.
-use Rattle.std.proofs.Common.{◌≡◌, ℕ, Bool, true, false, Option, Some, None, MatchBool, refl, sym, subst}
+use Rattle.std.proofs.Common.{◌≡◌, Bool, true, false, Option, Some, None, MatchBool, refl, sym, subst}
 use Rattle.store_layout.specs.Opening.{Opened}
 use Rattle.schedules.specs.declared.event.Ending.{Ending}
 use Rattle.schedules.specs.declared.event.Ending.TheVariants as ending
@@ -11,7 +11,7 @@ use Rattle.schedules.specs.declared.outcome.Outcome.{Outcome}
 use Rattle.schedules.specs.declared.outcome.Outcome.TheVariants as outcome
 use Rattle.schedules.specs.World.{World, Life}
 use Rattle.schedules.specs.Fitting.{fits}
-use Rattle.schedules.specs.Cases.{HappensInside, HappensOutside, HappensWith, MakesCall, Meets, StopsMachine}
+use Rattle.schedules.specs.Cases.{HappensInside, HappensOutside, HappensWith, MakesCall, StopsMachine}
 use Rattle.schedules.specs.Laws.{SkippedWhereUnfit}
 
 IsOther : Outcome → Type 0
@@ -82,7 +82,9 @@ only_skipped b A B is h = subst (λ x. MatchBool x A B) is h
 
 pub skipped_where_unfit : SkippedWhereUnfit
 skipped_where_unfit w found e = (
-  ( unfit (fits w e) (HappensWith w w.life found e outcome.Skipped) (never w w.life found e),
-    λ is. subst (λ x. MatchBool x (HappensWith w w.life found e outcome.Skipped) (outcome.Skipped ≡ outcome.Skipped)) (sym is) refl ),
-  λ x is h. only_skipped (fits w e) (HappensWith w w.life found e x) (x ≡ outcome.Skipped) is h
+  (
+    unfit (fits w e) (HappensWith w w.life found e outcome.Skipped) (never w w.life found e),
+    λ is. subst (λ x. MatchBool x (HappensWith w w.life found e outcome.Skipped) (outcome.Skipped ≡ outcome.Skipped)) (sym is) refl,
+  ),
+  λ x is h. only_skipped (fits w e) (HappensWith w w.life found e x) (x ≡ outcome.Skipped) is h,
 )

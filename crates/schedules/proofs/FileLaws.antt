@@ -1,16 +1,15 @@
 -- What a schedule begins with, and what a call leaves within which a stop falls.
-use Rattle.std.proofs.Common.{◌≡◌, ◌≢◌, ◌≤◌, ◌<◌, ◌+◌, ℕ, List, [], ◌∷◌, ◌++◌, length, take, drop, max, map, refl, sym, ap, ◌∙◌, arith}
+use Rattle.std.proofs.Common.{◌≡◌, ◌≤◌, ◌+◌, ℕ, List, [], ◌∷◌, length, take, max, refl, sym, ap, ◌∙◌, arith}
 use Rattle.std.proofs.lemmas.List.{append-nil, ext_get_or, length-append, length-drop, length-take, take_all}
 use Rattle.std.proofs.lemmas.List.FromFn.{get_or-map-range_with_len, length-map-range_with_len}
 use Rattle.disk_model.specs.declared.fill.Fill.TheVariants.{New}
-use Rattle.disk_model.specs.Files.{File, Files, byte_at, overwritten, reached, with_file, written}
+use Rattle.disk_model.specs.Files.{File, byte_at, overwritten, reached, with_file, written}
 use Rattle.disk_model.specs.Fills.{bytes_by, torn}
 use Rattle.log_records.specs.Layout.{first_layout}
 use Rattle.store_layout.specs.Checkpoints.{IsCheckpoint, checkpoint_bytes}
-use Rattle.store_layout.specs.Logs.{IsClosed, header}
+use Rattle.store_layout.specs.Logs.{IsClosed}
 use Rattle.store_layout.specs.Opening.{first_checkpoint}
 use Rattle.store_layout.specs.OpeningLaws.{FirstIsWhole, FirstStands}
-use Rattle.schedules.specs.declared.outcome.DeviceCall.{DeviceCall}
 use Rattle.schedules.specs.declared.outcome.DeviceCall.TheVariants.{Write, Sync}
 use Rattle.schedules.specs.World.{formatted, seen_of, start}
 use Rattle.schedules.specs.Laws.{BeginsEmpty, EnteredAsFailed}

@@ -1,5 +1,5 @@
 -- A new store is opened.
-use Rattle.std.proofs.Common.{◌≡◌, ℕ, inl, None, Some, List, [], ◌∷◌, length, map, refl, sym, ap, ◌∙◌, arith}
+use Rattle.std.proofs.Common.{◌≡◌, ℕ, inl, Some, List, [], ◌∷◌, length, map, refl, sym, ap, ◌∙◌, arith}
 use Rattle.std.specs.FinMap as finite
 use Rattle.std.specs.Ordering.{nat_cmp}
 use Rattle.std.specs.Cmp.Lexicographic.{slice_cmp}
@@ -8,10 +8,10 @@ use Rattle.map_model.specs.Maps.{Map}
 use Rattle.store_layout.specs.Opening.{Holds, StandsFor, map_of}
 use Rattle.store_layout.specs.OpeningLaws.{FirstIsWhole, FirstStands, OneStanding}
 use Rattle.schedules.specs.declared.outcome.MapEntry.{MapEntry}
-use Rattle.schedules.specs.World.{World, begun_by, formatted, seen_of, start}
+use Rattle.schedules.specs.World.{begun_by, formatted, seen_of, start}
 use Rattle.schedules.specs.After.{after, synced_below}
-use Rattle.schedules.specs.Cases.{Finds, entry_of}
-use Rattle.schedules.specs.Examples.{NewStoreOpens, new_store, opened}
+use Rattle.schedules.specs.Cases.{entry_of}
+use Rattle.schedules.specs.Examples.{NewStoreOpens, new_store}
 use Rattle.schedules.proofs.FileLaws.{begins_empty, first_closed, first_sealed}
 
 abbrev nothing : Map
@@ -36,10 +36,13 @@ new_map whole stands one =
 pub new_store_opens : FirstIsWhole → FirstStands → OneStanding → NewStoreOpens
 unfolding start after
 new_store_opens whole stands one stripes entries count none = (
-  (refl, record {
-    holds = new_holds whole;
-    prefix_is = refl;
-    entries_are = ap (λ (es : List MapEntry). map entry_of es) none ∙ sym (ap (λ (m : Map). finite.entries m) (new_map whole stands one) ∙ no_entries);
-  }),
-  ap (λ (n : ℕ). record { files = synced_below 4 start.files; history = []; life = Some (begun_by n new_store) }) count
+  (
+    refl,
+    record {
+      holds = new_holds whole;
+      prefix_is = refl;
+      entries_are = ap (λ (es : List MapEntry). map entry_of es) none ∙ sym (ap (λ (m : Map). finite.entries m) (new_map whole stands one) ∙ no_entries);
+    },
+  ),
+  ap (λ (n : ℕ). record { files = synced_below 4 start.files; history = []; life = Some (begun_by n new_store) }) count,
 )

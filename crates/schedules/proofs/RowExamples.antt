@@ -73,7 +73,6 @@ life_in (Some l) = l
 swept : World
 swept = after_rows new_store (after_rows new_store opened put_rows) sweep_rows
 
-
 pub put_meets : AllMeet new_store opened put_rows
 unfolding after begun_by stripe_of hash_of weighted_sum units_of chars
 put_meets = (refl, ((refl, refl), (refl, (refl, ((refl, omega arith), ((refl, refl), tt))))))

@@ -3,17 +3,14 @@ use Rattle.std.proofs.Common.{◌≡◌, ◌≤◌, ℕ, List, [], ◌∷◌, �
 use Rattle.std.specs.List.{AllByRecursion}
 use Rattle.std.proofs.lemmas.List.{length-take-le, take-take, take_all}
 use Rattle.map_types.specs.declared.commands.Command.{Command}
-use Rattle.map_model.specs.Maps.{Map}
-use Rattle.map_model.specs.Steps.{fold_of}
 use Rattle.ticket_order.specs.declared.record.Call.{Call}
 use Rattle.ticket_order.specs.Legality.{IsLegalCall}
 use Rattle.schedules.specs.declared.event.Event.{Event}
 use Rattle.schedules.specs.declared.outcome.Outcome.{Outcome}
-use Rattle.schedules.specs.Laws.{DrawsInside, EndsInside, OpensOutside, OutcomesAreMoves, QuietInside, QuietOutside, ReleasedStayLegal, ReleasesInside, RowsGoOn, RunsAnswerAsOneThread, SoundAtStart, SoundBetweenIsRun, SoundIsRun, StopsOutside}
+use Rattle.schedules.specs.Laws.{DrawsInside, EndsInside, OpensOutside, OutcomesAreMoves, QuietInside, QuietOutside, ReleasesInside, RowsGoOn, RunsAnswerAsOneThread, SoundAtStart, SoundBetweenIsRun, SoundIsRun, StopsOutside}
 use Rattle.schedules.specs.Machine.{Machine, Move, Calls, Releases, Stops, Opens, AreAllowed, AreReleasedTo, IsAllowed, MayStop, begun, machine, machine_after, moved, whole}
 use Rattle.schedules.specs.World.{World, start}
-use Rattle.schedules.specs.Runs.{Row, Happens, IsMove, IsRun, LeadsTo, MayMove, Moves, OpensWell, moved_by, rows_of, rows_onto}
-use Rattle.schedules.specs.Sound.{IsSoundInside, IsSoundOutside}
+use Rattle.schedules.specs.Runs.{Row, Happens, IsMove, LeadsTo, MayMove, moved_by, rows_of, rows_onto}
 use Rattle.schedules.proofs.MachineLaws.{released_stay_legal}
 
 -- ---- one row more

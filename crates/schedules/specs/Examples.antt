@@ -12,7 +12,7 @@ use Rattle.log_records.specs.Layout.{first_layout}
 use Rattle.disk_model.specs.declared.fill.Fill.{Fill}
 use Rattle.disk_model.specs.declared.fill.Fill.TheVariants.{Old, New, Byte}
 use Rattle.store_layout.specs.Examples.{a, number}
-use Rattle.store_layout.specs.Logs.{Batch, frame}
+use Rattle.store_layout.specs.Logs.{frame}
 use Rattle.store_layout.specs.Opening.{Opened, StandsFor, first_checkpoint}
 use Rattle.gate_log.specs.declared.phase.Phase.TheVariants as log_phase
 use Rattle.checkpoint_file.specs.declared.phase.CheckpointPhase.{CheckpointPhase}
@@ -26,7 +26,7 @@ use Rattle.schedules.specs.declared.outcome.End.TheVariants as ends
 use Rattle.schedules.specs.declared.outcome.Made.TheVariants as made
 use Rattle.schedules.specs.declared.outcome.MapEntry.{MapEntry}
 use Rattle.schedules.specs.declared.outcome.Outcome.TheVariants as outcome
-use Rattle.schedules.specs.World.{World, Life, Running, Committing, Resting, Rotating, begun_by, seen_of, start}
+use Rattle.schedules.specs.World.{World, Life, Running, Committing, Rotating, begun_by, seen_of, start}
 use Rattle.schedules.specs.After.{after, log_called, running_called, synced_below}
 use Rattle.schedules.specs.Cases.{Meets, phase_of_checkpoint, phase_of_log}
 use Rattle.schedules.specs.Runs.{Row}

@@ -14,7 +14,7 @@ use Rattle.schedules.specs.declared.event.Event.{Event}
 use Rattle.schedules.specs.declared.outcome.DeviceCall.{DeviceCall}
 use Rattle.schedules.specs.declared.outcome.Outcome.{Outcome}
 use Rattle.schedules.specs.declared.outcome.Outcome.TheVariants as outcome
-use Rattle.schedules.specs.Machine.{Machine, Move, Calls, Releases, Stops, Opens, AreAllowed, MayStop, machine, machine_after, whole}
+use Rattle.schedules.specs.Machine.{Machine, Move, Calls, Releases, Stops, Opens, AreAllowed, machine_after, whole}
 use Rattle.schedules.specs.World.{World, seen_of, start}
 use Rattle.schedules.specs.Fitting.{fits}
 use Rattle.schedules.specs.After.{entered, failed}

@@ -27,31 +27,51 @@ pub enum Event {
         fails_at: Option<u64>,
     },
     /// A worker begins the walk of a change; its steps follow.
-    Change { worker: usize, command: Command },
+    Change {
+        worker: usize,
+        command: Command,
+    },
     /// A worker begins the walk of a read; its steps follow.
-    Read { worker: usize, read: Read },
+    Read {
+        worker: usize,
+        read: Read,
+    },
     /// The worker's walk makes its next step.
-    Step { worker: usize },
+    Step {
+        worker: usize,
+    },
     /// The worker begins to release the reply that it holds; the steps follow.
-    Release { worker: usize },
+    Release {
+        worker: usize,
+    },
     /// The keeper begins a sweep, or goes on with one that found a stripe held.
     Sweep,
     /// The keeper's sweep or capture makes its next step.
     KeeperStep,
     /// The keeper stages a batch of at most so many changes.
-    Stage { most: u32 },
+    Stage {
+        most: u32,
+    },
     /// One of the keeper's writers makes its next device call.
-    Device { side: Side, ending: Ending },
+    Device {
+        side: Side,
+        ending: Ending,
+    },
     Publish,
     Fail,
     /// A checkpoint is begun.
     Begin,
     /// The capture of a stripe begins.
-    Capture { stripe: usize },
+    Capture {
+        stripe: usize,
+    },
     /// The checkpoint is to be sealed.
     Seal,
     /// The machine stops, between device calls or within the next one of a writer.
-    Stop { within: Option<Side>, fill: Fill },
+    Stop {
+        within: Option<Side>,
+        fill: Fill,
+    },
     /// The life is left, with the files as they are.
     Leave,
 }

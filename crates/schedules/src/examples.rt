@@ -22,6 +22,7 @@ pub fn one_commit()
     ensures within_shut { StoppedShut }
 {
     laws_of_new_stores();
+    laws_of_opening();
 }
 
 /// The phases of a commit, a rotation and a checkpoint.

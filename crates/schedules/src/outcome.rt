@@ -52,7 +52,9 @@ pub enum DeviceCall {
         at: usize,
         bytes: Vec<u8>,
     },
-    Sync { file: usize },
+    Sync {
+        file: usize,
+    },
 }
 
 /// An entry of the map.
@@ -70,21 +72,32 @@ pub enum Outcome {
     Refused(Refusal),
     /// The files stand for the map after so many changes; its entries, their keys in rising order of
     /// their bytes.
-    Opened { prefix: u64, entries: Vec<MapEntry> },
+    Opened {
+        prefix: u64,
+        entries: Vec<MapEntry>,
+    },
     /// A walk or a release was begun.
     Started,
-    Stepped { made: Made, end: End },
+    Stepped {
+        made: Made,
+        end: End,
+    },
     /// So many changes were staged.
     Staged(u32),
     /// The log's device call was made, with the phase after it.
-    Logged { call: DeviceCall, phase: Phase },
+    Logged {
+        call: DeviceCall,
+        phase: Phase,
+    },
     /// The checkpoint's device call was made, with the phase after it.
     Checkpointed {
         call: DeviceCall,
         phase: CheckpointPhase,
     },
     /// This device call was made, and failed.
-    CallFailed { call: DeviceCall },
+    CallFailed {
+        call: DeviceCall,
+    },
     /// This count was published.
     Published(u64),
     /// A FAIL was made.
@@ -94,6 +107,8 @@ pub enum Outcome {
     /// The seal was begun.
     Sealing,
     /// The machine stopped, within this device call where one is named.
-    Stopped { within: Option<DeviceCall> },
+    Stopped {
+        within: Option<DeviceCall>,
+    },
     Left,
 }
