@@ -1,6 +1,7 @@
 pub mod CaseLaws
 pub mod CommitExamples
 pub mod FileLaws
+pub mod LifeGoing
 pub mod MachineLaws
 pub mod OpeningExamples
 pub mod RowExamples

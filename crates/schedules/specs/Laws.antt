@@ -9,18 +9,18 @@ use Rattle.ticket_order.specs.declared.record.Call.{Call}
 use Rattle.ticket_order.specs.Legality.{IsLegalCall}
 use Rattle.disk_model.specs.Files.{Files}
 use Rattle.disk_model.specs.declared.fill.Fill.TheVariants.{New}
-use Rattle.store_layout.specs.Opening.{Opened, StandsFor}
+use Rattle.store_layout.specs.Opening.{Holds, Opened, StandsFor, StandsForFront}
 use Rattle.schedules.specs.declared.event.Event.{Event}
 use Rattle.schedules.specs.declared.outcome.DeviceCall.{DeviceCall}
 use Rattle.schedules.specs.declared.outcome.Outcome.{Outcome}
 use Rattle.schedules.specs.declared.outcome.Outcome.TheVariants as outcome
 use Rattle.schedules.specs.Machine.{Machine, Move, Calls, Releases, Stops, Opens, AreAllowed, machine_after, whole}
-use Rattle.schedules.specs.World.{World, seen_of, start}
+use Rattle.schedules.specs.World.{World, Life, seen_of, start}
 use Rattle.schedules.specs.Fitting.{fits}
 use Rattle.schedules.specs.After.{entered, failed}
 use Rattle.schedules.specs.Cases.{IsPossible, Meets}
 use Rattle.schedules.specs.Runs.{Row, Happens, IsMove, IsRun, LeadsTo, OpensWell, rows_of}
-use Rattle.schedules.specs.Sound.{IsSoundInside, IsSoundOutside}
+use Rattle.schedules.specs.Sound.{AnswersLegally, IsFront, IsSound, IsSoundInside, IsSoundOutside, OpensFront, released_by}
 
 -- ---- the machine
 
@@ -99,6 +99,28 @@ abbrev pub OpensOutside : Type 0
 OpensOutside = (rows : List Row) (w : World) (least : ℕ) (released : List Call) (row : Row) (w' : World) (p : ℕ) (m : Map) → IsSoundOutside rows w least released
     → Happens w row w' → IsMove w row.0 row.1 (Some (Opens p m)) → w'.history ≡ take p w.history
     → least ≤ p → p ≤ length w.history → m ≡ fold_of (take p w.history) → IsSoundInside (row ∷ rows) w' p released
+
+-- ---- each event, by its case
+
+-- In a life each event keeps it, where the reply that it may release is legal; and where the life ends, for any count from the durable one on.
+abbrev pub LifeGoesOn : Type 0
+LifeGoesOn = (rows : List Row) (w : World) (l : Life) (released : List Call) (least : ℕ) (e : Event) (x : Outcome) (w' : World) → w.life ≡ Some l → IsSoundInside rows w l.durable released
+    → Happens w (e, x) w' → AnswersLegally w e x → l.durable ≤ least → least ≤ length w.history → IsSound ((e, x) ∷ rows) w' least (released_by w e x released)
+
+-- Between lives each event keeps it, where an opening finds a front of the history.
+abbrev pub NextLifeBegins : Type 0
+NextLifeBegins = (rows : List Row) (w : World) (released : List Call) (least : ℕ) (e : Event) (x : Outcome) (w' : World) → w.life ≡ None → IsSoundOutside rows w least released
+    → (happens : Happens w (e, x) w') → OpensFront w least happens.found x → IsSound ((e, x) ∷ rows) w' least released
+
+-- what files that stand for a front of the history are found to be
+abbrev pub FrontIsFound : Type 0
+FrontIsFound = (w : World) (least most : ℕ) (found : Opened) → Holds (seen_of w.files) found → StandsForFront (whole w.history) least most (seen_of w.files) → IsFront w least found
+
+-- opening files that stand for something is refused only for want of memory, or by the device call that its event names
+abbrev pub StandingFilesOpen : Type 0
+StandingFilesOpen = (w : World) (p : ℕ) (m : Map) (e : Event) (x : Outcome) (w' : World) → StandsFor (seen_of w.files) p m → Happens w (e, x) w' → OpensWell (e, x)
+
+-- ---- the end
 
 -- What is kept to the end makes a run, whether the last life is over or not.
 abbrev pub SoundIsRun : Type 0

@@ -1,9 +1,16 @@
 -- What the loop of a run keeps.
-use Rattle.std.specs.Prelude.{ℕ, ◌≤◌, List, length, take}
+use Rattle.std.specs.Prelude.{◌≡◌, ℕ, ◌≤◌, List, ◌∷◌, length, take, Option, Some, None}
+use Rattle.map_types.specs.declared.commands.Command.{Command}
+use Rattle.map_model.specs.Steps.{fold_of}
 use Rattle.ticket_order.specs.declared.record.Call.{Call}
-use Rattle.schedules.specs.Machine.{MayStop, AreReleasedTo, machine}
-use Rattle.schedules.specs.World.{World}
-use Rattle.schedules.specs.Runs.{Row, LeadsTo}
+use Rattle.ticket_order.specs.Legality.{IsLegalCall}
+use Rattle.store_layout.specs.Opening.{Opened, map_of, prefix_of}
+use Rattle.schedules.specs.declared.event.Event.{Event}
+use Rattle.schedules.specs.declared.outcome.Outcome.{Outcome}
+use Rattle.schedules.specs.declared.outcome.Outcome.TheVariants as outcome
+use Rattle.schedules.specs.Machine.{MayStop, Move, Releases, AreReleasedTo, machine, whole}
+use Rattle.schedules.specs.World.{World, Life}
+use Rattle.schedules.specs.Runs.{Row, LeadsTo, move_of_step}
 
 -- In a life the machine has the whole history, and no reply was released above the durable count.
 pub record IsSoundInside (rows : List Row) (w : World) (durable : ℕ) (released : List Call) : Type 0 where
@@ -15,3 +22,42 @@ pub record IsSoundOutside (rows : List Row) (w : World) (least : ℕ) (released 
   pub leads : (p : ℕ) → MayStop p (machine w.history released) → LeadsTo rows w (machine (take p w.history) released)
   pub within : AreReleasedTo least released
   pub reached : least ≤ length w.history
+
+abbrev pub IsSoundWith : Option Life → List Row → World → ℕ → List Call → Type 0
+IsSoundWith None rows w least released = IsSoundOutside rows w least released
+IsSoundWith (Some l) rows w least released = IsSoundInside rows w l.durable released
+
+-- in a life or between lives
+abbrev pub IsSound : List Row → World → ℕ → List Call → Type 0
+IsSound rows w least released = IsSoundWith w.life rows w least released
+
+-- ---- what an event owes beside its case
+
+abbrev pub released_with : Option Move → List Call → List Call
+released_with (Some (Releases call)) released = call ∷ released
+released_with move released = released
+
+-- the calls whose replies were released, with that of this event
+abbrev pub released_by : World → Event → Outcome → List Call → List Call
+released_by w e (outcome.Stepped m end) released = released_with (move_of_step w e m end) released
+released_by w e x released = released
+
+abbrev pub ReleasesLegal : List Command → Option Move → Type 0
+ReleasesLegal history (Some (Releases call)) = IsLegalCall (whole history) call
+ReleasesLegal history move = Unit {0}
+
+-- a reply that is released is one thread's at its position
+abbrev pub AnswersLegally : World → Event → Outcome → Type 0
+AnswersLegally w e (outcome.Stepped m end) = ReleasesLegal w.history (move_of_step w e m end)
+AnswersLegally w e x = Unit {0}
+
+-- what is found is the map after a front of the history, of at least so many commands
+pub record IsFront (w : World) (least : ℕ) (found : Opened) : Type 0 where
+  pub from_least : least ≤ prefix_of found
+  pub within : prefix_of found ≤ length w.history
+  pub map : map_of found ≡ fold_of (take (prefix_of found) w.history)
+
+-- an opening that succeeds finds a front
+abbrev pub OpensFront : World → ℕ → Opened → Outcome → Type 0
+OpensFront w least found (outcome.Opened prefix entries) = IsFront w least found
+OpensFront w least found x = Unit {0}

@@ -1,5 +1,5 @@
 //! Laws of whole schedules, each as the contract of a function.
-ghost use Rattle.schedules.specs.Laws.{BeginsEmpty, DrawsInside, EndsInside, EnteredAsFailed, OpensOutside, OutcomesAreMoves, QuietInside, QuietOutside, ReleasedStayLegal, ReleasesInside, RowsGoOn, RunsAnswerAsOneThread, SkippedWhereUnfit, SoundAtStart, SoundBetweenIsRun, SoundIsRun, StopsOutside};
+ghost use Rattle.schedules.specs.Laws.{BeginsEmpty, DrawsInside, EndsInside, EnteredAsFailed, LifeGoesOn, OpensOutside, OutcomesAreMoves, QuietInside, QuietOutside, ReleasedStayLegal, ReleasesInside, RowsGoOn, RunsAnswerAsOneThread, SkippedWhereUnfit, SoundAtStart, SoundBetweenIsRun, SoundIsRun, StopsOutside};
 
 use store_layout::laws::laws_of_new_stores;
 
@@ -31,6 +31,7 @@ pub fn steps_of_a_life()
     ensures draws { DrawsInside }
     ensures releases { ReleasesInside }
     ensures ends { EndsInside }
+    ensures goes_on { LifeGoesOn }
 {}
 
 /// What it keeps at the beginning and between lives, up to the opening of the next.
