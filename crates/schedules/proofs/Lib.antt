@@ -3,6 +3,7 @@ pub mod CommitExamples
 pub mod FileLaws
 pub mod LifeGoing
 pub mod MachineLaws
+pub mod NextLife
 pub mod OpeningExamples
 pub mod RowExamples
 pub mod RunLaws

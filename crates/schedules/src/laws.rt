@@ -1,7 +1,7 @@
 //! Laws of whole schedules, each as the contract of a function.
-ghost use Rattle.schedules.specs.Laws.{BeginsEmpty, DrawsInside, EndsInside, EnteredAsFailed, LifeGoesOn, OpensOutside, OutcomesAreMoves, QuietInside, QuietOutside, ReleasedStayLegal, ReleasesInside, RowsGoOn, RunsAnswerAsOneThread, SkippedWhereUnfit, SoundAtStart, SoundBetweenIsRun, SoundIsRun, StopsOutside};
+ghost use Rattle.schedules.specs.Laws.{BeginsEmpty, DrawsInside, EndsInside, EnteredAsFailed, FrontIsFound, LifeGoesOn, NextLifeBegins, OpensOutside, OutcomesAreMoves, QuietInside, QuietOutside, ReleasedStayLegal, ReleasesInside, RowsGoOn, RunsAnswerAsOneThread, SkippedWhereUnfit, SoundAtStart, SoundBetweenIsRun, SoundIsRun, StandingFilesOpen, StopsOutside};
 
-use store_layout::laws::laws_of_new_stores;
+use store_layout::laws::{laws_of_new_stores, laws_of_opening};
 
 /// In any run of the machine of one list each reply that was released is that of one thread at its
 /// position, however many lives came after it.
@@ -34,13 +34,18 @@ pub fn steps_of_a_life()
     ensures goes_on { LifeGoesOn }
 {}
 
-/// What it keeps at the beginning and between lives, up to the opening of the next.
+/// What it keeps at the beginning and between lives, up to the opening of the next; and what that finds.
 pub fn steps_between_lives()
     ensures start { SoundAtStart }
     ensures stops { StopsOutside }
     ensures quiet { QuietOutside }
     ensures opens { OpensOutside }
-{}
+    ensures goes_on { NextLifeBegins }
+    ensures front { FrontIsFound }
+    ensures well { StandingFilesOpen }
+{
+    laws_of_opening();
+}
 
 /// What was kept to the end makes a run.
 pub fn ends_of_runs()

@@ -1,0 +1,140 @@
+-- Between lives each event keeps what the loop of a run keeps; and what an opening finds.
+use Rattle.std.proofs.Common.{◌≡◌, ◌≢◌, ◌⊎◌, inl, inr, ◌≤◌, ◌-◌, ℕ, Bool, true, false, List, [], ◌∷◌, length, take, Option, None, Some, MatchBool, refl, sym, ap, ◌∙◌, subst, arith}
+use Rattle.std.specs.FinMap as finite
+use Rattle.map_types.specs.declared.commands.Command.{Command}
+use Rattle.map_types.specs.declared.refusals.Refusal.{Refusal}
+use Rattle.map_types.specs.declared.refusals.Refusal.TheVariants as refusal
+use Rattle.map_model.specs.Maps.{Map}
+use Rattle.map_model.specs.Histories.{fold_to}
+use Rattle.map_model.specs.Steps.{fold_of, map_after}
+use Rattle.java_hash.specs.declared.stripe_count.StripeCount.{StripeCount}
+use Rattle.ticket_order.specs.declared.record.Call.{Call}
+use Rattle.disk_model.specs.Files.{Files}
+use Rattle.disk_model.specs.declared.fill.Fill.{Fill}
+use Rattle.store_layout.specs.Opening.{Holds, Opened, Refuses, StandsFor, map_of, prefix_of}
+use Rattle.store_layout.specs.OpeningLaws.{NeverBoth, OneStanding}
+use Rattle.schedules.specs.declared.event.Event.{Event}
+use Rattle.schedules.specs.declared.event.Event.TheVariants as event
+use Rattle.schedules.specs.declared.event.Side.{Side}
+use Rattle.schedules.specs.declared.outcome.Outcome.{Outcome}
+use Rattle.schedules.specs.declared.outcome.Outcome.TheVariants as outcome
+use Rattle.schedules.specs.Laws.{FrontIsFound, NextLifeBegins, StandingFilesOpen}
+use Rattle.schedules.specs.Machine.{Opens, Stops, whole}
+use Rattle.schedules.specs.World.{World, Life, begun_by, seen_of}
+use Rattle.schedules.specs.Fitting.{fits, fits_with}
+use Rattle.schedules.specs.After.{after}
+use Rattle.schedules.specs.Cases.{Finds, HappensOutside, HappensWith, Meets, OpensFiles, StopsMachine, entry_of, names_call}
+use Rattle.schedules.specs.Runs.{Row, Happens, IsMove, OpensWell}
+use Rattle.schedules.specs.Sound.{IsFront, IsSound, IsSoundInside, IsSoundOutside, OpensFront}
+use Rattle.schedules.proofs.RunLaws.{opens_outside, quiet_outside, stops_outside}
+
+-- ---- between lives
+
+abbrev lifeless : Files → List Command → World
+lifeless files history = record { files = files; history = history; life = None }
+
+abbrev Goes : List Row → Files → List Command → List Call → ℕ → Opened → Event → Outcome → Type 0
+Goes rows files history released least found e x = IsSound ((e, x) ∷ rows) (after (lifeless files history) found e x) least released
+
+module _ (rows : List Row) (files : Files) (history : List Command) (released : List Call) (least : ℕ) (found : Opened) (sound : IsSoundOutside rows (lifeless files history) least released) where
+  quiet : (e : Event) (x : Outcome) (w' : World) → Meets (lifeless files history) found e x → w' ≡ after (lifeless files history) found e x → IsMove (lifeless files history) e x None
+      → w'.history ≡ history → IsSoundOutside ((e, x) ∷ rows) w' least released
+  quiet e x w' meets is none same = quiet_outside rows (lifeless files history) least released (e, x) w' sound (record { found = found; meets = meets; world = is }) none same
+
+  skipped_goes : (e : Event) → Meets (lifeless files history) found e outcome.Skipped → Goes rows files history released least found e outcome.Skipped
+  unfolding after
+  skipped_goes e meets = quiet e outcome.Skipped _ meets refl refl refl
+
+  by_outcome : (e : Event) (x y : Outcome) → x ≡ y → (Meets (lifeless files history) found e y → Goes rows files history released least found e y) → Meets (lifeless files history) found e x
+      → Goes rows files history released least found e x
+  by_outcome e x y is goes = subst (λ (z : Outcome). Meets (lifeless files history) found e z → Goes rows files history released least found e z) (sym is) goes
+
+  -- an opening that finds a front
+  found_goes : (stripes : StripeCount) (fails_at : Option ℕ) (prefix : ℕ) (w' : World) (x : Outcome) → Meets (lifeless files history) found (event.Open stripes fails_at) x
+      → w' ≡ after (lifeless files history) found (event.Open stripes fails_at) x → ((m : Map) → m ≡ map_of found → IsMove (lifeless files history) (event.Open stripes fails_at) x (Some (Opens prefix m)))
+      → w'.history ≡ take prefix history → prefix ≡ prefix_of found → IsFront (lifeless files history) least found
+      → IsSoundInside ((event.Open stripes fails_at, x) ∷ rows) w' (prefix_of found) released
+  found_goes stripes fails_at prefix w' x meets is move same prefix_is front =
+      subst (λ (p : ℕ). IsSoundInside ((event.Open stripes fails_at, x) ∷ rows) w' p released) prefix_is
+      (opens_outside rows (lifeless files history) least released (event.Open stripes fails_at, x) w' prefix (map_of found) sound (record { found = found; meets = meets; world = is }) (move (map_of found) refl) same
+      (omega (arith, front.from_least, prefix_is)) (omega (arith, front.within, prefix_is)) (front.map ∙ ap (λ (p : ℕ). fold_of (take p history)) (sym prefix_is)))
+
+  open_goes : (stripes : StripeCount) (fails_at : Option ℕ) (x : Outcome) → Meets (lifeless files history) found (event.Open stripes fails_at) x → OpensFiles (lifeless files history) found fails_at x
+      → OpensFront (lifeless files history) least found x → Goes rows files history released least found (event.Open stripes fails_at) x
+  unfolding after begun_by
+  open_goes stripes fails_at (outcome.Opened prefix entries) meets case front =
+      found_goes stripes fails_at prefix _ (outcome.Opened prefix entries) meets refl (λ m is. (m, case.1.entries_are ∙ ap (λ (n : Map). finite.entries n) (sym is), refl)) refl case.1.prefix_is front
+  open_goes stripes fails_at (outcome.Refused reason) meets case front = quiet (event.Open stripes fails_at) (outcome.Refused reason) _ meets refl refl refl
+  open_goes stripes fails_at x meets case front = absurd case
+
+  stop_goes : (within : Option Side) (fill : Fill) (x : Outcome) → Meets (lifeless files history) found (event.Stop within fill) x → StopsMachine (lifeless files history) within x
+      → Goes rows files history released least found (event.Stop within fill) x
+  unfolding after
+  stop_goes None fill (outcome.Stopped None) meets case =
+      stops_outside rows (lifeless files history) least released (event.Stop None fill, outcome.Stopped None) _ sound (record { found = found; meets = meets; world = refl }) (λ p. (p, refl)) refl
+  stop_goes (Some s) fill (outcome.Stopped (Some made)) meets case =
+      stops_outside rows (lifeless files history) least released (event.Stop (Some s) fill, outcome.Stopped (Some made)) _ sound (record { found = found; meets = meets; world = refl }) (λ p. (p, refl)) refl
+  stop_goes None fill x meets case = absurd case
+  stop_goes (Some s) fill x meets case = absurd case
+
+  fitting_goes : (e : Event) (x : Outcome) → Meets (lifeless files history) found e x → HappensOutside (lifeless files history) found e x → OpensFront (lifeless files history) least found x
+      → Goes rows files history released least found e x
+  fitting_goes (event.Open stripes fails_at) x meets case front = open_goes stripes fails_at x meets case front
+  fitting_goes (event.Stop within fill) x meets case front = stop_goes within fill x meets case
+  fitting_goes e x meets case front = absurd case
+
+  event_goes : (b : Bool) (e : Event) (x : Outcome) → fits (lifeless files history) e ≡ b → Meets (lifeless files history) found e x → OpensFront (lifeless files history) least found x
+      → Goes rows files history released least found e x
+  event_goes true e x is meets front =
+      fitting_goes e x meets (subst (λ (b : Bool). MatchBool b (HappensOutside (lifeless files history) found e x) (x ≡ outcome.Skipped)) is meets) front
+  event_goes false e x is meets front =
+      by_outcome e x outcome.Skipped (subst (λ (b : Bool). MatchBool b (HappensOutside (lifeless files history) found e x) (x ≡ outcome.Skipped)) is meets) (skipped_goes e) meets
+
+pub next_life_begins : NextLifeBegins
+next_life_begins rows w released least e x w' none sound happens front =
+    subst (λ (y : Option Life). IsSoundOutside rows (record { files = w.files; history = w.history; life = y }) least released
+        → (h : Happens (record { files = w.files; history = w.history; life = y }) (e, x) w') → OpensFront (record { files = w.files; history = w.history; life = y }) least h.found x → IsSound ((e, x) ∷ rows) w' least released)
+    (sym none)
+    (λ sound happens front.
+      subst (λ (v : World). IsSound ((e, x) ∷ rows) v least released) (sym happens.world)
+      (event_goes rows w.files w.history released least happens.found sound (fits (lifeless w.files w.history) e) e x refl happens.meets front))
+    sound happens front
+
+-- ---- what an opening finds
+
+pub front_is_found : OneStanding → FrontIsFound
+front_is_found one w least most found holds front =
+    let standing : StandsFor (seen_of w.files) (prefix_of found) (map_of found) = record { found = found; holds = holds; prefix = refl; map = refl } in
+    let same = one (seen_of w.files) (prefix_of found) front.count (map_of found) (fold_to (whole w.history) front.count) standing front.stands in
+    record {
+      from_least = omega (arith, same.0, front.from_least);
+      within = omega (arith, same.0, front.within);
+      map = same.1 ∙ ap (λ (p : ℕ). map_after finite.empty (take p w.history)) (let all : front.count - 0 ≡ prefix_of found = omega (arith, same.0) in all);
+    }
+
+IsOther : Outcome → Type 0
+IsOther outcome.Skipped = ⊥
+IsOther x = Unit {0}
+
+module _ (never_both : NeverBoth) (w : World) (p : ℕ) (m : Map) (stands : StandsFor (seen_of w.files) p m) where
+  wanting : (fails_at : Option ℕ) (reason : Refusal) → (reason ≡ refusal.NoMemory) ⊎ Refuses (seen_of w.files) reason → (reason ≡ refusal.NoMemory) ⊎ ((reason ≡ refusal.Failed) × (names_call fails_at ≡ true))
+  wanting fails_at reason (inl is) = inl is
+  wanting fails_at reason (inr refuses) = absurd (never_both (seen_of w.files) p m reason stands refuses)
+
+  refused_well : (found : Opened) (fails_at : Option ℕ) (reason : Refusal) → OpensFiles w found fails_at (outcome.Refused reason) → (reason ≡ refusal.NoMemory) ⊎ ((reason ≡ refusal.Failed) × (names_call fails_at ≡ true))
+  refused_well found fails_at refusal.Failed case = inr (refl, case)
+  refused_well found fails_at reason case = wanting fails_at reason case.1
+
+  refused_by : (life : Option Life) (found : Opened) (stripes : StripeCount) (fails_at : Option ℕ) (reason : Refusal)
+      → MatchBool (fits_with life (event.Open stripes fails_at)) (HappensWith w life found (event.Open stripes fails_at) (outcome.Refused reason)) (outcome.Refused reason ≡ outcome.Skipped)
+      → (reason ≡ refusal.NoMemory) ⊎ ((reason ≡ refusal.Failed) × (names_call fails_at ≡ true))
+  unfolding IsOther
+  refused_by None found stripes fails_at reason meets = refused_well found fails_at reason meets
+  refused_by (Some l) found stripes fails_at reason meets = absurd (subst IsOther meets tt)
+
+  opens_well : (found : Opened) (e : Event) (x : Outcome) → Meets w found e x → OpensWell (e, x)
+  opens_well found (event.Open stripes fails_at) (outcome.Refused reason) meets = refused_by w.life found stripes fails_at reason meets
+  opens_well found e x meets = tt
+
+pub standing_files_open : NeverBoth → StandingFilesOpen
+standing_files_open never_both w p m e x w' stands happens = opens_well never_both w p m stands happens.found e x happens.meets
