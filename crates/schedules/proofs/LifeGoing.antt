@@ -1,5 +1,6 @@
 -- In a life each event keeps what the loop of a run keeps.
-use Rattle.std.proofs.Common.{◌≡◌, ◌≤◌, ◌+◌, ℕ, Bool, true, false, List, [], ◌∷◌, ◌++◌, length, max, Option, None, Some, MatchBool, ◌==◌, nat_lt, if◌then◌else◌, refl, sym, ap, subst, arith}
+use Rattle.std.proofs.Common.{◌≡◌, ◌≤◌, ◌+◌, ℕ, Bool, true, false, List, [], ◌∷◌, ◌++◌, length, max, Option, None, Some, MatchBool, ◌==◌, nat_lt}
+use Rattle.std.proofs.Common.{if◌then◌else◌, refl, sym, ap, subst, arith}
 use Rattle.map_types.specs.declared.commands.Command.{Command}
 use Rattle.map_types.specs.declared.commands.Read.{Read}
 use Rattle.map_types.specs.declared.commands.Reply.{Reply}
@@ -24,10 +25,15 @@ use Rattle.schedules.specs.declared.outcome.Outcome.{Outcome}
 use Rattle.schedules.specs.declared.outcome.Outcome.TheVariants as outcome
 use Rattle.schedules.specs.Laws.{LifeGoesOn}
 use Rattle.schedules.specs.Machine.{Move, Calls, Releases, Stops}
-use Rattle.schedules.specs.World.{World, Life, Job, Idle, Walks, Keeps, Releasing, Stage, Begins, Asking, FirstSees, HasMissed, FoundFailure, Sweep, KeeperWalk, Rests, SweepTakes, SweepGives, CaptureLooks, CaptureGives, LogWork, Resting, Committing, Rotating, Running, job_of, sweep_or}
+use Rattle.schedules.specs.World.{World, Life, Job, Idle, Walks, Keeps, Releasing, Stage, Begins, Asking, FirstSees, HasMissed, FoundFailure, Sweep}
+use Rattle.schedules.specs.World.{KeeperWalk, Rests, SweepTakes, SweepGives, CaptureLooks, CaptureGives, LogWork, Resting, Committing, Rotating}
+use Rattle.schedules.specs.World.{Running, job_of, sweep_or}
 use Rattle.schedules.specs.Fitting.{fits}
-use Rattle.schedules.specs.After.{after, called, capture_gives, capture_takes, checkpoint_begun, checkpoint_called, failed_or, job_releasing, keeper_stepped, log_called, running_called, seal_begun, staged_by, sweep_begins, sweep_gives, sweep_takes, with_job, worker_stepped}
-use Rattle.schedules.specs.Cases.{BeginsCapture, BeginsCheckpoint, BeginsSeal, HappensInside, HappensWith, IsStep, MakesCall, Meets, Publishes, StagesRun, StepsJob, StepsRelease, StopsMachine}
+use Rattle.schedules.specs.After.{after, called, capture_gives, capture_takes, checkpoint_begun, checkpoint_called, failed_or, job_releasing}
+use Rattle.schedules.specs.After.{keeper_stepped, log_called, running_called, seal_begun, staged_by, sweep_begins, sweep_gives, sweep_takes, with_job}
+use Rattle.schedules.specs.After.{worker_stepped}
+use Rattle.schedules.specs.Cases.{BeginsCapture, BeginsCheckpoint, BeginsSeal, HappensInside, HappensWith, IsStep, MakesCall, Meets, Publishes}
+use Rattle.schedules.specs.Cases.{StagesRun, StepsJob, StepsRelease, StopsMachine}
 use Rattle.schedules.specs.Runs.{Row, Happens, IsMove, move_of}
 use Rattle.schedules.specs.Sound.{AnswersLegally, IsSound, IsSoundInside, IsSoundOutside, ReleasesLegal, released_by, released_with}
 use Rattle.schedules.proofs.RunLaws.{draws_inside, ends_inside, quiet_inside, releases_inside}

@@ -12,7 +12,8 @@ use Rattle.schedules.specs.World.{World, Life, Place, WithWorker, InOutbox, InHa
 use Rattle.schedules.specs.After.{after}
 use Rattle.schedules.specs.Cases.{IsLongestRun, IsPastFull}
 use Rattle.schedules.specs.Runs.{Row}
-use Rattle.schedules.specs.Examples.{AllMeet, BatchIsCommitted, ChangeIsStaged, CheckpointGoesOn, NotYetInHand, OtherIsRefused, RotationGoesOn, after_rows, new_store, opened, put_rows, stage_rows, sweep_rows, unswept_rows}
+use Rattle.schedules.specs.Examples.{AllMeet, BatchIsCommitted, ChangeIsStaged, CheckpointGoesOn, NotYetInHand, OtherIsRefused, RotationGoesOn}
+use Rattle.schedules.specs.Examples.{after_rows, new_store, opened, put_rows, stage_rows, sweep_rows, unswept_rows}
 
 -- ---- phases
 
@@ -83,7 +84,24 @@ other_is_refused = (refl, ((refl, refl), (refl, ((refl, refl, refl), tt))))
 
 pub sweep_meets : AllMeet new_store (after_rows new_store opened put_rows) sweep_rows
 unfolding after begun_by stripe_of hash_of weighted_sum units_of chars
-sweep_meets = (refl, ((refl, refl), ((refl, omega arith), ((refl, refl), ((refl, omega arith), ((refl, refl), ((refl, omega arith), ((refl, refl), ((refl, omega arith), ((refl, refl), ((refl, omega arith), ((refl, refl), ((refl, omega arith), ((refl, refl), ((refl, omega arith), ((refl, refl), ((refl, omega arith), ((refl, refl), ((refl, omega arith), ((refl, refl), ((refl, omega arith), ((refl, refl), ((refl, omega arith), ((refl, refl), ((refl, omega arith), ((refl, refl), ((refl, omega arith), ((refl, refl), ((refl, omega arith), ((refl, refl), ((refl, omega arith), ((refl, refl), ((refl, refl, refl), tt)))))))))))))))))))))))))))))))))
+sweep_meets =
+    (refl,
+    ((refl, refl), ((refl, omega arith),
+    ((refl, refl), ((refl, omega arith),
+    ((refl, refl), ((refl, omega arith),
+    ((refl, refl), ((refl, omega arith),
+    ((refl, refl), ((refl, omega arith),
+    ((refl, refl), ((refl, omega arith),
+    ((refl, refl), ((refl, omega arith),
+    ((refl, refl), ((refl, omega arith),
+    ((refl, refl), ((refl, omega arith),
+    ((refl, refl), ((refl, omega arith),
+    ((refl, refl), ((refl, omega arith),
+    ((refl, refl), ((refl, omega arith),
+    ((refl, refl), ((refl, omega arith),
+    ((refl, refl), ((refl, omega arith),
+    ((refl, refl), ((refl, omega arith),
+    ((refl, refl), ((refl, refl, refl), tt)))))))))))))))))))))))))))))))))
 
 pub not_yet_in_hand : NotYetInHand
 unfolding after begun_by stripe_of hash_of weighted_sum units_of chars frame header

@@ -7,8 +7,10 @@ use Rattle.ticket_order.specs.declared.record.Call.{Call}
 use Rattle.ticket_order.specs.Legality.{IsLegalCall}
 use Rattle.schedules.specs.declared.event.Event.{Event}
 use Rattle.schedules.specs.declared.outcome.Outcome.{Outcome}
-use Rattle.schedules.specs.Laws.{DrawsInside, EndsInside, OpensOutside, OutcomesAreMoves, QuietInside, QuietOutside, ReleasesInside, RowsGoOn, RunsAnswerAsOneThread, SoundAtStart, SoundBetweenIsRun, SoundIsRun, StopsOutside}
-use Rattle.schedules.specs.Machine.{Machine, Move, Calls, Releases, Stops, Opens, AreAllowed, AreReleasedTo, IsAllowed, MayStop, begun, machine, machine_after, moved, whole}
+use Rattle.schedules.specs.Laws.{DrawsInside, EndsInside, OpensOutside, OutcomesAreMoves, QuietInside, QuietOutside, ReleasesInside, RowsGoOn}
+use Rattle.schedules.specs.Laws.{RunsAnswerAsOneThread, SoundAtStart, SoundBetweenIsRun, SoundIsRun, StopsOutside}
+use Rattle.schedules.specs.Machine.{Machine, Move, Calls, Releases, Stops, Opens, AreAllowed, AreReleasedTo, IsAllowed, MayStop, begun, machine}
+use Rattle.schedules.specs.Machine.{machine_after, moved, whole}
 use Rattle.schedules.specs.World.{World, start}
 use Rattle.schedules.specs.Runs.{Row, Happens, IsMove, LeadsTo, MayMove, moved_by, rows_of, rows_onto}
 use Rattle.schedules.proofs.MachineLaws.{released_stay_legal}

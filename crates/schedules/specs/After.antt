@@ -23,7 +23,10 @@ use Rattle.schedules.specs.declared.outcome.Made.{Made}
 use Rattle.schedules.specs.declared.outcome.Made.TheVariants as made
 use Rattle.schedules.specs.declared.outcome.Outcome.{Outcome}
 use Rattle.schedules.specs.declared.outcome.Outcome.TheVariants as outcome
-use Rattle.schedules.specs.World.{World, Life, Job, Idle, Walks, Keeps, Releasing, Stage, Begins, HasTaken, IsAlive, IsDead, HasLooked, HasDrawn, Asking, FirstSees, HasMissed, FoundFailure, Place, WithWorker, InOutbox, InHand, Sweep, KeeperWalk, Rests, SweepTakes, SweepGives, CaptureLooks, CaptureGives, LogWork, Resting, Committing, Rotating, Running, begun_by, gate_after, job_of, needs_rotation, sweep_or}
+use Rattle.schedules.specs.World.{World, Life, Job, Idle, Walks, Keeps, Releasing, Stage, Begins, HasTaken, IsAlive, IsDead, HasLooked, HasDrawn}
+use Rattle.schedules.specs.World.{Asking, FirstSees, HasMissed, FoundFailure, Place, WithWorker, InOutbox, InHand, Sweep, KeeperWalk, Rests}
+use Rattle.schedules.specs.World.{SweepTakes, SweepGives, CaptureLooks, CaptureGives, LogWork, Resting, Committing, Rotating, Running, begun_by}
+use Rattle.schedules.specs.World.{gate_after, job_of, needs_rotation, sweep_or}
 
 -- ---- the device calls that an outcome names
 
@@ -131,7 +134,8 @@ job_releasing job = job
 
 -- the entries in the outbox of this stripe come into hand
 abbrev pub swept_places : ℕ → ℕ → List Command → List Place → List Place
-swept_places stripes stripe (c ∷ cs) (InOutbox ∷ places) = (if is_in_stripe stripes stripe c.key then InHand else InOutbox) ∷ swept_places stripes stripe cs places
+swept_places stripes stripe (c ∷ cs) (InOutbox ∷ places) =
+    (if is_in_stripe stripes stripe c.key then InHand else InOutbox) ∷ swept_places stripes stripe cs places
 swept_places stripes stripe (c ∷ cs) (place ∷ places) = place ∷ swept_places stripes stripe cs places
 swept_places stripes stripe cs places = places
 
@@ -144,7 +148,8 @@ sweep_takes l end = record l { walk = Rests }
 
 -- where the GIVE ends with a refusal the entries stay in the outbox, and the sweep stays at its stripe
 abbrev pub sweep_gives : World → Life → Sweep → End → Life
-sweep_gives w l sweep ends.Goes = record l { places = places_swept w l sweep.stripe; sweep = Some (record { count = sweep.count; stripe = sweep.stripe + 1 }); walk = SweepTakes }
+sweep_gives w l sweep ends.Goes =
+    record l { places = places_swept w l sweep.stripe; sweep = Some (record sweep { stripe = sweep.stripe + 1 }); walk = SweepTakes }
 sweep_gives w l sweep (ends.Swept n) = record l { places = places_swept w l sweep.stripe; sweep = None; walk = Rests }
 sweep_gives w l sweep end = record l { walk = Rests }
 
@@ -193,7 +198,13 @@ clears_of content = if is_to_close content then 3 else 2
 -- a checkpoint of the generation that follows the sealed one, and where its log is still to be begun six device calls for that
 abbrev pub checkpoint_begun : World → Life → Life
 checkpoint_begun w l = record l {
-  checkpoint = Some (record { generation = l.sealed + 1; clears = clears_of (w.files (checkpoint_file (l.sealed + 1))).seen; sections = []; is_waiting = false; seals = 0 });
+  checkpoint = Some (record {
+    generation = l.sealed + 1;
+    clears = clears_of (w.files (checkpoint_file (l.sealed + 1))).seen;
+    sections = [];
+    is_waiting = false;
+    seals = 0;
+  });
   log = (if needs_rotation l then Rotating 6 else l.log);
 }
 
@@ -279,7 +290,8 @@ stopped_or fill x w = w
 
 -- An opening that succeeds leaves the commands that it found; one that is refused leaves no life.
 abbrev pub opened_or : ℕ → Option ℕ → Opened → Outcome → World → World
-opened_or stripes fails_at found (outcome.Opened prefix entries) w = record { files = synced_below 4 w.files; history = take prefix w.history; life = Some (begun_by stripes found) }
+opened_or stripes fails_at found (outcome.Opened prefix entries) w =
+    record { files = synced_below 4 w.files; history = take prefix w.history; life = Some (begun_by stripes found) }
 opened_or stripes fails_at found (outcome.Refused refusal) w = without_life w (synced_below (syncs_made fails_at) w.files)
 opened_or stripes fails_at found x w = w
 

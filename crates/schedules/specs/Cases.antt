@@ -1,5 +1,6 @@
 -- What may come of each event, by what came before it. The clauses of one definition exclude each other.
-use Rattle.std.specs.Prelude.{◌≡◌, ◌⊎◌, ℕ, ◌+◌, ◌-◌, ◌^◌, ◌<◌, ◌≤◌, List, length, map, Option, Some, None, Bool, true, false, ◌&&◌, ◌||◌, ◌==◌, not, nat_lt, nat_le, if◌then◌else◌, is_some, MatchBool}
+use Rattle.std.specs.Prelude.{◌≡◌, ◌⊎◌, ℕ, ◌+◌, ◌-◌, ◌^◌, ◌<◌, ◌≤◌, List, length, map, Option, Some, None, Bool, true, false, ◌&&◌, ◌||◌, ◌==◌, not}
+use Rattle.std.specs.Prelude.{nat_lt, nat_le, if◌then◌else◌, is_some, MatchBool}
 use Rattle.std.specs.FinMap as finite
 use Rattle.map_types.specs.declared.refusals.Refusal.TheVariants as refusal
 use Rattle.map_types.specs.declared.texts.Value.{Value}
@@ -30,7 +31,10 @@ use Rattle.schedules.specs.declared.outcome.Made.TheVariants as made
 use Rattle.schedules.specs.declared.outcome.MapEntry.{MapEntry}
 use Rattle.schedules.specs.declared.outcome.Outcome.{Outcome}
 use Rattle.schedules.specs.declared.outcome.Outcome.TheVariants as outcome
-use Rattle.schedules.specs.World.{World, Life, Job, Idle, Walks, Keeps, Releasing, Stage, Begins, HasTaken, IsAlive, IsDead, HasLooked, HasDrawn, Asking, FirstSees, HasMissed, FoundFailure, InHand, Sweep, KeeperWalk, Rests, SweepTakes, SweepGives, CaptureLooks, CaptureGives, LogWork, Resting, Committing, Rotating, Running, count, gate_after, is_held, is_resting, job_of, needs_rotation, next_commands, next_section, place_of, seen_of, stripe_asked, sweep_or}
+use Rattle.schedules.specs.World.{World, Life, Job, Idle, Walks, Keeps, Releasing, Stage, Begins, HasTaken, IsAlive, IsDead, HasLooked, HasDrawn}
+use Rattle.schedules.specs.World.{Asking, FirstSees, HasMissed, FoundFailure, InHand, Sweep, KeeperWalk, Rests, SweepTakes, SweepGives, CaptureLooks}
+use Rattle.schedules.specs.World.{CaptureGives, LogWork, Resting, Committing, Rotating, Running, count, gate_after, is_held, is_resting, job_of}
+use Rattle.schedules.specs.World.{needs_rotation, next_commands, next_section, place_of, seen_of, stripe_asked, sweep_or}
 use Rattle.schedules.specs.Fitting.{fits}
 use Rattle.schedules.specs.After.{bytes_of, call_of, called, checkpoint_called, file_of, log_called, section_at}
 
@@ -57,7 +61,8 @@ abbrev pub LooksAround : World → Made → End → Type 0
 LooksAround w (made.Looked n) ends.Goes = n ≡ count w
 LooksAround w m end = ⊥
 
--- TICKET gives the ticket count. After a LOOK of 2^62 or more the stripe is given back instead, with refusal 10; and where memory is wanting, with refusal 7.
+-- TICKET gives the ticket count. After a LOOK of 2^62 or more the stripe is given back instead, with refusal 10; and where memory is wanting, with
+-- refusal 7.
 abbrev pub DrawsTicket : World → ℕ → ℕ → Made → End → Type 0
 DrawsTicket w stripe n (made.Drew ticket) ends.Goes = (ticket ≡ count w) × (n < ticket_limit)
 DrawsTicket w stripe n (made.Gave i) (ends.Refused refusal.TicketsSpent) = (i ≡ stripe) × (ticket_limit ≤ n)
@@ -129,7 +134,8 @@ TakesForSweep l stripe (made.Took i) ends.Goes = (i ≡ stripe) × (is_held l st
 TakesForSweep l stripe (made.FoundHeld i) (ends.SweepHeld j) = (i ≡ stripe) × (j ≡ stripe) × (is_held l stripe ≡ true)
 TakesForSweep l stripe m end = ⊥
 
--- The stripes come in rising order. With the GIVE of the last the sweep is over, and answers what its LOOK found; or memory is wanting, with refusal 7.
+-- The stripes come in rising order. With the GIVE of the last the sweep is over, and answers what its LOOK found; or memory is wanting, with refusal
+-- 7.
 abbrev pub GivesSwept : Life → Sweep → Made → End → Type 0
 GivesSwept l sweep (made.Gave i) ends.Goes = (i ≡ sweep.stripe) × (sweep.stripe + 1 < l.stripes)
 GivesSwept l sweep (made.Gave i) (ends.Swept n) = (i ≡ sweep.stripe) × (sweep.stripe + 1 ≡ l.stripes) × (n ≡ sweep.count)
@@ -179,12 +185,14 @@ pub record IsLongestRun (w : World) (l : Life) (most n : ℕ) : Type 0 where
 abbrev pub IsPastFull : World → Life → ℕ → Type 0
 IsPastFull w l n = (1 ≤ n) × (2 ^ 40 < gate_after w l n + 1)
 
--- Stage answers the length of the longest run. After a device failure of this life it answers 9; else 16 exactly where the log isn't idle; and 14 where the batch wouldn't fit into the log.
+-- Stage answers the length of the longest run. After a device failure of this life it answers 9; else 16 exactly where the log isn't idle; and 14
+-- where the batch wouldn't fit into the log.
 abbrev pub StagesRun : World → Life → ℕ → Outcome → Type 0
 StagesRun w l most (outcome.Staged n) = (l.is_broken ≡ false) × (is_resting l.log ≡ true) × IsLongestRun w l most n × (IsPastFull w l n → ⊥)
 StagesRun w l most (outcome.Refused refusal.Failed) = l.is_broken ≡ true
 StagesRun w l most (outcome.Refused refusal.WrongPhase) = (l.is_broken ≡ false) × (is_resting l.log ≡ false)
-StagesRun w l most (outcome.Refused refusal.LogFull) = (l.is_broken ≡ false) × (is_resting l.log ≡ true) × ((n : ℕ) × IsLongestRun w l most n × IsPastFull w l n)
+StagesRun w l most (outcome.Refused refusal.LogFull) =
+    (l.is_broken ≡ false) × (is_resting l.log ≡ true) × ((n : ℕ) × IsLongestRun w l most n × IsPastFull w l n)
 StagesRun w l most (outcome.Refused refusal.NoMemory) = (l.is_broken ≡ false) × (is_resting l.log ≡ true)
 StagesRun w l most x = ⊥
 
@@ -198,11 +206,18 @@ pub record IsPossible (files : Files) (call : DeviceCall) : Type 0 where
 
 -- a frame's four calls: it is written, synced, its gate is opened, that is synced
 abbrev pub frame_phase : ℕ → Phase
-frame_phase left = if left == 4 then log_phase.Staged else if left == 3 then log_phase.Written else if left == 2 then log_phase.Synced else log_phase.Opened
+frame_phase left =
+    if left == 4 then log_phase.Staged
+    else if left == 3 then log_phase.Written
+    else if left == 2 then log_phase.Synced
+    else log_phase.Opened
 
 -- the six of a rotation are those of the next log's header, written and synced, and those of the end frame
 abbrev pub rotation_phase : ℕ → Phase
-rotation_phase left = if left == 6 then log_phase.Header else if left == 5 then log_phase.HeaderWritten else frame_phase left
+rotation_phase left =
+    if left == 6 then log_phase.Header
+    else if left == 5 then log_phase.HeaderWritten
+    else frame_phase left
 
 abbrev pub phase_of_log : LogWork → Phase
 phase_of_log Resting = log_phase.Idle
@@ -211,11 +226,18 @@ phase_of_log (Rotating left) = rotation_phase left
 
 -- before the sections the gate is closed, that is synced, and zeros are written where the header will stand
 abbrev pub clearing_phase : ℕ → CheckpointPhase
-clearing_phase left = if left == 3 then checkpoint_phase.Gate else if left == 2 then checkpoint_phase.GateWritten else checkpoint_phase.GateSynced
+clearing_phase left =
+    if left == 3 then checkpoint_phase.Gate
+    else if left == 2 then checkpoint_phase.GateWritten
+    else checkpoint_phase.GateSynced
 
 -- a seal's four calls: the header is written, synced, the gate is opened, that is synced
 abbrev pub sealing_phase : ℕ → CheckpointPhase
-sealing_phase left = if left == 4 then checkpoint_phase.Header else if left == 3 then checkpoint_phase.HeaderWritten else if left == 2 then checkpoint_phase.HeaderSynced else checkpoint_phase.Opened
+sealing_phase left =
+    if left == 4 then checkpoint_phase.Header
+    else if left == 3 then checkpoint_phase.HeaderWritten
+    else if left == 2 then checkpoint_phase.HeaderSynced
+    else checkpoint_phase.Opened
 
 abbrev pub phase_of_running : Running → CheckpointPhase
 phase_of_running running =
@@ -242,9 +264,11 @@ UsesRunning files l (Some running) = is_last_call running ≡ true →
 -- The outcome names the call, and where it succeeds the phase after it. After a device failure of this life it is refusal 9, and no call is made.
 abbrev pub MakesCall : World → Life → Side → Ending → Outcome → Type 0
 MakesCall w l s e (outcome.Refused refusal.Failed) = l.is_broken ≡ true
-MakesCall w l side.Log ending.Done (outcome.Logged call phase) = (l.is_broken ≡ false) × IsPossible w.files call × (phase ≡ phase_of_log (log_called w l l.log).log)
+MakesCall w l side.Log ending.Done (outcome.Logged call phase) =
+    (l.is_broken ≡ false) × IsPossible w.files call × (phase ≡ phase_of_log (log_called w l l.log).log)
 MakesCall w l side.Checkpoint ending.Done (outcome.Checkpointed call phase) =
-    (l.is_broken ≡ false) × IsPossible w.files call × (phase ≡ phase_of_checkpoint (checkpoint_called l l.checkpoint).checkpoint) × UsesRunning (called call w.files) l l.checkpoint
+    (l.is_broken ≡ false) × IsPossible w.files call × (phase ≡ phase_of_checkpoint (checkpoint_called l l.checkpoint).checkpoint)
+    × UsesRunning (called call w.files) l l.checkpoint
 MakesCall w l s (ending.Fails fill) (outcome.CallFailed call) = (l.is_broken ≡ false) × IsPossible w.files call
 MakesCall w l s e x = ⊥
 
@@ -283,7 +307,8 @@ abbrev pub mark_of : Option Running → ℕ
 mark_of None = 0
 mark_of (Some running) = greatest_mark running.sections
 
--- Seal is refused with 9 after a device failure of this life, else with 16 exactly where it may not be, else with 17 exactly where the durable count is below the greatest mark.
+-- Seal is refused with 9 after a device failure of this life, else with 16 exactly where it may not be, else with 17 exactly where the durable count
+-- is below the greatest mark.
 abbrev pub BeginsSeal : Life → Outcome → Type 0
 BeginsSeal l outcome.Sealing = (l.is_broken ≡ false) × (may_seal l l.checkpoint ≡ true) × (mark_of l.checkpoint ≤ l.durable)
 BeginsSeal l (outcome.Refused refusal.Failed) = l.is_broken ≡ true
@@ -319,7 +344,8 @@ pub record Finds (w : World) (found : Opened) (prefix : ℕ) (entries : List Map
   pub prefix_is : prefix ≡ prefix_of found
   pub entries_are : map entry_of entries ≡ finite.entries (map_of found)
 
--- An opening is refused with 9 where the device call that its event names exists: so one of the four syncs always, and one after them perhaps. Else it finds what the files hold, which its syncs leave as they read; or it is refused as they are, or for want of memory.
+-- An opening is refused with 9 where the device call that its event names exists: so one of the four syncs always, and one after them perhaps. Else
+-- it finds what the files hold, which its syncs leave as they read; or it is refused as they are, or for want of memory.
 abbrev pub OpensFiles : World → Opened → Option ℕ → Outcome → Type 0
 OpensFiles w found fails_at (outcome.Opened prefix entries) = (names_sync fails_at ≡ false) × Finds w found prefix entries.items
 OpensFiles w found fails_at (outcome.Refused refusal.Failed) = names_call fails_at ≡ true
@@ -366,6 +392,7 @@ abbrev pub HappensWith : World → Option Life → Opened → Event → Outcome 
 HappensWith w None found e x = HappensOutside w found e x
 HappensWith w (Some l) found e x = HappensInside w l e x
 
--- The outcome meets the case of its event; it is Skipped exactly where the event doesn't fit, since no case allows that. What an opening found is `found`.
+-- The outcome meets the case of its event; it is Skipped exactly where the event doesn't fit, since no case allows that. What an opening found is
+-- `found`.
 abbrev pub Meets : World → Opened → Event → Outcome → Type 0
 Meets w found e x = MatchBool (fits w e) (HappensWith w w.life found e x) (x ≡ outcome.Skipped)

@@ -53,7 +53,8 @@ opened = record { files = synced_below 4 start.files; history = []; life = Some 
 
 abbrev pub NewStoreOpens : Type 0
 NewStoreOpens = (stripes : StripeCount) (entries : Vec MapEntry) → stripes.count ≡ 16 → entries.items ≡ [] →
-    Meets start new_store (event.Open stripes None) (outcome.Opened 0 entries) × (after start new_store (event.Open stripes None) (outcome.Opened 0 entries) ≡ opened)
+    Meets start new_store (event.Open stripes None) (outcome.Opened 0 entries)
+    × (after start new_store (event.Open stripes None) (outcome.Opened 0 entries) ≡ opened)
 
 -- ---- a becomes 5
 
@@ -85,7 +86,9 @@ abbrev pub stripe_rows : ℕ → End → List Row
 stripe_rows stripe end = (event.KeeperStep, outcome.Stepped (made.Took stripe) ends.Goes) ∷ (event.KeeperStep, outcome.Stepped (made.Gave stripe) end) ∷ []
 
 abbrev pub sweep_rows : List Row
-sweep_rows = (event.Sweep, outcome.Stepped (made.Looked 1) ends.Goes) ∷ (flat_map (λ stripe. stripe_rows stripe ends.Goes) (range_with_len 0 15) ++ stripe_rows 15 (ends.Swept 1))
+sweep_rows =
+    (event.Sweep, outcome.Stepped (made.Looked 1) ends.Goes)
+    ∷ (flat_map (λ stripe. stripe_rows stripe ends.Goes) (range_with_len 0 15) ++ stripe_rows 15 (ends.Swept 1))
 
 -- before the sweep nothing can be staged, and while it walks a Stage doesn't fit
 abbrev pub unswept_rows : List Row
@@ -143,7 +146,8 @@ abbrev pub stopped_with : Vec ℕ → Row → World
 stopped_with bytes row = after_rows new_store opened (staged_rows ++ (written_rows bytes ++ (withheld_rows ++ row ∷ [])))
 
 abbrev pub StoppedBefore : Type 0
-StoppedBefore = (bytes : Vec ℕ) → bytes.items ≡ frame_bytes → StandsFor (seen_of (stopped_with bytes (event.Stop None New, outcome.Stopped None)).files) 0 finite.empty
+StoppedBefore = (bytes : Vec ℕ) → bytes.items ≡ frame_bytes →
+    StandsFor (seen_of (stopped_with bytes (event.Stop None New, outcome.Stopped None)).files) 0 finite.empty
 
 abbrev pub stopped_within : Vec ℕ → Vec ℕ → Fill → World
 stopped_within bytes gate fill = stopped_with bytes (event.Stop (Some side.Log) fill, outcome.Stopped (Some (device.Write 2 17 gate)))
@@ -165,8 +169,10 @@ StoppedShut = (bytes gate : Vec ℕ) → bytes.items ≡ frame_bytes → gate.it
 -- the four calls of a batch commit its commands
 abbrev pub BatchIsCommitted : Type 0
 BatchIsCommitted = (w : World) (l : Life) (n : ℕ) →
-    (map (λ left. phase_of_log (log_called w l (Committing n left)).log) (4 ∷ 3 ∷ 2 ∷ 1 ∷ []) ≡ log_phase.Written ∷ log_phase.Synced ∷ log_phase.Opened ∷ log_phase.Idle ∷ [])
-    × (map (λ left. (log_called w l (Committing n left)).committed) (4 ∷ 3 ∷ 2 ∷ 1 ∷ []) ≡ l.committed ∷ l.committed ∷ l.committed ∷ (l.committed + n) ∷ [])
+    (map (λ left. phase_of_log (log_called w l (Committing n left)).log) (4 ∷ 3 ∷ 2 ∷ 1 ∷ [])
+    ≡ log_phase.Written ∷ log_phase.Synced ∷ log_phase.Opened ∷ log_phase.Idle ∷ [])
+    × (map (λ left. (log_called w l (Committing n left)).committed) (4 ∷ 3 ∷ 2 ∷ 1 ∷ [])
+    ≡ l.committed ∷ l.committed ∷ l.committed ∷ (l.committed + n) ∷ [])
 
 abbrev pub RotationGoesOn : Type 0
 RotationGoesOn = (w : World) (l : Life) →
@@ -179,7 +185,8 @@ next_phase l running = phase_of_checkpoint (running_called l running).checkpoint
 
 abbrev pub CheckpointGoesOn : Type 0
 CheckpointGoesOn = (l : Life) (running : Running) →
-    (map (λ left. next_phase l (record running { clears = left; is_waiting = false; seals = 0 })) (3 ∷ 2 ∷ 1 ∷ []) ≡ checkpoint_phase.GateWritten ∷ checkpoint_phase.GateSynced ∷ checkpoint_phase.Ready ∷ [])
+    (map (λ left. next_phase l (record running { clears = left; is_waiting = false; seals = 0 })) (3 ∷ 2 ∷ 1 ∷ [])
+    ≡ checkpoint_phase.GateWritten ∷ checkpoint_phase.GateSynced ∷ checkpoint_phase.Ready ∷ [])
     × (next_phase l (record running { clears = 0; is_waiting = true; seals = 0 }) ≡ checkpoint_phase.Ready)
     × (map (λ left. next_phase l (record running { clears = 0; is_waiting = false; seals = left })) (4 ∷ 3 ∷ 2 ∷ 1 ∷ [])
     ≡ checkpoint_phase.HeaderWritten ∷ checkpoint_phase.HeaderSynced ∷ checkpoint_phase.Opened ∷ checkpoint_phase.Sealed ∷ [])

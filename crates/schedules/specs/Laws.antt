@@ -36,15 +36,19 @@ OutcomesAreMoves = (rows : List Row) (w : World) (a : Machine) → LeadsTo rows 
 
 -- each reply that a run released is one thread's at its position
 abbrev pub RunsAnswerAsOneThread : Type 0
-RunsAnswerAsOneThread = (events : List Event) (outcomes : List Outcome) (run : IsRun events outcomes) → AllByRecursion (IsLegalCall (whole run.machine.history)) run.machine.released
+RunsAnswerAsOneThread = (events : List Event) (outcomes : List Outcome) (run : IsRun events outcomes) →
+    AllByRecursion (IsLegalCall (whole run.machine.history)) run.machine.released
 
 -- an event is skipped exactly where it doesn't fit
 abbrev pub SkippedWhereUnfit : Type 0
-SkippedWhereUnfit = (w : World) (found : Opened) (e : Event) → (Meets w found e outcome.Skipped ↔ (fits w e ≡ false)) × ((x : Outcome) → fits w e ≡ false → Meets w found e x → x ≡ outcome.Skipped)
+SkippedWhereUnfit = (w : World) (found : Opened) (e : Event) →
+    (Meets w found e outcome.Skipped ↔ (fits w e ≡ false))
+    × ((x : Outcome) → fits w e ≡ false → Meets w found e x → x ≡ outcome.Skipped)
 
 -- with one event more, and its outcome, there is one row more
 abbrev pub RowsGoOn : Type 0
-RowsGoOn = (events : List Event) (outcomes : List Outcome) (e : Event) (x : Outcome) → length outcomes ≡ length events → rows_of (events ++ e ∷ []) (outcomes ++ x ∷ []) ≡ (e, x) ∷ rows_of events outcomes
+RowsGoOn = (events : List Event) (outcomes : List Outcome) (e : Event) (x : Outcome) → length outcomes ≡ length events →
+    rows_of (events ++ e ∷ []) (outcomes ++ x ∷ []) ≡ (e, x) ∷ rows_of events outcomes
 
 -- ---- the disk
 
@@ -64,24 +68,25 @@ SoundAtStart = IsSoundOutside [] start 0 []
 
 -- an event of a life that is no move
 abbrev pub QuietInside : Type 0
-QuietInside = (rows : List Row) (w : World) (durable : ℕ) (released : List Call) (row : Row) (w' : World) (durable' : ℕ) → IsSoundInside rows w durable released
-    → Happens w row w' → IsMove w row.0 row.1 None → w'.history ≡ w.history → durable ≤ durable' → IsSoundInside (row ∷ rows) w' durable' released
+QuietInside = (rows : List Row) (w : World) (durable : ℕ) (released : List Call) (row : Row) (w' : World) (durable' : ℕ) →
+    IsSoundInside rows w durable released → Happens w row w' → IsMove w row.0 row.1 None → w'.history ≡ w.history → durable ≤ durable' → IsSoundInside (row ∷ rows) w' durable' released
 
 -- a TICKET
 abbrev pub DrawsInside : Type 0
-DrawsInside = (rows : List Row) (w : World) (durable : ℕ) (released : List Call) (row : Row) (w' : World) (c : Command) → IsSoundInside rows w durable released
-    → Happens w row w' → IsMove w row.0 row.1 (Some (Calls c)) → w'.history ≡ w.history ++ c ∷ [] → IsSoundInside (row ∷ rows) w' durable released
+DrawsInside = (rows : List Row) (w : World) (durable : ℕ) (released : List Call) (row : Row) (w' : World) (c : Command) →
+    IsSoundInside rows w durable released → Happens w row w' → IsMove w row.0 row.1 (Some (Calls c)) → w'.history ≡ w.history ++ c ∷ [] → IsSoundInside (row ∷ rows) w' durable released
 
 -- a reply that is released
 abbrev pub ReleasesInside : Type 0
-ReleasesInside = (rows : List Row) (w : World) (durable : ℕ) (released : List Call) (row : Row) (w' : World) (call : Call) → IsSoundInside rows w durable released
-    → Happens w row w' → IsMove w row.0 row.1 (Some (Releases call)) → w'.history ≡ w.history → IsLegalCall (whole w.history) call → call.position ≤ durable
+ReleasesInside = (rows : List Row) (w : World) (durable : ℕ) (released : List Call) (row : Row) (w' : World) (call : Call) →
+    IsSoundInside rows w durable released → Happens w row w' → IsMove w row.0 row.1 (Some (Releases call)) → w'.history ≡ w.history
+    → IsLegalCall (whole w.history) call → call.position ≤ durable
     → IsSoundInside (row ∷ rows) w' durable (call ∷ released)
 
 -- a stop, or a life that is left
 abbrev pub EndsInside : Type 0
-EndsInside = (rows : List Row) (w : World) (durable : ℕ) (released : List Call) (row : Row) (w' : World) (least : ℕ) → IsSoundInside rows w durable released
-    → Happens w row w' → ((p : ℕ) → IsMove w row.0 row.1 (Some (Stops p))) → w'.history ≡ w.history → durable ≤ least → least ≤ length w.history
+EndsInside = (rows : List Row) (w : World) (durable : ℕ) (released : List Call) (row : Row) (w' : World) (least : ℕ) →
+    IsSoundInside rows w durable released → Happens w row w' → ((p : ℕ) → IsMove w row.0 row.1 (Some (Stops p))) → w'.history ≡ w.history → durable ≤ least → least ≤ length w.history
     → IsSoundOutside (row ∷ rows) w' least released
 
 -- a stop between lives
@@ -96,29 +101,32 @@ QuietOutside = (rows : List Row) (w : World) (least : ℕ) (released : List Call
 
 -- an opening that finds the map after the first p commands, and loses none at whose position a reply was released
 abbrev pub OpensOutside : Type 0
-OpensOutside = (rows : List Row) (w : World) (least : ℕ) (released : List Call) (row : Row) (w' : World) (p : ℕ) (m : Map) → IsSoundOutside rows w least released
-    → Happens w row w' → IsMove w row.0 row.1 (Some (Opens p m)) → w'.history ≡ take p w.history
+OpensOutside = (rows : List Row) (w : World) (least : ℕ) (released : List Call) (row : Row) (w' : World) (p : ℕ) (m : Map) →
+    IsSoundOutside rows w least released → Happens w row w' → IsMove w row.0 row.1 (Some (Opens p m)) → w'.history ≡ take p w.history
     → least ≤ p → p ≤ length w.history → m ≡ fold_of (take p w.history) → IsSoundInside (row ∷ rows) w' p released
 
 -- ---- each event, by its case
 
 -- In a life each event keeps it, where the reply that it may release is legal; and where the life ends, for any count from the durable one on.
 abbrev pub LifeGoesOn : Type 0
-LifeGoesOn = (rows : List Row) (w : World) (l : Life) (released : List Call) (least : ℕ) (e : Event) (x : Outcome) (w' : World) → w.life ≡ Some l → IsSoundInside rows w l.durable released
-    → Happens w (e, x) w' → AnswersLegally w e x → l.durable ≤ least → least ≤ length w.history → IsSound ((e, x) ∷ rows) w' least (released_by w e x released)
+LifeGoesOn = (rows : List Row) (w : World) (l : Life) (released : List Call) (least : ℕ) (e : Event) (x : Outcome) (w' : World) →
+    w.life ≡ Some l → IsSoundInside rows w l.durable released → Happens w (e, x) w' → AnswersLegally w e x
+    → l.durable ≤ least → least ≤ length w.history → IsSound ((e, x) ∷ rows) w' least (released_by w e x released)
 
 -- Between lives each event keeps it, where an opening finds a front of the history.
 abbrev pub NextLifeBegins : Type 0
-NextLifeBegins = (rows : List Row) (w : World) (released : List Call) (least : ℕ) (e : Event) (x : Outcome) (w' : World) → w.life ≡ None → IsSoundOutside rows w least released
-    → (happens : Happens w (e, x) w') → OpensFront w least happens.found x → IsSound ((e, x) ∷ rows) w' least released
+NextLifeBegins = (rows : List Row) (w : World) (released : List Call) (least : ℕ) (e : Event) (x : Outcome) (w' : World) →
+    w.life ≡ None → IsSoundOutside rows w least released → (happens : Happens w (e, x) w') → OpensFront w least happens.found x → IsSound ((e, x) ∷ rows) w' least released
 
 -- what files that stand for a front of the history are found to be
 abbrev pub FrontIsFound : Type 0
-FrontIsFound = (w : World) (least most : ℕ) (found : Opened) → Holds (seen_of w.files) found → StandsForFront (whole w.history) least most (seen_of w.files) → IsFront w least found
+FrontIsFound = (w : World) (least most : ℕ) (found : Opened) →
+    Holds (seen_of w.files) found → StandsForFront (whole w.history) least most (seen_of w.files) → IsFront w least found
 
 -- opening files that stand for something is refused only for want of memory, or by the device call that its event names
 abbrev pub StandingFilesOpen : Type 0
-StandingFilesOpen = (w : World) (p : ℕ) (m : Map) (e : Event) (x : Outcome) (w' : World) → StandsFor (seen_of w.files) p m → Happens w (e, x) w' → OpensWell (e, x)
+StandingFilesOpen = (w : World) (p : ℕ) (m : Map) (e : Event) (x : Outcome) (w' : World) →
+    StandsFor (seen_of w.files) p m → Happens w (e, x) w' → OpensWell (e, x)
 
 -- ---- the end
 

@@ -41,7 +41,8 @@ move_of_step w e m end = None
 abbrev pub IsStop : Option Move → Type 0
 IsStop move = (p : ℕ) × (move ≡ Some (Stops p))
 
--- A stop is a stop of the machine, and so is a life that is left; an opening answers the number of its commands and the map with its entries; no other outcome is a move.
+-- A stop is a stop of the machine, and so is a life that is left; an opening answers the number of its commands and the map with its entries; no
+-- other outcome is a move.
 abbrev pub IsMove : World → Event → Outcome → Option Move → Type 0
 IsMove w e (outcome.Stepped m end) move = move ≡ move_of_step w e m end
 IsMove w e (outcome.Stopped within) move = IsStop move
@@ -97,7 +98,8 @@ rows_onto rows es xs = rows
 abbrev pub rows_of : List Event → List Outcome → List Row
 rows_of es xs = rows_onto [] es xs
 
--- The outcomes are those of a run, whatever the events are: one for each event, each meets its case, and together they are a run of the machine of one list.
+-- The outcomes are those of a run, whatever the events are: one for each event, each meets its case, and together they are a run of the machine of
+-- one list.
 pub record IsRun (events : List Event) (outcomes : List Outcome) : Type 0 where
   pub one_each : length outcomes ≡ length events
   pub world : World

@@ -1,5 +1,6 @@
 -- What the events and outcomes so far say of a store: its files, its history, and in a life its workers, its keeper and its counts.
-use Rattle.std.specs.Prelude.{ℕ, ◌+◌, ◌-◌, List, [], ◌∷◌, ◌++◌, length, take, drop, replicate, slice_index_or, Option, Some, None, Bool, true, false, ◌&&◌, ◌||◌, ◌==◌, nat_lt, if◌then◌else◌}
+use Rattle.std.specs.Prelude.{ℕ, ◌+◌, ◌-◌, List, [], ◌∷◌, ◌++◌, length, take, drop, replicate, slice_index_or, Option, Some, None, Bool, true, false}
+use Rattle.std.specs.Prelude.{◌&&◌, ◌||◌, ◌==◌, nat_lt, if◌then◌else◌}
 use Rattle.java_hash.specs.Stripes.{stripe_of}
 use Rattle.map_types.specs.declared.commands.Command.{Command}
 use Rattle.log_records.specs.Layout.{first_layout}
@@ -50,7 +51,8 @@ pub record Sweep : Type 0 where
   pub count : ℕ
   pub stripe : ℕ
 
--- What the keeper walks: nothing; a sweep that comes to its TAKE, or to its GIVE; a capture that comes to its LOOK, or with what that found to its GIVE.
+-- What the keeper walks: nothing; a sweep that comes to its TAKE, or to its GIVE; a capture that comes to its LOOK, or with what that found to its
+-- GIVE.
 pub data KeeperWalk : Type 0 where
   Rests : KeeperWalk
   SweepTakes : KeeperWalk
