@@ -4,12 +4,14 @@ use Rattle.std.specs.FinMap as finite
 use Rattle.std.specs.List.{AllByRecursion}
 use Rattle.map_types.specs.declared.commands.Command.{Command}
 use Rattle.map_model.specs.Maps.{Map}
+use Rattle.map_model.specs.Histories.{History, fold_to}
 use Rattle.map_model.specs.Steps.{fold_of}
 use Rattle.ticket_order.specs.declared.record.Call.{Call}
 use Rattle.ticket_order.specs.Legality.{IsLegalCall}
 use Rattle.disk_model.specs.Files.{Files}
 use Rattle.disk_model.specs.declared.fill.Fill.TheVariants.{New}
-use Rattle.store_layout.specs.Opening.{Holds, Opened, StandsFor, StandsForFront}
+use Rattle.store_layout.specs.Opening.{Contents, Holds, Opened, StandsFor, StandsForFront}
+use Rattle.store_layout.specs.Standing.{reach}
 use Rattle.schedules.specs.declared.event.Event.{Event}
 use Rattle.schedules.specs.declared.outcome.DeviceCall.{DeviceCall}
 use Rattle.schedules.specs.declared.outcome.Outcome.{Outcome}
@@ -20,13 +22,28 @@ use Rattle.schedules.specs.Fitting.{fits}
 use Rattle.schedules.specs.After.{entered, failed}
 use Rattle.schedules.specs.Cases.{IsPossible, Meets}
 use Rattle.schedules.specs.Runs.{Row, Happens, IsMove, IsRun, LeadsTo, OpensWell, rows_of}
-use Rattle.schedules.specs.Sound.{AnswersLegally, IsFront, IsSound, IsSoundInside, IsSoundOutside, OpensFront, released_by}
+use Rattle.schedules.specs.Sound.{AnswersLegally, IsFront, IsKnownOf, IsSound, IsSoundInside, IsSoundOutside, OpensFront, released_by}
 
 -- ---- the machine
 
 -- However many lives came after it, each reply that was released is one thread's at its position in the history.
 abbrev pub ReleasedStayLegal : Type 0
 ReleasedStayLegal = (moves : List Move) → AreAllowed moves → AllByRecursion (IsLegalCall (whole (machine_after moves).history)) (machine_after moves).released
+
+-- ---- a history that is known from its opening on
+
+-- its maps are those of the whole list
+abbrev pub KnownFolds : Type 0
+KnownFolds = (h : History) (history : List Command) → IsKnownOf h history → (q : ℕ) → h.first ≤ q → q ≤ reach h → fold_to h q ≡ fold_of (take q history)
+
+-- what is legal in it is legal in the whole list
+abbrev pub KnownIsLegal : Type 0
+KnownIsLegal = (h : History) (history : List Command) → IsKnownOf h history → (call : Call) → IsLegalCall h call → IsLegalCall (whole history) call
+
+-- and files that stand for a front of it stand for one of the whole list
+abbrev pub KnownStands : Type 0
+KnownStands = (h : History) (history : List Command) → IsKnownOf h history → (least most : ℕ) (contents : Contents) →
+    StandsForFront h least most contents → StandsForFront (whole history) least most contents
 
 -- ---- runs
 

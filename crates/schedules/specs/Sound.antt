@@ -1,6 +1,7 @@
 -- What the loop of a run keeps.
-use Rattle.std.specs.Prelude.{◌≡◌, ℕ, ◌≤◌, List, ◌∷◌, length, take, Option, Some, None}
+use Rattle.std.specs.Prelude.{◌≡◌, ℕ, ◌≤◌, List, ◌∷◌, ◌++◌, length, take, Option, Some, None}
 use Rattle.map_types.specs.declared.commands.Command.{Command}
+use Rattle.map_model.specs.Histories.{History}
 use Rattle.map_model.specs.Steps.{fold_of}
 use Rattle.ticket_order.specs.declared.record.Call.{Call}
 use Rattle.ticket_order.specs.Legality.{IsLegalCall}
@@ -31,6 +32,16 @@ IsSoundWith (Some l) rows w least released = IsSoundInside rows w l.durable rele
 -- in a life or between lives
 abbrev pub IsSound : List Row → World → ℕ → List Call → Type 0
 IsSound rows w least released = IsSoundWith w.life rows w least released
+
+-- ---- the history as one who came later knows it
+
+-- A front of the history, whose first commands are known by the map after them alone.
+pub record IsKnownOf (h : History) (history : List Command) : Type 0 where
+  pub front : List Command
+  pub more : List Command
+  pub first : h.first ≡ length front
+  pub opening : h.opening ≡ fold_of front
+  pub history_is : history ≡ front ++ (h.commands ++ more)
 
 -- ---- what an event owes beside its case
 

@@ -1,5 +1,5 @@
 //! Laws of whole schedules, each as the contract of a function.
-ghost use Rattle.schedules.specs.Laws.{BeginsEmpty, DrawsInside, EndsInside, EnteredAsFailed, FrontIsFound, LifeGoesOn, NextLifeBegins, OpensOutside, OutcomesAreMoves, QuietInside, QuietOutside, ReleasedStayLegal, ReleasesInside, RowsGoOn, RunsAnswerAsOneThread, SkippedWhereUnfit, SoundAtStart, SoundBetweenIsRun, SoundIsRun, StandingFilesOpen, StopsOutside};
+ghost use Rattle.schedules.specs.Laws.{BeginsEmpty, DrawsInside, EndsInside, EnteredAsFailed, FrontIsFound, KnownFolds, KnownIsLegal, KnownStands, LifeGoesOn, NextLifeBegins, OpensOutside, OutcomesAreMoves, QuietInside, QuietOutside, ReleasedStayLegal, ReleasesInside, RowsGoOn, RunsAnswerAsOneThread, SkippedWhereUnfit, SoundAtStart, SoundBetweenIsRun, SoundIsRun, StandingFilesOpen, StopsOutside};
 
 use store_layout::laws::{laws_of_new_stores, laws_of_opening};
 
@@ -7,6 +7,13 @@ use store_layout::laws::{laws_of_new_stores, laws_of_opening};
 /// position, however many lives came after it.
 pub fn laws_of_the_machine()
     ensures released { ReleasedStayLegal }
+{}
+
+/// A history whose first commands are known by their map alone is a front of the whole list.
+pub fn laws_of_known_histories()
+    ensures folds { KnownFolds }
+    ensures legal { KnownIsLegal }
+    ensures stands { KnownStands }
 {}
 
 /// The outcomes of a run are moves of the machine; and an event is skipped exactly where it doesn't fit.
