@@ -1,6 +1,7 @@
 pub mod CaseLaws
 pub mod CommitExamples
 pub mod FileLaws
+pub mod HandLaws
 pub mod KnownLaws
 pub mod LifeGoing
 pub mod MachineLaws

@@ -12,15 +12,17 @@ use Rattle.disk_model.specs.Files.{Files}
 use Rattle.disk_model.specs.declared.fill.Fill.TheVariants.{New}
 use Rattle.store_layout.specs.Opening.{Contents, Holds, Opened, StandsFor, StandsForFront}
 use Rattle.store_layout.specs.Standing.{reach}
+use Rattle.flusher.specs.Hands.{Hand, IsLongest}
 use Rattle.schedules.specs.declared.event.Event.{Event}
 use Rattle.schedules.specs.declared.outcome.DeviceCall.{DeviceCall}
 use Rattle.schedules.specs.declared.outcome.Outcome.{Outcome}
 use Rattle.schedules.specs.declared.outcome.Outcome.TheVariants as outcome
 use Rattle.schedules.specs.Machine.{Machine, Move, Calls, Releases, Stops, Opens, AreAllowed, machine_after, whole}
-use Rattle.schedules.specs.World.{World, Life, seen_of, start}
+use Rattle.schedules.specs.World.{World, Life, next_commands, seen_of, start}
 use Rattle.schedules.specs.Fitting.{fits}
 use Rattle.schedules.specs.After.{entered, failed}
-use Rattle.schedules.specs.Cases.{IsPossible, Meets}
+use Rattle.schedules.specs.Cases.{IsLongestRun, IsPossible, Meets}
+use Rattle.schedules.specs.InHand.{IsHandOf}
 use Rattle.schedules.specs.Runs.{Row, Happens, IsMove, IsRun, LeadsTo, OpensWell, rows_of}
 use Rattle.schedules.specs.Sound.{AnswersLegally, IsFront, IsKnownOf, IsSound, IsSoundInside, IsSoundOutside, OpensFront, released_by}
 
@@ -66,6 +68,13 @@ SkippedWhereUnfit = (w : World) (found : Opened) (e : Event) →
 abbrev pub RowsGoOn : Type 0
 RowsGoOn = (events : List Event) (outcomes : List Outcome) (e : Event) (x : Outcome) → length outcomes ≡ length events →
     rows_of (events ++ e ∷ []) (outcomes ++ x ∷ []) ≡ (e, x) ∷ rows_of events outcomes
+
+-- ---- what is staged
+
+-- the longest run in a keeper's hand is the longest run in hand, and these commands are the next
+abbrev pub LongestRunInHand : Type 0
+LongestRunInHand = (w : World) (l : Life) (hand : Hand) (most : ℕ) (commands : List Command) → IsHandOf w l hand → IsLongest most hand commands →
+    IsLongestRun w l most (length commands) × (next_commands w l (length commands) ≡ commands)
 
 -- ---- the disk
 

@@ -5,5 +5,6 @@ pub mod After
 pub mod Cases
 pub mod Runs
 pub mod Sound
+pub mod InHand
 pub mod Laws
 pub mod Examples

@@ -1,5 +1,5 @@
 //! Laws of whole schedules, each as the contract of a function.
-ghost use Rattle.schedules.specs.Laws.{BeginsEmpty, DrawsInside, EndsInside, EnteredAsFailed, FrontIsFound, KnownFolds, KnownIsLegal, KnownStands, LifeGoesOn, NextLifeBegins, OpensOutside, OutcomesAreMoves, QuietInside, QuietOutside, ReleasedStayLegal, ReleasesInside, RowsGoOn, RunsAnswerAsOneThread, SkippedWhereUnfit, SoundAtStart, SoundBetweenIsRun, SoundIsRun, StandingFilesOpen, StopsOutside};
+ghost use Rattle.schedules.specs.Laws.{BeginsEmpty, DrawsInside, EndsInside, EnteredAsFailed, FrontIsFound, KnownFolds, KnownIsLegal, KnownStands, LifeGoesOn, LongestRunInHand, NextLifeBegins, OpensOutside, OutcomesAreMoves, QuietInside, QuietOutside, ReleasedStayLegal, ReleasesInside, RowsGoOn, RunsAnswerAsOneThread, SkippedWhereUnfit, SoundAtStart, SoundBetweenIsRun, SoundIsRun, StandingFilesOpen, StopsOutside};
 
 use store_layout::laws::{laws_of_new_stores, laws_of_opening};
 
@@ -22,6 +22,11 @@ pub fn laws_of_runs()
     ensures answers { RunsAnswerAsOneThread }
     ensures skipped { SkippedWhereUnfit }
     ensures rows { RowsGoOn }
+{}
+
+/// A keeper that holds what is in hand stages the longest run.
+pub fn laws_of_batches()
+    ensures { LongestRunInHand }
 {}
 
 /// What a schedule begins with, and what a call leaves within which a stop falls.
