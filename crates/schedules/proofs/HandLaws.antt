@@ -1,13 +1,14 @@
 -- The longest run in a keeper's hand is the longest run in hand.
 use Rattle.std.proofs.lemmas.Bool.Decides.{nat_tests}
-use Rattle.std.proofs.Common.{◌≡◌, ◌⊎◌, inl, inr, ◌≤◌, ◌<◌, ◌+◌, ◌-◌, ℕ, List, [], ◌∷◌, ◌++◌, length, map, take, drop, get_or, Option, None, Some, refl, sym, ap, ◌∙◌, subst, arith}
+use Rattle.std.proofs.Common.{◌≡◌, ◌⊎◌, inl, inr, ◌≤◌, ◌<◌, ◌+◌, ◌-◌, ℕ, List, [], ◌∷◌, ◌++◌, length, map, take, drop, get_or, Option, None, Some}
+use Rattle.std.proofs.Common.{refl, sym, ap, ◌∙◌, subst, arith}
 use Rattle.std.specs.Prelude.{slice_get}
-use Rattle.std.proofs.lemmas.List.{ext_get_or, get_or-drop, get_or-map, get_or-take, get_or_append_left, get_or_past, length-drop, length-map, length-take, length-take-le, take-append-drop}
+use Rattle.std.proofs.lemmas.List.{ext_get_or, get_or-drop, get_or-map, get_or-take, get_or_append_left, get_or_past, length-drop, length-map}
+use Rattle.std.proofs.lemmas.List.{length-take-le, take-append-drop}
 use Rattle.std.proofs.lemmas.Option.{get_or_from_slice_get, slice_get_within}
 use Rattle.map_types.specs.declared.commands.Command.{Command}
-use Rattle.flusher.specs.Hands.{FitsBatch, Hand, Holds, IsLongest, IsRun}
+use Rattle.flusher.specs.Hands.{FitsBatch, Hand, Holds, IsRun}
 use Rattle.schedules.specs.World.{World, Life, InHand, next_commands, place_of}
-use Rattle.schedules.specs.Cases.{CanStage, IsLongestRun}
 use Rattle.schedules.specs.InHand.{IsHandOf}
 use Rattle.schedules.specs.Laws.{LongestRunInHand}
 
@@ -48,12 +49,12 @@ module _ (w : World) (l : Life) (hand : Hand) (known : IsHandOf w l hand) where
   next_are commands other last size each =
       let reached : l.committed + last < length w.history = slice_get_within w.history (l.committed + last) (get_or commands last other) (each last (omega (arith, size))) in
       let long : length (next_commands w l (length commands)) ≡ length commands =
-          length-take-le (length commands) (drop l.committed w.history) (omega (arith, size, reached, length-drop l.committed w.history)) in
+      length-take-le (length commands) (drop l.committed w.history) (omega (arith, size, reached, length-drop l.committed w.history)) in
       ext_get_or other (next_commands w l (length commands)) commands long (λ i below.
-        let inside : i < length commands = omega (arith, below, long) in
-        get_or-take (length commands) (drop l.committed w.history) i other inside
-        ∙ (get_or-drop l.committed w.history i other
-        ∙ get_or_from_slice_get w.history (l.committed + i) (get_or commands i other) other (each i inside)))
+      let inside : i < length commands = omega (arith, below, long) in
+      get_or-take (length commands) (drop l.committed w.history) i other inside
+      ∙ (get_or-drop l.committed w.history i other
+      ∙ get_or_from_slice_get w.history (l.committed + i) (get_or commands i other) other (each i inside)))
 
   pub run_is_next : (commands : List Command) → IsRun hand commands → next_commands w l (length commands) ≡ commands
   run_is_next [] run = refl
@@ -104,26 +105,28 @@ module _ (w : World) (l : Life) (hand : Hand) (known : IsHandOf w l hand) where
         let long : n < length hand.slots = slots_inside n (command n (omega arith)) (in_slot n (omega arith)) in
         let size : length (take (n + 1) hand.slots) ≡ n + 1 = length-take-le (n + 1) hand.slots (omega (arith, long)) in
         ext_get_or None (take (n + 1) hand.slots) (map Some (next_commands w l (n + 1))) (size ∙ sym (length-map (next_commands w l (n + 1)) Some ∙ next_length)) (λ i below.
-          let inside : i < n + 1 = omega (arith, below, size) in
-          get_or-take (n + 1) hand.slots i None inside
-          ∙ (in_slot i inside
-          ∙ (ap (λ (c : Command). Some c) (sym (next_at i inside (command i inside)))
-          ∙ sym (get_or-map Some (next_commands w l (n + 1)) i (command i inside) None (omega (arith, inside, next_length))))))
+        let inside : i < n + 1 = omega (arith, below, size) in
+        get_or-take (n + 1) hand.slots i None inside
+        ∙ (in_slot i inside
+        ∙ (ap (λ (c : Command). Some c) (sym (next_at i inside (command i inside)))
+        ∙ sym (get_or-map Some (next_commands w l (n + 1)) i (command i inside) None (omega (arith, inside, next_length))))))
 
     pub next_is_run : IsRun hand (next_commands w l (n + 1))
     next_is_run = (drop (n + 1) hand.slots, sym (take-append-drop (n + 1) hand.slots) ∙ ap (λ (s : List (Option Command)). s ++ drop (n + 1) hand.slots) slots_taken)
 
 pub longest_run_in_hand : LongestRunInHand
 longest_run_in_hand w l hand most commands known longest =
-    let next : next_commands w l (length commands) ≡ commands = run_is_next w l hand known commands longest.run in
-    (record {
-      can = record {
-        in_hand = in_hand_by w l hand known commands longest.run;
-        fits = subst (λ (cs : List Command). FitsBatch most l.committed cs) (sym next) (subst (λ (first : ℕ). FitsBatch most first commands) known.next longest.fits);
-      };
-      no_longer = λ can.
-          let run = next_is_run w l hand known (length commands) can.in_hand in
-          let more = next_length w l hand known (length commands) can.in_hand in
-          let fits : FitsBatch most hand.next (next_commands w l (length commands + 1)) = subst (λ (first : ℕ). FitsBatch most first (next_commands w l (length commands + 1))) (sym known.next) can.fits in
-          omega (arith, more, longest.longest (next_commands w l (length commands + 1)) run fits);
-    }, next)
+    let next : next_commands w l (length commands) ≡ commands = run_is_next w l hand known commands longest.run in (
+      record {
+        can = record {
+          in_hand = in_hand_by w l hand known commands longest.run;
+          fits = subst (λ (cs : List Command). FitsBatch most l.committed cs) (sym next) (subst (λ (first : ℕ). FitsBatch most first commands) known.next longest.fits);
+        };
+        no_longer = λ can.
+            let run = next_is_run w l hand known (length commands) can.in_hand in
+            let more = next_length w l hand known (length commands) can.in_hand in
+            let fits : FitsBatch most hand.next (next_commands w l (length commands + 1)) = subst (λ (first : ℕ). FitsBatch most first (next_commands w l (length commands + 1))) (sym known.next) can.fits in
+            omega (arith, more, longest.longest (next_commands w l (length commands + 1)) run fits);
+      },
+      next,
+    )

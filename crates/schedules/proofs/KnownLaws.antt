@@ -13,7 +13,7 @@ use Rattle.map_model.specs.Steps.{answer, fold_of, map_after, step}
 use Rattle.ticket_order.specs.declared.record.Asked.{Asked}
 use Rattle.ticket_order.specs.declared.record.Asked.TheVariants.{Changing, Reading}
 use Rattle.ticket_order.specs.Legality.{IsLegal}
-use Rattle.store_layout.specs.Opening.{Contents, StandsFor}
+use Rattle.store_layout.specs.Opening.{StandsFor}
 use Rattle.store_layout.specs.Standing.{reach}
 use Rattle.schedules.specs.Laws.{KnownFolds, KnownIsLegal, KnownStands}
 use Rattle.schedules.specs.Machine.{whole}

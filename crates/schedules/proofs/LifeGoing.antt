@@ -1,10 +1,9 @@
 -- In a life each event keeps what the loop of a run keeps.
-use Rattle.std.proofs.Common.{◌≡◌, ◌≤◌, ◌+◌, ℕ, Bool, true, false, List, [], ◌∷◌, ◌++◌, length, max, Option, None, Some, MatchBool, ◌==◌, nat_lt}
-use Rattle.std.proofs.Common.{if◌then◌else◌, refl, sym, ap, subst, arith}
+use Rattle.std.proofs.Common.{◌≡◌, ◌≤◌, ℕ, Bool, true, false, List, ◌∷◌, length, max, Option, None, Some, MatchBool, ◌==◌, nat_lt}
+use Rattle.std.proofs.Common.{if◌then◌else◌, refl, sym, subst, arith}
 use Rattle.map_types.specs.declared.commands.Command.{Command}
 use Rattle.map_types.specs.declared.commands.Read.{Read}
 use Rattle.map_types.specs.declared.commands.Reply.{Reply}
-use Rattle.ticket_order.specs.declared.record.Asked.{Asked}
 use Rattle.ticket_order.specs.declared.record.Asked.TheVariants.{Changing, Reading}
 use Rattle.ticket_order.specs.declared.record.Call.{Call}
 use Rattle.ticket_order.specs.Records.{call}
@@ -24,15 +23,15 @@ use Rattle.schedules.specs.declared.outcome.Made.TheVariants as made
 use Rattle.schedules.specs.declared.outcome.Outcome.{Outcome}
 use Rattle.schedules.specs.declared.outcome.Outcome.TheVariants as outcome
 use Rattle.schedules.specs.Laws.{LifeGoesOn}
-use Rattle.schedules.specs.Machine.{Move, Calls, Releases, Stops}
-use Rattle.schedules.specs.World.{World, Life, Job, Idle, Walks, Keeps, Releasing, Stage, Begins, Asking, FirstSees, HasMissed, FoundFailure, Sweep}
+use Rattle.schedules.specs.Machine.{Stops}
+use Rattle.schedules.specs.World.{World, Life, Job, Idle, Walks, Keeps, Releasing, Asking, FirstSees, HasMissed, FoundFailure, Sweep}
 use Rattle.schedules.specs.World.{KeeperWalk, Rests, SweepTakes, SweepGives, CaptureLooks, CaptureGives, LogWork, Resting, Committing, Rotating}
 use Rattle.schedules.specs.World.{Running, job_of, sweep_or}
 use Rattle.schedules.specs.Fitting.{fits}
-use Rattle.schedules.specs.After.{after, called, capture_gives, capture_takes, checkpoint_begun, checkpoint_called, failed_or, job_releasing}
-use Rattle.schedules.specs.After.{keeper_stepped, log_called, running_called, seal_begun, staged_by, sweep_begins, sweep_gives, sweep_takes, with_job}
+use Rattle.schedules.specs.After.{after, capture_gives, capture_takes, checkpoint_called}
+use Rattle.schedules.specs.After.{keeper_stepped, log_called, running_called, sweep_begins, sweep_gives, sweep_takes}
 use Rattle.schedules.specs.After.{worker_stepped}
-use Rattle.schedules.specs.Cases.{BeginsCapture, BeginsCheckpoint, BeginsSeal, HappensInside, HappensWith, IsStep, MakesCall, Meets, Publishes}
+use Rattle.schedules.specs.Cases.{BeginsCapture, BeginsCheckpoint, BeginsSeal, HappensInside, IsStep, MakesCall, Meets, Publishes}
 use Rattle.schedules.specs.Cases.{StagesRun, StepsJob, StepsRelease, StopsMachine}
 use Rattle.schedules.specs.Runs.{Row, Happens, IsMove, move_of}
 use Rattle.schedules.specs.Sound.{AnswersLegally, IsSound, IsSoundInside, IsSoundOutside, ReleasesLegal, released_by, released_with}
@@ -261,9 +260,9 @@ module _ (rows : List Row) (files : Files) (history : List Command) (l : Life) (
 pub life_goes_on : LifeGoesOn
 life_goes_on rows w l released least e x w' life sound happens legal low reached =
     subst (λ (y : Option Life). IsSoundInside rows (record { files = w.files; history = w.history; life = y }) l.durable released → Happens (record { files = w.files; history = w.history; life = y }) (e, x) w'
-        → AnswersLegally (record { files = w.files; history = w.history; life = y }) e x → IsSound ((e, x) ∷ rows) w' least (released_by (record { files = w.files; history = w.history; life = y }) e x released))
+    → AnswersLegally (record { files = w.files; history = w.history; life = y }) e x → IsSound ((e, x) ∷ rows) w' least (released_by (record { files = w.files; history = w.history; life = y }) e x released))
     (sym life)
     (λ sound happens legal.
-      subst (λ (v : World). IsSound ((e, x) ∷ rows) v least (released_by (living w.files w.history l) e x released)) (sym happens.world)
-      (event_goes rows w.files w.history l released least happens.found sound low reached (fits (living w.files w.history l) e) e x refl happens.meets legal))
+    subst (λ (v : World). IsSound ((e, x) ∷ rows) v least (released_by (living w.files w.history l) e x released)) (sym happens.world)
+    (event_goes rows w.files w.history l released least happens.found sound low reached (fits (living w.files w.history l) e) e x refl happens.meets legal))
     sound happens legal

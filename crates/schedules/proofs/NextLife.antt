@@ -1,5 +1,5 @@
 -- Between lives each event keeps what the loop of a run keeps; and what an opening finds.
-use Rattle.std.proofs.Common.{◌≡◌, ◌≢◌, ◌⊎◌, inl, inr, ◌≤◌, ◌-◌, ℕ, Bool, true, false, List, [], ◌∷◌, length, take, Option, None, Some, MatchBool}
+use Rattle.std.proofs.Common.{◌≡◌, ◌⊎◌, inl, inr, ◌-◌, ℕ, Bool, true, false, List, ◌∷◌, take, Option, None, Some, MatchBool}
 use Rattle.std.proofs.Common.{refl, sym, ap, ◌∙◌, subst, arith}
 use Rattle.std.specs.FinMap as finite
 use Rattle.map_types.specs.declared.commands.Command.{Command}
@@ -12,7 +12,7 @@ use Rattle.java_hash.specs.declared.stripe_count.StripeCount.{StripeCount}
 use Rattle.ticket_order.specs.declared.record.Call.{Call}
 use Rattle.disk_model.specs.Files.{Files}
 use Rattle.disk_model.specs.declared.fill.Fill.{Fill}
-use Rattle.store_layout.specs.Opening.{Holds, Opened, Refuses, StandsFor, map_of, prefix_of}
+use Rattle.store_layout.specs.Opening.{Opened, Refuses, StandsFor, map_of, prefix_of}
 use Rattle.store_layout.specs.OpeningLaws.{NeverBoth, OneStanding}
 use Rattle.schedules.specs.declared.event.Event.{Event}
 use Rattle.schedules.specs.declared.event.Event.TheVariants as event
@@ -20,11 +20,11 @@ use Rattle.schedules.specs.declared.event.Side.{Side}
 use Rattle.schedules.specs.declared.outcome.Outcome.{Outcome}
 use Rattle.schedules.specs.declared.outcome.Outcome.TheVariants as outcome
 use Rattle.schedules.specs.Laws.{FrontIsFound, NextLifeBegins, StandingFilesOpen}
-use Rattle.schedules.specs.Machine.{Opens, Stops, whole}
+use Rattle.schedules.specs.Machine.{Opens, whole}
 use Rattle.schedules.specs.World.{World, Life, begun_by, seen_of}
 use Rattle.schedules.specs.Fitting.{fits, fits_with}
 use Rattle.schedules.specs.After.{after}
-use Rattle.schedules.specs.Cases.{Finds, HappensOutside, HappensWith, Meets, OpensFiles, StopsMachine, entry_of, names_call}
+use Rattle.schedules.specs.Cases.{HappensOutside, HappensWith, Meets, OpensFiles, StopsMachine, names_call}
 use Rattle.schedules.specs.Runs.{Row, Happens, IsMove, OpensWell}
 use Rattle.schedules.specs.Sound.{IsFront, IsSound, IsSoundInside, IsSoundOutside, OpensFront}
 use Rattle.schedules.proofs.RunLaws.{opens_outside, quiet_outside, stops_outside}
@@ -94,11 +94,11 @@ module _ (rows : List Row) (files : Files) (history : List Command) (released : 
 pub next_life_begins : NextLifeBegins
 next_life_begins rows w released least e x w' none sound happens front =
     subst (λ (y : Option Life). IsSoundOutside rows (record { files = w.files; history = w.history; life = y }) least released
-        → (h : Happens (record { files = w.files; history = w.history; life = y }) (e, x) w') → OpensFront (record { files = w.files; history = w.history; life = y }) least h.found x → IsSound ((e, x) ∷ rows) w' least released)
+    → (h : Happens (record { files = w.files; history = w.history; life = y }) (e, x) w') → OpensFront (record { files = w.files; history = w.history; life = y }) least h.found x → IsSound ((e, x) ∷ rows) w' least released)
     (sym none)
     (λ sound happens front.
-      subst (λ (v : World). IsSound ((e, x) ∷ rows) v least released) (sym happens.world)
-      (event_goes rows w.files w.history released least happens.found sound (fits (lifeless w.files w.history) e) e x refl happens.meets front))
+    subst (λ (v : World). IsSound ((e, x) ∷ rows) v least released) (sym happens.world)
+    (event_goes rows w.files w.history released least happens.found sound (fits (lifeless w.files w.history) e) e x refl happens.meets front))
     sound happens front
 
 -- ---- what an opening finds

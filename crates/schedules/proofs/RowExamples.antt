@@ -84,24 +84,100 @@ other_is_refused = (refl, ((refl, refl), (refl, ((refl, refl, refl), tt))))
 
 pub sweep_meets : AllMeet new_store (after_rows new_store opened put_rows) sweep_rows
 unfolding after begun_by stripe_of hash_of weighted_sum units_of chars
-sweep_meets =
-    (refl,
-    ((refl, refl), ((refl, omega arith),
-    ((refl, refl), ((refl, omega arith),
-    ((refl, refl), ((refl, omega arith),
-    ((refl, refl), ((refl, omega arith),
-    ((refl, refl), ((refl, omega arith),
-    ((refl, refl), ((refl, omega arith),
-    ((refl, refl), ((refl, omega arith),
-    ((refl, refl), ((refl, omega arith),
-    ((refl, refl), ((refl, omega arith),
-    ((refl, refl), ((refl, omega arith),
-    ((refl, refl), ((refl, omega arith),
-    ((refl, refl), ((refl, omega arith),
-    ((refl, refl), ((refl, omega arith),
-    ((refl, refl), ((refl, omega arith),
-    ((refl, refl), ((refl, omega arith),
-    ((refl, refl), ((refl, refl, refl), tt)))))))))))))))))))))))))))))))))
+sweep_meets = (
+  refl,
+  (
+    (refl, refl),
+    (
+      (refl, omega arith),
+      (
+        (refl, refl),
+        (
+          (refl, omega arith),
+          (
+            (refl, refl),
+            (
+              (refl, omega arith),
+              (
+                (refl, refl),
+                (
+                  (refl, omega arith),
+                  (
+                    (refl, refl),
+                    (
+                      (refl, omega arith),
+                      (
+                        (refl, refl),
+                        (
+                          (refl, omega arith),
+                          (
+                            (refl, refl),
+                            (
+                              (refl, omega arith),
+                              (
+                                (refl, refl),
+                                (
+                                  (refl, omega arith),
+                                  (
+                                    (refl, refl),
+                                    (
+                                      (refl, omega arith),
+                                      (
+                                        (refl, refl),
+                                        (
+                                          (refl, omega arith),
+                                          (
+                                            (refl, refl),
+                                            (
+                                              (refl, omega arith),
+                                              (
+                                                (refl, refl),
+                                                (
+                                                  (refl, omega arith),
+                                                  (
+                                                    (refl, refl),
+                                                    (
+                                                      (refl, omega arith),
+                                                      (
+                                                        (refl, refl),
+                                                        (
+                                                          (refl, omega arith),
+                                                          (
+                                                            (refl, refl),
+                                                            (
+                                                              (refl, omega arith),
+                                                              ((refl, refl), ((refl, refl, refl), tt)),
+                                                            ),
+                                                          ),
+                                                        ),
+                                                      ),
+                                                    ),
+                                                  ),
+                                                ),
+                                              ),
+                                            ),
+                                          ),
+                                        ),
+                                      ),
+                                    ),
+                                  ),
+                                ),
+                              ),
+                            ),
+                          ),
+                        ),
+                      ),
+                    ),
+                  ),
+                ),
+              ),
+            ),
+          ),
+        ),
+      ),
+    ),
+  ),
+)
 
 pub not_yet_in_hand : NotYetInHand
 unfolding after begun_by stripe_of hash_of weighted_sum units_of chars frame header

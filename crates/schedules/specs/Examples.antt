@@ -29,7 +29,7 @@ use Rattle.schedules.specs.declared.outcome.Outcome.TheVariants as outcome
 use Rattle.schedules.specs.World.{World, Life, Running, Committing, Rotating, begun_by, seen_of, start}
 use Rattle.schedules.specs.After.{after, log_called, running_called, synced_below}
 use Rattle.schedules.specs.Cases.{Meets, phase_of_checkpoint, phase_of_log}
-use Rattle.schedules.specs.Runs.{Row}
+use Rattle.schedules.specs.Runs.{Row, IsRun}
 
 -- ---- rows, the oldest first
 
@@ -139,6 +139,15 @@ released_rows gate =
 abbrev pub ChangeIsReleased : Type 0
 ChangeIsReleased = (bytes gate : Vec ℕ) → bytes.items ≡ frame_bytes → gate.items ≡ 165 ∷ [] →
     AllMeet new_store opened (staged_rows ++ (written_rows bytes ++ (withheld_rows ++ released_rows gate)))
+
+-- All of it, from the opening on, is a run.
+abbrev pub schedule_rows : StripeCount → Vec MapEntry → Vec ℕ → Vec ℕ → List Row
+schedule_rows stripes entries bytes gate =
+    (event.Open stripes None, outcome.Opened 0 entries) ∷ (staged_rows ++ (written_rows bytes ++ (withheld_rows ++ released_rows gate)))
+
+abbrev pub ScheduleIsRun : Type 0
+ScheduleIsRun = (stripes : StripeCount) (entries : Vec MapEntry) (bytes gate : Vec ℕ) → stripes.count ≡ 16 → entries.items ≡ [] → bytes.items ≡ frame_bytes
+    → gate.items ≡ 165 ∷ [] → IsRun (map (λ row. row.0) (schedule_rows stripes entries bytes gate)) (map (λ row. row.1) (schedule_rows stripes entries bytes gate))
 
 -- ---- or the machine stops before the gate is open, or within the call that opens it
 

@@ -1,5 +1,5 @@
 //! One change on a new store, row by row, each as the contract of a function.
-ghost use Rattle.schedules.specs.Examples.{BatchIsCommitted, ChangeIsReleased, ChangeIsStaged, CheckpointGoesOn, NewStoreOpens, NotYetInHand, OtherIsRefused, RotationGoesOn, StoppedBefore, StoppedOpen, StoppedShut};
+ghost use Rattle.schedules.specs.Examples.{BatchIsCommitted, ChangeIsReleased, ChangeIsStaged, CheckpointGoesOn, NewStoreOpens, NotYetInHand, OtherIsRefused, RotationGoesOn, ScheduleIsRun, StoppedBefore, StoppedOpen, StoppedShut};
 
 use store_layout::laws::{laws_of_new_stores, laws_of_opening};
 
@@ -17,6 +17,7 @@ pub fn one_change()
 /// Its frame is written and its reply released; or the machine stops before that.
 pub fn one_commit()
     ensures released { ChangeIsReleased }
+    ensures run { ScheduleIsRun }
     ensures before { StoppedBefore }
     ensures within_open { StoppedOpen }
     ensures within_shut { StoppedShut }
