@@ -9,7 +9,7 @@ use Rattle.java_hash.specs.Stripes.{stripe_of}
 use Rattle.java_hash.specs.Units.{units_of}
 use Rattle.disk_model.specs.Files.{AreBytes}
 use Rattle.store_layout.specs.Logs.{frame, header}
-use Rattle.schedules.specs.World.{World, begun_by, formatted, start}
+use Rattle.schedules.specs.World.{World, begun_by, start}
 use Rattle.schedules.specs.After.{after}
 use Rattle.schedules.specs.Examples.{AllMeet, ChangeIsReleased, after_rows, frame_bytes, new_store, opened, released_rows, staged_rows, withheld_rows, written_rows}
 use Rattle.schedules.proofs.RowExamples.{change_is_staged, meet_on}
@@ -49,18 +49,18 @@ withheld : Vec ℕ → World
 withheld bytes = after_rows new_store (written bytes) withheld_rows
 
 written_meets : (bytes : Vec ℕ) → bytes.items ≡ frame_bytes → AllMeet new_store staged (written_rows bytes)
-unfolding staged after begun_by start formatted stripe_of hash_of weighted_sum units_of chars frame header
+unfolding staged after begun_by start stripe_of hash_of weighted_sum units_of chars frame header
 written_meets bytes is = (
   (refl, record { file = omega arith; place = omega arith; bytes = subst AreBytes (sym is) frame_is_bytes }, refl),
   ((refl, record { file = omega arith; place = tt; bytes = λ i. omega arith }, refl), tt),
 )
 
 withheld_meets : (bytes : Vec ℕ) → AllMeet new_store (written bytes) withheld_rows
-unfolding written staged after begun_by start formatted stripe_of hash_of weighted_sum units_of chars frame header
+unfolding written staged after begun_by start stripe_of hash_of weighted_sum units_of chars frame header
 withheld_meets bytes = (refl, ((refl, omega arith), ((refl, refl), tt)))
 
 released_meets : (bytes gate : Vec ℕ) → gate.items ≡ 165 ∷ [] → AllMeet new_store (withheld bytes) (released_rows gate)
-unfolding withheld written staged after begun_by start formatted stripe_of hash_of weighted_sum units_of chars frame header
+unfolding withheld written staged after begun_by start stripe_of hash_of weighted_sum units_of chars frame header
 released_meets bytes gate is = (
   (refl, record { file = omega arith; place = omega arith; bytes = subst AreBytes (sym is) gate_is_bytes }, refl),
   ((refl, record { file = omega arith; place = tt; bytes = λ i. omega arith }, refl), (refl, (refl, ((refl, omega arith, refl), tt)))),

@@ -11,13 +11,13 @@ use Rattle.store_layout.specs.Logs.{IsClosed}
 use Rattle.store_layout.specs.Opening.{first_checkpoint}
 use Rattle.store_layout.specs.OpeningLaws.{FirstIsWhole, FirstStands}
 use Rattle.schedules.specs.declared.outcome.DeviceCall.TheVariants.{Write, Sync}
-use Rattle.schedules.specs.World.{formatted, seen_of, start}
+use Rattle.schedules.specs.World.{seen_of, start}
 use Rattle.schedules.specs.Laws.{BeginsEmpty, EnteredAsFailed}
 
 -- ---- the beginning
 
 pub first_sealed : FirstIsWhole → IsCheckpoint first_layout (first_checkpoint 16) (seen_of start.files 0)
-unfolding start formatted
+unfolding start
 first_sealed whole = record {
   rest = [];
   bytes = ap (λ (bytes : List ℕ). 165 ∷ bytes) (sym (append-nil (checkpoint_bytes first_layout (first_checkpoint 16))));
@@ -25,7 +25,7 @@ first_sealed whole = record {
 }
 
 pub first_closed : IsClosed first_layout 0 0 [] (seen_of start.files 2)
-unfolding start formatted
+unfolding start
 first_closed = record {
   gate = 0;
   rest = [];
@@ -35,7 +35,7 @@ first_closed = record {
 }
 
 pub begins_empty : FirstIsWhole → FirstStands → BeginsEmpty
-unfolding start formatted
+unfolding start
 begins_empty whole stands = stands (seen_of start.files) 16 (first_sealed whole) refl first_closed
 
 -- ---- a call within which a stop falls

@@ -8,7 +8,7 @@ use Rattle.map_model.specs.Maps.{Map}
 use Rattle.store_layout.specs.Opening.{Holds, StandsFor, map_of}
 use Rattle.store_layout.specs.OpeningLaws.{FirstIsWhole, FirstStands, OneStanding}
 use Rattle.schedules.specs.declared.outcome.MapEntry.{MapEntry}
-use Rattle.schedules.specs.World.{begun_by, formatted, seen_of, start}
+use Rattle.schedules.specs.World.{begun_by, seen_of, start}
 use Rattle.schedules.specs.After.{after, synced_below}
 use Rattle.schedules.specs.Cases.{entry_of}
 use Rattle.schedules.specs.Examples.{NewStoreOpens, new_store}
@@ -25,7 +25,7 @@ no_entries : finite.entries nothing ≡ []
 no_entries = none_from_length (finite.entries nothing) (sym (finite.len-entries nothing) ∙ finite.len-empty (slice_cmp nat_cmp) Value)
 
 pub new_holds : FirstIsWhole → Holds (seen_of start.files) new_store
-unfolding start formatted
+unfolding start
 new_holds whole = record { checkpoint = first_sealed whole; other = inl refl; logs = first_closed; reaches = omega arith }
 
 pub new_map : FirstIsWhole → FirstStands → OneStanding → map_of new_store ≡ nothing

@@ -28,7 +28,7 @@ use Rattle.schedules.specs.declared.outcome.MapEntry.{MapEntry}
 use Rattle.schedules.specs.declared.outcome.Outcome.{Outcome}
 use Rattle.schedules.specs.declared.outcome.Outcome.TheVariants as outcome
 use Rattle.schedules.specs.Machine.{Move, Calls, Releases, Stops, Opens}
-use Rattle.schedules.specs.World.{World, Life, begun_by, count, formatted, start}
+use Rattle.schedules.specs.World.{World, Life, begun_by, count, start}
 use Rattle.schedules.specs.After.{after}
 use Rattle.schedules.specs.Runs.{Row, IsRun, OpensWell, move_of_step, rows_onto}
 use Rattle.schedules.specs.Sound.{AnswersLegally, IsSound, IsSoundInside, IsSoundWith, ReleasesLegal, released_by, released_with}
@@ -170,7 +170,7 @@ module _ (whole : FirstIsWhole) (stands : FirstStands) (one : OneStanding) (stri
   all_meet = meet_split new_store opened (plain_rows bytes gate) (last_row ∷ []) (change_is_released bytes gate is opens)
 
   plain : are_plain new_store opened (plain_rows bytes gate) ≡ true
-  unfolding plain_rows are_plain is_plain is_quiet is_living after begun_by start formatted stripe_of hash_of weighted_sum units_of chars frame header
+  unfolding plain_rows are_plain is_plain is_quiet is_living after begun_by start stripe_of hash_of weighted_sum units_of chars frame header
   plain = refl
 
   before_last : (most : ℕ) × IsSound (onto (open_row ∷ []) (plain_rows bytes gate)) (after_rows new_store opened (plain_rows bytes gate)) most []
@@ -180,11 +180,11 @@ module _ (whole : FirstIsWhole) (stands : FirstStands) (one : OneStanding) (stri
   last_world = after_rows new_store opened (plain_rows bytes gate)
 
   lives_on : is_living last_world.life (count last_world) ≡ true
-  unfolding last_world plain_rows is_living after begun_by start formatted stripe_of hash_of weighted_sum units_of chars frame header
+  unfolding last_world plain_rows is_living after begun_by start stripe_of hash_of weighted_sum units_of chars frame header
   lives_on = refl
 
   legal : AnswersLegally last_world (event.Step 0) (outcome.Stepped (made.Saw 1) (ends.Replied 1 (Was None)))
-  unfolding last_world plain_rows after begun_by start formatted stripe_of hash_of weighted_sum units_of chars frame header
+  unfolding last_world plain_rows after begun_by start stripe_of hash_of weighted_sum units_of chars frame header
   legal = record {
     ticket = 0;
     position_is = refl;
@@ -197,7 +197,7 @@ module _ (whole : FirstIsWhole) (stands : FirstStands) (one : OneStanding) (stri
   end_world = after last_world new_store last_row.0 last_row.1
 
   lives_still : is_living end_world.life (count end_world) ≡ true
-  unfolding end_world last_row last_world plain_rows is_living after begun_by start formatted stripe_of hash_of weighted_sum units_of chars frame header
+  unfolding end_world last_row last_world plain_rows is_living after begun_by start stripe_of hash_of weighted_sum units_of chars frame header
   lives_still = refl
 
   released : List Call

@@ -22,7 +22,9 @@ use Rattle.store_layout.specs.Examples.{a, log_with_five, number}
 use Rattle.store_layout.specs.Logs.{Batch, IsClosed, frame, header, log_front}
 use Rattle.store_layout.specs.Opening.{Contents, StandsFor, first_checkpoint}
 use Rattle.store_layout.specs.OpeningLaws.{FirstIsWhole, FirstStands, OneStanding}
-use Rattle.schedules.specs.World.{begun_by, formatted, start}
+use Rattle.recovery.specs.Formatting.{new_contents}
+use Rattle.recovery.specs.Formatting.{new_contents}
+use Rattle.schedules.specs.World.{begun_by, start}
 use Rattle.schedules.specs.After.{after}
 use Rattle.schedules.specs.Examples.{StoppedBefore, StoppedOpen, StoppedShut, frame_bytes, put_a}
 use Rattle.schedules.proofs.FileLaws.{all_bytes, first_sealed}
@@ -64,7 +66,7 @@ open_closed = record {
   };
 }
 
-module _ (whole : FirstIsWhole) (stands : FirstStands) (one : OneStanding) (contents : Contents) (first : contents 0 ≡ formatted 16 0) (second : is_sealed (contents 1) ≡ false) where
+module _ (whole : FirstIsWhole) (stands : FirstStands) (one : OneStanding) (contents : Contents) (first : contents 0 ≡ new_contents 16 0) (second : is_sealed (contents 1) ≡ false) where
   sealed_there : IsCheckpoint first_layout (first_checkpoint 16) (contents 0)
   unfolding start
   sealed_there = subst (λ (content : List ℕ). IsCheckpoint first_layout (first_checkpoint 16) content) (sym first) (first_sealed whole)
@@ -125,20 +127,20 @@ left_byte byte = refl
 
 module _ (whole : FirstIsWhole) (stands : FirstStands) (one : OneStanding) where
   pub stopped_before : StoppedBefore
-  unfolding after begun_by start formatted stripe_of hash_of weighted_sum units_of chars frame header left_of log_file
+  unfolding after begun_by start stripe_of hash_of weighted_sum units_of chars frame header left_of log_file
   stopped_before bytes is =
-      shut_stands whole stands one _ (all_bytes (formatted 16 0)) refl 0 (λ e. omega (arith, e)) (ap (λ (items : List ℕ). left_of New (log_file items)) is ∙ left_shut)
+      shut_stands whole stands one _ (all_bytes (new_contents 16 0)) refl 0 (λ e. omega (arith, e)) (ap (λ (items : List ℕ). left_of New (log_file items)) is ∙ left_shut)
 
   pub stopped_open : StoppedOpen
-  unfolding after begun_by start formatted stripe_of hash_of weighted_sum units_of chars frame header left_of gated log_file
+  unfolding after begun_by start stripe_of hash_of weighted_sum units_of chars frame header left_of gated log_file
   stopped_open bytes gate is opens = (
-    open_stands whole stands one _ (all_bytes (formatted 16 0)) refl (ap₂ (λ (items opened : List ℕ). left_of New (gated items opened)) is opens ∙ left_new),
-    open_stands whole stands one _ (byte_at_rest 165 (formatted 16 0)) refl (ap₂ (λ (items opened : List ℕ). left_of (Byte 165) (gated items opened)) is opens ∙ left_byte 165),
+    open_stands whole stands one _ (all_bytes (new_contents 16 0)) refl (ap₂ (λ (items opened : List ℕ). left_of New (gated items opened)) is opens ∙ left_new),
+    open_stands whole stands one _ (byte_at_rest 165 (new_contents 16 0)) refl (ap₂ (λ (items opened : List ℕ). left_of (Byte 165) (gated items opened)) is opens ∙ left_byte 165),
   )
 
   pub stopped_shut : StoppedShut
-  unfolding after begun_by start formatted stripe_of hash_of weighted_sum units_of chars frame header left_of gated log_file
+  unfolding after begun_by start stripe_of hash_of weighted_sum units_of chars frame header left_of gated log_file
   stopped_shut bytes gate is opens = (
-    shut_stands whole stands one _ (all_bytes (formatted 16 0)) refl 0 (λ e. omega (arith, e)) (ap₂ (λ (items opened : List ℕ). left_of Old (gated items opened)) is opens ∙ left_old),
-    shut_stands whole stands one _ (byte_at_rest 127 (formatted 16 0)) refl 127 (λ e. omega (arith, e)) (ap₂ (λ (items opened : List ℕ). left_of (Byte 127) (gated items opened)) is opens ∙ left_byte 127),
+    shut_stands whole stands one _ (all_bytes (new_contents 16 0)) refl 0 (λ e. omega (arith, e)) (ap₂ (λ (items opened : List ℕ). left_of Old (gated items opened)) is opens ∙ left_old),
+    shut_stands whole stands one _ (byte_at_rest 127 (new_contents 16 0)) refl 127 (λ e. omega (arith, e)) (ap₂ (λ (items opened : List ℕ). left_of (Byte 127) (gated items opened)) is opens ∙ left_byte 127),
   )

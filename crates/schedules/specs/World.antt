@@ -1,16 +1,17 @@
 -- What the events and outcomes so far say of a store: its files, its history, and in a life its workers, its keeper and its counts.
-use Rattle.std.specs.Prelude.{ℕ, ◌+◌, ◌-◌, List, [], ◌∷◌, ◌++◌, length, take, drop, replicate, slice_index_or, Option, Some, None, Bool, true, false}
-use Rattle.std.specs.Prelude.{◌&&◌, ◌||◌, ◌==◌, nat_lt, if◌then◌else◌}
+use Rattle.std.specs.Prelude.{ℕ, ◌+◌, ◌-◌, List, [], ◌∷◌, length, take, drop, replicate, slice_index_or, Option, Some, None, Bool, true, false}
+use Rattle.std.specs.Prelude.{◌&&◌, ◌||◌, ◌==◌, nat_lt}
 use Rattle.java_hash.specs.Stripes.{stripe_of}
 use Rattle.map_types.specs.declared.commands.Command.{Command}
 use Rattle.log_records.specs.Layout.{first_layout}
 use Rattle.ticket_order.specs.declared.record.Asked.{Asked}
 use Rattle.ticket_order.specs.declared.record.Asked.TheVariants.{Changing, Reading}
-use Rattle.disk_model.specs.Files.{Contents, Files, at_rest}
-use Rattle.store_layout.specs.Checkpoints.{Section, checkpoint_bytes}
-use Rattle.store_layout.specs.Logs.{Batch, frame, log_front}
-use Rattle.store_layout.specs.Opening.{FoundLog, Opened, first_checkpoint, newest_of, prefix_of}
+use Rattle.disk_model.specs.Files.{Contents, Files}
+use Rattle.store_layout.specs.Checkpoints.{Section}
+use Rattle.store_layout.specs.Logs.{Batch, frame}
+use Rattle.store_layout.specs.Opening.{FoundLog, Opened, newest_of, prefix_of}
 use Rattle.store_layout.specs.Readings.{gate_behind}
+use Rattle.recovery.specs.Formatting.{new_files}
 
 -- ---- workers
 
@@ -112,16 +113,9 @@ pub record World : Type 0 where
 
 -- ---- the beginning
 
--- What formatting leaves in files that were empty: a sealed checkpoint without entries, and a log without batches.
-unfoldable pub formatted : ℕ → Contents
-formatted stripes = λ number.
-    if number == 0 then 165 ∷ checkpoint_bytes first_layout (first_checkpoint stripes)
-    else if number == 2 then log_front first_layout 0 0 [] ++ 0 ∷ []
-    else []
-
 -- a store that was formatted for 16 stripes, and no life
 unfoldable pub start : World
-start = record { files = λ number. at_rest (formatted 16 number); history = []; life = None }
+start = record { files = new_files 16; history = []; life = None }
 
 -- the first life's beginning, and each later one's: what was found is committed and published, and nothing is under way
 unfoldable pub begun_by : ℕ → Opened → Life

@@ -1,5 +1,5 @@
 -- A walk that isn't over has a step left.
-use Rattle.std.proofs.Common.{◌≡◌, ◌≤◌, [], Some, None, true, false, refl, arith}
+use Rattle.std.proofs.Common.{◌≡◌, ◌≤◌, [], Some, false, refl, arith}
 use Rattle.map_types.specs.declared.refusals.Refusal.{Refusal}
 use Rattle.ticket_order.specs.declared.change_walk.ChangeStage.{ChangeStage}
 use Rattle.ticket_order.specs.declared.change_walk.ChangeStage.TheVariants as change
