@@ -1,0 +1,6 @@
+use Rattle.ticket_order.specs.Walks.{ToChange}
+use Rattle.schedule_sim.proofs.Staying.{call_begins}
+use Rattle.schedule_sim.proofs.life.Life.change.Goals as goal
+
+pub returns : goal.returns
+returns c = call_begins _ _ _ _ _ (ToChange c.in_ok-clone.field-0) c.requires (c.is_idle.ensures c.if-not-is_idle.false) tt c.change-walk.ensures

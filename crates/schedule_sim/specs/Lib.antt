@@ -1,0 +1,5 @@
+pub mod Watching
+pub mod Words
+pub mod Tracing
+pub mod Living
+pub mod Walked

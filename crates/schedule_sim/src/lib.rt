@@ -1,0 +1,17 @@
+//! Whole schedules, played over a disk in memory: the walks of the workers on the plain words, and the
+//! keeper of the store.
+#![tactic(auto)]
+
+mod beginning;
+mod entries;
+mod job;
+mod keeping;
+mod life;
+mod running;
+mod store;
+#[cfg(test)]
+mod tests;
+mod traced;
+mod watched;
+
+pub use running::{Trace, run};

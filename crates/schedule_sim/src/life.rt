@@ -1,0 +1,216 @@
+//! A store that is open: its keeper, and its workers on the plain words.
+ghost use Rattle.std.specs.Prelude.{◌≡◌, ◌<◌, ℕ, [], None, true, length, replicate, IfOk};
+ghost use Rattle.ticket_order.specs.declared.record.Record.{Record};
+ghost use Rattle.ticket_order.specs.Walks.{Task, Fits, Next, IsUnderWay, next_kind};
+ghost use Rattle.one_history.specs.Turns.{record_of, opening_of};
+ghost use Rattle.flusher.specs.Fitting.{IsUnused};
+ghost use Rattle.flusher.specs.Fitting as keeping;
+ghost use Rattle.recovery.specs.Dividing.{ArePartsOf};
+ghost use Rattle.schedule_sim.specs.Tracing.{traced_states, traced_honest};
+ghost use Rattle.schedule_sim.specs.Watching.{MakesStep};
+ghost use Rattle.schedule_sim.specs.Living.{IsSound, IsSoundBut, IsCalling, IsReleasing, job_of};
+
+use crate::job::{Job, called, released};
+use crate::traced::Traced;
+use crate::watched::Watched;
+use atomic_methods::Part;
+use flusher::Keeper;
+use java_hash::StripeCount;
+use map_types::{Command, Read};
+use plain_words::PlainWords;
+use schedules::{Event, Made, Outcome};
+use std::alloc::{AllocError, Global};
+use std::mem;
+use ticket_order::{Stepped, Walk};
+
+/// The workers have the passes 0 to 63, and the keeper has the one after them.
+pub(crate) const WORKERS: usize = 64;
+
+#[derive(Drop)]
+pub(crate) struct Life {
+    pub keeper: Keeper<Traced>,
+    pub words: PlainWords,
+    pub jobs: Vec<Job>,
+}
+
+// All workers are idle.
+fn idle_workers(alloc: Global) -> Result<Vec<Job>, AllocError>
+    ensures { IfOk result (λ jobs. jobs.items ≡ replicate 64 Job.Idle) }
+{
+    let mut jobs = Vec::new(alloc);
+    for _worker in 0..WORKERS {
+        jobs.push(Job::Idle)?;
+    }
+    Ok(jobs)
+}
+
+// The pass makes the next step of its walk: which it was, and what it left.
+fn step_walk(words: &mut PlainWords, pass: usize, walk: Walk) -> (Made, Stepped)
+    requires pass { pass < length words.old.passes }
+    requires under_way { IsUnderWay words.old.stripes walk (record_of pass words.old) }
+    ensures one { MakesStep pass (next_kind words.old.stripes walk) words.old words.new result.0 }
+    ensures next { (b : Record) (task : Task) → Fits words.old.stripes b task walk (record_of pass words.old)
+        → Next words.old.stripes b task result.1 (record_of pass words.new) }
+{
+    let mut steps = Watched {
+        words,
+        pass,
+        made: None,
+    };
+    let stepped = walk.step(&mut steps);
+    let made = steps.made;
+    match made {
+        Some(made) => (made, stepped),
+        None => unreachable!(),
+    }
+}
+
+impl Life {
+    /// The life that begins with this keeper and these parts, after so many changes.
+    pub(crate) fn new(
+        alloc: Global,
+        keeper: Keeper<Traced>,
+        stripes: StripeCount,
+        parts: Vec<Part>,
+        first: u64,
+    ) -> Result<Life, AllocError>
+        requires parts { ArePartsOf stripes.count parts.items }
+        requires fits { (p : Record) → p.opening ≡ opening_of first parts.items → IsUnused first p
+            → keeping.Fits traced_states traced_honest stripes.count [] keeper p }
+        requires rests { keeper.capture ≡ None }
+        ensures { IfOk result IsSound }
+    {
+        let Ok(words) = PlainWords::new(alloc, stripes, parts, first, WORKERS as u16) else {
+            return Err(AllocError);
+        };
+        Ok(Life {
+            keeper,
+            words,
+            jobs: idle_workers(alloc)?,
+        })
+    }
+
+    fn is_idle(&self, worker: usize) -> bool
+        requires { length self.now.jobs.items ≡ 64 }
+        ensures { result ≡ true → (worker < 64) × (job_of worker self.now.jobs.items ≡ Job.Idle) }
+    {
+        worker < WORKERS && matches!(self.jobs[worker], Job::Idle)
+    }
+
+    pub(crate) fn change(&mut self, worker: usize, command: &Command) -> Result<Outcome, AllocError>
+        requires { IsSound self.old }
+        ensures { IsSound self.new }
+    {
+        if !self.is_idle(worker) {
+            return Ok(Outcome::Skipped);
+        }
+        let walk = Walk::change(self.keeper.alloc, command.clone()?);
+        self.jobs[worker] = Job::Calling(walk);
+        Ok(Outcome::Started)
+    }
+
+    pub(crate) fn read(&mut self, worker: usize, read: &Read) -> Result<Outcome, AllocError>
+        requires { IsSound self.old }
+        ensures { IsSound self.new }
+    {
+        if !self.is_idle(worker) {
+            return Ok(Outcome::Skipped);
+        }
+        self.jobs[worker] = Job::Calling(Walk::read(read.clone()?));
+        Ok(Outcome::Started)
+    }
+
+    pub(crate) fn release(&mut self, worker: usize) -> Outcome
+        requires { IsSound self.old }
+        ensures { IsSound self.new }
+    {
+        if worker >= WORKERS {
+            return Outcome::Skipped;
+        }
+        match mem::replace(&mut self.jobs[worker], Job::Idle) {
+            Job::Waiting(held) => {
+                self.jobs[worker] = Job::Releasing(Walk::release(held));
+                Outcome::Started
+            }
+            job => {
+                self.jobs[worker] = job;
+                Outcome::Skipped
+            }
+        }
+    }
+
+    fn step_call(&mut self, worker: usize, walk: Walk) -> Outcome
+        requires sound { IsSoundBut worker self.old }
+        requires worker { worker < 64 }
+        requires calling { IsCalling self.old.words.stripes walk (record_of worker self.old.words) }
+        ensures { IsSound self.new }
+    {
+        let (made, stepped) = step_walk(&mut self.words, worker, walk);
+        let (job, end) = called(stepped);
+        self.jobs[worker] = job;
+        Outcome::Stepped { made, end }
+    }
+
+    fn step_release(&mut self, worker: usize, walk: Walk) -> Outcome
+        requires sound { IsSoundBut worker self.old }
+        requires worker { worker < 64 }
+        requires releasing { IsReleasing self.old.words.stripes walk (record_of worker self.old.words) }
+        ensures { IsSound self.new }
+    {
+        let (made, stepped) = step_walk(&mut self.words, worker, walk);
+        let (job, end) = released(stepped);
+        self.jobs[worker] = job;
+        Outcome::Stepped { made, end }
+    }
+
+    /// The worker's walk makes its next step.
+    pub(crate) fn step(&mut self, worker: usize) -> Outcome
+        requires { IsSound self.old }
+        ensures { IsSound self.new }
+    {
+        if worker >= WORKERS {
+            return Outcome::Skipped;
+        }
+        match mem::replace(&mut self.jobs[worker], Job::Idle) {
+            Job::Calling(walk) => self.step_call(worker, walk),
+            Job::Releasing(walk) => self.step_release(worker, walk),
+            job => {
+                self.jobs[worker] = job;
+                Outcome::Skipped
+            }
+        }
+    }
+
+    /// An event of a life, which doesn't end it.
+    pub(crate) fn happen(&mut self, event: &Event) -> Result<Outcome, AllocError>
+        requires { IsSound self.old }
+        ensures { IsSound self.new }
+    {
+        match event {
+            Event::Change { worker, command } => self.change(*worker, command),
+            Event::Read { worker, read } => self.read(*worker, read),
+            Event::Step { worker } => Ok(self.step(*worker)),
+            Event::Release { worker } => Ok(self.release(*worker)),
+            Event::Sweep => Ok(self.sweep()),
+            Event::KeeperStep => Ok(self.step_keeper()),
+            Event::Stage { most } => Ok(self.stage(*most)),
+            Event::Device { side, ending } => self.call_device(*side, ending),
+            Event::Publish => Ok(self.publish()),
+            Event::Fail => Ok(self.fail()),
+            Event::Begin => Ok(self.begin()),
+            Event::Capture { stripe } => Ok(self.capture(*stripe)),
+            Event::Seal => Ok(self.seal()),
+            Event::Open { .. } | Event::Stop { .. } | Event::Leave => Ok(Outcome::Skipped),
+        }
+    }
+
+    /// The disk, once the life is over.
+    pub(crate) fn into_disk(self) -> Traced {
+        let Life {
+            keeper,
+            words: _words,
+            jobs: _jobs,
+        } = self;
+        keeper.into_disk()
+    }
+}
