@@ -1,0 +1,10 @@
+use Rattle.keeper_states.proofs.Capturing.{capture_answers, capture_refuses}
+use Rattle.keeper_states.proofs.CaptureSteps.{capture_step_answers}
+use Rattle.keeper_states.proofs.laws.laws_of_captures.Goals as goal
+
+pub returns : goal.returns
+returns g c = record {
+  begins = capture_answers g.D.Disk.states g.D.Disk.honest;
+  refuses = capture_refuses g.D.Disk.states g.D.Disk.honest;
+  steps = capture_step_answers g.D.Disk.states g.D.Disk.honest;
+}

@@ -1,0 +1,81 @@
+-- How a keeper and its pass stand against the world.
+use Rattle.std.specs.Prelude.{◌≡◌, ℕ, ◌≤◌, List, ◌++◌, length, take, drop, Option, None, Some, Bool, false}
+use Rattle.map_types.specs.declared.commands.Command.{Command}
+use Rattle.map_model.specs.Steps.{fold_of}
+use Rattle.std.specs.List.{Contains}
+use Rattle.ticket_order.specs.declared.record.Record.{Record}
+use Rattle.ticket_order.specs.declared.stripe.Entry.{Entry}
+use Rattle.ticket_order.specs.Records.{entry}
+use Rattle.disk_model.specs.Files.{Files, now}
+use Rattle.store_layout.specs.Checkpoints.{Section}
+use Rattle.gate_log.specs.States.{LogState}
+use Rattle.checkpoint_file.specs.States.{CheckpointState, first_phase}
+use Rattle.flusher.specs.declared.keeper.Keeper.{Keeper}
+use Rattle.flusher.specs.Rotating.{logs_of}
+use Rattle.checkpoint_walk.specs.Checkpointing.{HasGiven}
+use Rattle.schedules.specs.World.{World, Life, InHand, Running, place_of}
+use Rattle.schedules.specs.declared.event.Event.{Event}
+use Rattle.schedules.specs.declared.outcome.Outcome.{Outcome}
+use Rattle.schedules.specs.After.{after_inside}
+use Rattle.schedules.specs.Cases.{HappensInside}
+use Rattle.keeper_states.specs.Showing.{running_shown, sweep_shown, walk_shown, work_shown}
+
+-- The pass began with this life, and what it has seen is a front of the commands that the life has added.
+pub record SeesHistory (p : Record) (w : World) (l : Life) : Type 0 where
+  pub first : p.opening.first ≡ l.first
+  pub within : l.first ≤ length w.history
+  pub opening : p.opening.map ≡ fold_of (take l.first w.history)
+  pub unseen : List Command
+  pub added : drop l.first w.history ≡ p.seen ++ unseen
+
+-- none is written; or one is, and was given the sections that the world has
+abbrev pub IsWritten : Option CheckpointState → Option Running → Files → Type 0
+IsWritten None running files = running ≡ None
+IsWritten (Some w) running files = (sections : List Section) × (running ≡ Some (running_shown w sections)) × HasGiven (Some w) sections files
+
+-- while the log that follows is begun a checkpoint is begun too, in whose file no call was made
+abbrev pub BeginsBoth : Option LogState → Option CheckpointState → Bool → Type 0
+BeginsBoth None writer must_close = Unit {0}
+BeginsBoth (Some next) None must_close = ⊥
+BeginsBoth (Some next) (Some w) must_close = w.phase ≡ first_phase must_close
+
+-- what it knows of its files
+pub record KnowsStore {D : Type 0} (states : D → List Files) (keeper : Keeper D) (l : Life) : Type 0 where
+  pub log : l.log ≡ work_shown (logs_of keeper) (length keeper.staged.items)
+  pub newest : l.newest ≡ keeper.log.generation
+  pub gate : l.gate ≡ keeper.log.gate
+  pub sealed : l.sealed ≡ keeper.sealed
+  pub checkpoint : IsWritten keeper.checkpoint l.checkpoint (now (states keeper.disk))
+  pub both : BeginsBoth keeper.next keeper.checkpoint keeper.must_close
+
+-- The keeper, whose pass has this record, is as the events and outcomes so far say. Of its files that is so until a device call fails.
+pub record KeeperStands {D : Type 0} (states : D → List Files) (keeper : Keeper D) (p : Record) (w : World) (l : Life) : Type 0 where
+  pub life : w.life ≡ Some l
+  pub files : w.files ≡ now (states keeper.disk)
+  pub history : SeesHistory p w l
+  pub stripes : l.stripes ≡ keeper.stripes.count
+  pub sweep : l.sweep ≡ sweep_shown keeper.sweeper.sweep
+  pub walk : l.walk ≡ walk_shown keeper.stripes.count keeper p
+  pub committed : l.committed ≡ keeper.log.committed
+  pub durable : l.durable ≡ keeper.published
+  pub has_failed : l.has_failed ≡ keeper.has_failed
+  pub is_broken : l.is_broken ≡ keeper.is_broken
+  pub store : keeper.is_broken ≡ false → KnowsStore states keeper l
+
+-- A ticket of this life is in hand, or was and is committed, exactly where a sweep of the pass took its entry.
+pub record TellsPlaces (p : Record) (l : Life) : Type 0 where
+  pub taken : (e : Entry) → Contains p.taken e → place_of l e.ticket ≡ InHand
+  pub in_hand : (t : ℕ) → l.first ≤ t → place_of l t ≡ InHand → (c : Command) × Contains p.taken (entry t c)
+
+abbrev pub StandsIn : {D : Type 0} → (D → List Files) → Keeper D → Record → World → Option Life → Type 0
+StandsIn states keeper p w None = ⊥
+StandsIn states keeper p w (Some l) = KeeperStands states keeper p w l
+
+-- a life is there, and the keeper stands so
+abbrev pub HasKeeper : {D : Type 0} → (D → List Files) → Keeper D → Record → World → Type 0
+HasKeeper states keeper p w = StandsIn states keeper p w w.life
+
+-- The outcome meets the case of its event, and the keeper stands against the world after it.
+pub record Answers {D : Type 0} (states : D → List Files) (keeper : Keeper D) (p : Record) (w : World) (l : Life) (e : Event) (x : Outcome) : Type 0 where
+  pub happens : HappensInside w l e x
+  pub stands : HasKeeper states keeper p (after_inside w l e x)

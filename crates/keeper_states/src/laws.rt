@@ -1,0 +1,48 @@
+//! Laws of a keeper against its world, each as the contract of a function.
+ghost use Rattle.keeper_states.specs.Laws.{BeginAnswers, BrokenAnswers, CaptureAnswers, CaptureRefuses, CaptureStepAnswers, CheckpointAnswers, CheckpointFails, FailAnswers, LogAnswers, LogFails, PublishAnswers, SealAnswers, StageAnswers, SweepAnswers, SweepStepAnswers};
+
+use disk_model::Disk;
+
+/// A DURABLE gives the committed count, and a FAIL is remembered.
+pub fn laws_of_counts<D: Disk>()
+    ensures publish { PublishAnswers D.states D.honest }
+    ensures fail { FailAnswers D.states }
+{}
+
+/// A checkpoint is begun, and goes on to its seal; or it is refused.
+pub fn laws_of_seals<D: Disk>()
+    ensures begin { BeginAnswers D.states D.honest }
+    ensures seal { SealAnswers D.states D.honest }
+{}
+
+/// A device call of the log is made, and fails or doesn't; after a call has failed none is made.
+pub fn laws_of_log_calls<D: Disk>()
+    ensures done { LogAnswers D.states D.failures D.honest }
+    ensures fails { LogFails D.states D.failures D.honest }
+    ensures broken { BrokenAnswers D.states }
+{}
+
+/// A device call of the checkpoint is made, and fails or doesn't. After the last of a seal the files use
+/// the checkpoint that was begun.
+pub fn laws_of_checkpoint_calls<D: Disk>()
+    ensures done { CheckpointAnswers D.states D.failures D.honest }
+    ensures fails { CheckpointFails D.states D.failures D.honest }
+{}
+
+/// The longest run of tickets in hand is staged, or is refused.
+pub fn laws_of_batches<D: Disk>()
+    ensures stage { StageAnswers D.states D.honest }
+{}
+
+/// A sweep begins, goes on, waits, and ends.
+pub fn laws_of_sweeps<D: Disk>()
+    ensures begins { SweepAnswers D.states D.honest }
+    ensures steps { SweepStepAnswers D.states D.honest }
+{}
+
+/// A capture begins with its TAKE, or is refused; then come its LOOK and its GIVE.
+pub fn laws_of_captures<D: Disk>()
+    ensures begins { CaptureAnswers D.states D.honest }
+    ensures refuses { CaptureRefuses D.states D.honest }
+    ensures steps { CaptureStepAnswers D.states D.honest }
+{}

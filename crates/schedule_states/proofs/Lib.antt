@@ -1,0 +1,15 @@
+pub mod Lists
+pub mod Ways
+pub mod Asks
+pub mod Standing
+pub mod Begins
+pub mod Holding
+pub mod Legal
+pub mod Places
+pub mod Turns
+pub mod Moving
+pub mod Calling
+pub mod Replying
+pub mod Leaving
+pub mod Starting
+pub mod Sweeping

@@ -1,0 +1,4 @@
+pub mod Doings
+pub mod Words
+pub mod Workers
+pub mod Laws

@@ -1,0 +1,40 @@
+//! Laws of the workers of a life, each as the contract of a function.
+ghost use Rattle.schedule_states.specs.Laws.{ChangeFits, ReadFits, StepFits, ReleaseFits, ChangeBegins, ReadBegins, ReleaseBegins, CallSteps, ReleaseSteps, WalksAreUnderWay, CallsLeave, ReleasesLeave, LifeBegins, KeeperSteps};
+
+/// Which events of a worker fit, by what it does.
+pub fn fits_of_workers()
+    ensures change { ChangeFits }
+    ensures read { ReadFits }
+    ensures step { StepFits }
+    ensures release { ReleaseFits }
+{}
+
+/// What holds of the workers when a life begins.
+pub fn beginnings_of_lives()
+    ensures stand { LifeBegins }
+{}
+
+/// A worker begins a walk.
+pub fn beginnings_of_walks()
+    ensures change { ChangeBegins }
+    ensures read { ReadBegins }
+    ensures release { ReleaseBegins }
+{}
+
+/// What the walk of a worker may do, and what it may leave.
+pub fn walks_of_workers()
+    ensures under_way { WalksAreUnderWay }
+    ensures calls { CallsLeave }
+    ensures releases { ReleasesLeave }
+{}
+
+/// A worker's walk makes a step.
+pub fn steps_of_workers()
+    ensures calls { CallSteps }
+    ensures releases { ReleaseSteps }
+{}
+
+/// What a step of the keeper leaves to the workers.
+pub fn steps_of_the_keeper()
+    ensures workers { KeeperSteps }
+{}
