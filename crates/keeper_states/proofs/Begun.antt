@@ -61,10 +61,10 @@ module _ {D : Type 0} (states : D → List Files) (old : Keeper D) (p : Record) 
   may m =
       let k = s.store works in
       and_true (not (is_some l.checkpoint)) (nat_lt (l.sealed + 1) (2 ^ 64) && (not (needs_rotation l) || is_resting l.log)) (not_false (is_some l.checkpoint) (none_in_world old.checkpoint l.checkpoint (now (states old.disk)) m.none_runs k.checkpoint))
-        (and_true (nat_lt (l.sealed + 1) (2 ^ 64)) (not (needs_rotation l) || is_resting l.log) (less_is (l.sealed + 1) (2 ^ 64) (subst (λ g. g + 1 < 2 ^ 64) (sym k.sealed) m.fits))
-          (or_rests (needs_rotation l) (is_resting l.log) (λ needs.
-            let rests = m.rests (sym k.newest ∙ is_same l.newest l.sealed needs ∙ k.sealed) in
-            ap is_resting (k.log ∙ ap (λ o. work_by old.log o (length old.staged.items)) m.no_rotation ∙ ap (λ ph. committing ph (length old.staged.items)) rests.0))))
+      (and_true (nat_lt (l.sealed + 1) (2 ^ 64)) (not (needs_rotation l) || is_resting l.log) (less_is (l.sealed + 1) (2 ^ 64) (subst (λ g. g + 1 < 2 ^ 64) (sym k.sealed) m.fits))
+      (or_rests (needs_rotation l) (is_resting l.log) (λ needs.
+      let rests = m.rests (sym k.newest ∙ is_same l.newest l.sealed needs ∙ k.sealed) in
+      ap is_resting (k.log ∙ ap (λ o. work_by old.log o (length old.staged.items)) m.no_rotation ∙ ap (λ ph. committing ph (length old.staged.items)) rests.0))))
 
   may_not : MayRotate old.next old.log old.staged.items → may_begin l ≡ true → MayBegin old
   may_not goes e =
@@ -78,9 +78,10 @@ module _ {D : Type 0} (states : D → List Files) (old : Keeper D) (p : Record) 
         no_rotation = alone;
         fits = subst (λ g. g + 1 < 2 ^ 64) k.sealed (is_less (l.sealed + 1) (2 ^ 64) b.0);
         rests = λ needs.
-          let rests : is_resting l.log ≡ true = rests_or (needs_rotation l) (is_resting l.log) b.1 (same_is l.newest l.sealed (k.newest ∙ needs ∙ sym k.sealed)) in
-          (resting_idle old.log.phase (length old.staged.items) (sym (ap is_resting (k.log ∙ ap (λ o. work_by old.log o (length old.staged.items)) alone)) ∙ rests),
-            subst (λ o. MayRotate o old.log old.staged.items) alone goes);
+            let rests : is_resting l.log ≡ true = rests_or (needs_rotation l) (is_resting l.log) b.1 (same_is l.newest l.sealed (k.newest ∙ needs ∙ sym k.sealed)) in (
+              resting_idle old.log.phase (length old.staged.items) (sym (ap is_resting (k.log ∙ ap (λ o. work_by old.log o (length old.staged.items)) alone)) ∙ rests),
+              subst (λ o. MayRotate o old.log old.staged.items) alone goes,
+            );
       }
 
 -- ---- what it leaves
@@ -112,7 +113,7 @@ shown : (l : Life) (w : World) (sealed low stripes : ℕ) (must_close : Bool) �
     ≡ running_shown (begun (sealed + 1) low stripes must_close) []
 shown l w sealed low stripes must_close e close =
     let clears : clears_of (w.files (checkpoint_file (l.sealed + 1))).seen ≡ clears_left (first_phase must_close) =
-        ap (λ g. clears_of (w.files (checkpoint_file (g + 1))).seen) e ∙ clears_by (w.files (checkpoint_file (sealed + 1))).seen must_close close in
+    ap (λ g. clears_of (w.files (checkpoint_file (g + 1))).seen) e ∙ clears_by (w.files (checkpoint_file (sealed + 1))).seen must_close close in
     ap (λ g. let r : Running = record { generation = g + 1; clears = clears_of (w.files (checkpoint_file (l.sealed + 1))).seen; sections = []; is_waiting = false; seals = 0 } in r) e
     ∙ ap (λ c. let r : Running = record { generation = sealed + 1; clears = c; sections = []; is_waiting = false; seals = 0 } in r) clears
     ∙ ap (λ b. let r : Running = record { generation = sealed + 1; clears = clears_left (first_phase must_close); sections = []; is_waiting = b; seals = 0 } in r) (sym (never_waits must_close))
@@ -134,14 +135,14 @@ goes false log old next n so other = let z = other refl in z.1 ∙ sym (ap (λ o
 module _ {D : Type 0} (states : D → List Files) (honest : D → Type 0) (n : ℕ) (done : List Command) (old new : Keeper D) (p : Record) (w : World) (l : Life)
     (f : Fits states honest n done old p) (h : honest old.disk) (s : KeeperStands states old p w l) (works : old.is_broken ≡ false) (m : MayBegin old) (given : HasGiven new.checkpoint [] (now (states old.disk))) where
   after : (low : ℕ) → new.checkpoint ≡ Some (begun (old.sealed + 1) low old.stripes.count old.must_close)
-    → ((l.newest == l.sealed) ≡ true → (follows : LogState) × (new.next ≡ Some follows) × (follows.phase ≡ log_phase.Header)) → ((l.newest == l.sealed) ≡ false → new.next ≡ None)
-    → KeeperStands states (record old { next = new.next; checkpoint = new.checkpoint }) p (with_life w (checkpoint_begun w l)) (checkpoint_begun w l)
+      → ((l.newest == l.sealed) ≡ true → (follows : LogState) × (new.next ≡ Some follows) × (follows.phase ≡ log_phase.Header)) → ((l.newest == l.sealed) ≡ false → new.next ≡ None)
+      → KeeperStands states (record old { next = new.next; checkpoint = new.checkpoint }) p (with_life w (checkpoint_begun w l)) (checkpoint_begun w l)
   after low is so other =
       let k = s.store works in
       let holds = f.stores.works works h in
       let rest : now (states old.disk) (checkpoint_file (old.sealed + 1)) ≡ at_rest holds.held.other = rest_of old.checkpoint (store_of old) holds.held (now (states old.disk) (checkpoint_file (old.sealed + 1))) m.none_runs holds.stands.kept.writer in
       let close : old.must_close ≡ is_to_close (w.files (checkpoint_file (old.sealed + 1))).seen =
-          holds.must_close_is ∙ ap (λ (x : File). is_to_close x.seen) (sym (ap (λ (fs : Files). fs (checkpoint_file (old.sealed + 1))) s.files ∙ rest)) in
+      holds.must_close_is ∙ ap (λ (x : File). is_to_close x.seen) (sym (ap (λ (fs : Files). fs (checkpoint_file (old.sealed + 1))) s.files ∙ rest)) in
       record {
         life = refl;
         files = s.files;
@@ -168,13 +169,13 @@ module _ {D : Type 0} (states : D → List Files) (honest : D → Type 0) (n : �
       let k = s.store works in
       elim (either (l.newest == l.sealed)) [
         | inl so ↦
-          let g : old.log.generation ≡ old.sealed = sym k.newest ∙ is_same l.newest l.sealed so ∙ k.sealed in
-          let r = b.rotates g in
-          after old.log.committed r.1 (λ _. (log_begun (old.sealed + 1) old.log.committed, r.0, refl)) (λ other. absurd (two_ways (l.newest == l.sealed) so other))
+            let g : old.log.generation ≡ old.sealed = sym k.newest ∙ is_same l.newest l.sealed so ∙ k.sealed in
+            let r = b.rotates g in
+            after old.log.committed r.1 (λ _. (log_begun (old.sealed + 1) old.log.committed, r.0, refl)) (λ other. absurd (two_ways (l.newest == l.sealed) so other))
         | inr other ↦
-          let g : old.log.generation ≢ old.sealed = λ e. is_other l.newest l.sealed other (k.newest ∙ e ∙ sym k.sealed) in
-          let r = b.goes_with g in
-          after old.log.low r.1 (λ so. absurd (two_ways (l.newest == l.sealed) so other)) (λ _. r.0)
+            let g : old.log.generation ≢ old.sealed = λ e. is_other l.newest l.sealed other (k.newest ∙ e ∙ sym k.sealed) in
+            let r = b.goes_with g in
+            after old.log.low r.1 (λ so. absurd (two_ways (l.newest == l.sealed) so other)) (λ _. r.0)
       ]
 
 -- ---- the event
@@ -191,7 +192,7 @@ module _ {D : Type 0} (states : D → List Files) (honest : D → Type 0) (n : �
   refused_by e t (inr is) =
       let wrong = t.wrong_phase.0 (ap Err is) in
       subst (λ x. BeginsCheckpoint l (outcome.Refused x)) (sym is)
-        (s.is_broken ∙ wrong.0, false_from_ne_true (may_begin l) (λ so. wrong.1 (may_not states old p w l s wrong.0 f.rotation so)))
+      (s.is_broken ∙ wrong.0, false_from_ne_true (may_begin l) (λ so. wrong.1 (may_not states old p w l s wrong.0 f.rotation so)))
 
   begin_by : (result : Result (Unit {0}) Refusal) → TriesBegin states honest old new result → Answers states new p w l event.Begin (begun_as result)
   begin_by (Ok unit) t =

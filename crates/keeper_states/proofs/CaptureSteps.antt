@@ -125,9 +125,11 @@ module _ {D : Type 0} (states : D → List Files) (honest : D → Type 0) (n : �
       let looked = a.looked f.begun f.stripe (taken_at n f.begun f.stripe walk p a.kind f.walked) in
       let last = looks_last n f.begun f.stripe a.next q looked in
       let count : e.0 ≡ reach q = same_count (sym e.1 ∙ (same_from_push p.steps last.front t.step (Looked (reach q)) (sym t.steps ∙ last.is)).1) in
-      subst (λ m. StepsKeeper w l CaptureLooks m ends.Goes × HasKeeper states new q (with_life w (keeper_stepped w l CaptureLooks m ends.Goes))) (sym e.2)
-        (subst (AgreesWith w l) e.2 t.agrees, captured old.checkpoint (Some a.next) l.checkpoint (CaptureGives e.0) a.is
-          (ap CaptureGives count ∙ sym (ap (λ i. capture_shown (next_kind i a.next) (reach q)) stripes_are ∙ ap (λ kind. capture_shown kind (reach q)) looked.next)) k.checkpoint k.both)
+      subst (λ m. StepsKeeper w l CaptureLooks m ends.Goes × HasKeeper states new q (with_life w (keeper_stepped w l CaptureLooks m ends.Goes))) (sym e.2) (
+        subst (AgreesWith w l) e.2 t.agrees,
+        captured old.checkpoint (Some a.next) l.checkpoint (CaptureGives e.0) a.is
+            (ap CaptureGives count ∙ sym (ap (λ i. capture_shown (next_kind i a.next) (reach q)) stripes_are ∙ ap (λ kind. capture_shown kind (reach q)) looked.next)) k.checkpoint k.both,
+      )
     where
       same_count : {a b : ℕ} → Looked a ≡ Looked b → a ≡ b
       same_count e = cc
@@ -139,9 +141,10 @@ module _ {D : Type 0} (states : D → List Files) (honest : D → Type 0) (n : �
 
   gives_back : (e : Refusal) (i mark : ℕ) (m : Made) → f.stripe ≡ i → (e ≡ refusal.LogFull → 2 ^ 32 - 1 < section_size w l mark l.checkpoint) → PutsBack f.begun f.stripe e old new q → m ≡ told.Gave i
       → GivesCaptured w l mark m (ends.Refused e) × HasKeeper states new q (with_life w (capture_gives w l mark (ends.Refused e)))
-  gives_back e i mark m same large back gave =
-      (subst (λ m. GivesCaptured w l mark m (ends.Refused e)) (sym gave) (happens back.no_other),
-        captured old.checkpoint None l.checkpoint Rests back.is resting k.checkpoint k.both)
+  gives_back e i mark m same large back gave = (
+    subst (λ m. GivesCaptured w l mark m (ends.Refused e)) (sym gave) (happens back.no_other),
+    captured old.checkpoint None l.checkpoint Rests back.is resting k.checkpoint k.both,
+  )
     where
       happens : (e ≡ refusal.NoMemory) ⊎ (e ≡ refusal.LogFull) → GivesCaptured w l mark (told.Gave i) (ends.Refused e)
       happens (inl is) = subst (λ x. GivesCaptured w l mark (told.Gave i) (ends.Refused x)) (sym is) (stripe_is i same)
@@ -155,12 +158,15 @@ module _ {D : Type 0} (states : D → List Files) (honest : D → Type 0) (n : �
       let written : IsWritten (Some v) l.checkpoint (now (states old.disk)) = subst (λ o. IsWritten o l.checkpoint (now (states old.disk))) g.was k.checkpoint in
       let sections : List Section = written.0 in
       let next : IsNextStripe f.stripe old.next (Some v) = subst (IsNextStripe f.stripe old.next) g.was f.next in
-      let part = given written.0 (subst (λ o. HasGiven o written.0 (now (states old.disk))) (sym g.was) written.2) in
-      (subst (λ m. GivesCaptured w l mark m (ends.Captured mark)) (sym gave) (stripe_is i same, refl, small mark i v g written.0 written.1 (place i v same next written.0 written.2)),
-        captured (Some (checkpoint.with_section mark g.entries v)) None (with_section w l mark l.checkpoint) Rests g.is resting
-          (written.0 ++ part.section ∷ [], ap (with_section w l mark) written.1 ∙ ap Some (shown v written.0 (section_at w l mark (running_shown v written.0)) part.section mark g.entries next.1.0 (same_section mark i v g written.0 part)),
-            subst (λ k. HasGiven k.checkpoint (written.0 ++ part.section ∷ []) (now (states k.disk))) g.is part.given)
-          (not_first old.next v (checkpoint.with_section mark g.entries v) old.must_close next.0))
+      let part = given written.0 (subst (λ o. HasGiven o written.0 (now (states old.disk))) (sym g.was) written.2) in (
+        subst (λ m. GivesCaptured w l mark m (ends.Captured mark)) (sym gave) (stripe_is i same, refl, small mark i v g written.0 written.1 (place i v same next written.0 written.2)),
+        captured (Some (checkpoint.with_section mark g.entries v)) None (with_section w l mark l.checkpoint) Rests g.is resting (
+          written.0 ++ part.section ∷ [],
+          ap (with_section w l mark) written.1 ∙ ap Some (shown v written.0 (section_at w l mark (running_shown v written.0)) part.section mark g.entries next.1.0 (same_section mark i v g written.0 part)),
+          subst (λ k. HasGiven k.checkpoint (written.0 ++ part.section ∷ []) (now (states k.disk))) g.is part.given,
+        )
+            (not_first old.next v (checkpoint.with_section mark g.entries v) old.must_close next.0),
+      )
     where
       place : (i : ℕ) (v : CheckpointState) → f.stripe ≡ i → IsNextStripe f.stripe old.next (Some v) → (sections : List Section) → HasGiven (Some v) sections (now (states old.disk)) → length sections ≡ i
       place i v same next sections given = sym given.1.knows.count ∙ next.2 ∙ same
@@ -195,13 +201,13 @@ module _ {D : Type 0} (states : D → List Files) (honest : D → Type 0) (n : �
       let g = a.2 f.begun (subst (λ i. HasLooked n f.begun i walk p) looked.1 looked.0) in
       let same : mark ≡ reach p = same_mark n a.0 mark g.entries f.begun p q t.step g.captures (looks_last n f.begun f.stripe walk p looked.0) t.steps in
       subst (λ kind. StepsKeeper w l (capture_shown kind (reach p)) m (ends.Captured mark) × HasKeeper states new q (with_life w (keeper_stepped w l (capture_shown kind (reach p)) m (ends.Captured mark)))) (sym a.1)
-        (subst (λ x. GivesCaptured w l x m (ends.Captured mark) × HasKeeper states new q (with_life w (capture_gives w l x (ends.Captured mark)))) same (gives mark a.0 m g looked.1 gave (given mark refl)))
+      (subst (λ x. GivesCaptured w l x m (ends.Captured mark) × HasKeeper states new q (with_life w (capture_gives w l x (ends.Captured mark)))) same (gives mark a.0 m g looked.1 gave (given mark refl)))
   goes (Err e) m a t large given =
       let looked = looked_at n f.begun f.stripe a.0 walk p a.1 f.walked in
       let gave : m ≡ told.Gave a.0 = give_told t.step a.0 m (t.kind_is ∙ a.1) t.told_is in
       let back : PutsBack f.begun f.stripe e old new q = subst (λ i. PutsBack f.begun i e old new q) (sym looked.1) (a.2 f.begun (subst (λ i. HasLooked n f.begun i walk p) looked.1 looked.0)) in
       subst (λ kind. StepsKeeper w l (capture_shown kind (reach p)) m (ends.Refused e) × HasKeeper states new q (with_life w (keeper_stepped w l (capture_shown kind (reach p)) m (ends.Refused e)))) (sym a.1)
-        (gives_back e a.0 (reach p) m looked.1 (λ is. large (ap Err is)) back gave)
+      (gives_back e a.0 (reach p) m looked.1 (λ is. large (ap Err is)) back gave)
 
 pub capture_step_answers : {D : Type 0} (states : D → List Files) (honest : D → Type 0) → CaptureStepAnswers states honest
 capture_step_answers {D} states honest n done stripe walk old new p q w l result m fw h s is on large t =

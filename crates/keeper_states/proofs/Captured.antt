@@ -33,9 +33,9 @@ take_both (suc a) b (x ∷ xs) = ap (λ k. take k (x ∷ xs)) {x = suc a + b} {y
 pub same_fold : (q : Record) (w : World) (l : Life) (mark : ℕ) → SeesHistory q w l → q.opening.first ≤ mark → mark ≤ reach q → fold_to (history_of q) mark ≡ fold_of (take mark w.history)
 same_fold q w l mark s low high =
     let part : take (mark - q.opening.first) q.seen ≡ take (mark - l.first) (drop l.first w.history) =
-        sym (take-append-le (mark - q.opening.first) q.seen s.unseen (omega (arith, low, high))) ∙ ap (take (mark - q.opening.first)) (sym s.added) ∙ ap (λ k. take (mark - k) (drop l.first w.history)) s.first in
+    sym (take-append-le (mark - q.opening.first) q.seen s.unseen (omega (arith, low, high))) ∙ ap (take (mark - q.opening.first)) (sym s.added) ∙ ap (λ k. take (mark - k) (drop l.first w.history)) s.first in
     let whole : take mark w.history ≡ take l.first w.history ++ take (mark - l.first) (drop l.first w.history) =
-        ap (λ k. take k w.history) {x = mark} {y = l.first + (mark - l.first)} (omega (arith, low, s.first)) ∙ take_both l.first (mark - l.first) w.history in
+    ap (λ k. take k w.history) {x = mark} {y = l.first + (mark - l.first)} (omega (arith, low, s.first)) ∙ take_both l.first (mark - l.first) w.history in
     ap (λ m. map_after m (take (mark - q.opening.first) q.seen)) s.opening ∙ ap (map_after (fold_of (take l.first w.history))) part
     ∙ sym (map_after-append finite.empty (take l.first w.history) (take (mark - l.first) (drop l.first w.history))) ∙ ap fold_of (sym whole)
 

@@ -45,7 +45,7 @@ module _ {D : Type 0} (states : D → List Files) (honest : D → Type 0) (n : �
   next_may works e =
       let holds = f.stores.works works h in
       next_by l (now (states old.disk)) n (s.stripes ∙ f.stripes.count) stripe old.checkpoint l.checkpoint old.next old.must_close (s.store works).checkpoint (stripes_by n old f.stripes)
-        (λ v is. under_way old.checkpoint (store_of old) holds.held (now (states old.disk) (checkpoint_file (old.sealed + 1))) v is holds.stands.kept.writer) (s.store works).both e
+      (λ v is. under_way old.checkpoint (store_of old) holds.held (now (states old.disk) (checkpoint_file (old.sealed + 1))) v is holds.stands.kept.writer) (s.store works).both e
 
   -- ---- its TAKE
 

@@ -132,9 +132,11 @@ module _ {D : Type 0} (states : D → List Files) (failures : D → ℕ) (honest
   uses = last_by l.checkpoint (running_shown v written.0) shown (called call w.files) l (λ last.
       let opened : v.phase ≡ Opened = last_opened v written.0 v.phase last in
       let given : HasGiven old.checkpoint written.0 (now (states old.disk)) = subst (λ o. HasGiven o written.0 (now (states old.disk))) (sym is) written.2 in
-      let stripes : v.stripes ≡ l.stripes = stripes_by n old f.stripes v is ∙ sym f.stripes.count ∙ sym s.stripes in
-      (v.low, subst (λ fs. UsesCheckpoint (record { generation = v.generation; low = v.low; stripes = l.stripes; sections = written.0 }) fs) (sym same_files)
-        (subst (λ m. UsesCheckpoint (record { generation = v.generation; low = v.low; stripes = m; sections = written.0 }) (now (states new.disk))) stripes (t.sealed n done p v written.0 f h alone is opened given))))
+      let stripes : v.stripes ≡ l.stripes = stripes_by n old f.stripes v is ∙ sym f.stripes.count ∙ sym s.stripes in (
+        v.low,
+        subst (λ fs. UsesCheckpoint (record { generation = v.generation; low = v.low; stripes = l.stripes; sections = written.0 }) fs) (sym same_files)
+            (subst (λ m. UsesCheckpoint (record { generation = v.generation; low = v.low; stripes = m; sections = written.0 }) (now (states new.disk))) stripes (t.sealed n done p v written.0 f h alone is opened given)),
+      ))
 
   -- how the keeper stands where the store does so
   stands_by : (m : Life) → m ≡ record l { checkpoint = m.checkpoint; sealed = m.sealed } → KnowsStore states new m → KeeperStands states new p (with_files w (called call w.files) m) m
@@ -144,18 +146,18 @@ module _ {D : Type 0} (states : D → List Files) (failures : D → ℕ) (honest
       let sweeper_is : new.sweeper ≡ old.sweeper = ap (λ (k : Keeper D). k.sweeper) t.same in
       let u : Life = record l { checkpoint = m.checkpoint; sealed = m.sealed } in
       let at : KeeperStands states new p (with_files w (called call w.files) u) u = record {
-          life = refl;
-          files = same_files;
-          history = same_history p p w (with_files w (called call w.files) u) l u refl refl refl refl s.history;
-          stripes = s.stripes ∙ sym (ap (λ x. x.count) stripes);
-          sweep = s.sweep ∙ ap (λ x. sweep_shown x.sweep) (sym sweeper_is);
-          walk = s.walk ∙ ap (λ x. walk_by x.count old.sweeper.walking old.capture p) (sym stripes) ∙ ap (λ x. walk_by new.stripes.count x.walking old.capture p) (sym sweeper_is) ∙ ap (λ o. walk_by new.stripes.count new.sweeper.walking o p) (sym capture);
-          committed = s.committed ∙ sym (ap (λ (k : Keeper D). k.log.committed) t.same);
-          durable = s.durable ∙ sym (ap (λ (k : Keeper D). k.published) t.same);
-          has_failed = s.has_failed ∙ sym (ap (λ (k : Keeper D). k.has_failed) t.same);
-          is_broken = s.is_broken ∙ works ∙ sym t.works;
-          store = λ _. subst (KnowsStore states new) like knows;
-        } in
+        life = refl;
+        files = same_files;
+        history = same_history p p w (with_files w (called call w.files) u) l u refl refl refl refl s.history;
+        stripes = s.stripes ∙ sym (ap (λ x. x.count) stripes);
+        sweep = s.sweep ∙ ap (λ x. sweep_shown x.sweep) (sym sweeper_is);
+        walk = s.walk ∙ ap (λ x. walk_by x.count old.sweeper.walking old.capture p) (sym stripes) ∙ ap (λ x. walk_by new.stripes.count x.walking old.capture p) (sym sweeper_is) ∙ ap (λ o. walk_by new.stripes.count new.sweeper.walking o p) (sym capture);
+        committed = s.committed ∙ sym (ap (λ (k : Keeper D). k.log.committed) t.same);
+        durable = s.durable ∙ sym (ap (λ (k : Keeper D). k.published) t.same);
+        has_failed = s.has_failed ∙ sym (ap (λ (k : Keeper D). k.has_failed) t.same);
+        is_broken = s.is_broken ∙ works ∙ sym t.works;
+        store = λ _. subst (KnowsStore states new) like knows;
+      } in
       subst (λ m. KeeperStands states new p (with_files w (called call w.files) m) m) (sym like) at
 
   log_same : l.log ≡ work_by new.log new.next (length new.staged.items)

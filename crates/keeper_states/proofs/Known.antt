@@ -47,9 +47,9 @@ module _ {D : Type 0} (states : D → List Files) (honest : D → Type 0) (n : �
       let at = log_in (history_of p) (store_of keeper) holds.held (now (states keeper.disk)) holds.stands in
       let stands = subst (λ ph. log.AtPhase ph keeper.log (newest_batches holds.held.found.first holds.held.found.second) holds.held.staged (now (states keeper.disk) (log_file keeper.log.generation))) opened at.stands in
       let next : log.HasNext None keeper.log (batches_of keeper.log.committed keeper.staged.items) = subst (λ o. log.HasNext o keeper.log (batches_of keeper.log.committed keeper.staged.items)) goes
-          (subst (λ bs. log.HasNext keeper.log.ending keeper.log bs) holds.staged_is stands.0) in
+      (subst (λ bs. log.HasNext keeper.log.ending keeper.log bs) holds.staged_is stands.0) in
       let long = framed (newest_batches holds.held.found.first holds.held.found.second) (now (states keeper.disk) (log_file keeper.log.generation)) keeper.staged.items next in
       let same : length (frame first_layout (next_batch w l (length keeper.staged.items))) ≡ length (frame first_layout (batch_of keeper.log.committed keeper.staged.items)) =
-          ap (λ c. length (frame first_layout (record { first = c; commands = next_commands w l (length keeper.staged.items) }))) s.committed
-          ∙ ap (λ cs. length (frame first_layout (record { first = keeper.log.committed; commands = cs }))) staged_next in
+      ap (λ c. length (frame first_layout (record { first = c; commands = next_commands w l (length keeper.staged.items) }))) s.committed
+      ∙ ap (λ cs. length (frame first_layout (record { first = keeper.log.committed; commands = cs }))) staged_next in
       omega (arith, same, long, gate)

@@ -73,8 +73,8 @@ module _ {D : Type 0} (states : D → List Files) (failures : D → ℕ) (honest
   goes_on =
       let steps = t.steps works (due_moves w l old.log before old.next (length old.staged.items) old.staged.items f.rotation stays) in
       subst (λ g. Moved w l g (logs_of new) (length new.staged.items)) (sym k.log) (subst (λ logs. Moved w l (work_shown (logs_of old) (length old.staged.items)) logs (length new.staged.items)) (sym steps.ok.0)
-        (moved w l old.log before old.next (length old.staged.items) (length new.staged.items) old.sweeper new.sweeper old.staged.items new.staged.items f.rotation (f.stores.works works h).stands.kept.ready stays refl refl t.hand
-          (λ alone opened. staged_gate states honest n done old p w l f s h works opened (no_end old.next refl alone) k.gate) f.counts.count))
+      (moved w l old.log before old.next (length old.staged.items) (length new.staged.items) old.sweeper new.sweeper old.staged.items new.staged.items f.rotation (f.stores.works works h).stands.kept.ready stays refl refl t.hand
+      (λ alone opened. staged_gate states honest n done old p w l f s h works opened (no_end old.next refl alone) k.gate) f.counts.count))
 
   after : (let m : Life = log_called w l l.log in KeeperStands states new p (with_files w (called call w.files) m) m)
   after =
@@ -84,7 +84,7 @@ module _ {D : Type 0} (states : D → List Files) (failures : D → ℕ) (honest
       let capture : new.capture ≡ old.capture = ap (λ (k : Keeper D). k.capture) t.same in
       let stripes : new.stripes ≡ old.stripes = ap (λ (k : Keeper D). k.stripes) t.same in
       let written : IsWritten old.checkpoint l.checkpoint (now (states new.disk)) =
-          subst (λ xs. IsWritten old.checkpoint l.checkpoint (now xs)) (sym steps.ok.2.state) (written_beside old.checkpoint l.checkpoint (due_of (logs_of old)).generation (disk.called steps.call (now (states old.disk) (log_file (due_of (logs_of old)).generation))) (now (states old.disk)) k.checkpoint) in
+      subst (λ xs. IsWritten old.checkpoint l.checkpoint (now xs)) (sym steps.ok.2.state) (written_beside old.checkpoint l.checkpoint (due_of (logs_of old)).generation (disk.called steps.call (now (states old.disk) (log_file (due_of (logs_of old)).generation))) (now (states old.disk)) k.checkpoint) in
       subst (λ m. KeeperStands states new p (with_files w (called call w.files) m) m) (others w l l.log) (record {
         life = refl;
         files = ap (called call) s.files ∙ sym made.state;

@@ -44,8 +44,8 @@ module _ (l : Life) (files : Files) (n : ℕ) (stripes : l.stripes ≡ n) (strip
       let within : stripe < l.stripes = (let low : w.count < w.stripes = k.1.1 in omega (arith, low, k.2, theirs, stripes)) in
       let long : stripe ≡ length sections = sym k.2 ∙ given.1.knows.count in
       and_true (nat_lt stripe l.stripes) ((stripe == length sections) && ((clears_left w.phase == 0) && not (is_waiting_in w.phase))) (less_is stripe l.stripes within)
-        (and_true (stripe == length sections) ((clears_left w.phase == 0) && not (is_waiting_in w.phase)) (same_is stripe (length sections) long)
-          (and_true (clears_left w.phase == 0) (not (is_waiting_in w.phase)) (ap (λ ph. clears_left ph == 0) k.1.0) (ap (λ ph. not (is_waiting_in ph)) k.1.0)))
+      (and_true (stripe == length sections) ((clears_left w.phase == 0) && not (is_waiting_in w.phase)) (same_is stripe (length sections) long)
+      (and_true (clears_left w.phase == 0) (not (is_waiting_in w.phase)) (ap (λ ph. clears_left ph == 0) k.1.0) (ap (λ ph. not (is_waiting_in ph)) k.1.0)))
 
   is_next : (w : CheckpointState) (sections : List Section) (next : Option LogState) (must_close : Bool) → w.stripes ≡ n → HasGiven (Some w) sections files → IsUnderWay w.phase next → BeginsBoth next (Some w) must_close
       → may_capture l (Some (running_shown w sections)) stripe ≡ true → IsNextStripe stripe next (Some w)
@@ -56,9 +56,11 @@ module _ (l : Life) (files : Files) (n : ℕ) (stripes : l.stripes ≡ n) (strip
       let within : stripe < l.stripes = is_less stripe l.stripes a.0 in
       let at : w.count ≡ stripe = given.1.knows.count ∙ sym (is_same stripe (length sections) b.0) in
       let low : w.count < w.stripes = omega (arith, within, at, theirs, stripes) in
-      let clears : clears_left w.phase ≡ 0 = is_same (clears_left w.phase) 0 c.0 in
-      (none_next next w must_close both clears,
-        (takes_section w given.0 sections (files (checkpoint_file w.generation)) w.phase next refl way given.1.stands (λ all. omega (arith, low, all)) clears (not_true (is_waiting_in w.phase) c.1), low), at)
+      let clears : clears_left w.phase ≡ 0 = is_same (clears_left w.phase) 0 c.0 in (
+        none_next next w must_close both clears,
+        (takes_section w given.0 sections (files (checkpoint_file w.generation)) w.phase next refl way given.1.stands (λ all. omega (arith, low, all)) clears (not_true (is_waiting_in w.phase) c.1), low),
+        at,
+      )
 
   pub may_by : (o : Option CheckpointState) (running : Option Running) (next : Option LogState) → IsWritten o running files → ((w : CheckpointState) → o ≡ Some w → w.stripes ≡ n) → IsNextStripe stripe next o → may_capture l running stripe ≡ true
   may_by None running next is theirs k = absurd k

@@ -62,17 +62,18 @@ module _ (l : Life) (o : Option CheckpointState) (files : Files) (n : ℕ) (stri
   seals w sections theirs given takes =
       let long : length sections ≡ l.stripes = sym given.1.knows.count ∙ takes.1 ∙ theirs ∙ sym stripes in
       and_true (length sections == l.stripes) (not (is_waiting_in w.phase) && (seals_left w.phase == 0)) (same_is (length sections) l.stripes long)
-        (and_true (not (is_waiting_in w.phase)) (seals_left w.phase == 0) (ap (λ ph. not (is_waiting_in ph)) takes.0) (ap (λ ph. seals_left ph == 0) takes.0))
+      (and_true (not (is_waiting_in w.phase)) (seals_left w.phase == 0) (ap (λ ph. not (is_waiting_in ph)) takes.0) (ap (λ ph. seals_left ph == 0) takes.0))
 
   takes : (w : CheckpointState) (sections : List Section) (next : Option LogState) → w.stripes ≡ n → HasGiven (Some w) sections files → IsUnderWay w.phase next → may_seal l (Some (running_shown w sections)) ≡ true → TakesSeal w
   takes w sections next theirs given way e =
       let a = both_true (length sections == l.stripes) (not (is_waiting_in w.phase) && (seals_left w.phase == 0)) e in
       let b = both_true (not (is_waiting_in w.phase)) (seals_left w.phase == 0) a.1 in
       let long : length sections ≡ l.stripes = is_same (length sections) l.stripes a.0 in
-      let many : 0 < w.stripes = some_stripes w.stripes given.1.knows.allowed in
-      (only_ready w given.0 sections (files (checkpoint_file w.generation)) w.phase next refl way given.1.stands
-        (λ none_. omega (arith, none_given sections none_, long, stripes, theirs, many)) (not_true (is_waiting_in w.phase) b.0) (is_same (seals_left w.phase) 0 b.1),
-        given.1.knows.count ∙ long ∙ stripes ∙ sym theirs)
+      let many : 0 < w.stripes = some_stripes w.stripes given.1.knows.allowed in (
+        only_ready w given.0 sections (files (checkpoint_file w.generation)) w.phase next refl way given.1.stands
+            (λ none_. omega (arith, none_given sections none_, long, stripes, theirs, many)) (not_true (is_waiting_in w.phase) b.0) (is_same (seals_left w.phase) 0 b.1),
+        given.1.knows.count ∙ long ∙ stripes ∙ sym theirs,
+      )
 
   may_by : (o : Option CheckpointState) (running : Option Running) → IsWritten o running files → ((w : CheckpointState) → o ≡ Some w → w.stripes ≡ n) → HasAllSections o → may_seal l running ≡ true
   may_by None running is theirs all = absurd all
@@ -133,7 +134,7 @@ module _ {D : Type 0} (states : D → List Files) (honest : D → Type 0) (n : �
   may_all works may =
       let holds = f.stores.works works h in
       all_by l old.checkpoint (now (states old.disk)) n stripes_are old.checkpoint l.checkpoint old.next (s.store works).checkpoint (stripes_by n old f.stripes)
-        (λ v is. under_way old.checkpoint (store_of old) holds.held (now (states old.disk) (checkpoint_file (old.sealed + 1))) v is holds.stands.kept.writer) may
+      (λ v is. under_way old.checkpoint (store_of old) holds.held (now (states old.disk) (checkpoint_file (old.sealed + 1))) v is holds.stands.kept.writer) may
 
   refused_by : (e : Refusal) → TriesSeal states old new (Err e) → (e ≡ refusal.Failed) ⊎ (e ≡ refusal.WrongPhase) ⊎ (e ≡ refusal.TooEarly) → BeginsSeal l (outcome.Refused e)
   refused_by e t (inl is) = subst (λ x. BeginsSeal l (outcome.Refused x)) (sym is) (s.is_broken ∙ t.failed.0 (ap Err is))
@@ -143,10 +144,10 @@ module _ {D : Type 0} (states : D → List Files) (honest : D → Type 0) (n : �
   refused_by e t (inr (inr is)) =
       let early = t.early.0 (ap Err is) in
       subst (λ x. BeginsSeal l (outcome.Refused x)) (sym is)
-        (s.is_broken ∙ early.0, all_may early.0 early.1, subst (λ d. d < mark_of l.checkpoint) (sym s.durable) (above old.checkpoint l.checkpoint (now (states old.disk)) old.published (s.store early.0).checkpoint early.2))
+      (s.is_broken ∙ early.0, all_may early.0 early.1, subst (λ d. d < mark_of l.checkpoint) (sym s.durable) (above old.checkpoint l.checkpoint (now (states old.disk)) old.published (s.store early.0).checkpoint early.2))
 
   after : old.is_broken ≡ false → HasAllSections old.checkpoint → ((sections : List Section) → HasGiven old.checkpoint sections (now (states old.disk)) → HasGiven (sealing old.checkpoint) sections (now (states old.disk)))
-    → (let m : Life = record l { checkpoint = seal_begun l.checkpoint } in KeeperStands states (record old { checkpoint = sealing old.checkpoint }) p (with_life w m) m)
+      → (let m : Life = record l { checkpoint = seal_begun l.checkpoint } in KeeperStands states (record old { checkpoint = sealing old.checkpoint }) p (with_life w m) m)
   after works all given =
       let m : Life = record l { checkpoint = seal_begun l.checkpoint } in
       let k = s.store works in
@@ -177,10 +178,13 @@ module _ {D : Type 0} (states : D → List Files) (honest : D → Type 0) (n : �
       let may : may_seal l l.checkpoint ≡ true = true_from_ne_false (may_seal l l.checkpoint) (λ not_. ok_err unit refusal.WrongPhase (t.wrong_phase.1 (works, λ all. two_ways (may_seal l l.checkpoint) (all_may works all) not_))) in
       let all = may_all works may in
       let k = s.store works in
-      let reached : mark_of l.checkpoint ≤ l.durable = not_less l.durable (mark_of l.checkpoint) (λ early. ok_err unit refusal.TooEarly (t.early.1 (works, all,
-          above_by old.checkpoint l.checkpoint (now (states old.disk)) old.published k.checkpoint all (subst (λ d. d < mark_of l.checkpoint) s.durable early)))) in
+      let reached : mark_of l.checkpoint ≤ l.durable = not_less l.durable (mark_of l.checkpoint) (λ early. ok_err unit refusal.TooEarly (t.early.1 (
+        works,
+        all,
+        above_by old.checkpoint l.checkpoint (now (states old.disk)) old.published k.checkpoint all (subst (λ d. d < mark_of l.checkpoint) s.durable early),
+      ))) in
       let given : (sections : List Section) → HasGiven old.checkpoint sections (now (states old.disk)) → HasGiven (sealing old.checkpoint) sections (now (states old.disk)) =
-          subst (λ (k : Keeper D). (sections : List Section) → HasGiven old.checkpoint sections (now (states old.disk)) → HasGiven k.checkpoint sections (now (states k.disk))) t.ok t.given in
+      subst (λ (k : Keeper D). (sections : List Section) → HasGiven old.checkpoint sections (now (states old.disk)) → HasGiven k.checkpoint sections (now (states k.disk))) t.ok t.given in
       record {
         happens = (s.is_broken ∙ works, may, reached);
         stands = subst (λ k. HasKeeper states k p (with_life w (record l { checkpoint = seal_begun l.checkpoint }))) (sym t.ok) (after works all given);

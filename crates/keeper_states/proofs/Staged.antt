@@ -113,13 +113,13 @@ module _ {D : Type 0} (states : D → List Files) (honest : D → Type 0) (n : �
   some_staged count commands some is may st same =
       let long : count ≡ length new.staged.items = is ∙ sym (ap (λ (xs : List Entry). length xs) st.entries ∙ length-entries old.sweeper.in_hand.next commands) in
       stands_by (Committing count 4) new.log refl same (ap (λ (x : LogState). x.generation) st.log) (ap (λ (x : LogState). x.gate) st.log) (ap (λ (x : LogState). x.committed) st.log)
-        (λ works. ap (λ k. Committing k 4) long ∙ sym (ap (λ o. work_by new.log o (length new.staged.items)) may.1 ∙ ap (λ (x : LogState). committing x.phase (length new.staged.items)) st.log))
+      (λ works. ap (λ k. Committing k 4) long ∙ sym (ap (λ o. work_by new.log o (length new.staged.items)) may.1 ∙ ap (λ (x : LogState). committing x.phase (length new.staged.items)) st.log))
 
   after_ok : (count : ℕ) (commands : List Command) → count ≡ length commands → MayStage old.log old.next → (count ≡ 0 → new ≡ old) → (1 ≤ count → Stages commands old.log old.sweeper.in_hand new.log new.sweeper.in_hand new.staged.items)
       → new ≡ record old { log = new.log; sweeper = record old.sweeper { in_hand = new.sweeper.in_hand }; staged = new.staged } → HasKeeper states new p (with_life w (record l { log = staged_by count l.log }))
   after_ok zero commands is may none_ some same =
       let e = none_ refl in stands_by l.log old.log (ap (λ (k : Keeper D). k.log) e) same refl refl refl
-        (λ works. (s.store works).log ∙ ap (λ x. work_by x old.next (length old.staged.items)) (sym (ap (λ (k : Keeper D). k.log) e)) ∙ ap (λ x. work_by new.log old.next (length x.items)) (sym (ap (λ (k : Keeper D). k.staged) e)))
+      (λ works. (s.store works).log ∙ ap (λ x. work_by x old.next (length old.staged.items)) (sym (ap (λ (k : Keeper D). k.log) e)) ∙ ap (λ x. work_by new.log old.next (length x.items)) (sym (ap (λ (k : Keeper D). k.staged) e)))
   after_ok (suc m) commands is may none_ some same =
       subst (λ g. HasKeeper states new p (with_life w (record l { log = g }))) (sym (never_none m l.log)) (some_staged (suc m) commands (omega arith) is may (some (omega arith)) same)
     where
@@ -134,8 +134,12 @@ module _ {D : Type 0} (states : D → List Files) (honest : D → Type 0) (n : �
       let k = s.store works in
       let o = t.ok in
       record {
-        happens = (s.is_broken ∙ works, rested, subst (IsLongestRun w l most) (sym o.2) (longest states honest n done old p w l f s places rest may most o.0 o.1),
-          λ past. ok_err count refusal.LogFull (t.full.1 (works, may, past_full states honest n done old p w l f s places rest may most o.0 o.1 k.gate (subst (IsPastFull w l) o.2 past))));
+        happens = (
+          s.is_broken ∙ works,
+          rested,
+          subst (IsLongestRun w l most) (sym o.2) (longest states honest n done old p w l f s places rest may most o.0 o.1),
+          λ past. ok_err count refusal.LogFull (t.full.1 (works, may, past_full states honest n done old p w l f s places rest may most o.0 o.1 k.gate (subst (IsPastFull w l) o.2 past))),
+        );
         stands = after_ok count o.0 o.2 may o.3 o.4 t.same;
       }
   stage_by (Err e) t = record { happens = refused e t.no_other t; stands = unstaged t.same t.err.0 t.err.1 }
@@ -147,9 +151,15 @@ module _ {D : Type 0} (states : D → List Files) (honest : D → Type 0) (n : �
           subst (λ x. StagesRun w l most (outcome.Refused x)) (sym is) (s.is_broken ∙ wrong.0, false_from_ne_true (is_resting l.log) (λ e. wrong.1 (may_by wrong.0 e)))
       refused e (inr (inr (inl is))) t =
           let full = t.full.0 (ap Err is) in
-          subst (λ x. StagesRun w l most (outcome.Refused x)) (sym is)
-            (s.is_broken ∙ full.0, resting full.0 full.1, (length full.2.commands, longest states honest n done old p w l f s places rest full.1 most full.2.commands full.2.longest,
-              full_past states honest n done old p w l f s places rest full.1 most full.2 (s.store full.0).gate))
+          subst (λ x. StagesRun w l most (outcome.Refused x)) (sym is) (
+            s.is_broken ∙ full.0,
+            resting full.0 full.1,
+            (
+              length full.2.commands,
+              longest states honest n done old p w l f s places rest full.1 most full.2.commands full.2.longest,
+              full_past states honest n done old p w l f s places rest full.1 most full.2 (s.store full.0).gate,
+            ),
+          )
       refused e (inr (inr (inr is))) t =
           let works : old.is_broken ≡ false = false_from_ne_true old.is_broken (λ broken. other_failed (Err e) (ap Err is) (t.failed.1 broken)) in
           let rested : is_resting l.log ≡ true = true_from_ne_false (is_resting l.log) (λ not_. other_wrong (Err e) (ap Err is) (t.wrong_phase.1 (works, λ may. two_ways (is_resting l.log) (resting works may) not_))) in

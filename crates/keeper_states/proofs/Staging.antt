@@ -105,9 +105,9 @@ module _ {D : Type 0} (states : D → List Files) (honest : D → Type 0) (n : �
   can : (most : ℕ) (cs : List Command) → IsRun old.sweeper.in_hand cs → FitsBatch most old.sweeper.in_hand.next cs → CanStage w l most (length cs)
   can most cs run fits = record {
     in_hand = λ i lt.
-      let x = at_ticket old.sweeper.in_hand.next cs (old.sweeper.in_hand.next + i) (omega arith) (omega (arith, lt)) in
-      let has = taken_in_hand old.sweeper.in_hand done cs p.opening.first p.taken p.seen accounts run (entry (old.sweeper.in_hand.next + i) x.0) x.1 in
-      subst (λ t. place_of l (t + i) ≡ InHand) next_is (places.taken (entry (old.sweeper.in_hand.next + i) x.0) has);
+        let x = at_ticket old.sweeper.in_hand.next cs (old.sweeper.in_hand.next + i) (omega arith) (omega (arith, lt)) in
+        let has = taken_in_hand old.sweeper.in_hand done cs p.opening.first p.taken p.seen accounts run (entry (old.sweeper.in_hand.next + i) x.0) x.1 in
+        subst (λ t. place_of l (t + i) ≡ InHand) next_is (places.taken (entry (old.sweeper.in_hand.next + i) x.0) has);
     fits = subst (λ t. FitsBatch most t (next_commands w l (length cs))) next_is (subst (FitsBatch most old.sweeper.in_hand.next) (sym (run_next cs run)) fits);
   }
 
@@ -140,8 +140,8 @@ module _ {D : Type 0} (states : D → List Files) (honest : D → Type 0) (n : �
   gate_is : (cs : List Command) → IsRun old.sweeper.in_hand cs → l.gate ≡ old.log.gate → gate_after w l (length cs) ≡ old.log.gate + 1 + length (frame first_layout (record { first = old.log.committed; commands = cs }))
   gate_is cs run gate =
       let same : length (frame first_layout (next_batch w l (length cs))) ≡ length (frame first_layout (record { first = old.log.committed; commands = cs })) =
-          ap (λ c. length (frame first_layout (record { first = c; commands = next_commands w l (length cs) }))) s.committed
-          ∙ ap (λ xs. length (frame first_layout (record { first = old.log.committed; commands = xs }))) (run_next cs run) in
+      ap (λ c. length (frame first_layout (record { first = c; commands = next_commands w l (length cs) }))) s.committed
+      ∙ ap (λ xs. length (frame first_layout (record { first = old.log.committed; commands = xs }))) (run_next cs run) in
       omega (arith, same, gate)
 
   pub past_full : (most : ℕ) (cs : List Command) → IsLongest most old.sweeper.in_hand cs → l.gate ≡ old.log.gate → IsPastFull w l (length cs) → IsFull most old.log old.sweeper.in_hand

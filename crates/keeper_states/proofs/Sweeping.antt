@@ -71,9 +71,11 @@ module _ {D : Type 0} (states : D → List Files) (honest : D → Type 0) (n : �
       let count : b.count ≡ k.0 = b.looks.count_is ∙ looked (same_from_push p.steps p.steps (Looked (reach q)) t.step (sym (steps_are b.looks.between b.looks.is) ∙ t.steps)).1 k.1 in
       let agrees : AgreesWith w l (told.Looked k.0) = subst (AgreesWith w l) k.2 t.agrees in
       subst (λ r. BeginsSweep w l None m (sweep_end r) × HasKeeper states new q (with_life w (sweep_begins l None m (sweep_end r)))) (sym b.answer)
-        (subst (λ m. BeginsSweep w l None m ends.Goes × HasKeeper states new q (with_life w (sweep_begins l None m ends.Goes))) (sym k.2)
-          (agrees, swept l.places (Some (record { count = k.0; stripe = 0 })) SweepTakes
-            (sym (ap sweep_shown b.sweep_is ∙ ap (λ c. let v : Sweep = record { count = c; stripe = 0 } in Some v) count)) (sym (ap walking_shown b.walking))))
+      (subst (λ m. BeginsSweep w l None m ends.Goes × HasKeeper states new q (with_life w (sweep_begins l None m ends.Goes))) (sym k.2) (
+        agrees,
+        swept l.places (Some (record { count = k.0; stripe = 0 })) SweepTakes
+            (sym (ap sweep_shown b.sweep_is ∙ ap (λ c. let v : Sweep = record { count = c; stripe = 0 } in Some v) count)) (sym (ap walking_shown b.walking)),
+      ))
     where
       looked : {a b : ℕ} {step : StepMade} → Looked a ≡ step → step ≡ Looked b → a ≡ b
       looked e g = cc
@@ -89,14 +91,16 @@ module _ {D : Type 0} (states : D → List Files) (honest : D → Type 0) (n : �
   takes sweep (Ok More) m a t is =
       let k = take_told t.step sweep.stripe m t.kind_is t.told_is in
       let es = swept_took n p sweep.stripe a.walk q a.taken in
-      let found : m ≡ told.Took sweep.stripe = took p q.steps t.step sweep.stripe m k t.steps es.0 es.1 in
-      (subst (λ m. TakesForSweep l sweep.stripe m ends.Goes) (sym found) (refl, subst (AgreesWith w l) found t.agrees),
-        swept l.places l.sweep SweepGives (is ∙ sym (ap sweep_shown a.sweep_is)) (sym (ap walking_shown a.walking)))
+      let found : m ≡ told.Took sweep.stripe = took p q.steps t.step sweep.stripe m k t.steps es.0 es.1 in (
+        subst (λ m. TakesForSweep l sweep.stripe m ends.Goes) (sym found) (refl, subst (AgreesWith w l) found t.agrees),
+        swept l.places l.sweep SweepGives (is ∙ sym (ap sweep_shown a.sweep_is)) (sym (ap walking_shown a.walking)),
+      )
   takes sweep (Ok (Held i)) m a t is =
       let k = take_told t.step sweep.stripe m t.kind_is t.told_is in
-      let found : m ≡ told.FoundHeld sweep.stripe = missed p q.steps t.step sweep.stripe m k t.steps (ap (λ (x : Record). x.steps) a.is) in
-      (subst (λ m. TakesForSweep l sweep.stripe m (ends.SweepHeld i)) (sym found) (refl, a.stripe, subst (AgreesWith w l) found t.agrees),
-        swept l.places l.sweep Rests (is ∙ sym (ap sweep_shown a.sweep_is)) (sym (ap walking_shown a.walking)))
+      let found : m ≡ told.FoundHeld sweep.stripe = missed p q.steps t.step sweep.stripe m k t.steps (ap (λ (x : Record). x.steps) a.is) in (
+        subst (λ m. TakesForSweep l sweep.stripe m (ends.SweepHeld i)) (sym found) (refl, a.stripe, subst (AgreesWith w l) found t.agrees),
+        swept l.places l.sweep Rests (is ∙ sym (ap sweep_shown a.sweep_is)) (sym (ap walking_shown a.walking)),
+      )
   takes sweep (Ok (Done count)) m a t is = absurd a
   takes sweep (Err e) m a t is = absurd a
 
@@ -106,21 +110,24 @@ module _ {D : Type 0} (states : D → List Files) (honest : D → Type 0) (n : �
       → (v : Sweep) → v ≡ record { count = sweep.count; stripe = sweep.stripe } → l.sweep ≡ Some v → GivesSwept l v m (sweep_end result) × HasKeeper states new q (with_life w (sweep_gives w l v (sweep_end result)))
   gives sweep walk (Ok More) m a t v v_is is =
       let gave : m ≡ told.Gave sweep.stripe = give_told t.step sweep.stripe m t.kind_is t.told_is in
-      let stripe : sweep.stripe ≡ v.stripe = ap (λ (x : Sweep). x.stripe) (sym v_is) in
-      (subst (λ m. GivesSwept l v m ends.Goes) (sym gave) (stripe, omega (arith, a.more, stripe, s.stripes, f.stripes.count)),
-        swept _ _ SweepTakes (ap (λ (x : Sweep). let y : Sweep = record { count = x.count; stripe = x.stripe + 1 } in Some y) v_is ∙ sym (ap sweep_shown a.sweep_is)) (sym (ap walking_shown a.walking)))
+      let stripe : sweep.stripe ≡ v.stripe = ap (λ (x : Sweep). x.stripe) (sym v_is) in (
+        subst (λ m. GivesSwept l v m ends.Goes) (sym gave) (stripe, omega (arith, a.more, stripe, s.stripes, f.stripes.count)),
+        swept _ _ SweepTakes (ap (λ (x : Sweep). let y : Sweep = record { count = x.count; stripe = x.stripe + 1 } in Some y) v_is ∙ sym (ap sweep_shown a.sweep_is)) (sym (ap walking_shown a.walking)),
+      )
   gives sweep walk (Ok (Held i)) m a t v v_is is = absurd a
   gives sweep walk (Ok (Done count)) m a t v v_is is =
       let gave : m ≡ told.Gave sweep.stripe = give_told t.step sweep.stripe m t.kind_is t.told_is in
-      let stripe : sweep.stripe ≡ v.stripe = ap (λ (x : Sweep). x.stripe) (sym v_is) in
-      (subst (λ m. GivesSwept l v m (ends.Swept count)) (sym gave) (stripe, (let last : sweep.stripe + 1 ≡ n = a.last in omega (arith, last, stripe, s.stripes, f.stripes.count)), a.count_is ∙ ap (λ (x : Sweep). x.count) (sym v_is)),
-        swept _ None Rests (sym (ap sweep_shown a.sweep_is)) (sym (ap walking_shown a.walking)))
+      let stripe : sweep.stripe ≡ v.stripe = ap (λ (x : Sweep). x.stripe) (sym v_is) in (
+        subst (λ m. GivesSwept l v m (ends.Swept count)) (sym gave) (stripe, (let last : sweep.stripe + 1 ≡ n = a.last in omega (arith, last, stripe, s.stripes, f.stripes.count)), a.count_is ∙ ap (λ (x : Sweep). x.count) (sym v_is)),
+        swept _ None Rests (sym (ap sweep_shown a.sweep_is)) (sym (ap walking_shown a.walking)),
+      )
   gives sweep walk (Err e) m a t v v_is is =
       let gave : m ≡ told.Gave sweep.stripe = give_told t.step sweep.stripe m t.kind_is t.told_is in
       let stripe : sweep.stripe ≡ v.stripe = ap (λ (x : Sweep). x.stripe) (sym v_is) in
-      subst (λ e. GivesSwept l v m (ends.Refused e) × HasKeeper states new q (with_life w (sweep_gives w l v (ends.Refused e)))) (sym a.refused)
-        (subst (λ m. GivesSwept l v m (ends.Refused refusal.NoMemory)) (sym gave) stripe,
-          swept l.places l.sweep Rests (is ∙ ap Some v_is ∙ sym (ap sweep_shown a.sweep_is)) (sym (ap walking_shown a.walking)))
+      subst (λ e. GivesSwept l v m (ends.Refused e) × HasKeeper states new q (with_life w (sweep_gives w l v (ends.Refused e)))) (sym a.refused) (
+        subst (λ m. GivesSwept l v m (ends.Refused refusal.NoMemory)) (sym gave) stripe,
+        swept l.places l.sweep Rests (is ∙ ap Some v_is ∙ sym (ap sweep_shown a.sweep_is)) (sym (ap walking_shown a.walking)),
+      )
 
   -- ---- the first step of a sweep
 

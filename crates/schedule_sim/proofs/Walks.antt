@@ -156,8 +156,8 @@ walked_to n b asked (stepped.More walk) w made free next is some =
     let k = front n b asked walk.stage w free next in
     let same : k.made ≡ made = append_cancel_left b.steps k.made made (sym k.steps_are ∙ is) in
     elim k.goes [
-    | inl none ↦ absurd (let e = ap length (sym same ∙ none.0) in omega (arith, e, some))
-    | inr goes ↦ subst (λ xs. Walked (stripe_asked n asked) asked xs ends.Goes) same goes.0
+      | inl none ↦ absurd (let e = ap length (sym same ∙ none.0) in omega (arith, e, some))
+      | inr goes ↦ subst (λ xs. Walked (stripe_asked n asked) asked xs ends.Goes) same goes.0
     ]
 walked_to n b (Changing c) (stepped.Refused e) w made free next is some = same_end _ _ b w _ made is (change_end _ c b e w next)
 walked_to n b (Reading r) (stepped.Refused e) w made free next is some = same_end _ _ b w _ made is (read_end _ r b e w next)
@@ -177,8 +177,8 @@ holds_on n b asked (stepped.More walk) w made free next is some goes_on =
     let k = front n b asked walk.stage w free next in
     let same : k.made ≡ made = append_cancel_left b.steps k.made made (sym k.steps_are ∙ is) in
     elim k.goes [
-    | inl none ↦ absurd (let e = ap length (sym same ∙ none.0) in omega (arith, e, some))
-    | inr goes ↦ goes.1
+      | inl none ↦ absurd (let e = ap length (sym same ∙ none.0) in omega (arith, e, some))
+      | inr goes ↦ goes.1
     ]
 holds_on n b asked (stepped.Refused e) w made free next is some goes_on = absurd (let no : ends.Refused e ≡ ends.Goes = goes_on in cc)
 holds_on n b asked (stepped.Held h) w made free next is some goes_on = absurd (let no : ends.Held h.position ≡ ends.Goes = goes_on in cc)
