@@ -1,14 +1,12 @@
 -- A checkpoint is begun.
-use Rattle.std.proofs.Common.{◌≡◌, ◌≢◌, ◌⊎◌, ◌↔◌, inl, inr, ℕ, ◌+◌, ◌<◌, ◌^◌, List, [], length, Option, Some, None, is_some, Bool, true, false, ◌&&◌, ◌||◌, ◌==◌, not, nat_lt, if◌then◌else◌, Result, Ok, Err, refl, sym, ◌∙◌, ap, subst, arith}
+use Rattle.std.proofs.Common.{◌≡◌, ◌≢◌, ◌⊎◌, inl, inr, ℕ, ◌+◌, ◌<◌, ◌^◌, List, [], length, Option, Some, None, is_some, Bool, true, false, ◌&&◌, ◌||◌, ◌==◌, not, nat_lt, if◌then◌else◌, Result, Ok, Err, refl, sym, ◌∙◌, ap, subst}
 use Rattle.std.proofs.lemmas.Bool.{false_from_ne_true, true_from_ne_false}
 use Rattle.map_types.specs.declared.commands.Command.{Command}
 use Rattle.map_types.specs.declared.refusals.Refusal.{Refusal}
 use Rattle.map_types.specs.declared.refusals.Refusal.TheVariants as refusal
 use Rattle.ticket_order.specs.declared.record.Record.{Record}
-use Rattle.ticket_order.specs.Legality.{history_of}
 use Rattle.disk_model.specs.Files.{File, Files, at_rest, now}
 use Rattle.store_layout.specs.Checkpoints.{checkpoint_file}
-use Rattle.gate_log.specs.declared.phase.Phase.{Phase}
 use Rattle.gate_log.specs.declared.phase.Phase.TheVariants as log_phase
 use Rattle.gate_log.specs.States.{LogState, begun as log_begun}
 use Rattle.checkpoint_file.specs.Standing.{is_to_close}
@@ -21,14 +19,14 @@ use Rattle.flusher.specs.Rotating.{MayRotate, due_in}
 use Rattle.checkpoint_walk.specs.Checkpointing.{Begins, HasGiven, MayBegin}
 use Rattle.schedules.specs.declared.event.Event.TheVariants as event
 use Rattle.schedules.specs.declared.outcome.Outcome.TheVariants as outcome
-use Rattle.schedules.specs.World.{World, Life, LogWork, Rotating, Running, is_resting, needs_rotation, seen_of}
+use Rattle.schedules.specs.World.{World, Life, LogWork, Rotating, Running, is_resting, needs_rotation}
 use Rattle.schedules.specs.After.{checkpoint_begun, clears_of, with_life}
 use Rattle.schedules.specs.Cases.{BeginsCheckpoint, may_begin}
 use Rattle.keeper_states.specs.Laws.{BeginAnswers, begun_as}
 use Rattle.keeper_states.specs.Promises.{TriesBegin}
 use Rattle.keeper_states.specs.Showing.{calls_left, clears_left, committing, is_waiting_in, running_shown, seals_left, work_by}
-use Rattle.keeper_states.specs.Standing.{Answers, BeginsBoth, HasKeeper, IsWritten, KeeperStands, KnowsStore, SeesHistory}
-use Rattle.keeper_states.proofs.Deciding.{and_true, both_true, either, is_less, is_other, is_same, less_is, none_some, not_false, not_true, other_is, resting_idle, same_is, two_ways}
+use Rattle.keeper_states.specs.Standing.{Answers, BeginsBoth, HasKeeper, IsWritten, KeeperStands}
+use Rattle.keeper_states.proofs.Deciding.{and_true, both_true, either, is_less, is_other, is_same, less_is, not_false, not_true, resting_idle, same_is, two_ways}
 use Rattle.keeper_states.proofs.Moved.{inside, same_history}
 
 -- ---- when it may be

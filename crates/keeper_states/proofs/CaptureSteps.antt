@@ -1,5 +1,5 @@
 -- The LOOK and the GIVE of a capture.
-use Rattle.std.proofs.Common.{◌≡◌, ◌⊎◌, inl, inr, ℕ, ◌+◌, ◌-◌, ◌^◌, ◌<◌, ◌≤◌, List, [], ◌∷◌, ◌++◌, length, take, Option, Some, None, Bool, true, false, Result, Ok, Err, refl, sym, ◌∙◌, ap, subst, arith}
+use Rattle.std.proofs.Common.{◌≡◌, ◌⊎◌, inl, inr, ℕ, ◌-◌, ◌^◌, ◌<◌, ◌≤◌, List, [], ◌∷◌, ◌++◌, length, take, Option, Some, None, Bool, true, false, Result, Ok, Err, refl, sym, ◌∙◌, ap, subst, arith}
 use Rattle.std.specs.FinMap as finite
 use Rattle.std.proofs.lemmas.List.{same_from_push}
 use Rattle.map_types.specs.declared.commands.Command.{Command}
@@ -11,16 +11,14 @@ use Rattle.map_model.specs.Maps.{Map}
 use Rattle.map_model.specs.Parts.{part_of}
 use Rattle.map_model.specs.Steps.{fold_of}
 use Rattle.ticket_order.specs.declared.record.Record.{Record}
-use Rattle.ticket_order.specs.declared.record.StepMade.{StepMade}
 use Rattle.ticket_order.specs.declared.record.StepMade.TheVariants.{Looked}
 use Rattle.ticket_order.specs.declared.walk.Walk.{Walk}
 use Rattle.ticket_order.specs.Legality.{history_of}
 use Rattle.ticket_order.specs.Records.{reach}
-use Rattle.ticket_order.specs.Walks.{Give, Kind, Look, next_kind}
+use Rattle.ticket_order.specs.Walks.{Give, Look, next_kind}
 use Rattle.disk_model.specs.Files.{Files, now}
 use Rattle.store_layout.specs.Checkpoints.{Section}
 use Rattle.gate_log.specs.States.{LogState}
-use Rattle.checkpoint_file.specs.declared.phase.CheckpointPhase.{CheckpointPhase}
 use Rattle.checkpoint_file.specs.declared.phase.CheckpointPhase.TheVariants.{Ready}
 use Rattle.checkpoint_file.specs.States as checkpoint
 use Rattle.checkpoint_file.specs.States.{CheckpointState}
@@ -30,33 +28,30 @@ use Rattle.flusher.specs.declared.sweeper.Walking.TheVariants as walking
 use Rattle.flusher.specs.Keeping.{is_walking}
 use Rattle.checkpoint_walk.specs.Capturing.{HasLooked, HasTaken}
 use Rattle.checkpoint_walk.specs.Checkpointing.{HasGiven, IsNextStripe}
-use Rattle.checkpoint_walk.specs.Walking.{AfterStep, AfterWalk, FitsBy, FitsWalking, GivesPart, GivesPartIn, GivesSection, IsCapturing, LooksAt, PutsBack}
-use Rattle.schedules.specs.declared.event.Event.TheVariants as event
+use Rattle.checkpoint_walk.specs.Walking.{AfterStep, AfterWalk, FitsBy, GivesPart, GivesPartIn, GivesSection, IsCapturing, LooksAt, PutsBack}
 use Rattle.schedules.specs.declared.outcome.End.TheVariants as ends
 use Rattle.schedules.specs.declared.outcome.Made.{Made}
 use Rattle.schedules.specs.declared.outcome.Made.TheVariants as told
-use Rattle.schedules.specs.declared.outcome.Outcome.TheVariants as outcome
 use Rattle.schedules.specs.World.{World, Life, CaptureLooks, CaptureGives, KeeperWalk, Rests, Running, next_section}
 use Rattle.schedules.specs.After.{capture_gives, keeper_stepped, section_at, with_life, with_section}
-use Rattle.schedules.specs.Cases.{GivesCaptured, LooksAround, StepsKeeper, section_size}
+use Rattle.schedules.specs.Cases.{GivesCaptured, StepsKeeper, section_size}
 use Rattle.keeper_states.specs.Laws.{CaptureStepAnswers}
-use Rattle.keeper_states.specs.Promises.{StepsCapture}
-use Rattle.keeper_states.specs.Showing.{capture_shown, clears_left, is_waiting_in, running_shown, seals_left, walk_by, walking_shown}
-use Rattle.keeper_states.specs.Standing.{Answers, BeginsBoth, HasKeeper, IsWritten, KeeperStands, KnowsStore, SeesHistory}
+use Rattle.keeper_states.specs.Showing.{capture_shown, clears_left, running_shown, seals_left, walk_by, walking_shown}
+use Rattle.keeper_states.specs.Standing.{BeginsBoth, HasKeeper, IsWritten, KeeperStands, KnowsStore, SeesHistory}
 use Rattle.keeper_states.specs.Telling.{AgreesWith, MakesStep, capture_end}
 use Rattle.keeper_states.proofs.Moved.{same_history}
 use Rattle.keeper_states.proofs.Captured.{same_fold, same_mark}
 use Rattle.keeper_states.proofs.WalkSteps.{give_told, look_told, looks_last}
 
 -- the walk has taken its stripe, or has looked
-taken_at : (n : ℕ) (b : Record) (i : ℕ) (walk : Walk) (p : Record) → next_kind n walk ≡ Look → HasTaken n b i walk p ⊎ HasLooked n b i walk p → HasTaken n b i walk p
+pub taken_at : (n : ℕ) (b : Record) (i : ℕ) (walk : Walk) (p : Record) → next_kind n walk ≡ Look → HasTaken n b i walk p ⊎ HasLooked n b i walk p → HasTaken n b i walk p
 taken_at n b i walk p e (inl t) = t
 taken_at n b i walk p e (inr t) = absurd (not_both (sym e ∙ t.next))
   where
     not_both : Look ≡ Give i → ⊥
     not_both e = cc
 
-looked_at : (n : ℕ) (b : Record) (i j : ℕ) (walk : Walk) (p : Record) → next_kind n walk ≡ Give j → HasTaken n b i walk p ⊎ HasLooked n b i walk p → HasLooked n b i walk p × (i ≡ j)
+pub looked_at : (n : ℕ) (b : Record) (i j : ℕ) (walk : Walk) (p : Record) → next_kind n walk ≡ Give j → HasTaken n b i walk p ⊎ HasLooked n b i walk p → HasLooked n b i walk p × (i ≡ j)
 looked_at n b i j walk p e (inl t) = absurd (not_both (sym t.next ∙ e))
   where
     not_both : Look ≡ Give j → ⊥
@@ -67,7 +62,7 @@ looked_at n b i j walk p e (inr t) = (t, same (sym t.next ∙ e))
     same e = cc
 
 -- the stripe is the next of the world
-next_is : (o : Option CheckpointState) (running : Option Running) (next : Option LogState) (files : Files) (i : ℕ) → IsWritten o running files → IsNextStripe i next o → i ≡ next_section running
+pub next_is : (o : Option CheckpointState) (running : Option Running) (next : Option LogState) (files : Files) (i : ℕ) → IsWritten o running files → IsNextStripe i next o → i ≡ next_section running
 next_is None running next files i is k = absurd k
 next_is (Some v) running next files i is k = sym k.2 ∙ is.2.1.knows.count ∙ sym (ap next_section is.1)
 

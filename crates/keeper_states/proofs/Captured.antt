@@ -1,21 +1,17 @@
 -- The section that a capture gives.
-use Rattle.std.proofs.Common.{◌≡◌, ℕ, zero, suc, ◌+◌, ◌-◌, ◌^◌, ◌<◌, ◌≤◌, List, [], ◌∷◌, ◌++◌, length, take, drop, Option, Some, None, refl, sym, ◌∙◌, ap, subst, arith}
+use Rattle.std.proofs.Common.{◌≡◌, ℕ, zero, suc, ◌+◌, ◌-◌, ◌≤◌, List, [], ◌∷◌, ◌++◌, take, drop, refl, sym, ◌∙◌, ap, subst, arith}
 use Rattle.std.specs.FinMap as finite
 use Rattle.std.proofs.lemmas.List.{take-append-le, same_from_push}
-use Rattle.map_types.specs.declared.commands.Command.{Command}
 use Rattle.map_types.specs.declared.texts.Value.{Value}
 use Rattle.map_model.specs.Histories.{fold_to}
-use Rattle.map_model.specs.Maps.{Map}
-use Rattle.map_model.specs.Parts.{part_of}
 use Rattle.map_model.specs.Steps.{fold_of, map_after}
 use Rattle.map_model.proofs.FoldLaws.{map_after-append}
 use Rattle.ticket_order.specs.declared.record.Record.{Record}
-use Rattle.ticket_order.specs.declared.record.Purpose.TheVariants.{Capture}
 use Rattle.ticket_order.specs.declared.record.StepMade.{StepMade}
 use Rattle.ticket_order.specs.declared.record.StepMade.TheVariants.{Gave, Looked, Took}
 use Rattle.ticket_order.specs.Calls.{CapturesStripe}
 use Rattle.ticket_order.specs.Legality.{history_of}
-use Rattle.ticket_order.specs.Records.{giving, looking, reach, taking}
+use Rattle.ticket_order.specs.Records.{reach}
 use Rattle.schedules.specs.World.{World, Life}
 use Rattle.keeper_states.specs.Standing.{SeesHistory}
 use Rattle.keeper_states.proofs.WalkSteps.{LooksLast}

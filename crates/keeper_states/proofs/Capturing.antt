@@ -1,21 +1,19 @@
 -- The TAKE of a capture, and its refusal.
-use Rattle.std.proofs.Common.{◌≡◌, ◌≢◌, ◌⊎◌, inl, inr, ℕ, ◌+◌, List, [], ◌∷◌, ◌++◌, Option, Some, None, Bool, true, false, Result, Ok, Err, refl, sym, ◌∙◌, ap, subst, arith}
+use Rattle.std.proofs.Common.{◌≡◌, ◌≢◌, ◌⊎◌, inl, inr, ℕ, ◌+◌, List, Option, Some, None, true, false, Result, Ok, Err, refl, sym, ◌∙◌, ap, subst}
 use Rattle.std.proofs.lemmas.Bool.{false_from_ne_true, true_from_ne_false}
 use Rattle.map_types.specs.declared.commands.Command.{Command}
 use Rattle.map_types.specs.declared.refusals.Refusal.{Refusal}
 use Rattle.map_types.specs.declared.refusals.Refusal.TheVariants as refusal
 use Rattle.ticket_order.specs.declared.record.Record.{Record}
-use Rattle.ticket_order.specs.declared.record.StepMade.TheVariants.{FoundHeld}
 use Rattle.ticket_order.specs.declared.walk.Walk.{Walk}
 use Rattle.ticket_order.specs.Records.{reach}
 use Rattle.ticket_order.specs.Walks.{Look, Take, next_kind}
 use Rattle.disk_model.specs.Files.{Files, now}
 use Rattle.store_layout.specs.Checkpoints.{checkpoint_file}
-use Rattle.checkpoint_file.specs.States.{CheckpointState}
 use Rattle.flusher.specs.declared.keeper.Keeper.{Keeper}
 use Rattle.flusher.specs.Fitting.{Fits, store_of}
 use Rattle.checkpoint_walk.specs.Checkpointing.{IsNextStripe}
-use Rattle.checkpoint_walk.specs.Walking.{AfterStep, AfterTake, MissesStripe, StaysAt, TakesStripe}
+use Rattle.checkpoint_walk.specs.Walking.{AfterStep, AfterTake, StaysAt}
 use Rattle.schedules.specs.declared.event.Event.TheVariants as event
 use Rattle.schedules.specs.declared.outcome.End.TheVariants as ends
 use Rattle.schedules.specs.declared.outcome.Made.{Made}
@@ -26,8 +24,8 @@ use Rattle.schedules.specs.After.{capture_takes, with_life}
 use Rattle.schedules.specs.Cases.{BeginsCapture, TakesForCall, may_capture}
 use Rattle.keeper_states.specs.Laws.{CaptureAnswers, CaptureRefuses}
 use Rattle.keeper_states.specs.Promises.{StepsCapture}
-use Rattle.keeper_states.specs.Showing.{capture_shown, walk_by}
-use Rattle.keeper_states.specs.Standing.{Answers, HasKeeper, KeeperStands, KnowsStore, SeesHistory}
+use Rattle.keeper_states.specs.Showing.{capture_shown}
+use Rattle.keeper_states.specs.Standing.{Answers, HasKeeper, KeeperStands, SeesHistory}
 use Rattle.keeper_states.specs.Telling.{AgreesWith, MakesStep, capture_end}
 use Rattle.keeper_states.proofs.Deciding.{two_ways}
 use Rattle.keeper_states.proofs.Moved.{inside, same_history, same_walk}

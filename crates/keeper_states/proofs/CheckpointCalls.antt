@@ -1,57 +1,51 @@
 -- A device call of the checkpoint.
-use Rattle.std.proofs.Common.{◌≡◌, ◌≢◌, ◌⊎◌, inl, inr, ℕ, ◌+◌, ◌-◌, List, [], ◌∷◌, length, Option, Some, None, Bool, true, false, ◌&&◌, ◌||◌, ◌==◌, not, nat_lt, if◌then◌else◌, Result, Ok, Err, refl, sym, ◌∙◌, ap, subst, arith}
+use Rattle.std.proofs.Common.{◌≡◌, ◌⊎◌, inl, inr, ℕ, List, length, Option, Some, None, true, false, not, Ok, refl, sym, ◌∙◌, ap, subst}
 use Rattle.map_types.specs.declared.commands.Command.{Command}
-use Rattle.map_types.specs.declared.refusals.Refusal.{Refusal}
 use Rattle.ticket_order.specs.declared.record.Record.{Record}
-use Rattle.disk_model.specs.declared.fill.Fill.{Fill}
-use Rattle.disk_model.specs.Files.{File, Files, now}
+use Rattle.disk_model.specs.Files.{Files, now}
 use Rattle.disk_model.specs.Gates.{Call}
-use Rattle.store_layout.specs.Checkpoints.{Checkpoint, Section}
+use Rattle.store_layout.specs.Checkpoints.{Section}
 use Rattle.gate_log.specs.States.{LogState}
-use Rattle.gate_log.specs.declared.phase.Phase.{Phase}
-use Rattle.gate_log.specs.declared.phase.Phase.TheVariants as log_phase
 use Rattle.checkpoint_file.specs.declared.phase.CheckpointPhase.{CheckpointPhase}
 use Rattle.checkpoint_file.specs.declared.phase.CheckpointPhase.TheVariants.{Idle, Gate, GateWritten, GateSynced, Ready, Staged, Header, HeaderWritten, HeaderSynced, Opened, Sealed}
 use Rattle.checkpoint_file.specs.States.{CheckpointState, call_in, state_after}
-use Rattle.checkpoint_file.specs.Standing.{checkpoint_of}
 use Rattle.flusher.specs.declared.keeper.Keeper.{Keeper}
 use Rattle.flusher.specs.Fitting.{Fits}
-use Rattle.flusher.specs.Rotating.{Logs, logs_of}
 use Rattle.checkpoint_walk.specs.Checkpointing.{Checkpoints, HasGiven, StepsCheckpoint, UsesCheckpoint, call_due, checkpoints_of, kept_in}
 use Rattle.schedules.specs.declared.event.Ending.TheVariants as ending
 use Rattle.schedules.specs.declared.event.Event.TheVariants as event
 use Rattle.schedules.specs.declared.event.Side.TheVariants as side
 use Rattle.schedules.specs.declared.outcome.DeviceCall.{DeviceCall}
 use Rattle.schedules.specs.declared.outcome.Outcome.TheVariants as outcome
-use Rattle.schedules.specs.World.{World, Life, LogWork, Running, has_checkpoint_call, is_rotating}
+use Rattle.schedules.specs.World.{World, Life, Running, has_checkpoint_call, is_rotating}
 use Rattle.schedules.specs.After.{called, checkpoint_called, failed, running_called, with_files}
 use Rattle.schedules.specs.Cases.{IsPossible, UsesRunning, is_last_call, phase_of_checkpoint, phase_of_running}
 use Rattle.keeper_states.specs.Laws.{CheckpointAnswers, CheckpointFails}
-use Rattle.keeper_states.specs.Promises.{IsLost, IsMade, TriesCheckpoint}
-use Rattle.keeper_states.specs.Showing.{clears_left, committing, is_waiting_in, running_shown, seals_left, sweep_shown, walk_by, work_by}
-use Rattle.keeper_states.specs.Standing.{Answers, BeginsBoth, HasKeeper, IsWritten, KeeperStands, KnowsStore}
+use Rattle.keeper_states.specs.Promises.{IsMade, TriesCheckpoint}
+use Rattle.keeper_states.specs.Showing.{running_in, running_shown, sweep_shown, walk_by, work_by}
+use Rattle.keeper_states.specs.Standing.{Answers, BeginsBoth, IsWritten, KeeperStands, KnowsStore}
 use Rattle.keeper_states.proofs.Deciding.{both_true, not_true, two_ways}
-use Rattle.keeper_states.proofs.Moved.{inside, same_history}
+use Rattle.keeper_states.proofs.Moved.{same_history}
 use Rattle.keeper_states.proofs.Sealing.{stripes_by}
 
 -- ---- the world's checkpoint after a call
 
 -- the call isn't the last
 record GoesOn (l : Life) (w : CheckpointState) (sections : List Section) (ph : CheckpointPhase) : Type 0 where
-  world : running_called l (record { generation = w.generation; clears = clears_left ph; sections = sections; is_waiting = is_waiting_in ph; seals = seals_left ph }) ≡ record l { checkpoint = Some (running_shown (state_after ph w) sections) }
+  world : running_called l (running_in ph w sections) ≡ record l { checkpoint = Some (running_shown (state_after ph w) sections) }
   keeper : (c : Checkpoints) → kept_in ph (state_after ph w) c ≡ record c { writer = Some (state_after ph w) }
   phase : phase_of_running (running_shown (state_after ph w) sections) ≡ (state_after ph w).phase
 
 -- the call is the last
 record IsOver (l : Life) (w : CheckpointState) (sections : List Section) (ph : CheckpointPhase) : Type 0 where
   last : ph ≡ Opened
-  world : running_called l (record { generation = w.generation; clears = clears_left ph; sections = sections; is_waiting = is_waiting_in ph; seals = seals_left ph }) ≡ record l { checkpoint = None; sealed = w.generation }
+  world : running_called l (running_in ph w sections) ≡ record l { checkpoint = None; sealed = w.generation }
 
 never : {A : Type 0} → false ≡ true → A
 never e = absurd cc
 
 call_of : (l : Life) (w : CheckpointState) (sections : List Section) (ph : CheckpointPhase)
-    → has_checkpoint_call (Some (record { generation = w.generation; clears = clears_left ph; sections = sections; is_waiting = is_waiting_in ph; seals = seals_left ph })) ≡ true → GoesOn l w sections ph ⊎ IsOver l w sections ph
+    → has_checkpoint_call (Some (running_in ph w sections)) ≡ true → GoesOn l w sections ph ⊎ IsOver l w sections ph
 call_of l w sections Idle has = never has
 call_of l w sections Gate has = inl (record { world = refl; keeper = λ c. refl; phase = refl })
 call_of l w sections GateWritten has = inl (record { world = refl; keeper = λ c. refl; phase = refl })
@@ -65,7 +59,7 @@ call_of l w sections Opened has = inr (record { last = refl; world = refl })
 call_of l w sections Sealed has = never has
 
 due : (w : CheckpointState) (sections : List Section) (ph : CheckpointPhase)
-    → has_checkpoint_call (Some (record { generation = w.generation; clears = clears_left ph; sections = sections; is_waiting = is_waiting_in ph; seals = seals_left ph })) ≡ true → (call : Call) × (call_in ph w ≡ Some call)
+    → has_checkpoint_call (Some (running_in ph w sections)) ≡ true → (call : Call) × (call_in ph w ≡ Some call)
 due w sections Idle has = never has
 due w sections Gate has = (_, refl)
 due w sections GateWritten has = (_, refl)
@@ -79,7 +73,7 @@ due w sections Opened has = (_, refl)
 due w sections Sealed has = never has
 
 last_opened : (w : CheckpointState) (sections : List Section) (ph : CheckpointPhase)
-    → is_last_call (record { generation = w.generation; clears = clears_left ph; sections = sections; is_waiting = is_waiting_in ph; seals = seals_left ph }) ≡ true → ph ≡ Opened
+    → is_last_call (running_in ph w sections) ≡ true → ph ≡ Opened
 last_opened w sections Idle last = never last
 last_opened w sections Gate last = never last
 last_opened w sections GateWritten last = never last

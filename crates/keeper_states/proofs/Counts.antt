@@ -1,17 +1,12 @@
 -- A DURABLE and a FAIL.
-use Rattle.std.proofs.Common.{◌≡◌, ℕ, ◌≤◌, max, List, true, refl, sym, ◌∙◌, ap, subst, arith}
-use Rattle.map_types.specs.declared.commands.Command.{Command}
-use Rattle.ticket_order.specs.declared.record.Record.{Record}
+use Rattle.std.proofs.Common.{◌≤◌, List, refl, sym, ◌∙◌, subst, arith}
 use Rattle.ticket_order.specs.Records.{failing, publishing}
 use Rattle.disk_model.specs.Files.{Files}
 use Rattle.flusher.specs.declared.keeper.Keeper.{Keeper}
-use Rattle.flusher.specs.Fitting.{Fits}
 use Rattle.schedules.specs.declared.event.Event.TheVariants as event
 use Rattle.schedules.specs.declared.outcome.Outcome.TheVariants as outcome
-use Rattle.schedules.specs.World.{World, Life, CaptureLooks}
 use Rattle.keeper_states.specs.Laws.{FailAnswers, PublishAnswers}
-use Rattle.keeper_states.specs.Showing.{walk_by}
-use Rattle.keeper_states.specs.Standing.{Answers, KeeperStands, KnowsStore, SeesHistory}
+use Rattle.keeper_states.specs.Standing.{Answers}
 use Rattle.keeper_states.proofs.Moved.{same_walk}
 
 pub publish_answers : {D : Type 0} (states : D → List Files) (honest : D → Type 0) → PublishAnswers states honest

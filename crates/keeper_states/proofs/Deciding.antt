@@ -1,9 +1,9 @@
 -- Tests of the world, and what they decide.
-use Rattle.std.proofs.Common.{◌≡◌, ◌≢◌, ◌⊎◌, inl, inr, ℕ, ◌+◌, ◌<◌, ◌≤◌, ◌^◌, List, [], ◌∷◌, length, Option, Some, None, is_some, Bool, true, false, ◌&&◌, ◌||◌, ◌==◌, not, nat_lt, refl, sym, ◌∙◌, ap, subst, arith}
+use Rattle.std.proofs.Common.{◌≡◌, ◌≢◌, ◌⊎◌, inl, inr, ℕ, ◌<◌, ◌≤◌, Option, Some, None, is_some, Bool, true, false, ◌&&◌, ◌==◌, not, nat_lt, refl, arith}
 use Rattle.std.proofs.lemmas.Bool.Decides.{nat_tests}
 use Rattle.gate_log.specs.declared.phase.Phase.{Phase}
 use Rattle.gate_log.specs.declared.phase.Phase.TheVariants.{Idle, Header, HeaderWritten, Staged, Written, Synced, Opened}
-use Rattle.schedules.specs.World.{LogWork, Resting, Committing, is_resting}
+use Rattle.schedules.specs.World.{is_resting}
 use Rattle.keeper_states.specs.Showing.{committing}
 
 pub either : (b : Bool) → (b ≡ true) ⊎ (b ≡ false)

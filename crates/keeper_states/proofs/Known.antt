@@ -1,5 +1,5 @@
 -- What is staged comes next in the history of the world.
-use Rattle.std.proofs.Common.{◌≡◌, ℕ, ◌+◌, List, [], ◌∷◌, ◌++◌, length, Option, Some, None, false, append-nil, refl, sym, ◌∙◌, ap, subst, arith}
+use Rattle.std.proofs.Common.{◌≡◌, ℕ, ◌+◌, List, [], ◌∷◌, ◌++◌, length, None, false, sym, ◌∙◌, ap, subst, arith}
 use Rattle.std.proofs.lemmas.List.{append_assoc, length-append, length-map}
 use Rattle.map_types.specs.declared.commands.Command.{Command}
 use Rattle.ticket_order.specs.declared.record.Record.{Record}
@@ -8,14 +8,13 @@ use Rattle.ticket_order.specs.Legality.{history_of}
 use Rattle.disk_model.specs.Files.{File, Files, now}
 use Rattle.log_records.specs.Layout.{first_layout}
 use Rattle.store_layout.specs.Logs.{Batch, frame, log_file}
-use Rattle.gate_log.specs.declared.phase.Phase.{Phase}
-use Rattle.gate_log.specs.declared.phase.Phase.TheVariants.{Idle, Header, HeaderWritten, Staged, Written, Synced, Opened}
-use Rattle.gate_log.specs.States.{LogState, batch_of, commands_of}
+use Rattle.gate_log.specs.declared.phase.Phase.TheVariants.{Opened}
+use Rattle.gate_log.specs.States.{batch_of, commands_of}
 use Rattle.gate_log.specs.Standing as log
 use Rattle.store_states.specs.States.{newest_batches}
 use Rattle.flusher.specs.declared.keeper.Keeper.{Keeper}
-use Rattle.flusher.specs.Fitting.{Fits, HoldsFor, batches_of, store_of}
-use Rattle.flusher.proofs.Keeping.{Knows, knows_by}
+use Rattle.flusher.specs.Fitting.{Fits, batches_of, store_of}
+use Rattle.flusher.proofs.Keeping.{knows_by}
 use Rattle.flusher.proofs.StoreSteps.{log_in}
 use Rattle.schedules.specs.World.{World, Life, gate_after, next_batch, next_commands}
 use Rattle.keeper_states.specs.Standing.{KeeperStands}

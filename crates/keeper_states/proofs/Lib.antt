@@ -13,6 +13,11 @@ pub mod NextStripe
 pub mod Capturing
 pub mod Captured
 pub mod CaptureSteps
+pub mod Held
+pub mod Told
+pub mod Living
+pub mod Meeting
+pub mod Taken
 pub mod Counts
 pub mod Begun
 pub mod Sealing

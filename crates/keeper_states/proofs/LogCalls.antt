@@ -1,23 +1,17 @@
 -- A device call of the log.
-use Rattle.std.proofs.Common.{◌≡◌, ◌≢◌, ◌⊎◌, inl, inr, ℕ, ◌+◌, ◌-◌, List, [], ◌∷◌, length, Option, Some, None, Bool, true, false, ◌==◌, not, if◌then◌else◌, Result, Ok, Err, refl, sym, ◌∙◌, ap, subst, arith}
+use Rattle.std.proofs.Common.{◌≡◌, ℕ, ◌+◌, ◌-◌, List, length, Option, None, Bool, true, false, ◌==◌, if◌then◌else◌, Ok, refl, sym, ◌∙◌, ap, subst, arith}
 use Rattle.map_types.specs.declared.commands.Command.{Command}
-use Rattle.map_types.specs.declared.refusals.Refusal.{Refusal}
 use Rattle.map_types.specs.declared.refusals.Refusal.TheVariants as refusal
 use Rattle.ticket_order.specs.declared.record.Record.{Record}
-use Rattle.ticket_order.specs.declared.walk.Walk.{Walk}
-use Rattle.disk_model.specs.declared.fill.Fill.{Fill}
-use Rattle.disk_model.specs.Files.{File, Files, now, with_file}
+use Rattle.disk_model.specs.Files.{Files, now}
 use Rattle.disk_model.specs.Gates as disk
 use Rattle.store_layout.specs.Logs.{log_file}
 use Rattle.gate_log.specs.declared.phase.Phase.{Phase}
-use Rattle.gate_log.specs.declared.phase.Phase.TheVariants.{Opened}
 use Rattle.gate_log.specs.States.{LogState}
 use Rattle.flusher.specs.declared.keeper.Keeper.{Keeper}
-use Rattle.flusher.specs.declared.sweeper.Sweep as sweeper
 use Rattle.flusher.specs.declared.sweeper.Sweeper.{Sweeper}
-use Rattle.flusher.specs.declared.sweeper.Walking.{Walking}
 use Rattle.flusher.specs.Fitting.{Fits}
-use Rattle.flusher.specs.Rotating.{Logs, MayRotate, due_of, logs_of, stepped}
+use Rattle.flusher.specs.Rotating.{Logs, MayRotate, due_of, logs_of}
 use Rattle.schedules.specs.declared.event.Ending.{Ending}
 use Rattle.schedules.specs.declared.event.Ending.TheVariants as ending
 use Rattle.schedules.specs.declared.event.Event.TheVariants as event
@@ -27,11 +21,11 @@ use Rattle.schedules.specs.declared.outcome.DeviceCall.{DeviceCall}
 use Rattle.schedules.specs.declared.outcome.Outcome.TheVariants as outcome
 use Rattle.schedules.specs.World.{World, Life, LogWork, Resting, Committing, Rotating, gate_after, is_resting}
 use Rattle.schedules.specs.After.{called, failed, log_called, with_files}
-use Rattle.schedules.specs.Cases.{IsPossible, MakesCall, phase_of_log}
+use Rattle.schedules.specs.Cases.{IsPossible, MakesCall}
 use Rattle.keeper_states.specs.Laws.{BrokenAnswers, LogAnswers, LogFails}
-use Rattle.keeper_states.specs.Promises.{IsLost, IsMade, TriesLog}
-use Rattle.keeper_states.specs.Showing.{sweep_shown, walk_by, work_by, work_shown}
-use Rattle.keeper_states.specs.Standing.{Answers, BeginsBoth, HasKeeper, IsWritten, KeeperStands, KnowsStore}
+use Rattle.keeper_states.specs.Promises.{IsMade, TriesLog}
+use Rattle.keeper_states.specs.Showing.{sweep_shown, walk_by, work_shown}
+use Rattle.keeper_states.specs.Standing.{Answers, BeginsBoth, IsWritten, KeeperStands, KnowsStore}
 use Rattle.keeper_states.proofs.Deciding.{not_true, two_ways}
 use Rattle.keeper_states.proofs.Known.{staged_gate}
 use Rattle.keeper_states.proofs.LogMoves.{Before, Moved, both_after, due_moves, moved, none_begun, same_sweep, written_beside}

@@ -1,9 +1,7 @@
 -- A call of the log that succeeds.
-use Rattle.std.proofs.Common.{◌≡◌, ◌≢◌, inl, inr, ℕ, ◌+◌, ◌-◌, List, [], length, Option, Some, None, Bool, true, false, ◌==◌, not, if◌then◌else◌, Result, Ok, refl, sym, ◌∙◌, ap, subst, arith}
-use Rattle.map_types.specs.declared.commands.Command.{Command}
-use Rattle.ticket_order.specs.declared.record.Record.{Record}
+use Rattle.std.proofs.Common.{◌≡◌, ◌≢◌, ℕ, ◌+◌, List, length, Option, Some, None, Bool, false, refl, sym, ◌∙◌, ap, subst, arith}
 use Rattle.ticket_order.specs.declared.stripe.Entry.{Entry}
-use Rattle.disk_model.specs.Files.{File, Files, now, with_file}
+use Rattle.disk_model.specs.Files.{File, Files, with_file}
 use Rattle.store_layout.specs.Checkpoints.{checkpoint_file}
 use Rattle.store_layout.specs.Logs.{log_file}
 use Rattle.gate_log.specs.declared.phase.Phase.{Phase}
@@ -14,16 +12,14 @@ use Rattle.checkpoint_file.specs.States.{CheckpointState}
 use Rattle.checkpoint_file.specs.Standing as checkpoint
 use Rattle.store_states.specs.Standing.{IsTurn}
 use Rattle.store_states.proofs.Places.{checkpoint_is_no_log, elsewhere}
-use Rattle.flusher.specs.declared.keeper.Keeper.{Keeper}
 use Rattle.flusher.specs.declared.sweeper.Sweeper.{Sweeper}
-use Rattle.flusher.specs.Fitting.{Fits}
 use Rattle.flusher.specs.Keeping.{IsPast}
-use Rattle.flusher.specs.Rotating.{Logs, MayRotate, Rotates, due_by, due_in, due_of, ended_in, logs_of, rotated_in, stepped_by}
-use Rattle.schedules.specs.World.{World, Life, LogWork, Resting, Committing, Rotating, Running, gate_after, is_resting}
+use Rattle.flusher.specs.Rotating.{Logs, MayRotate, due_by, due_in, ended_in, rotated_in, stepped_by}
+use Rattle.schedules.specs.World.{World, Life, LogWork, Committing, Rotating, Running, gate_after, is_resting}
 use Rattle.schedules.specs.After.{log_called}
 use Rattle.schedules.specs.Cases.{phase_of_log}
 use Rattle.keeper_states.specs.Showing.{calls_left, committing, work_by}
-use Rattle.keeper_states.specs.Standing.{BeginsBoth, IsWritten, KeeperStands}
+use Rattle.keeper_states.specs.Standing.{BeginsBoth, IsWritten}
 use Rattle.keeper_states.proofs.Deciding.{two_ways}
 
 -- the world's log after a call is as the keeper's logs, of which so many commands are staged

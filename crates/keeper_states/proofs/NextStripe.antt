@@ -1,5 +1,5 @@
 -- When a stripe may be captured.
-use Rattle.std.proofs.Common.{◌≡◌, ◌≢◌, ℕ, ◌<◌, List, [], length, Option, Some, None, Bool, true, false, ◌&&◌, ◌==◌, not, nat_lt, refl, sym, ◌∙◌, ap, subst, arith}
+use Rattle.std.proofs.Common.{◌≡◌, ℕ, ◌<◌, List, length, Option, Some, None, Bool, true, false, ◌&&◌, ◌==◌, not, nat_lt, refl, sym, ◌∙◌, ap, arith}
 use Rattle.disk_model.specs.Files.{File, Files}
 use Rattle.store_layout.specs.Checkpoints.{Section, checkpoint_file}
 use Rattle.gate_log.specs.States.{LogState}

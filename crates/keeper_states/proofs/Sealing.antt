@@ -1,13 +1,12 @@
 -- A checkpoint goes on to its seal.
-use Rattle.std.proofs.Common.{◌≡◌, ◌≢◌, ◌⊎◌, ◌↔◌, inl, inr, ℕ, ◌+◌, ◌<◌, ◌≤◌, List, [], length, Option, Some, None, IfSome, Bool, true, false, ◌&&◌, ◌==◌, not, Result, Ok, Err, refl, sym, ◌∙◌, ap, subst, arith}
+use Rattle.std.proofs.Common.{◌≡◌, ◌⊎◌, inl, inr, ℕ, ◌+◌, ◌<◌, ◌≤◌, List, [], length, Option, Some, None, IfSome, Bool, true, false, ◌&&◌, ◌==◌, not, Result, Ok, Err, refl, sym, ◌∙◌, ap, subst, arith}
 use Rattle.std.proofs.lemmas.Bool.{false_from_ne_true, true_from_ne_false}
-use Rattle.java_hash.specs.Stripes.{is_stripe_count}
 use Rattle.map_types.specs.declared.commands.Command.{Command}
 use Rattle.map_types.specs.declared.refusals.Refusal.{Refusal}
 use Rattle.map_types.specs.declared.refusals.Refusal.TheVariants as refusal
 use Rattle.ticket_order.specs.declared.record.Record.{Record}
 use Rattle.disk_model.specs.Files.{File, Files, now}
-use Rattle.store_layout.specs.Checkpoints.{Section, checkpoint_file, greatest_mark}
+use Rattle.store_layout.specs.Checkpoints.{Section, checkpoint_file}
 use Rattle.gate_log.specs.States.{LogState}
 use Rattle.checkpoint_file.specs.declared.phase.CheckpointPhase.{CheckpointPhase}
 use Rattle.checkpoint_file.specs.declared.phase.CheckpointPhase.TheVariants.{Idle, Gate, GateWritten, GateSynced, Ready, Staged, Header, HeaderWritten, HeaderSynced, Opened, Sealed}
@@ -27,8 +26,8 @@ use Rattle.schedules.specs.Cases.{BeginsSeal, mark_of, may_seal}
 use Rattle.keeper_states.specs.Laws.{SealAnswers, sealing_as}
 use Rattle.keeper_states.specs.Promises.{TriesSeal}
 use Rattle.keeper_states.specs.Showing.{clears_left, is_waiting_in, running_shown, seals_left}
-use Rattle.keeper_states.specs.Standing.{Answers, BeginsBoth, HasKeeper, IsWritten, KeeperStands, KnowsStore}
-use Rattle.keeper_states.proofs.Deciding.{and_true, both_true, is_same, not_false, not_less, not_true, same_is, two_ways}
+use Rattle.keeper_states.specs.Standing.{Answers, BeginsBoth, HasKeeper, IsWritten, KeeperStands}
+use Rattle.keeper_states.proofs.Deciding.{and_true, both_true, is_same, not_less, not_true, same_is, two_ways}
 use Rattle.keeper_states.proofs.Moved.{inside, same_history}
 
 -- ---- the phases of a checkpoint that runs

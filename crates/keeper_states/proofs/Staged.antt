@@ -1,5 +1,5 @@
 -- A batch is staged.
-use Rattle.std.proofs.Common.{◌≡◌, ◌⊎◌, ◌↔◌, inl, inr, ℕ, zero, suc, ◌+◌, ◌≤◌, List, [], length, Option, Some, None, Bool, true, false, ◌==◌, if◌then◌else◌, Result, Ok, Err, refl, sym, ◌∙◌, ap, subst, arith}
+use Rattle.std.proofs.Common.{◌≡◌, ◌⊎◌, inl, inr, ℕ, zero, suc, ◌≤◌, List, length, true, false, if◌then◌else◌, Result, Ok, Err, refl, sym, ◌∙◌, ap, subst, arith}
 use Rattle.std.proofs.lemmas.Bool.{false_from_ne_true, true_from_ne_false}
 use Rattle.map_types.specs.declared.commands.Command.{Command}
 use Rattle.map_types.specs.declared.refusals.Refusal.{Refusal}
@@ -7,9 +7,7 @@ use Rattle.map_types.specs.declared.refusals.Refusal.TheVariants as refusal
 use Rattle.ticket_order.specs.declared.record.Record.{Record}
 use Rattle.ticket_order.specs.declared.stripe.Entry.{Entry}
 use Rattle.disk_model.specs.Files.{Files, now}
-use Rattle.gate_log.specs.declared.phase.Phase.TheVariants as log_phase
 use Rattle.gate_log.specs.States.{LogState}
-use Rattle.checkpoint_file.specs.States.{CheckpointState}
 use Rattle.flusher.specs.declared.keeper.Keeper.{Keeper}
 use Rattle.flusher.specs.Fitting.{Fits}
 use Rattle.flusher.specs.Keeping.{MayStage, Stages, is_walking}
@@ -24,7 +22,7 @@ use Rattle.keeper_states.specs.Promises.{TriesStage}
 use Rattle.keeper_states.specs.Showing.{committing, sweep_shown, walk_shown, work_by}
 use Rattle.keeper_states.specs.Standing.{Answers, HasKeeper, KeeperStands, KnowsStore, StandsIn, TellsPlaces}
 use Rattle.keeper_states.proofs.Deciding.{other_is, two_ways}
-use Rattle.keeper_states.proofs.Moved.{inside, same_history}
+use Rattle.keeper_states.proofs.Moved.{same_history}
 use Rattle.keeper_states.proofs.Staging.{full_past, longest, may_rest, no_walk, past_full, rest_may}
 
 ok_err : {A E : Type 0} (x : A) (e : E) → Ok x ≡ Err e → ⊥

@@ -1,44 +1,40 @@
 -- The longest run in hand is the longest run of tickets in hand.
-use Rattle.std.proofs.Common.{◌≡◌, ◌≢◌, ◌⊎◌, ◌↔◌, inl, inr, ℕ, zero, suc, ◌+◌, ◌-◌, ◌<◌, ◌≤◌, ◌^◌, List, [], ◌∷◌, ◌++◌, length, map, get_or, Option, Some, None, Bool, true, false, ◌==◌, if◌then◌else◌, Result, Ok, Err, append-nil, refl, sym, ◌∙◌, ap, subst, arith}
+use Rattle.std.proofs.Common.{◌≡◌, inl, inr, ℕ, zero, suc, ◌+◌, ◌-◌, ◌<◌, ◌≤◌, List, [], ◌∷◌, ◌++◌, length, map, get_or, Option, Some, None, true, false, append-nil, refl, sym, ◌∙◌, ap, subst, arith}
 use Rattle.std.specs.List.{Contains}
-use Rattle.std.proofs.lemmas.Bool.{false_from_ne_true, true_from_ne_false}
-use Rattle.std.proofs.lemmas.List.{append_assoc}
+use Rattle.std.proofs.lemmas.Bool.{cases_lt}
+use Rattle.std.proofs.lemmas.List.{append_assoc, get_or_past}
 use Rattle.map_types.specs.declared.commands.Command.{Command}
-use Rattle.map_types.specs.declared.refusals.Refusal.{Refusal}
-use Rattle.map_types.specs.declared.refusals.Refusal.TheVariants as refusal
 use Rattle.ticket_order.specs.declared.record.Record.{Record}
 use Rattle.ticket_order.specs.declared.stripe.Entry.{Entry}
 use Rattle.ticket_order.specs.declared.walk.Walk.{Walk}
 use Rattle.ticket_order.specs.Records.{entry, reach}
 use Rattle.ticket_order.specs.Walks.{Kind, Take, Give, Ticket, Look, Durable, See, Fail, Alive, next_kind}
-use Rattle.disk_model.specs.Files.{Files, now}
+use Rattle.disk_model.specs.Files.{Files}
 use Rattle.log_records.specs.Layout.{first_layout}
 use Rattle.store_layout.specs.Logs.{frame}
-use Rattle.gate_log.specs.declared.phase.Phase.{Phase}
-use Rattle.gate_log.specs.declared.phase.Phase.TheVariants as log_phase
-use Rattle.gate_log.specs.States.{LogState, IsResting, commands_of}
+use Rattle.gate_log.specs.States.{LogState, commands_of}
 use Rattle.flusher.specs.declared.keeper.Keeper.{Keeper}
 use Rattle.flusher.specs.declared.sweeper.Walking.{Walking}
 use Rattle.flusher.specs.declared.sweeper.Walking.TheVariants as walking
 use Rattle.flusher.specs.Fitting.{Fits, IsEmptyIn}
 use Rattle.flusher.specs.Gathering.{Accounts}
-use Rattle.flusher.specs.Hands.{FitsBatch, Hand, Holds, IsLongest, IsRun}
+use Rattle.flusher.specs.Hands.{FitsBatch, IsLongest, IsRun}
 use Rattle.flusher.specs.Keeping.{IsFull, MayStage, is_walking}
 use Rattle.flusher.specs.Rotating.{MayRotate}
 use Rattle.flusher.proofs.Entries.{at_ticket, found}
 use Rattle.flusher.proofs.Keeping.{is_free}
 use Rattle.flusher.proofs.Passing.{front_of_all}
 use Rattle.flusher.proofs.Staging.{accounts_staged, taken_in_hand}
-use Rattle.schedules.specs.World.{World, Life, InHand, KeeperWalk, gate_after, is_resting, next_batch, next_commands, place_of, rests}
+use Rattle.schedules.specs.World.{World, Life, WithWorker, InHand, gate_after, is_resting, next_batch, next_commands, place_of, rests}
 use Rattle.schedules.specs.Cases.{CanStage, IsLongestRun, IsPastFull}
 use Rattle.keeper_states.specs.Showing.{capture_shown, committing, walk_by, walking_shown, work_by}
-use Rattle.keeper_states.specs.Standing.{KeeperStands, KnowsStore, TellsPlaces}
+use Rattle.keeper_states.specs.Standing.{KeeperStands, TellsPlaces}
 use Rattle.keeper_states.proofs.Deciding.{resting_idle, two_ways}
 use Rattle.keeper_states.proofs.Lists.{part_after}
 
 -- ---- where nothing walks
 
-capture_walks : (kind : Kind) (mark : ℕ) → rests (capture_shown kind mark) ≡ false
+pub capture_walks : (kind : Kind) (mark : ℕ) → rests (capture_shown kind mark) ≡ false
 capture_walks (Take i) mark = refl
 capture_walks (Give i) mark = refl
 capture_walks Ticket mark = refl
@@ -80,6 +76,16 @@ slots_run (suc m) (x ∷ xs) f =
     let tail = slots_run m xs (λ i lt. f (suc i) (omega (arith, lt))) in
     (first.0 ∷ tail.0, (tail.1.0, ap (λ y. y ∷ xs) first.1 ∙ ap (λ ys. Some first.0 ∷ ys) tail.1.1), omega (arith, tail.2))
 
+-- past the last of the tickets there is no place
+place_within : (l : Life) (t : ℕ) → l.first ≤ t → place_of l t ≡ InHand → t < l.first + length l.places
+place_within l t low place = elim (cases_lt t (l.first + length l.places)) [
+  | inl within ↦ within
+  | inr past ↦ absurd (other (sym (get_or_past l.places (t - l.first) WithWorker (omega (arith, low, past))) ∙ place))
+]
+  where
+    other : WithWorker ≡ InHand → ⊥
+    other e = cc
+
 module _ {D : Type 0} (states : D → List Files) (honest : D → Type 0) (n : ℕ) (done : List Command) (old : Keeper D) (p : Record) (w : World) (l : Life)
     (f : Fits states honest n done old p) (s : KeeperStands states old p w l) (places : TellsPlaces p l) (rest : is_walking old.sweeper.walking ≡ false) (may : MayStage old.log old.next) where
   none_staged : old.staged.items ≡ []
@@ -112,14 +118,18 @@ module _ {D : Type 0} (states : D → List Files) (honest : D → Type 0) (n : �
   }
 
   -- a ticket in hand has its command there
+  entry_at : (i : ℕ) → (e : Entry) → Contains p.taken e → e.ticket ≡ old.sweeper.in_hand.next + i → (c : Command) × (get_or old.sweeper.in_hand.slots i None ≡ Some c)
+  entry_at i e has is = elim (accounts.each e has) [
+    | inl gone ↦ absurd (omega (arith, at, is, (found p.opening.first done e gone).high))
+    | inr holds ↦ (e.command, ap (λ k. get_or old.sweeper.in_hand.slots k None) {x = i} {y = e.ticket - old.sweeper.in_hand.next} (omega (arith, is)) ∙ holds.there)
+  ]
+
   held_at : (i : ℕ) → place_of l (l.committed + i) ≡ InHand → (c : Command) × (get_or old.sweeper.in_hand.slots i None ≡ Some c)
   held_at i place =
       let low : l.first ≤ old.sweeper.in_hand.next + i = omega (arith, at, s.history.first) in
-      let x = places.in_hand (old.sweeper.in_hand.next + i) low (subst (λ t. place_of l (t + i) ≡ InHand) (sym next_is) place) in
-      elim (accounts.each (entry (old.sweeper.in_hand.next + i) x.0) x.1) [
-        | inl gone ↦ absurd (omega (arith, at, (found p.opening.first done (entry (old.sweeper.in_hand.next + i) x.0) gone).high))
-        | inr holds ↦ (x.0, ap (λ k. get_or old.sweeper.in_hand.slots k None) {x = i} {y = old.sweeper.in_hand.next + i - old.sweeper.in_hand.next} (omega arith) ∙ holds.there)
-      ]
+      let there : place_of l (old.sweeper.in_hand.next + i) ≡ InHand = subst (λ t. place_of l (t + i) ≡ InHand) (sym next_is) place in
+      let x = places.in_hand (old.sweeper.in_hand.next + i) low (place_within l (old.sweeper.in_hand.next + i) low there) there in
+      entry_at i x.0 x.1 x.2
 
   run_of : (most m : ℕ) (cs : List Command) → FitsBatch most l.committed (next_commands w l m) → IsRun old.sweeper.in_hand cs → length cs ≡ m → FitsBatch most old.sweeper.in_hand.next cs
   run_of most m cs fits run long =

@@ -1,43 +1,37 @@
 -- A step of a sweep.
-use Rattle.std.proofs.Common.{◌≡◌, ◌⊎◌, inl, inr, ℕ, ◌+◌, ◌<◌, List, [], ◌∷◌, ◌++◌, Option, Some, None, Bool, true, false, Result, Ok, Err, refl, sym, ◌∙◌, ap, subst, arith}
+use Rattle.std.proofs.Common.{◌≡◌, ℕ, ◌+◌, List, [], ◌∷◌, ◌++◌, Option, Some, None, true, false, Result, Ok, Err, refl, sym, ◌∙◌, ap, subst, arith}
 use Rattle.std.proofs.lemmas.List.{same_from_push}
 use Rattle.map_types.specs.declared.commands.Command.{Command}
 use Rattle.map_types.specs.declared.refusals.Refusal.{Refusal}
 use Rattle.map_types.specs.declared.refusals.Refusal.TheVariants as refusal
 use Rattle.ticket_order.specs.declared.record.Record.{Record}
 use Rattle.ticket_order.specs.declared.record.StepMade.{StepMade}
-use Rattle.ticket_order.specs.declared.record.StepMade.TheVariants.{FoundHeld, Looked}
+use Rattle.ticket_order.specs.declared.record.StepMade.TheVariants.{Looked}
 use Rattle.ticket_order.specs.declared.walk.Walk.{Walk}
 use Rattle.ticket_order.specs.Records.{looking, reach}
-use Rattle.ticket_order.specs.Walks.{Kind, Take, Give, Look}
+use Rattle.ticket_order.specs.Walks.{Take, Give, Look}
 use Rattle.disk_model.specs.Files.{Files}
 use Rattle.gate_log.specs.States.{commands_of}
 use Rattle.flusher.specs.declared.keeper.Keeper.{Keeper}
 use Rattle.flusher.specs.declared.sweeper.Sweep as sweeper
-use Rattle.flusher.specs.declared.sweeper.Sweeper.{Sweeper}
 use Rattle.flusher.specs.declared.sweeper.Swept.{Swept}
 use Rattle.flusher.specs.declared.sweeper.Swept.TheVariants.{More, Held, Done}
 use Rattle.flusher.specs.declared.sweeper.Walking.{Walking}
 use Rattle.flusher.specs.declared.sweeper.Walking.TheVariants as walking
 use Rattle.flusher.specs.Fitting.{Fits}
-use Rattle.flusher.specs.Hands.{Hand}
 use Rattle.flusher.specs.Keeping.{is_walking}
 use Rattle.flusher.specs.Sweeping.{AfterGive, AfterTake, BeginsSweep as Begins, StandsBy, StepsOn, next_kind}
-use Rattle.schedules.specs.declared.event.Event.TheVariants as event
-use Rattle.schedules.specs.declared.outcome.End.{End}
 use Rattle.schedules.specs.declared.outcome.End.TheVariants as ends
 use Rattle.schedules.specs.declared.outcome.Made.{Made}
 use Rattle.schedules.specs.declared.outcome.Made.TheVariants as told
-use Rattle.schedules.specs.declared.outcome.Outcome.TheVariants as outcome
 use Rattle.schedules.specs.World.{World, Life, KeeperWalk, Place, Rests, Sweep, SweepTakes, SweepGives, rests, sweep_or}
 use Rattle.schedules.specs.After.{keeper_stepped, sweep_begins, sweep_gives, sweep_takes, with_life}
 use Rattle.schedules.specs.Cases.{BeginsSweep, GivesSwept, StepsKeeper, TakesForSweep}
 use Rattle.keeper_states.specs.Laws.{SweepAnswers, SweepStepAnswers}
-use Rattle.keeper_states.specs.Promises.{StepsSweep}
 use Rattle.keeper_states.specs.Showing.{sweep_shown, walk_by, walking_shown}
-use Rattle.keeper_states.specs.Standing.{Answers, HasKeeper, KeeperStands, KnowsStore, SeesHistory}
+use Rattle.keeper_states.specs.Standing.{HasKeeper, KeeperStands, SeesHistory}
 use Rattle.keeper_states.specs.Telling.{AgreesWith, MakesStep, sweep_end}
-use Rattle.keeper_states.proofs.Moved.{inside, same_history}
+use Rattle.keeper_states.proofs.Moved.{same_history}
 use Rattle.keeper_states.proofs.Staging.{no_walk}
 use Rattle.keeper_states.proofs.WalkSteps.{give_told, look_told, missed, swept_took, take_told, took}
 

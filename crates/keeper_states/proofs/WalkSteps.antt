@@ -1,12 +1,11 @@
 -- Which steps the walks of the keeper have made.
-use Rattle.std.proofs.Common.{◌≡◌, ◌⊎◌, inl, inr, ℕ, ◌+◌, ◌≤◌, List, [], ◌∷◌, ◌++◌, length, Option, Some, None, Bool, true, false, refl, sym, ◌∙◌, ap, subst, arith}
+use Rattle.std.proofs.Common.{◌≡◌, ◌⊎◌, inl, inr, ℕ, ◌+◌, List, [], ◌∷◌, ◌++◌, length, Some, refl, sym, ◌∙◌, ap, subst, arith}
 use Rattle.std.proofs.lemmas.List.{length_push, same_from_push}
 use Rattle.map_types.specs.declared.commands.Command.{Command}
 use Rattle.map_types.specs.declared.commands.Read as read_type
 use Rattle.map_types.specs.declared.commands.Reply.{Reply}
 use Rattle.map_types.specs.declared.refusals.Refusal.{Refusal}
 use Rattle.map_types.specs.declared.refusals.Refusal.TheVariants as refusal
-use Rattle.ticket_order.specs.declared.capture_walk.CaptureStage.{CaptureStage}
 use Rattle.ticket_order.specs.declared.capture_walk.CaptureStage.TheVariants as capture
 use Rattle.ticket_order.specs.declared.change_walk.ChangeStage.{ChangeStage}
 use Rattle.ticket_order.specs.declared.change_walk.ChangeStage.TheVariants as change
@@ -24,9 +23,9 @@ use Rattle.ticket_order.specs.declared.record.Purpose.TheVariants.{Nothing}
 use Rattle.ticket_order.specs.declared.record.StepMade.{StepMade}
 use Rattle.ticket_order.specs.declared.record.StepMade.TheVariants.{Took, FoundHeld, Gave, Drew, Looked, Published, Saw, Failed, FoundAlive}
 use Rattle.ticket_order.specs.declared.record.Record.{Record}
-use Rattle.ticket_order.specs.Records.{giving, looking, missing, reach, stripe_held, taking}
-use Rattle.ticket_order.specs.Calls.{HasTaken as WasTaken, RefusesCapture, RefusesSweep}
-use Rattle.ticket_order.specs.Walks.{Fits, FitsStage, Kind, Take, Give, Ticket, Look, Durable, See, Fail, Alive, ToCapture, ToChange, ToRead, ToRelease, ToSweep, kind_of, next_kind, next_of_stage}
+use Rattle.ticket_order.specs.Records.{giving, looking, reach, stripe_held, taking}
+use Rattle.ticket_order.specs.Calls.{RefusesSweep}
+use Rattle.ticket_order.specs.Walks.{FitsStage, Take, Give, Look, ToCapture, ToChange, ToRead, ToRelease, ToSweep, kind_of, next_of_stage}
 use Rattle.flusher.specs.Sweeping.{IsSwept}
 use Rattle.flusher.proofs.Quiet as swept
 use Rattle.checkpoint_walk.specs.Capturing.{HasLooked, HasTaken}
@@ -135,28 +134,28 @@ not_release i q y e = cc
 not_sweep : (i j : ℕ) → ToCapture i ≡ ToSweep j → ⊥
 not_sweep i j e = cc
 
-same_capture : (i j : ℕ) → ToCapture i ≡ ToCapture j → i ≡ j
+pub same_capture : (i j : ℕ) → ToCapture i ≡ ToCapture j → i ≡ j
 same_capture i j e = cc
 
-by_change : (n : ℕ) (b : Record) (i : ℕ) (s : ChangeStage) (p : Record) → FitsStage n b (ToCapture i) (stage.Change s) p → ⊥
+pub by_change : (n : ℕ) (b : Record) (i : ℕ) (s : ChangeStage) (p : Record) → FitsStage n b (ToCapture i) (stage.Change s) p → ⊥
 by_change n b i (change.Begins new) p k = not_change i new.command k.task_is
 by_change n b i (change.HasTaken new t) p k = not_change i new.command k.0.task_is
 by_change n b i (change.IsAlive new t) p k = not_change i new.command k.0.task_is
 by_change n b i (change.IsReady new t prepared) p k = not_change i new.command k.0.task_is
 by_change n b i (change.HasDrawn t h) p k = not_change i k.command k.task_is
 
-by_read : (n : ℕ) (b : Record) (i : ℕ) (s : ReadStage) (p : Record) → FitsStage n b (ToCapture i) (stage.Read s) p → ⊥
+pub by_read : (n : ℕ) (b : Record) (i : ℕ) (s : ReadStage) (p : Record) → FitsStage n b (ToCapture i) (stage.Read s) p → ⊥
 by_read n b i (read.Begins r) p k = not_read i r k.task_is
 by_read n b i (read.HasTaken r t) p k = not_read i r k.0.task_is
 by_read n b i (read.IsAlive r t) p k = not_read i r k.0.task_is
 by_read n b i (read.HasRead r t h) p k = not_read i r k.0.task_is
 
-by_release : (n : ℕ) (b : Record) (i : ℕ) (s : ReleaseStage) (p : Record) → FitsStage n b (ToCapture i) (stage.Release s) p → ⊥
+pub by_release : (n : ℕ) (b : Record) (i : ℕ) (s : ReleaseStage) (p : Record) → FitsStage n b (ToCapture i) (stage.Release s) p → ⊥
 by_release n b i (release.Begins h) p k = not_release i h.position h.reply k.0
 by_release n b i (release.HasMissed h) p k = not_release i h.position h.reply k.0
 by_release n b i (release.FoundFailure h) p k = not_release i h.position h.reply k.0
 
-by_sweep : (n : ℕ) (b : Record) (i : ℕ) (s : SweepStage) (p : Record) → FitsStage n b (ToCapture i) (stage.Sweep s) p → ⊥
+pub by_sweep : (n : ℕ) (b : Record) (i : ℕ) (s : SweepStage) (p : Record) → FitsStage n b (ToCapture i) (stage.Sweep s) p → ⊥
 by_sweep n b i (sweep.Begins alloc j) p k = not_sweep i j k.0.task_is
 by_sweep n b i (sweep.HasTaken alloc t) p k = not_sweep i t.stripe k.task_is
 

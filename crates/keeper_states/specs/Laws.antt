@@ -1,22 +1,27 @@
 -- Laws of a keeper against its world: each event meets its case, and leaves the keeper as the world after it says.
-use Rattle.std.specs.Prelude.{◌≡◌, ◌≢◌, ◌⊎◌, ℕ, ◌-◌, ◌^◌, ◌<◌, List, Option, None, Some, Bool, true, false, Result, Ok, Err}
+use Rattle.std.specs.Prelude.{◌≡◌, ◌≢◌, ◌⊎◌, ◌↔◌, ◌||◌, not, is_some, ℕ, ◌-◌, ◌^◌, ◌<◌, List, ◌++◌, Option, None, Some, true, false, Result, Ok, Err}
 use Rattle.map_types.specs.declared.commands.Command.{Command}
 use Rattle.map_types.specs.declared.refusals.Refusal.{Refusal}
 use Rattle.ticket_order.specs.declared.record.Record.{Record}
 use Rattle.ticket_order.specs.declared.walk.Walk.{Walk}
-use Rattle.ticket_order.specs.Records.{failing, publishing, reach}
+use Rattle.ticket_order.specs.Records.{failing, outbox_held, publishing, reach}
 use Rattle.ticket_order.specs.Walks as walks
 use Rattle.disk_model.specs.declared.fill.Fill.{Fill}
 use Rattle.disk_model.specs.Files.{Files}
 use Rattle.gate_log.specs.declared.phase.Phase.{Phase}
 use Rattle.checkpoint_file.specs.declared.phase.CheckpointPhase.{CheckpointPhase}
+use Rattle.store_layout.specs.Opening.{Opened}
 use Rattle.flusher.specs.declared.keeper.Keeper.{Keeper}
+use Rattle.flusher.specs.declared.sweeper.Sweep.{Sweep}
 use Rattle.flusher.specs.declared.sweeper.Swept.{Swept}
+use Rattle.flusher.specs.declared.sweeper.Walking.{Walking}
+use Rattle.flusher.specs.declared.sweeper.Walking.TheVariants as walking
 use Rattle.flusher.specs.Fitting.{Fits}
 use Rattle.flusher.specs.Keeping.{is_walking}
 use Rattle.flusher.specs.Sweeping.{next_kind}
 use Rattle.schedules.specs.declared.event.Ending.{Ending}
 use Rattle.schedules.specs.declared.event.Ending.TheVariants as ending
+use Rattle.schedules.specs.declared.event.Event.{Event}
 use Rattle.schedules.specs.declared.event.Event.TheVariants as event
 use Rattle.schedules.specs.declared.event.Side.{Side}
 use Rattle.schedules.specs.declared.event.Side.TheVariants as side
@@ -25,13 +30,19 @@ use Rattle.schedules.specs.declared.outcome.Made.{Made}
 use Rattle.schedules.specs.declared.outcome.Outcome.{Outcome}
 use Rattle.schedules.specs.declared.outcome.Outcome.TheVariants as outcome
 use Rattle.map_types.specs.declared.refusals.Refusal.TheVariants as refusal
-use Rattle.schedules.specs.World.{World, Life, rests}
-use Rattle.schedules.specs.Cases.{section_size}
-use Rattle.schedules.specs.Fitting.{has_call}
+use Rattle.ticket_order.specs.declared.record.Holding.{Holding}
+use Rattle.gate_log.specs.States.{call_in}
+use Rattle.flusher.specs.Rotating.{due_of, logs_of}
+use Rattle.checkpoint_walk.specs.Checkpointing.{call_due}
+use Rattle.schedules.specs.declared.outcome.End.{End}
+use Rattle.schedules.specs.After.{after, with_job, with_life, worker_stepped}
+use Rattle.schedules.specs.World.{World, Life, Job, keeper_holds, rests}
+use Rattle.schedules.specs.Cases.{Meets, section_size}
+use Rattle.schedules.specs.Fitting.{fits_inside, has_call}
 use Rattle.checkpoint_walk.specs.Walking.{FitsWalking}
 use Rattle.keeper_states.specs.Promises.{IsLost, IsMade, StepsCapture, StepsSweep, TriesBegin, TriesCheckpoint, TriesLog, TriesSeal, TriesStage}
 use Rattle.keeper_states.specs.Telling.{MakesStep, capture_end, sweep_end}
-use Rattle.keeper_states.specs.Standing.{Answers, KeeperStands, TellsPlaces}
+use Rattle.keeper_states.specs.Standing.{Answers, HasKeeper, IsAtOpening, KeeperStands, TellsPlaces}
 
 -- ---- the counts
 
@@ -137,3 +148,76 @@ CaptureStepAnswers {D} states honest = (n : ℕ) (done : List Command) (stripe :
     → FitsWalking states honest n done old p → honest old.disk → KeeperStands states old p w l → old.capture ≡ Some walk → StepsCapture states honest n stripe old new p q result
     → (result ≡ Err refusal.LogFull → 2 ^ 32 - 1 < section_size w l (reach p) l.checkpoint)
     → MakesStep w l p q (walks.next_kind n walk) m → Answers states new q w l event.KeeperStep (outcome.Stepped m (capture_end result))
+
+-- ---- what can be read off
+
+-- the keeper walks where the world says so
+abbrev pub WalkIsTold : {D : Type 0} → (D → List Files) → Type 0
+WalkIsTold {D} states = (keeper : Keeper D) (p : Record) (w : World) (l : Life) → KeeperStands states keeper p w l → rests l.walk ≡ not (is_walking keeper.sweeper.walking || is_some keeper.capture)
+
+-- a call of the log is to be made where one is due
+abbrev pub LogCallIsTold : {D : Type 0} → (D → List Files) → (D → Type 0) → Type 0
+LogCallIsTold {D} states honest = (n : ℕ) (done : List Command) (keeper : Keeper D) (p : Record) (w : World) (l : Life) → Fits states honest n done keeper p → KeeperStands states keeper p w l → keeper.is_broken ≡ false
+    → has_call side.Log l ≡ is_some (call_in (due_of (logs_of keeper)).phase (due_of (logs_of keeper)))
+
+-- and one of the checkpoint
+abbrev pub CheckpointCallIsTold : {D : Type 0} → (D → List Files) → Type 0
+CheckpointCallIsTold {D} states = (keeper : Keeper D) (p : Record) (w : World) (l : Life) → KeeperStands states keeper p w l → keeper.is_broken ≡ false
+    → has_call side.Checkpoint l ≡ is_some (call_due keeper.next keeper.checkpoint)
+
+-- the keeper's pass holds this stripe
+pub record PassHolds (p : Record) (i : ℕ) : Type 0 where
+  pub held : Holding
+  pub holding : p.holding ≡ Some held
+  pub stripe_is : held.stripe ≡ i
+
+-- it holds the stripe whose word the world says the keeper has, and no other
+abbrev pub StripeIsTold : {D : Type 0} → (D → List Files) → (D → Type 0) → Type 0
+StripeIsTold {D} states honest = (n : ℕ) (done : List Command) (keeper : Keeper D) (p : Record) (w : World) (l : Life) (i : ℕ) → FitsWalking states honest n done keeper p → KeeperStands states keeper p w l
+    → (keeper_holds l i l.walk ≡ true) ↔ PassHolds p i
+
+-- the world's durable count and its failure are those of the pass
+abbrev pub CountsAreTold : {D : Type 0} → (D → List Files) → (D → Type 0) → Type 0
+CountsAreTold {D} states honest = (n : ℕ) (done : List Command) (keeper : Keeper D) (p : Record) (w : World) (l : Life) → FitsWalking states honest n done keeper p → KeeperStands states keeper p w l
+    → (l.durable ≡ p.published) × (l.has_failed ≡ p.failed)
+
+-- ---- what sweeps took
+
+-- no step took an entry but the GIVE of a sweep
+abbrev pub NoneTaken : Walking → Result Swept Refusal → Type 0
+NoneTaken (walking.SweepGives walk) (Ok swept) = ⊥
+NoneTaken walks result = Unit {0}
+
+abbrev pub SweepTakesNone : {D : Type 0} → (D → List Files) → (D → Type 0) → Type 0
+SweepTakesNone {D} states honest = (n : ℕ) (done : List Command) (old new : Keeper D) (p q : Record) (result : Result Swept Refusal) → Fits states honest n done old p → StepsSweep n old new p q result
+    → NoneTaken old.sweeper.walking result → q.taken ≡ p.taken
+
+-- and that GIVE, where its walk hands out the outbox of the stripe that the pass held, took that outbox
+abbrev pub SweepTakesOutbox : {D : Type 0} → (D → List Files) → (D → Type 0) → Type 0
+SweepTakesOutbox {D} states honest = (n : ℕ) (done : List Command) (old new : Keeper D) (p q : Record) (sweep : Sweep) (walk : Walk) (swept : Swept) → Fits states honest n done old p → StepsSweep n old new p q (Ok swept)
+    → old.sweeper.sweep ≡ Some sweep → old.sweeper.walking ≡ walking.SweepGives walk → walks.entries_of_walk walk ≡ outbox_held p.holding
+    → (holds : PassHolds p sweep.stripe) × (q.taken ≡ p.taken ++ holds.held.outbox)
+
+abbrev pub CaptureTakesNone : {D : Type 0} → (D → List Files) → (D → Type 0) → Type 0
+CaptureTakesNone {D} states honest = (n : ℕ) (done : List Command) (stripe : ℕ) (old new : Keeper D) (p q : Record) (result : Result (Option ℕ) Refusal) → FitsWalking states honest n done old p
+    → StepsCapture states honest n stripe old new p q result → q.taken ≡ p.taken
+
+-- ---- the workers
+
+-- A worker that begins a walk, and one that makes a step, leave the keeper as it is.
+abbrev pub WorkersLeaveKeeper : {D : Type 0} → (D → List Files) → Type 0
+WorkersLeaveKeeper {D} states = (keeper : Keeper D) (p : Record) (w : World) (l : Life) (worker : ℕ) (job : Job) → KeeperStands states keeper p w l
+    → HasKeeper states keeper p (with_life w (with_job worker job l)) × ((m : Made) (end : End) → HasKeeper states keeper p (worker_stepped w l worker job m end))
+
+-- ---- an opening
+
+-- A keeper that was opened with what is found stands against a life that begins with that.
+abbrev pub OpeningStands : {D : Type 0} → (D → List Files) → Type 0
+OpeningStands {D} states = (keeper : Keeper D) (p : Record) (w : World) (stripes : ℕ) (found : Opened) → IsAtOpening states keeper p w stripes found → HasKeeper states keeper p w
+
+-- ---- whole events
+
+-- Where the event fits, the outcome that was told of it is met, and the keeper stands against the world after it.
+abbrev pub AnswersAreMet : {D : Type 0} → (D → List Files) → Type 0
+AnswersAreMet {D} states = (old new : Keeper D) (p q : Record) (w : World) (found : Opened) (l : Life) (e : Event) (x : Outcome) → KeeperStands states old p w l → fits_inside l e ≡ true → Answers states new q w l e x
+    → Meets w found e x × HasKeeper states new q (after w found e x)

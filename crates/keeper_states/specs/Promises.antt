@@ -1,12 +1,12 @@
 -- What the keeper's functions promise, each as one fact.
-use Rattle.std.specs.Prelude.{◌≡◌, ◌⊎◌, ◌≢◌, ◌↔◌, ℕ, ◌+◌, ◌<◌, ◌≤◌, List, [], length, Option, None, Some, Bool, true, false, Result, Ok, Err, IfOk, IfErr, OnOk, OnErr}
+use Rattle.std.specs.Prelude.{◌≡◌, ◌⊎◌, ◌≢◌, ◌↔◌, ℕ, ◌+◌, ◌≤◌, List, [], length, Option, None, Some, true, false, Result, Err, IfOk, IfErr, OnOk, OnErr}
 use Rattle.map_types.specs.declared.commands.Command.{Command}
 use Rattle.map_types.specs.declared.refusals.Refusal.{Refusal}
 use Rattle.map_types.specs.declared.refusals.Refusal.TheVariants as refusal
 use Rattle.ticket_order.specs.declared.record.Record.{Record}
 use Rattle.ticket_order.specs.Legality.{history_of}
 use Rattle.disk_model.specs.declared.fill.Fill.{Fill}
-use Rattle.disk_model.specs.Files.{AreBytes, Files, now}
+use Rattle.disk_model.specs.Files.{Files, now}
 use Rattle.disk_model.specs.Gates.{Call}
 use Rattle.store_layout.specs.Checkpoints.{Section}
 use Rattle.flusher.specs.declared.keeper.Keeper.{Keeper}
@@ -23,7 +23,7 @@ use Rattle.flusher.specs.Hands.{IsLongest, SameEntries}
 use Rattle.flusher.specs.Keeping.{IsFull, IsPast, MayStage, Stages, committed_by}
 use Rattle.flusher.specs.Rotating.{StepsLogs, due_of, logs_of}
 use Rattle.schedules.specs.declared.outcome.DeviceCall.{DeviceCall}
-use Rattle.schedules.specs.After.{bytes_of, called, failed}
+use Rattle.schedules.specs.After.{called, failed}
 use Rattle.schedules.specs.Cases.{IsPossible}
 use Rattle.checkpoint_walk.specs.Checkpointing.{Begins, HasAllSections, HasGiven, IsMarkedAbove, MayBegin, StepsCheckpoint, UsesCheckpoint, IsNextStripe, call_due, sealing}
 use Rattle.checkpoint_walk.specs.Walking.{AfterStep, FitsWalking, GivesPartIn}

@@ -15,7 +15,7 @@ use Rattle.flusher.specs.declared.keeper.Keeper.{Keeper}
 use Rattle.flusher.specs.declared.sweeper.Sweep as sweeper
 use Rattle.flusher.specs.declared.sweeper.Walking.{Walking}
 use Rattle.flusher.specs.declared.sweeper.Walking.TheVariants as walking
-use Rattle.flusher.specs.Rotating.{Logs, due_in, logs_of}
+use Rattle.flusher.specs.Rotating.{Logs, due_in}
 use Rattle.schedules.specs.World.{Sweep, KeeperWalk, Rests, SweepTakes, SweepGives, CaptureLooks, CaptureGives, LogWork, Resting, Committing, Rotating, Running}
 
 -- ---- its walk
@@ -121,12 +121,10 @@ seals_left checkpoint_phase.HeaderSynced = 2
 seals_left checkpoint_phase.Opened = 1
 seals_left checkpoint_phase.Sealed = 0
 
+-- in this phase, with the sections that the writer was given
+abbrev pub running_in : CheckpointPhase → CheckpointState → List Section → Running
+running_in phase w sections = record { generation = w.generation; clears = clears_left phase; sections = sections; is_waiting = is_waiting_in phase; seals = seals_left phase }
+
 -- the writer, with the sections that it was given
 abbrev pub running_shown : CheckpointState → List Section → Running
-running_shown w sections = record {
-  generation = w.generation;
-  clears = clears_left w.phase;
-  sections = sections;
-  is_waiting = is_waiting_in w.phase;
-  seals = seals_left w.phase;
-}
+running_shown w sections = running_in w.phase w sections

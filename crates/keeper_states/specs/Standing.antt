@@ -1,19 +1,23 @@
 -- How a keeper and its pass stand against the world.
-use Rattle.std.specs.Prelude.{◌≡◌, ℕ, ◌≤◌, List, ◌++◌, length, take, drop, Option, None, Some, Bool, false}
+use Rattle.std.specs.Prelude.{◌≡◌, ℕ, ◌+◌, ◌<◌, ◌≤◌, List, [], ◌++◌, length, take, drop, Option, None, Some, Bool, false}
 use Rattle.map_types.specs.declared.commands.Command.{Command}
 use Rattle.map_model.specs.Steps.{fold_of}
 use Rattle.std.specs.List.{Contains}
 use Rattle.ticket_order.specs.declared.record.Record.{Record}
 use Rattle.ticket_order.specs.declared.stripe.Entry.{Entry}
-use Rattle.ticket_order.specs.Records.{entry}
 use Rattle.disk_model.specs.Files.{Files, now}
 use Rattle.store_layout.specs.Checkpoints.{Section}
+use Rattle.log_records.specs.Layout.{first_layout}
+use Rattle.store_layout.specs.Opening.{Opened, newest_of, prefix_of}
+use Rattle.store_layout.specs.Readings.{gate_behind}
+use Rattle.gate_log.specs.declared.phase.Phase.TheVariants.{Idle}
 use Rattle.gate_log.specs.States.{LogState}
 use Rattle.checkpoint_file.specs.States.{CheckpointState, first_phase}
 use Rattle.flusher.specs.declared.keeper.Keeper.{Keeper}
+use Rattle.flusher.specs.declared.sweeper.Walking.TheVariants.{Rests}
 use Rattle.flusher.specs.Rotating.{logs_of}
 use Rattle.checkpoint_walk.specs.Checkpointing.{HasGiven}
-use Rattle.schedules.specs.World.{World, Life, InHand, Running, place_of}
+use Rattle.schedules.specs.World.{World, Life, InHand, Running, begun_by, place_of}
 use Rattle.schedules.specs.declared.event.Event.{Event}
 use Rattle.schedules.specs.declared.outcome.Outcome.{Outcome}
 use Rattle.schedules.specs.After.{after_inside}
@@ -65,7 +69,30 @@ pub record KeeperStands {D : Type 0} (states : D → List Files) (keeper : Keepe
 -- A ticket of this life is in hand, or was and is committed, exactly where a sweep of the pass took its entry.
 pub record TellsPlaces (p : Record) (l : Life) : Type 0 where
   pub taken : (e : Entry) → Contains p.taken e → place_of l e.ticket ≡ InHand
-  pub in_hand : (t : ℕ) → l.first ≤ t → place_of l t ≡ InHand → (c : Command) × Contains p.taken (entry t c)
+  pub in_hand : (t : ℕ) → l.first ≤ t → t < l.first + length l.places → place_of l t ≡ InHand → (e : Entry) × Contains p.taken e × (e.ticket ≡ t)
+
+-- The keeper was opened, and has made no call; its pass has made no step. A life begins that was opened with what is found.
+pub record IsAtOpening {D : Type 0} (states : D → List Files) (keeper : Keeper D) (p : Record) (w : World) (stripes : ℕ) (found : Opened) : Type 0 where
+  pub life : w.life ≡ Some (begun_by stripes found)
+  pub files : w.files ≡ now (states keeper.disk)
+  pub long : length w.history ≡ prefix_of found
+  pub first : p.opening.first ≡ prefix_of found
+  pub map : p.opening.map ≡ fold_of w.history
+  pub none_seen : p.seen ≡ []
+  pub stripes_are : keeper.stripes.count ≡ stripes
+  pub sealed : keeper.sealed ≡ found.checkpoint.generation
+  pub generation : keeper.log.generation ≡ (newest_of found).generation
+  pub gate : keeper.log.gate ≡ gate_behind first_layout (newest_of found).generation (newest_of found).low (newest_of found).batches
+  pub committed : keeper.log.committed ≡ prefix_of found
+  pub published : keeper.published ≡ prefix_of found
+  pub idle : keeper.log.phase ≡ Idle
+  pub no_next : keeper.next ≡ None
+  pub sweep : keeper.sweeper.sweep ≡ None
+  pub walking : keeper.sweeper.walking ≡ Rests
+  pub checkpoint : keeper.checkpoint ≡ None
+  pub capture : keeper.capture ≡ None
+  pub works : keeper.is_broken ≡ false
+  pub not_failed : keeper.has_failed ≡ false
 
 abbrev pub StandsIn : {D : Type 0} → (D → List Files) → Keeper D → Record → World → Option Life → Type 0
 StandsIn states keeper p w None = ⊥

@@ -1,7 +1,8 @@
 //! Laws of a keeper against its world, each as the contract of a function.
-ghost use Rattle.keeper_states.specs.Laws.{BeginAnswers, BrokenAnswers, CaptureAnswers, CaptureRefuses, CaptureStepAnswers, CheckpointAnswers, CheckpointFails, FailAnswers, LogAnswers, LogFails, PublishAnswers, SealAnswers, StageAnswers, SweepAnswers, SweepStepAnswers};
+ghost use Rattle.keeper_states.specs.Laws.{AnswersAreMet, BeginAnswers, BrokenAnswers, CaptureAnswers, CaptureRefuses, CaptureStepAnswers, CaptureTakesNone, CheckpointAnswers, CheckpointCallIsTold, CheckpointFails, CountsAreTold, FailAnswers, LogAnswers, LogCallIsTold, LogFails, OpeningStands, PublishAnswers, SealAnswers, StageAnswers, StripeIsTold, SweepAnswers, SweepStepAnswers, SweepTakesNone, SweepTakesOutbox, WalkIsTold, WorkersLeaveKeeper};
 
 use disk_model::Disk;
+use schedules::laws::laws_of_runs;
 
 /// A DURABLE gives the committed count, and a FAIL is remembered.
 pub fn laws_of_counts<D: Disk>()
@@ -46,3 +47,32 @@ pub fn laws_of_captures<D: Disk>()
     ensures refuses { CaptureRefuses D.states D.honest }
     ensures steps { CaptureStepAnswers D.states D.honest }
 {}
+
+/// What the world says of the keeper's walk, of its pass, and of the device calls that are due.
+pub fn laws_of_telling<D: Disk>()
+    ensures walk { WalkIsTold D.states }
+    ensures stripe { StripeIsTold D.states D.honest }
+    ensures counts { CountsAreTold D.states D.honest }
+    ensures log { LogCallIsTold D.states D.honest }
+    ensures checkpoint { CheckpointCallIsTold D.states }
+{}
+
+/// Which entries a step of the keeper took: none, or the outbox of the stripe that it held.
+pub fn laws_of_taking<D: Disk>()
+    ensures none { SweepTakesNone D.states D.honest }
+    ensures outbox { SweepTakesOutbox D.states D.honest }
+    ensures captures { CaptureTakesNone D.states D.honest }
+{}
+
+/// How a keeper stands when its life begins, and that the workers leave it so.
+pub fn laws_of_lives<D: Disk>()
+    ensures opening { OpeningStands D.states }
+    ensures workers { WorkersLeaveKeeper D.states }
+{}
+
+/// What was told of an event is what came of it.
+pub fn laws_of_answers<D: Disk>()
+    ensures met { AnswersAreMet D.states }
+{
+    laws_of_runs();
+}

@@ -8,6 +8,7 @@ use Rattle.disk_model.specs.Files.{Files}
 use Rattle.disk_model.specs.declared.fill.Fill.{Fill}
 use Rattle.map_server.specs.CommandLine.{faults, named_by, Advises, FindsNoMemory}
 use Rattle.map_server.specs.Directory.{Inits, Inspects}
+use Rattle.map_server.specs.Simulation.{Simulates}
 use Rattle.map_server.specs.Program.{Ran}
 
 pub mem_is_known : (name : Text) → faults (name ∷ codes "mem" ∷ []) ≡ []
@@ -40,6 +41,7 @@ module _ (files : Files) (left : ℕ → Fill) (words : List Text) (r w0 w1 : Op
       mem = λ n. let bad = apart (named_by words) 105 109 _ _ named n in absurd (omega arith);
       init = λ n. (refl, done);
       check = λ n. let bad = apart (named_by words) 105 99 _ _ named n in absurd (omega arith);
+      sim = λ n. let bad = apart (named_by words) 105 115 _ _ named n in absurd (omega arith);
     };
     unknown = λ some. absurd (some none);
   }
@@ -51,6 +53,19 @@ module _ (files : Files) (left : ℕ → Fill) (words : List Text) (r w0 w1 : Op
       mem = λ n. let bad = apart (named_by words) 99 109 _ _ named n in absurd (omega arith);
       init = λ n. let bad = apart (named_by words) 99 105 _ _ named n in absurd (omega arith);
       check = λ n. (refl, done);
+      sim = λ n. let bad = apart (named_by words) 99 115 _ _ named n in absurd (omega arith);
+    };
+    unknown = λ some. absurd (some none);
+  }
+
+  pub simulates : faults words ≡ [] → named_by words ≡ Some (codes "sim") → Simulates w0 w1 status → Ran files left words r r w0 w1 status
+  simulates none named done = record {
+    mem = λ name e. let bad = apart (named_by words) 115 109 _ _ named (ap named_by e ∙ mem_is_named name) in absurd (omega arith);
+    known = λ e. record {
+      mem = λ n. let bad = apart (named_by words) 115 109 _ _ named n in absurd (omega arith);
+      init = λ n. let bad = apart (named_by words) 115 105 _ _ named n in absurd (omega arith);
+      check = λ n. let bad = apart (named_by words) 115 99 _ _ named n in absurd (omega arith);
+      sim = λ n. (refl, done);
     };
     unknown = λ some. absurd (some none);
   }
@@ -62,6 +77,6 @@ module _ (files : Files) (left : ℕ → Fill) (words : List Text) (r w0 w1 : Op
         mem = λ name e. let m = wanting (ap faults e ∙ mem_is_known name) in inr (refl, m.1, m.0);
         known = λ e.
             let m = wanting e in
-            record { mem = λ n. inr (refl, m.1, m.0); init = λ n. (refl, inr (m.1, inl m.0)); check = λ n. (refl, inr (m.1, m.0)) };
+            record { mem = λ n. inr (refl, m.1, m.0); init = λ n. (refl, inr (m.1, inl m.0)); check = λ n. (refl, inr (m.1, m.0)); sim = λ n. (refl, inr (m.1, inl m.0)) };
         unknown = λ e. (refl, record { fault = fault; is = is; advises = a });
       }

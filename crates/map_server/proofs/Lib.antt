@@ -8,3 +8,4 @@ pub mod Beside
 pub mod Releasing
 pub mod NewMaps
 pub mod Summaries
+pub mod Playing

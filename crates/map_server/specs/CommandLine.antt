@@ -4,7 +4,7 @@ use Rattle.clap.specs.Words.{App, Rule, Text, IsAmong, Kinds, fault_of, new_app,
 use Rattle.clap.specs.Simple.{on_top}
 use Rattle.clap.specs.declared.builder.action.ArgAction.TheVariants.{Set}
 use Rattle.map_server.specs.declared.program.Order.{Order}
-use Rattle.map_server.specs.declared.program.Order.TheVariants.{Mem, Init, Check}
+use Rattle.map_server.specs.declared.program.Order.TheVariants.{Mem, Init, Check, Sim}
 use Rattle.clap.specs.declared.error.kind.ErrorKind.{ErrorKind}
 use Rattle.clap.specs.declared.error.kind.ErrorKind.TheVariants.{DisplayHelp, DisplayVersion, OutOfMemory}
 
@@ -16,11 +16,16 @@ directory_rule = record (new_rule (codes "DIR")) { required = true; action = Som
 abbrev pub stripes_rule : Rule
 stripes_rule = record (new_rule (codes "stripes")) { long = Some (codes "stripes"); action = Some Set; value_names = 1 }
 
--- `dchm`, which wants one of its subcommands: `mem`, which takes nothing, `init`, and `check`
+-- a file's name, which is wanted
+abbrev pub file_rule : Rule
+file_rule = record (new_rule (codes "FILE")) { required = true; action = Some Set }
+
+-- `dchm`, which wants one of its subcommands: `mem`, which takes nothing, `init`, `check`, and `sim`
 abbrev pub command_line : App
 command_line =
-    with_subcommand (with_subcommand (with_subcommand (on_top (λ s. record s { subcommand_required = true }) (new_app (codes "dchm"))) (new_app (codes "mem")).top)
-    (with_rule (with_rule (new_app (codes "init")) directory_rule) stripes_rule).top) (with_rule (new_app (codes "check")) directory_rule).top
+    with_subcommand (with_subcommand (with_subcommand (with_subcommand (on_top (λ s. record s { subcommand_required = true }) (new_app (codes "dchm"))) (new_app (codes "mem")).top)
+    (with_rule (with_rule (new_app (codes "init")) directory_rule) stripes_rule).top) (with_rule (new_app (codes "check")) directory_rule).top)
+    (with_rule (new_app (codes "sim")) file_rule).top
 
 -- what is wrong with the words, the program's name first, or help where they ask for it; nothing where they are known
 abbrev pub faults : List Text → Kinds
@@ -32,9 +37,10 @@ named_by words = option_map (λ named. named.0) (subcommand_of command_line word
 
 -- the name of a subcommand and what is asked for belong together
 abbrev pub Asks : Option Text → Order → Type 0
-Asks name Mem = (name ≢ Some (codes "init")) × (name ≢ Some (codes "check"))
+Asks name Mem = (name ≢ Some (codes "init")) × (name ≢ Some (codes "check")) × (name ≢ Some (codes "sim"))
 Asks name (Init directory stripes) = name ≡ Some (codes "init")
 Asks name (Check directory) = name ≡ Some (codes "check")
+Asks name (Sim file) = name ≡ Some (codes "sim")
 
 -- no memory was found, and nothing was written to the output
 abbrev pub FindsNoMemory : Option (List ℕ) → Option (List ℕ) → ℕ → Type 0

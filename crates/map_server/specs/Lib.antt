@@ -5,3 +5,4 @@ pub mod CommandLine
 pub mod Directory
 pub mod Program
 pub mod Served
+pub mod Simulation

@@ -20,6 +20,7 @@ use Rattle.disk_model.specs.Files.{Files}
 use Rattle.disk_model.specs.declared.fill.Fill.{Fill}
 use Rattle.map_server.specs.CommandLine.{faults, named_by, Misuses}
 use Rattle.map_server.specs.Directory.{Inits, Inspects}
+use Rattle.map_server.specs.Simulation.{Simulates}
 
 -- a map in memory: the count of stripes, the record of its pass, its log, and whether it has failed
 pub record MapState : Type 0 where
@@ -87,6 +88,7 @@ pub record Obeys (files : Files) (left : ℕ → Fill) (name : Option Text) (r0 
   pub mem : name ≡ Some (codes "mem") → Serves r0 r1 w0 w1 status
   pub init : name ≡ Some (codes "init") → (r1 ≡ r0) × Inits files left w0 w1 status
   pub check : name ≡ Some (codes "check") → (r1 ≡ r0) × Inspects files left w0 w1 status
+  pub sim : name ≡ Some (codes "sim") → (r1 ≡ r0) × Simulates w0 w1 status
 
 -- For words that are known it is done what they name, and for those of `dchm mem` the map is served; for other words nothing is read. The files held this at first, and
 -- writes that broke left that to be read.

@@ -15,8 +15,8 @@ use std::io::{ErrorKind, Write};
 use std::rt::Files;
 use wire_frames::write_whole;
 
-// Prints the text.
-fn print<W: Write, E: Write>(text: &str, output: &mut W, error: &mut E) -> u8
+/// Prints the text.
+pub(crate) fn print<W: Write, E: Write>(text: &str, output: &mut W, error: &mut E) -> u8
     ensures { Prints text.now (W.contents output.old) (W.contents output.new) result }
 {
     match write_whole(output, text.as_bytes()) {
@@ -63,8 +63,8 @@ pub(crate) fn check_disk<D: Disk + Drop, W: Write, E: Write>(
     }
 }
 
-// Says why a directory can't be opened.
-fn cannot_open<E: Write>(alloc: Global, failure: &io::Error, error: &mut E) -> u8
+/// Says why a directory or a file can't be opened.
+pub(crate) fn cannot_open<E: Write>(alloc: Global, failure: &io::Error, error: &mut E) -> u8
     ensures { result ≡ 1 }
 {
     if failure.kind() == ErrorKind::OutOfMemory {

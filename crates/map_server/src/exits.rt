@@ -1,6 +1,7 @@
 //! How the program ends: its exit status, and what it says on standard error.
 ghost use Rattle.std.specs.Prelude.{◌≡◌};
 
+use call_text::refusal_text;
 use map_types::Refusal;
 use std::alloc::Global;
 use std::io::Write;
@@ -23,10 +24,11 @@ pub(crate) fn say<W: Write>(writer: &mut W, text: &str) {
 pub(crate) fn refuse<E: Write>(alloc: Global, refusal: Refusal, error: &mut E) -> u8
     ensures { result ≡ 1 }
 {
-    match format!(in alloc; "refused {refusal}\n") {
+    match refusal_text(alloc, refusal) {
         Ok(text) => say(error, text.as_str()),
-        Err(_) => say(error, "refused 7 NoMemory\n"),
+        Err(_) => say(error, "refused 7 NoMemory"),
     }
+    say(error, "\n");
     REFUSED
 }
 

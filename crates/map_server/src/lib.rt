@@ -7,6 +7,7 @@ mod directory;
 mod exits;
 pub mod memory;
 pub mod program;
+mod simulation;
 mod summary;
 #[cfg(test)]
 mod tests;

@@ -2,13 +2,14 @@
 ghost use Rattle.std.specs.Prelude.{◌≡◌, false, IfOk, map, string_bytes};
 ghost use Rattle.clap.specs.Words.{app_of, rule_of, subcommand_name_of, FailsBy};
 ghost use Rattle.clap.specs.Values.{kind_of};
-ghost use Rattle.map_server.specs.CommandLine.{command_line, directory_rule, faults, named_by, stripes_rule, Advises, Asks};
+ghost use Rattle.map_server.specs.CommandLine.{command_line, directory_rule, faults, file_rule, named_by, stripes_rule, Advises, Asks};
 ghost use Rattle.map_server.specs.Program.{Serves, Ran};
 
 use crate::connection::{ConnectionError, serve_connection};
 use crate::directory::{check, init};
 use crate::exits::{DONE, MISUSED, break_off, refuse, say};
 use crate::memory::Memory;
+use crate::simulation::sim;
 use clap::error::ErrorKind;
 use clap::{Arg, ArgAction, ArgMatches, Command, Error};
 use disk_model::{MemDisk, Start};
@@ -32,6 +33,10 @@ enum Order<'a> {
     Check {
         directory: &'a str,
     },
+    /// Play the script of the file.
+    Sim {
+        file: &'a str,
+    },
 }
 
 /// The number of stripes where no other is asked for.
@@ -46,6 +51,17 @@ fn directory<'a>(alloc: Global) -> Arg<'a>
         .required(true)
         .action(ArgAction::Set)
         .help("The directory of the map's files")
+}
+
+/// The argument that names a file.
+fn file<'a>(alloc: Global) -> Arg<'a>
+    ensures rule { rule_of result ≡ file_rule }
+    ensures local { result.global ≡ false }
+{
+    Arg::new(alloc, "FILE")
+        .required(true)
+        .action(ArgAction::Set)
+        .help("The file of a script")
 }
 
 /// The argument that says how many stripes a map is divided into.
@@ -76,12 +92,18 @@ fn known_lines<'a>(alloc: Global) -> Result<Command<'a>, AllocError>
     let check = Command::new(alloc, "check")
         .about("Opens a directory, and prints what it stands for")
         .arg(directory(alloc))?;
+    let sim = Command::new(alloc, "sim")
+        .about(
+            "Plays the script of a schedule over a disk in memory, and prints what came of each line",
+        )
+        .arg(file(alloc))?;
     Command::new(alloc, "dchm")
         .about("A durable concurrent map from text keys to values")
         .subcommand_required(true)
         .subcommand(mem)?
         .subcommand(init)?
-        .subcommand(check)
+        .subcommand(check)?
+        .subcommand(sim)
 }
 
 /// What the words that were read ask for.
@@ -95,6 +117,9 @@ fn order_in<'a>(matches: &ArgMatches<'a>) -> Order<'a>
         },
         Some(("check", found)) => Order::Check {
             directory: found.get_str("DIR").unwrap_or(""),
+        },
+        Some(("sim", found)) => Order::Sim {
+            file: found.get_str("FILE").unwrap_or(""),
         },
         _ => Order::Mem,
     }
@@ -165,6 +190,10 @@ fn mem<T: Wait, R: Read, W: Write, E: Write>(
 /// with `unreadable` on `error` where the input or the output fails, 1 with `refused` and the refusal on
 /// `error` where the map can't be begun or no memory is found to read, and 2 with a text on how to call the
 /// program on `error` for words that aren't known.
+///
+/// `sim` plays the script of a file, and prints on `output` a line for each of its lines. The status is
+/// 1 with `unreadable` on `error` where the file can't be read, and 2 with what is wrong on `error` where
+/// it isn't UTF-8 or has a bad line; then nothing is played.
 pub fn dchm<T: Wait + Files<File = File>, S: Start, R: Read, W: Write, E: Write>(
     rt: &T,
     alloc: Global,
@@ -182,6 +211,7 @@ pub fn dchm<T: Wait + Files<File = File>, S: Start, R: Read, W: Write, E: Write>
             init(rt, alloc, start, directory, stripes, output, error)
         }
         Ok(Order::Check { directory }) => check(rt, alloc, start, directory, output, error),
+        Ok(Order::Sim { file }) => sim(rt, alloc, file, output, error),
         Err(advice) => advise(alloc, &advice, output, error),
     }
 }

@@ -25,13 +25,15 @@ use Rattle.ticket_order.specs.declared.walk.Taken.{Taken}
 use Rattle.ticket_order.specs.declared.walk.Stage.{Stage}
 use Rattle.ticket_order.specs.declared.walk.Stage.TheVariants as stage
 use Rattle.ticket_order.specs.declared.walk.Walk.{Walk}
-use Rattle.ticket_order.specs.Records.{drawing, giving, living, looking, reach, stripe_held, taking, ticket_limit}
+use Rattle.ticket_order.specs.Records.{call, drawing, giving, living, looking, reach, stripe_held, taking, ticket_limit}
 use Rattle.ticket_order.specs.Calls.{FindsFailure, GivesBack, LooksAround, MakesCall, MakesRead, RefusesChange, RefusesRead, walked}
 use Rattle.ticket_order.specs.Walks.{FitsStage, HasContent, Refuses, Task, ToCapture, ToChange, ToRead, ToRelease, ToSweep}
 use Rattle.one_history.specs.OneHistory.{stripe_in}
 use Rattle.schedules.specs.declared.outcome.End.TheVariants as ends
+use Rattle.schedules.specs.World as world
 use Rattle.schedules.specs.World.{stripe_asked}
-use Rattle.schedule_sim.specs.Walked.{Walked, took, alive, looked, drew}
+use Rattle.schedule_sim.specs.Likeness.{task_of}
+use Rattle.schedule_sim.specs.Walked.{Walked, took, alive, looked, drew, alive_stage, stage_of}
 
 -- ---- lists
 
@@ -50,18 +52,14 @@ snoc (a ∷ xs) (b ∷ ys) x y e =
 
 -- ---- tasks
 
-abbrev pub task_of : Asked → Task
-task_of (Changing c) = ToChange c
-task_of (Reading r) = ToRead r
-
-abbrev tag : Task → ℕ
+abbrev pub tag : Task → ℕ
 tag (ToChange c) = 0
 tag (ToRead r) = 1
 tag (ToRelease q y) = 2
 tag (ToSweep i) = 3
 tag (ToCapture i) = 4
 
-abbrev key_of : Task → List ℕ
+abbrev pub key_of : Task → List ℕ
 key_of (ToChange c) = c.key
 key_of (ToRead r) = r.key
 key_of (ToRelease q y) = []
@@ -70,16 +68,31 @@ key_of (ToCapture i) = []
 
 -- ---- where a walk stands
 
+-- a call is added with its ticket
+abbrev pub CallsBy : Asked → world.Stage → Record → Record → Type 0
+CallsBy asked (world.HasDrawn t) b p = (position : ℕ) × (reply : Reply) × (p.calls ≡ b.calls ++ call position asked reply ∷ [])
+CallsBy asked world.Begins b p = p.calls ≡ b.calls
+CallsBy asked world.HasTaken b p = p.calls ≡ b.calls
+CallsBy asked world.IsAlive b p = p.calls ≡ b.calls
+CallsBy asked world.IsDead b p = p.calls ≡ b.calls
+CallsBy asked (world.HasLooked q) b p = p.calls ≡ b.calls
+
+calls_alive : (asked : Asked) (x : Bool) (b p : Record) → p.calls ≡ b.calls → CallsBy asked (alive_stage x) b p
+calls_alive asked true b p e = e
+calls_alive asked false b p e = e
+
 -- Since b the pass made these steps of a call's walk on this stripe, which goes on. Once it has taken the stripe it holds it.
 pub record IsFront (stripe : ℕ) (asked : Asked) (b p : Record) : Type 0 where
   pub made : List StepMade
   pub steps_are : p.steps ≡ b.steps ++ made
+  pub calls_are : CallsBy asked (stage_of made) b p
   pub goes : ((made ≡ []) × (stripe_in p.holding ≡ None)) ⊎ (Walked stripe asked made ends.Goes × (stripe_in p.holding ≡ Some stripe))
 
 taking_front : (stripe : ℕ) (asked : Asked) (b p : Record) (m : Map) (es : List Entry) (a : List Command) → p ≡ taking b stripe m es a → IsFront stripe asked b p
 taking_front stripe asked b p m es a is = record {
   made = Took stripe es ∷ [];
   steps_are = ap (λ r. r.steps) is;
+  calls_are = ap (λ r. r.calls) is;
   goes = inr (took, ap (λ r. stripe_in r.holding) is);
 }
 
@@ -87,6 +100,7 @@ living_front : (stripe : ℕ) (asked : Asked) (b p : Record) (m : Map) (es : Lis
 living_front stripe asked b p m es a x is = record {
   made = Took stripe es ∷ FoundAlive x ∷ [];
   steps_are = ap (λ r. r.steps) is ∙ append_assoc b.steps (Took stripe es ∷ []) (FoundAlive x ∷ []);
+  calls_are = calls_alive asked x b p (ap (λ r. r.calls) is);
   goes = inr (alive, ap (λ r. stripe_in r.holding) is);
 }
 
@@ -100,17 +114,18 @@ walked_front : (stripe : ℕ) (asked : Asked) (b p : Record) (m : Map) (es : Lis
 walked_front stripe asked b p m es a l is = record {
   made = Took stripe es ∷ FoundAlive true ∷ Looked (reach (walked b stripe m es a l)) ∷ [];
   steps_are = ap (λ r. r.steps) is ∙ looked_steps stripe b m es a l;
+  calls_are = ap (λ r. r.calls) is;
   goes = inr (looked, ap (λ r. stripe_in r.holding) is);
 }
 
 -- what was held before a GIVE that gives nothing more
-before_give : (p h : Record) (t : Taken) (i : ℕ) → HasContent p t → giving Nothing p ≡ giving Nothing h → stripe_held h.holding ≡ i → (p.steps ≡ h.steps) × (stripe_in p.holding ≡ Some i)
+before_give : (p h : Record) (t : Taken) (i : ℕ) → HasContent p t → giving Nothing p ≡ giving Nothing h → stripe_held h.holding ≡ i → (p.steps ≡ h.steps) × (stripe_in p.holding ≡ Some i) × (p.calls ≡ h.calls)
 before_give p h t i content is held =
     let both = snoc p.steps h.steps (Gave (stripe_held p.holding)) (Gave (stripe_held h.holding)) (ap (λ r. r.steps) is) in
     let gave : Gave (stripe_held p.holding) ≡ Gave (stripe_held h.holding) = both.1 in
     let same : stripe_held p.holding ≡ stripe_held h.holding = cc in
     let own : stripe_held p.holding ≡ content.held.stripe = ap stripe_held content.holding in
-    (both.0, ap stripe_in content.holding ∙ ap Some (sym own ∙ same ∙ held))
+    (both.0, ap stripe_in content.holding ∙ ap Some (sym own ∙ same ∙ held), sym (append-nil p.calls) ∙ ap (λ r. r.calls) is ∙ append-nil h.calls)
 
 dead_front : (stripe : ℕ) (asked : Asked) (b p : Record) (t : Taken) → HasContent p t → GivesBack b (FindsFailure b stripe) (giving Nothing p) → IsFront stripe asked b p
 dead_front stripe asked b p t content k =
@@ -120,6 +135,7 @@ dead_front stripe asked b p t content k =
     record {
       made = Took stripe f.outbox ∷ FoundAlive false ∷ [];
       steps_are = both.0 ∙ append_assoc b.steps (Took stripe f.outbox ∷ []) (FoundAlive false ∷ []);
+      calls_are = both.2;
       goes = inr (alive, both.1);
     }
 
@@ -131,6 +147,7 @@ back_front stripe asked b p t content k =
     record {
       made = Took stripe f.outbox ∷ FoundAlive true ∷ Looked (reach (walked b stripe f.part f.outbox f.taken f.looked)) ∷ [];
       steps_are = both.0 ∙ looked_steps stripe b f.part f.outbox f.taken f.looked;
+      calls_are = both.2;
       goes = inr (looked, both.1);
     }
 
@@ -143,6 +160,7 @@ drawn_front n c b p t position reply content k =
       made = Took (stripe_of n c.key) k.outbox ∷ FoundAlive true ∷ Looked (reach w) ∷ Drew t ∷ [];
       steps_are = both.0 ∙ ap (λ xs. xs ++ Drew t ∷ []) (looked_steps (stripe_of n c.key) b k.part k.outbox k.taken k.looked)
           ∙ append_assoc b.steps (Took (stripe_of n c.key) k.outbox ∷ FoundAlive true ∷ Looked (reach w) ∷ []) (Drew t ∷ []);
+      calls_are = (position, reply, sym (append-nil p.calls) ∙ k.grew);
       goes = inr (drew k.below, both.1);
     }
 
@@ -200,6 +218,7 @@ begin_front : (stripe : ℕ) (asked : Asked) (b p : Record) → p ≡ b → b.ho
 begin_front stripe asked b p is free = record {
   made = [];
   steps_are = ap (λ r. r.steps) is ∙ sym (append-nil b.steps);
+  calls_are = ap (λ r. r.calls) is;
   goes = inl (refl, ap (λ r. stripe_in r.holding) is ∙ ap stripe_in free);
 }
 

@@ -4,3 +4,10 @@ pub mod Kept
 pub mod Started
 pub mod Fronts
 pub mod Walks
+pub mod Exact
+pub mod Meeting
+pub mod Freeing
+pub mod Likely
+pub mod Doing
+pub mod Done
+pub mod Calls

@@ -170,16 +170,16 @@ sees_free v d w k = ap (λ r. r.holding) k.is
 lives_free : (v : Record) (is_alive : Bool) (w : Record) → Lives v is_alive w → w.holding ≡ v.holding
 lives_free v is_alive w k = ap (λ r. r.holding) k.is
 
-misses_alive_free : (p : ℕ) (is_alive : Bool) (v w : Record) → MissesAlive p is_alive v w → w.holding ≡ v.holding
+pub misses_alive_free : (p : ℕ) (is_alive : Bool) (v w : Record) → MissesAlive p is_alive v w → w.holding ≡ v.holding
 misses_alive_free p is_alive v w k = lives_free k.between is_alive w k.lives ∙ sees_free v k.misses.durable k.between k.misses.sees
 
-misses_alive_calls : (p : ℕ) (is_alive : Bool) (v w : Record) → MissesAlive p is_alive v w → w.calls ≡ v.calls
+pub misses_alive_calls : (p : ℕ) (is_alive : Bool) (v w : Record) → MissesAlive p is_alive v w → w.calls ≡ v.calls
 misses_alive_calls p is_alive v w k = ap (λ r. r.calls) k.lives.is ∙ ap (λ r. r.calls) k.misses.sees.is
 
-reaches_free : (p : ℕ) (v w : Record) → Reaches p v w → w.holding ≡ v.holding
+pub reaches_free : (p : ℕ) (v w : Record) → Reaches p v w → w.holding ≡ v.holding
 reaches_free p v w k = sees_free v k.durable w k.sees
 
-misses_free : (p : ℕ) (v w : Record) → Misses p v w → w.holding ≡ v.holding
+pub misses_free : (p : ℕ) (v w : Record) → Misses p v w → w.holding ≡ v.holding
 misses_free p v w k = sees_free v k.durable w k.sees
 
 keeps_call : (position : ℕ) (reply : Reply) (v w : Record) → w.calls ≡ v.calls → HasCall position reply v → HasCall position reply w

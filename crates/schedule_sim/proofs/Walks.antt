@@ -27,7 +27,8 @@ use Rattle.one_history.specs.OneHistory.{stripe_in}
 use Rattle.schedules.specs.World.{stripe_asked}
 use Rattle.schedule_sim.specs.Living.{called_of}
 use Rattle.schedule_sim.specs.Walked.{Walked, busy, dead, spent, starved, starved_read, changed, answered}
-use Rattle.schedule_sim.proofs.Fronts.{front, looked_steps, task_of}
+use Rattle.schedule_sim.specs.Likeness.{task_of}
+use Rattle.schedule_sim.proofs.Fronts.{front, looked_steps}
 
 -- since b the pass made these steps of a call's walk on this stripe, which ended so
 record IsEnd (stripe : ℕ) (asked : Asked) (b w : Record) (end : End) : Type 0 where

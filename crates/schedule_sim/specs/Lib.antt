@@ -3,3 +3,4 @@ pub mod Words
 pub mod Tracing
 pub mod Living
 pub mod Walked
+pub mod Likeness

@@ -1,11 +1,16 @@
 //! A store that is open: its keeper, and its workers on the plain words.
-ghost use Rattle.std.specs.Prelude.{◌≡◌, ◌<◌, ℕ, [], None, true, length, replicate, IfOk};
+ghost use Rattle.std.specs.Prelude.{◌≡◌, ◌≢◌, ◌<◌, ℕ, [], None, true, false, length, replicate, IfOk};
 ghost use Rattle.ticket_order.specs.declared.record.Record.{Record};
 ghost use Rattle.ticket_order.specs.Walks.{Task, Fits, Next, IsUnderWay, next_kind};
 ghost use Rattle.one_history.specs.Turns.{record_of, opening_of};
 ghost use Rattle.flusher.specs.Fitting.{IsUnused};
 ghost use Rattle.flusher.specs.Fitting as keeping;
 ghost use Rattle.recovery.specs.Dividing.{ArePartsOf};
+ghost use Rattle.std.specs.Prelude.{List, slice_set};
+ghost use Rattle.schedules.specs.World as world;
+ghost use Rattle.schedules.specs.declared.event.Event.TheVariants as event;
+ghost use Rattle.schedule_sim.specs.declared.job.Job.{Job};
+ghost use Rattle.schedule_sim.specs.Likeness.{Did, IsLike, IsLikeWorld};
 ghost use Rattle.schedule_sim.specs.Tracing.{traced_states, traced_honest};
 ghost use Rattle.schedule_sim.specs.Watching.{MakesStep};
 ghost use Rattle.schedule_sim.specs.Living.{IsSound, IsSoundBut, IsCalling, IsReleasing, job_of};
@@ -42,6 +47,20 @@ fn idle_workers(alloc: Global) -> Result<Vec<Job>, AllocError>
         jobs.push(Job::Idle)?;
     }
     Ok(jobs)
+}
+
+// The same command.
+fn copied_command(command: &Command) -> Result<Command, AllocError>
+    ensures { IfOk result (λ copy. copy ≡ command.now) }
+{
+    command.clone()
+}
+
+// The same read.
+fn copied_read(read: &Read) -> Result<Read, AllocError>
+    ensures { IfOk result (λ copy. copy ≡ read.now) }
+{
+    read.clone()
 }
 
 // The pass makes the next step of its walk: which it was, and what it left.
@@ -92,37 +111,41 @@ impl Life {
 
     fn is_idle(&self, worker: usize) -> bool
         requires { length self.now.jobs.items ≡ 64 }
-        ensures { result ≡ true → (worker < 64) × (job_of worker self.now.jobs.items ≡ Job.Idle) }
+        ensures idle { result ≡ true → (worker < 64) × (job_of worker self.now.jobs.items ≡ Job.Idle) }
+        ensures busy { result ≡ false → worker < 64 → job_of worker self.now.jobs.items ≢ Job.Idle }
     {
         worker < WORKERS && matches!(self.jobs[worker], Job::Idle)
     }
 
     pub(crate) fn change(&mut self, worker: usize, command: &Command) -> Result<Outcome, AllocError>
         requires { IsSound self.old }
-        ensures { IsSound self.new }
+        ensures sound { IsSound self.new }
+        ensures did { IfOk result (λ x. (w : world.World) → IsLikeWorld w self.old → Did w (event.Change worker command.now) x self.new) }
     {
         if !self.is_idle(worker) {
             return Ok(Outcome::Skipped);
         }
-        let walk = Walk::change(self.keeper.alloc, command.clone()?);
+        let walk = Walk::change(self.keeper.alloc, copied_command(command)?);
         self.jobs[worker] = Job::Calling(walk);
         Ok(Outcome::Started)
     }
 
     pub(crate) fn read(&mut self, worker: usize, read: &Read) -> Result<Outcome, AllocError>
         requires { IsSound self.old }
-        ensures { IsSound self.new }
+        ensures sound { IsSound self.new }
+        ensures did { IfOk result (λ x. (w : world.World) → IsLikeWorld w self.old → Did w (event.Read worker read.now) x self.new) }
     {
         if !self.is_idle(worker) {
             return Ok(Outcome::Skipped);
         }
-        self.jobs[worker] = Job::Calling(Walk::read(read.clone()?));
+        self.jobs[worker] = Job::Calling(Walk::read(copied_read(read)?));
         Ok(Outcome::Started)
     }
 
     pub(crate) fn release(&mut self, worker: usize) -> Outcome
         requires { IsSound self.old }
-        ensures { IsSound self.new }
+        ensures sound { IsSound self.new }
+        ensures did { (w : world.World) → IsLikeWorld w self.old → Did w (event.Release worker) result self.new }
     {
         if worker >= WORKERS {
             return Outcome::Skipped;
@@ -143,7 +166,9 @@ impl Life {
         requires sound { IsSoundBut worker self.old }
         requires worker { worker < 64 }
         requires calling { IsCalling self.old.words.stripes walk (record_of worker self.old.words) }
-        ensures { IsSound self.new }
+        ensures sound { IsSound self.new }
+        ensures did { (w : world.World) (l : world.Life) (jobs : List Job) → w.life ≡ Some l → IsLike w l self.old.keeper self.old.words jobs → job_of worker jobs ≡ Job.Calling walk
+            → self.old.jobs.items ≡ slice_set jobs worker Job.Idle → Did w (event.Step worker) result self.new }
     {
         let (made, stepped) = step_walk(&mut self.words, worker, walk);
         let (job, end) = called(stepped);
@@ -155,7 +180,9 @@ impl Life {
         requires sound { IsSoundBut worker self.old }
         requires worker { worker < 64 }
         requires releasing { IsReleasing self.old.words.stripes walk (record_of worker self.old.words) }
-        ensures { IsSound self.new }
+        ensures sound { IsSound self.new }
+        ensures did { (w : world.World) (l : world.Life) (jobs : List Job) → w.life ≡ Some l → IsLike w l self.old.keeper self.old.words jobs → job_of worker jobs ≡ Job.Releasing walk
+            → self.old.jobs.items ≡ slice_set jobs worker Job.Idle → Did w (event.Step worker) result self.new }
     {
         let (made, stepped) = step_walk(&mut self.words, worker, walk);
         let (job, end) = released(stepped);
@@ -166,7 +193,8 @@ impl Life {
     /// The worker's walk makes its next step.
     pub(crate) fn step(&mut self, worker: usize) -> Outcome
         requires { IsSound self.old }
-        ensures { IsSound self.new }
+        ensures sound { IsSound self.new }
+        ensures did { (w : world.World) → IsLikeWorld w self.old → Did w (event.Step worker) result self.new }
     {
         if worker >= WORKERS {
             return Outcome::Skipped;

@@ -1,4 +1,4 @@
--- A step of the keeper, and a sweep's GIVE.
+-- What the keeper does, and a sweep's GIVE.
 use Rattle.std.proofs.Common.{ℕ, zero, suc, ◌≡◌, ◌+◌, ◌-◌, ◌<◌, ◌⊎◌, List, [], ◌∷◌, ◌++◌, Option, Some, None, Bool, true, false, length, drop, refl, arith, sym, ◌∙◌, ap, subst, inl, inr}
 use Rattle.std.specs.Prelude.{if◌then◌else◌, slice_index_or}
 use Rattle.std.specs.List.{Contains}
@@ -30,8 +30,8 @@ use Rattle.schedules.specs.World.{World, Life, Job, Idle, Walks, Keeps, Releasin
 use Rattle.schedules.specs.After.{swept_places}
 use Rattle.schedule_states.specs.Doings.{Doing, Rests, Calls, Waits, Releases, JobStands, stage_from, stage_of}
 use Rattle.schedule_states.specs.Words.{IsDrawn, IsOfLife, IsTaken, PlacesStand, WordsStand, drawn_at, drawn_by}
-use Rattle.schedule_states.specs.Workers.{DrawsNone, Gathers, KeeperMoves, Swept, WorkersStand}
-use Rattle.schedule_states.specs.Laws.{KeeperSteps}
+use Rattle.schedule_states.specs.Workers.{ConcernsNone, DrawsNone, Gathers, KeeperMoves, Swept, WorkersStand}
+use Rattle.schedule_states.specs.Laws.{KeeperRests, KeeperSteps}
 use Rattle.schedule_states.proofs.Ways.{Way, Starts, HasStripe, Lives, FindsNone, Sees, Draws, GoesBy, Knows as KnowsWay, steps_on, stripe_on}
 use Rattle.schedule_states.proofs.Holding.{stage_by, way_of}
 use Rattle.schedule_states.proofs.Legal.{legal_in_book}
@@ -367,3 +367,26 @@ module _ (b b' : Book) (w w' : World) (l l' : Life) (doings : ℕ → Doing) (st
 
 pub keeper_steps : KeeperSteps
 keeper_steps b b' w w' l l' doings swept stand moves gathers = keeper_moves_on b b' w w' l l' doings stand moves swept gathers
+
+-- no step was made
+pub keeper_rests : KeeperRests
+keeper_rests b w w' l l' doings stand same = record {
+  words = record {
+    one = stand.words.one;
+    apart = stand.words.apart;
+    stripes = same.stripes ∙ stand.words.stripes;
+    first = same.first ∙ stand.words.first;
+    before = stand.words.before;
+    count = stand.words.count;
+    map = stand.words.map;
+    history = same.history ∙ stand.words.history;
+    durable = same.durable ∙ stand.words.durable;
+    has_failed = same.has_failed ∙ stand.words.has_failed;
+  };
+  passes = stand.passes;
+  keeper = stand.keeper;
+  jobs = ap length same.jobs ∙ stand.jobs;
+  each = λ j lt. rw same.jobs (stand.each j lt);
+  places = places_kept b b l l' refl refl refl same.places same.first (λ k. ap (λ js. drawn_by (slice_index_or js k Idle)) same.jobs) stand.places;
+  held = λ i. (λ h. (stand.held i).0 (sym (same.held i) ∙ h), λ h. same.held i ∙ (stand.held i).1 h);
+}

@@ -26,7 +26,7 @@ use Rattle.schedules.specs.After.{after}
 use Rattle.schedules.specs.Cases.{Meets}
 use Rattle.schedules.specs.Sound.{AnswersLegally}
 use Rattle.schedule_states.specs.Doings.{Doing, Rests, Calls, Waits, Releases, CallLeaves, ReleaseLeaves, is_resting, is_stepping, is_waiting}
-use Rattle.schedule_states.specs.Workers.{Gathers, IsNowDoing, KeeperMoves, MakesStep, Stand, StepsWalk, WorkersStand}
+use Rattle.schedule_states.specs.Workers.{ConcernsNone, Gathers, IsNowDoing, KeeperMoves, MakesStep, Stand, StepsWalk, WorkersStand}
 
 -- The outcome meets the case of the event, a reply that it releases is one thread's, and the workers stand as they should in the world after it.
 pub record KeepsStanding (w : World) (found : Opened) (e : Event) (x : Outcome) (b : Book) (doings : ℕ → Doing) : Type 0 where
@@ -106,6 +106,10 @@ LifeBegins = (b : Book) (w : World) (stripes : ℕ) (found : Opened) (parts : Li
     → w.life ≡ Some (begun_by stripes found) → length w.history ≡ prefix_of found → union_of (maps_of parts) ≡ fold_of w.history → ((j : ℕ) → j < 64 → doings j ≡ Rests) → Stand b w doings
 
 -- ---- the keeper
+
+-- what the keeper does without a step on the words leaves the workers as they are
+abbrev pub KeeperRests : Type 0
+KeeperRests = (b : Book) (w w' : World) (l l' : Life) (doings : ℕ → Doing) → WorkersStand b w l doings → ConcernsNone w w' l l' → WorkersStand b w' l' doings
 
 -- A step of the keeper leaves the workers as they are, and brings into hand no entry, or each that lies in the outbox of the stripe that it gives back.
 abbrev pub KeeperSteps : Type 0

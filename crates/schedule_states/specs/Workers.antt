@@ -54,7 +54,18 @@ pub record MakesStep (j : ℕ) (b b' : Book) (made : Made) : Type 0 where
 abbrev pub StepsWalk : ℕ → Walk → Record → Stepped → Record → Type 0
 StepsWalk n walk p stepped p' = (begun : Record) (task : Task) → Fits n begun task walk p → Next n begun task stepped p'
 
--- ---- a step of the keeper
+-- ---- the keeper
+
+-- What concerns the workers is in the second world as in the first.
+pub record ConcernsNone (w w' : World) (l l' : Life) : Type 0 where
+  pub history : w'.history ≡ w.history
+  pub stripes : l'.stripes ≡ l.stripes
+  pub first : l'.first ≡ l.first
+  pub jobs : l'.jobs ≡ l.jobs
+  pub places : l'.places ≡ l.places
+  pub durable : l'.durable ≡ l.durable
+  pub has_failed : l'.has_failed ≡ l.has_failed
+  pub held : (i : ℕ) → keeper_holds l' i l'.walk ≡ keeper_holds l i l.walk
 
 -- it is no TICKET
 abbrev pub DrawsNone : StepMade → Type 0

@@ -1,5 +1,5 @@
 //! Laws of the workers of a life, each as the contract of a function.
-ghost use Rattle.schedule_states.specs.Laws.{ChangeFits, ReadFits, StepFits, ReleaseFits, ChangeBegins, ReadBegins, ReleaseBegins, CallSteps, ReleaseSteps, WalksAreUnderWay, CallsLeave, ReleasesLeave, LifeBegins, KeeperSteps};
+ghost use Rattle.schedule_states.specs.Laws.{ChangeFits, ReadFits, StepFits, ReleaseFits, ChangeBegins, ReadBegins, ReleaseBegins, CallSteps, ReleaseSteps, WalksAreUnderWay, CallsLeave, ReleasesLeave, LifeBegins, KeeperRests, KeeperSteps};
 
 /// Which events of a worker fit, by what it does.
 pub fn fits_of_workers()
@@ -34,7 +34,8 @@ pub fn steps_of_workers()
     ensures releases { ReleaseSteps }
 {}
 
-/// What a step of the keeper leaves to the workers.
+/// What the keeper leaves to the workers, with a step on the words and without one.
 pub fn steps_of_the_keeper()
-    ensures workers { KeeperSteps }
+    ensures rests { KeeperRests }
+    ensures steps { KeeperSteps }
 {}

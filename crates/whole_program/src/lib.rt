@@ -1,6 +1,6 @@
 //! Tests of the whole program: its table of bytes however cut, its command line, failing streams and
 //! disks, the map that it serves beside the plain program of the model, directories that it formats and
-//! checks, and a keeper over shared stripes.
+//! checks, scripts of whole schedules, and a keeper over shared stripes.
 #![tactic(auto)]
 
 #[cfg(test)]
@@ -17,3 +17,5 @@ mod keeper;
 mod program;
 #[cfg(test)]
 mod random;
+#[cfg(test)]
+mod scripts;

@@ -1,4 +1,3 @@
-use Rattle.schedule_sim.proofs.Walks.{walked_to}
 use Rattle.std.proofs.Common.{◌≡◌, ℕ, sym}
 use Rattle.schedule_sim.proofs.Telling.{first_same, no_step_untold, second_same, step_made, told_walk}
 use Rattle.schedule_sim.proofs.life.step_walk.Goals as goal

@@ -1,6 +1,7 @@
-use Rattle.std.proofs.Common.{◌≡◌, length, arith, ap, ◌∙◌}
+use Rattle.std.proofs.Common.{◌≡◌, length, arith, ap, refl, ◌∙◌}
 use Rattle.std.proofs.lemmas.List.{length-set, set-set}
 use Rattle.schedule_sim.specs.declared.job.Job.TheVariants.{Idle}
+use Rattle.schedule_sim.proofs.Done.{call_did}
 use Rattle.schedule_sim.proofs.Staying.{call_steps, worker_steps}
 use Rattle.schedule_sim.proofs.life.Life.step_call.Goals as goal
 
@@ -20,9 +21,15 @@ index_mut-requires c =
     let e : length c.args.self.now.jobs.items ≡ 64 = ap length c.requires.sound.taken ∙ (length-set c.requires.sound.jobs c.args.worker Idle ∙ c.requires.sound.alive.workers) in
     omega (arith, e, c.requires.worker, c.args.self.now.jobs.ok.0)
 
-pub returns : goal.returns
-returns c =
+pub returns-clause-sound : goal.returns-clause-sound
+returns-clause-sound c =
     let k = c.requires.calling in
     rw (c.requires.sound.taken, set-set, c.called-job.ensures)
     (worker_steps _ _ _ _ _ _ _ _ c.requires.sound.alive c.requires.worker c.step_walk-made.ensures.one
     (call_steps _ k.begun k.task _ _ k.is_call k.free (c.step_walk-made.ensures.next k.begun k.task k.fits)).1)
+
+pub returns-clause-did : goal.returns-clause-did
+returns-clause-did c w l jobs is k at taken =
+    rw c.called-job.ensures
+    (call_did w l c.args.self.now.keeper c.args.self.now.words jobs c.args.worker _ _ c.args.walk c.step_walk-made.result.1 _ is k c.requires.worker at c.step_walk-made.ensures.one c.step_walk-made.ensures.next refl
+    (rw (taken, set-set) refl))

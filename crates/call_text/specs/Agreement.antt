@@ -1,0 +1,53 @@
+-- What is printed is read again, and each call has words.
+use Rattle.std.specs.Prelude.{◌≡◌, ◌≤◌, length, FitsSigned, List, Option, Some, None, Ok}
+use Rattle.std.specs.Int.{w64}
+use Rattle.map_types.specs.declared.texts.Value.{Value}
+use Rattle.map_types.specs.declared.texts.Value.TheVariants.{Int, Text as IsText}
+use Rattle.map_types.specs.declared.commands.Change.{Change}
+use Rattle.map_types.specs.declared.commands.Change.TheVariants.{Put, PutIfAbsent, Remove, RemoveIf, Replace, ReplaceIf, Compute, ComputeIfAbsent, ComputeIfPresent, Merge}
+use Rattle.map_types.specs.declared.commands.Question.{Question}
+use Rattle.map_types.specs.declared.commands.Question.TheVariants.{Get, GetOrDefault, ContainsKey}
+use Rattle.call_text.specs.declared.asked.Asked.{Asked}
+use Rattle.call_text.specs.declared.asked.Asked.TheVariants as asked
+use Rattle.call_text.specs.Names.{Text}
+use Rattle.call_text.specs.Values.{argument_of, value_word}
+use Rattle.call_text.specs.Calls.{parse_call}
+
+-- a number has 64 bits, and a text at most 4,096 bytes
+abbrev pub IsValue : Value → Type 0
+IsValue (Int number) = FitsSigned w64 number
+IsValue (IsText text) = length text ≤ 4096
+
+abbrev pub IsArgument : Option Value → Type 0
+IsArgument None = Unit {0}
+IsArgument (Some value) = IsValue value
+
+abbrev pub IsChange : Change → Type 0
+IsChange (Put value) = IsValue value
+IsChange (PutIfAbsent value) = IsValue value
+IsChange Remove = Unit {0}
+IsChange (RemoveIf value) = IsValue value
+IsChange (Replace value) = IsValue value
+IsChange (ReplaceIf old new) = IsValue old × IsValue new
+IsChange (Compute func argument) = IsArgument argument
+IsChange (ComputeIfAbsent func argument) = IsArgument argument
+IsChange (ComputeIfPresent func argument) = IsArgument argument
+IsChange (Merge func value) = IsValue value
+
+abbrev pub IsQuestion : Question → Type 0
+IsQuestion Get = Unit {0}
+IsQuestion (GetOrDefault value) = IsValue value
+IsQuestion ContainsKey = Unit {0}
+
+-- its key has at most 255 bytes, and its values are values
+abbrev pub IsAsked : Asked → Type 0
+IsAsked (asked.Read read) = (length read.key ≤ 255) × IsQuestion read.question
+IsAsked (asked.Change command) = (length command.key ≤ 255) × IsChange command.change
+
+-- the word that is printed for a value is read as that value
+abbrev pub PrintedIsRead : Type 0
+PrintedIsRead = (value : Option Value) → IsArgument value → argument_of (value_word value) ≡ Ok value
+
+-- there are words for each call
+abbrev pub EachHasWords : Type 0
+EachHasWords = (asked : Asked) → IsAsked asked → (words : List Text) × (parse_call words ≡ Ok asked)

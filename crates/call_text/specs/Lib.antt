@@ -1,0 +1,5 @@
+pub mod Names
+pub mod Values
+pub mod Calls
+pub mod Answers
+pub mod Agreement

@@ -1,0 +1,13 @@
+use Rattle.keeper_states.proofs.Held.{stripe_is_told}
+use Rattle.keeper_states.proofs.Taken.{counts_are_told}
+use Rattle.keeper_states.proofs.Told.{checkpoint_call_is_told, log_call_is_told, walk_is_told}
+use Rattle.keeper_states.proofs.laws.laws_of_telling.Goals as goal
+
+pub returns : goal.returns
+returns g c = record {
+  walk = walk_is_told g.D.Disk.states;
+  stripe = stripe_is_told g.D.Disk.states g.D.Disk.honest;
+  counts = counts_are_told g.D.Disk.states g.D.Disk.honest;
+  log = log_call_is_told g.D.Disk.states g.D.Disk.honest;
+  checkpoint = checkpoint_call_is_told g.D.Disk.states;
+}

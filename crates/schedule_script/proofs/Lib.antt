@@ -1,0 +1,4 @@
+pub mod Numbers
+pub mod Reading
+pub mod Taking
+pub mod Lines

@@ -1,0 +1,5 @@
+pub mod Words
+pub mod Lines
+pub mod Scripts
+pub mod Spans
+pub mod Texts
