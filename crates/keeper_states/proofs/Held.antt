@@ -87,13 +87,13 @@ captured_stage n b i (stage.GivingBack t e) p k (inr next) = content_held p k.co
     same_give : {a b : ℕ} → Give a ≡ Give b → a ≡ b
     same_give e = cc
 
-captured_holds : (n : ℕ) (b : Record) (i : ℕ) (walk : Walk) (p : Record) → HasTaken n b i walk p ⊎ HasLooked n b i walk p → PassHolds p i
+pub captured_holds : (n : ℕ) (b : Record) (i : ℕ) (walk : Walk) (p : Record) → HasTaken n b i walk p ⊎ HasLooked n b i walk p → PassHolds p i
 captured_holds n b i walk p (inl k) = captured_stage n b i walk.stage p k.fits (inl k.next)
 captured_holds n b i walk p (inr k) = captured_stage n b i walk.stage p k.fits (inr k.next)
 
 -- ---- in the world
 
-same_held : (p : Record) (i j : ℕ) → PassHolds p i → PassHolds p j → i ≡ j
+pub same_held : (p : Record) (i j : ℕ) → PassHolds p i → PassHolds p j → i ≡ j
 same_held p i j a b = sym a.stripe_is ∙ ap (λ (h : Holding). h.stripe) (some_same (sym a.holding ∙ b.holding)) ∙ b.stripe_is
   where
     some_same : {A : Type 0} {x y : A} → Some x ≡ Some y → x ≡ y

@@ -14,6 +14,7 @@ pub mod Capturing
 pub mod Captured
 pub mod CaptureSteps
 pub mod Held
+pub mod TooLarge
 pub mod Told
 pub mod Living
 pub mod Meeting

@@ -14,7 +14,7 @@ use Rattle.schedules.specs.declared.outcome.Made.{Made}
 use Rattle.schedules.specs.declared.outcome.Made.TheVariants as made
 use Rattle.schedules.specs.World.{World, Life, Job, Walks, begun_by}
 use Rattle.schedules.specs.After.{history_after, with_job, with_life, worker_stepped}
-use Rattle.keeper_states.specs.Laws.{OpeningStands, WorkersLeaveKeeper}
+use Rattle.keeper_states.specs.Laws.{FrontIsSeen, OpeningStands, WorkersLeaveKeeper}
 use Rattle.keeper_states.specs.Showing.{committing, sweep_shown, walk_by, walking_shown, work_by}
 use Rattle.keeper_states.specs.Standing.{BeginsBoth, HasKeeper, IsWritten, KeeperStands, SeesHistory, StandsIn}
 use Rattle.checkpoint_file.specs.States.{CheckpointState}
@@ -74,6 +74,15 @@ module _ {D : Type 0} (states : D → List Files) (keeper : Keeper D) (p : Recor
 
 pub workers_leave_keeper : {D : Type 0} (states : D → List Files) → WorkersLeaveKeeper states
 workers_leave_keeper {D} states keeper p w l worker job s = (begins states keeper p w l s worker job, steps states keeper p w l s worker job)
+
+pub front_is_seen : FrontIsSeen
+front_is_seen p w l before added rest history long first map front = record {
+  first = first;
+  within = omega (arith, long, ap (λ (xs : List Command). length xs) history, length-append before added);
+  opening = map ∙ ap fold_of (sym (ap (λ n. take n w.history) (sym long) ∙ ap (take (length before)) history ∙ take_front before added));
+  unseen = rest;
+  added = ap (λ n. drop n w.history) (sym long) ∙ ap (drop (length before)) history ∙ drop_front before added ∙ front;
+}
 
 -- ---- an opening
 

@@ -1,6 +1,12 @@
 -- Laws of a keeper against its world: each event meets its case, and leaves the keeper as the world after it says.
-use Rattle.std.specs.Prelude.{◌≡◌, ◌≢◌, ◌⊎◌, ◌↔◌, ◌||◌, not, is_some, ℕ, ◌-◌, ◌^◌, ◌<◌, List, ◌++◌, Option, None, Some, true, false, Result, Ok, Err}
+use Rattle.std.specs.Prelude.{◌≡◌, ◌≢◌, ◌⊎◌, ◌↔◌, ◌||◌, not, is_some, ℕ, ◌-◌, ◌^◌, ◌<◌, ◌≤◌, List, length, ◌++◌, Option, None, Some, true, false, Result, Ok, Err}
+use Rattle.std.specs.FinMap as finite
 use Rattle.map_types.specs.declared.commands.Command.{Command}
+use Rattle.map_model.specs.Histories.{fold_to}
+use Rattle.map_model.specs.Maps.{Map}
+use Rattle.map_model.specs.Parts.{part_of}
+use Rattle.map_model.specs.Steps.{fold_of}
+use Rattle.ticket_order.specs.Legality.{history_of}
 use Rattle.map_types.specs.declared.refusals.Refusal.{Refusal}
 use Rattle.ticket_order.specs.declared.record.Record.{Record}
 use Rattle.ticket_order.specs.declared.walk.Walk.{Walk}
@@ -42,7 +48,7 @@ use Rattle.schedules.specs.Fitting.{fits_inside, has_call}
 use Rattle.checkpoint_walk.specs.Walking.{FitsWalking}
 use Rattle.keeper_states.specs.Promises.{IsLost, IsMade, StepsCapture, StepsSweep, TriesBegin, TriesCheckpoint, TriesLog, TriesSeal, TriesStage}
 use Rattle.keeper_states.specs.Telling.{MakesStep, capture_end, sweep_end}
-use Rattle.keeper_states.specs.Standing.{Answers, HasKeeper, IsAtOpening, KeeperStands, TellsPlaces}
+use Rattle.keeper_states.specs.Standing.{Answers, HasKeeper, IsAtOpening, KeeperStands, SeesHistory, TellsPlaces}
 
 -- ---- the counts
 
@@ -114,6 +120,14 @@ abbrev pub StageAnswers : {D : Type 0} → (D → List Files) → (D → Type 0)
 StageAnswers {D} states honest = (n : ℕ) (done : List Command) (most : ℕ) (old new : Keeper D) (p : Record) (w : World) (l : Life) (result : Result ℕ Refusal)
     → Fits states honest n done old p → KeeperStands states old p w l → TellsPlaces p l → rests l.walk ≡ true → TriesStage most old new result → Answers states new p w l (event.Stage most) (staged_as result)
 
+-- ---- stripes
+
+-- the keeper's pass holds this stripe
+pub record PassHolds (p : Record) (i : ℕ) : Type 0 where
+  pub held : Holding
+  pub holding : p.holding ≡ Some held
+  pub stripe_is : held.stripe ≡ i
+
 -- ---- a sweep
 
 -- it begins, or goes on where it waited
@@ -149,6 +163,11 @@ CaptureStepAnswers {D} states honest = (n : ℕ) (done : List Command) (stripe :
     → (result ≡ Err refusal.LogFull → 2 ^ 32 - 1 < section_size w l (reach p) l.checkpoint)
     → MakesStep w l p q (walks.next_kind n walk) m → Answers states new q w l event.KeeperStep (outcome.Stepped m (capture_end result))
 
+-- It is too large where the part that the pass holds has too many entries, and is the part after the commands that it has seen.
+abbrev pub TooManyAreTooLarge : {D : Type 0} → (D → List Files) → (D → Type 0) → Type 0
+TooManyAreTooLarge {D} states honest = (n : ℕ) (done : List Command) (walk : Walk) (keeper : Keeper D) (p : Record) (w : World) (l : Life) (i : ℕ) (part : Map) → FitsWalking states honest n done keeper p → KeeperStands states keeper p w l
+    → keeper.capture ≡ Some walk → PassHolds p i → part_of n i (fold_to (history_of p) (reach p)) ≡ part → 2 ^ 32 ≤ length (finite.entries part) → 2 ^ 32 - 1 < section_size w l (reach p) l.checkpoint
+
 -- ---- what can be read off
 
 -- the keeper walks where the world says so
@@ -164,12 +183,6 @@ LogCallIsTold {D} states honest = (n : ℕ) (done : List Command) (keeper : Keep
 abbrev pub CheckpointCallIsTold : {D : Type 0} → (D → List Files) → Type 0
 CheckpointCallIsTold {D} states = (keeper : Keeper D) (p : Record) (w : World) (l : Life) → KeeperStands states keeper p w l → keeper.is_broken ≡ false
     → has_call side.Checkpoint l ≡ is_some (call_due keeper.next keeper.checkpoint)
-
--- the keeper's pass holds this stripe
-pub record PassHolds (p : Record) (i : ℕ) : Type 0 where
-  pub held : Holding
-  pub holding : p.holding ≡ Some held
-  pub stripe_is : held.stripe ≡ i
 
 -- it holds the stripe whose word the world says the keeper has, and no other
 abbrev pub StripeIsTold : {D : Type 0} → (D → List Files) → (D → Type 0) → Type 0
@@ -208,6 +221,11 @@ CaptureTakesNone {D} states honest = (n : ℕ) (done : List Command) (stripe : �
 abbrev pub WorkersLeaveKeeper : {D : Type 0} → (D → List Files) → Type 0
 WorkersLeaveKeeper {D} states = (keeper : Keeper D) (p : Record) (w : World) (l : Life) (worker : ℕ) (job : Job) → KeeperStands states keeper p w l
     → HasKeeper states keeper p (with_life w (with_job worker job l)) × ((m : Made) (end : End) → HasKeeper states keeper p (worker_stepped w l worker job m end))
+
+-- A pass sees the history of the world where it has seen a front of what the life has added to what came before.
+abbrev pub FrontIsSeen : Type 0
+FrontIsSeen = (p : Record) (w : World) (l : Life) (before added rest : List Command) → w.history ≡ before ++ added → length before ≡ l.first → p.opening.first ≡ l.first → p.opening.map ≡ fold_of before
+    → added ≡ p.seen ++ rest → SeesHistory p w l
 
 -- ---- an opening
 

@@ -1,5 +1,5 @@
 //! Laws of a keeper against its world, each as the contract of a function.
-ghost use Rattle.keeper_states.specs.Laws.{AnswersAreMet, BeginAnswers, BrokenAnswers, CaptureAnswers, CaptureRefuses, CaptureStepAnswers, CaptureTakesNone, CheckpointAnswers, CheckpointCallIsTold, CheckpointFails, CountsAreTold, FailAnswers, LogAnswers, LogCallIsTold, LogFails, OpeningStands, PublishAnswers, SealAnswers, StageAnswers, StripeIsTold, SweepAnswers, SweepStepAnswers, SweepTakesNone, SweepTakesOutbox, WalkIsTold, WorkersLeaveKeeper};
+ghost use Rattle.keeper_states.specs.Laws.{AnswersAreMet, BeginAnswers, BrokenAnswers, CaptureAnswers, CaptureRefuses, CaptureStepAnswers, CaptureTakesNone, CheckpointAnswers, CheckpointCallIsTold, CheckpointFails, CountsAreTold, FailAnswers, FrontIsSeen, LogAnswers, LogCallIsTold, LogFails, OpeningStands, PublishAnswers, SealAnswers, StageAnswers, StripeIsTold, SweepAnswers, SweepStepAnswers, SweepTakesNone, SweepTakesOutbox, TooManyAreTooLarge, WalkIsTold, WorkersLeaveKeeper};
 
 use disk_model::Disk;
 use schedules::laws::laws_of_runs;
@@ -46,6 +46,7 @@ pub fn laws_of_captures<D: Disk>()
     ensures begins { CaptureAnswers D.states D.honest }
     ensures refuses { CaptureRefuses D.states D.honest }
     ensures steps { CaptureStepAnswers D.states D.honest }
+    ensures too_large { TooManyAreTooLarge D.states D.honest }
 {}
 
 /// What the world says of the keeper's walk, of its pass, and of the device calls that are due.
@@ -68,6 +69,7 @@ pub fn laws_of_taking<D: Disk>()
 pub fn laws_of_lives<D: Disk>()
     ensures opening { OpeningStands D.states }
     ensures workers { WorkersLeaveKeeper D.states }
+    ensures sees { FrontIsSeen }
 {}
 
 /// What was told of an event is what came of it.

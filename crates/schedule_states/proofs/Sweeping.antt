@@ -30,7 +30,7 @@ use Rattle.schedules.specs.World.{World, Life, Job, Idle, Walks, Keeps, Releasin
 use Rattle.schedules.specs.After.{swept_places}
 use Rattle.schedule_states.specs.Doings.{Doing, Rests, Calls, Waits, Releases, JobStands, stage_from, stage_of}
 use Rattle.schedule_states.specs.Words.{IsDrawn, IsOfLife, IsTaken, PlacesStand, WordsStand, drawn_at, drawn_by}
-use Rattle.schedule_states.specs.Workers.{ConcernsNone, DrawsNone, Gathers, KeeperMoves, Swept, WorkersStand}
+use Rattle.schedule_states.specs.Workers.{DrawsNone, Gathers, KeeperMoves, Swept, WorkersStand}
 use Rattle.schedule_states.specs.Laws.{KeeperRests, KeeperSteps}
 use Rattle.schedule_states.proofs.Ways.{Way, Starts, HasStripe, Lives, FindsNone, Sees, Draws, GoesBy, Knows as KnowsWay, steps_on, stripe_on}
 use Rattle.schedule_states.proofs.Holding.{stage_by, way_of}

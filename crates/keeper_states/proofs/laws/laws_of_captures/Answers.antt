@@ -1,5 +1,6 @@
 use Rattle.keeper_states.proofs.Capturing.{capture_answers, capture_refuses}
 use Rattle.keeper_states.proofs.CaptureSteps.{capture_step_answers}
+use Rattle.keeper_states.proofs.TooLarge.{too_many_are_too_large}
 use Rattle.keeper_states.proofs.laws.laws_of_captures.Goals as goal
 
 pub returns : goal.returns
@@ -7,4 +8,5 @@ returns g c = record {
   begins = capture_answers g.D.Disk.states g.D.Disk.honest;
   refuses = capture_refuses g.D.Disk.states g.D.Disk.honest;
   steps = capture_step_answers g.D.Disk.states g.D.Disk.honest;
+  too_large = too_many_are_too_large g.D.Disk.states g.D.Disk.honest;
 }
