@@ -6,6 +6,7 @@ pub mod Walked
 pub mod Standing
 pub mod Staging
 pub mod Quiet
+pub mod HandedOut
 pub mod Passing
 pub mod Storing
 pub mod Keeping

@@ -6,6 +6,7 @@ use Rattle.map_types.specs.declared.refusals.Refusal.{Refusal}
 use Rattle.map_types.specs.declared.refusals.Refusal.TheVariants.{NoMemory}
 use Rattle.ticket_order.specs.declared.walk.Walk.{Walk}
 use Rattle.ticket_order.specs.declared.record.Record.{Record}
+use Rattle.ticket_order.specs.Records.{outbox_held}
 use Rattle.ticket_order.specs.Calls.{SweepsStripe, RefusesSweep}
 use Rattle.ticket_order.specs.Walks.{Task, ToSweep, Fits, entries_of_walk}
 use Rattle.flusher.specs.declared.sweeper.Sweep.{Sweep}
@@ -42,10 +43,11 @@ pub record IsNext (n : ℕ) (sweep : Sweep) (hand : Hand) (new : Sweeper) (swept
       ⊎ ((n ≤ sweep.stripe + 1) × (swept ≡ Done sweep.count) × (new.sweep ≡ None) × (new.walking ≡ Rests))
 
 pub after_drain : (n : ℕ) (sweep : Sweep) (walk : Walk) (hand : Hand) (old : Hand) (new : Sweeper) (p w : Record) (swept : Swept) → IsNext n sweep hand new swept → sweep.stripe < n
-    → ((b : Record) → IsSwept n b sweep.stripe walk p → SweepsStripe n b sweep.stripe (entries_of_walk walk) w) → Collects old (entries_of_walk walk) hand
+    → ((b : Record) → IsSwept n b sweep.stripe walk p → SweepsStripe n b sweep.stripe (entries_of_walk walk) w)
+    → ((b : Record) → IsSwept n b sweep.stripe walk p → entries_of_walk walk ≡ outbox_held p.holding) → Collects old (entries_of_walk walk) hand
     → AfterGive n sweep walk old new p w (Ok swept)
-after_drain n sweep walk hand old new p w swept k within s g =
-    let d : DrainsStripe n sweep walk old new p w = record { swept = s; collects = subst (Collects old (entries_of_walk walk)) (sym k.hand_is) g } in
+after_drain n sweep walk hand old new p w swept k within s o g =
+    let d : DrainsStripe n sweep walk old new p w = record { swept = s; outbox = o; collects = subst (Collects old (entries_of_walk walk)) (sym k.hand_is) g } in
     elim k.way as (λ _. AfterGive n sweep walk old new p w (Ok swept)) [
       | inl x ↦ subst (λ r. AfterGive n sweep walk old new p w (Ok r)) (sym x.1) (record { drains = d; more = x.0; sweep_is = x.2; walking = x.3 })
       | inr x ↦ subst (λ r. AfterGive n sweep walk old new p w (Ok r)) (sym x.1) (record { drains = d; last = omega (arith, x.0, within); count_is = refl; sweep_is = x.2; walking = x.3 })

@@ -7,7 +7,7 @@ use Rattle.ticket_order.specs.declared.walk.Walk.{Walk}
 use Rattle.std.specs.List.{Contains}
 use Rattle.ticket_order.specs.declared.record.StepMade.TheVariants.{Looked}
 use Rattle.ticket_order.specs.declared.record.Record.{Record}
-use Rattle.ticket_order.specs.Records.{missing}
+use Rattle.ticket_order.specs.Records.{missing, outbox_held}
 use Rattle.ticket_order.specs.StepRules.{Looks}
 use Rattle.ticket_order.specs.Calls.{SweepsStripe, RefusesSweep}
 use Rattle.ticket_order.specs.Walks.{Kind, Take, Give, Look, ToSweep, Fits, steps_left, entries_of_walk, refusal_of_walk}
@@ -97,6 +97,8 @@ AfterTake n sweep old new p w (Err refusal) = ⊥
 -- a GIVE kept the outbox, whose entries are in hand
 pub record DrainsStripe (n : ℕ) (sweep : Sweep) (walk : Walk) (old : Hand) (new : Sweeper) (p w : Record) : Type 0 where
   pub swept : (begun : Record) → IsSwept n begun sweep.stripe walk p → SweepsStripe n begun sweep.stripe (entries_of_walk walk) w
+  -- they are the outbox that was held
+  pub outbox : (begun : Record) → IsSwept n begun sweep.stripe walk p → entries_of_walk walk ≡ outbox_held p.holding
   pub collects : Collects old (entries_of_walk walk) new.in_hand
 
 -- and the sweep goes on

@@ -1,5 +1,6 @@
 use Rattle.std.proofs.Common.{◌≡◌, ◌<◌, subst, sym, ◌∙◌, ap, ℕ, refl, List}
 use Rattle.ticket_order.specs.declared.record.Record.{Record}
+use Rattle.ticket_order.specs.Records.{outbox_held}
 use Rattle.ticket_order.specs.Calls.{SweepsStripe, RefusesSweep}
 use Rattle.ticket_order.specs.Walks.{entries_of_walk}
 use Rattle.flusher.specs.declared.sweeper.Sweeper.{Sweeper}
@@ -9,6 +10,7 @@ use Rattle.flusher.specs.Hands.{Hand, Gains}
 use Rattle.flusher.specs.Gathering.{Collects}
 use Rattle.flusher.specs.Sweeping.{IsReady, IsSwept, Stands}
 use Rattle.flusher.proofs.Standing.{IsNext, go_on_next, after_drain, stands_drained, done_drained, stands_put_back}
+use Rattle.flusher.proofs.HandedOut.{outbox_handed}
 use Rattle.flusher.proofs.sweeper.Sweeper.give.Goals as goal
 
 pub hand_out-requires : goal.hand_out-requires
@@ -33,12 +35,14 @@ returns-in-Some-clause-after g c =
     let is : c.in-Some.entries.items ≡ entries_of_walk c.args.walk = c.in-Some.ensures.entries.0 ∙ ready.entries c.in-Some.ensures.entries.1 in
     let swept : (b : Record) → IsSwept n b i c.args.walk p → SweepsStripe n b i (entries_of_walk c.args.walk) w =
     λ b k. subst (λ (es : List Entry). SweepsStripe n b i es w) is (c.in-Some.ensures.some b i (ready.swept n b i p k)) in
+    let outbox : (b : Record) → IsSwept n b i c.args.walk p → entries_of_walk c.args.walk ≡ outbox_held p.holding =
+    λ b k. sym (ready.entries c.in-Some.ensures.entries.1) ∙ outbox_handed n b i c.with_room-walk.result p (ready.swept n b i p k) c.in-Some.ensures.entries.1 in
     let collects : Collects c.args.self.now.in_hand (entries_of_walk c.args.walk) c.insert.new.self =
     ready.room c.in-Some.ensures.entries.1 c.insert.new.self (subst (λ (es : List Entry). Gains c.with_room-walk.new.in_hand es c.insert.new.self) is c.insert.ensures) in
     let same : c.get.result ≡ n = c.get.ensures.value ∙ c.stripes.ensures ∙ c.in-Some.ensures.stripes in
     let next : IsNext n c.args.sweep c.insert.new.self c.go_on.new.self c.go_on.result =
     go_on_next n c.get.result c.args.sweep (record c.set_walking.new.self { in_hand = c.insert.new.self }) c.go_on.new.self c.go_on.result same c.go_on.ensures.more c.go_on.ensures.last in
-    after_drain n c.args.sweep c.args.walk c.insert.new.self c.args.self.now.in_hand c.go_on.new.self p w c.go_on.result next c.requires.stands.1.between.within swept collects
+    after_drain n c.args.sweep c.args.walk c.insert.new.self c.args.self.now.in_hand c.go_on.new.self p w c.go_on.result next c.requires.stands.1.between.within swept outbox collects
 
 pub returns-in-Some-clause-stands : goal.returns-in-Some-clause-stands
 returns-in-Some-clause-stands g c = λ gone k.
