@@ -13,6 +13,7 @@ use Rattle.one_history.specs.OneHistory.{HoldsStripe, stripe_in}
 use Rattle.one_history.specs.Moves.{IsFree, IsHeldByAnother}
 use Rattle.schedules.specs.World.{World, Life, Job, Idle, Walks, Keeps, Releasing, Stage, Asking, any_holds, has_stripe, is_held, job_holds, job_of, keeper_holds, stripe_asked}
 use Rattle.schedule_states.specs.Doings.{Doing, Rests, Calls, Waits, Releases, IsCalling, IsReleasing, JobStands, stage_from, stage_of}
+use Rattle.schedule_states.specs.Laws.{FreeIsTold, HeldIsTold}
 use Rattle.schedule_states.specs.Workers.{WorkersStand}
 use Rattle.schedule_states.proofs.Ways.{Way, Starts, HasStripe, Lives, FindsNone, Sees, Draws, GoesBy, call_goes, steps_on, stripe_on}
 use Rattle.schedule_states.proofs.Asks as asks
@@ -141,3 +142,9 @@ module _ (b : Book) (w : World) (l : Life) (doings : ℕ → Doing) (stand : Wor
 
   pub held_by_none : (i : ℕ) → IsFree i b → is_held l i ≡ false
   held_by_none i free = false_from_ne_true (is_held l i) (λ is. (let holder : (j : ℕ) × HoldsStripe b j i = found_holder i is in free holder.0 holder.1))
+
+pub free_is_told : FreeIsTold
+free_is_told b w l doings i stand free = held_by_none b w l doings stand i free
+
+pub held_is_told : HeldIsTold
+held_is_told b w l doings j i stand holds = held_by b w l doings stand i j holds

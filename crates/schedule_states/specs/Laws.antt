@@ -1,5 +1,5 @@
 -- Laws of the workers of a life.
-use Rattle.std.specs.Prelude.{◌≡◌, ◌⊎◌, ℕ, ◌<◌, List, length, Option, Some, None, ◌&&◌}
+use Rattle.std.specs.Prelude.{◌≡◌, ◌⊎◌, ℕ, ◌<◌, List, length, Option, Some, None, true, false, ◌&&◌}
 use Rattle.map_types.specs.declared.commands.Command.{Command}
 use Rattle.map_types.specs.declared.commands.Read as read_type
 use Rattle.map_model.specs.Parts.{union_of}
@@ -12,7 +12,8 @@ use Rattle.ticket_order.specs.declared.walk.Stepped.{Stepped}
 use Rattle.ticket_order.specs.Walks.{ToChange, ToRead, ToRelease, Fits, IsUnderWay}
 use Rattle.one_history.specs.declared.book.Book.{Book}
 use Rattle.one_history.specs.Turns.{at_start, maps_of, record_of}
-use Rattle.one_history.specs.OneHistory.{HoldApart, IsOneHistory}
+use Rattle.one_history.specs.Moves.{IsFree}
+use Rattle.one_history.specs.OneHistory.{HoldApart, HoldsStripe, IsOneHistory}
 use Rattle.store_layout.specs.Opening.{Opened, prefix_of}
 use Rattle.schedules.specs.declared.event.Event.{Event}
 use Rattle.schedules.specs.declared.event.Event.TheVariants as event
@@ -20,7 +21,7 @@ use Rattle.schedules.specs.declared.outcome.End.{End}
 use Rattle.schedules.specs.declared.outcome.Made.{Made}
 use Rattle.schedules.specs.declared.outcome.Outcome.{Outcome}
 use Rattle.schedules.specs.declared.outcome.Outcome.TheVariants as outcome
-use Rattle.schedules.specs.World.{World, Life, begun_by}
+use Rattle.schedules.specs.World.{World, Life, begun_by, is_held}
 use Rattle.schedules.specs.Fitting.{fits, is_worker}
 use Rattle.schedules.specs.After.{after}
 use Rattle.schedules.specs.Cases.{Meets}
@@ -110,6 +111,16 @@ abbrev pub ReleasesLeave : Type 0
 ReleasesLeave = (b : Book) (w : World) (doings : ℕ → Doing) (j : ℕ) (walk : Walk) (stepped : Stepped) (p : Record) → Stand b w doings → j < 64
     → doings j ≡ Releases walk → StepsWalk b.stripes walk (record_of j b) stepped p
     → (doing : Doing) × (end : End) × ReleaseLeaves stepped doing end
+
+-- ---- the words of the stripes
+
+-- The word of a stripe that no pass holds is free in the world,
+abbrev pub FreeIsTold : Type 0
+FreeIsTold = (b : Book) (w : World) (l : Life) (doings : ℕ → Doing) (i : ℕ) → WorkersStand b w l doings → IsFree i b → is_held l i ≡ false
+
+-- and that of one which a pass holds is held.
+abbrev pub HeldIsTold : Type 0
+HeldIsTold = (b : Book) (w : World) (l : Life) (doings : ℕ → Doing) (j i : ℕ) → WorkersStand b w l doings → HoldsStripe b j i → is_held l i ≡ true
 
 -- ---- a life begins
 

@@ -1,5 +1,5 @@
 //! Laws of the workers of a life, each as the contract of a function.
-ghost use Rattle.schedule_states.specs.Laws.{ChangeFits, ReadFits, StepFits, ReleaseFits, ChangeBegins, ReadBegins, ReleaseBegins, CallSteps, ReleaseSteps, WalksAreUnderWay, CallsLeave, ReleasesLeave, LifeBegins, KeeperRests, KeeperSteps};
+ghost use Rattle.schedule_states.specs.Laws.{ChangeFits, ReadFits, StepFits, ReleaseFits, ChangeBegins, ReadBegins, ReleaseBegins, CallSteps, ReleaseSteps, WalksAreUnderWay, CallsLeave, ReleasesLeave, LifeBegins, FreeIsTold, HeldIsTold, KeeperRests, KeeperSteps};
 
 /// Which events of a worker fit, by what it does.
 pub fn fits_of_workers()
@@ -32,6 +32,12 @@ pub fn walks_of_workers()
 pub fn steps_of_workers()
     ensures calls { CallSteps }
     ensures releases { ReleaseSteps }
+{}
+
+/// The word of a stripe is held in the world exactly where a pass holds the stripe.
+pub fn words_of_stripes()
+    ensures free { FreeIsTold }
+    ensures held { HeldIsTold }
 {}
 
 /// What the keeper leaves to the workers, with a step on the words and without one.
