@@ -1,6 +1,9 @@
+pub mod Calling
+pub mod Noting
 pub mod Watching
 pub mod Words
 pub mod Tracing
+pub mod Workers
 pub mod Living
-pub mod Walked
-pub mod Likeness
+pub mod Storing
+pub mod Opening

@@ -1,6 +1,6 @@
 //! What a worker is doing.
 ghost use Rattle.std.specs.Prelude.{◌≡◌};
-ghost use Rattle.schedule_sim.specs.Living.{answered_of, called_of, released_of, IsOfCall, IsOfRelease};
+ghost use Rattle.schedule_sim.specs.Workers.{answered_of, called_of, released_of, IsOfCall, IsOfRelease};
 
 use schedules::End;
 use ticket_order::{Held, Released, Stepped, Walk};

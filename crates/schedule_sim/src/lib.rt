@@ -3,6 +3,7 @@
 #![tactic(auto)]
 
 mod beginning;
+mod calling;
 mod entries;
 mod job;
 mod keeping;
@@ -12,6 +13,7 @@ mod store;
 #[cfg(test)]
 mod tests;
 mod traced;
+mod walking;
 mod watched;
 
 pub use running::{Trace, run};

@@ -6,23 +6,33 @@ ghost use Rattle.one_history.specs.Turns.{record_of, opening_of};
 ghost use Rattle.flusher.specs.Fitting.{IsUnused};
 ghost use Rattle.flusher.specs.Fitting as keeping;
 ghost use Rattle.recovery.specs.Dividing.{ArePartsOf};
+ghost use Rattle.recovery.specs.Opening.{IsAtStart};
+ghost use Rattle.store_layout.specs.Opening.{Opened};
+ghost use Rattle.schedule_sim.specs.Storing.{IsDurable, IsOpening, LiesOn};
 ghost use Rattle.std.specs.Prelude.{List, slice_set};
-ghost use Rattle.schedules.specs.World as world;
 ghost use Rattle.schedules.specs.declared.event.Event.TheVariants as event;
 ghost use Rattle.schedule_sim.specs.declared.job.Job.{Job};
-ghost use Rattle.schedule_sim.specs.Likeness.{Did, IsLike, IsLikeWorld};
 ghost use Rattle.schedule_sim.specs.Tracing.{traced_states, traced_honest};
 ghost use Rattle.schedule_sim.specs.Watching.{MakesStep};
-ghost use Rattle.schedule_sim.specs.Living.{IsSound, IsSoundBut, IsCalling, IsReleasing, job_of};
+ghost use Rattle.schedules.specs.World.{World};
+ghost use Rattle.schedule_sim.specs.Living.{Did, IsLife, IsLifeBut, is_of_life};
+ghost use Rattle.schedule_sim.specs.Workers.{job_of};
 
 use crate::job::{Job, called, released};
 use crate::traced::Traced;
 use crate::watched::Watched;
 use atomic_methods::Part;
+use checkpoint_walk::stops_while_capturing;
 use flusher::Keeper;
 use java_hash::StripeCount;
+use keeper_states::laws::laws_of_lives;
+use map_model::laws::laws_of_parts;
 use map_types::{Command, Read};
 use plain_words::PlainWords;
+use schedule_states::laws::{
+    beginnings_of_lives, beginnings_of_walks, fits_of_workers, steps_of_workers, walks_of_workers,
+};
+use schedules::laws::laws_of_known_histories;
 use schedules::{Event, Made, Outcome};
 use std::alloc::{AllocError, Global};
 use std::mem;
@@ -96,12 +106,16 @@ impl Life {
         requires parts { ArePartsOf stripes.count parts.items }
         requires fits { (p : Record) → p.opening ≡ opening_of first parts.items → IsUnused first p
             → keeping.Fits traced_states traced_honest stripes.count [] keeper p }
-        requires rests { keeper.capture ≡ None }
-        ensures { IfOk result IsSound }
+        requires start { IsAtStart stripes first keeper }
+        ensures { IfOk result (λ life. (w : World) (found : Opened) → IsOpening w stripes.count found keeper parts.items → IsLife w life) }
     {
+        laws_of_parts();
+        laws_of_lives::<Traced>();
+        beginnings_of_lives();
         let Ok(words) = PlainWords::new(alloc, stripes, parts, first, WORKERS as u16) else {
             return Err(AllocError);
         };
+        words.keeps_one_history();
         Ok(Life {
             keeper,
             words,
@@ -118,10 +132,12 @@ impl Life {
     }
 
     pub(crate) fn change(&mut self, worker: usize, command: &Command) -> Result<Outcome, AllocError>
-        requires { IsSound self.old }
-        ensures sound { IsSound self.new }
-        ensures did { IfOk result (λ x. (w : world.World) → IsLikeWorld w self.old → Did w (event.Change worker command.now) x self.new) }
+        requires { (w : World) × IsLife w self.old }
+        ensures { IfOk result (λ x. (w : World) → IsLife w self.old → Did w (event.Change worker command.now) x self.new) }
     {
+        fits_of_workers();
+        beginnings_of_walks();
+        laws_of_lives::<Traced>();
         if !self.is_idle(worker) {
             return Ok(Outcome::Skipped);
         }
@@ -131,10 +147,12 @@ impl Life {
     }
 
     pub(crate) fn read(&mut self, worker: usize, read: &Read) -> Result<Outcome, AllocError>
-        requires { IsSound self.old }
-        ensures sound { IsSound self.new }
-        ensures did { IfOk result (λ x. (w : world.World) → IsLikeWorld w self.old → Did w (event.Read worker read.now) x self.new) }
+        requires { (w : World) × IsLife w self.old }
+        ensures { IfOk result (λ x. (w : World) → IsLife w self.old → Did w (event.Read worker read.now) x self.new) }
     {
+        fits_of_workers();
+        beginnings_of_walks();
+        laws_of_lives::<Traced>();
         if !self.is_idle(worker) {
             return Ok(Outcome::Skipped);
         }
@@ -143,10 +161,12 @@ impl Life {
     }
 
     pub(crate) fn release(&mut self, worker: usize) -> Outcome
-        requires { IsSound self.old }
-        ensures sound { IsSound self.new }
-        ensures did { (w : world.World) → IsLikeWorld w self.old → Did w (event.Release worker) result self.new }
+        requires { (w : World) × IsLife w self.old }
+        ensures { (w : World) → IsLife w self.old → Did w (event.Release worker) result self.new }
     {
+        fits_of_workers();
+        beginnings_of_walks();
+        laws_of_lives::<Traced>();
         if worker >= WORKERS {
             return Outcome::Skipped;
         }
@@ -163,28 +183,30 @@ impl Life {
     }
 
     fn step_call(&mut self, worker: usize, walk: Walk) -> Outcome
-        requires sound { IsSoundBut worker self.old }
+        requires but { (w : World) × IsLifeBut w worker (Job.Calling walk) self.old }
         requires worker { worker < 64 }
-        requires calling { IsCalling self.old.words.stripes walk (record_of worker self.old.words) }
-        ensures sound { IsSound self.new }
-        ensures did { (w : world.World) (l : world.Life) (jobs : List Job) → w.life ≡ Some l → IsLike w l self.old.keeper self.old.words jobs → job_of worker jobs ≡ Job.Calling walk
-            → self.old.jobs.items ≡ slice_set jobs worker Job.Idle → Did w (event.Step worker) result self.new }
+        ensures { (w : World) → IsLifeBut w worker (Job.Calling walk) self.old → Did w (event.Step worker) result self.new }
     {
+        walks_of_workers();
+        steps_of_workers();
+        laws_of_lives::<Traced>();
         let (made, stepped) = step_walk(&mut self.words, worker, walk);
+        self.words.keeps_one_history();
         let (job, end) = called(stepped);
         self.jobs[worker] = job;
         Outcome::Stepped { made, end }
     }
 
     fn step_release(&mut self, worker: usize, walk: Walk) -> Outcome
-        requires sound { IsSoundBut worker self.old }
+        requires but { (w : World) × IsLifeBut w worker (Job.Releasing walk) self.old }
         requires worker { worker < 64 }
-        requires releasing { IsReleasing self.old.words.stripes walk (record_of worker self.old.words) }
-        ensures sound { IsSound self.new }
-        ensures did { (w : world.World) (l : world.Life) (jobs : List Job) → w.life ≡ Some l → IsLike w l self.old.keeper self.old.words jobs → job_of worker jobs ≡ Job.Releasing walk
-            → self.old.jobs.items ≡ slice_set jobs worker Job.Idle → Did w (event.Step worker) result self.new }
+        ensures { (w : World) → IsLifeBut w worker (Job.Releasing walk) self.old → Did w (event.Step worker) result self.new }
     {
+        walks_of_workers();
+        steps_of_workers();
+        laws_of_lives::<Traced>();
         let (made, stepped) = step_walk(&mut self.words, worker, walk);
+        self.words.keeps_one_history();
         let (job, end) = released(stepped);
         self.jobs[worker] = job;
         Outcome::Stepped { made, end }
@@ -192,10 +214,10 @@ impl Life {
 
     /// The worker's walk makes its next step.
     pub(crate) fn step(&mut self, worker: usize) -> Outcome
-        requires { IsSound self.old }
-        ensures sound { IsSound self.new }
-        ensures did { (w : world.World) → IsLikeWorld w self.old → Did w (event.Step worker) result self.new }
+        requires { (w : World) × IsLife w self.old }
+        ensures { (w : World) → IsLife w self.old → Did w (event.Step worker) result self.new }
     {
+        fits_of_workers();
         if worker >= WORKERS {
             return Outcome::Skipped;
         }
@@ -211,8 +233,8 @@ impl Life {
 
     /// An event of a life, which doesn't end it.
     pub(crate) fn happen(&mut self, event: &Event) -> Result<Outcome, AllocError>
-        requires { IsSound self.old }
-        ensures { IsSound self.new }
+        requires { (w : World) × IsLife w self.old }
+        ensures { IfOk result (λ x. (w : World) → IsLife w self.old → is_of_life event.now ≡ true → Did w event.now x self.new) }
     {
         match event {
             Event::Change { worker, command } => self.change(*worker, command),
@@ -233,7 +255,12 @@ impl Life {
     }
 
     /// The disk, once the life is over.
-    pub(crate) fn into_disk(self) -> Traced {
+    pub(crate) fn into_disk(self) -> Traced
+        ensures disk { result ≡ self.keeper.disk }
+        ensures lies { (w : World) (least : ℕ) → IsLife w self → IsDurable least w.life → LiesOn w least result }
+    {
+        stops_while_capturing(&self.keeper);
+        laws_of_known_histories();
         let Life {
             keeper,
             words: _words,

@@ -1,7 +1,9 @@
 //! Whole schedules.
-ghost use Rattle.std.specs.Prelude.{◌≡◌, length, IfOk};
+ghost use Rattle.std.specs.Prelude.{IfOk};
+ghost use Rattle.schedules.specs.Runs.{IsRun};
 
 use crate::beginning::formatted;
+use schedules::laws::{ends_of_runs, laws_of_runs, steps_between_lives, steps_of_a_life};
 use schedules::{Event, Outcome};
 use std::alloc::{AllocError, Global};
 
@@ -14,8 +16,12 @@ pub struct Trace {
 /// Plays the schedule on a new store of 16 stripes, with 64 workers. It ends with an error where memory
 /// is missing for a device call, or for what is told of an event.
 pub fn run(alloc: Global, events: &[Event]) -> Result<Trace, AllocError>
-    ensures { IfOk result (λ trace. length trace.outcomes.items ≡ length events.now) }
+    ensures { IfOk result (λ trace. IsRun events.now trace.outcomes.items) }
 {
+    laws_of_runs();
+    steps_of_a_life();
+    steps_between_lives();
+    ends_of_runs();
     let mut store = formatted(alloc)?;
     let mut outcomes = Vec::new(alloc);
     for event in events {

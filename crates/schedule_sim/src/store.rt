@@ -1,13 +1,37 @@
 //! A store that is closed, or in a life.
-ghost use Rattle.std.specs.Prelude.{IfOk};
-ghost use Rattle.schedule_sim.specs.Living.{IsSound, IsSoundStore};
+ghost use Rattle.std.specs.Prelude.{◌≡◌, ◌+◌, ℕ, List, [], Option, Some, true, false, IfOk, IfSome, length};
+ghost use Rattle.java_hash.specs.declared.stripe_count.StripeCount.{StripeCount as StripesOf};
+ghost use Rattle.ticket_order.specs.declared.record.Record.{Record};
+ghost use Rattle.one_history.specs.Turns.{opening_of};
+ghost use Rattle.disk_model.specs.Files.{Files};
+ghost use Rattle.disk_model.specs.Fills.{after_stop};
+ghost use Rattle.disk_model.specs.Memory.{memory_failures};
+ghost use Rattle.store_layout.specs.Opening.{Refuses};
+ghost use Rattle.flusher.specs.Fitting.{Fits, IsUnused};
+ghost use Rattle.recovery.specs.Dividing.{ArePartsOf};
+ghost use Rattle.recovery.specs.LogReading.{contents_of, RefusesFor};
+ghost use Rattle.recovery.specs.Opening.{IsAtStart, IsOpenedAs};
+ghost use Rattle.recovery.specs.Syncing.{Stopped, SyncsAndLooks};
+ghost use Rattle.schedules.specs.Cases as cases;
+ghost use Rattle.schedules.specs.World.{World};
+ghost use Rattle.schedules.specs.After.{without_life};
+ghost use Rattle.schedules.specs.declared.event.Event.TheVariants as event;
+ghost use Rattle.schedule_sim.specs.Living.{IsLife, is_of_life};
+ghost use Rattle.schedule_sim.specs.Opening.{FailsAt};
+ghost use Rattle.schedule_sim.specs.Storing.{DidStore, IsClosed, IsStore, LiesOn};
+ghost use Rattle.schedule_sim.specs.Tracing.{traced_states, traced_honest};
 
 use crate::entries::entries_of;
 use crate::life::Life;
 use crate::traced::Traced;
+use atomic_methods::Part;
 use disk_model::Fill;
+use flusher::Keeper;
 use java_hash::StripeCount;
+use map_model::laws::laws_of_parts;
+use map_types::Refusal;
 use recovery::open_parts;
+use schedules::laws::steps_between_lives;
 use schedules::{DeviceCall, Event, Outcome, Side};
 use std::alloc::{AllocError, Global};
 
@@ -17,9 +41,11 @@ pub(crate) enum Store {
     Open(Life),
 }
 
-// Has the call with this number fail, counted from 1. A failing call of an opening reads or syncs, and
-// the fill has no effect.
-fn plan_opening(disk: &mut Traced, fails_at: Option<u64>) -> Result<(), AllocError> {
+// Has the call with this number fail, counted from 1; or none. A failing call of an opening reads or
+// syncs, and the fill has no effect.
+fn plan_opening(disk: &mut Traced, fails_at: Option<u64>) -> Result<(), AllocError>
+    ensures { traced_states disk.new ≡ traced_states disk.old }
+{
     match fails_at {
         Some(number) if number > 0 => disk.plan(number - 1, &Fill::New),
         _ => {
@@ -29,31 +55,114 @@ fn plan_opening(disk: &mut Traced, fails_at: Option<u64>) -> Result<(), AllocErr
     }
 }
 
-// Opens the store that is on the disk.
+// How many calls were made since there were so many.
+fn calls_since(disk: &Traced, before: Option<u64>) -> Option<u64>
+    ensures { (old : List Files) → IfSome before (λ n. n ≡ length old) → IfSome result (λ n. length old + n ≡ length (traced_states disk.now)) }
+{
+    disk.calls()?.checked_sub(before?)
+}
+
+// Whether the event names one of the four syncs.
+fn names_sync(fails_at: Option<u64>) -> bool
+    ensures { result ≡ cases.names_sync fails_at }
+{
+    match fails_at {
+        Some(number) => 0 < number && number <= 4,
+        None => false,
+    }
+}
+
+// Whether so many calls were made that the opening failed at the one that its event names.
+fn failed_at(disk: &Traced, made: u64, number: u64) -> bool
+    ensures { result ≡ true → (old : List Files) → length old + made ≡ length (traced_states disk.now) → FailsAt old (traced_states disk.now) (Some number) }
+{
+    if number <= 4 {
+        made == number && disk.has_lost_sync()
+    } else {
+        made > 4
+    }
+}
+
+// Whether an opening that failed did so at the call that its event names.
+fn is_named(disk: &Traced, before: Option<u64>, fails_at: Option<u64>) -> bool
+    ensures { result ≡ true → (old : List Files) → IfSome before (λ n. n ≡ length old) → FailsAt old (traced_states disk.now) fails_at }
+{
+    match (calls_since(disk, before), fails_at) {
+        (Some(made), Some(number)) => failed_at(disk, made, number),
+        _ => false,
+    }
+}
+
+// The store stays closed. No contract of a disk tells which of its calls failed, so this counts them;
+// where they aren't as the event has it, memory was missing.
+fn refused(
+    disk: Traced,
+    refusal: Refusal,
+    before: Option<u64>,
+    fails_at: Option<u64>,
+) -> Result<(Store, Outcome), AllocError>
+    ensures { IfOk result (λ x. (w : World) (least : ℕ) (stripes : StripesOf) (old : Traced) → IfSome before (λ n. n ≡ length (traced_states old))
+        → Stopped traced_states (λ traced. memory_failures traced.disk) traced_honest 4 old disk refusal → RefusesFor (Refuses (contents_of traced_states old) refusal) refusal
+        → IsClosed w least old → DidStore w least (event.Open stripes fails_at) x.1 x.0) }
+{
+    steps_between_lives();
+    let is_told = match refusal {
+        Refusal::Failed => is_named(&disk, before, fails_at),
+        _ => !names_sync(fails_at),
+    };
+    if is_told {
+        Ok((Store::Closed(disk), Outcome::Refused(refusal)))
+    } else {
+        Err(AllocError)
+    }
+}
+
+// A life begins with what the opening found.
+fn begun(
+    alloc: Global,
+    keeper: Keeper<Traced>,
+    stripes: StripeCount,
+    parts: Vec<Part>,
+    first: u64,
+) -> Result<(Store, Outcome), AllocError>
+    requires parts { ArePartsOf stripes.count parts.items }
+    requires fits { (p : Record) → p.opening ≡ opening_of first parts.items → IsUnused first p
+        → Fits traced_states traced_honest stripes.count [] keeper p }
+    requires start { IsAtStart stripes first keeper }
+    ensures { IfOk result (λ x. (w : World) (least : ℕ) (fails_at : Option ℕ) (old : Traced) → cases.names_sync fails_at ≡ false
+        → SyncsAndLooks traced_states (λ traced. memory_failures traced.disk) traced_honest 4 0 old keeper.disk
+        → IsOpenedAs (contents_of traced_states old) stripes.count keeper parts.items first
+        → IsClosed w least old → DidStore w least (event.Open stripes fails_at) x.1 x.0) }
+{
+    steps_between_lives();
+    laws_of_parts();
+    let entries = entries_of(alloc, &parts)?;
+    let life = Life::new(alloc, keeper, stripes, parts, first)?;
+    let outcome = Outcome::Opened {
+        prefix: first,
+        entries,
+    };
+    Ok((Store::Open(life), outcome))
+}
+
+// Opens the store that is on the disk. Each opening makes the four syncs, so one that is to fail at a
+// sync never succeeds.
 fn opened(
     alloc: Global,
     mut disk: Traced,
     stripes: StripeCount,
     fails_at: Option<u64>,
 ) -> Result<(Store, Outcome), AllocError>
-    ensures { IfOk result (λ x. IsSoundStore x.0) }
+    ensures { IfOk result (λ x. (w : World) (least : ℕ) → IsClosed w least disk → DidStore w least (event.Open stripes fails_at) x.1 x.0) }
 {
     plan_opening(&mut disk, fails_at)?;
+    let before = disk.calls();
     match open_parts(alloc, disk, stripes) {
-        Ok((mut keeper, parts, first)) => {
-            keeper.disk.plan_none();
-            let entries = entries_of(alloc, &parts)?;
-            let life = Life::new(alloc, keeper, stripes, parts, first)?;
-            let outcome = Outcome::Opened {
-                prefix: first,
-                entries,
-            };
-            Ok((Store::Open(life), outcome))
+        Ok((keeper, parts, first)) if !names_sync(fails_at) => {
+            begun(alloc, keeper, stripes, parts, first)
         }
-        Err((mut disk, refusal)) => {
-            disk.plan_none();
-            Ok((Store::Closed(disk), Outcome::Refused(refusal)))
-        }
+        Ok(_) => Err(AllocError),
+        Err((disk, refusal)) => refused(disk, refusal, before, fails_at),
     }
 }
 
@@ -63,7 +172,8 @@ fn stopped(
     within: Option<DeviceCall>,
     fill: &Fill,
 ) -> Result<(Store, Outcome), AllocError>
-    ensures { IfOk result (λ x. IsSoundStore x.0) }
+    ensures store { IfOk result (λ x. (w : World) (least : ℕ) → LiesOn w least disk → IsStore (without_life w (after_stop fill.now w.files)) least x.0) }
+    ensures outcome { IfOk result (λ x. x.1 ≡ Outcome.Stopped within) }
 {
     disk.stop(fill)?;
     Ok((Store::Closed(disk), Outcome::Stopped { within }))
@@ -71,8 +181,8 @@ fn stopped(
 
 // The machine stops within the next device call of this side.
 fn stopped_within(mut life: Life, side: Side, fill: &Fill) -> Result<(Store, Outcome), AllocError>
-    requires { IsSound life }
-    ensures { IfOk result (λ x. IsSoundStore x.0) }
+    requires { (w : World) × IsLife w life }
+    ensures { IfOk result (λ x. (w : World) (least : ℕ) → IsStore w least (Store.Open life) → DidStore w least (event.Stop (Some side) fill.now) x.1 x.0) }
 {
     if !life.may_call(side) {
         return Ok((Store::Open(life), Outcome::Skipped));
@@ -82,7 +192,9 @@ fn stopped_within(mut life: Life, side: Side, fill: &Fill) -> Result<(Store, Out
 }
 
 impl Store {
-    fn into_disk(self) -> Traced {
+    fn into_disk(self) -> Traced
+        ensures { (w : World) (least : ℕ) → IsStore w least self → LiesOn w least result }
+    {
         match self {
             Store::Closed(disk) => disk,
             Store::Open(life) => life.into_disk(),
@@ -103,8 +215,7 @@ impl Store {
         stripes: StripeCount,
         fails_at: Option<u64>,
     ) -> Result<(Store, Outcome), AllocError>
-        requires { IsSoundStore self }
-        ensures { IfOk result (λ x. IsSoundStore x.0) }
+        ensures { IfOk result (λ x. (w : World) (least : ℕ) → IsStore w least self → DidStore w least (event.Open stripes fails_at) x.1 x.0) }
     {
         match self {
             Store::Closed(disk) => opened(alloc, disk, stripes, fails_at),
@@ -113,8 +224,8 @@ impl Store {
     }
 
     fn stop_within(self, side: Side, fill: &Fill) -> Result<(Store, Outcome), AllocError>
-        requires { IsSoundStore self }
-        ensures { IfOk result (λ x. IsSoundStore x.0) }
+        requires { (w : World) × (least : ℕ) × IsStore w least self }
+        ensures { IfOk result (λ x. (w : World) (least : ℕ) → IsStore w least self → DidStore w least (event.Stop (Some side) fill.now) x.1 x.0) }
     {
         match self {
             Store::Open(life) => stopped_within(life, side, fill),
@@ -122,9 +233,18 @@ impl Store {
         }
     }
 
+    fn stop(self, within: Option<Side>, fill: &Fill) -> Result<(Store, Outcome), AllocError>
+        requires { (w : World) × (least : ℕ) × IsStore w least self }
+        ensures { IfOk result (λ x. (w : World) (least : ℕ) → IsStore w least self → DidStore w least (event.Stop within fill.now) x.1 x.0) }
+    {
+        match within {
+            Some(side) => self.stop_within(side, fill),
+            None => stopped(self.into_disk(), None, fill),
+        }
+    }
+
     fn leave(self) -> (Store, Outcome)
-        requires { IsSoundStore self }
-        ensures { IsSoundStore result.0 }
+        ensures { (w : World) (least : ℕ) → IsStore w least self → DidStore w least event.Leave result.1 result.0 }
     {
         match self {
             Store::Open(life) => (Store::Closed(life.into_disk()), Outcome::Left),
@@ -133,8 +253,8 @@ impl Store {
     }
 
     fn go_on(self, event: &Event) -> Result<(Store, Outcome), AllocError>
-        requires { IsSoundStore self }
-        ensures { IfOk result (λ x. IsSoundStore x.0) }
+        requires { (w : World) × (least : ℕ) × IsStore w least self }
+        ensures { IfOk result (λ x. (w : World) (least : ℕ) → IsStore w least self → is_of_life event.now ≡ true → DidStore w least event.now x.1 x.0) }
     {
         match self {
             Store::Open(mut life) => {
@@ -147,16 +267,12 @@ impl Store {
 
     /// The store after the event, and what came of it.
     pub(crate) fn happen(self, alloc: Global, event: &Event) -> Result<(Store, Outcome), AllocError>
-        requires { IsSoundStore self }
-        ensures { IfOk result (λ x. IsSoundStore x.0) }
+        requires { (w : World) × (least : ℕ) × IsStore w least self }
+        ensures { IfOk result (λ x. (w : World) (least : ℕ) → IsStore w least self → DidStore w least event.now x.1 x.0) }
     {
         match event {
             Event::Open { stripes, fails_at } => self.open(alloc, *stripes, *fails_at),
-            Event::Stop { within: None, fill } => stopped(self.into_disk(), None, fill),
-            Event::Stop {
-                within: Some(side),
-                fill,
-            } => self.stop_within(*side, fill),
+            Event::Stop { within, fill } => self.stop(*within, fill),
             Event::Leave => Ok(self.leave()),
             _ => self.go_on(event),
         }

@@ -66,6 +66,14 @@ fn first_lines(alloc: Global) -> Result<Vec<Event>, Refusal> {
     Ok(events)
 }
 
+// Pending bytes hold these in order, and then what a read gives.
+fn chosen(alloc: Global, bytes: &[u8]) -> Result<Fill, Refusal> {
+    Ok(Fill::Chosen {
+        bytes: bytes.to_vec(alloc)?,
+        lens: [0; 4],
+    })
+}
+
 // How many changes and entries an opening finds that is the last event.
 fn counts_of(outcome: Option<&Outcome>) -> Option<(u64, usize)> {
     match outcome {
@@ -100,6 +108,9 @@ fn a_stop_at_the_gate(rt: HostRuntime) -> Result<(), Refusal> {
     assert_eq!(rt; stopped(alloc, log, Fill::Byte(0xA5))?, Some((1, 1)));
     assert_eq!(rt; stopped(alloc, log, Fill::Old)?, Some((0, 0)));
     assert_eq!(rt; stopped(alloc, log, Fill::Byte(0x7F))?, Some((0, 0)));
+    assert_eq!(rt; stopped(alloc, log, chosen(alloc, &[0xA5])?)?, Some((1, 1)));
+    assert_eq!(rt; stopped(alloc, log, chosen(alloc, &[0])?)?, Some((0, 0)));
+    assert_eq!(rt; stopped(alloc, log, chosen(alloc, &[])?)?, Some((1, 1)));
     Ok(())
 }
 
@@ -120,14 +131,20 @@ fn a_life_that_is_left(rt: HostRuntime) -> Result<(), Refusal> {
     assert_eq!(rt; left(alloc, 1, Fill::New)?, Some((1, 1)));
     assert_eq!(rt; left(alloc, 1, Fill::Byte(0xA5))?, Some((1, 1)));
     assert_eq!(rt; left(alloc, 1, Fill::Byte(0))?, Some((0, 0)));
+    assert_eq!(rt; left(alloc, 1, chosen(alloc, &[0xA5, 0])?)?, Some((1, 1)));
+    assert_eq!(rt; left(alloc, 1, chosen(alloc, &[0])?)?, Some((0, 0)));
+    assert_eq!(rt; left(alloc, 1, chosen(alloc, &[])?)?, Some((1, 1)));
     assert_eq!(rt; left(alloc, 2, Fill::Old)?, Some((1, 1)));
     Ok(())
 }
 
-// An opening whose third device call fails, a stop, and another opening.
-fn opened_late(alloc: Global, fill: Fill) -> Result<Option<(u64, usize)>, Refusal> {
-    let mut events = Vec::new(alloc);
-    events.push(opening(Some(3)))?;
+// A life is left before the gate is synced; then come an opening whose device call with this number
+// fails, a stop, and another opening.
+fn opened_late(alloc: Global, fails_at: u64, fill: Fill) -> Result<Option<(u64, usize)>, Refusal> {
+    let mut events = first_lines(alloc)?;
+    add_log_calls(&mut events, 1)?;
+    events.push(Event::Leave)?;
+    events.push(opening(Some(fails_at)))?;
     events.push(Event::Stop { within: None, fill })?;
     reopened(alloc, &mut events)
 }
@@ -144,9 +161,17 @@ fn an_opening_that_fails(rt: HostRuntime) -> Result<(), Refusal> {
             Some(Outcome::Refused(Refusal::Failed))
         )
     );
-    assert_eq!(rt; opened_late(alloc, Fill::Old)?, Some((0, 0)));
-    assert_eq!(rt; opened_late(alloc, Fill::New)?, Some((0, 0)));
-    assert_eq!(rt; opened_late(alloc, Fill::Byte(0))?, Some((0, 0)));
+    assert_eq!(rt; opened_late(alloc, 3, Fill::Old)?, Some((0, 0)));
+    assert_eq!(rt; opened_late(alloc, 3, Fill::New)?, Some((1, 1)));
+    assert_eq!(rt; opened_late(alloc, 3, Fill::Byte(0xA5))?, Some((1, 1)));
+    assert_eq!(rt; opened_late(alloc, 3, Fill::Byte(0))?, Some((0, 0)));
+    assert_eq!(rt;
+        opened_late(alloc, 3, chosen(alloc, &[0xA5])?)?,
+        Some((1, 1))
+    );
+    assert_eq!(rt; opened_late(alloc, 3, chosen(alloc, &[0])?)?, Some((0, 0)));
+    assert_eq!(rt; opened_late(alloc, 4, Fill::Old)?, Some((1, 1)));
+    assert_eq!(rt; opened_late(alloc, 5, Fill::Byte(0))?, Some((1, 1)));
     Ok(())
 }
 

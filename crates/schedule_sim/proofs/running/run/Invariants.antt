@@ -1,6 +1,7 @@
-use Rattle.std.proofs.Common.{◌≡◌, length}
-use Rattle.schedule_sim.specs.Living.{IsSoundStore}
+use Rattle.std.proofs.Common.{take}
+use Rattle.schedules.specs.Laws.{SoundBetweenIsRun, SoundIsRun}
+use Rattle.schedule_sim.proofs.Runs.{AreLaws, IsKept}
 use Rattle.schedule_sim.proofs.running.run.Given as goal
 
 abbrev pub invariant-loop-event : goal.invariant-loop-event
-invariant-loop-event l = record { sound : IsSoundStore l.store; one_each : length l.outcomes.items ≡ l.event-index }
+invariant-loop-event l = IsKept (take l.event-index l.events) l.outcomes.items l.store × AreLaws × SoundIsRun × SoundBetweenIsRun

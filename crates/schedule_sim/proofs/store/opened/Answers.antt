@@ -1,5 +1,25 @@
-use Rattle.schedule_sim.proofs.Kept.{disk_changes}
+use Rattle.std.proofs.Common.{◌≡◌, ℕ, IfOk, Result, Ok, Err, sym, ◌∙◌, ap}
+use Rattle.disk_model.specs.Files.{now}
+use Rattle.schedules.specs.World.{World}
+use Rattle.schedule_sim.specs.declared.traced.Traced.{Traced}
+use Rattle.schedule_sim.specs.Storing.{IsClosed}
+use Rattle.schedule_sim.specs.Tracing.{traced_states}
 use Rattle.schedule_sim.proofs.store.opened.Goals as goal
 
-pub new-requires-clause-fits : goal.new-requires-clause-fits
-new-requires-clause-fits c p o u = disk_changes c.in-Ok.keeper _ _ _ _ c.plan_none.ensures (c.in-Ok.ensures.fits p o u)
+if_ok : {A B : Type 0} (r : Result A B) (P Q : A → Type 0) → ((x : A) → P x → Q x) → IfOk r P → IfOk r Q
+if_ok (Ok x) P Q f p = f x p
+if_ok (Err e) P Q f p = p
+
+-- a plan changes no file
+planned : (w : World) (least : ℕ) (old new : Traced) → traced_states new ≡ traced_states old → IsClosed w least old → IsClosed w least new
+planned w least old new same closed = record { life = closed.life; files = closed.files ∙ ap now (sym same); reached = closed.reached; stops = closed.stops }
+
+pub returns-in-Ok : goal.returns-in-Ok
+returns-in-Ok c = if_ok c.begun.result _ _ (λ x did w least closed. did w least c.args.fails_at c.plan_opening.new.disk
+    (sym c.names_sync.ensures ∙ c.if-not-names_sync.true) c.in-Ok.ensures.calls (c.in-Ok.ensures.ok tt).1
+    (planned w least c.args.disk c.plan_opening.new.disk c.plan_opening.ensures closed)) c.begun.ensures
+
+pub returns-in-Err : goal.returns-in-Err
+returns-in-Err c = if_ok c.refused.result _ _ (λ x did w least closed. did w least c.args.stripes c.plan_opening.new.disk
+    c.calls-before.ensures c.in-Err.ensures.stopped (c.in-Err.ensures.err tt).1
+    (planned w least c.args.disk c.plan_opening.new.disk c.plan_opening.ensures closed)) c.refused.ensures

@@ -1,5 +1,56 @@
+use Rattle.std.proofs.Common.{Ok, Err, refl}
+use Rattle.one_history.specs.Turns.{record_of}
+use Rattle.schedules.specs.declared.event.Event.TheVariants as event
 use Rattle.schedule_sim.proofs.Kept.{fits_now, rests}
+use Rattle.schedule_sim.proofs.Quiet.{begins, walks_skip}
 use Rattle.schedule_sim.proofs.life.Life.begin.Goals as goal
 
 pub begin-requires : goal.begin-requires
-begin-requires c = let none = (rests c.args.self.now.keeper _ c.is_walking.ensures c.if-is_walking.false).1 in (_, c.requires.done, _, fits_now _ _ _ c.requires none)
+begin-requires c =
+    let keeper = c.args.self.now.keeper in
+    let words = c.args.self.now.words in
+    let a = c.requires.1 in (
+      words.stripes,
+      a.done,
+      record_of 64 words,
+      fits_now c.requires.0 keeper words c.args.self.now.jobs.items a
+          (rests keeper c.is_walking.result c.is_walking.ensures c.if-is_walking.false).1,
+    )
+
+pub returns-then-is_walking : goal.returns-then-is_walking
+returns-then-is_walking c w a =
+    walks_skip w event.Begin c.args.self.now c.is_walking.result c.laws_of_telling.ensures.walk (λ l e. e) c.is_walking.ensures c.if-is_walking.true a
+
+pub returns-in-Ok : goal.returns-in-Ok
+returns-in-Ok c w a =
+    begins w c.args.self.now (record { keeper = c.begin.new.keeper; words = c.args.self.now.words; jobs = c.args.self.now.jobs })
+    c.is_walking.result c.begin.result (Ok tt) c.in-Ok.is
+    c.laws_of_telling.ensures.walk c.laws_of_seals.ensures.begin c.steps_of_the_keeper.ensures.rests c.is_walking.ensures c.if-is_walking.false
+    (rests c.args.self.now.keeper c.is_walking.result c.is_walking.ensures c.if-is_walking.false).1
+    (record {
+      failed = c.begin.ensures.failed;
+      wrong_phase = c.begin.ensures.wrong_phase;
+      no_other = c.begin.ensures.no_other;
+      ok = c.begin.ensures.ok;
+      given = c.begin.ensures.given;
+      err = c.begin.ensures.err;
+      same = c.begin.ensures.same;
+    })
+    (λ n done. c.begin.ensures.fits n done (record_of 64 c.args.self.now.words)) refl refl a
+
+pub returns-in-Err : goal.returns-in-Err
+returns-in-Err c w a =
+    begins w c.args.self.now (record { keeper = c.begin.new.keeper; words = c.args.self.now.words; jobs = c.args.self.now.jobs })
+    c.is_walking.result c.begin.result (Err c.in-Err.refusal) c.in-Err.is
+    c.laws_of_telling.ensures.walk c.laws_of_seals.ensures.begin c.steps_of_the_keeper.ensures.rests c.is_walking.ensures c.if-is_walking.false
+    (rests c.args.self.now.keeper c.is_walking.result c.is_walking.ensures c.if-is_walking.false).1
+    (record {
+      failed = c.begin.ensures.failed;
+      wrong_phase = c.begin.ensures.wrong_phase;
+      no_other = c.begin.ensures.no_other;
+      ok = c.begin.ensures.ok;
+      given = c.begin.ensures.given;
+      err = c.begin.ensures.err;
+      same = c.begin.ensures.same;
+    })
+    (λ n done. c.begin.ensures.fits n done (record_of 64 c.args.self.now.words)) refl refl a

@@ -1,35 +1,29 @@
 use Rattle.std.proofs.Common.{◌≡◌, length, arith, ap, refl, ◌∙◌}
 use Rattle.std.proofs.lemmas.List.{length-set, set-set}
 use Rattle.schedule_sim.specs.declared.job.Job.TheVariants.{Idle}
-use Rattle.schedule_sim.proofs.Done.{call_did}
-use Rattle.schedule_sim.proofs.Staying.{call_steps, worker_steps}
+use Rattle.schedule_sim.proofs.Workers.{call_did, call_leaves, call_under_way, pass_there}
 use Rattle.schedule_sim.proofs.life.Life.step_call.Goals as goal
 
 pub step_walk-made-requires-clause-pass : goal.step_walk-made-requires-clause-pass
-step_walk-made-requires-clause-pass c = omega (arith, c.requires.worker, c.requires.sound.alive.passes)
+step_walk-made-requires-clause-pass c = let but = c.requires.but in pass_there but.0 _ _ _ _ but.1.stands c.requires.worker
 
 pub step_walk-made-requires-clause-under_way : goal.step_walk-made-requires-clause-under_way
-step_walk-made-requires-clause-under_way c = let k = c.requires.calling in (k.begun, k.task, k.fits)
+step_walk-made-requires-clause-under_way c =
+    let but = c.requires.but in call_under_way c.walks_of_workers.ensures.under_way but.0 _ _ but.1.jobs _ _ but.1.stands c.requires.worker but.1.was
 
 pub called-job-requires : goal.called-job-requires
 called-job-requires c =
-    let k = c.requires.calling in
-    (call_steps _ k.begun k.task _ _ k.is_call k.free (c.step_walk-made.ensures.next k.begun k.task k.fits)).0
+    let but = c.requires.but in call_leaves c.walks_of_workers.ensures.calls but.0 _ _ but.1.jobs _ _ _ _ but.1.stands c.requires.worker but.1.was c.step_walk-made.ensures.next
 
 pub index_mut-requires : goal.index_mut-requires
 index_mut-requires c =
-    let e : length c.args.self.now.jobs.items ≡ 64 = ap length c.requires.sound.taken ∙ (length-set c.requires.sound.jobs c.args.worker Idle ∙ c.requires.sound.alive.workers) in
+    let but = c.requires.but.1 in
+    let e : length c.args.self.now.jobs.items ≡ 64 = ap length but.taken ∙ (length-set but.jobs c.args.worker Idle ∙ but.stands.count) in
     omega (arith, e, c.requires.worker, c.args.self.now.jobs.ok.0)
 
-pub returns-clause-sound : goal.returns-clause-sound
-returns-clause-sound c =
-    let k = c.requires.calling in
-    rw (c.requires.sound.taken, set-set, c.called-job.ensures)
-    (worker_steps _ _ _ _ _ _ _ _ c.requires.sound.alive c.requires.worker c.step_walk-made.ensures.one
-    (call_steps _ k.begun k.task _ _ k.is_call k.free (c.step_walk-made.ensures.next k.begun k.task k.fits)).1)
-
-pub returns-clause-did : goal.returns-clause-did
-returns-clause-did c w l jobs is k at taken =
+pub returns : goal.returns
+returns c w but =
+    let of_call = call_leaves c.walks_of_workers.ensures.calls w _ _ but.jobs _ _ _ _ but.stands c.requires.worker but.was c.step_walk-made.ensures.next in
     rw c.called-job.ensures
-    (call_did w l c.args.self.now.keeper c.args.self.now.words jobs c.args.worker _ _ c.args.walk c.step_walk-made.result.1 _ is k c.requires.worker at c.step_walk-made.ensures.one c.step_walk-made.ensures.next refl
-    (rw (taken, set-set) refl))
+    (call_did c.steps_of_workers.ensures.calls c.laws_of_lives.ensures.workers w _ _ _ but.jobs c.args.worker _ _ c.args.walk _ _ but.stands c.requires.worker but.was c.step_walk-made.ensures.one
+    c.keeps_one_history.ensures.one c.keeps_one_history.ensures.apart c.step_walk-made.ensures.next of_call refl refl (rw (but.taken, set-set) refl))

@@ -1,0 +1,143 @@
+-- A life at its beginning.
+use Rattle.std.proofs.Common.{◌≡◌, ℕ, ◌+◌, ◌-◌, ◌<◌, List, [], ◌∷◌, length, replicate, get_or, None, Some, Option, refl, sym, ◌∙◌, ap, subst, true, arith}
+use Rattle.std.proofs.lemmas.Bool.Decides.{nat_tests}
+use Rattle.std.proofs.lemmas.List.{get_or-replicate, length-replicate, length-append, get_or-append_right}
+use Rattle.java_hash.specs.declared.stripe_count.StripeCount.{StripeCount}
+use Rattle.java_hash.specs.Stripes.{is_stripe_count}
+use Rattle.map_model.specs.Laws.{PartsMakeTheMap}
+use Rattle.map_model.specs.Parts.{union_of}
+use Rattle.map_model.specs.Steps.{fold_of}
+use Rattle.atomic_methods.specs.PartState.{PartState}
+use Rattle.ticket_order.specs.declared.record.Opening.{Opening}
+use Rattle.ticket_order.specs.declared.record.Record.{Record}
+use Rattle.ticket_order.specs.Records.{enrolling, keeper_at_start, newcomer}
+use Rattle.one_history.specs.declared.book.Book.{Book}
+use Rattle.one_history.specs.OneHistory.{HoldApart, IsOneHistory}
+use Rattle.one_history.specs.Turns.{at_start, maps_of, opening_of, record_of, started}
+use Rattle.flusher.specs.declared.keeper.Keeper.{Keeper}
+use Rattle.flusher.specs.Fitting.{Fits, IsUnused}
+use Rattle.checkpoint_walk.specs.Walking.{FitsBy}
+use Rattle.store_layout.specs.Checkpoints.{Checkpoint}
+use Rattle.store_layout.specs.Logs.{Batch, commands_in}
+use Rattle.store_layout.specs.Opening.{Opened, logged_by, newest_by, newest_of, prefix_of}
+use Rattle.disk_model.specs.Files.{Leaves, now}
+use Rattle.recovery.specs.Formatting.{AtStops, IsNew, new_files}
+use Rattle.recovery.specs.Dividing.{ArePartsOf}
+use Rattle.recovery.specs.Opening.{IsAtStart}
+use Rattle.schedules.specs.World.{World, start}
+use Rattle.schedule_states.specs.Laws.{LifeBegins}
+use Rattle.keeper_states.specs.Laws.{OpeningStands}
+use Rattle.keeper_states.specs.Standing.{HasKeeper}
+use Rattle.schedule_sim.specs.declared.traced.Traced.{Traced}
+use Rattle.schedule_sim.specs.declared.job.Job.{Job}
+use Rattle.schedule_sim.specs.declared.job.Job.TheVariants.{Idle}
+use Rattle.schedule_sim.specs.Tracing.{traced_states, traced_honest}
+use Rattle.schedule_sim.specs.Workers.{doing_of, doings_of}
+use Rattle.schedule_sim.specs.Living.{IsLifeOf}
+use Rattle.schedule_sim.specs.Storing.{IsClosed, IsOpening}
+
+pub some_stripes : (n : ℕ) → is_stripe_count n ≡ true → 0 < n
+some_stripes n e = grind (arith, nat_tests)
+
+abbrev worker : Opening → ℕ → Record
+worker o n = enrolling (newcomer o) n
+
+abbrev keepers : Opening → ℕ → Record
+keepers o n = enrolling (keeper_at_start o) n
+
+keeper_at : (o : Opening) (stripes n : ℕ) → record_of n (started o stripes n) ≡ keepers o (n + 1)
+keeper_at o stripes n =
+    let zero_left : n - n ≡ 0 = omega arith in
+    get_or-append_right (replicate n (worker o (n + 1))) (keepers o (n + 1) ∷ []) n n (newcomer o) (length-replicate n (worker o (n + 1))) (omega arith)
+    ∙ ap (λ i. get_or (keepers o (n + 1) ∷ []) i (newcomer o)) zero_left
+
+unused : (o : Opening) (n : ℕ) → IsUnused o.first (keepers o n)
+unused o n = record { opening = refl; keeper = refl; free = refl; none_taken = refl; published = refl; works = refl }
+
+-- the newest log ends where the commands end that are found
+reaches_by : (k : Checkpoint) (first : List Batch) (second : Option (List Batch)) → (newest_by k first second).low + length (commands_in (newest_by k first second).batches) ≡ k.low + length (logged_by first second)
+reaches_by k first None = refl
+reaches_by k first (Some second) = omega (arith, length-append (commands_in first) (commands_in second))
+
+reaches_found : (found : Opened) → (newest_of found).low + length (commands_in (newest_of found).batches) ≡ prefix_of found
+reaches_found found = reaches_by found.checkpoint found.first found.second
+
+first_found : (w : World) (stripes : StripeCount) (found : Opened) (keeper : Keeper Traced) (parts : List PartState) (first : ℕ) → IsAtStart stripes first keeper → IsOpening w stripes.count found keeper parts
+    → first ≡ prefix_of found
+first_found w stripes found keeper parts first start opening = sym start.committed ∙ opening.log.committed ∙ reaches_found found
+
+-- the keeper stands against the world
+keeper_begins : OpeningStands traced_states → (w : World) (stripes : StripeCount) (found : Opened) (keeper : Keeper Traced) (parts : List PartState) (first : ℕ) → IsAtStart stripes first keeper
+    → IsOpening w stripes.count found keeper parts → union_of (maps_of parts) ≡ fold_of w.history → HasKeeper traced_states keeper (keepers (opening_of first parts) 65) w
+keeper_begins law w stripes found keeper parts first start opening map =
+    let same = first_found w stripes found keeper parts first start opening in
+    law keeper (keepers (opening_of first parts) 65) w stripes.count found (record {
+      life = opening.life;
+      files = opening.files;
+      long = opening.long;
+      first = same;
+      map = map;
+      none_seen = refl;
+      stripes_are = ap (λ (s : StripeCount). s.count) start.stripes_are;
+      sealed = opening.sealed;
+      generation = opening.log.generation;
+      gate = opening.log.gate;
+      committed = start.committed ∙ same;
+      published = start.published ∙ same;
+      idle = ap (λ l. l.phase) start.resumed;
+      no_next = start.next;
+      sweep = start.sweep;
+      walking = start.walking;
+      checkpoint = start.checkpoint;
+      capture = start.capture;
+      works = start.working;
+      not_failed = start.unfailed;
+    })
+
+-- The laws by which a life begins.
+pub record AreLaws : Type 0 where
+  pub life : LifeBegins
+  pub opening : OpeningStands traced_states
+  pub parts : PartsMakeTheMap
+
+pub life_begins : AreLaws → (w : World) (stripes : StripeCount) (found : Opened) (keeper : Keeper Traced) (parts : List PartState) (first : ℕ) → 0 < stripes.count → ArePartsOf stripes.count parts
+    → ((p : Record) → p.opening ≡ opening_of first parts → IsUnused first p → Fits traced_states traced_honest stripes.count [] keeper p) → IsAtStart stripes first keeper
+    → IsOneHistory (at_start first parts 64) → HoldApart (at_start first parts 64) → IsOpening w stripes.count found keeper parts → IsLifeOf w keeper (at_start first parts 64) (replicate 64 Idle)
+life_begins laws w stripes found keeper parts first some are fits start one apart opening =
+    let o : Opening = opening_of first parts in
+    let b : Book = at_start first parts 64 in
+    let same = first_found w stripes found keeper parts first start opening in
+    let map : union_of (maps_of parts) ≡ fold_of w.history = ap union_of opening.divided.maps ∙ laws.parts stripes.count _ some ∙ opening.map in
+    let fits' : Fits traced_states traced_honest b.stripes [] keeper (record_of 64 b) = rw (are.one_each, keeper_at o (length parts) 64) (fits (keepers o 65) refl (unused o 65)) in
+    record {
+      done = [];
+      fits = subst (λ k. FitsBy k traced_states traced_honest b.stripes [] keeper (record_of 64 b)) (sym start.capture) fits';
+      count = length-replicate 64 Idle;
+      workers_stand = laws.life b w stripes.count found parts (doings_of (replicate 64 Idle)) (ap (λ n. at_start n parts 64) same) one apart are.one_each opening.life opening.long map
+          (λ j lt. ap doing_of (get_or-replicate 64 j Idle Idle lt));
+      keeper_stands = subst (λ p. HasKeeper traced_states keeper p w) (sym (keeper_at o (length parts) 64)) (keeper_begins laws.opening w stripes found keeper parts first start opening map);
+    }
+
+-- the same of the words and the workers that were made
+pub life_began : AreLaws → (w : World) (stripes : StripeCount) (found : Opened) (keeper : Keeper Traced) (parts : List PartState) (first : ℕ) (b : Book) (jobs : List Job)
+    → 0 < stripes.count → ArePartsOf stripes.count parts → ((p : Record) → p.opening ≡ opening_of first parts → IsUnused first p → Fits traced_states traced_honest stripes.count [] keeper p)
+    → IsAtStart stripes first keeper → IsOneHistory b → HoldApart b → b ≡ at_start first parts 64 → jobs ≡ replicate 64 Idle → IsOpening w stripes.count found keeper parts → IsLifeOf w keeper b jobs
+life_began laws w stripes found keeper parts first b jobs some are fits start one apart book idle opening =
+    rw (book, idle) (life_begins laws w stripes found keeper parts first some are fits start (subst IsOneHistory book one) (subst (λ v. HoldApart v) book apart) opening)
+
+-- a store that was formatted is closed, and stands for no command
+pub formatted_stands : (disk : Traced) → now (traced_states disk) ≡ new_files 16 → AtStops IsNew (now (traced_states disk)) → IsClosed start 0 disk
+unfolding start
+formatted_stands disk files new = record {
+  life = refl;
+  files = sym files;
+  reached = omega arith;
+  stops = λ contents leaves. record {
+    count = 0;
+    stands = new contents (subst (λ files. Leaves files contents) (sym files) leaves);
+    from_first = omega arith;
+    within = omega arith;
+    from_least = omega arith;
+    to_most = omega arith;
+  };
+}

@@ -1,0 +1,128 @@
+-- What the loop of a run keeps.
+use Rattle.std.proofs.Common.{◌≡◌, ℕ, suc, ◌+◌, ◌<◌, ◌≤◌, get_or, take, List, [], ◌∷◌, ◌++◌, length, Option, None, Some, refl, sym, ◌∙◌, ap, subst, arith}
+use Rattle.std.specs.List.{AllByRecursion}
+use Rattle.std.proofs.Math.Seq.{take-suc}
+use Rattle.std.proofs.lemmas.List.{length-append}
+use Rattle.ticket_order.specs.declared.record.Call.{Call}
+use Rattle.schedules.specs.declared.event.Event.{Event}
+use Rattle.schedules.specs.declared.outcome.Outcome.{Outcome}
+use Rattle.schedules.specs.World.{World, Life, start}
+use Rattle.schedules.specs.After.{after}
+use Rattle.schedules.specs.Laws.{LifeGoesOn, NextLifeBegins, RowsGoOn, SoundAtStart, SoundBetweenIsRun, SoundIsRun}
+use Rattle.schedules.specs.Runs.{Row, Happens, IsRun, OpensWell, rows_of, rows_onto}
+use Rattle.schedules.specs.Sound.{IsSound, IsSoundWith, released_by}
+use Rattle.schedule_sim.specs.declared.store.Store.{Store}
+use Rattle.schedule_sim.specs.declared.store.Store.TheVariants.{Closed, Open}
+use Rattle.schedule_sim.specs.Storing.{DidStore, IsDurable, IsNext, IsStore}
+use Rattle.schedule_sim.specs.Living.{IsLifeOf}
+use Rattle.schedule_sim.specs.Workers.{doings_of}
+use Rattle.schedule_sim.specs.declared.traced.Traced.{Traced}
+use Rattle.schedule_sim.specs.declared.job.Job.{Job}
+use Rattle.flusher.specs.declared.keeper.Keeper.{Keeper}
+use Rattle.one_history.specs.declared.book.Book.{Book}
+use Rattle.schedule_states.specs.Workers.{StandWith, WorkersStand}
+
+-- After these events and outcomes the store stands against some world, and they lead there soundly.
+pub record IsKept (events : List Event) (outcomes : List Outcome) (store : Store) : Type 0 where
+  pub world : World
+  pub least : ℕ
+  pub released : List Call
+  pub one_each : length outcomes ≡ length events
+  pub stands : IsStore world least store
+  pub sound : IsSound (rows_of events outcomes) world least released
+  pub opens : AllByRecursion OpensWell (rows_of events outcomes)
+
+-- The laws by which one event more keeps it.
+pub record AreLaws : Type 0 where
+  pub life : LifeGoesOn
+  pub next : NextLifeBegins
+  pub rows : RowsGoOn
+
+-- the durable count of a life is one of its history
+durable_within : (w : World) (keeper : Keeper Traced) (b : Book) (jobs : List Job) → IsLifeOf w keeper b jobs → (l : Life) → w.life ≡ Some l → l.durable ≤ length w.history
+durable_within w keeper b jobs a l is =
+    let stands : WorkersStand b w l (doings_of jobs) = subst (λ o. StandWith b w o (doings_of jobs)) is a.workers_stand in
+    omega (arith, stands.words.durable, stands.words.one.reached, stands.words.count, ap length stands.words.history, length-append stands.words.before b.history)
+
+-- Between lives, or in a life of which so many commands are durable.
+data Where (w : World) (least : ℕ) : Type 0 where
+  Between : w.life ≡ None → Where w least
+  Within : (l : Life) → w.life ≡ Some l → least ≡ l.durable → l.durable ≤ length w.history → Where w least
+
+within : (w : World) (least : ℕ) (o : Option Life) → w.life ≡ o → IsDurable least o → ((l : Life) → w.life ≡ Some l → l.durable ≤ length w.history) → Where w least
+within w least None is durable reached = absurd durable
+within w least (Some l) is durable reached = Within l is durable (reached l is)
+
+where_it_is : (w : World) (least : ℕ) (store : Store) → IsStore w least store → Where w least
+where_it_is w least (Closed disk) stands = Between stands.life
+where_it_is w least (Open life) stands = within w least w.life refl stands.1 (durable_within w life.keeper life.words life.jobs.items stands.0)
+
+-- the count that a store between lives keeps
+with_next : (o : Option Life) (rows : List Row) (w : World) (least next : ℕ) (released : List Call) → IsNext least next o → IsSoundWith o rows w least released
+    → IsSoundWith o rows w next released
+with_next None rows w least next released is sound = rw is sound
+with_next (Some l) rows w least next released is sound = sound
+
+-- what one event more keeps
+abbrev GoesOn : List Row → World → ℕ → Row → World → ℕ → Type 0
+GoesOn rows w least row w' next = (released : List Call) × IsSound (row ∷ rows) w' next released
+
+goes_on : LifeGoesOn → NextLifeBegins → (rows : List Row) (w : World) (least : ℕ) (released : List Call) (e : Event) (x : Outcome) (store : Store) → Where w least → IsSound rows w least released
+    → (did : DidStore w least e x store) → GoesOn rows w least (e, x) (after w did.found e x) did.next
+goes_on life next rows w least released e x store (Between none) sound did =
+    let w' : World = after w did.found e x in
+    let happens : Happens w (e, x) w' = record { found = did.found; meets = did.meets; world = refl } in (
+      released,
+      with_next w'.life ((e, x) ∷ rows) w' least did.next released did.next_is
+          (next rows w released least e x w' none (subst (λ o. IsSoundWith o rows w least released) none sound) happens did.front),
+    )
+goes_on life next rows w least released e x store (Within l is durable reached) sound did =
+    let w' : World = after w did.found e x in
+    let happens : Happens w (e, x) w' = record { found = did.found; meets = did.meets; world = refl } in
+    let low : l.durable ≤ least = rw durable (omega arith) in
+    let high : least ≤ length w.history = rw durable reached in (
+      released_by w e x released,
+      with_next w'.life ((e, x) ∷ rows) w' least did.next (released_by w e x released) did.next_is
+          (life rows w l released least e x w' is (subst (λ o. IsSoundWith o rows w least released) is sound) happens did.answers low high),
+    )
+
+pub kept_at_start : SoundAtStart → (store : Store) → IsStore start 0 store → IsKept [] [] store
+unfolding start rows_onto
+kept_at_start sound store stands = record { world = start; least = 0; released = []; one_each = refl; stands = stands; sound = sound; opens = tt }
+
+pub kept_on : AreLaws → (events : List Event) (outcomes : List Outcome) (store store' : Store) (e : Event) (x : Outcome) → (kept : IsKept events outcomes store)
+    → DidStore kept.world kept.least e x store' → IsKept (events ++ e ∷ []) (outcomes ++ x ∷ []) store'
+kept_on laws events outcomes store store' e x kept did =
+    let more = goes_on laws.life laws.next (rows_of events outcomes) kept.world kept.least kept.released e x store' (where_it_is kept.world kept.least store kept.stands) kept.sound did in
+    let rows_are = laws.rows events outcomes e x kept.one_each in
+    record {
+      world = after kept.world did.found e x;
+      least = did.next;
+      released = more.0;
+      one_each = omega (arith, length-append outcomes (x ∷ []), length-append events (e ∷ []), kept.one_each);
+      stands = did.stands;
+      sound = subst (λ rs. IsSound rs (after kept.world did.found e x) did.next more.0) (sym rows_are) more.1;
+      opens = subst (λ rs. AllByRecursion OpensWell rs) (sym rows_are) (did.opens, kept.opens);
+    }
+
+run_by : SoundIsRun → SoundBetweenIsRun → (events : List Event) (outcomes : List Outcome) (w : World) (least : ℕ) (released : List Call) (o : Option Life) → length outcomes ≡ length events
+    → IsSoundWith o (rows_of events outcomes) w least released → AllByRecursion OpensWell (rows_of events outcomes) → IsRun events outcomes
+run_by inside outside events outcomes w least released None one_each sound opens = outside events outcomes w least released one_each sound opens
+run_by inside outside events outcomes w least released (Some l) one_each sound opens = inside events outcomes w l.durable released one_each sound opens
+
+pub kept_is_run : SoundIsRun → SoundBetweenIsRun → (events : List Event) (outcomes : List Outcome) (store : Store) → IsKept events outcomes store → IsRun events outcomes
+kept_is_run inside outside events outcomes store kept =
+    run_by inside outside events outcomes kept.world kept.least kept.released kept.world.life kept.one_each kept.sound kept.opens
+
+-- with the next event of the schedule
+pub kept_after : AreLaws → (events : List Event) (i : ℕ) (outcomes outcomes' : List Outcome) (store store' : Store) (e : Event) (x : Outcome) → i < length events → e ≡ get_or events i e
+    → outcomes' ≡ outcomes ++ x ∷ [] → (kept : IsKept (take i events) outcomes store) → DidStore kept.world kept.least e x store' → IsKept (take (i + 1) events) outcomes' store'
+kept_after laws events i outcomes outcomes' store store' e x below at more kept did =
+    let next : i + 1 ≡ suc i = omega arith in
+    let last : take (i + 1) events ≡ take i events ++ e ∷ [] =
+    ap (λ n. take n events) next ∙ take-suc events i e below ∙ ap (λ v. take i events ++ v ∷ []) (sym at) in
+    rw (more, last) (kept_on laws (take i events) outcomes store store' e x kept did)
+
+pub kept_to_end : SoundIsRun → SoundBetweenIsRun → (events : List Event) (i : ℕ) (outcomes : List Outcome) (store : Store) → take i events ≡ events → IsKept (take i events) outcomes store
+    → IsRun events outcomes
+kept_to_end inside outside events i outcomes store all kept = kept_is_run inside outside events outcomes store (subst (λ es. IsKept es outcomes store) all kept)

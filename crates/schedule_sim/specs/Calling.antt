@@ -1,0 +1,22 @@
+-- When the keeper of a life can make a device call.
+use Rattle.std.specs.Prelude.{◌≡◌, None, Bool, true, false, is_some}
+use Rattle.gate_log.specs.States.{call_in}
+use Rattle.flusher.specs.declared.keeper.Keeper.{Keeper}
+use Rattle.flusher.specs.Keeping.{is_walking}
+use Rattle.flusher.specs.Rotating.{due_of, logs_of}
+use Rattle.checkpoint_walk.specs.Checkpointing.{call_due}
+use Rattle.schedules.specs.declared.event.Side.{Side}
+use Rattle.schedules.specs.declared.event.Side.TheVariants as side
+use Rattle.schedule_sim.specs.declared.traced.Traced.{Traced}
+
+-- one is due on this side
+abbrev pub is_due : Side → Keeper Traced → Bool
+is_due side.Log keeper = is_some (call_in (due_of (logs_of keeper)).phase (due_of (logs_of keeper)))
+is_due side.Checkpoint keeper = is_some (call_due keeper.next keeper.checkpoint)
+
+-- No walk is under way, no call has failed, and one is due.
+pub record MayCall (s : Side) (keeper : Keeper Traced) : Type 0 where
+  pub rests : is_walking keeper.sweeper.walking ≡ false
+  pub no_capture : keeper.capture ≡ None
+  pub works : keeper.is_broken ≡ false
+  pub due : is_due s keeper ≡ true

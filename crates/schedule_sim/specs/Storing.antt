@@ -1,0 +1,84 @@
+-- How a store, closed or in a life, stands against the world of its events and outcomes.
+use Rattle.std.specs.Prelude.{◌≡◌, ℕ, ◌≤◌, List, length, Option, None, Some}
+use Rattle.disk_model.specs.Files.{now}
+use Rattle.map_model.specs.Steps.{fold_of}
+use Rattle.atomic_methods.specs.PartState.{PartState}
+use Rattle.flusher.specs.declared.keeper.Keeper.{Keeper}
+use Rattle.recovery.specs.Dividing.{IsDivided}
+use Rattle.recovery.specs.LogReading.{GoesOnFrom}
+use Rattle.store_layout.specs.Opening.{Opened, map_of, newest_of, prefix_of}
+use Rattle.schedules.specs.declared.outcome.DeviceCall.{DeviceCall}
+use Rattle.store_states.specs.Standing.{StopsStand}
+use Rattle.schedules.specs.declared.event.Event.{Event}
+use Rattle.schedules.specs.declared.outcome.Outcome.{Outcome}
+use Rattle.schedules.specs.Machine.{whole}
+use Rattle.schedules.specs.World.{World, Life, begun_by}
+use Rattle.schedules.specs.After.{after, entered}
+use Rattle.schedules.specs.Cases.{IsPossible, Meets}
+use Rattle.schedules.specs.Runs.{OpensWell}
+use Rattle.schedules.specs.Sound.{AnswersLegally, OpensFront}
+use Rattle.schedule_sim.specs.declared.traced.Traced.{Traced}
+use Rattle.schedule_sim.specs.declared.store.Store.{Store}
+use Rattle.schedule_sim.specs.declared.store.Store.TheVariants.{Closed, Open}
+use Rattle.schedule_sim.specs.Tracing.{traced_states}
+use Rattle.schedule_sim.specs.Living.{IsLife}
+
+-- No life is there, and whatever a stop leaves of the files stands for a front of the history, of at least so many commands.
+pub record IsClosed (w : World) (least : ℕ) (disk : Traced) : Type 0 where
+  pub life : w.life ≡ None
+  pub files : w.files ≡ now (traced_states disk)
+  pub reached : least ≤ length w.history
+  pub stops : StopsStand (whole w.history) least (length w.history) w.files
+
+abbrev pub IsDurable : ℕ → Option Life → Type 0
+IsDurable least None = ⊥
+IsDurable least (Some l) = least ≡ l.durable
+
+-- The store stands as the world says; in a life the count is the durable one.
+abbrev pub IsStore : World → ℕ → Store → Type 0
+IsStore w least (Closed disk) = IsClosed w least disk
+IsStore w least (Open life) = IsLife w life × IsDurable least w.life
+
+-- between lives the count stays, also from the life that ends
+abbrev pub IsNext : ℕ → ℕ → Option Life → Type 0
+IsNext least next None = next ≡ least
+IsNext least next (Some l) = Unit {0}
+
+-- The outcome meets the case of the event; a reply that it releases is one thread's, an opening finds a front of the history and is refused only
+-- as it may be; and the store stands as the world then says.
+pub record DidStore (w : World) (least : ℕ) (e : Event) (x : Outcome) (store : Store) : Type 0 where
+  pub found : Opened
+  pub meets : Meets w found e x
+  pub answers : AnswersLegally w e x
+  pub front : OpensFront w least found x
+  pub opens : OpensWell (e, x)
+  pub next : ℕ
+  pub next_is : IsNext least next (after w found e x).life
+  pub stands : IsStore (after w found e x) next store
+
+-- ---- a life begins
+
+-- The world has a life that was just begun, with what was found; the keeper was opened over its files, and these are the parts of its map.
+pub record IsOpening (w : World) (stripes : ℕ) (found : Opened) (keeper : Keeper Traced) (parts : List PartState) : Type 0 where
+  pub life : w.life ≡ Some (begun_by stripes found)
+  pub files : w.files ≡ now (traced_states keeper.disk)
+  pub long : length w.history ≡ prefix_of found
+  pub map : map_of found ≡ fold_of w.history
+  pub divided : IsDivided stripes (map_of found) parts
+  pub sealed : keeper.sealed ≡ found.checkpoint.generation
+  pub log : GoesOnFrom (newest_of found) keeper.log
+
+-- ---- a life ends
+
+-- The files are those of the disk, and whatever a stop leaves of them stands for a front of the history, of at least so many commands.
+pub record LiesOn (w : World) (least : ℕ) (disk : Traced) : Type 0 where
+  pub files : w.files ≡ now (traced_states disk)
+  pub reached : least ≤ length w.history
+  pub stops : StopsStand (whole w.history) least (length w.history) w.files
+
+-- A stop falls within this call of the life: the disk is as the call leaves it then, and whatever a stop leaves of that stands for a front of the
+-- history, of no fewer commands than the durable count.
+pub record IsInterrupted (w : World) (call : DeviceCall) (disk : Traced) : Type 0 where
+  pub possible : IsPossible w.files call
+  pub state : now (traced_states disk) ≡ entered call w.files
+  pub stops : (l : Life) → w.life ≡ Some l → StopsStand (whole w.history) l.durable (length w.history) (now (traced_states disk))

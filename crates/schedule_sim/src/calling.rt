@@ -1,0 +1,167 @@
+//! The device calls of a life's keeper.
+ghost use Rattle.std.specs.Prelude.{◌≡◌, Some, None, false, true, IfOk};
+ghost use Rattle.schedules.specs.World.{World};
+ghost use Rattle.schedules.specs.Fitting.{fits};
+ghost use Rattle.schedules.specs.declared.event.Event.TheVariants as event;
+ghost use Rattle.schedules.specs.declared.event.Side.TheVariants as sides;
+ghost use Rattle.disk_model.specs.declared.fill.Fill.{Fill as TheFill};
+ghost use Rattle.schedule_sim.specs.Calling.{MayCall, is_due};
+ghost use Rattle.schedule_sim.specs.Living.{Did, IsLife};
+ghost use Rattle.schedule_sim.specs.Storing.{IsInterrupted};
+
+use crate::life::Life;
+use crate::traced::Traced;
+use checkpoint_file::CheckpointPhase;
+use checkpoint_walk::advance;
+use disk_model::Fill;
+use gate_log::Phase;
+use keeper_states::laws::{laws_of_checkpoint_calls, laws_of_log_calls, laws_of_telling};
+use map_types::Refusal;
+use schedule_states::laws::steps_of_the_keeper;
+use schedules::laws::{laws_of_files, laws_of_known_histories};
+use schedules::{DeviceCall, Ending, Outcome, Side};
+use std::alloc::AllocError;
+
+impl Life {
+    // Whether a device call of this side is to be made.
+    fn has_call(&self, side: Side) -> bool
+        ensures { result ≡ is_due side self.now.keeper }
+    {
+        match side {
+            Side::Log => self.has_log_call(),
+            Side::Checkpoint => self.has_checkpoint_call(),
+        }
+    }
+
+    fn has_log_call(&self) -> bool
+        ensures { result ≡ is_due sides.Log self.now.keeper }
+    {
+        match &self.keeper.next {
+            Some(next) if matches!(next.phase(), Phase::Header | Phase::HeaderWritten) => true,
+            _ => self.keeper.log.phase() != Phase::Idle,
+        }
+    }
+
+    fn has_checkpoint_call(&self) -> bool
+        ensures { result ≡ is_due sides.Checkpoint self.now.keeper }
+    {
+        match &self.keeper.checkpoint {
+            Some(writer) if self.keeper.next.is_none() => !matches!(
+                writer.phase(),
+                CheckpointPhase::Idle | CheckpointPhase::Ready | CheckpointPhase::Sealed
+            ),
+            _ => false,
+        }
+    }
+
+    /// Whether the next device call of this side can be made now.
+    pub(crate) fn may_call(&self, side: Side) -> bool
+        ensures told { (w : World) (fill : TheFill) → IsLife w self.now → result ≡ fits w (event.Stop (Some side) fill) }
+        ensures no_capture { result ≡ true → self.now.keeper.capture ≡ None }
+    {
+        laws_of_telling::<Traced>();
+        !self.keeper.is_walking() && !self.keeper.is_broken && self.has_call(side)
+    }
+
+    // The logs make their next device call. No contract of a disk tells which of its calls failed, so
+    // this asks the disk's note; the paths with no note are taken only where memory was missing.
+    fn call_log(&mut self, ending: &Ending) -> Result<Outcome, AllocError>
+        requires life { (w : World) × IsLife w self.old }
+        requires may { MayCall sides.Log self.old.keeper }
+        ensures { IfOk result (λ x. (w : World) → IsLife w self.old → Did w (event.Device sides.Log ending.now) x self.new) }
+    {
+        laws_of_telling::<Traced>();
+        laws_of_log_calls::<Traced>();
+        steps_of_the_keeper();
+        match ending {
+            Ending::Done => {
+                self.keeper.disk.plan_none();
+                let Ok(phase) = self.keeper.advance() else {
+                    return Err(AllocError);
+                };
+                let call = self.keeper.disk.take_made().ok_or(AllocError)?;
+                Ok(Outcome::Logged { call, phase })
+            }
+            Ending::Fails(fill) => {
+                self.keeper.disk.plan(0, fill)?;
+                if self.keeper.advance().is_ok() {
+                    return Err(AllocError);
+                }
+                let call = self.keeper.disk.take_lost(fill).ok_or(AllocError)?;
+                Ok(Outcome::CallFailed { call })
+            }
+        }
+    }
+
+    // The checkpoint makes its next device call, with the disk's note as there.
+    fn call_checkpoint(&mut self, ending: &Ending) -> Result<Outcome, AllocError>
+        requires life { (w : World) × IsLife w self.old }
+        requires may { MayCall sides.Checkpoint self.old.keeper }
+        ensures { IfOk result (λ x. (w : World) → IsLife w self.old → Did w (event.Device sides.Checkpoint ending.now) x self.new) }
+    {
+        laws_of_telling::<Traced>();
+        laws_of_checkpoint_calls::<Traced>();
+        steps_of_the_keeper();
+        match ending {
+            Ending::Done => {
+                self.keeper.disk.plan_none();
+                let Ok(phase) = advance(&mut self.keeper) else {
+                    return Err(AllocError);
+                };
+                let call = self.keeper.disk.take_made().ok_or(AllocError)?;
+                Ok(Outcome::Checkpointed { call, phase })
+            }
+            Ending::Fails(fill) => {
+                self.keeper.disk.plan(0, fill)?;
+                if advance(&mut self.keeper).is_ok() {
+                    return Err(AllocError);
+                }
+                let call = self.keeper.disk.take_lost(fill).ok_or(AllocError)?;
+                Ok(Outcome::CallFailed { call })
+            }
+        }
+    }
+
+    /// One of the keeper's writers makes its next device call.
+    pub(crate) fn call_device(&mut self, side: Side, ending: &Ending) -> Result<Outcome, AllocError>
+        requires { (w : World) × IsLife w self.old }
+        ensures { IfOk result (λ x. (w : World) → IsLife w self.old → Did w (event.Device side ending.now) x self.new) }
+    {
+        laws_of_telling::<Traced>();
+        laws_of_log_calls::<Traced>();
+        if self.keeper.is_walking() {
+            return Ok(Outcome::Skipped);
+        }
+        if self.keeper.is_broken {
+            return Ok(Outcome::Refused(Refusal::Failed));
+        }
+        if !self.has_call(side) {
+            return Ok(Outcome::Skipped);
+        }
+        match side {
+            Side::Log => self.call_log(ending),
+            Side::Checkpoint => self.call_checkpoint(ending),
+        }
+    }
+
+    /// Has the machine stop within the next device call of this side: the call is made, as one that
+    /// fails, with all that it was to write pending.
+    pub(crate) fn interrupt(&mut self, side: Side) -> Result<DeviceCall, AllocError>
+        requires life { (w : World) × (fill : TheFill) × IsLife w self.old × (fits w (event.Stop (Some side) fill) ≡ true) }
+        ensures { IfOk result (λ call. (w : World) → IsLife w self.old → IsInterrupted w call self.new.keeper.disk) }
+    {
+        laws_of_telling::<Traced>();
+        laws_of_known_histories();
+        laws_of_files();
+        self.keeper.disk.plan(0, &Fill::New)?;
+        match side {
+            Side::Log => {
+                let _ = self.keeper.advance();
+            }
+            Side::Checkpoint => {
+                let _ = advance(&mut self.keeper);
+            }
+        }
+        self.keeper.disk.take_lost(&Fill::New).ok_or(AllocError)
+    }
+}
