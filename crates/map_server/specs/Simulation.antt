@@ -4,6 +4,7 @@ use Rattle.std.specs.List.{flat_map}
 use Rattle.schedules.specs.declared.event.Event.{Event}
 use Rattle.schedules.specs.declared.event.Event.TheVariants as event
 use Rattle.schedules.specs.declared.outcome.Outcome.{Outcome}
+use Rattle.schedules.specs.Runs.{IsRun}
 use Rattle.schedule_script.specs.declared.bad_line.ScriptError.{ScriptError}
 use Rattle.schedule_script.specs.declared.bad_line.ScriptError.TheVariants.{Bad, NoMemory}
 use Rattle.schedule_script.specs.declared.line.Line.{Line}
@@ -15,21 +16,17 @@ use Rattle.map_server.specs.Directory.{Prints, PrintsNothing}
 abbrev pub Text : Type 0
 Text = List ℕ
 
--- these outcomes were played of the events
-abbrev pub IsPlayed : List Event → List Outcome → Type 0
-IsPlayed events outcomes = length outcomes ≡ length events
-
 -- each event is as it was, or has become a step of a worker that there isn't
 pub record KeepsOrTakesBack (old new : List Event) : Type 0 where
   pub count : length new ≡ length old
   pub each : (place : ℕ) → (slice_get new place ≡ slice_get old place) ⊎ (slice_get new place ≡ Some (event.Step 64))
 
--- The events of the lines were played, but for steps that were taken back, and the text tells what came of each line.
+-- The outcomes are those of a run of the lines' events, but for steps that were taken back, and the text tells what came of each line.
 pub record IsTold (lines : List Line) (text : Text) : Type 0 where
   pub events : List Event
   pub outcomes : List Outcome
   pub are_of : KeepsOrTakesBack (flat_map (events_of (most_stripes lines)) lines) events
-  pub played : IsPlayed events outcomes
+  pub played : IsRun events outcomes
   pub told : IsScriptText 1 (map (span_of (most_stripes lines)) lines) outcomes text
 
 abbrev pub TellsScript : Result (List Line) Fault → Text → Type 0

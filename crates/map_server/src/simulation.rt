@@ -1,7 +1,8 @@
 //! The script of a whole schedule is played on a disk in memory, and what came of its lines is printed.
 ghost use Rattle.std.specs.Prelude.{◌≡◌, IfOk, IfErr, string_bytes};
+ghost use Rattle.schedules.specs.Runs.{IsRun};
 ghost use Rattle.schedule_script.specs.Scripts.{script_of, Reads};
-ghost use Rattle.map_server.specs.Simulation.{IsTold, IsPlayed, KeepsOrTakesBack, Simulates, SimulatesText, TellsOrFails};
+ghost use Rattle.map_server.specs.Simulation.{IsTold, KeepsOrTakesBack, Simulates, SimulatesText, TellsOrFails};
 
 use crate::directory::{cannot_open, print};
 use crate::exits::{MISUSED, refuse, say};
@@ -19,7 +20,7 @@ use std::{fs, io};
 /// taken back first. So each line makes the steps of its own walk alone.
 #[tactic(auto, using(crate::proofs::Playing::kept, crate::proofs::Playing::taken_back, crate::proofs::Playing::not_taken, crate::proofs::Playing::and_then))]
 fn play(alloc: Global, script: &mut Script) -> Result<Vec<Outcome>, AllocError>
-    ensures played { IfOk result (λ outcomes. IsPlayed script.new.events.items outcomes.items) }
+    ensures played { IfOk result (λ outcomes. IsRun script.new.events.items outcomes.items) }
     ensures events { KeepsOrTakesBack script.old.events.items script.new.events.items }
     ensures spans { script.new.spans ≡ script.old.spans }
 {
