@@ -54,6 +54,9 @@ impl Model for Past {
     ghost also_owns = { λ _. ftrue };
 }
 
+// It owns nothing.
+unsafe impl Send for Past {}
+
 impl Past {
     pub(crate) fn new() -> Past
         ensures { result.events ≡ [] }

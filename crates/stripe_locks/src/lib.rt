@@ -5,6 +5,7 @@ mod beginning;
 mod board;
 mod calls;
 mod fronts;
+mod parking;
 mod plays;
 mod rule;
 mod starts;

@@ -5,6 +5,7 @@ ghost use Rattle.one_history.specs.Turns.{opening_of};
 ghost use Rattle.one_history.specs.OneHistory.{AreParts};
 ghost use Rattle.stripe_locks.specs.Placed.{AreStored};
 ghost use Rattle.stripe_locks.specs.Passes.{recorded, stripe_count, begun_with, IsPassOf, Joins};
+ghost use Rattle.stripe_locks.specs.Plays.{joining};
 
 use crate::beginning::Beginning;
 use crate::plays::{Enroll, Sit};
@@ -111,6 +112,20 @@ impl Stripes {
             passes = now;
         }
         Err(Refusal::SeatsSpent)
+    }
+
+    /// The keeper's pass, which is the first of these stripes; refused with `SeatsSpent` where another
+    /// has joined before it.
+    pub fn keeper_pass(&self) -> Result<Pass, Refusal>
+        ensures own { IfOk result (λ pass. IsPassOf self.now pass) }
+        ensures first { IfOk result (λ pass. recorded pass ≡ joining (begun_with self.now) 0) }
+        ensures err { IfErr result (λ refusal. refusal ≡ Refusal.SeatsSpent) }
+    {
+        let pass = self.pass()?;
+        if !pass.is_keeper() {
+            return Err(Refusal::SeatsSpent);
+        }
+        Ok(pass)
     }
 }
 

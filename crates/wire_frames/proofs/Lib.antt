@@ -2,3 +2,5 @@ pub mod Sent
 pub mod Division
 pub mod Feeding
 pub mod Asked
+pub mod Answered
+pub mod Received

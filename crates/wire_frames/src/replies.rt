@@ -12,16 +12,16 @@ use map_types::{FuncError, Refusal, Reply, Value};
 use std::io;
 use std::io::Write;
 
-const WAS: u8 = 0;
+pub(crate) const WAS: u8 = 0;
 
-const NOW: u8 = 1;
+pub(crate) const NOW: u8 = 1;
 
-const DID: u8 = 2;
+pub(crate) const DID: u8 = 2;
 
-const FAULT: u8 = 3;
+pub(crate) const FAULT: u8 = 3;
 
 /// The status of a refusal is this and its number.
-const REFUSED: u8 = 128;
+pub(crate) const REFUSED: u8 = 128;
 
 /// One write of at least a byte, tried again where it was interrupted.
 #[tactic(auto, using(crate::proofs::Sent::keeps_appends))]

@@ -1,5 +1,7 @@
-use crate::{Feeder, Request, write_reply};
-use map_types::{FuncError, Question, Read, Refusal, Reply, Value};
+use crate::{
+    AnswerError, Feeder, ReplyError, Request, read_answer, read_reply, request_frame, write_reply,
+};
+use map_types::{Change, Command, FuncError, Key, Question, Read, Refusal, Reply, Value};
 use std::io;
 use std::io::Write;
 use std::test::Fail;
@@ -191,4 +193,130 @@ fn writers_that_halt(rt: HostRuntime) -> Result<(), Fail> {
         assert_eq!(rt; writer.taken.as_slice(), &whole[..room]);
     }
     Ok(())
+}
+
+#[test]
+fn requests_in_bytes(rt: HostRuntime) -> Result<(), Fail> {
+    let alloc = rt.alloc();
+    let get = Request::Read(Read {
+        key: Key::new(alloc, "a")?,
+        question: Question::Get,
+    });
+    assert_eq!(rt;
+        request_frame(alloc, &get)?.as_slice(),
+        b"\x00\x03\x01\x01a".as_slice()
+    );
+    let get_or_default = Request::Read(Read {
+        key: Key::new(alloc, "a")?,
+        question: Question::GetOrDefault(Value::text(alloc, "hi")?),
+    });
+    assert_eq!(rt;
+        request_frame(alloc, &get_or_default)?.as_slice(),
+        b"\x00\x08\x02\x01a\x02\x00\x02hi".as_slice()
+    );
+    let put = Request::Change(Command {
+        key: Key::new(alloc, "a")?,
+        change: Change::Put(Value::Int(5)),
+    });
+    assert_eq!(rt; request_frame(alloc, &put)?.as_slice(), PUT);
+    Ok(())
+}
+
+#[test]
+fn replies_are_read(rt: HostRuntime) -> Result<(), Fail> {
+    let alloc = rt.alloc();
+    let hi = Value::text(alloc, "hi")?;
+    let replies: [(&[u8], Result<Reply, Refusal>); 7] = [
+        (b"\x00\x06\x00\x02\x00\x02hi", Ok(Reply::Was(Some(hi)))),
+        (b"\x00\x02\x01\x00", Ok(Reply::Now(None))),
+        (
+            b"\x00\x0A\x01\x01\x00\x00\x00\x00\x00\x00\x00\x05",
+            Ok(Reply::Now(Some(Value::Int(5)))),
+        ),
+        (
+            b"\x00\x0A\x02\x01\x00\x00\x00\x00\x00\x00\x00\x01",
+            Ok(Reply::Did(true)),
+        ),
+        (
+            b"\x00\x0A\x03\x01\x00\x00\x00\x00\x00\x00\x00\x02",
+            Ok(Reply::Fault(FuncError::TooLong)),
+        ),
+        (b"\x00\x02\x84\x00", Err(Refusal::UnknownMethod)),
+        (b"\x00\x02\x93\x00", Err(Refusal::SeatsSpent)),
+    ];
+    for (bytes, reply) in replies {
+        let mut reader = bytes;
+        assert_eq!(rt; read_reply(alloc, &mut reader)?, reply, "{bytes:?}");
+        assert!(rt; reader.is_empty());
+        for len in 0..bytes.len() {
+            let mut reader = &bytes[..len];
+            assert!(rt; matches!(read_reply(alloc, &mut reader), Err(ReplyError::Ended)));
+        }
+    }
+    Ok(())
+}
+
+#[test]
+fn bytes_that_are_no_reply(rt: HostRuntime) {
+    let bodies: [&[u8]; 9] = [
+        b"",
+        b"\x00",
+        b"\x04\x00",
+        b"\x02\x01\x00\x00\x00\x00\x00\x00\x00\x02",
+        b"\x03\x01\x00\x00\x00\x00\x00\x00\x00\x00",
+        b"\x84\x00\x00",
+        b"\x84\x01\x00\x00\x00\x00\x00\x00\x00\x00",
+        b"\x88\x00",
+        b"\x80\x00",
+    ];
+    for body in bodies {
+        assert!(rt;
+            matches!(read_answer(rt.alloc(), body), Err(AnswerError::NotAReply)),
+            "{body:?}"
+        );
+    }
+}
+
+/// A reader that is interrupted at every other read, gives a byte at a time, and fails at the end.
+#[derive(Drop)]
+struct Dripping<'a> {
+    interrupts: bool,
+    left: &'a [u8],
+}
+
+impl io::Read for Dripping<'_> {
+    fn read(&mut self, buf: &mut [u8]) -> io::Result<usize> {
+        self.interrupts = !self.interrupts;
+        if self.interrupts {
+            return Err(io::Error::from(io::ErrorKind::Interrupted));
+        }
+        let Some((first, rest)) = self.left.split_first() else {
+            return Err(io::Error::from(io::ErrorKind::ConnectionReset));
+        };
+        if buf.is_empty() {
+            return Ok(0);
+        }
+        buf[0] = *first;
+        self.left = rest;
+        Ok(1)
+    }
+}
+
+#[test]
+fn readers_that_halt(rt: HostRuntime) {
+    let alloc = rt.alloc();
+    let whole: &[u8] = b"\x00\x06\x01\x02\x00\x02hi";
+    for len in 0..=whole.len() {
+        let mut reader = Dripping {
+            interrupts: false,
+            left: &whole[..len],
+        };
+        let read = read_reply(alloc, &mut reader);
+        if len == whole.len() {
+            assert!(rt; matches!(read, Ok(Ok(Reply::Now(Some(_))))));
+        } else {
+            assert!(rt; matches!(read, Err(ReplyError::Reader(_))), "{len}");
+        }
+        assert!(rt; reader.left.is_empty());
+    }
 }

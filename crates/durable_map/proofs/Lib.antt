@@ -1,0 +1,6 @@
+mod Growing
+mod Answering
+mod Refusing
+mod Beginning
+mod Kept
+mod Captured

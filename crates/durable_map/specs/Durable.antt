@@ -1,0 +1,93 @@
+-- What a call leaves of the record of its pass that answers once its position is durable.
+use Rattle.std.specs.Prelude.{◌≡◌, ◌⊎◌, ℕ, ◌<◌, ◌≤◌, List, [], ◌∷◌, ◌++◌, false, Result, Ok, Err}
+use Rattle.map_types.specs.declared.commands.Reply.{Reply}
+use Rattle.map_types.specs.declared.refusals.Refusal.{Refusal}
+use Rattle.map_types.specs.declared.refusals.Refusal.TheVariants.{Failed, NoMemory, TicketsSpent}
+use Rattle.java_hash.specs.Stripes.{stripe_of}
+use Rattle.ticket_order.specs.declared.held.Held.{Held}
+use Rattle.ticket_order.specs.declared.record.Asked.{Asked}
+use Rattle.ticket_order.specs.declared.record.Asked.TheVariants.{Changing, Reading}
+use Rattle.ticket_order.specs.declared.record.Record.{Record}
+use Rattle.ticket_order.specs.declared.record.StepMade.{StepMade}
+use Rattle.ticket_order.specs.declared.record.StepMade.TheVariants.{FoundAlive, Looked, Saw}
+use Rattle.ticket_order.specs.Records.{call, reach, ticket_limit}
+use Rattle.ticket_order.specs.Calls.{MakesCall, MakesRead, RefusesChange, RefusesRead}
+use Rattle.ticket_order.specs.Legality.{IsLegal, history_of}
+use Rattle.one_history.specs.OneHistory.{Follows}
+use Rattle.flusher.specs.Fitting.{HasSeenMore}
+
+-- the record grew by these steps
+abbrev pub GrewBy : Record → List StepMade → Record → Type 0
+GrewBy v made w = w.steps ≡ v.steps ++ made
+
+-- The pass made steps that add no call, and took no stripe.
+pub record MakesNoCall (v w : Record) : Type 0 where
+  pub opening : w.opening ≡ v.opening
+  pub calls : w.calls ≡ v.calls
+  pub holding : w.holding ≡ v.holding
+  pub seen : HasSeenMore v w
+  pub made : List StepMade
+  pub steps : GrewBy v made w
+
+-- the last step that was made is a SEE that reached the position
+pub record EndsDurable (v : Record) (position : ℕ) (w : Record) : Type 0 where
+  pub before : List StepMade
+  pub durable : ℕ
+  pub steps : GrewBy v (before ++ Saw durable ∷ []) w
+  pub reached : position ≤ durable
+
+-- an ALIVE that was made said no
+pub record FoundFailure (v w : Record) : Type 0 where
+  pub before : List StepMade
+  pub after : List StepMade
+  pub steps : GrewBy v (before ++ FoundAlive false ∷ after) w
+
+-- a LOOK that was made found the tickets spent
+pub record FoundSpent (v w : Record) : Type 0 where
+  pub before : List StepMade
+  pub after : List StepMade
+  pub count : ℕ
+  pub steps : GrewBy v (before ++ Looked count ∷ after) w
+  pub spent : ticket_limit ≤ count
+
+-- this call alone was added
+abbrev pub GrewByCall : Record → ℕ → Asked → Reply → Record → Type 0
+GrewByCall v position asked reply w = w.calls ≡ v.calls ++ call position asked reply ∷ []
+
+-- The record grew by this call alone: a change's position is past all that the pass had seen, and a read's is no less; the reply is legal there,
+-- and the position was durable when the call answered.
+pub record AnswersCall (v : Record) (asked : Asked) (reply : Reply) (w : Record) : Type 0 where
+  pub position : ℕ
+  pub grew : GrewByCall v position asked reply w
+  pub later : Follows (reach v) asked position
+  pub legal : IsLegal (history_of w) position asked reply
+  pub durable : EndsDurable v position w
+
+-- no call was added, or this one alone
+abbrev pub GrewAtMost : Record → Asked → Record → Type 0
+GrewAtMost v asked w = (w.calls ≡ v.calls) ⊎ ((position : ℕ) × (reply : Reply) × GrewByCall v position asked reply w)
+
+-- whether a call may be refused because the tickets are spent
+abbrev pub DrawsTicket : Asked → Type 0
+DrawsTicket (Changing command) = Unit {0}
+DrawsTicket (Reading read) = ⊥
+
+-- What a refused call leaves. Its stripe was never the cause. After `Failed` an ALIVE of this call said no, and the call was made or not; after any
+-- other refusal no call was added.
+abbrev pub RefusesCall : Record → Asked → Refusal → Record → Type 0
+RefusesCall v asked NoMemory w = w.calls ≡ v.calls
+RefusesCall v asked TicketsSpent w = DrawsTicket asked × FoundSpent v w × (w.calls ≡ v.calls)
+RefusesCall v asked Failed w = FoundFailure v w × GrewAtMost v asked w
+RefusesCall v asked other w = ⊥
+
+-- what a call leaves, by its answer
+abbrev pub Completes : Record → Asked → Result Reply Refusal → Record → Type 0
+Completes v asked (Ok reply) w = AnswersCall v asked reply w
+Completes v asked (Err refusal) w = RefusesCall v asked refusal w
+
+-- what a try of a call over n stripes leaves, by its answer
+abbrev pub Tries : ℕ → Record → Asked → Result Held Refusal → Record → Type 0
+Tries n v (Changing command) (Ok held) w = MakesCall n v command held.position held.reply w
+Tries n v (Changing command) (Err refusal) w = RefusesChange v (stripe_of n command.key) refusal w
+Tries n v (Reading read) (Ok held) w = MakesRead n v read held.position held.reply w
+Tries n v (Reading read) (Err refusal) w = RefusesRead v (stripe_of n read.key) refusal w

@@ -1,0 +1,25 @@
+-- What callers see of a running map.
+use Rattle.std.specs.Prelude.{◌≡◌, ℕ, None}
+use Rattle.std.specs.Arc.{arc_value}
+use Rattle.ticket_order.specs.declared.record.Opening.{Opening}
+use Rattle.stripe_locks.specs.Passes as shared
+use Rattle.stripe_locks.specs.Passes.{begun_with, recorded}
+use Rattle.stripe_locks.specs.declared.rule.Pass.{Pass}
+use Rattle.durable_map.specs.declared.map.DurableMap.{DurableMap}
+
+-- how many stripes it has
+abbrev pub stripe_count : {D : Type 0} → DurableMap D → ℕ
+stripe_count map = shared.stripe_count (arc_value map.stripes)
+
+-- where its history begins
+abbrev pub opening_of : {D : Type 0} → DurableMap D → Opening
+opening_of map = begun_with (arc_value map.stripes)
+
+-- the pass comes from this map
+abbrev pub IsPassOf : {D : Type 0} → DurableMap D → Pass → Type 0
+IsPassOf map pass = shared.IsPassOf (arc_value map.stripes) pass
+
+-- it does, and holds no stripe
+pub record IsReady {D : Type 0} (map : DurableMap D) (pass : Pass) : Type 0 where
+  pub own : IsPassOf map pass
+  pub free : (recorded pass).holding ≡ None

@@ -1,0 +1,203 @@
+//! The keeper, its pass and the shared stripes, one value under one lock.
+ghost use Rattle.std.specs.Prelude.{◌≡◌, ◌<◌, ◌≤◌, ℕ, List, None, Some, false};
+ghost use Rattle.std.specs.Arc.{arc_value};
+ghost use Rattle.map_types.specs.declared.commands.Command.{Command};
+ghost use Rattle.ticket_order.specs.declared.record.Record.{Record};
+ghost use Rattle.stripe_locks.specs.Passes.{recorded, stripe_count, IsPassOf};
+ghost use Rattle.durable_map.specs.Keeping.{Keeps};
+
+use crate::keeping::{capture, what_is_kept};
+use checkpoint_file::CheckpointPhase;
+use checkpoint_walk::{begin, seal};
+use disk_model::Disk;
+use flusher::Keeper;
+use map_types::Refusal;
+use std::alloc::Global;
+use std::marker::Model;
+use std::sync::Arc;
+use stripe_locks::{Pass, Stripes};
+
+/// The longest batch.
+const MOST_COMMANDS: u32 = 65_536;
+
+/// What a turn of a loop came to.
+#[derive(Clone, Copy, Debug, PartialEq, Eq)]
+pub(crate) enum Turn {
+    /// Something was done, and there may be more to do.
+    Worked,
+    /// There was nothing to do.
+    Rested,
+}
+
+/// The keeper with its pass. It holds no stripe between its calls; each of them makes at most one
+/// device call.
+#[derive(Drop)]
+pub(crate) struct Desk<D: Disk> {
+    stripes: Arc<Stripes, Global>,
+    keeper: Keeper<D>,
+    pass: Pass,
+}
+
+impl<D: Disk> Model for Desk<D> {
+    ghost use Rattle.std.specs.Arc.{arc_value};
+    ghost use Rattle.ticket_order.specs.declared.record.Record.{Record};
+    ghost use Rattle.ticket_order.specs.contracts.record.Record as record_type;
+    ghost use Rattle.stripe_locks.specs.Passes.{recorded, stripe_count, IsPassOf};
+    ghost use Rattle.durable_map.specs.Keeping.{Keeps};
+
+    ghost Value = { Record };
+
+    ghost coded = { record_type.the_row.coded };
+
+    ghost view = { λ desk. recorded desk.pass };
+
+    ghost invariant = { λ desk. IsPassOf (arc_value desk.stripes) desk.pass
+        × Keeps D.states D.honest (stripe_count (arc_value desk.stripes)) desk.keeper (recorded desk.pass) };
+}
+
+impl<D: Disk> Desk<D> {
+    /// The keeper of a directory that was opened, with the keeper's pass of these stripes.
+    pub(crate) fn new(stripes: Arc<Stripes, Global>, keeper: Keeper<D>, pass: Pass) -> Desk<D>
+        requires own { IsPassOf (arc_value stripes) pass }
+        requires keeps { Keeps D.states D.honest (stripe_count (arc_value stripes)) keeper (recorded pass) }
+        ensures { result ≡ recorded pass }
+    {
+        Desk {
+            stripes,
+            keeper,
+            pass,
+        }
+    }
+
+    /// How many commands are committed.
+    pub(crate) fn committed(&self) -> u64 {
+        self.keeper.committed()
+    }
+
+    // Takes the entries of a stripe, unless another pass holds it or no memory is found.
+    fn sweep(&mut self, stripe: usize) {
+        if stripe >= self.stripes.stripes().get() {
+            return;
+        }
+        let mut steps = self.stripes.at(&mut self.pass);
+        let _swept = self.keeper.try_sweep(stripe, &mut steps);
+        what_is_kept(&self.keeper);
+    }
+
+    // Takes the entries of each stripe that no other pass holds.
+    fn gather(&mut self) {
+        for stripe in 0..self.stripes.stripes().get() {
+            self.sweep(stripe);
+        }
+    }
+
+    // Stages the longest batch of what is in hand, and answers its length.
+    fn stage(&mut self) -> Result<u32, Refusal> {
+        let staged = self.keeper.stage_batch(MOST_COMMANDS);
+        what_is_kept(&self.keeper);
+        staged
+    }
+
+    // Makes the device call that is due in the logs.
+    fn advance_logs(&mut self) -> Result<(), Refusal> {
+        let stepped = self.keeper.advance();
+        what_is_kept(&self.keeper);
+        let _phase = stepped?;
+        Ok(())
+    }
+
+    // Whether no device call is due in the logs.
+    fn is_resting(&self) -> bool {
+        self.keeper.log.is_resting() && self.keeper.next.is_none()
+    }
+
+    // DURABLE with the committed count, and wakes those who wait for it.
+    fn publish(&mut self) {
+        let mut steps = self.stripes.at(&mut self.pass);
+        self.keeper.publish(&mut steps);
+        what_is_kept(&self.keeper);
+        self.stripes.wake_released();
+    }
+
+    /// FAIL, and wakes those who wait for their positions.
+    pub(crate) fn fail(&mut self) {
+        let mut steps = self.stripes.at(&mut self.pass);
+        self.keeper.fail(&mut steps);
+        what_is_kept(&self.keeper);
+        self.stripes.wake_released();
+    }
+
+    /// A turn of the log: where no device call is due, it takes what the stripes have and stages a
+    /// batch; else it makes the call, and publishes what that committed.
+    pub(crate) fn flush(&mut self) -> Result<Turn, Refusal> {
+        if self.is_resting() {
+            self.gather();
+            let count = self.stage()?;
+            let turn = if count == 0 {
+                Turn::Rested
+            } else {
+                Turn::Worked
+            };
+            return Ok(turn);
+        }
+        self.advance_logs()?;
+        if self.is_resting() {
+            self.publish();
+        }
+        Ok(Turn::Worked)
+    }
+
+    // Begins a checkpoint where the newest log has at least so many bytes.
+    fn begin_checkpoint(&mut self, bytes: u64) -> Result<Turn, Refusal> {
+        let length = self.keeper.log.gate() as u64 + 1;
+        if length < bytes {
+            return Ok(Turn::Rested);
+        }
+        let begun = begin(&mut self.keeper);
+        what_is_kept(&self.keeper);
+        begun?;
+        Ok(Turn::Worked)
+    }
+
+    // Gives the checkpoint the section of this stripe, which is the next.
+    fn capture(&mut self, stripe: usize) -> Result<Turn, Refusal> {
+        let mut steps = self.stripes.at(&mut self.pass);
+        let _mark = capture(&mut self.keeper, stripe, &mut steps)?;
+        Ok(Turn::Worked)
+    }
+
+    fn seal_checkpoint(&mut self) -> Result<Turn, Refusal> {
+        let sealed = seal(&mut self.keeper);
+        what_is_kept(&self.keeper);
+        sealed?;
+        Ok(Turn::Worked)
+    }
+
+    // Makes the device call that is due in the file of the checkpoint.
+    fn advance_checkpoint(&mut self) -> Result<Turn, Refusal> {
+        let stepped = checkpoint_walk::advance(&mut self.keeper);
+        what_is_kept(&self.keeper);
+        let _phase = stepped?;
+        Ok(Turn::Worked)
+    }
+
+    /// A turn of the checkpoints: where none runs, one is begun once the newest log has at least so many
+    /// bytes; else it makes the device call that is due in its file, captures its next stripe, or seals
+    /// it. While its log is begun it waits for the turns of the log.
+    pub(crate) fn checkpoint(&mut self, bytes: u64) -> Result<Turn, Refusal> {
+        let Some(writer) = &self.keeper.checkpoint else {
+            return self.begin_checkpoint(bytes);
+        };
+        if self.keeper.next.is_some() {
+            return Ok(Turn::Rested);
+        }
+        if writer.phase() != CheckpointPhase::Ready {
+            return self.advance_checkpoint();
+        }
+        let stripe = writer.count() as usize;
+        if stripe < writer.stripes().get() {
+            return self.capture(stripe);
+        }
+        self.seal_checkpoint()
+    }
+}

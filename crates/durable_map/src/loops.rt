@@ -1,0 +1,119 @@
+//! The loops that commit, and that write checkpoints, each on a thread of its own.
+
+use crate::desk::Turn;
+use crate::map::DurableMap;
+use crossbeam_utils::Backoff;
+use disk_model::Disk;
+use map_types::Refusal;
+use std::sync::Wait;
+use std::time::Duration;
+
+/// For how many milliseconds a loop sleeps before it tries again what was refused some times.
+const SHORT_SLEEP: u64 = 1;
+
+/// For how many milliseconds a loop of checkpoints sleeps where there is nothing to do.
+const LONG_SLEEP: u64 = 5;
+
+/// Says when a loop is to end.
+pub trait Ends {
+    fn has_ended(&self) -> bool;
+}
+
+// Whether the store can't go on after this refusal: a device call failed, or a file is full.
+fn is_final(refusal: Refusal) -> bool {
+    matches!(refusal, Refusal::Failed | Refusal::LogFull)
+}
+
+impl<D: Disk + Drop> DurableMap<D> {
+    fn fail<R: Wait>(&self, rt: &R) {
+        self.desk.lock(rt).fail();
+    }
+
+    // A turn of the log, with the count that is committed after it.
+    pub(crate) fn flush<R: Wait>(&self, rt: &R) -> (Result<Turn, Refusal>, u64) {
+        let mut desk = self.desk.lock(rt);
+        let turn = desk.flush();
+        (turn, desk.committed())
+    }
+
+    fn checkpoint<R: Wait>(&self, rt: &R, bytes: u64) -> Result<Turn, Refusal> {
+        self.desk.lock(rt).checkpoint(bytes)
+    }
+
+    // Returns after a moment, which grows with the number of turns in which nothing was done.
+    fn wait_a_moment<R: Wait>(&self, rt: &R, backoff: &Backoff) {
+        if backoff.is_completed() {
+            let moment = Duration::from_millis(SHORT_SLEEP);
+            self.stripes.sleep_until_failed(rt, moment);
+        } else {
+            backoff.snooze();
+        }
+    }
+
+    // Waits for changes behind the committed ones.
+    fn rest<R: Wait>(&self, rt: &R, backoff: &Backoff, committed: u64) {
+        self.wait_a_moment(rt, backoff);
+        self.stripes.sleep_until_changed(rt, committed);
+    }
+
+    // Waits until there may be something to write.
+    fn rest_long<R: Wait>(&self, rt: &R) {
+        let moment = Duration::from_millis(LONG_SLEEP);
+        self.stripes.sleep_until_failed(rt, moment);
+    }
+}
+
+/// Commits what the passes change, and publishes it, until `ends` says so. It holds the lock over one
+/// device call at most. Where a device call has failed, or the log is full, it makes a FAIL and ends:
+/// each later call is then refused with `Failed`. What it is refused for want of memory is tried again.
+pub fn flush_loop<D: Disk + Drop, E: Ends, R: Wait>(rt: &R, map: &DurableMap<D>, ends: &E) {
+    let backoff = Backoff::new();
+    for _turn in rt.forever() {
+        if ends.has_ended() {
+            return;
+        }
+        match map.flush(rt) {
+            (Ok(Turn::Worked), _) => backoff.reset(),
+            (Ok(Turn::Rested), committed) => map.rest(rt, &backoff, committed),
+            (Err(refusal), committed) => {
+                if is_final(refusal) {
+                    map.fail(rt);
+                    return;
+                }
+                map.rest(rt, &backoff, committed);
+            }
+        }
+    }
+    unreachable!()
+}
+
+/// Writes a checkpoint whenever the newest log has at least so many bytes, until `ends` says so. It holds
+/// the lock over one device call at most, so that batches are committed between its calls. It needs
+/// `flush_loop` on another thread. Where a device call has failed, or a stripe has too many entries for a
+/// checkpoint, it makes a FAIL and ends. What it is refused for want of memory, because a stripe is held,
+/// or because it comes too early, is tried again.
+pub fn checkpoint_loop<D: Disk + Drop, E: Ends, R: Wait>(
+    rt: &R,
+    map: &DurableMap<D>,
+    bytes: u64,
+    ends: &E,
+) {
+    let backoff = Backoff::new();
+    for _turn in rt.forever() {
+        if ends.has_ended() {
+            return;
+        }
+        match map.checkpoint(rt, bytes) {
+            Ok(Turn::Worked) => backoff.reset(),
+            Ok(Turn::Rested) => map.rest_long(rt),
+            Err(refusal) => {
+                if is_final(refusal) {
+                    map.fail(rt);
+                    return;
+                }
+                map.wait_a_moment(rt, &backoff);
+            }
+        }
+    }
+    unreachable!()
+}

@@ -1,0 +1,112 @@
+//! A running map.
+ghost use Rattle.std.specs.Prelude.{◌≡◌, ◌⊎◌, ℕ, None, [], IfOk, IfErr, IsTrue, ◌↔◌, ◌≤◌};
+ghost use Rattle.disk_model.specs.Files.{now};
+ghost use Rattle.ticket_order.specs.declared.record.Record.{Record};
+ghost use Rattle.ticket_order.specs.Records.{reach};
+ghost use Rattle.ticket_order.specs.StepRules.{Looks};
+ghost use Rattle.ticket_order.specs.Calls.{Releases};
+ghost use Rattle.one_history.specs.Turns as turns;
+ghost use Rattle.stripe_locks.specs.Passes.{recorded, IsSamePass, Joins};
+ghost use Rattle.flusher.specs.Fitting.{Fits, IsUnused};
+ghost use Rattle.recovery.specs.Opening.{IsAtStart};
+ghost use Rattle.recovery.specs.Dividing.{ArePartsOf};
+ghost use Rattle.durable_map.specs.Maps.{IsPassOf, IsReady, opening_of, stripe_count};
+
+use crate::desk::Desk;
+use crate::keeping::what_is_kept;
+use atomic_methods::Part;
+use disk_model::Disk;
+use flusher::Keeper;
+use map_types::Refusal;
+use std::alloc::Global;
+use std::sync::{Arc, Mutex};
+use stripe_locks::{Pass, Stripes};
+use ticket_order::{Held, Position, Released};
+
+/// A durable map that many threads share. Each makes its calls with a pass of its own. The replies come
+/// once `flush_loop`, on a thread of its own, has committed what they rest on.
+#[derive(Drop)]
+pub struct DurableMap<D: Disk + Drop> {
+    pub(crate) stripes: Arc<Stripes, Global>,
+    pub(crate) desk: Mutex<Desk<D>>,
+}
+
+impl<D: Disk + Drop> DurableMap<D> {
+    /// A map over what `open_parts` of `recovery` answers: the keeper of a directory, the parts of the
+    /// map that it stands for, and how many commands were made. Refused with `NoMemory`, or with
+    /// `SeatsSpent` where the keeper's pass can't be had; the disk is handed back.
+    pub fn new(
+        alloc: Global,
+        keeper: Keeper<D>,
+        parts: Vec<Part>,
+        first: u64,
+    ) -> Result<DurableMap<D>, (D, Refusal)>
+        requires start { IsAtStart keeper.stripes first keeper }
+        requires parts { ArePartsOf keeper.stripes.count parts.items }
+        requires fits { (p : Record) → p.opening ≡ turns.opening_of first parts.items → IsUnused first p → Fits D.states D.honest keeper.stripes.count [] keeper p }
+        ensures stripes { IfOk result (λ map. stripe_count map ≡ keeper.stripes.count) }
+        ensures opening { IfOk result (λ map. opening_of map ≡ turns.opening_of first parts.items) }
+        ensures disk { IfErr result (λ x. x.0 ≡ keeper.disk) }
+        ensures err { IfErr result (λ x. (x.1 ≡ Refusal.NoMemory) ⊎ (x.1 ≡ Refusal.SeatsSpent)) }
+    {
+        let stripes = match Stripes::new(alloc, keeper.stripes, parts, first) {
+            Ok(stripes) => stripes,
+            Err(refusal) => return Err((keeper.into_disk(), refusal)),
+        };
+        let pass = match stripes.keeper_pass() {
+            Ok(pass) => pass,
+            Err(refusal) => return Err((keeper.into_disk(), refusal)),
+        };
+        let Ok(stripes) = Arc::new(alloc, stripes) else {
+            return Err((keeper.into_disk(), Refusal::NoMemory));
+        };
+        let Ok(shared) = Arc::try_clone(&stripes) else {
+            return Err((keeper.into_disk(), Refusal::NoMemory));
+        };
+        what_is_kept(&keeper);
+        let desk = Desk::new(shared, keeper, pass);
+        Ok(DurableMap {
+            stripes,
+            desk: Mutex::new(desk),
+        })
+    }
+
+    /// A new pass, for one worker's calls. A pass isn't given back: where 4,095 were taken, the answer
+    /// is `SeatsSpent`.
+    pub fn pass(&self) -> Result<Pass, Refusal>
+        ensures ready { IfOk result (IsReady self.now) }
+        ensures joins { IfOk result (Joins (opening_of self.now)) }
+        ensures err { IfErr result (λ refusal. refusal ≡ Refusal.SeatsSpent) }
+    {
+        self.stripes.pass()
+    }
+
+    /// The count of tickets, by a LOOK.
+    pub fn look(&self, pass: &mut Pass) -> u64
+        requires { IsPassOf self.now pass.old }
+        ensures step { Looks (recorded pass.old) result (recorded pass.new) }
+        ensures same { IsSamePass pass.old pass.new }
+    {
+        self.stripes.look(pass)
+    }
+
+    /// Makes one LOOK, and says whether it reached the position. Where it did, the pass has seen the
+    /// position from then on.
+    pub fn learn(&self, pass: &mut Pass, position: Position) -> bool
+        requires { IsPassOf self.now pass.old }
+        ensures step { (count : ℕ) × Looks (recorded pass.old) count (recorded pass.new) }
+        ensures learned { IsTrue result ↔ (position ≤ reach (recorded pass.new)) }
+        ensures same { IsSamePass pass.old pass.new }
+    {
+        self.stripes.learn(pass, position)
+    }
+
+    /// Gives the reply out where its position is durable. It takes no memory and doesn't wait.
+    pub fn release(&self, pass: &mut Pass, held: Held) -> Released
+        requires { IsPassOf self.now pass.old }
+        ensures released { Releases held.position held.reply (recorded pass.old) result (recorded pass.new) }
+        ensures same { IsSamePass pass.old pass.new }
+    {
+        self.stripes.release(pass, held)
+    }
+}
