@@ -4,8 +4,6 @@
 mod calls;
 mod changes;
 mod desk;
-#[cfg(test)]
-mod directory_tests;
 mod keeping;
 mod loops;
 mod map;
