@@ -4,3 +4,4 @@ mod Refusing
 mod Beginning
 mod Kept
 mod Captured
+pub mod Crosses

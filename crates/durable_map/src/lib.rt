@@ -4,6 +4,8 @@
 mod calls;
 mod changes;
 mod desk;
+#[cfg(test)]
+mod directory_tests;
 mod keeping;
 mod loops;
 mod map;

@@ -1,6 +1,7 @@
-//! The calls of a running map, with the turns of its log between them.
+//! The calls of a running map, on threads beside its loops.
 ghost use Rattle.durable_map.specs.Maps.{IsReady};
 
+use crate::loops::{Ends, flush_loop};
 use crate::map::DurableMap;
 use disk_model::MemDisk;
 use java_hash::StripeCount;
@@ -9,8 +10,34 @@ use recovery::{format, open_parts};
 use std::alloc::Global;
 use std::process::Abort;
 use std::sync::Wait;
+use std::sync::atomic::{AtomicBool, Ordering};
+use std::thread::join;
 use stripe_locks::Pass;
 use ticket_order::{Held, Released};
+
+/// Ends the loops once a test has made its calls.
+#[derive(Drop)]
+pub(crate) struct Flag {
+    is_up: AtomicBool,
+}
+
+impl Flag {
+    pub(crate) fn new() -> Flag {
+        Flag {
+            is_up: AtomicBool::new(false),
+        }
+    }
+
+    pub(crate) fn raise(&self) {
+        self.is_up.store(true, Ordering::SeqCst);
+    }
+}
+
+impl Ends for Flag {
+    fn has_ended(&self) -> bool {
+        self.is_up.load(Ordering::SeqCst)
+    }
+}
 
 fn open<R: Abort>(rt: &R, alloc: Global, disk: MemDisk) -> Result<DurableMap<MemDisk>, Refusal> {
     let count = StripeCount::new(16).expect(rt, "16 is a count of stripes");
@@ -29,12 +56,75 @@ fn key(alloc: Global, text: &str) -> Result<Key, Refusal> {
     Key::new(alloc, text)
 }
 
+// The number that was there before.
+fn was(reply: Result<Reply, Refusal>) -> Option<i64> {
+    match reply {
+        Ok(Reply::Was(Some(Value::Int(number)))) => Some(number),
+        _ => None,
+    }
+}
+
 // The number that is there now.
 fn now(reply: Result<Reply, Refusal>) -> Option<i64> {
     match reply {
         Ok(Reply::Now(Some(Value::Int(number)))) => Some(number),
         _ => None,
     }
+}
+
+fn did(reply: Result<Reply, Refusal>) -> bool {
+    matches!(reply, Ok(Reply::Did(true)))
+}
+
+// Changes of one key, and what each answers.
+fn change_often<R: Wait>(
+    rt: &R,
+    map: &DurableMap<MemDisk>,
+    pass: &mut Pass,
+    alloc: Global,
+) -> Result<bool, Refusal>
+    requires { IsReady map.now pass.old }
+    ensures { IsReady map.now pass.new }
+{
+    let put = map.put(rt, pass, key(alloc, "a")?, Value::Int(5));
+    let added = map.put_if_absent(rt, pass, key(alloc, "a")?, Value::Int(7));
+    let replaced = map.replace(rt, pass, key(alloc, "a")?, Value::Int(6));
+    let old = Value::Int(6);
+    let swapped = map.replace_if(rt, pass, key(alloc, "a")?, old, Value::Int(8));
+    let removed = map.remove_if(rt, pass, key(alloc, "a")?, Value::Int(9));
+    Ok(
+        matches!(put, Ok(Reply::Was(None)))
+            && was(added) == Some(5)
+            && was(replaced) == Some(5)
+            && did(swapped)
+            && matches!(removed, Ok(Reply::Did(false))),
+    )
+}
+
+// Functions of one key, whose value is 8, and what each answers.
+fn compute_often<R: Wait>(
+    rt: &R,
+    map: &DurableMap<MemDisk>,
+    pass: &mut Pass,
+    alloc: Global,
+) -> Result<bool, Refusal>
+    requires { IsReady map.now pass.old }
+    ensures { IsReady map.now pass.new }
+{
+    let merged = map.merge(rt, pass, key(alloc, "a")?, Func::Sum, Value::Int(2));
+    let four = Some(Value::Int(4));
+    let least = map.compute(rt, pass, key(alloc, "a")?, Func::Min, four);
+    let kept = map.compute_if_absent(rt, pass, key(alloc, "a")?, Func::Drop, None);
+    let nine = Some(Value::Int(9));
+    let most = map.compute_if_present(rt, pass, key(alloc, "a")?, Func::Max, nine);
+    let removed = map.remove(rt, pass, key(alloc, "a")?);
+    Ok(
+        now(merged) == Some(10)
+            && now(least) == Some(4)
+            && now(kept) == Some(4)
+            && now(most) == Some(9)
+            && was(removed) == Some(9),
+    )
 }
 
 // Reads of an absent key, and what each answers.
@@ -57,14 +147,32 @@ fn read_often<R: Wait>(
     )
 }
 
-// All that a new map has seen is durable, so that nothing is waited for.
+// Makes all thirteen calls, and ends the loops.
+fn call_all<R: Wait>(
+    rt: &R,
+    map: &DurableMap<MemDisk>,
+    alloc: Global,
+    flag: &Flag,
+) -> Result<bool, Refusal> {
+    let mut pass = map.pass()?;
+    let changed = change_often(rt, map, &mut pass, alloc);
+    let computed = compute_often(rt, map, &mut pass, alloc);
+    let read = read_often(rt, map, &mut pass, alloc);
+    flag.raise();
+    Ok(changed? && computed? && read? && map.look(&mut pass) == 10)
+}
+
 #[test]
-fn reads_of_a_new_map_answer_at_once(rt: HostRuntime) -> Result<(), Refusal> {
+fn thirteen_calls_answer_once_they_are_durable(rt: HostRuntime) -> Result<(), Refusal> {
     let alloc = rt.alloc();
     let map = open(&rt, alloc, MemDisk::new(alloc))?;
-    let mut pass = map.pass()?;
-    assert!(rt; read_often(&rt, &map, &mut pass, alloc)?);
-    assert_eq!(rt; map.look(&mut pass), 0);
+    let flag = Flag::new();
+    let (_, called) = join(
+        &rt,
+        || flush_loop(&rt, &map, &flag),
+        || call_all(&rt, &map, alloc, &flag),
+    );
+    assert!(rt; called?);
     Ok(())
 }
 

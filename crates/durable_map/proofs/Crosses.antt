@@ -1,0 +1,138 @@
+-- The keeper of a running map may go from thread to thread where its disk may, and the map may be shared.
+use denote.RattleType.{RattleType}
+use denote.Param.Send.{IsSend, IsSync, AllSend, AllSync, sendable, view_send, struct_send, struct_sync, recorded_send, recorded_sync}
+use denote.Struct.Struct.{Struct}
+use denote.Struct.Declared.{shape}
+use Rattle.std.proofs.Crossing.{crosses, Vec-send, Box-send}
+use Rattle.std.proofs.Crossing as heap
+use Rattle.disk_model.specs.declared.disk.Disk.{Ghosts}
+use Rattle.atomic_table.specs.contracts.owned.Table as Table
+use Rattle.atomic_table.proofs.shared.Shared.TheSendSync as shared
+use Rattle.atomic_table.proofs.shared.Seat.TheSendSync as seat
+use Rattle.atomic_table.proofs.send_lease.SendLease.TheSendSync as lease
+use Rattle.stripe_locks.specs.contracts.stripes.Stripes as Stripes
+use Rattle.stripe_locks.specs.contracts.rule.Pass as Pass
+use Rattle.durable_map.specs.contracts.desk.Desk as Desk
+use Rattle.durable_map.specs.contracts.desk.Desk.TheInside as Inside
+use Rattle.durable_map.specs.contracts.map.DurableMap as DurableMap
+use Rattle.atomic_methods.specs.contracts.parts.Part as Part
+use Rattle.atomic_methods.specs.contracts.parts.Prepared as Prepared
+use Rattle.atomic_methods.specs.contracts.parts.Action as Action
+use Rattle.atomic_methods.specs.contracts.chains.Chain as Chain
+use Rattle.atomic_methods.specs.contracts.chains.Node as Node
+use Rattle.atomic_methods.proofs.chains.Chain.TheLaws.TheKnot as knot
+use Rattle.map_types.proofs.commands.Reply.TheSendSync as reply
+use Rattle.map_types.proofs.commands.Read.TheSendSync as read
+use Rattle.map_types.proofs.keys.Key.TheSendSync as key
+use Rattle.map_types.proofs.texts.Value.TheSendSync as value
+use Rattle.map_types.proofs.refusals.Refusal.TheSendSync as refusal
+use Rattle.ticket_order.specs.contracts.walk.Walk as Walk
+use Rattle.ticket_order.specs.contracts.walk.Stage as Stage
+use Rattle.ticket_order.specs.contracts.walk.Taken as Taken
+use Rattle.ticket_order.specs.contracts.change_walk.ChangeStage as ChangeStage
+use Rattle.ticket_order.specs.contracts.read_walk.ReadStage as ReadStage
+use Rattle.ticket_order.specs.contracts.sweep_walk.SweepStage as SweepStage
+use Rattle.ticket_order.specs.contracts.capture_walk.CaptureStage as CaptureStage
+use Rattle.ticket_order.specs.contracts.stripe.Stripe as Stripe
+use Rattle.ticket_order.proofs.stripe.Entry.TheSendSync as entry
+use Rattle.flusher.specs.contracts.sweeper.Sweeper as Sweeper
+use Rattle.flusher.specs.contracts.sweeper.Walking as Walking
+use Rattle.flusher.specs.contracts.keeper.Keeper as Keeper
+use Rattle.flusher.proofs.in_hand.InHand.TheSendSync as hand
+use Rattle.flusher.proofs.sweeper.Sweep.TheSendSync as sweep
+use Rattle.gate_log.proofs.log.GateLog.TheSendSync as log
+use Rattle.checkpoint_file.proofs.writer.CheckpointWriter.TheSendSync as writer
+use Rattle.java_hash.proofs.stripe_count.StripeCount.TheSendSync as count
+use Rattle.ticket_order.proofs.held.Held.TheSendSync as held
+use Rattle.ticket_order.proofs.capture_walk.Captured.TheSendSync as captured
+use Rattle.ticket_order.proofs.change_walk.NewChange.TheSendSync as new_change
+use Rattle.ticket_order.proofs.release_walk.ReleaseStage.TheSendSync as release
+
+ruleset leaves = (reply.the_send, reply.the_field_send, read.the_send, read.the_field_send, key.the_send, value.the_send, value.the_field_send, refusal.the_send, refusal.the_field_send, entry.the_send, entry.the_field_send, held.the_send, held.the_field_send, captured.the_send, captured.the_field_send, new_change.the_send, new_change.the_field_send, release.the_send, release.the_field_send, heap.send, Vec-send, Box-send)
+
+chain : IsSend (Chain.the_field).row
+chain = search (knot.send-Chain, sendable, crosses) depth 40
+
+node : IsSend (Node.the_field).row
+node = search (knot.send-Node, sendable, crosses) depth 40
+
+part : IsSend (Part.the_row)
+part = search (chain, leaves, sendable) depth 10
+
+action : IsSend (Action.the_field).row
+action = search (node, leaves, sendable) depth 20
+
+prepared : IsSend (Prepared.the_row)
+prepared = search (action, leaves, sendable) depth 20
+
+stripe : IsSend (Stripe.the_field).row
+stripe = search (part, leaves, sendable) depth 20
+
+taken : IsSend (Taken.the_field).row
+taken = search (stripe, sendable) depth 20
+
+change : IsSend (ChangeStage.the_field).row
+change = search (taken, prepared, leaves, sendable) depth 20
+
+reads : IsSend (ReadStage.the_field).row
+reads = search (taken, leaves, sendable) depth 20
+
+sweeps : IsSend (SweepStage.the_field).row
+sweeps = search (taken, leaves, sendable) depth 20
+
+captures : IsSend (CaptureStage.the_field).row
+captures = search (taken, leaves, sendable) depth 20
+
+stage : IsSend (Stage.the_field).row
+stage = search (change, reads, sweeps, captures, taken, leaves, sendable) depth 20
+
+walk : IsSend Walk.the_row
+walk = search (stage, sendable) depth 20
+
+walking : IsSend (Walking.the_field).row
+walking = search (stage, leaves, sendable) depth 20
+
+sweeper : IsSend (Sweeper.the_field).row
+sweeper = search (walking, hand.the_send, sweep.the_send, leaves, sendable) depth 20
+
+pass : IsSend (Pass.the_field).row
+pass = search (stripe, seat.the_send, sendable) depth 20
+
+stripes_send : IsSend (Stripes.the_row)
+stripes_send = search (stripe, shared.the_send, lease.the_send, heap.frees, count.the_field_send, leaves, crosses, sendable) depth 20
+
+stripes_sync : IsSync (Stripes.the_row)
+stripes_sync = search (stripe, shared.the_sync, lease.the_sync, heap.frees, count.the_field_sync, leaves, crosses, sendable) depth 20
+
+module _ (D : RattleType) where
+  keeper : IsSend D → IsSend (Keeper.the_field D).row
+  keeper s = search (walk, sweeper, log.the_send, writer.the_send, count.the_field_send, leaves, sendable) depth 20
+
+  module _ (g : Ghosts D.Denot) where
+    fields : IsSend D → AllSend (shape (Inside.the_type D g)).fields
+    fields s = (heap.Arc-send Stripes.the_row stripes_send stripes_sync, (keeper s, (pass, tt)))
+
+    inside : IsSend D → IsSend (Inside.the_row D g)
+    inside s = recorded_send _ _ _ (Inside.the_type D g).to_one (struct_send (shape (Inside.the_type D g)) (fields s))
+
+    desk : IsSend D → IsSend (Desk.the_row D g)
+    desk s = search (inside s, view_send)
+
+    map_fields_send : IsSend D → AllSend (shape (DurableMap.the_type D g)).fields
+    map_fields_send s = (heap.Arc-send Stripes.the_row stripes_send stripes_sync, ((search (desk s, crosses)), tt))
+
+    map_fields_sync : IsSend D → AllSync (shape (DurableMap.the_type D g)).fields
+    map_fields_sync s = (heap.Arc-sync Stripes.the_row stripes_send stripes_sync, ((search (desk s, crosses)), tt))
+
+    pub map_send : IsSend D → IsSend (DurableMap.the_row D g)
+    map_send s = recorded_send _ _ _ (DurableMap.the_type D g).to_one (struct_send (shape (DurableMap.the_type D g)) (map_fields_send s))
+
+    -- also where a struct has the map among its fields
+    pub map_field_sync : IsSend D → IsSync (DurableMap.the_field D g).row
+    map_field_sync s = struct_sync (shape (DurableMap.the_type D g)) (map_fields_sync s)
+
+    pub map_sync : IsSend D → IsSync (DurableMap.the_row D g)
+    map_sync s = recorded_sync _ _ _ (DurableMap.the_type D g).to_one (map_field_sync s)
+
+-- as a set for `search`
+pub ruleset shared_by_threads = (map_send, map_sync)
