@@ -1,5 +1,5 @@
 -- What the program does with the words of its command line.
-use Rattle.std.proofs.Common.{◌≡◌, ◌⊎◌, ℕ, List, [], ◌∷◌, Option, None, Some, refl, sym, ◌∙◌, ap, subst, inl, inr, codes, arith}
+use Rattle.std.proofs.Common.{◌≡◌, ◌⊎◌, ℕ, ◌+◌, ◌*◌, List, [], ◌∷◌, Option, None, Some, refl, sym, ◌∙◌, ap, subst, inl, inr, codes, arith}
 use Rattle.clap.specs.Words.{Text, Kinds, IsAmong}
 use Rattle.clap.specs.declared.error.kind.ErrorKind.{ErrorKind}
 use Rattle.clap.specs.declared.error.kind.ErrorKind.TheVariants.{OutOfMemory}
@@ -9,7 +9,7 @@ use Rattle.disk_model.specs.declared.fill.Fill.{Fill}
 use Rattle.map_server.specs.CommandLine.{faults, named_by, Advises, FindsNoMemory}
 use Rattle.map_server.specs.Directory.{Inits, Inspects}
 use Rattle.map_server.specs.Simulation.{Simulates}
-use Rattle.map_server.specs.Program.{Ran}
+use Rattle.map_server.specs.Program.{CallsAServer, Ran, ServesDirectory}
 
 pub mem_is_known : (name : Text) → faults (name ∷ codes "mem" ∷ []) ≡ []
 unfolding clap_on_literals
@@ -24,47 +24,83 @@ pub mem_is_named : (name : Text) → named_by (name ∷ codes "mem" ∷ []) ≡ 
 unfolding clap_on_literals
 mem_is_named name = refl
 
-first_code : Option Text → ℕ
-first_code None = 0
-first_code (Some []) = 0
-first_code (Some (code ∷ text)) = code
+-- the first two letters as one number
+two_codes : Option Text → ℕ
+two_codes None = 0
+two_codes (Some []) = 0
+two_codes (Some (code ∷ [])) = 0
+two_codes (Some (first ∷ second ∷ text)) = first * 256 + second
 
-apart : (name : Option Text) (a b : ℕ) (xs ys : Text) → name ≡ Some (a ∷ xs) → name ≡ Some (b ∷ ys) → a ≡ b
-unfolding first_code
-apart name a b xs ys p q = ap first_code (sym p ∙ q)
+apart : (name : Option Text) (a b c d : ℕ) (xs ys : Text) → name ≡ Some (a ∷ b ∷ xs) → name ≡ Some (c ∷ d ∷ ys) → a * 256 + b ≡ c * 256 + d
+unfolding two_codes
+apart name a b c d xs ys p q = ap two_codes (sym p ∙ q)
 
 module _ (files : Files) (left : ℕ → Fill) (words : List Text) (r w0 w1 : Option (List ℕ)) (status : ℕ) where
   pub inits : faults words ≡ [] → named_by words ≡ Some (codes "init") → Inits files left w0 w1 status → Ran files left words r r w0 w1 status
   inits none named done = record {
-    mem = λ name e. let bad = apart (named_by words) 105 109 _ _ named (ap named_by e ∙ mem_is_named name) in absurd (omega arith);
+    mem = λ name e. let bad = apart (named_by words) 105 110 109 101 _ _ named (ap named_by e ∙ mem_is_named name) in absurd (omega arith);
     known = λ e. record {
-      mem = λ n. let bad = apart (named_by words) 105 109 _ _ named n in absurd (omega arith);
+      mem = λ n. let bad = apart (named_by words) 105 110 109 101 _ _ named n in absurd (omega arith);
       init = λ n. (refl, done);
-      check = λ n. let bad = apart (named_by words) 105 99 _ _ named n in absurd (omega arith);
-      sim = λ n. let bad = apart (named_by words) 105 115 _ _ named n in absurd (omega arith);
+      check = λ n. let bad = apart (named_by words) 105 110 99 104 _ _ named n in absurd (omega arith);
+      serve = λ n. let bad = apart (named_by words) 105 110 115 101 _ _ named n in absurd (omega arith);
+      call = λ n. let bad = apart (named_by words) 105 110 99 97 _ _ named n in absurd (omega arith);
+      sim = λ n. let bad = apart (named_by words) 105 110 115 105 _ _ named n in absurd (omega arith);
     };
     unknown = λ some. absurd (some none);
   }
 
   pub checks : faults words ≡ [] → named_by words ≡ Some (codes "check") → Inspects files left w0 w1 status → Ran files left words r r w0 w1 status
   checks none named done = record {
-    mem = λ name e. let bad = apart (named_by words) 99 109 _ _ named (ap named_by e ∙ mem_is_named name) in absurd (omega arith);
+    mem = λ name e. let bad = apart (named_by words) 99 104 109 101 _ _ named (ap named_by e ∙ mem_is_named name) in absurd (omega arith);
     known = λ e. record {
-      mem = λ n. let bad = apart (named_by words) 99 109 _ _ named n in absurd (omega arith);
-      init = λ n. let bad = apart (named_by words) 99 105 _ _ named n in absurd (omega arith);
+      mem = λ n. let bad = apart (named_by words) 99 104 109 101 _ _ named n in absurd (omega arith);
+      init = λ n. let bad = apart (named_by words) 99 104 105 110 _ _ named n in absurd (omega arith);
       check = λ n. (refl, done);
-      sim = λ n. let bad = apart (named_by words) 99 115 _ _ named n in absurd (omega arith);
+      serve = λ n. let bad = apart (named_by words) 99 104 115 101 _ _ named n in absurd (omega arith);
+      call = λ n. let bad = apart (named_by words) 99 104 99 97 _ _ named n in absurd (omega arith);
+      sim = λ n. let bad = apart (named_by words) 99 104 115 105 _ _ named n in absurd (omega arith);
+    };
+    unknown = λ some. absurd (some none);
+  }
+
+  pub serves : faults words ≡ [] → named_by words ≡ Some (codes "serve") → ServesDirectory files left w0 w1 status → Ran files left words r r w0 w1 status
+  serves none named done = record {
+    mem = λ name e. let bad = apart (named_by words) 115 101 109 101 _ _ named (ap named_by e ∙ mem_is_named name) in absurd (omega arith);
+    known = λ e. record {
+      mem = λ n. let bad = apart (named_by words) 115 101 109 101 _ _ named n in absurd (omega arith);
+      init = λ n. let bad = apart (named_by words) 115 101 105 110 _ _ named n in absurd (omega arith);
+      check = λ n. let bad = apart (named_by words) 115 101 99 104 _ _ named n in absurd (omega arith);
+      serve = λ n. (refl, done);
+      call = λ n. let bad = apart (named_by words) 115 101 99 97 _ _ named n in absurd (omega arith);
+      sim = λ n. let bad = apart (named_by words) 115 101 115 105 _ _ named n in absurd (omega arith);
+    };
+    unknown = λ some. absurd (some none);
+  }
+
+  pub calls : faults words ≡ [] → named_by words ≡ Some (codes "call") → CallsAServer w0 w1 status → Ran files left words r r w0 w1 status
+  calls none named done = record {
+    mem = λ name e. let bad = apart (named_by words) 99 97 109 101 _ _ named (ap named_by e ∙ mem_is_named name) in absurd (omega arith);
+    known = λ e. record {
+      mem = λ n. let bad = apart (named_by words) 99 97 109 101 _ _ named n in absurd (omega arith);
+      init = λ n. let bad = apart (named_by words) 99 97 105 110 _ _ named n in absurd (omega arith);
+      check = λ n. let bad = apart (named_by words) 99 97 99 104 _ _ named n in absurd (omega arith);
+      serve = λ n. let bad = apart (named_by words) 99 97 115 101 _ _ named n in absurd (omega arith);
+      call = λ n. (refl, done);
+      sim = λ n. let bad = apart (named_by words) 99 97 115 105 _ _ named n in absurd (omega arith);
     };
     unknown = λ some. absurd (some none);
   }
 
   pub simulates : faults words ≡ [] → named_by words ≡ Some (codes "sim") → Simulates w0 w1 status → Ran files left words r r w0 w1 status
   simulates none named done = record {
-    mem = λ name e. let bad = apart (named_by words) 115 109 _ _ named (ap named_by e ∙ mem_is_named name) in absurd (omega arith);
+    mem = λ name e. let bad = apart (named_by words) 115 105 109 101 _ _ named (ap named_by e ∙ mem_is_named name) in absurd (omega arith);
     known = λ e. record {
-      mem = λ n. let bad = apart (named_by words) 115 109 _ _ named n in absurd (omega arith);
-      init = λ n. let bad = apart (named_by words) 115 105 _ _ named n in absurd (omega arith);
-      check = λ n. let bad = apart (named_by words) 115 99 _ _ named n in absurd (omega arith);
+      mem = λ n. let bad = apart (named_by words) 115 105 109 101 _ _ named n in absurd (omega arith);
+      init = λ n. let bad = apart (named_by words) 115 105 105 110 _ _ named n in absurd (omega arith);
+      check = λ n. let bad = apart (named_by words) 115 105 99 104 _ _ named n in absurd (omega arith);
+      serve = λ n. let bad = apart (named_by words) 115 105 115 101 _ _ named n in absurd (omega arith);
+      call = λ n. let bad = apart (named_by words) 115 105 99 97 _ _ named n in absurd (omega arith);
       sim = λ n. (refl, done);
     };
     unknown = λ some. absurd (some none);
@@ -77,6 +113,6 @@ module _ (files : Files) (left : ℕ → Fill) (words : List Text) (r w0 w1 : Op
         mem = λ name e. let m = wanting (ap faults e ∙ mem_is_known name) in inr (refl, m.1, m.0);
         known = λ e.
             let m = wanting e in
-            record { mem = λ n. inr (refl, m.1, m.0); init = λ n. (refl, inr (m.1, inl m.0)); check = λ n. (refl, inr (m.1, m.0)); sim = λ n. (refl, inr (m.1, inl m.0)) };
+            record { mem = λ n. inr (refl, m.1, m.0); init = λ n. (refl, inr (m.1, inl m.0)); check = λ n. (refl, inr (m.1, m.0)); serve = λ n. (refl, inl m); call = λ n. (refl, inl m); sim = λ n. (refl, inr (m.1, inl m.0)) };
         unknown = λ e. (refl, record { fault = fault; is = is; advises = a });
       }

@@ -6,3 +6,6 @@ pub mod Directory
 pub mod Program
 pub mod Served
 pub mod Simulation
+pub mod Settings
+pub mod Serving
+pub mod Client

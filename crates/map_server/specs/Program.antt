@@ -18,9 +18,14 @@ use Rattle.map_types.specs.declared.refusals.Refusal.{Refusal}
 use Rattle.map_types.specs.declared.refusals.Refusal.TheVariants as refusal_type
 use Rattle.disk_model.specs.Files.{Files}
 use Rattle.disk_model.specs.declared.fill.Fill.{Fill}
-use Rattle.map_server.specs.CommandLine.{faults, named_by, Misuses}
+use Rattle.map_server.specs.CommandLine.{faults, named_by, FindsNoMemory, Misuses}
 use Rattle.map_server.specs.Directory.{Inits, Inspects}
+use Rattle.call_text.specs.declared.asked.Asked.{Asked}
+use Rattle.call_text.specs.declared.bad_word.BadWord.{BadWord}
+use Rattle.map_server.specs.Client.{CallsServer}
+use Rattle.map_server.specs.Serving.{ServesOn}
 use Rattle.map_server.specs.Simulation.{Simulates}
+use Rattle.map_server.specs.declared.server.ServerWords.{ServerWords}
 
 -- a map in memory: the count of stripes, the record of its pass, its log, and whether it has failed
 pub record MapState : Type 0 where
@@ -83,11 +88,21 @@ pub record Dialogues (r0 r1 w0 w1 : Option (List ℕ)) (status : ℕ) : Type 0 w
 abbrev pub Serves : Option (List ℕ) → Option (List ℕ) → Option (List ℕ) → Option (List ℕ) → ℕ → Type 0
 Serves r0 r1 w0 w1 status = Dialogues r0 r1 w0 w1 status ⊎ ((r1 ≡ r0) × (w1 ≡ w0) × (status ≡ 1))
 
+-- A directory was served by some words, or no memory was found to read them.
+abbrev pub ServesDirectory : Files → (ℕ → Fill) → Option (List ℕ) → Option (List ℕ) → ℕ → Type 0
+ServesDirectory files left w0 w1 status = FindsNoMemory w0 w1 status ⊎ ((words : ServerWords) × ServesOn files left words w0 w1 status)
+
+-- Some words of a call were taken to a server, or no memory was found to read them.
+abbrev pub CallsAServer : Option (List ℕ) → Option (List ℕ) → ℕ → Type 0
+CallsAServer w0 w1 status = FindsNoMemory w0 w1 status ⊎ ((port : Text) × (asked : Result Asked BadWord) × CallsServer port asked w0 w1 status)
+
 -- What was asked for by this name was done.
 pub record Obeys (files : Files) (left : ℕ → Fill) (name : Option Text) (r0 r1 w0 w1 : Option (List ℕ)) (status : ℕ) : Type 0 where
   pub mem : name ≡ Some (codes "mem") → Serves r0 r1 w0 w1 status
   pub init : name ≡ Some (codes "init") → (r1 ≡ r0) × Inits files left w0 w1 status
   pub check : name ≡ Some (codes "check") → (r1 ≡ r0) × Inspects files left w0 w1 status
+  pub serve : name ≡ Some (codes "serve") → (r1 ≡ r0) × ServesDirectory files left w0 w1 status
+  pub call : name ≡ Some (codes "call") → (r1 ≡ r0) × CallsAServer w0 w1 status
   pub sim : name ≡ Some (codes "sim") → (r1 ≡ r0) × Simulates w0 w1 status
 
 -- For words that are known it is done what they name, and for those of `dchm mem` the map is served; for other words nothing is read. The files held this at first, and

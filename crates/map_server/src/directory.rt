@@ -1,6 +1,7 @@
 //! A directory is formatted, or looked at, and what came of it is printed.
-ghost use Rattle.std.specs.Prelude.{◌≡◌};
+ghost use Rattle.std.specs.Prelude.{◌≡◌, option_map};
 ghost use Rattle.map_server.specs.Directory.{Checks, Formats, Inits, Inspects, Prints};
+ghost use Rattle.map_server.specs.Settings.{IsNamed, IsStripeCount};
 
 use crate::exits::{DONE, MISUSED, break_off, refuse, say};
 use crate::summary::summarize;
@@ -73,8 +74,10 @@ pub(crate) fn cannot_open<E: Write>(alloc: Global, failure: &io::Error, error: &
     break_off(error)
 }
 
-// The number of stripes that the word names, if that is allowed.
-fn stripes_named(word: &str) -> Option<StripeCount> {
+/// The number of stripes that the word names, if that is allowed.
+pub(crate) fn stripes_named(word: &str) -> Option<StripeCount>
+    ensures { IsNamed IsStripeCount word.now (option_map (λ stripes. stripes.count) result) }
+{
     match word.parse::<u16>() {
         Ok(count) => StripeCount::new(count),
         Err(_) => None,

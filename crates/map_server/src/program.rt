@@ -1,26 +1,29 @@
 //! All of the program but `main`.
-ghost use Rattle.std.specs.Prelude.{◌≡◌, false, IfOk, map, string_bytes};
+ghost use Rattle.std.specs.Prelude.{◌≡◌, false, codes, map, string_bytes, IfOk};
 ghost use Rattle.clap.specs.Words.{app_of, rule_of, subcommand_name_of, FailsBy};
+ghost use Rattle.clap.specs.declared.builder.command.Command.TheViews.{out-Command as fields_of};
 ghost use Rattle.clap.specs.Values.{kind_of};
-ghost use Rattle.map_server.specs.CommandLine.{command_line, directory_rule, faults, file_rule, named_by, stripes_rule, Advises, Asks};
-ghost use Rattle.map_server.specs.Program.{Serves, Ran};
+ghost use Rattle.map_server.specs.CommandLine.{call_line, check_line, command_line, directory_rule, faults, file_rule, init_line, mem_line, named_by, option_rule, port_rule, serve_line, sim_line, words_rule, Advises, Asks};
+ghost use Rattle.map_server.specs.Program.{Ran, Serves};
 
+use crate::client::call;
 use crate::connection::{ConnectionError, serve_connection};
 use crate::directory::{check, init};
 use crate::exits::{DONE, MISUSED, break_off, refuse, say};
+use crate::host::Host;
 use crate::memory::Memory;
+use crate::server::{ServerWords, serve};
 use crate::simulation::sim;
 use clap::error::ErrorKind;
 use clap::{Arg, ArgAction, ArgMatches, Command, Error};
 use disk_model::{MemDisk, Start};
 use map_types::Refusal;
 use std::alloc::{AllocError, Global};
-use std::fs::File;
 use std::io::{Read, Write};
-use std::rt::Files;
 use std::sync::Wait;
 
 /// What a command line asks for.
+#[derive(Drop)]
 enum Order<'a> {
     /// Serve the map in memory on the standard streams.
     Mem,
@@ -33,6 +36,13 @@ enum Order<'a> {
     Check {
         directory: &'a str,
     },
+    /// Serve the map of a directory.
+    Serve(ServerWords<'a>),
+    /// Make the call of these words.
+    Call {
+        port: &'a str,
+        words: Vec<&'a str>,
+    },
     /// Play the script of the file.
     Sim {
         file: &'a str,
@@ -41,6 +51,12 @@ enum Order<'a> {
 
 /// The number of stripes where no other is asked for.
 const STRIPES: &str = "16";
+
+/// The number of workers where no other is asked for.
+const WORKERS: &str = "4";
+
+/// The length of the log that begins a checkpoint where no other is asked for.
+const BYTES: &str = "67108864";
 
 /// The argument that names a directory.
 fn directory<'a>(alloc: Global) -> Arg<'a>
@@ -64,64 +80,195 @@ fn file<'a>(alloc: Global) -> Arg<'a>
         .help("The file of a script")
 }
 
-/// The argument that says how many stripes a map is divided into.
-fn stripes<'a>(alloc: Global) -> Arg<'a>
-    ensures rule { rule_of result ≡ stripes_rule }
+/// An option that takes a value.
+fn option<'a>(alloc: Global, name: &'a str, value: &'a str, help: &'a str) -> Arg<'a>
+    ensures rule { rule_of result ≡ option_rule name.now }
     ensures local { result.global ≡ false }
 {
-    Arg::new(alloc, "stripes")
-        .long("stripes")
+    Arg::new(alloc, name)
+        .long(name)
         .action(ArgAction::Set)
-        .value_name("S")
-        .help(
-            "How many stripes the map is divided into: a power of two from 1 to 256, 16 if left out",
+        .value_name(value)
+        .help(help)
+}
+
+/// The option that says how many stripes a map is divided into.
+fn stripes<'a>(alloc: Global) -> Arg<'a>
+    ensures rule { rule_of result ≡ option_rule (codes "stripes") }
+    ensures local { result.global ≡ false }
+{
+    option(
+        alloc,
+        "stripes",
+        "S",
+        "How many stripes the map is divided into: a power of two from 1 to 256, 16 if left out",
+    )
+}
+
+/// The option that names a server's port.
+fn port<'a>(alloc: Global) -> Arg<'a>
+    ensures rule { rule_of result ≡ port_rule }
+    ensures local { result.global ≡ false }
+{
+    option(
+        alloc,
+        "port",
+        "P",
+        "The server's port on this machine, from 1 to 65535",
+    )
+    .required(true)
+}
+
+/// The argument that has the words of a call.
+fn call_words<'a>(alloc: Global) -> Arg<'a>
+    ensures rule { rule_of result ≡ words_rule }
+    ensures local { result.global ≡ false }
+{
+    Arg::new(alloc, "METHOD")
+        .required(true)
+        .action(ArgAction::Append)
+        .num_args(1..)
+        .value_names(&["METHOD", "ARGS"])
+        .trailing_var_arg(true)
+        .help("The method, and behind it the key, the function and the values that it takes")
+}
+
+/// The command that serves the map in memory.
+fn mem_line<'a>(alloc: Global) -> Command<'a>
+    ensures app { app_of result ≡ mem_line }
+    ensures local { (fields_of result).has_globals ≡ false }
+{
+    Command::new(alloc, "mem").about(
+        "Answers request frames of standard input on standard output, over a map in memory",
+    )
+}
+
+/// The command that makes a directory that of an empty map.
+fn init_line<'a>(alloc: Global) -> Result<Command<'a>, AllocError>
+    ensures app { IfOk result (λ command. app_of command ≡ init_line) }
+    ensures local { IfOk result (λ command. (fields_of command).has_globals ≡ false) }
+{
+    Command::new(alloc, "init")
+        .about("Makes a directory that of an empty map")
+        .arg(directory(alloc))?
+        .arg(stripes(alloc))
+}
+
+/// The command that looks at a directory.
+fn check_line<'a>(alloc: Global) -> Result<Command<'a>, AllocError>
+    ensures app { IfOk result (λ command. app_of command ≡ check_line) }
+    ensures local { IfOk result (λ command. (fields_of command).has_globals ≡ false) }
+{
+    Command::new(alloc, "check")
+        .about("Opens a directory, and prints what it stands for")
+        .arg(directory(alloc))
+}
+
+/// The command that serves the map of a directory.
+fn serve_line<'a>(alloc: Global) -> Result<Command<'a>, AllocError>
+    ensures app { IfOk result (λ command. app_of command ≡ serve_line) }
+    ensures local { IfOk result (λ command. (fields_of command).has_globals ≡ false) }
+{
+    let workers = option(
+        alloc,
+        "workers",
+        "W",
+        "How many connections are served at a time: from 1 to 64, 4 if left out",
+    );
+    let bytes = option(
+        alloc,
+        "checkpoint-bytes",
+        "B",
+        "How long the log is where a checkpoint is begun: 67108864 if left out",
+    );
+    Command::new(alloc, "serve")
+        .about("Opens a directory, and serves its map to this machine until it is ended")
+        .arg(directory(alloc))?
+        .arg(port(alloc))?
+        .arg(stripes(alloc))?
+        .arg(workers)?
+        .arg(bytes)
+}
+
+/// The command that makes one call of a server.
+fn call_line<'a>(alloc: Global) -> Result<Command<'a>, AllocError>
+    ensures app { IfOk result (λ command. app_of command ≡ call_line) }
+    ensures local { IfOk result (λ command. (fields_of command).has_globals ≡ false) }
+{
+    Command::new(alloc, "call")
+        .about("Makes one call of a server, and prints its reply")
+        .arg(port(alloc))?
+        .arg(call_words(alloc))
+}
+
+/// The command that plays a script.
+fn sim_line<'a>(alloc: Global) -> Result<Command<'a>, AllocError>
+    ensures app { IfOk result (λ command. app_of command ≡ sim_line) }
+    ensures local { IfOk result (λ command. (fields_of command).has_globals ≡ false) }
+{
+    Command::new(alloc, "sim")
+        .about(
+            "Plays the script of a schedule over a disk in memory, and prints what came of each line",
         )
+        .arg(file(alloc))
 }
 
 /// The command lines that are known.
 fn known_lines<'a>(alloc: Global) -> Result<Command<'a>, AllocError>
     ensures { IfOk result (λ command. app_of command ≡ command_line) }
 {
-    let mem = Command::new(alloc, "mem").about(
-        "Answers request frames of standard input on standard output, over a map in memory",
-    );
-    let init = Command::new(alloc, "init")
-        .about("Makes a directory that of an empty map")
-        .arg(directory(alloc))?
-        .arg(stripes(alloc))?;
-    let check = Command::new(alloc, "check")
-        .about("Opens a directory, and prints what it stands for")
-        .arg(directory(alloc))?;
-    let sim = Command::new(alloc, "sim")
-        .about(
-            "Plays the script of a schedule over a disk in memory, and prints what came of each line",
-        )
-        .arg(file(alloc))?;
     Command::new(alloc, "dchm")
         .about("A durable concurrent map from text keys to values")
         .subcommand_required(true)
-        .subcommand(mem)?
-        .subcommand(init)?
-        .subcommand(check)?
-        .subcommand(sim)
+        .subcommand(mem_line(alloc))?
+        .subcommand(init_line(alloc)?)?
+        .subcommand(check_line(alloc)?)?
+        .subcommand(serve_line(alloc)?)?
+        .subcommand(call_line(alloc)?)?
+        .subcommand(sim_line(alloc)?)
+}
+
+/// The words of a call.
+fn words_in<'a>(alloc: Global, matches: &ArgMatches<'a>) -> Result<Vec<&'a str>, AllocError> {
+    let mut words = Vec::new(alloc);
+    for word in matches.get_strs("METHOD").unwrap_or(&[]) {
+        words.push(*word)?;
+    }
+    Ok(words)
+}
+
+/// What the words of `dchm serve` ask for.
+fn server_in<'a>(matches: &ArgMatches<'a>) -> ServerWords<'a> {
+    ServerWords {
+        directory: matches.get_str("DIR").unwrap_or(""),
+        port: matches.get_str("port").unwrap_or(""),
+        stripes: matches.get_str("stripes").unwrap_or(STRIPES),
+        workers: matches.get_str("workers").unwrap_or(WORKERS),
+        bytes: matches.get_str("checkpoint-bytes").unwrap_or(BYTES),
+    }
 }
 
 /// What the words that were read ask for.
-fn order_in<'a>(matches: &ArgMatches<'a>) -> Order<'a>
-    ensures { Asks (subcommand_name_of matches.now) result }
+fn order_in<'a>(alloc: Global, matches: &ArgMatches<'a>) -> Result<Order<'a>, AllocError>
+    ensures { IfOk result (Asks (subcommand_name_of matches.now)) }
 {
     match matches.subcommand() {
-        Some(("init", found)) => Order::Init {
+        Some(("init", found)) => Ok(Order::Init {
             directory: found.get_str("DIR").unwrap_or(""),
             stripes: found.get_str("stripes").unwrap_or(STRIPES),
-        },
-        Some(("check", found)) => Order::Check {
+        }),
+        Some(("check", found)) => Ok(Order::Check {
             directory: found.get_str("DIR").unwrap_or(""),
-        },
-        Some(("sim", found)) => Order::Sim {
+        }),
+        Some(("serve", found)) => Ok(Order::Serve(server_in(found))),
+        Some(("call", found)) => Ok(Order::Call {
+            port: found.get_str("port").unwrap_or(""),
+            words: words_in(alloc, found)?,
+        }),
+        Some(("sim", found)) => Ok(Order::Sim {
             file: found.get_str("FILE").unwrap_or(""),
-        },
-        _ => Order::Mem,
+        }),
+        _ => Ok(Order::Mem),
     }
 }
 
@@ -132,7 +279,7 @@ fn order_of<'a>(alloc: Global, words: &'a [String]) -> Result<Order<'a>, Error>
 {
     let command = known_lines(alloc)?;
     let matches = command.try_get_matches_from(words)?;
-    Ok(order_in(&matches))
+    Ok(order_in(alloc, &matches)?)
 }
 
 /// Says on `error` why a connection broke off.
@@ -191,10 +338,16 @@ fn mem<T: Wait, R: Read, W: Write, E: Write>(
 /// `error` where the map can't be begun or no memory is found to read, and 2 with a text on how to call the
 /// program on `error` for words that aren't known.
 ///
+/// `serve` serves the map of a directory on a port of this machine, and ends only by being ended. Once it
+/// listens it prints `listening` and the port on `output`. The status is 2 with a text on `error` where one
+/// of its words isn't allowed, and 1 where it can't open the directory, listen, or start its threads.
+///
+/// `call` makes one call of a server, and prints its reply on `output`.
+///
 /// `sim` plays the script of a file, and prints on `output` a line for each of its lines. The status is
 /// 1 with `unreadable` on `error` where the file can't be read, and 2 with what is wrong on `error` where
 /// it isn't UTF-8 or has a bad line; then nothing is played.
-pub fn dchm<T: Wait + Files<File = File>, S: Start, R: Read, W: Write, E: Write>(
+pub fn dchm<T: Host, S: Start + Send, R: Read, W: Write, E: Write>(
     rt: &T,
     alloc: Global,
     start: S,
@@ -211,6 +364,10 @@ pub fn dchm<T: Wait + Files<File = File>, S: Start, R: Read, W: Write, E: Write>
             init(rt, alloc, start, directory, stripes, output, error)
         }
         Ok(Order::Check { directory }) => check(rt, alloc, start, directory, output, error),
+        Ok(Order::Serve(words)) => serve(rt, alloc, start, &words, output, error),
+        Ok(Order::Call { port, words }) => {
+            call(rt, alloc, port, words.as_slice(), output, error)
+        }
         Ok(Order::Sim { file }) => sim(rt, alloc, file, output, error),
         Err(advice) => advise(alloc, &advice, output, error),
     }

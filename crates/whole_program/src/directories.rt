@@ -2,13 +2,10 @@
 use crate::program::words_of;
 use disk_model::{DirDisk, Unknown};
 use java_hash::StripeCount;
-use map_server::dchm;
+use map_server::{Host, dchm};
 use map_types::Refusal;
 use recovery::open_parts;
 use std::fs;
-use std::fs::File;
-use std::rt::Files;
-use std::sync::Wait;
 use std::test::Fail;
 
 /// What a run of the program left.
@@ -25,7 +22,7 @@ impl Ended {
     }
 }
 
-fn run<R: Wait + Files<File = File> + AllocGlobal>(rt: &R, texts: &[&str]) -> Result<Ended, Fail> {
+fn run<R: Host + AllocGlobal>(rt: &R, texts: &[&str]) -> Result<Ended, Fail> {
     let alloc = rt.alloc();
     let words = words_of(alloc, texts)?;
     let mut input = b"unread".as_slice();
@@ -47,7 +44,7 @@ fn run<R: Wait + Files<File = File> + AllocGlobal>(rt: &R, texts: &[&str]) -> Re
     })
 }
 
-fn ends<R: Wait + Files<File = File> + AllocGlobal>(
+fn ends<R: Host + AllocGlobal>(
     rt: &R,
     texts: &[&str],
     status: u8,
@@ -128,7 +125,7 @@ fn another_number_of_stripes(rt: HostRuntime) -> Result<(), Fail> {
 }
 
 // Both programs while the lock is held.
-fn held<R: Wait + Files<File = File> + AllocGlobal>(rt: &R, directory: &str) -> Result<bool, Fail> {
+fn held<R: Host + AllocGlobal>(rt: &R, directory: &str) -> Result<bool, Fail> {
     let _disk = DirDisk::open(rt, rt.alloc(), directory, Unknown)?;
     let init = ends(rt, &["dchm", "init", directory], 1, b"", UNREADABLE)?;
     let check = ends(rt, &["dchm", "check", directory], 1, b"", UNREADABLE)?;

@@ -1,12 +1,9 @@
 //! Scripts of whole schedules: what the program prints of them.
 use crate::program::words_of;
 use disk_model::Unknown;
-use map_server::dchm;
+use map_server::{Host, dchm};
 use std::alloc::Global;
 use std::fs;
-use std::fs::File;
-use std::rt::Files;
-use std::sync::Wait;
 use std::test::Fail;
 
 /// What a run of the program left.
@@ -17,10 +14,7 @@ struct Played {
     error: Vec<u8>,
 }
 
-fn play_file<R: Wait + Files<File = File> + AllocGlobal>(
-    rt: &R,
-    path: &str,
-) -> Result<Played, Fail> {
+fn play_file<R: Host + AllocGlobal>(rt: &R, path: &str) -> Result<Played, Fail> {
     let alloc = rt.alloc();
     let words = words_of(alloc, &["dchm", "sim", path])?;
     let mut input = b"unread".as_slice();
@@ -42,7 +36,7 @@ fn play_file<R: Wait + Files<File = File> + AllocGlobal>(
     })
 }
 
-fn play<R: Wait + Files<File = File> + AllocGlobal>(rt: &R, script: &[u8]) -> Result<Played, Fail> {
+fn play<R: Host + AllocGlobal>(rt: &R, script: &[u8]) -> Result<Played, Fail> {
     fs::write(rt, "script", script)?;
     play_file(rt, "script")
 }
@@ -59,11 +53,7 @@ fn numbered(alloc: Global, lines: &str) -> Result<String, Fail> {
 }
 
 // Whether the script prints these lines, which are written without their numbers.
-fn prints<R: Wait + Files<File = File> + AllocGlobal>(
-    rt: &R,
-    script: &str,
-    lines: &str,
-) -> Result<bool, Fail> {
+fn prints<R: Host + AllocGlobal>(rt: &R, script: &str, lines: &str) -> Result<bool, Fail> {
     let wanted = numbered(rt.alloc(), lines)?;
     let played = play(rt, script.as_bytes())?;
     Ok(
@@ -74,11 +64,7 @@ fn prints<R: Wait + Files<File = File> + AllocGlobal>(
 }
 
 // Whether the script is refused before anything is printed.
-fn is_misused<R: Wait + Files<File = File> + AllocGlobal>(
-    rt: &R,
-    script: &[u8],
-    error: &[u8],
-) -> Result<bool, Fail> {
+fn is_misused<R: Host + AllocGlobal>(rt: &R, script: &[u8], error: &[u8]) -> Result<bool, Fail> {
     let played = play(rt, script)?;
     Ok(played.status == 2 && played.output.is_empty() && played.error.as_slice() == error)
 }
@@ -104,11 +90,7 @@ log Synced
 0 notyet
 ";
 
-fn goes_on<R: Wait + Files<File = File> + AllocGlobal>(
-    rt: &R,
-    script: &str,
-    lines: &str,
-) -> Result<bool, Fail> {
+fn goes_on<R: Host + AllocGlobal>(rt: &R, script: &str, lines: &str) -> Result<bool, Fail> {
     let alloc = rt.alloc();
     let script = format!(in alloc; "{BEGINNING}{script}")?;
     let lines = format!(in alloc; "{BEGUN}{lines}")?;
@@ -296,11 +278,7 @@ log Synced
 ";
 
 // Whether so many changes and entries are found after this stop.
-fn leaves<R: Wait + Files<File = File> + AllocGlobal>(
-    rt: &R,
-    stop: &str,
-    opened: &str,
-) -> Result<bool, Fail> {
+fn leaves<R: Host + AllocGlobal>(rt: &R, stop: &str, opened: &str) -> Result<bool, Fail> {
     let alloc = rt.alloc();
     let script = format!(in alloc; "{TWO_AND_TWO}{stop}\nopen 16\n")?;
     let lines = format!(in alloc; "{TWO_COMMITTED}stop\nopen {opened}")?;
@@ -476,7 +454,7 @@ durable 5
 ";
 
 // Whether replies above the durable count fail, and what an opening finds, where this sync fails.
-fn fails_at<R: Wait + Files<File = File> + AllocGlobal>(
+fn fails_at<R: Host + AllocGlobal>(
     rt: &R,
     calls: &str,
     called: &str,

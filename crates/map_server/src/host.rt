@@ -1,0 +1,25 @@
+//! What the program needs of the system.
+
+use log::Log;
+use std::fs::File;
+use std::net::{Net, TcpListener, TcpStream};
+use std::rt::Files;
+use std::sync::Wait;
+use std::thread::Threads;
+
+/// Files, sockets, threads, records, and leave to wait.
+pub trait Host: Files<File = File>
+    + Net<Listener = TcpListener, Stream = TcpStream>
+    + Log
+    + Threads
+    + Wait
+    + Sync {}
+
+impl<
+    T: Files<File = File>
+        + Net<Listener = TcpListener, Stream = TcpStream>
+        + Log
+        + Threads
+        + Wait
+        + Sync,
+> Host for T {}

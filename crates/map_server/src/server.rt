@@ -1,0 +1,271 @@
+//! The server: the map of a directory is served on a port of this machine.
+ghost use Rattle.std.specs.Prelude.{◌≡◌, IfOk, IfErr};
+ghost use Rattle.map_server.specs.Serving.{Announces, Hosts, PrintsAtMost, ServesOn};
+ghost use Rattle.map_server.specs.Settings.{AreNamed, IsNamed, IsPort, IsWorkerCount};
+
+use crate::directory::{cannot_open, stripes_named};
+use crate::exits::{MISUSED, break_off, refuse, say};
+use crate::worker::{Arrivals, Gate, NoGate, workers};
+use disk_model::{DirDisk, Disk, Start};
+use durable_map::{DurableMap, Ends, checkpoint_loop, flush_loop};
+use java_hash::StripeCount;
+use log::{Log, info};
+use map_types::Refusal;
+use recovery::open_parts;
+use std::alloc::Global;
+use std::fs::File;
+use std::io::Write;
+use std::net::{Net, TcpListener, TcpStream};
+use std::rt::Files;
+use std::sync::Wait;
+use std::sync::atomic::{AtomicBool, Ordering};
+use std::thread::Threads;
+use std::{io, thread};
+use wire_frames::write_whole;
+
+/// The words of a server's command line.
+#[derive(Clone, Copy)]
+pub(crate) struct ServerWords<'a> {
+    pub directory: &'a str,
+    pub port: &'a str,
+    pub stripes: &'a str,
+    pub workers: &'a str,
+    pub bytes: &'a str,
+}
+
+/// What a server is to do.
+#[derive(Clone, Copy)]
+pub(crate) struct Settings {
+    pub port: u16,
+    /// How many stripes the map is divided into.
+    pub stripes: StripeCount,
+    /// How many connections are served at a time.
+    pub workers: usize,
+    /// The length of the log that begins a checkpoint.
+    pub bytes: u64,
+}
+
+/// The port that the word names.
+pub(crate) fn port_named(word: &str) -> Option<u16>
+    ensures { IsNamed IsPort word.now result }
+{
+    match word.parse::<u16>() {
+        Ok(port) if port > 0 => Some(port),
+        _ => None,
+    }
+}
+
+fn workers_named(word: &str) -> Option<usize>
+    ensures { IsNamed IsWorkerCount word.now result }
+{
+    match word.parse::<usize>() {
+        Ok(count) if count > 0 && count <= 64 => Some(count),
+        _ => None,
+    }
+}
+
+/// The settings that the words name; else a text that says what is wrong with them.
+fn settings_named(words: &ServerWords<'_>) -> Result<Settings, &'static str>
+    ensures ok { IfOk result (λ settings. AreNamed words.now settings) }
+    ensures err { IfErr result (λ _. (settings : Settings) → AreNamed words.now settings → ⊥) }
+{
+    let Some(port) = port_named(words.port) else {
+        return Err("P is a number from 1 to 65535\n");
+    };
+    let Some(stripes) = stripes_named(words.stripes) else {
+        return Err("S is a power of two from 1 to 256\n");
+    };
+    let Some(workers) = workers_named(words.workers) else {
+        return Err("W is a number from 1 to 64\n");
+    };
+    let Ok(bytes) = words.bytes.parse::<u64>() else {
+        return Err("B is a number from 0 to 18446744073709551615\n");
+    };
+    Ok(Settings {
+        port,
+        stripes,
+        workers,
+        bytes,
+    })
+}
+
+/// Whether the loops of a server are to end.
+#[derive(Drop)]
+struct Ending {
+    has_ended: AtomicBool,
+}
+
+impl Ends for Ending {
+    fn has_ended(&self) -> bool {
+        self.has_ended.load(Ordering::SeqCst)
+    }
+}
+
+/// What the threads of a server share.
+#[derive(Drop)]
+pub(crate) struct Shop<D: Disk + Drop> {
+    alloc: Global,
+    map: DurableMap<D>,
+    bytes: u64,
+    ending: Ending,
+}
+
+impl<D: Disk + Drop> Shop<D> {
+    /// A server of the map, which begins a checkpoint where the log has so many bytes.
+    pub(crate) fn new(alloc: Global, map: DurableMap<D>, bytes: u64) -> Shop<D> {
+        let has_ended = AtomicBool::new(false);
+        Shop {
+            alloc,
+            map,
+            bytes,
+            ending: Ending { has_ended },
+        }
+    }
+
+    // Makes the loops end.
+    fn end(&self) {
+        self.ending.has_ended.store(true, Ordering::SeqCst);
+    }
+}
+
+/// Runs the two loops of the map on threads of their own and serves the connections with so many
+/// workers, until no more come. Refused with `NoMemory` where a thread can't be started.
+pub(crate) fn run<D: Disk + Drop + Send, G: Gate + Sync, C: Arrivals, R: Threads + Wait + Sync>(
+    rt: &R,
+    shop: &Shop<D>,
+    gate: &G,
+    arrivals: &mut C,
+    count: usize,
+) -> Result<(), Refusal>
+    ensures { IfErr result (λ refusal. refusal ≡ Refusal.NoMemory) }
+{
+    let has_started = thread::scope(thread::scope_env(), rt, |scope| {
+        let flusher = scope.spawn(move || flush_loop(rt, &shop.map, &shop.ending));
+        let keeper = scope.spawn(move || checkpoint_loop(rt, &shop.map, shop.bytes, &shop.ending));
+        let has_started = flusher.is_ok()
+            && keeper.is_ok()
+            && workers(rt, shop.alloc, &shop.map, gate, arrivals, count).is_ok();
+        shop.end();
+        has_started
+    });
+    if has_started {
+        Ok(())
+    } else {
+        Err(Refusal::NoMemory)
+    }
+}
+
+/// The connections that a listener accepts.
+#[derive(Drop)]
+struct Door<'a> {
+    listener: &'a TcpListener,
+}
+
+impl Arrivals for Door<'_> {
+    fn next(&mut self) -> Option<TcpStream> {
+        for stream in self.listener.incoming() {
+            if let Ok(stream) = stream {
+                return Some(stream);
+            }
+        }
+        None
+    }
+}
+
+// Says that the server listens: the line on `output`, and how many commands it begins with in the log.
+fn announce<W: Write, L: Log>(rt: &L, line: &str, first: u64, output: &mut W) -> io::Result<()>
+    ensures { PrintsAtMost line.now (W.contents output.old) (W.contents output.new) }
+{
+    write_whole(output, line.as_bytes())?;
+    output.flush()?;
+    info!(rt; "prefix {first}");
+    Ok(())
+}
+
+/// Binds the port, says so, and serves the map.
+fn host<
+    D: Disk + Drop + Send,
+    W: Write,
+    E: Write,
+    R: Net<Listener = TcpListener, Stream = TcpStream> + Log + Threads + Wait + Sync,
+>(
+    rt: &R,
+    alloc: Global,
+    map: DurableMap<D>,
+    first: u64,
+    settings: &Settings,
+    output: &mut W,
+    error: &mut E,
+) -> u8
+    ensures { Announces settings.now.port (W.contents output.old) (W.contents output.new) result }
+{
+    let port = settings.port;
+    let Ok(line) = format!(in alloc; "listening {port}\n") else {
+        return refuse(alloc, Refusal::NoMemory, error);
+    };
+    let Ok(listener) = TcpListener::bind(rt, ("127.0.0.1", port)) else {
+        return break_off(error);
+    };
+    if announce(rt, line.as_str(), first, output).is_err() {
+        return break_off(error);
+    }
+    let shop = Shop::new(alloc, map, settings.bytes);
+    let mut door = Door {
+        listener: &listener,
+    };
+    match run(rt, &shop, &NoGate, &mut door, settings.workers) {
+        Ok(()) => break_off(error),
+        Err(refusal) => refuse(alloc, refusal, error),
+    }
+}
+
+/// Opens the disk, and serves its map.
+pub(crate) fn serve_disk<
+    D: Disk + Drop + Send,
+    W: Write,
+    E: Write,
+    R: Net<Listener = TcpListener, Stream = TcpStream> + Log + Threads + Wait + Sync,
+>(rt: &R, alloc: Global, disk: D, settings: &Settings, output: &mut W, error: &mut E) -> u8
+    ensures { Hosts D.states D.failures D.honest settings.now.port disk (W.contents output.old) (W.contents output.new) result }
+{
+    match open_parts(alloc, disk, settings.stripes) {
+        Ok((keeper, parts, first)) => match DurableMap::new(alloc, keeper, parts, first) {
+            Ok(map) => host(rt, alloc, map, first, settings, output, error),
+            Err((_disk, refusal)) => refuse(alloc, refusal, error),
+        },
+        Err((_disk, refusal)) => refuse(alloc, refusal, error),
+    }
+}
+
+/// Serves the map of a directory on a port of this machine, with the words of its command line. It ends
+/// only by being ended.
+///
+/// The status is 2 with a text on `error` where the words aren't allowed; 1 with `unreadable` on `error`
+/// where the directory's lock or files, the port or `output` fail; and 1 with `refused` and the refusal
+/// where the directory can't be opened or no memory is found. Once it listens it prints `listening` and
+/// the port, and writes a record of how many commands the map begins with.
+pub(crate) fn serve<
+    S: Start + Send,
+    W: Write,
+    E: Write,
+    R: Files<File = File>
+        + Net<Listener = TcpListener, Stream = TcpStream>
+        + Log
+        + Threads
+        + Wait
+        + Sync,
+>(rt: &R, alloc: Global, start: S, words: &ServerWords<'_>, output: &mut W, error: &mut E) -> u8
+    ensures { ServesOn S.Start.files S.Start.left words.now (W.contents output.old) (W.contents output.new) result }
+{
+    let settings = match settings_named(words) {
+        Ok(settings) => settings,
+        Err(text) => {
+            say(error, text);
+            return MISUSED;
+        }
+    };
+    match DirDisk::open(rt, alloc, words.directory, start) {
+        Ok(disk) => serve_disk(rt, alloc, disk, &settings, output, error),
+        Err(failure) => cannot_open(alloc, &failure, error),
+    }
+}
