@@ -265,19 +265,6 @@ fn open_new<D: Disk + Drop>(alloc: Global, disk: D) -> Result<(Keeper<D>, Stripe
     }
 }
 
-/// The keeper's pass of the stripes.
-fn keepers_pass(stripes: &Stripes) -> Result<Pass, Refusal>
-    ensures own { IfOk result (λ pass. IsPassOf stripes.now pass) }
-    ensures first { IfOk result (λ pass. recorded pass ≡ joining (begun_with stripes.now) 0) }
-    ensures err { IfErr result (λ refusal. refusal ≡ Refusal.SeatsSpent) }
-{
-    let pass = stripes.pass()?;
-    if !pass.is_keeper() {
-        return Err(Refusal::SeatsSpent);
-    }
-    Ok(pass)
-}
-
 impl<'a, R: Wait> Memory<'a, MemDisk, R> {
     /// An empty map, over a disk in memory that is made that of an empty map and opened. Refuses with
     /// `AlreadyFormatted` where a checkpoint is sealed there, with `Failed` exactly where a device call
@@ -292,7 +279,7 @@ impl<'a, R: Wait> Memory<'a, MemDisk, R> {
         ensures err { IfErr result (λ refused. CannotBegin ⟦<MemDisk as Disk>⟧.states ⟦<MemDisk as Disk>⟧.failures disk refused.1 refused.0) }
     {
         let (keeper, stripes) = open_new(alloc, disk)?;
-        let pass = match keepers_pass(&stripes) {
+        let pass = match stripes.keeper_pass() {
             Ok(pass) => pass,
             Err(refusal) => return Err((keeper.into_disk(), refusal)),
         };

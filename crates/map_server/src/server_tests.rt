@@ -84,6 +84,11 @@ fn send(client: &TcpStream, bytes: &[u8]) -> Result<(), Fail> {
     Ok(())
 }
 
+/// One of the clients.
+fn client_at(clients: &[TcpStream], index: usize) -> Result<&TcpStream, Fail> {
+    Ok(clients.get(index).ok_or("there are more clients")?)
+}
+
 /// Whether the client is sent these bytes alone.
 fn is_sent(rt: &HostRuntime, client: &TcpStream, bytes: &[u8]) -> Result<bool, Fail> {
     let mut client = client;
@@ -135,8 +140,10 @@ fn a_request_that_is_held_holds_up_no_other(rt: HostRuntime) -> Result<(), Fail>
     };
     run(&rt, &shop, &gate, &mut listed, 2).map_err(|_| "threads start")?;
     assert!(rt; gate.was_in_time.load(Ordering::SeqCst));
-    let first = is_sent(&rt, &clients[0], WAS_ABSENT)? && is_sent(&rt, &clients[1], WAS_5)?;
-    assert!(rt; first || is_sent(&rt, &clients[1], WAS_ABSENT)?);
+    let one = client_at(&clients, 0)?;
+    let other = client_at(&clients, 1)?;
+    let first = is_sent(&rt, one, WAS_ABSENT)? && is_sent(&rt, other, WAS_5)?;
+    assert!(rt; first || is_sent(&rt, other, WAS_ABSENT)?);
     Ok(())
 }
 
@@ -144,10 +151,10 @@ fn a_request_that_is_held_holds_up_no_other(rt: HostRuntime) -> Result<(), Fail>
 fn a_connection_breaks_off_alone(rt: HostRuntime) -> Result<(), Fail> {
     let shop = Shop::new(rt.alloc(), map_over(&rt, None)?, NO_CHECKPOINT);
     let (mut clients, mut listed) = connected(&rt, 5)?;
-    send(&clients[0], b"")?;
-    send(&clients[1], &PUT[..9])?;
-    send(&clients[2], b"\x00\x00\x00\x03\x01\x01a")?;
-    send(&clients[4], PUT)?;
+    send(client_at(&clients, 0)?, b"")?;
+    send(client_at(&clients, 1)?, &PUT[..9])?;
+    send(client_at(&clients, 2)?, b"\x00\x00\x00\x03\x01\x01a")?;
+    send(client_at(&clients, 4)?, PUT)?;
     let last = clients.pop().ok_or("there are five")?;
     if let Some(mut gone) = clients.pop() {
         gone.write_all(PUT)?;
@@ -155,9 +162,9 @@ fn a_connection_breaks_off_alone(rt: HostRuntime) -> Result<(), Fail> {
         drop(gone);
     }
     run(&rt, &shop, &NoGate, &mut listed, 1).map_err(|_| "threads start")?;
-    assert!(rt; is_sent(&rt, &clients[0], b"")?);
-    assert!(rt; is_sent(&rt, &clients[1], b"")?);
-    assert!(rt; is_sent(&rt, &clients[2], BAD_FRAME)?);
+    assert!(rt; is_sent(&rt, client_at(&clients, 0)?, b"")?);
+    assert!(rt; is_sent(&rt, client_at(&clients, 1)?, b"")?);
+    assert!(rt; is_sent(&rt, client_at(&clients, 2)?, BAD_FRAME)?);
     assert!(rt; is_sent(&rt, &last, WAS_5)?);
     Ok(())
 }
@@ -237,7 +244,7 @@ fn after_a_device_failure_each_call_fails(rt: HostRuntime) -> Result<(), Fail> {
         send(client, puts.as_slice())?;
     }
     run(&rt, &shop, &NoGate, &mut listed, 1).map_err(|_| "threads start")?;
-    let mut client = &clients[0];
+    let mut client = client_at(&clients, 0)?;
     let mut replies = Vec::new(rt.alloc());
     let _ = client.read_to_end(&mut replies);
     assert!(rt; fail_at_last(replies.as_slice()), "{replies:?}");
