@@ -1,5 +1,5 @@
 //! Directories of the system: the program formats and checks them, and they are opened again.
-use crate::program::words_of;
+use crate::program::{Sockets, words_of};
 use disk_model::{DirDisk, Unknown};
 use java_hash::StripeCount;
 use map_server::{Host, dchm};
@@ -71,6 +71,7 @@ const UNREADABLE: &[u8] = b"unreadable\n";
 
 #[test]
 fn a_directory_is_formatted_once(rt: HostRuntime) -> Result<(), Fail> {
+    let _sockets: Sockets = None;
     make_directory(&rt, "once")?;
     let init = ["dchm", "init", "once"];
     assert!(rt; ends(&rt, &init, 0, b"formatted 16\n", b"")?);
@@ -112,6 +113,7 @@ fn opened(
 
 #[test]
 fn another_number_of_stripes(rt: HostRuntime) -> Result<(), Fail> {
+    let _sockets: Sockets = None;
     make_directory(&rt, "other")?;
     let init = ["dchm", "init", "other", "--stripes", "2"];
     assert!(rt; ends(&rt, &init, 0, b"formatted 2\n", b"")?);
@@ -134,6 +136,7 @@ fn held<R: Host + AllocGlobal>(rt: &R, directory: &str) -> Result<bool, Fail> {
 
 #[test]
 fn a_directory_in_use(rt: HostRuntime) -> Result<(), Fail> {
+    let _sockets: Sockets = None;
     make_directory(&rt, "used")?;
     assert!(rt; held(&rt, "used")?);
     assert!(rt; fs::metadata(&rt, "used/ckpt-a").is_err());
@@ -146,6 +149,7 @@ fn a_directory_in_use(rt: HostRuntime) -> Result<(), Fail> {
 
 #[test]
 fn no_directory(rt: HostRuntime) -> Result<(), Fail> {
+    let _sockets: Sockets = None;
     assert!(rt; ends(&rt, &["dchm", "init", "nowhere"], 1, b"", UNREADABLE)?);
     assert!(rt; ends(&rt, &["dchm", "check", "nowhere"], 1, b"", UNREADABLE)?);
     assert!(rt; fs::metadata(&rt, "nowhere").is_err());
@@ -154,6 +158,7 @@ fn no_directory(rt: HostRuntime) -> Result<(), Fail> {
 
 #[test]
 fn a_directory_not_formatted(rt: HostRuntime) -> Result<(), Fail> {
+    let _sockets: Sockets = None;
     make_directory(&rt, "bare")?;
     let refused = b"refused 11 NotFormatted\n";
     assert!(rt; ends(&rt, &["dchm", "check", "bare"], 1, b"", refused)?);
@@ -165,6 +170,7 @@ fn a_directory_not_formatted(rt: HostRuntime) -> Result<(), Fail> {
 // A word that isn't allowed is told before the directory is looked at.
 #[test]
 fn numbers_of_stripes_not_allowed(rt: HostRuntime) -> Result<(), Fail> {
+    let _sockets: Sockets = None;
     for stripes in ["3", "0", "512", "x", ""] {
         let ended = run(&rt, &["dchm", "init", "nowhere", "--stripes", stripes])?;
         assert_eq!(rt; ended.status, 2);

@@ -1,5 +1,5 @@
 //! Scripts of whole schedules: what the program prints of them.
-use crate::program::words_of;
+use crate::program::{Sockets, words_of};
 use disk_model::Unknown;
 use map_server::{Host, dchm};
 use std::alloc::Global;
@@ -99,6 +99,7 @@ fn goes_on<R: Host + AllocGlobal>(rt: &R, script: &str, lines: &str) -> Result<b
 
 #[test]
 fn a_stop_before_the_gate_is_opened(rt: HostRuntime) -> Result<(), Fail> {
+    let _sockets: Sockets = None;
     assert!(rt; goes_on(&rt, "stop new\nopen 16\n", "stop\nopen 0 0")?);
     assert!(rt; goes_on(&rt, "stop new\nopen 16", "stop\nopen 0 0")?);
     assert!(rt; goes_on(&rt, "\nstop new\n\n\nopen 16\n\n", "stop\nopen 0 0")?);
@@ -107,6 +108,7 @@ fn a_stop_before_the_gate_is_opened(rt: HostRuntime) -> Result<(), Fail> {
 
 #[test]
 fn a_stop_within_the_gate(rt: HostRuntime) -> Result<(), Fail> {
+    let _sockets: Sockets = None;
     let alloc = rt.alloc();
     for (fill, opened) in [
         ("new", "1 1"),
@@ -124,6 +126,7 @@ fn a_stop_within_the_gate(rt: HostRuntime) -> Result<(), Fail> {
 
 #[test]
 fn a_reply_once_it_is_durable(rt: HostRuntime) -> Result<(), Fail> {
+    let _sockets: Sockets = None;
     let script = "log ok\nlog ok\npublish\nrelease 0\n";
     let lines = "log Opened\nlog Idle\ndurable 1\n0 reply 1 was _";
     assert!(rt; goes_on(&rt, script, lines)?);
@@ -230,6 +233,7 @@ open 4 2";
 
 #[test]
 fn a_checkpoint_beside_changes(rt: HostRuntime) -> Result<(), Fail> {
+    let _sockets: Sockets = None;
     assert!(rt; prints(&rt, CHECKPOINT, CHECKPOINTED)?);
     Ok(())
 }
@@ -287,6 +291,7 @@ fn leaves<R: Host + AllocGlobal>(rt: &R, stop: &str, opened: &str) -> Result<boo
 
 #[test]
 fn a_stop_leaves_whole_batches(rt: HostRuntime) -> Result<(), Fail> {
+    let _sockets: Sockets = None;
     for fill in ["old", "new", "00", "A5", "FF"] {
         let stop = format!(in rt.alloc(); "stop {fill}")?;
         assert!(rt; leaves(&rt, stop.as_str(), "2 2")?, "{fill}");
@@ -408,6 +413,7 @@ mark 2
 
 #[test]
 fn a_half_written_checkpoint_is_not_used(rt: HostRuntime) -> Result<(), Fail> {
+    let _sockets: Sockets = None;
     let alloc = rt.alloc();
     for fill in ["old", "new", "00", "A5", "FF"] {
         let script = format!(in alloc; "{SECOND_CHECKPOINT}stop-in ckpt {fill}\nopen 4\n")?;
@@ -481,6 +487,7 @@ fn fails_at<R: Host + AllocGlobal>(
 
 #[test]
 fn a_sync_that_fails(rt: HostRuntime) -> Result<(), Fail> {
+    let _sockets: Sockets = None;
     let first = "log ok\n";
     let first_called = "log Written\n";
     let second = "log ok\nlog ok\nlog ok\n";
@@ -505,6 +512,7 @@ fn a_sync_that_fails(rt: HostRuntime) -> Result<(), Fail> {
 
 #[test]
 fn a_life_that_is_left(rt: HostRuntime) -> Result<(), Fail> {
+    let _sockets: Sockets = None;
     let alloc = rt.alloc();
     for (fill, opened) in [
         ("old", "0 0"),
@@ -525,6 +533,7 @@ fn a_life_that_is_left(rt: HostRuntime) -> Result<(), Fail> {
 
 #[test]
 fn an_opening_that_fails(rt: HostRuntime) -> Result<(), Fail> {
+    let _sockets: Sockets = None;
     let alloc = rt.alloc();
     for (fill, opened) in [
         ("old", "0 0"),
@@ -627,6 +636,7 @@ skipped";
 
 #[test]
 fn lines_that_do_not_fit(rt: HostRuntime) -> Result<(), Fail> {
+    let _sockets: Sockets = None;
     assert!(rt; prints(&rt, IDLE, IDLED)?);
     Ok(())
 }
@@ -670,6 +680,7 @@ skipped
 
 #[test]
 fn a_release_amid_a_walk_makes_no_step(rt: HostRuntime) -> Result<(), Fail> {
+    let _sockets: Sockets = None;
     assert!(rt; prints(&rt, AMID, AMID_PLAYED)?);
     Ok(())
 }
@@ -743,12 +754,14 @@ start 1
 
 #[test]
 fn a_stripe_that_is_found_held(rt: HostRuntime) -> Result<(), Fail> {
+    let _sockets: Sockets = None;
     assert!(rt; prints(&rt, HELD, HELD_PLAYED)?);
     Ok(())
 }
 
 #[test]
 fn bad_scripts_print_nothing(rt: HostRuntime) -> Result<(), Fail> {
+    let _sockets: Sockets = None;
     assert!(rt;
         is_misused(
             &rt,
