@@ -1,7 +1,8 @@
 -- A keeper that has done nothing yet, with a pass that has made no step.
-use Rattle.std.proofs.Common.{◌≡◌, ℕ, refl, sym, ap, subst}
+use Rattle.std.proofs.Common.{◌≡◌, ℕ, refl, sym, subst}
 use Rattle.ticket_order.specs.declared.record.Opening.{Opening}
 use Rattle.ticket_order.specs.declared.record.Record.{Record}
+use Rattle.ticket_order.specs.StepRules.{AllLegalSections}
 use Rattle.stripe_locks.specs.Plays.{joining}
 use Rattle.flusher.specs.Fitting.{IsUnused}
 
@@ -11,3 +12,6 @@ unused o = record { opening = refl; keeper = refl; free = refl; none_taken = ref
 -- the first pass of stripes that were begun so
 pub unused_at : (o begun : Opening) (p : Record) → p ≡ joining begun 0 → begun ≡ o → IsUnused o.first p
 unused_at o begun p first is = subst (λ (x : Opening). IsUnused x.first p) is (subst (λ (r : Record). IsUnused begun.first r) (sym first) (unused begun))
+
+pub none_captured : (n : ℕ) (begun : Opening) (p : Record) → p ≡ joining begun 0 → AllLegalSections n p p.sections
+none_captured n begun p first = subst (λ (r : Record). AllLegalSections n r r.sections) (sym first) tt

@@ -1,12 +1,10 @@
 -- The keeper of a running map may go from thread to thread where its disk may, and the map may be shared.
 use denote.RattleType.{RattleType}
 use denote.Param.Send.{IsSend, IsSync, AllSend, AllSync, sendable, view_send, struct_send, struct_sync, recorded_send, recorded_sync}
-use denote.Struct.Struct.{Struct}
 use denote.Struct.Declared.{shape}
 use Rattle.std.proofs.Crossing.{crosses, Vec-send, Box-send}
 use Rattle.std.proofs.Crossing as heap
 use Rattle.disk_model.specs.declared.disk.Disk.{Ghosts}
-use Rattle.atomic_table.specs.contracts.owned.Table as Table
 use Rattle.atomic_table.proofs.shared.Shared.TheSendSync as shared
 use Rattle.atomic_table.proofs.shared.Seat.TheSendSync as seat
 use Rattle.atomic_table.proofs.send_lease.SendLease.TheSendSync as lease

@@ -1,12 +1,10 @@
 -- How a record grows by the steps of a call.
-use Rattle.std.proofs.Common.{◌≡◌, ◌⊎◌, inl, inr, ℕ, ◌≤◌, List, [], ◌∷◌, ◌++◌, append-nil, append_assoc, Bool, true, false, refl, sym, ap, subst, ◌∙◌}
-use Rattle.map_types.specs.declared.commands.Command.{Command}
+use Rattle.std.proofs.Common.{◌≡◌, ◌⊎◌, inl, inr, ℕ, List, [], ◌∷◌, ◌++◌, append-nil, append_assoc, Bool, false, refl, sym, ap, ◌∙◌}
 use Rattle.ticket_order.specs.declared.record.Record.{Record}
 use Rattle.ticket_order.specs.declared.record.StepMade.{StepMade}
 use Rattle.ticket_order.specs.declared.record.StepMade.TheVariants.{FoundAlive, Saw}
 use Rattle.ticket_order.specs.StepRules.{Lives, Sees}
 use Rattle.ticket_order.specs.Calls.{Misses, MissesAlive, Reaches, SeesAgain}
-use Rattle.flusher.specs.Fitting.{HasSeenMore}
 use Rattle.durable_map.specs.Durable.{EndsDurable, FoundFailure, GrewBy, MakesNoCall}
 
 -- a list that has grown to m, and grows by one more

@@ -1,11 +1,11 @@
 -- What follows of a keeper that fits its files.
-use Rattle.std.proofs.Common.{◌≡◌, ℕ, ◌+◌, ◌≤◌, max, List, [], ◌∷◌, ◌++◌, length, length-append, Option, None, Some, IfSome, false, refl, sym, ap, subst, ◌∙◌, arith}
+use Rattle.std.proofs.Common.{◌≡◌, ℕ, ◌+◌, ◌≤◌, List, [], ◌∷◌, length, length-append, Option, None, Some, IfSome, Bool, true, false, refl, sym, ap, subst, ◌∙◌, arith}
 use Rattle.disk_model.specs.Files.{Files, now}
 use Rattle.map_types.specs.declared.commands.Command.{Command}
 use Rattle.map_model.specs.Histories.{History}
 use Rattle.store_layout.specs.Checkpoints.{Checkpoint, Section, checkpoint_file, greatest_mark}
 use Rattle.store_layout.specs.Logs.{Batch, commands_in}
-use Rattle.store_layout.specs.Opening.{Opened, log_of, logged_by, prefix_of}
+use Rattle.store_layout.specs.Opening.{logged_by}
 use Rattle.store_layout.specs.Standing.{AreMarks, AreParts}
 use Rattle.checkpoint_file.specs.States.{CheckpointState}
 use Rattle.checkpoint_file.specs.Standing as checkpoint
@@ -14,10 +14,11 @@ use Rattle.store_states.specs.States.{Held, StoreState}
 use Rattle.store_states.specs.Standing.{LogsStand, MayCapture, WriterStands}
 use Rattle.ticket_order.specs.declared.record.Record.{Record}
 use Rattle.ticket_order.specs.Legality.{history_of}
+use Rattle.ticket_order.specs.StepRules.{AllLegalSections}
 use Rattle.flusher.specs.declared.keeper.Keeper.{Keeper}
-use Rattle.flusher.specs.Fitting.{Fits, IsTakenFront, StopsFit}
+use Rattle.flusher.specs.Fitting.{Fits, IsTakenFront, StopsFit, store_of}
 use Rattle.flusher.specs.Keeping.{is_walking}
-use Rattle.durable_map.specs.Keeping.{CapturesStand, IsSealedWithin, Keeps}
+use Rattle.durable_map.specs.Keeping.{CapturesStand, Keeps, KeepsSealed}
 
 captures : (n : ℕ) (h : History) (store : StoreState) (held : Held) (files : Files) (o : Option CheckpointState) → WriterStands o store held (files (checkpoint_file (store.sealed + 1)))
     → MayCapture h o held.sections store.log.committed → IfSome o (λ w. w.stripes ≡ n) → CapturesStand n h o files
@@ -43,13 +44,13 @@ committed_is k first (Some second) newest staged files logs =
     omega (arith, c, low, both)
 
 module _ {D : Type 0} (states : D → List Files) (honest : D → Type 0) (n : ℕ) (done : List Command) (keeper : Keeper D) (p : Record) (fits : Fits states honest n done keeper p) where
-  captured : keeper.is_broken ≡ false → honest keeper.disk → CapturesStand n (history_of p) keeper.checkpoint (now (states keeper.disk))
-  captured works honestly =
+  given : keeper.is_broken ≡ false → honest keeper.disk → CapturesStand n (history_of p) keeper.checkpoint (now (states keeper.disk))
+  given works honestly =
       let k = fits.stores.works works honestly in
       captures n (history_of p) _ k.held (now (states keeper.disk)) keeper.checkpoint k.stands.kept.writer k.stands.of_history.capture fits.stripes.writer
 
-  sealed : keeper.is_broken ≡ false → honest keeper.disk → IsSealedWithin keeper.sealed keeper.log.committed (now (states keeper.disk))
-  sealed works honestly =
+  sealed_in : keeper.is_broken ≡ false → KeepsSealed states honest keeper
+  sealed_in works honestly =
       let k = fits.stores.works works honestly in
       let found = k.held.found in
       let low = below _ _ found.checkpoint.sections k.stands.of_history.restores.marks in
@@ -60,8 +61,21 @@ module _ {D : Type 0} (states : D → List Files) (honest : D → Type 0) (n : �
         reached = omega (arith, low, all);
       }
 
-  pub keeps : is_walking keeper.sweeper.walking ≡ false → keeper.capture ≡ None → IsTakenFront done keeper.log.committed p → (honest keeper.disk → StopsFit (history_of p) keeper (now (states keeper.disk))) → Keeps states honest n keeper p
-  keeps still over taken stops = record {
+  sealed : (broken : Bool) → keeper.is_broken ≡ broken → (broken ≡ true → KeepsSealed states honest keeper) → KeepsSealed states honest keeper
+  sealed false works k = sealed_in works
+  sealed true works k = k refl
+
+  -- the checkpoint that is written follows the sealed one
+  pub written_next : keeper.is_broken ≡ false → honest keeper.disk → (w : CheckpointState) → keeper.checkpoint ≡ Some w → w.generation ≡ keeper.sealed + 1
+  written_next works honestly w is =
+      let k = fits.stores.works works honestly in
+      let writes : WriterStands (Some w) (store_of keeper) k.held (now (states keeper.disk) (checkpoint_file (keeper.sealed + 1))) =
+      subst (λ (o : Option CheckpointState). WriterStands o (store_of keeper) k.held (now (states keeper.disk) (checkpoint_file (keeper.sealed + 1)))) is k.stands.kept.writer in
+      writes.generation
+
+  pub keeps : is_walking keeper.sweeper.walking ≡ false → keeper.capture ≡ None → IsTakenFront done keeper.log.committed p → (honest keeper.disk → StopsFit (history_of p) keeper (now (states keeper.disk)))
+      → AllLegalSections n p p.sections → (keeper.is_broken ≡ true → KeepsSealed states honest keeper) → Keeps states honest n keeper p
+  keeps still over taken stops captured after = record {
     done = done;
     fits = fits;
     still = still;
@@ -70,5 +84,6 @@ module _ {D : Type 0} (states : D → List Files) (honest : D → Type 0) (n : �
     published = let a = fits.tells.published in let b = fits.tells.durable in omega (arith, a, b);
     stops = stops;
     captured = captured;
-    sealed = sealed;
+    given = given;
+    sealed = sealed keeper.is_broken refl after;
   }

@@ -3,5 +3,7 @@ mod Answering
 mod Refusing
 mod Beginning
 mod Kept
-mod Captured
+mod Sections
+mod Between
+mod Sealed
 pub mod Crosses

@@ -9,6 +9,7 @@ use Rattle.checkpoint_file.specs.States.{CheckpointState}
 use Rattle.store_states.specs.Standing.{IsSealedIn}
 use Rattle.ticket_order.specs.declared.record.Record.{Record}
 use Rattle.ticket_order.specs.Legality.{history_of}
+use Rattle.ticket_order.specs.StepRules.{AllLegalSections}
 use Rattle.flusher.specs.declared.keeper.Keeper.{Keeper}
 use Rattle.flusher.specs.Fitting.{Fits, IsTakenFront, StopsFit}
 use Rattle.flusher.specs.Keeping.{is_walking}
@@ -33,6 +34,10 @@ pub record IsSealedWithin (generation committed : ℕ) (files : Files) : Type 0 
   pub sealed : IsSealedIn checkpoint (files (checkpoint_file generation))
   pub reached : greatest_mark checkpoint.sections ≤ committed
 
+-- the keeper's sealed checkpoint is whole in its file, and its marks are committed
+abbrev pub KeepsSealed : {D : Type 0} → (D → List Files) → (D → Type 0) → Keeper D → Type 0
+KeepsSealed states honest keeper = honest keeper.disk → IsSealedWithin keeper.sealed keeper.log.committed (now (states keeper.disk))
+
 -- The keeper over n stripes, and the record of its pass. Neither a sweep nor a capture walks.
 pub record Keeps {D : Type 0} (states : D → List Files) (honest : D → Type 0) (n : ℕ) (keeper : Keeper D) (p : Record) : Type 0 where
   pub done : List Command
@@ -45,6 +50,9 @@ pub record Keeps {D : Type 0} (states : D → List Files) (honest : D → Type 0
   pub published : p.published ≤ keeper.log.committed
   -- whatever a stop leaves now stands for a front of the history, with what is committed and no more than what is staged besides
   pub stops : honest keeper.disk → StopsFit (history_of p) keeper (now (states keeper.disk))
-  -- until a device call fails, the sections that were captured are parts of the history, and the sealed checkpoint's marks are committed
-  pub captured : keeper.is_broken ≡ false → honest keeper.disk → CapturesStand n (history_of p) keeper.checkpoint (now (states keeper.disk))
-  pub sealed : keeper.is_broken ≡ false → honest keeper.disk → IsSealedWithin keeper.sealed keeper.log.committed (now (states keeper.disk))
+  -- each section that was captured is the part of its stripe after as many commands of the history as its mark says
+  pub captured : AllLegalSections n p p.sections
+  -- until a device call fails, so are those that the file of the checkpoint under way was given
+  pub given : keeper.is_broken ≡ false → honest keeper.disk → CapturesStand n (history_of p) keeper.checkpoint (now (states keeper.disk))
+  -- the sealed checkpoint's marks are committed
+  pub sealed : KeepsSealed states honest keeper

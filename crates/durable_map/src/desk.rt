@@ -6,9 +6,8 @@ ghost use Rattle.ticket_order.specs.declared.record.Record.{Record};
 ghost use Rattle.stripe_locks.specs.Passes.{recorded, stripe_count, IsPassOf};
 ghost use Rattle.durable_map.specs.Keeping.{Keeps};
 
-use crate::keeping::{capture, what_is_kept};
+use crate::keeping;
 use checkpoint_file::CheckpointPhase;
-use checkpoint_walk::{begin, seal};
 use disk_model::Disk;
 use flusher::Keeper;
 use map_types::Refusal;
@@ -80,8 +79,7 @@ impl<D: Disk> Desk<D> {
             return;
         }
         let mut steps = self.stripes.at(&mut self.pass);
-        let _swept = self.keeper.try_sweep(stripe, &mut steps);
-        what_is_kept(&self.keeper);
+        keeping::sweep(&mut self.keeper, stripe, &mut steps);
     }
 
     // Takes the entries of each stripe that no other pass holds.
@@ -93,16 +91,12 @@ impl<D: Disk> Desk<D> {
 
     // Stages the longest batch of what is in hand, and answers its length.
     fn stage(&mut self) -> Result<u32, Refusal> {
-        let staged = self.keeper.stage_batch(MOST_COMMANDS);
-        what_is_kept(&self.keeper);
-        staged
+        keeping::stage(&mut self.keeper, MOST_COMMANDS)
     }
 
     // Makes the device call that is due in the logs.
     fn advance_logs(&mut self) -> Result<(), Refusal> {
-        let stepped = self.keeper.advance();
-        what_is_kept(&self.keeper);
-        let _phase = stepped?;
+        let _phase = keeping::advance_logs(&mut self.keeper)?;
         Ok(())
     }
 
@@ -114,16 +108,14 @@ impl<D: Disk> Desk<D> {
     // DURABLE with the committed count, and wakes those who wait for it.
     fn publish(&mut self) {
         let mut steps = self.stripes.at(&mut self.pass);
-        self.keeper.publish(&mut steps);
-        what_is_kept(&self.keeper);
+        keeping::publish(&mut self.keeper, &mut steps);
         self.stripes.wake_released();
     }
 
     /// FAIL, and wakes those who wait for their positions.
     pub(crate) fn fail(&mut self) {
         let mut steps = self.stripes.at(&mut self.pass);
-        self.keeper.fail(&mut steps);
-        what_is_kept(&self.keeper);
+        keeping::fail(&mut self.keeper, &mut steps);
         self.stripes.wake_released();
     }
 
@@ -153,31 +145,25 @@ impl<D: Disk> Desk<D> {
         if length < bytes {
             return Ok(Turn::Rested);
         }
-        let begun = begin(&mut self.keeper);
-        what_is_kept(&self.keeper);
-        begun?;
+        keeping::begin(&mut self.keeper)?;
         Ok(Turn::Worked)
     }
 
     // Gives the checkpoint the section of this stripe, which is the next.
     fn capture(&mut self, stripe: usize) -> Result<Turn, Refusal> {
         let mut steps = self.stripes.at(&mut self.pass);
-        let _mark = capture(&mut self.keeper, stripe, &mut steps)?;
+        let _mark = keeping::capture(&mut self.keeper, stripe, &mut steps)?;
         Ok(Turn::Worked)
     }
 
     fn seal_checkpoint(&mut self) -> Result<Turn, Refusal> {
-        let sealed = seal(&mut self.keeper);
-        what_is_kept(&self.keeper);
-        sealed?;
+        keeping::seal(&mut self.keeper)?;
         Ok(Turn::Worked)
     }
 
     // Makes the device call that is due in the file of the checkpoint.
     fn advance_checkpoint(&mut self) -> Result<Turn, Refusal> {
-        let stepped = checkpoint_walk::advance(&mut self.keeper);
-        what_is_kept(&self.keeper);
-        let _phase = stepped?;
+        let _phase = keeping::advance_checkpoint(&mut self.keeper)?;
         Ok(Turn::Worked)
     }
 

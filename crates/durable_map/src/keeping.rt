@@ -1,24 +1,94 @@
-//! What holds of every keeper that neither sweeps nor captures.
-ghost use Rattle.std.specs.Prelude.{◌≡◌, ℕ, List, None, false};
+//! What holds of every keeper that neither sweeps nor captures, and is kept by each of its calls.
+ghost use Rattle.std.specs.Prelude.{◌≡◌, ◌<◌, ℕ, List, None, true, false};
 ghost use Rattle.map_types.specs.declared.commands.Command.{Command};
 ghost use Rattle.ticket_order.specs.declared.record.Record.{Record};
+ghost use Rattle.ticket_order.specs.StepRules.{AllLegalSections};
 ghost use Rattle.flusher.specs.Fitting.{Fits};
 ghost use Rattle.flusher.specs.Keeping.{is_walking};
-ghost use Rattle.durable_map.specs.Keeping.{Keeps};
+ghost use Rattle.durable_map.specs.Keeping.{Keeps, KeepsSealed};
 
+use checkpoint_file::CheckpointPhase;
 use checkpoint_walk::try_capture;
 use disk_model::Disk;
 use flusher::{Keeper, committed_were_taken, stops_of_a_keeper};
+use gate_log::Phase;
 use map_types::Refusal;
 use ticket_order::Steps;
 
 /// Its sweeps took what is committed, no more is published, and what a stop leaves stands for that.
+/// Until a device call fails, the marks of the sealed checkpoint are committed.
 pub(crate) fn what_is_kept<D: Disk>(keeper: &Keeper<D>)
     ensures { (n : ℕ) (done : List Command) (p : Record) → Fits D.states D.honest n done keeper.now p
-        → is_walking keeper.now.sweeper.walking ≡ false → keeper.now.capture ≡ None → Keeps D.states D.honest n keeper.now p }
+        → is_walking keeper.now.sweeper.walking ≡ false → keeper.now.capture ≡ None
+        → AllLegalSections n p p.sections → (keeper.now.is_broken ≡ true → KeepsSealed D.states D.honest keeper.now)
+        → Keeps D.states D.honest n keeper.now p }
 {
     committed_were_taken(keeper);
     stops_of_a_keeper(keeper);
+}
+
+/// Takes the entries of a stripe, unless another pass holds it or no memory is found.
+pub(crate) fn sweep<D: Disk, S: Steps>(keeper: &mut Keeper<D>, stripe: usize, steps: &mut S)
+    requires keeps { Keeps D.states D.honest (S.stripe_count steps.old) keeper.old (S.recorded steps.old) }
+    requires within { stripe < S.stripe_count steps.old }
+    ensures keeps { Keeps D.states D.honest (S.stripe_count steps.new) keeper.new (S.recorded steps.new) }
+    ensures place { S.place steps.new ≡ S.place steps.old }
+    ensures stripes { S.stripe_count steps.new ≡ S.stripe_count steps.old }
+{
+    let _swept = keeper.try_sweep(stripe, steps);
+    what_is_kept(keeper);
+}
+
+/// Stages the longest batch of at most `most` commands, and answers its length.
+pub(crate) fn stage<D: Disk>(keeper: &mut Keeper<D>, most: u32) -> Result<u32, Refusal>
+    requires keeps { (n : ℕ) × (p : Record) × Keeps D.states D.honest n keeper.old p }
+    ensures keeps { (n : ℕ) (p : Record) → Keeps D.states D.honest n keeper.old p → Keeps D.states D.honest n keeper.new p }
+{
+    let staged = keeper.stage_batch(most);
+    what_is_kept(keeper);
+    staged
+}
+
+/// Makes the device call that is due in the logs.
+pub(crate) fn advance_logs<D: Disk>(keeper: &mut Keeper<D>) -> Result<Phase, Refusal>
+    requires keeps { (n : ℕ) × (p : Record) × Keeps D.states D.honest n keeper.old p }
+    ensures keeps { (n : ℕ) (p : Record) → Keeps D.states D.honest n keeper.old p → Keeps D.states D.honest n keeper.new p }
+{
+    let stepped = keeper.advance();
+    what_is_kept(keeper);
+    stepped
+}
+
+/// DURABLE with the committed count.
+pub(crate) fn publish<D: Disk, S: Steps>(keeper: &mut Keeper<D>, steps: &mut S)
+    requires keeps { Keeps D.states D.honest (S.stripe_count steps.old) keeper.old (S.recorded steps.old) }
+    ensures keeps { Keeps D.states D.honest (S.stripe_count steps.new) keeper.new (S.recorded steps.new) }
+    ensures place { S.place steps.new ≡ S.place steps.old }
+    ensures stripes { S.stripe_count steps.new ≡ S.stripe_count steps.old }
+{
+    keeper.publish(steps);
+    what_is_kept(keeper);
+}
+
+/// FAIL.
+pub(crate) fn fail<D: Disk, S: Steps>(keeper: &mut Keeper<D>, steps: &mut S)
+    requires keeps { Keeps D.states D.honest (S.stripe_count steps.old) keeper.old (S.recorded steps.old) }
+    ensures keeps { Keeps D.states D.honest (S.stripe_count steps.new) keeper.new (S.recorded steps.new) }
+    ensures place { S.place steps.new ≡ S.place steps.old }
+    ensures stripes { S.stripe_count steps.new ≡ S.stripe_count steps.old }
+{
+    keeper.fail(steps);
+    what_is_kept(keeper);
+}
+
+/// Begins the checkpoint that follows the sealed one.
+pub(crate) fn begin<D: Disk>(keeper: &mut Keeper<D>) -> Result<(), Refusal>
+    requires keeps { (n : ℕ) × (p : Record) × Keeps D.states D.honest n keeper.old p }
+    ensures keeps { (n : ℕ) (p : Record) → Keeps D.states D.honest n keeper.old p → Keeps D.states D.honest n keeper.new p }
+{
+    let begun = checkpoint_walk::begin(keeper);
+    what_is_kept(keeper);
+    begun
 }
 
 /// Gives the checkpoint the section of this stripe, unless another pass holds it.
@@ -35,4 +105,26 @@ pub(crate) fn capture<D: Disk, S: Steps>(
     let captured = try_capture(keeper, stripe, steps);
     what_is_kept(keeper);
     captured
+}
+
+/// Goes on to the seal of the checkpoint.
+pub(crate) fn seal<D: Disk>(keeper: &mut Keeper<D>) -> Result<(), Refusal>
+    requires keeps { (n : ℕ) × (p : Record) × Keeps D.states D.honest n keeper.old p }
+    ensures keeps { (n : ℕ) (p : Record) → Keeps D.states D.honest n keeper.old p → Keeps D.states D.honest n keeper.new p }
+{
+    let sealed = checkpoint_walk::seal(keeper);
+    what_is_kept(keeper);
+    sealed
+}
+
+/// Makes the device call that is due in the file of the checkpoint.
+pub(crate) fn advance_checkpoint<D: Disk>(
+    keeper: &mut Keeper<D>,
+) -> Result<CheckpointPhase, Refusal>
+    requires keeps { (n : ℕ) × (p : Record) × Keeps D.states D.honest n keeper.old p }
+    ensures keeps { (n : ℕ) (p : Record) → Keeps D.states D.honest n keeper.old p → Keeps D.states D.honest n keeper.new p }
+{
+    let stepped = checkpoint_walk::advance(keeper);
+    what_is_kept(keeper);
+    stepped
 }

@@ -169,7 +169,7 @@ fn a_connection_breaks_off_alone(rt: HostRuntime) -> Result<(), Fail> {
     Ok(())
 }
 
-/// The first connection stays open, and sends half a frame, until the reply of the second has come.
+/// The first connection stays open until the reply of the second has come.
 #[derive(Drop)]
 struct Stalling {
     listed: Listed,
@@ -191,27 +191,80 @@ impl Arrivals for Stalling {
     }
 }
 
+impl Stalling {
+    /// One client sends these bytes, and another one a put.
+    fn new(rt: &HostRuntime, bytes: &[u8]) -> Result<Stalling, Fail> {
+        let (mut clients, listed) = connected(rt, 2)?;
+        let mut client = clients.pop().ok_or("there are two")?;
+        let mut stalled = clients.pop().ok_or("there are two")?;
+        stalled.write_all(bytes)?;
+        client.write_all(PUT)?;
+        client.shutdown(Shutdown::Write)?;
+        client.set_read_timeout(Some(Duration::from_millis(u64::from(MOST_TURNS))))?;
+        let stalled = Some(stalled);
+        Ok(Stalling {
+            listed,
+            stalled,
+            client,
+            reply: [0; 4],
+            was_answered: false,
+        })
+    }
+}
+
 #[test]
 fn a_client_that_stalls_holds_up_no_other(rt: HostRuntime) -> Result<(), Fail> {
     let shop = Shop::new(rt.alloc(), map_over(&rt, None)?, NO_CHECKPOINT);
-    let (mut clients, listed) = connected(&rt, 2)?;
-    let mut client = clients.pop().ok_or("there are two")?;
-    let mut stalled = clients.pop().ok_or("there are two")?;
-    stalled.write_all(&PUT[..9])?;
-    client.write_all(PUT)?;
-    client.shutdown(Shutdown::Write)?;
-    client.set_read_timeout(Some(Duration::from_millis(u64::from(MOST_TURNS))))?;
-    let stalled = Some(stalled);
-    let mut stalling = Stalling {
-        listed,
-        stalled,
-        client,
-        reply: [0; 4],
-        was_answered: false,
-    };
+    let mut stalling = Stalling::new(&rt, &PUT[..9])?;
     run(&rt, &shop, &NoGate, &mut stalling, 2).map_err(|_| "threads start")?;
     assert!(rt; stalling.was_answered);
     assert_eq!(rt; stalling.reply.as_slice(), WAS_ABSENT);
+    Ok(())
+}
+
+/// Puts the longest text at `k`, and asks for it so often that the replies are 16 MB, more than a
+/// connection holds of what isn't read.
+#[test]
+fn a_client_that_never_reads_holds_up_no_other(rt: HostRuntime) -> Result<(), Fail> {
+    let shop = Shop::new(rt.alloc(), map_over(&rt, None)?, NO_CHECKPOINT);
+    let mut requests = Vec::new(rt.alloc());
+    requests.extend_from_slice(b"\x10\x06\x10\x01k\x02\x10\x00")?;
+    requests.resize(8 + 4_096, b't')?;
+    for _ in 0..4_000 {
+        requests.extend_from_slice(b"\x00\x03\x01\x01k")?;
+    }
+    let mut stalling = Stalling::new(&rt, requests.as_slice())?;
+    run(&rt, &shop, &NoGate, &mut stalling, 2).map_err(|_| "threads start")?;
+    assert!(rt; stalling.was_answered);
+    assert_eq!(rt; stalling.reply.as_slice(), WAS_ABSENT);
+    Ok(())
+}
+
+/// Eight clients add 1 to two counters, a hundred times each, and then another one asks for both.
+#[test]
+fn eight_clients_share_two_counters(rt: HostRuntime) -> Result<(), Fail> {
+    let shop = Shop::new(rt.alloc(), map_over(&rt, None)?, NO_CHECKPOINT);
+    let (clients, mut listed) = connected(&rt, 8)?;
+    let mut merges = Vec::new(rt.alloc());
+    for _ in 0..100 {
+        merges.extend_from_slice(b"\x00\x0D\x19\x01a\x04\x01\x00\x00\x00\x00\x00\x00\x00\x01")?;
+        merges.extend_from_slice(b"\x00\x0D\x19\x01b\x04\x01\x00\x00\x00\x00\x00\x00\x00\x01")?;
+    }
+    for client in &clients {
+        send(client, merges.as_slice())?;
+    }
+    run(&rt, &shop, &NoGate, &mut listed, 8).map_err(|_| "threads start")?;
+    let (askers, mut listed) = connected(&rt, 1)?;
+    let asker = client_at(&askers, 0)?;
+    send(asker, b"\x00\x03\x01\x01a\x00\x03\x01\x01b")?;
+    run(&rt, &shop, &NoGate, &mut listed, 1).map_err(|_| "threads start")?;
+    assert!(rt;
+        is_sent(
+            &rt,
+            asker,
+            b"\x00\x0A\x01\x01\x00\x00\x00\x00\x00\x00\x03\x20\x00\x0A\x01\x01\x00\x00\x00\x00\x00\x00\x03\x20"
+        )?
+    );
     Ok(())
 }
 

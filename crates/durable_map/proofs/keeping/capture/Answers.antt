@@ -1,9 +1,14 @@
-use Rattle.durable_map.proofs.Captured.{captured}
+use Rattle.std.proofs.Common.{ℕ, sym, subst}
+use Rattle.ticket_order.specs.StepRules.{AllLegalSections}
+use Rattle.durable_map.proofs.Between.{captured}
 use Rattle.durable_map.proofs.keeping.capture.Goals as goal
 
 pub returns-clause-keeps : goal.returns-clause-keeps
 returns-clause-keeps g c =
     let k = c.requires.keeps in
     let t = c.try_capture-captured in
-    let b = captured _ _ _ _ _ _ t.result t.ensures.ok t.ensures.err (record { still = k.still; over = k.over }) in
-    c.what_is_kept.ensures _ k.done _ (t.ensures.fits k.done k.fits) b.still b.over
+    let p = g.S.Steps.recorded c.args.steps.now in
+    let w = g.S.Steps.recorded t.new.steps in
+    let b = captured g.D.Disk.states g.D.Disk.honest _ _ c.args.keeper.now t.new.keeper p w (record { still = k.still; over = k.over; captured = k.captured; sealed = k.sealed }) t.result t.ensures.ok t.ensures.err in
+    let legal = subst (λ (m : ℕ). AllLegalSections m w w.sections) (sym t.ensures.stripes) b.captured in
+    c.what_is_kept.ensures _ k.done _ (t.ensures.fits k.done k.fits) b.still b.over legal (λ broken. b.sealed)

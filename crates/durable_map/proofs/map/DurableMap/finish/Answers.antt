@@ -1,7 +1,7 @@
-use Rattle.std.proofs.Common.{◌≡◌, ◌∙◌, ℕ, refl, subst}
+use Rattle.std.proofs.Common.{◌∙◌, ℕ, refl, subst}
 use Rattle.stripe_locks.specs.Passes.{recorded}
 use Rattle.durable_map.specs.Durable.{EndsDurable}
-use Rattle.durable_map.proofs.Growing.{ends_after, failed, fails_after, goes_on, missed, released}
+use Rattle.durable_map.proofs.Growing.{ends_after, failed, fails_after, goes_on, released}
 use Rattle.durable_map.proofs.map.DurableMap.finish.Goals as goal
 
 pub returns-in-Reply-clause-ok : goal.returns-in-Reply-clause-ok

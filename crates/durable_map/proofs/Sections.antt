@@ -1,0 +1,114 @@
+-- The sections that the keeper's pass has captured.
+use Rattle.std.proofs.Common.{◌≡◌, ℕ, List, [], ◌∷◌, ◌++◌, append-nil, append_assoc, refl, sym, subst, ◌∙◌}
+use Rattle.map_model.specs.Maps.{Map}
+use Rattle.map_types.specs.declared.commands.Command.{Command}
+use Rattle.map_types.specs.declared.refusals.Refusal.{Refusal}
+use Rattle.map_types.specs.declared.refusals.Refusal.TheVariants as refusal
+use Rattle.map_types.specs.declared.texts.Value.{Value}
+use Rattle.ticket_order.specs.declared.record.Record.{Record}
+use Rattle.ticket_order.specs.declared.record.Section.{Section}
+use Rattle.ticket_order.specs.declared.record.Purpose.TheVariants.{Capture, Nothing}
+use Rattle.ticket_order.specs.declared.stripe.Entry.{Entry}
+use Rattle.ticket_order.specs.Calls.{CapturesStripe, HasLookedAt, RefusesCapture, RefusesSweep, SweepsStripe}
+use Rattle.ticket_order.specs.Legality.{IsLegalSection, history_of}
+use Rattle.ticket_order.specs.Records.{failing, giving, looking, missing, publishing, reach, taking}
+use Rattle.ticket_order.specs.StepRules.{AllLegalSections}
+use Rattle.one_history.proofs.Legal.{sections_both, sections_longer}
+use Rattle.flusher.specs.Fitting.{HasSeenMore}
+
+-- The pass captured nothing more, and may have seen more.
+pub record CapturesNone (p w : Record) : Type 0 where
+  pub opening : w.opening ≡ p.opening
+  pub sections : w.sections ≡ p.sections
+  pub seen : HasSeenMore p w
+
+pub stay_legal : (n : ℕ) (p w : Record) → CapturesNone p w → AllLegalSections n p p.sections → AllLegalSections n w w.sections
+stay_legal n p w k legal = subst (λ (xs : List Section). AllLegalSections n w xs) (sym k.sections) (sections_longer n p w k.seen.more k.opening k.seen.is p.sections legal)
+
+pub none_by : (p w : Record) → w.opening ≡ p.opening → w.sections ≡ p.sections → w.seen ≡ p.seen → CapturesNone p w
+none_by p w opening sections seen = record { opening = opening; sections = sections; seen = record { more = []; is = seen ∙ sym (append-nil p.seen) } }
+
+same : (p : Record) → CapturesNone p p
+same p = none_by p p refl refl refl
+
+pub missed : (p : Record) (i : ℕ) → CapturesNone p (missing p i)
+missed p i = none_by p (missing p i) refl refl refl
+
+pub published : (p : Record) (count : ℕ) → CapturesNone p (publishing p count)
+published p count = none_by p (publishing p count) refl refl refl
+
+pub failed : (p : Record) → CapturesNone p (failing p)
+failed p = none_by p (failing p) refl refl refl
+
+-- a stripe was taken, and given back
+took : (p : Record) (i : ℕ) (part : Map) (outbox : List Entry) (between : List Command) → CapturesNone p (giving Nothing (taking p i part outbox between))
+took p i part outbox between = record { opening = refl; sections = append-nil p.sections; seen = record { more = between; is = refl } }
+
+looked : (p : Record) (i : ℕ) (part : Map) (outbox : List Entry) (taken after : List Command) → CapturesNone p (giving Nothing (looking (taking p i part outbox taken) after))
+looked p i part outbox taken after = record { opening = refl; sections = append-nil p.sections; seen = record { more = taken ++ after; is = append_assoc p.seen taken after } }
+
+back_from : (p holder w : Record) → w ≡ giving Nothing holder → CapturesNone p (giving Nothing holder) → CapturesNone p w
+back_from p holder w is k = subst (λ (x : Record). CapturesNone p x) (sym is) k
+
+put_back : (p holder w : Record) (i : ℕ) → HasLookedAt p i holder → w ≡ giving Nothing holder → CapturesNone p w
+put_back p holder w i h is = back_from p holder w is (subst (λ (x : Record). CapturesNone p (giving Nothing x)) (sym h.is) (looked p i h.part h.outbox h.taken h.looked))
+
+-- ---- a sweep of one stripe
+
+pub swept : (n i : ℕ) (p w : Record) (entries : List Entry) → SweepsStripe n p i entries w → CapturesNone p w
+swept n i p w entries s = subst (λ (x : Record). CapturesNone p x) (sym s.is) (record { opening = refl; sections = append-nil p.sections; seen = record { more = s.between; is = refl } })
+
+pub not_swept : (i : ℕ) (p w : Record) (e : Refusal) → RefusesSweep p i e w → CapturesNone p w
+not_swept i p w refusal.NullValue r = absurd r
+not_swept i p w refusal.KeyTooLong r = absurd r
+not_swept i p w refusal.ValueTooLong r = absurd r
+not_swept i p w refusal.UnknownMethod r = absurd r
+not_swept i p w refusal.UnknownFunction r = absurd r
+not_swept i p w refusal.BadFrame r = absurd r
+not_swept i p w refusal.NoMemory r = back_from p r.holder w r.is (subst (λ (x : Record). CapturesNone p (giving Nothing x)) (sym r.before.is) (took p i r.before.part r.before.outbox r.before.taken))
+not_swept i p w (refusal.Busy j) r = subst (λ (x : Record). CapturesNone p x) (sym r.1) (missed p i)
+not_swept i p w refusal.Failed r = absurd r
+not_swept i p w refusal.TicketsSpent r = absurd r
+not_swept i p w refusal.NotFormatted r = absurd r
+not_swept i p w (refusal.Damaged x0 x1) r = absurd r
+not_swept i p w refusal.WrongVersion r = absurd r
+not_swept i p w refusal.LogFull r = absurd r
+not_swept i p w refusal.AlreadyFormatted r = absurd r
+not_swept i p w refusal.WrongPhase r = absurd r
+not_swept i p w refusal.TooEarly r = absurd r
+not_swept i p w refusal.NotText r = absurd r
+not_swept i p w refusal.SeatsSpent r = absurd r
+
+-- ---- a capture of one stripe
+
+pub not_captured : (i : ℕ) (p w : Record) (e : Refusal) → RefusesCapture p i e w → CapturesNone p w
+not_captured i p w refusal.NullValue r = absurd r
+not_captured i p w refusal.KeyTooLong r = absurd r
+not_captured i p w refusal.ValueTooLong r = absurd r
+not_captured i p w refusal.UnknownMethod r = absurd r
+not_captured i p w refusal.UnknownFunction r = absurd r
+not_captured i p w refusal.BadFrame r = absurd r
+not_captured i p w refusal.NoMemory r = put_back p r.holder w i r.before r.is
+not_captured i p w (refusal.Busy j) r = subst (λ (x : Record). CapturesNone p x) (sym r.1) (missed p i)
+not_captured i p w refusal.Failed r = absurd r
+not_captured i p w refusal.TicketsSpent r = absurd r
+not_captured i p w refusal.NotFormatted r = absurd r
+not_captured i p w (refusal.Damaged x0 x1) r = absurd r
+not_captured i p w refusal.WrongVersion r = absurd r
+not_captured i p w refusal.LogFull r = put_back p r.holder w i r.before.at r.is
+not_captured i p w refusal.AlreadyFormatted r = absurd r
+not_captured i p w refusal.WrongPhase r = absurd r
+not_captured i p w refusal.TooEarly r = absurd r
+not_captured i p w refusal.NotText r = absurd r
+not_captured i p w refusal.SeatsSpent r = absurd r
+
+-- what it has captured is legal, and so is what it captures now
+pub captured : (n i mark : ℕ) (p w : Record) (entries : List (List ℕ × Value)) → CapturesStripe n p i mark entries w → AllLegalSections n p p.sections → AllLegalSections n w w.sections
+captured n i mark p w entries c legal =
+    let at = giving Capture (looking (taking p i c.part c.outbox c.taken) c.looked) in
+    let seen : at.seen ≡ p.seen ++ (c.taken ++ c.looked) = append_assoc p.seen c.taken c.looked in
+    let old : AllLegalSections n at p.sections = sections_longer n p at (c.taken ++ c.looked) refl seen p.sections legal in
+    let here : IsLegalSection n (history_of at) (record { stripe = i; mark = reach at; part = c.part }) =
+    subst (λ (x : Record). IsLegalSection n (history_of x) (record { stripe = i; mark = reach x; part = c.part })) c.is
+    (subst (λ (m : ℕ). IsLegalSection n (history_of w) (record { stripe = i; mark = m; part = c.part })) c.mark_is c.legal) in
+    subst (λ (x : Record). AllLegalSections n x x.sections) (sym c.is) (sections_both n at p.sections (record { stripe = i; mark = reach at; part = c.part } ∷ []) old (here, tt))
