@@ -3,12 +3,16 @@ use crate::{Arrivals, Gate, NoGate};
 use disk_model::{Failure, Fill, MemDisk};
 use durable_map::DurableMap;
 use java_hash::StripeCount;
+use log::Log;
 use recovery::{format, open_parts};
+use std::alloc::Global;
 use std::io::{Read, Write};
-use std::net::{Shutdown, TcpListener, TcpStream};
+use std::net::{Net, Shutdown, TcpListener, TcpStream};
+use std::sync::Wait;
 use std::sync::atomic::{AtomicBool, Ordering};
 use std::test::Fail;
 use std::thread;
+use std::thread::Threads;
 use std::time::{Clock, Duration};
 
 /// How many turns a gate holds a request at most, each of a millisecond.
@@ -24,37 +28,61 @@ const WAS_ABSENT: &[u8] = b"\x00\x02\x00\x00";
 
 const WAS_5: &[u8] = b"\x00\x0A\x00\x01\x00\x00\x00\x00\x00\x00\x00\x05";
 
-/// What is answered after a device failure, and to a refused length.
-const FAILED: &[u8] = b"\x00\x02\x89\x00";
+/// The replies to two clients.
+const ABSENT_AND_5: &[u8] = b"\x00\x02\x00\x00\x00\x0A\x00\x01\x00\x00\x00\x00\x00\x00\x00\x05";
 
-const BAD_FRAME: &[u8] = b"\x00\x02\x86\x00";
+const FIVE_AND_ABSENT: &[u8] = b"\x00\x0A\x00\x01\x00\x00\x00\x00\x00\x00\x00\x05\x00\x02\x00\x00";
+
+/// What is answered to a refused length, and what is to another client.
+const BAD_FRAME_AND_5: &[u8] = b"\x00\x02\x86\x00\x00\x0A\x00\x01\x00\x00\x00\x00\x00\x00\x00\x05";
+
+/// What is answered to three clients after a device failure.
+const ALL_FAILED: &[u8] = b"\x00\x02\x89\x00\x00\x02\x89\x00\x00\x02\x89\x00";
+
+/// Two merges of 1 with the sum, two questions, and their answers where 800 were added to each.
+const ADD_TO_A_AND_B: &[u8] =
+    b"\x00\x0D\x19\x01a\x04\x01\x00\x00\x00\x00\x00\x00\x00\x01\x00\x0D\x19\x01b\x04\x01\x00\x00\x00\x00\x00\x00\x00\x01";
+
+const GET_A_AND_B: &[u8] = b"\x00\x03\x01\x01a\x00\x03\x01\x01b";
+
+const BOTH_ARE_800: &[u8] =
+    b"\x00\x0A\x01\x01\x00\x00\x00\x00\x00\x00\x03\x20\x00\x0A\x01\x01\x00\x00\x00\x00\x00\x00\x03\x20";
 
 fn sixteen() -> Result<StripeCount, Fail> {
     Ok(StripeCount::new(16).ok_or("16 is allowed")?)
 }
 
-/// A running map over a disk that is made that of an empty map, and fails as planned once it is.
-fn map_over(rt: &HostRuntime, failure: Option<Failure>) -> Result<DurableMap<MemDisk>, Fail> {
-    let alloc = rt.alloc();
+/// A formatted disk.
+fn formatted(alloc: Global) -> Result<MemDisk, Fail> {
     let mut disk = MemDisk::new(alloc);
     format(alloc, &mut disk, sixteen()?).map_err(|_| "it is formatted")?;
+    Ok(disk)
+}
+
+/// A server of an empty map, whose disk fails as planned.
+fn shop_over(alloc: Global, failure: Option<Failure>) -> Result<Shop<MemDisk>, Fail> {
+    let mut disk = formatted(alloc)?;
     disk.plan(failure);
     let Ok((keeper, parts, first)) = open_parts(alloc, disk, sixteen()?) else {
         return Err(Fail::from("it is opened"));
     };
     match DurableMap::new(alloc, keeper, parts, first) {
-        Ok(map) => Ok(map),
+        Ok(map) => Ok(Shop::new(alloc, map, NO_CHECKPOINT)),
         Err(_) => Err(Fail::from("there is memory")),
     }
 }
 
-/// A listener, and the two ends of so many connections to it: those of the clients, and those of the
-/// server, which come in their order.
-fn connected(rt: &HostRuntime, count: usize) -> Result<(Vec<TcpStream>, Listed), Fail> {
+/// The two ends of so many connections: those of the clients, and those of the server, which come in
+/// their order.
+fn connected<R: Net<Listener = TcpListener, Stream = TcpStream>>(
+    rt: &R,
+    alloc: Global,
+    count: usize,
+) -> Result<(Vec<TcpStream>, Listed), Fail> {
     let listener = TcpListener::bind(rt, ("127.0.0.1", 0u16))?;
     let address = listener.local_addr()?;
-    let mut clients = Vec::new(rt.alloc());
-    let mut streams = Vec::new(rt.alloc());
+    let mut clients = Vec::new(alloc);
+    let mut streams = Vec::new(alloc);
     for _ in 0..count {
         clients.push(TcpStream::connect(rt, address)?)?;
         let (stream, _) = listener.accept()?;
@@ -76,25 +104,51 @@ impl Arrivals for Listed {
     }
 }
 
-/// Sends these bytes, and says that no more come.
-fn send(client: &TcpStream, bytes: &[u8]) -> Result<(), Fail> {
-    let mut client = client;
-    client.write_all(bytes)?;
-    client.shutdown(Shutdown::Write)?;
+/// Each client sends its bytes, and says that no more come.
+fn send_each(clients: &[TcpStream], requests: &[&[u8]]) -> Result<(), Fail> {
+    for (client, bytes) in clients.iter().zip(requests) {
+        let mut client = client;
+        client.write_all(bytes)?;
+        client.shutdown(Shutdown::Write)?;
+    }
     Ok(())
 }
 
-/// One of the clients.
-fn client_at(clients: &[TcpStream], index: usize) -> Result<&TcpStream, Fail> {
-    Ok(clients.get(index).ok_or("there are more clients")?)
+/// What the clients were sent, one behind another. A connection that is broken off ends there.
+fn received(alloc: Global, clients: &[TcpStream]) -> Vec<u8> {
+    let mut sent = Vec::new(alloc);
+    for client in clients {
+        let mut client = client;
+        let _end = client.read_to_end(&mut sent);
+    }
+    sent
 }
 
-/// Whether the client is sent these bytes alone.
-fn is_sent(rt: &HostRuntime, client: &TcpStream, bytes: &[u8]) -> Result<bool, Fail> {
-    let mut client = client;
-    let mut sent = Vec::new(rt.alloc());
-    client.read_to_end(&mut sent)?;
-    Ok(sent.as_slice() == bytes)
+/// Serves clients that send these bytes, one each, and answers what they were sent.
+fn served<
+    G: Gate + Sync,
+    R: Net<Listener = TcpListener, Stream = TcpStream> + Threads + Wait + Sync,
+>(
+    rt: &R,
+    alloc: Global,
+    shop: &Shop<MemDisk>,
+    gate: &G,
+    requests: &[&[u8]],
+    workers: usize,
+) -> Result<Vec<u8>, Fail> {
+    let (clients, mut listed) = connected(rt, alloc, requests.len())?;
+    send_each(clients.as_slice(), requests)?;
+    run(rt, shop, gate, &mut listed, workers).map_err(|_| "threads start")?;
+    Ok(received(alloc, clients.as_slice()))
+}
+
+/// So many times these bytes.
+fn repeated(alloc: Global, bytes: &[u8], count: usize) -> Result<Vec<u8>, Fail> {
+    let mut all = Vec::new(alloc);
+    for _ in 0..count {
+        all.extend_from_slice(bytes)?;
+    }
+    Ok(all)
 }
 
 /// Holds request 0 until request 1 was answered.
@@ -128,44 +182,38 @@ impl<R: Clock> Gate for HoldsFirst<'_, R> {
 
 #[test]
 fn a_request_that_is_held_holds_up_no_other(rt: HostRuntime) -> Result<(), Fail> {
-    let shop = Shop::new(rt.alloc(), map_over(&rt, None)?, NO_CHECKPOINT);
-    let (clients, mut listed) = connected(&rt, 2)?;
-    for client in &clients {
-        send(client, PUT)?;
-    }
+    let shop = shop_over(rt.alloc(), None)?;
     let gate = HoldsFirst {
         rt: &rt,
         has_answered: AtomicBool::new(false),
         was_in_time: AtomicBool::new(false),
     };
-    run(&rt, &shop, &gate, &mut listed, 2).map_err(|_| "threads start")?;
+    let sent = served(&rt, rt.alloc(), &shop, &gate, &[PUT, PUT], 2)?;
     assert!(rt; gate.was_in_time.load(Ordering::SeqCst));
-    let one = client_at(&clients, 0)?;
-    let other = client_at(&clients, 1)?;
-    let first = is_sent(&rt, one, WAS_ABSENT)? && is_sent(&rt, other, WAS_5)?;
-    assert!(rt; first || is_sent(&rt, other, WAS_ABSENT)?);
+    assert!(rt; [ABSENT_AND_5, FIVE_AND_ABSENT].contains(&sent.as_slice()));
+    Ok(())
+}
+
+/// The client before the last makes two puts, and goes without a reply.
+fn leave_before_last(clients: &mut Vec<TcpStream>) -> Result<(), Fail> {
+    let last = clients.pop().ok_or("there is a last")?;
+    let mut gone = clients.pop().ok_or("there is one before")?;
+    gone.write_all(PUT)?;
+    gone.write_all(PUT)?;
+    clients.push(last)?;
     Ok(())
 }
 
 #[test]
 fn a_connection_breaks_off_alone(rt: HostRuntime) -> Result<(), Fail> {
-    let shop = Shop::new(rt.alloc(), map_over(&rt, None)?, NO_CHECKPOINT);
-    let (mut clients, mut listed) = connected(&rt, 5)?;
-    send(client_at(&clients, 0)?, b"")?;
-    send(client_at(&clients, 1)?, &PUT[..9])?;
-    send(client_at(&clients, 2)?, b"\x00\x00\x00\x03\x01\x01a")?;
-    send(client_at(&clients, 4)?, PUT)?;
-    let last = clients.pop().ok_or("there are five")?;
-    if let Some(mut gone) = clients.pop() {
-        gone.write_all(PUT)?;
-        gone.write_all(PUT)?;
-        drop(gone);
-    }
+    let shop = shop_over(rt.alloc(), None)?;
+    let (mut clients, mut listed) = connected(&rt, rt.alloc(), 5)?;
+    leave_before_last(&mut clients)?;
+    let long = b"\x00\x00\x00\x03\x01\x01a";
+    send_each(clients.as_slice(), &[b"", &PUT[..9], long, PUT])?;
     run(&rt, &shop, &NoGate, &mut listed, 1).map_err(|_| "threads start")?;
-    assert!(rt; is_sent(&rt, client_at(&clients, 0)?, b"")?);
-    assert!(rt; is_sent(&rt, client_at(&clients, 1)?, b"")?);
-    assert!(rt; is_sent(&rt, client_at(&clients, 2)?, BAD_FRAME)?);
-    assert!(rt; is_sent(&rt, &last, WAS_5)?);
+    let sent = received(rt.alloc(), clients.as_slice());
+    assert_eq!(rt; sent.as_slice(), BAD_FRAME_AND_5);
     Ok(())
 }
 
@@ -193,8 +241,12 @@ impl Arrivals for Stalling {
 
 impl Stalling {
     /// One client sends these bytes, and another one a put.
-    fn new(rt: &HostRuntime, bytes: &[u8]) -> Result<Stalling, Fail> {
-        let (mut clients, listed) = connected(rt, 2)?;
+    fn new<R: Net<Listener = TcpListener, Stream = TcpStream>>(
+        rt: &R,
+        alloc: Global,
+        bytes: &[u8],
+    ) -> Result<Stalling, Fail> {
+        let (mut clients, listed) = connected(rt, alloc, 2)?;
         let mut client = clients.pop().ok_or("there are two")?;
         let mut stalled = clients.pop().ok_or("there are two")?;
         stalled.write_all(bytes)?;
@@ -212,66 +264,59 @@ impl Stalling {
     }
 }
 
+/// Whether a put is answered beside a client that sends these bytes, and then neither reads nor ends.
+fn is_answered_beside<R: Net<Listener = TcpListener, Stream = TcpStream> + Threads + Wait + Sync>(
+    rt: &R,
+    alloc: Global,
+    bytes: &[u8],
+) -> Result<bool, Fail> {
+    let shop = shop_over(alloc, None)?;
+    let mut stalling = Stalling::new(rt, alloc, bytes)?;
+    run(rt, &shop, &NoGate, &mut stalling, 2).map_err(|_| "threads start")?;
+    Ok(stalling.was_answered && stalling.reply.as_slice() == WAS_ABSENT)
+}
+
 #[test]
 fn a_client_that_stalls_holds_up_no_other(rt: HostRuntime) -> Result<(), Fail> {
-    let shop = Shop::new(rt.alloc(), map_over(&rt, None)?, NO_CHECKPOINT);
-    let mut stalling = Stalling::new(&rt, &PUT[..9])?;
-    run(&rt, &shop, &NoGate, &mut stalling, 2).map_err(|_| "threads start")?;
-    assert!(rt; stalling.was_answered);
-    assert_eq!(rt; stalling.reply.as_slice(), WAS_ABSENT);
+    assert!(rt; is_answered_beside(&rt, rt.alloc(), &PUT[..9])?);
     Ok(())
 }
 
-/// Puts the longest text at `k`, and asks for it so often that the replies are 16 MB, more than a
-/// connection holds of what isn't read.
-#[test]
-fn a_client_that_never_reads_holds_up_no_other(rt: HostRuntime) -> Result<(), Fail> {
-    let shop = Shop::new(rt.alloc(), map_over(&rt, None)?, NO_CHECKPOINT);
-    let mut requests = Vec::new(rt.alloc());
+/// A put of the longest text at `k`, and so many questions for it that the replies are 16 MB, more than
+/// a connection holds of what isn't read.
+fn questions_for_long(alloc: Global) -> Result<Vec<u8>, Fail> {
+    let mut requests = Vec::new(alloc);
     requests.extend_from_slice(b"\x10\x06\x10\x01k\x02\x10\x00")?;
     requests.resize(8 + 4_096, b't')?;
     for _ in 0..4_000 {
         requests.extend_from_slice(b"\x00\x03\x01\x01k")?;
     }
-    let mut stalling = Stalling::new(&rt, requests.as_slice())?;
-    run(&rt, &shop, &NoGate, &mut stalling, 2).map_err(|_| "threads start")?;
-    assert!(rt; stalling.was_answered);
-    assert_eq!(rt; stalling.reply.as_slice(), WAS_ABSENT);
+    Ok(requests)
+}
+
+#[test]
+fn a_client_that_never_reads_holds_up_no_other(rt: HostRuntime) -> Result<(), Fail> {
+    let requests = questions_for_long(rt.alloc())?;
+    assert!(rt; is_answered_beside(&rt, rt.alloc(), requests.as_slice())?);
     Ok(())
 }
 
 /// Eight clients add 1 to two counters, a hundred times each, and then another one asks for both.
 #[test]
 fn eight_clients_share_two_counters(rt: HostRuntime) -> Result<(), Fail> {
-    let shop = Shop::new(rt.alloc(), map_over(&rt, None)?, NO_CHECKPOINT);
-    let (clients, mut listed) = connected(&rt, 8)?;
-    let mut merges = Vec::new(rt.alloc());
-    for _ in 0..100 {
-        merges.extend_from_slice(b"\x00\x0D\x19\x01a\x04\x01\x00\x00\x00\x00\x00\x00\x00\x01")?;
-        merges.extend_from_slice(b"\x00\x0D\x19\x01b\x04\x01\x00\x00\x00\x00\x00\x00\x00\x01")?;
-    }
-    for client in &clients {
-        send(client, merges.as_slice())?;
-    }
-    run(&rt, &shop, &NoGate, &mut listed, 8).map_err(|_| "threads start")?;
-    let (askers, mut listed) = connected(&rt, 1)?;
-    let asker = client_at(&askers, 0)?;
-    send(asker, b"\x00\x03\x01\x01a\x00\x03\x01\x01b")?;
-    run(&rt, &shop, &NoGate, &mut listed, 1).map_err(|_| "threads start")?;
-    assert!(rt;
-        is_sent(
-            &rt,
-            asker,
-            b"\x00\x0A\x01\x01\x00\x00\x00\x00\x00\x00\x03\x20\x00\x0A\x01\x01\x00\x00\x00\x00\x00\x00\x03\x20"
-        )?
-    );
+    let shop = shop_over(rt.alloc(), None)?;
+    let merges = repeated(rt.alloc(), ADD_TO_A_AND_B, 100)?;
+    let sent = served(&rt, rt.alloc(), &shop, &NoGate, &[merges.as_slice(); 8], 8)?;
+    assert_eq!(rt; sent.len(), 8 * 200 * 12);
+    let counts = served(&rt, rt.alloc(), &shop, &NoGate, &[GET_A_AND_B], 1)?;
+    assert_eq!(rt; counts.as_slice(), BOTH_ARE_800);
     Ok(())
 }
 
-/// Whether these are replies to puts, and then one that refuses with `Failed`.
+/// Whether these are replies to puts of the first client, and then one to each that refuses with `Failed`.
 fn fail_at_last(replies: &[u8]) -> bool {
     let Some(rest) = replies.strip_prefix(WAS_ABSENT) else {
-        return replies == FAILED;
+        return replies == ALL_FAILED;
     };
     let mut rest = rest;
     for _ in 0..replies.len() {
@@ -280,58 +325,53 @@ fn fail_at_last(replies: &[u8]) -> bool {
             None => break,
         }
     }
-    rest == FAILED
+    rest == ALL_FAILED
 }
 
 #[test]
 fn after_a_device_failure_each_call_fails(rt: HostRuntime) -> Result<(), Fail> {
     let fill = Fill::Old;
-    let map = map_over(&rt, Some(Failure { after: 60, fill }))?;
-    let shop = Shop::new(rt.alloc(), map, NO_CHECKPOINT);
-    let (clients, mut listed) = connected(&rt, 3)?;
-    let mut puts = Vec::new(rt.alloc());
-    for _ in 0..30 {
-        puts.extend_from_slice(PUT)?;
-    }
-    for client in &clients {
-        send(client, puts.as_slice())?;
-    }
-    run(&rt, &shop, &NoGate, &mut listed, 1).map_err(|_| "threads start")?;
-    let mut client = client_at(&clients, 0)?;
-    let mut replies = Vec::new(rt.alloc());
-    let _ = client.read_to_end(&mut replies);
-    assert!(rt; fail_at_last(replies.as_slice()), "{replies:?}");
+    let shop = shop_over(rt.alloc(), Some(Failure { after: 60, fill }))?;
+    let puts = repeated(rt.alloc(), PUT, 30)?;
+    let sent = served(&rt, rt.alloc(), &shop, &NoGate, &[puts.as_slice(); 3], 1)?;
+    assert!(rt; fail_at_last(sent.as_slice()), "{sent:?}");
     Ok(())
 }
 
-/// Serves a disk that is not formatted, and a port that is taken.
-#[test]
-fn a_server_that_cannot_begin(rt: HostRuntime) -> Result<(), Fail> {
-    let alloc = rt.alloc();
-    let listener = TcpListener::bind(&rt, ("127.0.0.1", 0u16))?;
+/// What a server of the disk at the port complains of, which prints nothing and ends with status 1.
+fn complaint<R: Net<Listener = TcpListener, Stream = TcpStream> + Log + Threads + Wait + Sync>(
+    rt: &R,
+    alloc: Global,
+    disk: MemDisk,
+    port: u16,
+) -> Result<Vec<u8>, Fail> {
     let settings = Settings {
-        port: listener.local_addr()?.port(),
+        port,
         stripes: sixteen()?,
         workers: 4,
         bytes: NO_CHECKPOINT,
     };
     let mut output = Vec::new(alloc);
     let mut error = Vec::new(alloc);
-    let disk = MemDisk::new(alloc);
-    assert_eq!(rt;
-        serve_disk(&rt, alloc, disk, &settings, &mut output, &mut error),
-        1
-    );
-    let mut disk = MemDisk::new(alloc);
-    format(alloc, &mut disk, sixteen()?).map_err(|_| "it is formatted")?;
-    assert_eq!(rt;
-        serve_disk(&rt, alloc, disk, &settings, &mut output, &mut error),
-        1
-    );
-    assert!(rt; output.is_empty());
-    assert_eq!(rt;
-        error.as_slice(),
-        b"refused 11 NotFormatted\nunreadable\n".as_slice()
-    );
+    let status = serve_disk(rt, alloc, disk, &settings, &mut output, &mut error);
+    if status != 1 || !output.is_empty() {
+        return Err(Fail::from("it ends with 1 and prints nothing"));
+    }
+    Ok(error)
+}
+
+#[test]
+fn a_disk_that_is_not_formatted(rt: HostRuntime) -> Result<(), Fail> {
+    let error = complaint(&rt, rt.alloc(), MemDisk::new(rt.alloc()), 1)?;
+    assert_eq!(rt; error.as_slice(), b"refused 11 NotFormatted\n".as_slice());
+    Ok(())
+}
+
+#[test]
+fn a_port_that_is_taken(rt: HostRuntime) -> Result<(), Fail> {
+    let listener = TcpListener::bind(&rt, ("127.0.0.1", 0u16))?;
+    let port = listener.local_addr()?.port();
+    let error = complaint(&rt, rt.alloc(), formatted(rt.alloc())?, port)?;
+    assert_eq!(rt; error.as_slice(), b"unreadable\n".as_slice());
     Ok(())
 }
