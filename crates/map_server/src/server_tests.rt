@@ -151,7 +151,7 @@ fn repeated(alloc: Global, bytes: &[u8], count: usize) -> Result<Vec<u8>, Fail> 
     Ok(all)
 }
 
-/// Holds request 0 until request 1 was answered.
+/// Holds the first request until the second was answered.
 #[derive(Drop)]
 struct HoldsFirst<'a, R> {
     rt: &'a R,
