@@ -2,7 +2,7 @@
 #![tactic(auto)]
 
 use disk_model::Unknown;
-use map_server::dchm;
+use program::dchm;
 use std::net::{TcpListener, TcpStream};
 use std::process::ExitCode;
 use std::{env, io};

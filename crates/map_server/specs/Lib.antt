@@ -1,11 +1,2 @@
-pub mod Dialogue
-pub mod Connection
-pub mod Progress
-pub mod CommandLine
-pub mod Directory
-pub mod Program
-pub mod Served
-pub mod Simulation
-pub mod Settings
 pub mod Serving
-pub mod Client
+pub mod Settings

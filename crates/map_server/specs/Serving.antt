@@ -1,6 +1,5 @@
 -- What a worker's calls leave of the record of its pass, and what serving a directory prints.
 use Rattle.std.specs.Prelude.{◌≡◌, ◌⊎◌, ℕ, List, ◌++◌, Option, codes, decimal}
-use Rattle.std.specs.Io.KnownBytes.{Appends}
 use Rattle.map_types.specs.declared.refusals.Refusal.{Refusal}
 use Rattle.disk_model.specs.Events.{Event, AllAgree}
 use Rattle.disk_model.specs.Files.{Files}
@@ -14,9 +13,9 @@ use Rattle.recovery.specs.LogReading.{contents_of}
 use Rattle.recovery.specs.Syncing.{SyncsAndLooks}
 use Rattle.wire_frames.specs.declared.requests.Request.{Request}
 use Rattle.wire_frames.specs.declared.requests.Request.TheVariants.{Change, Read}
-use Rattle.wire_frames.specs.Replies.{IsCut}
-use Rattle.map_server.specs.Dialogue.{Answer}
-use Rattle.map_server.specs.Directory.{IsNotOpened}
+use Rattle.connections.specs.Dialogue.{Answer}
+use Rattle.console.specs.Printing.{PrintsAtMost}
+use Rattle.directories.specs.Directory.{IsNotOpened}
 use Rattle.map_server.specs.Settings.{AreNamed}
 use Rattle.map_server.specs.declared.server.ServerWords.{ServerWords}
 use Rattle.map_server.specs.declared.server.Settings.{Settings}
@@ -38,10 +37,6 @@ Completed v request answer w = Completes v (asked_of request) answer w
 -- the line of a server that listens
 abbrev pub listening_line : ℕ → List ℕ
 listening_line port = codes "listening " ++ (decimal port ++ codes "\n")
-
--- nothing was printed, or the text, or where the writer failed not all of it
-abbrev pub PrintsAtMost : List ℕ → Option (List ℕ) → Option (List ℕ) → Type 0
-PrintsAtMost text w0 w1 = (w1 ≡ w0) ⊎ (Appends w0 w1 text ⊎ ((front : List ℕ) × IsCut front text × Appends w0 w1 front))
 
 -- a server ended, before or after it listened
 pub record Announces (port : ℕ) (w0 w1 : Option (List ℕ)) (status : ℕ) : Type 0 where

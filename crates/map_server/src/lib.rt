@@ -1,26 +1,10 @@
-//! The server: a connection's requests in, its replies out.
+//! The server: the map of a directory is served on a port, by workers on threads of their own.
 #![tactic(auto)]
 
-pub mod calls;
-mod client;
-pub mod connection;
-mod directory;
-mod exits;
-mod host;
-pub mod memory;
-pub mod program;
-mod server;
+pub mod server;
 #[cfg(test)]
 mod server_tests;
-mod simulation;
-mod summary;
-#[cfg(test)]
-mod tests;
-mod worker;
+pub mod worker;
 
-pub use calls::Calls;
-pub use connection::{ConnectionError, serve_connection};
-pub use host::Host;
-pub use memory::Memory;
-pub use program::dchm;
+pub use server::{ServerWords, serve};
 pub use worker::{Arrivals, Gate, NoGate, Worker, workers};

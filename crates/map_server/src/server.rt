@@ -1,11 +1,12 @@
 //! The server: the map of a directory is served on a port of this machine.
 ghost use Rattle.std.specs.Prelude.{◌≡◌, IfOk, IfErr};
-ghost use Rattle.map_server.specs.Serving.{Announces, Hosts, PrintsAtMost, ServesOn};
-ghost use Rattle.map_server.specs.Settings.{AreNamed, IsNamed, IsPort, IsWorkerCount};
+ghost use Rattle.console.specs.Naming.{IsNamed};
+ghost use Rattle.console.specs.Printing.{PrintsAtMost};
+ghost use Rattle.map_server.specs.Serving.{Announces, Hosts, ServesOn};
+ghost use Rattle.map_server.specs.Settings.{AreNamed, IsWorkerCount};
 
-use crate::directory::{cannot_open, stripes_named};
-use crate::exits::{MISUSED, break_off, refuse, say};
 use crate::worker::{Arrivals, Gate, NoGate, workers};
+use console::{MISUSED, break_off, cannot_open, port_named, refuse, say, stripes_named};
 use disk_model::{DirDisk, Disk, Start};
 use durable_map::{DurableMap, Ends, checkpoint_loop, flush_loop};
 use java_hash::StripeCount;
@@ -25,7 +26,7 @@ use wire_frames::write_whole;
 
 /// The words of a server's command line.
 #[derive(Clone, Copy)]
-pub(crate) struct ServerWords<'a> {
+pub struct ServerWords<'a> {
     pub directory: &'a str,
     pub port: &'a str,
     pub stripes: &'a str,
@@ -43,16 +44,6 @@ pub(crate) struct Settings {
     pub workers: usize,
     /// The length of the log that begins a checkpoint.
     pub bytes: u64,
-}
-
-/// The port that the word names.
-pub(crate) fn port_named(word: &str) -> Option<u16>
-    ensures { IsNamed IsPort word.now result }
-{
-    match word.parse::<u16>() {
-        Ok(port) if port > 0 => Some(port),
-        _ => None,
-    }
 }
 
 fn workers_named(word: &str) -> Option<usize>
@@ -244,7 +235,7 @@ pub(crate) fn serve_disk<
 /// where the directory's lock or files, the port or `output` fail; and 1 with `refused` and the refusal
 /// where the directory can't be opened or no memory is found. Once it listens it prints `listening` and
 /// the port, and writes a record of how many commands the map begins with.
-pub(crate) fn serve<
+pub fn serve<
     S: Start + Send,
     W: Write,
     E: Write,

@@ -2,11 +2,10 @@
 ghost use Rattle.std.specs.Prelude.{◌≡◌, ℕ, IfOk, IfErr};
 ghost use Rattle.stripe_locks.specs.Plays.{joining};
 ghost use Rattle.durable_map.specs.Maps.{opening_of};
-ghost use Rattle.map_server.specs.Connection.{Connection};
+ghost use Rattle.connections.specs.Connection.{Connection};
 ghost use Rattle.map_server.specs.Serving.{Completed};
 
-use crate::calls::Calls;
-use crate::connection::{ConnectionError, serve_connection};
+use connections::{Calls, ConnectionError, serve_connection};
 use crossbeam_channel::{Receiver, Sender, bounded};
 use disk_model::Disk;
 use durable_map::DurableMap;

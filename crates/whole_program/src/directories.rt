@@ -2,8 +2,8 @@
 use crate::program::{Sockets, words_of};
 use disk_model::{DirDisk, Unknown};
 use java_hash::StripeCount;
-use map_server::{Host, dchm};
 use map_types::Refusal;
+use program::{Host, dchm};
 use recovery::open_parts;
 use std::fs;
 use std::test::Fail;

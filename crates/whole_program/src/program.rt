@@ -1,6 +1,6 @@
 //! The program over its words and its streams.
 use disk_model::Unknown;
-use map_server::dchm;
+use program::dchm;
 use std::alloc::{AllocError, Global};
 use std::io;
 use std::io::{Read, Write};

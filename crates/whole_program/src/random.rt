@@ -3,10 +3,10 @@
 use crate::dice::Dice;
 use crate::journal::begun;
 use atomic_methods::Part;
+use connections::Calls;
 use disk_model::MemDisk;
 use java_hash::StripeCount;
 use map_model::reference::ReferenceMap;
-use map_server::Calls;
 use map_types::{Command, Read, Refusal};
 use std::alloc::Global;
 use wire_frames::Request;

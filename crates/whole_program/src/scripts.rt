@@ -1,7 +1,7 @@
 //! Scripts of whole schedules: what the program prints of them.
 use crate::program::{Sockets, words_of};
 use disk_model::Unknown;
-use map_server::{Host, dchm};
+use program::{Host, dchm};
 use std::alloc::Global;
 use std::fs;
 use std::test::Fail;

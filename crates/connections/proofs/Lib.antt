@@ -1,0 +1,5 @@
+pub mod Connections
+pub mod Parts
+pub mod Rows
+pub mod Streams
+pub mod Turns

@@ -1,0 +1,3 @@
+pub mod Connection
+pub mod Dialogue
+pub mod Progress

@@ -1,0 +1,10 @@
+//! A connection: its requests in, its replies out.
+#![tactic(auto)]
+
+pub mod calls;
+pub mod connection;
+#[cfg(test)]
+mod tests;
+
+pub use calls::Calls;
+pub use connection::{ConnectionError, serve_connection};

@@ -1,0 +1,10 @@
+//! What the lines of the program share: its exit statuses, what it prints, the numbers in its words.
+#![tactic(auto)]
+
+pub mod exits;
+pub mod named;
+#[cfg(test)]
+mod tests;
+
+pub use exits::{DONE, MISUSED, REFUSED, break_off, cannot_open, print, refuse, say};
+pub use named::{port_named, stripes_named};

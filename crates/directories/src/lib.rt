@@ -1,0 +1,10 @@
+//! A directory is formatted, or looked at, and what came of it is printed.
+#![tactic(auto)]
+
+pub mod directory;
+pub mod summary;
+#[cfg(test)]
+mod tests;
+
+pub use directory::{check, check_disk, init, init_disk};
+pub use summary::{Summary, summarize};

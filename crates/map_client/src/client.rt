@@ -1,0 +1,235 @@
+//! A call of a server: its request is sent, and its reply is printed.
+ghost use Rattle.std.specs.Prelude.{◌≡◌, IfNone, IfOk, IfSome, map, string_bytes};
+ghost use Rattle.call_text.specs.Calls.{parse_call};
+ghost use Rattle.map_client.specs.Client.{AsksServer, CallsServer, Exchanges, IsReplyLine, PrintsReply, request_of};
+
+use call_text::{Asked, BadWord, CallError, parse_call, reply_text};
+use console::{MISUSED, REFUSED, port_named, print, refuse, say};
+use map_types::{Refusal, Reply};
+use std::alloc::{AllocError, Global};
+use std::io;
+use std::io::{Read, Write};
+use std::net::{Net, TcpStream};
+use wire_frames::{ReplyError, Request, read_reply, request_frame, write_whole};
+
+/// Why a request has no answer.
+#[derive(Clone, Copy)]
+enum Unanswered {
+    /// The server can't be reached, or gave no whole reply.
+    NoReply,
+    /// No memory was found for the request or for the reply.
+    NoMemory,
+}
+
+/// Sends the request, and reads the answer to it.
+fn exchange<R: Read, W: Write>(
+    alloc: Global,
+    reader: &mut R,
+    writer: &mut W,
+    request: &Request,
+) -> Result<Result<Reply, Refusal>, Unanswered>
+    ensures { Exchanges (R.remaining reader.old) (R.remaining reader.new) (W.contents writer.old) (W.contents writer.new) request.now result }
+{
+    let Ok(frame) = request_frame(alloc, request) else {
+        return Err(Unanswered::NoMemory);
+    };
+    if write_whole(writer, &frame).is_err() {
+        return Err(Unanswered::NoReply);
+    }
+    match read_reply(alloc, reader) {
+        Ok(answer) => Ok(answer),
+        Err(ReplyError::NoMemory) => Err(Unanswered::NoMemory),
+        Err(_) => Err(Unanswered::NoReply),
+    }
+}
+
+/// A reply as a line of text.
+fn line_of(alloc: Global, reply: &Reply) -> Result<String, AllocError>
+    ensures { IfOk result (λ line. IsReplyLine reply.now (string_bytes line)) }
+{
+    let mut line = reply_text(alloc, reply)?;
+    line.push_str("\n")?;
+    Ok(line)
+}
+
+/// Prints a reply.
+fn show<W: Write, E: Write>(alloc: Global, reply: &Reply, output: &mut W, error: &mut E) -> u8
+    ensures { PrintsReply reply.now (W.contents output.old) (W.contents output.new) result }
+{
+    match line_of(alloc, reply) {
+        Ok(line) => print(line.as_str(), output, error),
+        Err(_) => refuse(alloc, Refusal::NoMemory, error),
+    }
+}
+
+/// Says on `error` why there is no answer.
+fn give_up<E: Write>(alloc: Global, failure: Unanswered, error: &mut E) -> u8
+    ensures { result ≡ 1 }
+{
+    match failure {
+        Unanswered::NoMemory => refuse(alloc, Refusal::NoMemory, error),
+        Unanswered::NoReply => {
+            say(error, "no reply\n");
+            REFUSED
+        }
+    }
+}
+
+/// Sends the request to a server, and prints its reply.
+pub fn ask<R: Read, W: Write, O: Write, E: Write>(
+    alloc: Global,
+    reader: &mut R,
+    writer: &mut W,
+    request: &Request,
+    output: &mut O,
+    error: &mut E,
+) -> u8
+    ensures { AsksServer (R.remaining reader.old) (R.remaining reader.new) (W.contents writer.old) (W.contents writer.new) (O.contents output.old) (O.contents output.new) request.now result }
+{
+    match exchange(alloc, reader, writer, request) {
+        Ok(Ok(reply)) => show(alloc, &reply, output, error),
+        Ok(Err(refusal)) => refuse(alloc, refusal, error),
+        Err(failure) => give_up(alloc, failure, error),
+    }
+}
+
+/// The request that the words ask for.
+fn request_of(asked: Asked) -> Request
+    ensures { result ≡ request_of asked }
+{
+    match asked {
+        Asked::Change(command) => Request::Change(command),
+        Asked::Read(read) => Request::Read(read),
+    }
+}
+
+/// Says on `error` what is wrong with a word of a call.
+fn misuse<E: Write>(alloc: Global, word: BadWord, error: &mut E) -> u8
+    ensures { result ≡ 2 }
+{
+    match format!(in alloc; "{word}\n") {
+        Ok(text) => say(error, text.as_str()),
+        Err(_) => say(error, "no such call\n"),
+    }
+    MISUSED
+}
+
+/// A connection to the port of this machine.
+fn connect<N: Net<Stream = TcpStream>>(net: &N, port: u16) -> io::Result<TcpStream> {
+    let stream = TcpStream::connect(net, ("127.0.0.1", port))?;
+    stream.set_nodelay(true)?;
+    Ok(stream)
+}
+
+/// Sends what the words ask for to the server at the port of this machine, and prints its reply.
+pub fn call<N: Net<Stream = TcpStream>, W: Write, E: Write>(
+    net: &N,
+    alloc: Global,
+    port: &str,
+    words: &[&str],
+    output: &mut W,
+    error: &mut E,
+) -> u8
+    ensures { CallsServer port.now (parse_call (map (λ word. word.now) words.now)) (W.contents output.old) (W.contents output.new) result }
+{
+    let request = match parse_call(alloc, words) {
+        Ok(asked) => Some(request_of(asked)),
+        Err(CallError::Bad(word)) => return misuse(alloc, word, error),
+        Err(CallError::NoMemory) => None,
+    };
+    let Some(port) = port_named(port) else {
+        say(error, "a port is a number from 1 to 65535\n");
+        return MISUSED;
+    };
+    let Some(request) = request else {
+        return refuse(alloc, Refusal::NoMemory, error);
+    };
+    match connect(net, port) {
+        Ok(stream) => ask(alloc, &mut &stream, &mut &stream, &request, output, error),
+        Err(_) => give_up(alloc, Unanswered::NoReply, error),
+    }
+}
+
+#[cfg(test)]
+mod tests {
+    use super::{ask, call};
+    use map_types::{Key, Question, Read};
+    use std::alloc::Global;
+    use std::test::Fail;
+    use wire_frames::Request;
+
+    /// Asks for `a`, which is answered with these bytes: the status.
+    fn asked(
+        alloc: Global,
+        mut reader: &[u8],
+        output: &mut Vec<u8>,
+        error: &mut Vec<u8>,
+    ) -> Result<u8, Fail> {
+        let mut writer = Vec::new(alloc);
+        let request = Request::Read(Read {
+            key: Key::new(alloc, "a")?,
+            question: Question::Get,
+        });
+        let status = ask(alloc, &mut reader, &mut writer, &request, output, error);
+        if writer.as_slice() == b"\x00\x03\x01\x01a".as_slice() {
+            Ok(status)
+        } else {
+            Err(Fail::from("another request"))
+        }
+    }
+
+    #[test]
+    fn answers_as_they_are_printed(rt: HostRuntime) -> Result<(), Fail> {
+        let alloc = rt.alloc();
+        let replies: [(&[u8], u8, &[u8], &[u8]); 4] = [
+            (
+                b"\x00\x0A\x01\x01\x00\x00\x00\x00\x00\x00\x00\x05",
+                0,
+                b"now i5\n",
+                b"",
+            ),
+            (
+                b"\x00\x0A\x02\x01\x00\x00\x00\x00\x00\x00\x00\x01",
+                0,
+                b"did yes\n",
+                b"",
+            ),
+            (b"\x00\x02\x84\x00", 1, b"", b"refused 4 UnknownMethod\n"),
+            (b"\x00\x0A\x01\x01\x00", 1, b"", b"no reply\n"),
+        ];
+        for (bytes, status, shown, said) in replies {
+            let mut output = Vec::new(alloc);
+            let mut error = Vec::new(alloc);
+            assert_eq!(rt; asked(alloc, bytes, &mut output, &mut error)?, status);
+            assert_eq!(rt; output.as_slice(), shown);
+            assert_eq!(rt; error.as_slice(), said);
+        }
+        Ok(())
+    }
+
+    #[test]
+    fn calls_without_an_answer(rt: HostRuntime) {
+        let alloc = rt.alloc();
+        let calls: [(&str, &[&str], u8, &[u8]); 4] = [
+            ("7000", &["get"], 2, b"too few words, or too many\n"),
+            ("7000", &["count", "a"], 2, b"no such method\n"),
+            (
+                "0",
+                &["get", "a"],
+                2,
+                b"a port is a number from 1 to 65535\n",
+            ),
+            ("1", &["get", "a"], 1, b"no reply\n"),
+        ];
+        for (port, words, status, said) in calls {
+            let mut output = Vec::new(alloc);
+            let mut error = Vec::new(alloc);
+            assert_eq!(rt;
+                call(&rt, alloc, port, words, &mut output, &mut error),
+                status
+            );
+            assert!(rt; output.is_empty());
+            assert_eq!(rt; error.as_slice(), said);
+        }
+    }
+}

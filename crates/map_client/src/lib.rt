@@ -1,0 +1,6 @@
+//! The client of a server: one call, and the line that is printed of its reply.
+#![tactic(auto)]
+
+pub mod client;
+
+pub use client::{ask, call};

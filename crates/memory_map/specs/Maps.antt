@@ -1,0 +1,63 @@
+-- A map in memory: how it begins, and what a request leaves of it.
+use Rattle.std.specs.Prelude.{◌≡◌, ◌⊎◌, ℕ, ◌+◌, Bool, true, false, List, Err}
+use Rattle.std.specs.FinMap as finite
+use Rattle.map_types.specs.declared.refusals.Refusal.{Refusal}
+use Rattle.map_types.specs.declared.refusals.Refusal.TheVariants as refusal_type
+use Rattle.ticket_order.specs.declared.record.Record.{Record}
+use Rattle.ticket_order.specs.declared.record.Opening.{Opening}
+use Rattle.stripe_locks.specs.Plays.{joining}
+use Rattle.disk_model.specs.Files.{Files}
+use Rattle.gate_log.specs.States.{LogState}
+use Rattle.recovery.specs.Formatting.{IsFormatted}
+use Rattle.recovery.specs.LogReading.{IsResumed, contents_of}
+use Rattle.wire_frames.specs.declared.requests.Request.{Request}
+use Rattle.connections.specs.Dialogue.{Answer}
+use Rattle.memory_map.specs.Served.{Took, fails}
+
+-- a map in memory: the count of stripes, the record of its pass, its log, and whether it has failed
+pub record MapState : Type 0 where
+  pub stripes : ℕ
+  pub pass : Record
+  pub log : LogState
+  pub has_failed : Bool
+
+-- where an empty map begins
+abbrev pub nothing_yet : Opening
+nothing_yet = record { first = 0; map = finite.empty }
+
+-- An empty map of 16 stripes: its pass has made no step, and its log goes on from the first ticket.
+pub record IsEmpty (map : MapState) : Type 0 where
+  pub stripes : map.stripes ≡ 16
+  pub pass : map.pass ≡ joining nothing_yet 0
+  pub log : IsResumed map.log
+  pub committed : map.log.committed ≡ 0
+  pub unfailed : map.has_failed ≡ false
+
+-- Why a disk was not made that of an empty map and opened, and how it was left: a device call has failed; or none has, and a checkpoint is
+-- sealed there, or no memory was found.
+pub data CannotOpen {D : Type 0} (states : D → List Files) (failures : D → ℕ) (disk : D) (refusal : Refusal) (left : D) : Type 0 where
+  failed : refusal ≡ refusal_type.Failed → failures left ≡ failures disk + 1 → CannotOpen states failures disk refusal left
+  formatted : refusal ≡ refusal_type.AlreadyFormatted → IsFormatted (contents_of states disk) → failures left ≡ failures disk → CannotOpen states failures disk refusal left
+  forgotten : refusal ≡ refusal_type.NoMemory → failures left ≡ failures disk → CannotOpen states failures disk refusal left
+
+-- why no map was begun over it: for such a reason, or there was no keeper's pass
+abbrev pub CannotBegin : {D : Type 0} → (D → List Files) → (D → ℕ) → D → Refusal → D → Type 0
+CannotBegin states failures disk refusal left =
+    CannotOpen states failures disk refusal left ⊎ ((refusal ≡ refusal_type.SeatsSpent) × (failures left ≡ failures disk))
+
+-- a map that has not failed answered a request so
+pub record Works (before : MapState) (request : Request) (answer : Answer) (after : MapState) : Type 0 where
+  pub working : before.has_failed ≡ false
+  pub stripes : after.stripes ≡ before.stripes
+  pub took : Took before.stripes before.pass request answer before.log after.pass after.log
+  pub failed : after.has_failed ≡ fails answer
+
+-- a map that has failed refuses, and does nothing
+pub record IsOver (before : MapState) (answer : Answer) (after : MapState) : Type 0 where
+  pub failed : before.has_failed ≡ true
+  pub refused : answer ≡ Err refusal_type.Failed
+  pub same : after ≡ before
+
+-- a request was answered so, and led from one state of the map to another
+abbrev pub Answered : MapState → Request → Answer → MapState → Type 0
+Answered before request answer after = Works before request answer after ⊎ IsOver before answer after

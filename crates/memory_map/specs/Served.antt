@@ -1,0 +1,120 @@
+-- What a request that is served leaves of the record of the keeper's pass, which also makes the calls, and of the log.
+use Rattle.std.specs.Prelude.{◌≡◌, ◌⊎◌, ℕ, ◌+◌, ◌<◌, ◌≤◌, Bool, true, false, None, Ok, Err, List, length}
+use Rattle.std.specs.List.{Contains}
+use Rattle.disk_model.specs.Files.{Files}
+use Rattle.java_hash.specs.Stripes.{stripe_of}
+use Rattle.map_types.specs.declared.refusals.Refusal.{Refusal}
+use Rattle.map_types.specs.declared.refusals.Refusal.TheVariants as refusal_type
+use Rattle.map_types.specs.declared.commands.Command.{Command}
+use Rattle.map_types.specs.declared.commands.Reply.{Reply}
+use Rattle.ticket_order.specs.declared.record.Record.{Record}
+use Rattle.ticket_order.specs.declared.stripe.Entry.{Entry}
+use Rattle.ticket_order.specs.Records.{entry, failing, publishing}
+use Rattle.ticket_order.specs.Legality.{entries_from}
+use Rattle.ticket_order.specs.Calls.{MakesCall, MakesRead, RefusesChange, RefusesRead, Reaches}
+use Rattle.gate_log.specs.States.{LogState, IsResting}
+use Rattle.flusher.specs.declared.keeper.Keeper.{Keeper}
+use Rattle.flusher.specs.Fitting.{Fits, HasSeenMore, IsQuiet, IsTakenFront, WereTaken}
+use Rattle.flusher.specs.Hands.{FitsBatch}
+use Rattle.flusher.specs.Keeping.{is_too_long, is_walking}
+use Rattle.wire_frames.specs.declared.requests.Request.{Request}
+use Rattle.wire_frames.specs.declared.requests.Request.TheVariants.{Change, Read}
+use Rattle.connections.specs.Dialogue.{Answer}
+
+-- the keeper and its pass over n stripes
+abbrev pub IsKept : {D : Type 0} → (D → List Files) → (D → Type 0) → ℕ → Keeper D → Record → Type 0
+IsKept states honest n keeper p = (done : List Command) × Fits states honest n done keeper p
+
+-- between two commits of a keeper that has not failed
+pub record IsIdle {D : Type 0} (keeper : Keeper D) : Type 0 where
+  pub working : keeper.is_broken ≡ false
+  pub unfailed : keeper.has_failed ≡ false
+  pub resting : IsResting keeper.log
+  pub alone : keeper.next ≡ None
+  pub still : is_walking keeper.sweeper.walking ≡ false
+
+-- no call was added
+abbrev pub Refuses : ℕ → Record → Request → Refusal → Record → Type 0
+Refuses n v (Change command) refusal w = RefusesChange v (stripe_of n command.key) refusal w
+Refuses n v (Read read) refusal w = RefusesRead v (stripe_of n read.key) refusal w
+
+-- the call was made, with this reply: the record grew by it alone, behind all that the pass had seen, and it is legal there
+abbrev pub Makes : ℕ → Record → Request → ℕ → Reply → Record → Type 0
+Makes n v (Change command) position reply w = MakesCall n v command position reply w
+Makes n v (Read read) position reply w = MakesRead n v read position reply w
+
+-- sweeps alone were made, by which the pass may have seen more
+pub record IsSwept (p w : Record) : Type 0 where
+  pub quiet : IsQuiet p w
+  pub seen : HasSeenMore p w
+
+-- the sweeps of the pass took each entry of the history that is below the count
+abbrev pub AreTaken : ℕ → Record → Record → Type 0
+AreTaken count made w = (e : Entry) → Contains (entries_from made.opening.first made.seen) e → e.ticket < count → Contains w.taken e
+
+-- Sweeps were made, and then what is committed was published. It reaches this position, and is the front of the history; the sweeps took each
+-- entry of it.
+pub record IsCommitted (position : ℕ) (made w : Record) (log : LogState) : Type 0 where
+  pub after : Record
+  pub swept : IsSwept made after
+  pub reached : position ≤ log.committed
+  pub done : List Command
+  pub front : IsTakenFront done log.committed after
+  pub is : w ≡ publishing after log.committed
+
+-- The position of a call that was made is committed, with all entries below it, and a SEE found it durable.
+pub record IsGivenOut (position : ℕ) (made w : Record) (log : LogState) : Type 0 where
+  pub between : Record
+  pub commits : IsCommitted position made between log
+  pub taken : AreTaken position made between
+  pub reaches : Reaches position between w
+
+-- a sweep took the entry of a change with this position; a read has none
+abbrev pub IsTaken : Request → ℕ → Record → Type 0
+IsTaken (Change command) position w = (ticket : ℕ) → position ≡ ticket + 1 → Contains w.taken (entry ticket command)
+IsTaken (Read read) position w = Unit {0}
+
+-- The call was made, and its reply was given out at its position, where its own entry is committed.
+pub record Serves (n : ℕ) (v : Record) (request : Request) (reply : Reply) (w : Record) (log : LogState) : Type 0 where
+  pub position : ℕ
+  pub made : Record
+  pub makes : Makes n v request position reply made
+  pub given_out : IsGivenOut position made w log
+  pub own : IsTaken request position w
+
+-- the next commands that the pass took are a batch, and it would carry the log past its greatest length
+pub record HasNoRoom (log : LogState) (p : Record) : Type 0 where
+  pub commands : List Command
+  pub some : 1 ≤ length commands
+  pub taken : WereTaken log.committed commands p
+  pub fits : FitsBatch 65536 log.committed commands
+  pub too_long : is_too_long log commands
+
+-- the log takes no further batch: a device call has failed, or the log is full
+abbrev pub CannotCommit : LogState → Record → Type 0
+CannotCommit log p = (log.is_broken ≡ true) ⊎ HasNoRoom log p
+
+-- Why a call that was made has no reply: after sweeps its position can't be committed, and the pass made a FAIL.
+pub record IsWithheld (made w : Record) (log : LogState) : Type 0 where
+  pub after : Record
+  pub swept : IsSwept made after
+  pub cannot : CannotCommit log after
+  pub fails : w ≡ failing after
+
+-- The call was made, but its reply is withheld: its outcome is open.
+pub record Loses (n : ℕ) (v : Record) (request : Request) (w : Record) (log : LogState) : Type 0 where
+  pub position : ℕ
+  pub reply : Reply
+  pub made : Record
+  pub makes : Makes n v request position reply made
+  pub withheld : IsWithheld made w log
+
+-- the request was answered so
+abbrev pub Took : ℕ → Record → Request → Answer → LogState → Record → LogState → Type 0
+Took n v request (Ok reply) old w new = Serves n v request reply w new
+Took n v request (Err refusal) old w new = (Refuses n v request refusal w × (new ≡ old)) ⊎ ((refusal ≡ refusal_type.Failed) × Loses n v request w new)
+
+-- after this answer the map has failed
+abbrev pub fails : Answer → Bool
+fails (Err refusal_type.Failed) = true
+fails answer = false

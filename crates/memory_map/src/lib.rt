@@ -1,0 +1,6 @@
+//! A map in memory on one thread, which answers the requests of a connection.
+#![tactic(auto)]
+
+pub mod memory;
+
+pub use memory::Memory;

@@ -1,0 +1,311 @@
+//! The map in memory: the shared stripes on one thread, and a keeper with its log on a disk.
+ghost use Rattle.std.specs.Prelude.{◌≡◌, ◌≢◌, ◌≤◌, ◌+◌, IfOk, IfErr, OnOk, OnErr, ℕ, None, false, true};
+ghost use Rattle.ticket_order.specs.declared.record.Record.{Record};
+ghost use Rattle.gate_log.specs.States.{IsResting, log_after};
+ghost use Rattle.flusher.specs.Fitting.{HasSeenMore, IsBeside, IsQuiet, IsUnused};
+ghost use Rattle.flusher.specs.Keeping.{is_walking};
+ghost use Rattle.recovery.specs.LogReading.{IsResumed};
+ghost use Rattle.stripe_locks.specs.Passes.{begun_with, recorded, stripe_count, IsPassOf};
+ghost use Rattle.stripe_locks.specs.Plays.{joining};
+ghost use Rattle.memory_map.specs.Maps.{CannotBegin, CannotOpen, IsEmpty, nothing_yet};
+ghost use Rattle.memory_map.specs.Served.{AreTaken, CannotCommit, IsCommitted, IsGivenOut, IsIdle, IsKept, IsWithheld, Makes, Refuses, Took, fails};
+
+use connections::Calls;
+use disk_model::{Disk, MemDisk};
+use flusher::{Keeper, committed_were_taken, pass_goes_on, runs_were_taken};
+use gate_log::Phase;
+use java_hash::StripeCount;
+use map_types::{Refusal, Reply};
+use recovery::{format, open};
+use std::alloc::Global;
+use std::marker::Model;
+use std::sync::Wait;
+use store_layout::laws::laws_of_opening;
+use stripe_locks::{Pass, Stripes};
+use ticket_order::{Held, Position, Released, Steps, release, try_call, try_read};
+use wire_frames::Request;
+
+/// The longest batch.
+const MOST_COMMANDS: u32 = 65_536;
+
+/// A map of 16 stripes in memory, with a keeper whose log lies on a disk. The keeper's pass makes the
+/// calls; the keeper sweeps the stripes, commits and publishes before a reply is given out. What it is
+/// refused for want of memory is tried again until memory is found. Where a device call fails, or the
+/// log is full, a call can't be committed: the map has failed, and each later call is refused with
+/// `Failed`.
+#[derive(Drop)]
+pub struct Memory<'a, D: Disk + Drop, R: Wait> {
+    rt: &'a R,
+    alloc: Global,
+    stripes: Stripes,
+    pass: Pass,
+    keeper: Keeper<D>,
+    has_failed: bool,
+}
+
+impl<'a, D: Disk + Drop, R: Wait> Model for Memory<'a, D, R> {
+    ghost use Rattle.std.specs.Prelude.{◌≡◌, false};
+    ghost use Rattle.stripe_locks.specs.Passes.{recorded, stripe_count, IsPassOf};
+    ghost use Rattle.memory_map.specs.Maps.{MapState};
+    ghost use Rattle.memory_map.specs.Served.{IsKept, IsIdle};
+    ghost use Rattle.ticket_order.specs.contracts.record.Record as record_type;
+    ghost use Rattle.std.specs.Coded.{codes};
+
+    ghost Value = { MapState };
+
+    ghost coded = { Prim.hlevel (codes, record_type.the_row.coded) };
+
+    ghost view = { λ memory. record { stripes = stripe_count memory.stripes; pass = recorded memory.pass; log = memory.keeper.log; has_failed = memory.has_failed } };
+
+    ghost invariant = { λ memory. IsPassOf memory.stripes memory.pass
+        × IsKept D.states D.honest (stripe_count memory.stripes) memory.keeper (recorded memory.pass)
+        × (memory.has_failed ≡ false → IsIdle memory.keeper) };
+}
+
+/// Makes the device call that is due in the log.
+fn advance<D: Disk>(keeper: &mut Keeper<D>) -> Result<(), Refusal>
+    requires working { keeper.old.is_broken ≡ false }
+    requires alone { keeper.old.next ≡ None }
+    requires due { keeper.old.log.phase ≢ Phase.Idle }
+    requires kept { (n : ℕ) × (p : Record) × IsKept D.states D.honest n keeper.old p }
+    ensures ok { OnOk result ((keeper.new.log ≡ log_after keeper.old.log.phase keeper.old.log) × (keeper.new.is_broken ≡ false)) }
+    ensures err { OnErr result (keeper.new.log.is_broken ≡ true) }
+    ensures alone { keeper.new.next ≡ None }
+    ensures kept { (n : ℕ) (p : Record) → IsKept D.states D.honest n keeper.old p → IsKept D.states D.honest n keeper.new p }
+    ensures walking { keeper.new.sweeper.walking ≡ keeper.old.sweeper.walking }
+    ensures has_failed { keeper.new.has_failed ≡ keeper.old.has_failed }
+{
+    let _phase = keeper.advance()?;
+    Ok(())
+}
+
+/// Makes the four device calls of the batch that is staged.
+fn commit_staged<D: Disk>(keeper: &mut Keeper<D>) -> Result<(), Refusal>
+    requires staged { keeper.old.log.phase ≡ Phase.Staged }
+    requires ends { keeper.old.log.ending ≡ None }
+    requires working { keeper.old.is_broken ≡ false }
+    requires alone { keeper.old.next ≡ None }
+    requires kept { (n : ℕ) × (p : Record) × IsKept D.states D.honest n keeper.old p }
+    ensures ok { OnOk result (IsResting keeper.new.log × (keeper.new.is_broken ≡ false)) }
+    ensures err { OnErr result (keeper.new.log.is_broken ≡ true) }
+    ensures alone { keeper.new.next ≡ None }
+    ensures kept { (n : ℕ) (p : Record) → IsKept D.states D.honest n keeper.old p → IsKept D.states D.honest n keeper.new p }
+    ensures walking { keeper.new.sweeper.walking ≡ keeper.old.sweeper.walking }
+    ensures has_failed { keeper.new.has_failed ≡ keeper.old.has_failed }
+{
+    advance(keeper)?;
+    advance(keeper)?;
+    advance(keeper)?;
+    advance(keeper)
+}
+
+/// Commits the longest batch of what is in hand. Where there is none, or no memory is found, nothing is
+/// committed.
+fn commit_some<D: Disk>(keeper: &mut Keeper<D>) -> Result<(), Refusal>
+    requires idle { IsIdle keeper.old }
+    requires kept { (n : ℕ) × (p : Record) × IsKept D.states D.honest n keeper.old p }
+    ensures ok { OnOk result (IsIdle keeper.new) }
+    ensures err { (n : ℕ) (p : Record) → IsKept D.states D.honest n keeper.old p → OnErr result (CannotCommit keeper.new.log p) }
+    ensures kept { (n : ℕ) (p : Record) → IsKept D.states D.honest n keeper.old p → IsKept D.states D.honest n keeper.new p }
+    ensures walking { keeper.new.sweeper.walking ≡ keeper.old.sweeper.walking }
+{
+    runs_were_taken(keeper);
+    match keeper.stage_batch(MOST_COMMANDS) {
+        Ok(count) => {
+            if count == 0 {
+                return Ok(());
+            }
+            commit_staged(keeper)
+        }
+        Err(refusal) => {
+            if refusal == Refusal::NoMemory {
+                return Ok(());
+            }
+            Err(refusal)
+        }
+    }
+}
+
+/// Sweeps and commits until all tickets below the position are committed.
+fn commit_in_time<S: Steps, D: Disk, R: Wait>(
+    rt: &R,
+    steps: &mut S,
+    keeper: &mut Keeper<D>,
+    position: Position,
+) -> Result<(), Refusal>
+    requires idle { IsIdle keeper.old }
+    requires kept { IsKept D.states D.honest (S.stripe_count steps.old) keeper.old (S.recorded steps.old) }
+    ensures ok { OnOk result (IsIdle keeper.new × (position ≤ keeper.new.log.committed)) }
+    ensures err { OnErr result (CannotCommit keeper.new.log (S.recorded steps.new) × (is_walking keeper.new.sweeper.walking ≡ false)) }
+    ensures kept { IsKept D.states D.honest (S.stripe_count steps.new) keeper.new (S.recorded steps.new) }
+    ensures quiet { IsQuiet (S.recorded steps.old) (S.recorded steps.new) }
+    ensures seen { HasSeenMore (S.recorded steps.old) (S.recorded steps.new) }
+    ensures place { S.place steps.new ≡ S.place steps.old }
+    ensures stripes { S.stripe_count steps.new ≡ S.stripe_count steps.old }
+{
+    for _turn in rt.forever() {
+        if position.number() <= keeper.committed() {
+            return Ok(());
+        }
+        let _swept = keeper.sweep(rt, steps);
+        commit_some(keeper)?;
+    }
+    unreachable!()
+}
+
+/// Commits all tickets below the position, and publishes them. Where they can't be committed, the
+/// pass makes a FAIL.
+fn make_durable<S: Steps, D: Disk, R: Wait>(
+    rt: &R,
+    steps: &mut S,
+    keeper: &mut Keeper<D>,
+    position: Position,
+) -> Result<(), Refusal>
+    requires idle { IsIdle keeper.old }
+    requires kept { IsKept D.states D.honest (S.stripe_count steps.old) keeper.old (S.recorded steps.old) }
+    ensures ok { OnOk result (IsIdle keeper.new × IsCommitted position (S.recorded steps.old) (S.recorded steps.new) keeper.new.log) }
+    ensures taken { OnOk result (AreTaken position (S.recorded steps.old) (S.recorded steps.new)) }
+    ensures err { IfErr result (λ refusal. (refusal ≡ Refusal.Failed) × IsWithheld (S.recorded steps.old) (S.recorded steps.new) keeper.new.log) }
+    ensures kept { IsKept D.states D.honest (S.stripe_count steps.new) keeper.new (S.recorded steps.new) }
+    ensures place { S.place steps.new ≡ S.place steps.old }
+    ensures stripes { S.stripe_count steps.new ≡ S.stripe_count steps.old }
+{
+    match commit_in_time(rt, steps, keeper, position) {
+        Ok(()) => {
+            committed_were_taken(keeper);
+            keeper.publish(steps);
+            Ok(())
+        }
+        Err(_refusal) => {
+            keeper.fail(steps);
+            Err(Refusal::Failed)
+        }
+    }
+}
+
+/// Gives the reply of a call that was made out, once its position is committed and published: a SEE
+/// finds no less than what its own pass has published.
+fn give_out<S: Steps, D: Disk, R: Wait>(
+    rt: &R,
+    steps: &mut S,
+    keeper: &mut Keeper<D>,
+    held: Held,
+) -> Result<Reply, Refusal>
+    requires idle { IsIdle keeper.old }
+    requires kept { IsKept D.states D.honest (S.stripe_count steps.old) keeper.old (S.recorded steps.old) }
+    ensures ok { IfOk result (λ reply. (reply ≡ held.reply) × IsIdle keeper.new × IsGivenOut held.position (S.recorded steps.old) (S.recorded steps.new) keeper.new.log) }
+    ensures err { IfErr result (λ refusal. (refusal ≡ Refusal.Failed) × IsWithheld (S.recorded steps.old) (S.recorded steps.new) keeper.new.log) }
+    ensures kept { IsKept D.states D.honest (S.stripe_count steps.new) keeper.new (S.recorded steps.new) }
+    ensures place { S.place steps.new ≡ S.place steps.old }
+    ensures stripes { S.stripe_count steps.new ≡ S.stripe_count steps.old }
+{
+    make_durable(rt, steps, keeper, held.position())?;
+    pass_goes_on(keeper);
+    match release(steps, held) {
+        Released::Reply(_, reply) => Ok(reply),
+        Released::NotYet(_) | Released::Failed => unreachable!(),
+    }
+}
+
+/// Makes the call of a request.
+fn make<S: Steps>(steps: &mut S, alloc: Global, request: Request) -> Result<Held, Refusal>
+    requires free { (S.recorded steps.old).holding ≡ None }
+    ensures ok { IfOk result (λ held. Makes (S.stripe_count steps.old) (S.recorded steps.old) request held.position held.reply (S.recorded steps.new)) }
+    ensures err { IfErr result (λ refusal. Refuses (S.stripe_count steps.old) (S.recorded steps.old) request refusal (S.recorded steps.new)) }
+    ensures free { (S.recorded steps.new).holding ≡ None }
+    ensures beside { IsBeside (S.recorded steps.old) (S.recorded steps.new) }
+    ensures place { S.place steps.new ≡ S.place steps.old }
+    ensures stripes { S.stripe_count steps.new ≡ S.stripe_count steps.old }
+{
+    match request {
+        Request::Change(command) => try_call(steps, alloc, command),
+        Request::Read(read) => try_read(steps, read),
+    }
+}
+
+/// The answer to a request of a map that has not failed.
+fn answer<S: Steps, D: Disk, R: Wait>(
+    rt: &R,
+    alloc: Global,
+    steps: &mut S,
+    keeper: &mut Keeper<D>,
+    request: Request,
+) -> Result<Reply, Refusal>
+    requires idle { IsIdle keeper.old }
+    requires kept { IsKept D.states D.honest (S.stripe_count steps.old) keeper.old (S.recorded steps.old) }
+    ensures took { Took (S.stripe_count steps.old) (S.recorded steps.old) request result keeper.old.log (S.recorded steps.new) keeper.new.log }
+    ensures works { fails result ≡ false → IsIdle keeper.new }
+    ensures kept { IsKept D.states D.honest (S.stripe_count steps.new) keeper.new (S.recorded steps.new) }
+    ensures place { S.place steps.new ≡ S.place steps.old }
+    ensures stripes { S.stripe_count steps.new ≡ S.stripe_count steps.old }
+{
+    pass_goes_on(keeper);
+    let held = make(steps, alloc, request)?;
+    give_out(rt, steps, keeper, held)
+}
+
+/// Makes the disk that of an empty map of 16 stripes, and opens it.
+fn open_new<D: Disk + Drop>(alloc: Global, disk: D) -> Result<(Keeper<D>, Stripes), (D, Refusal)>
+    ensures idle { IfOk result (λ x. IsIdle x.0) }
+    ensures stripes { IfOk result (λ x. stripe_count x.1 ≡ 16) }
+    ensures log { IfOk result (λ x. IsResumed x.0.log × (x.0.log.committed ≡ (begun_with x.1).first)) }
+    ensures new { IfOk result (λ x. D.honest x.0.disk → begun_with x.1 ≡ nothing_yet) }
+    ensures kept { IfOk result (λ x. (p : Record) → p.opening ≡ begun_with x.1 → IsUnused (begun_with x.1).first p → IsKept D.states D.honest 16 x.0 p) }
+    ensures failures { IfOk result (λ x. D.failures x.0.disk ≡ D.failures disk) }
+    ensures err { IfErr result (λ x. D.honest x.0 → CannotOpen D.states D.failures disk x.1 x.0) }
+{
+    laws_of_opening();
+    let Some(count) = StripeCount::new(16) else {
+        unreachable!()
+    };
+    let mut disk = disk;
+    match format(alloc, &mut disk, count) {
+        Ok(()) => open(alloc, disk, count),
+        Err(refusal) => Err((disk, refusal)),
+    }
+}
+
+impl<'a, R: Wait> Memory<'a, MemDisk, R> {
+    /// An empty map, over a disk in memory that is made that of an empty map and opened. Refuses with
+    /// `AlreadyFormatted` where a checkpoint is sealed there, with `Failed` exactly where a device call
+    /// fails, with `NoMemory`, and with `SeatsSpent` where the stripes have no keeper's pass. The disk is
+    /// handed back.
+    pub fn new(
+        rt: &'a R,
+        alloc: Global,
+        disk: MemDisk,
+    ) -> Result<Memory<'a, MemDisk, R>, (MemDisk, Refusal)>
+        ensures empty { IfOk result IsEmpty }
+        ensures err { IfErr result (λ refused. CannotBegin ⟦<MemDisk as Disk>⟧.states ⟦<MemDisk as Disk>⟧.failures disk refused.1 refused.0) }
+    {
+        let (keeper, stripes) = open_new(alloc, disk)?;
+        let pass = match stripes.keeper_pass() {
+            Ok(pass) => pass,
+            Err(refusal) => return Err((keeper.into_disk(), refusal)),
+        };
+        Ok(Memory {
+            rt,
+            alloc,
+            stripes,
+            pass,
+            keeper,
+            has_failed: false,
+        })
+    }
+}
+
+impl<D: Disk + Drop, R: Wait> Calls for Memory<'_, D, R> {
+    ghost use Rattle.memory_map.specs.Maps.{Answered};
+
+    ghost took = { Answered };
+
+    fn call(&mut self, request: Request) -> Result<Reply, Refusal> {
+        if self.has_failed {
+            return Err(Refusal::Failed);
+        }
+        let mut steps = self.stripes.at(&mut self.pass);
+        let answer = answer(self.rt, self.alloc, &mut steps, &mut self.keeper, request);
+        self.has_failed = matches!(answer, Err(Refusal::Failed));
+        answer
+    }
+}
