@@ -6,16 +6,16 @@
 #[cfg(test)]
 mod checkpoints;
 #[cfg(test)]
-mod dice;
+mod command_lines;
 #[cfg(test)]
-mod directories;
+mod dice;
 #[cfg(test)]
 mod journal;
 #[cfg(test)]
 mod keeper;
 #[cfg(test)]
-mod program;
-#[cfg(test)]
 mod random;
+#[cfg(test)]
+mod real_directories;
 #[cfg(test)]
 mod scripts;

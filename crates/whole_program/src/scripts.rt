@@ -1,5 +1,5 @@
 //! Scripts of whole schedules: what the program prints of them.
-use crate::program::{Sockets, words_of};
+use crate::command_lines::{Sockets, words_of};
 use disk_model::Unknown;
 use program::{Host, dchm};
 use std::alloc::Global;

@@ -1,5 +1,5 @@
 //! Directories of the system: the program formats and checks them, and they are opened again.
-use crate::program::{Sockets, words_of};
+use crate::command_lines::{Sockets, words_of};
 use disk_model::{DirDisk, Unknown};
 use java_hash::StripeCount;
 use map_types::Refusal;
