@@ -16,7 +16,7 @@ fn what_is_said(rt: HostRuntime) {
     assert_eq!(rt; cannot_open(alloc, &failure, &mut error), 1);
     let failure = io::Error::from(ErrorKind::OutOfMemory);
     assert_eq!(rt; cannot_open(alloc, &failure, &mut error), 1);
-    assert_eq!(rt; output.as_slice(), b"did yes\n");
+    assert_eq!(rt; output.as_slice(), b"did yes\n".as_slice());
     assert_eq!(rt;
         error.as_slice(),
         b"refused 9 Failed\nunreadable\nunreadable\nrefused 7 NoMemory\n".as_slice()
