@@ -6,8 +6,6 @@ pub mod answers;
 pub mod asked;
 pub mod bad_word;
 mod names;
-#[cfg(test)]
-mod tests;
 pub mod values;
 
 pub use agreement::words_agree;

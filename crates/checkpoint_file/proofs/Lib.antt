@@ -5,7 +5,6 @@ mod CallLemmas
 mod AdvanceLemmas
 mod StagingLemmas
 mod LookLemmas
-mod TestLemmas
 mod HeadLemmas
 mod PlaceLemmas
 mod EntryReading

@@ -6,14 +6,10 @@ mod gate;
 mod head;
 mod laws;
 mod loading;
-#[cfg(test)]
-mod loading_tests;
 mod marks;
 mod phase;
 mod pieces;
 mod sections;
-#[cfg(test)]
-mod tests;
 mod unread;
 mod writer;
 

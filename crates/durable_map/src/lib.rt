@@ -4,14 +4,10 @@
 mod calls;
 mod changes;
 mod desk;
-#[cfg(test)]
-mod directory_tests;
 mod keeping;
 mod loops;
 mod map;
 mod reads;
-#[cfg(test)]
-mod tests;
 mod tries;
 
 pub use loops::{Ends, checkpoint_loop, flush_loop};

@@ -7,10 +7,6 @@ mod laws;
 mod log;
 mod phase;
 mod scan;
-#[cfg(test)]
-mod scan_tests;
-#[cfg(test)]
-mod tests;
 
 pub use commit::commit_staged;
 pub use laws::stops_of_a_log;

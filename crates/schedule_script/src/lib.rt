@@ -7,8 +7,6 @@ mod line_words;
 pub mod parsing;
 pub mod printing;
 pub mod script;
-#[cfg(test)]
-mod tests;
 mod words;
 
 pub use bad_line::{BadLine, LineError, ScriptError};

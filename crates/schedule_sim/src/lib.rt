@@ -10,8 +10,6 @@ mod keeping;
 mod life;
 mod running;
 mod store;
-#[cfg(test)]
-mod tests;
 mod traced;
 mod walking;
 mod watched;

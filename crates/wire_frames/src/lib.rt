@@ -8,8 +8,6 @@ pub mod feeder;
 pub mod receiving;
 pub mod replies;
 pub mod requests;
-#[cfg(test)]
-mod tests;
 
 pub use answers::{AnswerError, read_answer};
 pub use asking::request_frame;

@@ -1,5 +1,0 @@
-use Rattle.durable_map.specs.Maps.{IsPassOf}
-use Rattle.durable_map.proofs.directory_tests.released_in_time.Given as goal
-
-abbrev pub invariant-loop-turn : goal.invariant-loop-turn
-invariant-loop-turn g l = IsPassOf l.map l.pass

@@ -1,0 +1,7 @@
+//! Tests of the running store: its calls on threads beside its loops, in memory and over a directory.
+#![tactic(auto)]
+
+#[cfg(test)]
+mod calls;
+#[cfg(test)]
+mod directory;
