@@ -1,4 +1,5 @@
 use map_types::{Change, Command, FuncError, Key, Question, Read, Refusal, Reply, Value};
+use std::alloc::Global;
 use std::io;
 use std::io::Write;
 use std::test::Fail;
@@ -8,78 +9,102 @@ use wire_frames::{
 
 const PUT: &[u8] = b"\x00\x0C\x10\x01a\x01\x00\x00\x00\x00\x00\x00\x00\x05";
 
+fn gives_change(feeder: &mut Feeder) -> bool {
+    matches!(feeder.next(), Some(Ok(Request::Change(_))))
+}
+
+fn gives_refusal(feeder: &mut Feeder, refusal: Refusal) -> bool {
+    match feeder.next() {
+        Some(Err(found)) => found == refusal,
+        Some(Ok(_)) | None => false,
+    }
+}
+
+fn gives_nothing(feeder: &mut Feeder) -> bool {
+    feeder.next().is_none()
+}
+
+// Whether the change comes once both parts are there, and no sooner.
+fn comes_once_whole(alloc: Global, front: &[u8], rest: &[u8]) -> Result<bool, Refusal> {
+    let mut feeder = Feeder::new(alloc);
+    feeder.feed(front)?;
+    let waits = gives_nothing(&mut feeder);
+    feeder.feed(rest)?;
+    Ok(waits && gives_change(&mut feeder) && gives_nothing(&mut feeder))
+}
+
 #[test]
-fn a_request_in_every_cutting(rt: HostRuntime) -> Result<(), Fail> {
-    let alloc = rt.alloc();
+fn a_request_in_every_cutting(rt: HostRuntime) -> Result<(), Refusal> {
     for cut in 0..PUT.len() {
         let (front, rest) = PUT.split_at(cut);
-        let mut feeder = Feeder::new(alloc);
-        feeder.feed(front)?;
-        assert!(rt; feeder.next().is_none(), "{cut}");
-        feeder.feed(rest)?;
-        assert!(rt;
-            matches!(feeder.next(), Some(Ok(Request::Change(_)))),
-            "{cut}"
-        );
-        assert!(rt; feeder.next().is_none(), "{cut}");
+        assert!(rt; comes_once_whole(rt.alloc(), front, rest)?, "{cut}");
     }
     Ok(())
 }
 
-#[test]
-fn requests_a_byte_at_a_time(rt: HostRuntime) -> Result<(), Fail> {
-    let alloc = rt.alloc();
-    let mut feeder = Feeder::new(alloc);
-    let mut taken = 0usize;
-    for _ in 0..3 {
-        for byte in PUT {
-            assert!(rt; feeder.next().is_none());
-            feeder.feed(&[*byte])?;
+// Whether the change comes with its last byte.
+fn comes_at_its_end(feeder: &mut Feeder) -> Result<bool, Refusal> {
+    for byte in PUT {
+        if !gives_nothing(feeder) {
+            return Ok(false);
         }
-        assert!(rt; matches!(feeder.next(), Some(Ok(Request::Change(_)))));
-        taken = taken.saturating_add(1);
+        feeder.feed(&[*byte])?;
     }
-    assert_eq!(rt; taken, 3);
-    Ok(())
+    Ok(gives_change(feeder))
 }
 
 #[test]
-fn questions(rt: HostRuntime) -> Result<(), Fail> {
+fn requests_a_byte_at_a_time(rt: HostRuntime) -> Result<(), Refusal> {
+    let mut feeder = Feeder::new(rt.alloc());
+    for _ in 0..3 {
+        assert!(rt; comes_at_its_end(&mut feeder)?);
+    }
+    Ok(())
+}
+
+// What is asked of the key a.
+fn asked(next: Option<Result<Request, Refusal>>) -> Option<Question> {
+    let Some(Ok(Request::Read(Read { key, question }))) = next else {
+        return None;
+    };
+    if key.as_str() == "a" {
+        Some(question)
+    } else {
+        None
+    }
+}
+
+fn asks_for_contained(feeder: &mut Feeder) -> bool {
+    matches!(asked(feeder.next()), Some(Question::ContainsKey))
+}
+
+fn asks_with_default(feeder: &mut Feeder, default: i64) -> bool {
+    match asked(feeder.next()) {
+        Some(Question::GetOrDefault(Value::Int(number))) => number == default,
+        _ => false,
+    }
+}
+
+#[test]
+fn questions(rt: HostRuntime) -> Result<(), Refusal> {
     let mut feeder = Feeder::new(rt.alloc());
     feeder.feed(
         b"\x00\x03\x01\x01a\x00\x0C\x02\x01a\x01\x00\x00\x00\x00\x00\x00\x00\x07\x00\x03\x03\x01a",
     )?;
-    let get = feeder.next();
-    assert!(rt;
-        matches!(
-            &get,
-            Some(Ok(Request::Read(Read {
-                question: Question::Get,
-                ..
-            })))
-        )
-    );
-    let get_or_default = feeder.next();
-    assert!(rt;
-        matches!(
-            &get_or_default,
-            Some(Ok(Request::Read(Read {
-                question: Question::GetOrDefault(Value::Int(7)),
-                ..
-            })))
-        )
-    );
-    let Some(Ok(Request::Read(contains))) = feeder.next() else {
-        return Err(Fail::from("no question"));
-    };
-    assert!(rt; matches!(&contains.question, Question::ContainsKey));
-    assert_eq!(rt; contains.key.as_str(), "a");
+    assert!(rt; matches!(asked(feeder.next()), Some(Question::Get)));
+    assert!(rt; asks_with_default(&mut feeder, 7));
+    assert!(rt; asks_for_contained(&mut feeder));
     Ok(())
 }
 
+fn is_refused(alloc: Global, bytes: &[u8], refusal: Refusal) -> Result<bool, Refusal> {
+    let mut feeder = Feeder::new(alloc);
+    feeder.feed(bytes)?;
+    Ok(gives_refusal(&mut feeder, refusal))
+}
+
 #[test]
-fn refused_messages(rt: HostRuntime) -> Result<(), Fail> {
-    let alloc = rt.alloc();
+fn refused_messages(rt: HostRuntime) -> Result<(), Refusal> {
     let refused: [(&[u8], Refusal); 9] = [
         (b"\x00\x01\x04", Refusal::UnknownMethod),
         (b"\x00\x01\x20", Refusal::UnknownMethod),
@@ -92,55 +117,68 @@ fn refused_messages(rt: HostRuntime) -> Result<(), Fail> {
         (b"\x40\x01", Refusal::BadFrame),
     ];
     for (bytes, refusal) in refused {
-        let mut feeder = Feeder::new(alloc);
-        feeder.feed(bytes)?;
-        let Some(Err(found)) = feeder.next() else {
-            return Err(Fail::from("not refused"));
-        };
-        assert_eq!(rt; found, refusal, "{bytes:?}");
+        assert!(rt; is_refused(rt.alloc(), bytes, refusal)?, "{bytes:?}");
     }
     Ok(())
 }
 
 #[test]
-fn nothing_after_a_refused_length(rt: HostRuntime) -> Result<(), Fail> {
+fn nothing_after_a_refused_length(rt: HostRuntime) -> Result<(), Refusal> {
     let mut feeder = Feeder::new(rt.alloc());
     feeder.feed(b"\x00\x03\x01\x01a\x00\x00\x00\x03\x01\x01a")?;
-    assert!(rt; matches!(feeder.next(), Some(Ok(Request::Read(_)))));
-    assert!(rt; matches!(feeder.next(), Some(Err(Refusal::BadFrame))));
+    assert!(rt; asked(feeder.next()).is_some());
+    assert!(rt; gives_refusal(&mut feeder, Refusal::BadFrame));
     feeder.feed(PUT)?;
-    assert!(rt; feeder.next().is_none());
+    assert!(rt; gives_nothing(&mut feeder));
     Ok(())
+}
+
+// Whether the reply is written as these bytes.
+fn is_written(alloc: Global, reply: Result<Reply, Refusal>, bytes: &[u8]) -> bool {
+    let mut written = Vec::new(alloc);
+    write_reply(&mut written, &reply).is_ok() && written.as_slice() == bytes
+}
+
+fn was(value: Option<Value>) -> Result<Reply, Refusal> {
+    Ok(Reply::Was(value))
+}
+
+fn now(value: Option<Value>) -> Result<Reply, Refusal> {
+    Ok(Reply::Now(value))
 }
 
 #[test]
 fn replies_in_bytes(rt: HostRuntime) -> Result<(), Fail> {
     let alloc = rt.alloc();
     let hi = Value::text(alloc, "hi")?;
-    let replies: [(Result<Reply, Refusal>, &[u8]); 8] = [
-        (Ok(Reply::Was(None)), b"\x00\x02\x00\x00"),
-        (Ok(Reply::Was(Some(hi))), b"\x00\x06\x00\x02\x00\x02hi"),
-        (Ok(Reply::Now(None)), b"\x00\x02\x01\x00"),
-        (
-            Ok(Reply::Now(Some(Value::Int(5)))),
-            b"\x00\x0A\x01\x01\x00\x00\x00\x00\x00\x00\x00\x05",
-        ),
-        (
-            Ok(Reply::Did(true)),
-            b"\x00\x0A\x02\x01\x00\x00\x00\x00\x00\x00\x00\x01",
-        ),
-        (
-            Ok(Reply::Fault(FuncError::TooLong)),
-            b"\x00\x0A\x03\x01\x00\x00\x00\x00\x00\x00\x00\x02",
-        ),
-        (Err(Refusal::UnknownFunction), b"\x00\x02\x85\x00"),
-        (Err(Refusal::NotText), b"\x00\x02\x92\x00"),
-    ];
-    for (reply, bytes) in replies {
-        let mut written = Vec::new(alloc);
-        write_reply(&mut written, &reply)?;
-        assert_eq!(rt; written.as_slice(), bytes);
-    }
+    assert!(rt; is_written(alloc, was(Some(hi)), b"\x00\x06\x00\x02\x00\x02hi"));
+    assert!(rt; is_written(alloc, was(None), b"\x00\x02\x00\x00"));
+    assert!(rt; is_written(alloc, now(None), b"\x00\x02\x01\x00"));
+    assert!(rt;
+        is_written(
+            alloc,
+            now(Some(Value::Int(5))),
+            b"\x00\x0A\x01\x01\x00\x00\x00\x00\x00\x00\x00\x05"
+        )
+    );
+    let did = Ok(Reply::Did(true));
+    assert!(rt;
+        is_written(
+            alloc,
+            did,
+            b"\x00\x0A\x02\x01\x00\x00\x00\x00\x00\x00\x00\x01"
+        )
+    );
+    let fault = Ok(Reply::Fault(FuncError::TooLong));
+    assert!(rt;
+        is_written(
+            alloc,
+            fault,
+            b"\x00\x0A\x03\x01\x00\x00\x00\x00\x00\x00\x00\x02"
+        )
+    );
+    assert!(rt; is_written(alloc, Err(Refusal::UnknownFunction), b"\x00\x02\x85\x00"));
+    assert!(rt; is_written(alloc, Err(Refusal::NotText), b"\x00\x02\x92\x00"));
     Ok(())
 }
 
@@ -177,82 +215,116 @@ impl Write for Halting {
     }
 }
 
+// Whether a writer that has no room for the rest has taken this front, and succeeds where there is no rest.
+fn takes(alloc: Global, reply: &Result<Reply, Refusal>, front: &[u8], rest: &[u8]) -> bool {
+    let mut writer = Halting {
+        interrupts: false,
+        room: front.len(),
+        taken: Vec::new(alloc),
+    };
+    let is_ok = write_reply(&mut writer, reply).is_ok();
+    is_ok == rest.is_empty() && writer.taken.as_slice() == front
+}
+
 #[test]
 fn writers_that_halt(rt: HostRuntime) -> Result<(), Fail> {
     let alloc = rt.alloc();
     let whole: &[u8] = b"\x00\x06\x01\x02\x00\x02hi";
-    let reply = Ok(Reply::Now(Some(Value::text(alloc, "hi")?)));
+    let reply = now(Some(Value::text(alloc, "hi")?));
     for room in 0..=whole.len() {
-        let mut writer = Halting {
-            interrupts: false,
-            room,
-            taken: Vec::new(alloc),
-        };
-        let written = write_reply(&mut writer, &reply);
-        assert_eq!(rt; written.is_ok(), room == whole.len());
-        assert_eq!(rt; writer.taken.as_slice(), &whole[..room]);
+        let (front, rest) = whole.split_at(room);
+        assert!(rt; takes(alloc, &reply, front, rest), "{room}");
     }
     Ok(())
 }
 
+// Whether the request is framed as these bytes.
+fn is_framed(alloc: Global, request: &Request, bytes: &[u8]) -> Result<bool, Refusal> {
+    Ok(request_frame(alloc, request)?.as_slice() == bytes)
+}
+
+fn read(alloc: Global, question: Question) -> Result<Request, Refusal> {
+    let key = Key::new(alloc, "a")?;
+    Ok(Request::Read(Read { key, question }))
+}
+
+fn put_five(alloc: Global) -> Result<Request, Refusal> {
+    let key = Key::new(alloc, "a")?;
+    let change = Change::Put(Value::Int(5));
+    Ok(Request::Change(Command { key, change }))
+}
+
 #[test]
-fn requests_in_bytes(rt: HostRuntime) -> Result<(), Fail> {
+fn reads_in_bytes(rt: HostRuntime) -> Result<(), Refusal> {
     let alloc = rt.alloc();
-    let get = Request::Read(Read {
-        key: Key::new(alloc, "a")?,
-        question: Question::Get,
-    });
-    assert_eq!(rt;
-        request_frame(alloc, &get)?.as_slice(),
-        b"\x00\x03\x01\x01a".as_slice()
-    );
-    let get_or_default = Request::Read(Read {
-        key: Key::new(alloc, "a")?,
-        question: Question::GetOrDefault(Value::text(alloc, "hi")?),
-    });
-    assert_eq!(rt;
-        request_frame(alloc, &get_or_default)?.as_slice(),
-        b"\x00\x08\x02\x01a\x02\x00\x02hi".as_slice()
-    );
-    let put = Request::Change(Command {
-        key: Key::new(alloc, "a")?,
-        change: Change::Put(Value::Int(5)),
-    });
-    assert_eq!(rt; request_frame(alloc, &put)?.as_slice(), PUT);
+    let get = read(alloc, Question::Get)?;
+    assert!(rt; is_framed(alloc, &get, b"\x00\x03\x01\x01a")?);
     Ok(())
+}
+
+#[test]
+fn reads_with_a_default_in_bytes(rt: HostRuntime) -> Result<(), Refusal> {
+    let alloc = rt.alloc();
+    let hi = Value::text(alloc, "hi")?;
+    let get_or_default = read(alloc, Question::GetOrDefault(hi))?;
+    assert!(rt; is_framed(alloc, &get_or_default, b"\x00\x08\x02\x01a\x02\x00\x02hi")?);
+    Ok(())
+}
+
+#[test]
+fn changes_in_bytes(rt: HostRuntime) -> Result<(), Refusal> {
+    let alloc = rt.alloc();
+    assert!(rt; is_framed(alloc, &put_five(alloc)?, PUT)?);
+    Ok(())
+}
+
+fn ends_early(alloc: Global, bytes: &[u8]) -> bool {
+    let mut reader = bytes;
+    matches!(read_reply(alloc, &mut reader), Err(ReplyError::Ended))
+}
+
+// Whether the bytes are read as this reply, and no front of them is.
+fn is_read(alloc: Global, bytes: &[u8], reply: Result<Reply, Refusal>) -> bool {
+    for len in 0..bytes.len() {
+        if !ends_early(alloc, &bytes[..len]) {
+            return false;
+        }
+    }
+    let mut reader = bytes;
+    matches!(read_reply(alloc, &mut reader), Ok(read) if read == reply) && reader.is_empty()
 }
 
 #[test]
 fn replies_are_read(rt: HostRuntime) -> Result<(), Fail> {
     let alloc = rt.alloc();
     let hi = Value::text(alloc, "hi")?;
-    let replies: [(&[u8], Result<Reply, Refusal>); 7] = [
-        (b"\x00\x06\x00\x02\x00\x02hi", Ok(Reply::Was(Some(hi)))),
-        (b"\x00\x02\x01\x00", Ok(Reply::Now(None))),
-        (
+    assert!(rt; is_read(alloc, b"\x00\x06\x00\x02\x00\x02hi", was(Some(hi))));
+    assert!(rt; is_read(alloc, b"\x00\x02\x01\x00", now(None)));
+    assert!(rt;
+        is_read(
+            alloc,
             b"\x00\x0A\x01\x01\x00\x00\x00\x00\x00\x00\x00\x05",
-            Ok(Reply::Now(Some(Value::Int(5)))),
-        ),
-        (
+            now(Some(Value::Int(5)))
+        )
+    );
+    let did = Ok(Reply::Did(true));
+    assert!(rt;
+        is_read(
+            alloc,
             b"\x00\x0A\x02\x01\x00\x00\x00\x00\x00\x00\x00\x01",
-            Ok(Reply::Did(true)),
-        ),
-        (
+            did
+        )
+    );
+    let fault = Ok(Reply::Fault(FuncError::TooLong));
+    assert!(rt;
+        is_read(
+            alloc,
             b"\x00\x0A\x03\x01\x00\x00\x00\x00\x00\x00\x00\x02",
-            Ok(Reply::Fault(FuncError::TooLong)),
-        ),
-        (b"\x00\x02\x84\x00", Err(Refusal::UnknownMethod)),
-        (b"\x00\x02\x93\x00", Err(Refusal::SeatsSpent)),
-    ];
-    for (bytes, reply) in replies {
-        let mut reader = bytes;
-        assert_eq!(rt; read_reply(alloc, &mut reader)?, reply, "{bytes:?}");
-        assert!(rt; reader.is_empty());
-        for len in 0..bytes.len() {
-            let mut reader = &bytes[..len];
-            assert!(rt; matches!(read_reply(alloc, &mut reader), Err(ReplyError::Ended)));
-        }
-    }
+            fault
+        )
+    );
+    assert!(rt; is_read(alloc, b"\x00\x02\x84\x00", Err(Refusal::UnknownMethod)));
+    assert!(rt; is_read(alloc, b"\x00\x02\x93\x00", Err(Refusal::SeatsSpent)));
     Ok(())
 }
 
@@ -302,21 +374,25 @@ impl io::Read for Dripping<'_> {
     }
 }
 
+// Whether a reply is read of a reader that gives this front and then fails, and all of it was asked for.
+fn is_dripped(alloc: Global, front: &[u8]) -> Option<bool> {
+    let mut reader = Dripping {
+        interrupts: false,
+        left: front,
+    };
+    let is_whole = match read_reply(alloc, &mut reader) {
+        Ok(Ok(Reply::Now(Some(_)))) => true,
+        Err(ReplyError::Reader(_)) => false,
+        _ => return None,
+    };
+    reader.left.is_empty().then_some(is_whole)
+}
+
 #[test]
 fn readers_that_halt(rt: HostRuntime) {
-    let alloc = rt.alloc();
     let whole: &[u8] = b"\x00\x06\x01\x02\x00\x02hi";
     for len in 0..=whole.len() {
-        let mut reader = Dripping {
-            interrupts: false,
-            left: &whole[..len],
-        };
-        let read = read_reply(alloc, &mut reader);
-        if len == whole.len() {
-            assert!(rt; matches!(read, Ok(Ok(Reply::Now(Some(_))))));
-        } else {
-            assert!(rt; matches!(read, Err(ReplyError::Reader(_))), "{len}");
-        }
-        assert!(rt; reader.left.is_empty());
+        let is_whole = is_dripped(rt.alloc(), &whole[..len]);
+        assert_eq!(rt; is_whole, Some(len == whole.len()), "{len}");
     }
 }

@@ -8,170 +8,177 @@ use schedules::{DeviceCall, End, Ending, Event, Made, MapEntry, Outcome, Side};
 use std::alloc::Global;
 use std::test::Fail;
 
-// The line of a script of one line.
-fn only(alloc: Global, text: &str) -> Result<Line, Fail> {
-    let mut lines = parse(alloc, text)?;
-    match lines.pop() {
-        Some(line) if lines.is_empty() => Ok(line),
-        _ => Err(Fail::from("not one line")),
-    }
-}
-
 fn is_bad(alloc: Global, text: &str, line: usize, fault: BadLine) -> bool {
     matches!(parse(alloc, text), Err(error) if error == ScriptError::Bad { line, fault })
 }
 
-#[test]
-fn lines_that_open_and_end_a_life(rt: HostRuntime) -> Result<(), Fail> {
-    let alloc = rt.alloc();
-    assert!(rt;
-        matches!(
-        only(alloc, "open 16\n")?.event,
-        Event::Open { stripes, fails_at: None } if stripes.get() == 16
-    )
-    );
-    assert!(rt;
-        matches!(
-        only(alloc, "open +1 fail 3")?.event,
-        Event::Open { stripes, fails_at: Some(3) } if stripes.get() == 1
-    )
-    );
-    assert!(rt;
-        matches!(
-            only(alloc, "open 256 fail 18446744073709551615")?.event,
-            Event::Open {
-                fails_at: Some(u64::MAX),
-                ..
-            }
-        )
-    );
-    assert!(rt;
-        matches!(
-            only(alloc, "stop old")?.event,
-            Event::Stop {
-                within: None,
-                fill: Fill::Old
-            }
-        )
-    );
-    assert!(rt;
-        matches!(
-            only(alloc, "stop A5")?.event,
-            Event::Stop {
-                within: None,
-                fill: Fill::Byte(165)
-            }
-        )
-    );
-    assert!(rt;
-        matches!(
-            only(alloc, "stop-in log new")?.event,
-            Event::Stop {
-                within: Some(Side::Log),
-                fill: Fill::New
-            }
-        )
-    );
-    assert!(rt;
-        matches!(
-            only(alloc, "stop-in ckpt fF")?.event,
-            Event::Stop {
-                within: Some(Side::Checkpoint),
-                fill: Fill::Byte(255)
-            }
-        )
-    );
-    assert!(rt; matches!(only(alloc, "leave")?.event, Event::Leave));
-    Ok(())
+// The line of a script of one line.
+fn line(alloc: Global, text: &str) -> Option<Line> {
+    let mut lines = parse(alloc, text).ok()?;
+    let last = lines.pop();
+    if lines.is_empty() { last } else { None }
+}
+
+fn event(alloc: Global, text: &str) -> Option<Event> {
+    let Line { event, .. } = line(alloc, text)?;
+    Some(event)
+}
+
+// Whether the event opens so many stripes, and fails at this call.
+fn opens(event: Option<Event>, count: usize, failing: Option<u64>) -> bool {
+    match event {
+        Some(Event::Open { stripes, fails_at }) => stripes.get() == count && fails_at == failing,
+        _ => false,
+    }
+}
+
+/// What a stop, or a failed write, leaves.
+#[derive(Clone, Copy, Debug, PartialEq, Eq)]
+enum Left {
+    Old,
+    New,
+    Byte(u8),
+    Chosen,
+}
+
+fn left(fill: Fill) -> Left {
+    match fill {
+        Fill::Old => Left::Old,
+        Fill::New => Left::New,
+        Fill::Byte(byte) => Left::Byte(byte),
+        Fill::Chosen { .. } => Left::Chosen,
+    }
+}
+
+// Where the event stops the machine, and what is left.
+fn stop(event: Option<Event>) -> Option<(Option<Side>, Left)> {
+    match event {
+        Some(Event::Stop { within, fill }) => Some((within, left(fill))),
+        _ => None,
+    }
 }
 
 #[test]
-fn lines_of_workers(rt: HostRuntime) -> Result<(), Fail> {
+fn lines_that_open_and_end_a_life(rt: HostRuntime) {
     let alloc = rt.alloc();
-    let line = only(alloc, "start 63 put  i5")?;
-    assert_eq!(rt; line.form, Form::Start { worker: 63 });
-    assert!(rt;
-        matches!(
-        &line.event,
-        Event::Change { worker: 63, command }
-            if command.key == Key::new(alloc, "")? && command.change == Change::Put(Value::Int(5))
-    )
-    );
-    let line = only(alloc, "start 0 getOrDefault a tb\r\n")?;
-    assert_eq!(rt; line.form, Form::Start { worker: 0 });
-    assert!(rt;
-        matches!(
-        &line.event,
-        Event::Read { worker: 0, read }
-            if read.question == Question::GetOrDefault(Value::text(alloc, "b\r")?)
-    )
-    );
-    let line = only(alloc, "step 7")?;
-    assert_eq!(rt; line.form, Form::Step { worker: 7 });
-    assert!(rt; matches!(line.event, Event::Step { worker: 7 }));
-    let line = only(alloc, "go 7")?;
-    assert_eq!(rt; line.form, Form::Go { worker: 7 });
-    assert!(rt; matches!(line.event, Event::Step { worker: 7 }));
-    let line = only(alloc, "release 7")?;
-    assert_eq!(rt; line.form, Form::Release { worker: 7 });
-    assert!(rt; matches!(line.event, Event::Release { worker: 7 }));
-    Ok(())
+    assert!(rt; opens(event(alloc, "open 16\n"), 16, None));
+    assert!(rt; opens(event(alloc, "open +1 fail 3"), 1, Some(3)));
+    let last = event(alloc, "open 256 fail 18446744073709551615");
+    assert!(rt; opens(last, 256, Some(u64::MAX)));
+    for (text, within, fill) in [
+        ("stop old", None, Left::Old),
+        ("stop A5", None, Left::Byte(165)),
+        ("stop-in log new", Some(Side::Log), Left::New),
+        ("stop-in ckpt fF", Some(Side::Checkpoint), Left::Byte(255)),
+    ] {
+        assert!(rt; stop(event(alloc, text)) == Some((within, fill)), "{text}");
+    }
+    assert!(rt; matches!(event(alloc, "leave"), Some(Event::Leave)));
+}
+
+// Whether the line starts this change of the key "".
+fn starts_change(line: Option<Line>, number: usize, wanted: &Change) -> bool {
+    let Some(Line { form, event }) = line else {
+        return false;
+    };
+    let Event::Change { worker, command } = event else {
+        return false;
+    };
+    form == Form::Start { worker: number }
+        && worker == number
+        && command.key.as_str() == ""
+        && command.change == *wanted
+}
+
+// Whether the line starts this read of the key a.
+fn starts_read(line: Option<Line>, number: usize, wanted: &Question) -> bool {
+    let Some(Line { form, event }) = line else {
+        return false;
+    };
+    let Event::Read { worker, read } = event else {
+        return false;
+    };
+    form == Form::Start { worker: number }
+        && worker == number
+        && read.key.as_str() == "a"
+        && read.question == *wanted
+}
+
+// Whether the line has this form, and makes a step of the worker.
+fn steps(line: Option<Line>, wanted: Form, number: usize) -> bool {
+    match line {
+        Some(Line { form, event }) => {
+            form == wanted && matches!(event, Event::Step { worker } if worker == number)
+        }
+        None => false,
+    }
 }
 
 #[test]
-fn lines_of_the_keeper(rt: HostRuntime) -> Result<(), Fail> {
+fn lines_of_workers(rt: HostRuntime) -> Result<(), Refusal> {
     let alloc = rt.alloc();
-    let line = only(alloc, "sweep")?;
-    assert!(rt; line.form == Form::Sweep && matches!(line.event, Event::Sweep));
-    let line = only(alloc, "capture 256")?;
-    assert!(rt; line.form == Form::Capture && matches!(line.event, Event::Capture { stripe: 256 }));
+    let put = Change::Put(Value::Int(5));
+    assert!(rt; starts_change(line(alloc, "start 63 put  i5"), 63, &put));
+    let default = Question::GetOrDefault(Value::text(alloc, "b\r")?);
+    assert!(rt; starts_read(line(alloc, "start 0 getOrDefault a tb\r\n"), 0, &default));
+    assert!(rt; steps(line(alloc, "step 7"), Form::Step { worker: 7 }, 7));
+    assert!(rt; steps(line(alloc, "go 7"), Form::Go { worker: 7 }, 7));
+    let release = Form::Release { worker: 7 };
     assert!(rt;
         matches!(
-            only(alloc, "stage 4294967295")?.event,
-            Event::Stage { most: u32::MAX }
+            line(alloc, "release 7"),
+            Some(Line { form, event: Event::Release { worker: 7 } }) if form == release
         )
     );
-    assert!(rt;
-        matches!(
-            only(alloc, "log ok")?.event,
-            Event::Device {
-                side: Side::Log,
-                ending: Ending::Done
-            }
-        )
-    );
-    assert!(rt;
-        matches!(
-            only(alloc, "log fail 00")?.event,
-            Event::Device {
-                side: Side::Log,
-                ending: Ending::Fails(Fill::Byte(0))
-            }
-        )
-    );
-    assert!(rt;
-        matches!(
-            only(alloc, "ckpt ok")?.event,
-            Event::Device {
-                side: Side::Checkpoint,
-                ending: Ending::Done
-            }
-        )
-    );
-    assert!(rt;
-        matches!(
-            only(alloc, "ckpt fail new")?.event,
-            Event::Device {
-                side: Side::Checkpoint,
-                ending: Ending::Fails(Fill::New)
-            }
-        )
-    );
-    assert!(rt; matches!(only(alloc, "publish")?.event, Event::Publish));
-    assert!(rt; matches!(only(alloc, "fail")?.event, Event::Fail));
-    assert!(rt; matches!(only(alloc, "begin")?.event, Event::Begin));
-    assert!(rt; matches!(only(alloc, "seal")?.event, Event::Seal));
     Ok(())
+}
+
+// Whether the line has this form, and its event is the keeper's of that form.
+fn is_keepers(line: Option<Line>, wanted: Form) -> bool {
+    let Some(Line { form, event }) = line else {
+        return false;
+    };
+    let is_its = match event {
+        Event::Sweep => wanted == Form::Sweep,
+        Event::Capture { stripe: 256 } => wanted == Form::Capture,
+        _ => false,
+    };
+    is_its && form == wanted
+}
+
+// Which writer makes a call; and what is left, where the call fails.
+fn device_call(event: Option<Event>) -> Option<(Side, Option<Left>)> {
+    match event {
+        Some(Event::Device { side, ending }) => match ending {
+            Ending::Done => Some((side, None)),
+            Ending::Fails(fill) => Some((side, Some(left(fill)))),
+        },
+        _ => None,
+    }
+}
+
+#[test]
+fn lines_of_the_keeper(rt: HostRuntime) {
+    let alloc = rt.alloc();
+    assert!(rt; is_keepers(line(alloc, "sweep"), Form::Sweep));
+    assert!(rt; is_keepers(line(alloc, "capture 256"), Form::Capture));
+    let stage = event(alloc, "stage 4294967295");
+    assert!(rt; matches!(stage, Some(Event::Stage { most: u32::MAX })));
+    for (text, side, failing) in [
+        ("log ok", Side::Log, None),
+        ("log fail 00", Side::Log, Some(Left::Byte(0))),
+        ("ckpt ok", Side::Checkpoint, None),
+        ("ckpt fail new", Side::Checkpoint, Some(Left::New)),
+    ] {
+        assert!(rt;
+            device_call(event(alloc, text)) == Some((side, failing)),
+            "{text}"
+        );
+    }
+    assert!(rt; matches!(event(alloc, "publish"), Some(Event::Publish)));
+    assert!(rt; matches!(event(alloc, "fail"), Some(Event::Fail)));
+    assert!(rt; matches!(event(alloc, "begin"), Some(Event::Begin)));
+    assert!(rt; matches!(event(alloc, "seal"), Some(Event::Seal)));
 }
 
 #[test]
@@ -343,29 +350,37 @@ fn steps_of_another_walk_are_taken_back(rt: HostRuntime) -> Result<(), Fail> {
     Ok(())
 }
 
-// Whether the outcome of a line of this form is printed so.
-fn prints(alloc: Global, form: Form, outcome: Outcome, text: &str) -> Result<bool, Fail> {
+fn printed(alloc: Global, form: Form, outcome: Outcome) -> Option<String> {
     let mut outcomes = Vec::new(alloc);
-    outcomes.push(outcome)?;
+    outcomes.push(outcome).ok()?;
     let span = Span { form, events: 1 };
-    let printed = text_of(alloc, &[span], &outcomes)?;
-    let wanted = format!(in alloc; "1 {text}\n")?;
-    Ok(printed.as_str() == wanted.as_str())
+    text_of(alloc, &[span], &outcomes).ok()
+}
+
+// Whether the outcome of a line of this form is printed so.
+fn prints(alloc: Global, form: Form, outcome: Outcome, text: &str) -> bool {
+    let Some(found) = printed(alloc, form, outcome) else {
+        return false;
+    };
+    match found.as_str().strip_prefix("1 ") {
+        Some(line) => line.strip_suffix('\n') == Some(text),
+        None => false,
+    }
 }
 
 #[test]
-fn printed_outcomes_of_workers(rt: HostRuntime) -> Result<(), Fail> {
+fn printed_outcomes_of_workers(rt: HostRuntime) {
     let alloc = rt.alloc();
     let start = Form::Start { worker: 5 };
-    assert!(rt; prints(alloc, start, Outcome::Started, "start 5")?);
-    assert!(rt; prints(alloc, start, Outcome::Skipped, "skipped")?);
+    assert!(rt; prints(alloc, start, Outcome::Started, "start 5"));
+    assert!(rt; prints(alloc, start, Outcome::Skipped, "skipped"));
     assert!(rt;
         prints(
             alloc,
             start,
             Outcome::Refused(Refusal::KeyTooLong),
             "5 refused 2 KeyTooLong"
-        )?
+        )
     );
     for (made, text) in [
         (Made::Took(3), "5 TAKE"),
@@ -380,13 +395,13 @@ fn printed_outcomes_of_workers(rt: HostRuntime) -> Result<(), Fail> {
         let end = End::Held(1);
         let outcome = Outcome::Stepped { made, end };
         assert!(rt;
-            prints(alloc, Form::Step { worker: 5 }, outcome, text)?,
+            prints(alloc, Form::Step { worker: 5 }, outcome, text),
             "{text}"
         );
     }
-    assert!(rt; prints(alloc, Form::Step { worker: 5 }, Outcome::Skipped, "skipped")?);
+    assert!(rt; prints(alloc, Form::Step { worker: 5 }, Outcome::Skipped, "skipped"));
     let go = Form::Go { worker: 63 };
-    assert!(rt; prints(alloc, go, stepped(End::Held(12)), "63 held 12")?);
+    assert!(rt; prints(alloc, go, stepped(End::Held(12)), "63 held 12"));
     let busy = Refusal::Busy { stripe: 3 };
     assert!(rt;
         prints(
@@ -394,15 +409,15 @@ fn printed_outcomes_of_workers(rt: HostRuntime) -> Result<(), Fail> {
             go,
             stepped(End::Refused(busy)),
             "63 refused 8 Busy 3"
-        )?
+        )
     );
-    assert!(rt; prints(alloc, go, Outcome::Skipped, "skipped")?);
+    assert!(rt; prints(alloc, go, Outcome::Skipped, "skipped"));
     let release = Form::Release { worker: 0 };
-    assert!(rt; prints(alloc, release, stepped(End::NotYet), "0 notyet")?);
-    assert!(rt; prints(alloc, release, stepped(End::Failed), "0 failed")?);
+    assert!(rt; prints(alloc, release, stepped(End::NotYet), "0 notyet"));
+    assert!(rt; prints(alloc, release, stepped(End::Failed), "0 failed"));
     let reply = Reply::Was(Some(Value::Int(-1)));
     let replied = End::Replied { position: 4, reply };
-    assert!(rt; prints(alloc, release, stepped(replied), "0 reply 4 was i-1")?);
+    assert!(rt; prints(alloc, release, stepped(replied), "0 reply 4 was i-1"));
     let reply = Reply::Fault(FuncError::WrongKind);
     let replied = End::Replied { position: 1, reply };
     assert!(rt;
@@ -411,36 +426,35 @@ fn printed_outcomes_of_workers(rt: HostRuntime) -> Result<(), Fail> {
             release,
             stepped(replied),
             "0 reply 1 fault 1 WrongKind"
-        )?
+        )
     );
-    Ok(())
 }
 
 #[test]
-fn printed_outcomes_of_the_keeper(rt: HostRuntime) -> Result<(), Fail> {
+fn printed_outcomes_of_the_keeper(rt: HostRuntime) {
     let alloc = rt.alloc();
-    assert!(rt; prints(alloc, Form::Sweep, stepped(End::Swept(9)), "sweep 9")?);
+    assert!(rt; prints(alloc, Form::Sweep, stepped(End::Swept(9)), "sweep 9"));
     assert!(rt;
         prints(
             alloc,
             Form::Sweep,
             stepped(End::SweepHeld(2)),
             "sweep held 2"
-        )?
+        )
     );
     let refused = stepped(End::Refused(Refusal::NoMemory));
-    assert!(rt; prints(alloc, Form::Sweep, refused, "refused 7 NoMemory")?);
+    assert!(rt; prints(alloc, Form::Sweep, refused, "refused 7 NoMemory"));
     let capture = Form::Capture;
-    assert!(rt; prints(alloc, capture, stepped(End::Captured(4)), "mark 4")?);
+    assert!(rt; prints(alloc, capture, stepped(End::Captured(4)), "mark 4"));
     let end = End::Refused(Refusal::Busy { stripe: 1 });
     let made = Made::FoundHeld(1);
-    assert!(rt; prints(alloc, capture, Outcome::Stepped { made, end }, "held")?);
+    assert!(rt; prints(alloc, capture, Outcome::Stepped { made, end }, "held"));
     let refused = stepped(End::Refused(Refusal::LogFull));
-    assert!(rt; prints(alloc, capture, refused, "refused 14 LogFull")?);
+    assert!(rt; prints(alloc, capture, refused, "refused 14 LogFull"));
     let refused = Outcome::Refused(Refusal::WrongPhase);
-    assert!(rt; prints(alloc, capture, refused, "refused 16 WrongPhase")?);
+    assert!(rt; prints(alloc, capture, refused, "refused 16 WrongPhase"));
     let single = Form::Single;
-    assert!(rt; prints(alloc, single, Outcome::Staged(3), "staged 3")?);
+    assert!(rt; prints(alloc, single, Outcome::Staged(3), "staged 3"));
     for (phase, text) in [
         (Phase::Idle, "log Idle"),
         (Phase::Header, "log Header"),
@@ -452,13 +466,13 @@ fn printed_outcomes_of_the_keeper(rt: HostRuntime) -> Result<(), Fail> {
     ] {
         let call = DeviceCall::Sync { file: 2 };
         assert!(rt;
-            prints(alloc, single, Outcome::Logged { call, phase }, text)?,
+            prints(alloc, single, Outcome::Logged { call, phase }, text),
             "{text}"
         );
     }
     let call = DeviceCall::Sync { file: 1 };
     let phase = CheckpointPhase::Idle;
-    assert!(rt; prints(alloc, single, Outcome::Checkpointed { call, phase }, "ckpt")?);
+    assert!(rt; prints(alloc, single, Outcome::Checkpointed { call, phase }, "ckpt"));
     let call = DeviceCall::Sync { file: 1 };
     assert!(rt;
         prints(
@@ -466,13 +480,12 @@ fn printed_outcomes_of_the_keeper(rt: HostRuntime) -> Result<(), Fail> {
             single,
             Outcome::CallFailed { call },
             "refused 9 Failed"
-        )?
+        )
     );
-    assert!(rt; prints(alloc, single, Outcome::Published(8), "durable 8")?);
-    assert!(rt; prints(alloc, single, Outcome::FailMade, "fail")?);
-    assert!(rt; prints(alloc, single, Outcome::Begun, "begin")?);
-    assert!(rt; prints(alloc, single, Outcome::Sealing, "seal")?);
-    Ok(())
+    assert!(rt; prints(alloc, single, Outcome::Published(8), "durable 8"));
+    assert!(rt; prints(alloc, single, Outcome::FailMade, "fail"));
+    assert!(rt; prints(alloc, single, Outcome::Begun, "begin"));
+    assert!(rt; prints(alloc, single, Outcome::Sealing, "seal"));
 }
 
 #[test]
@@ -491,7 +504,7 @@ fn printed_outcomes_of_lives(rt: HostRuntime) -> Result<(), Fail> {
             single,
             Outcome::Opened { prefix, entries },
             "open 30 1"
-        )?
+        )
     );
     let damaged = Refusal::Damaged {
         file: 2,
@@ -503,13 +516,13 @@ fn printed_outcomes_of_lives(rt: HostRuntime) -> Result<(), Fail> {
             single,
             Outcome::Refused(damaged),
             "refused 12 Damaged 2 17"
-        )?
+        )
     );
-    assert!(rt; prints(alloc, single, Outcome::Stopped { within: None }, "stop")?);
+    assert!(rt; prints(alloc, single, Outcome::Stopped { within: None }, "stop"));
     let within = Some(DeviceCall::Sync { file: 0 });
-    assert!(rt; prints(alloc, single, Outcome::Stopped { within }, "stop")?);
-    assert!(rt; prints(alloc, single, Outcome::Left, "leave")?);
-    assert!(rt; prints(alloc, single, Outcome::Skipped, "skipped")?);
+    assert!(rt; prints(alloc, single, Outcome::Stopped { within }, "stop"));
+    assert!(rt; prints(alloc, single, Outcome::Left, "leave"));
+    assert!(rt; prints(alloc, single, Outcome::Skipped, "skipped"));
     Ok(())
 }
 

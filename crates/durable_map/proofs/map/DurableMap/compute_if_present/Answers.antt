@@ -1,0 +1,4 @@
+use Rattle.durable_map.proofs.map.DurableMap.compute_if_present.Goals as goal
+
+pub returns-clause-completes : goal.returns-clause-completes
+returns-clause-completes g c = c.change.ensures.completes

@@ -1,0 +1,4 @@
+use Rattle.durable_map.proofs.map.DurableMap.try_contains_key.Goals as goal
+
+pub returns-clause-tries : goal.returns-clause-tries
+returns-clause-tries g c = c.try_read.ensures.tries
