@@ -55,27 +55,40 @@ fn key(alloc: Global, text: &str) -> Result<Key, Refusal> {
     Key::new(alloc, text)
 }
 
-// The number that was there before.
-fn was(reply: Result<Reply, Refusal>) -> Option<i64> {
+// Whether nothing was there before.
+fn was_absent(reply: Result<Reply, Refusal>) -> bool {
+    matches!(reply, Ok(Reply::Was(None)))
+}
+
+// Whether this number was there before.
+fn was(reply: Result<Reply, Refusal>, wanted: i64) -> bool {
     match reply {
-        Ok(Reply::Was(Some(Value::Int(number)))) => Some(number),
-        _ => None,
+        Ok(Reply::Was(Some(Value::Int(number)))) => number == wanted,
+        _ => false,
     }
 }
 
-// The number that is there now.
-fn now(reply: Result<Reply, Refusal>) -> Option<i64> {
+// Whether this number is there now.
+fn is_now(reply: Result<Reply, Refusal>, wanted: i64) -> bool {
     match reply {
-        Ok(Reply::Now(Some(Value::Int(number)))) => Some(number),
-        _ => None,
+        Ok(Reply::Now(Some(Value::Int(number)))) => number == wanted,
+        _ => false,
     }
 }
 
-fn did(reply: Result<Reply, Refusal>) -> bool {
-    matches!(reply, Ok(Reply::Did(true)))
+fn is_absent_now(reply: Result<Reply, Refusal>) -> bool {
+    matches!(reply, Ok(Reply::Now(None)))
 }
 
-// Changes of one key, and what each answers.
+// Whether a call answered so.
+fn did(reply: Result<Reply, Refusal>, wanted: bool) -> bool {
+    match reply {
+        Ok(Reply::Did(done)) => done == wanted,
+        _ => false,
+    }
+}
+
+// Changes of one key, and whether each answers as it should.
 fn change_often<R: Wait>(
     rt: &R,
     map: &DurableMap<MemDisk>,
@@ -85,22 +98,25 @@ fn change_often<R: Wait>(
     requires { IsReady map.now pass.old }
     ensures { IsReady map.now pass.new }
 {
-    let put = map.put(rt, pass, key(alloc, "a")?, Value::Int(5));
-    let added = map.put_if_absent(rt, pass, key(alloc, "a")?, Value::Int(7));
-    let replaced = map.replace(rt, pass, key(alloc, "a")?, Value::Int(6));
+    let put = was_absent(map.put(rt, pass, key(alloc, "a")?, Value::Int(5)));
+    let added = was(
+        map.put_if_absent(rt, pass, key(alloc, "a")?, Value::Int(7)),
+        5,
+    );
+    let replaced = was(map.replace(rt, pass, key(alloc, "a")?, Value::Int(6)), 5);
     let old = Value::Int(6);
-    let swapped = map.replace_if(rt, pass, key(alloc, "a")?, old, Value::Int(8));
-    let removed = map.remove_if(rt, pass, key(alloc, "a")?, Value::Int(9));
-    Ok(
-        matches!(put, Ok(Reply::Was(None)))
-            && was(added) == Some(5)
-            && was(replaced) == Some(5)
-            && did(swapped)
-            && matches!(removed, Ok(Reply::Did(false))),
-    )
+    let swapped = did(
+        map.replace_if(rt, pass, key(alloc, "a")?, old, Value::Int(8)),
+        true,
+    );
+    let removed = did(
+        map.remove_if(rt, pass, key(alloc, "a")?, Value::Int(9)),
+        false,
+    );
+    Ok(put && added && replaced && swapped && removed)
 }
 
-// Functions of one key, whose value is 8, and what each answers.
+// Functions of one key, whose value is 8, and whether each answers as it should.
 fn compute_often<R: Wait>(
     rt: &R,
     map: &DurableMap<MemDisk>,
@@ -110,23 +126,26 @@ fn compute_often<R: Wait>(
     requires { IsReady map.now pass.old }
     ensures { IsReady map.now pass.new }
 {
-    let merged = map.merge(rt, pass, key(alloc, "a")?, Func::Sum, Value::Int(2));
+    let merged = is_now(
+        map.merge(rt, pass, key(alloc, "a")?, Func::Sum, Value::Int(2)),
+        10,
+    );
     let four = Some(Value::Int(4));
-    let least = map.compute(rt, pass, key(alloc, "a")?, Func::Min, four);
-    let kept = map.compute_if_absent(rt, pass, key(alloc, "a")?, Func::Drop, None);
+    let least = is_now(map.compute(rt, pass, key(alloc, "a")?, Func::Min, four), 4);
+    let kept = is_now(
+        map.compute_if_absent(rt, pass, key(alloc, "a")?, Func::Drop, None),
+        4,
+    );
     let nine = Some(Value::Int(9));
-    let most = map.compute_if_present(rt, pass, key(alloc, "a")?, Func::Max, nine);
-    let removed = map.remove(rt, pass, key(alloc, "a")?);
-    Ok(
-        now(merged) == Some(10)
-            && now(least) == Some(4)
-            && now(kept) == Some(4)
-            && now(most) == Some(9)
-            && was(removed) == Some(9),
-    )
+    let most = is_now(
+        map.compute_if_present(rt, pass, key(alloc, "a")?, Func::Max, nine),
+        9,
+    );
+    let removed = was(map.remove(rt, pass, key(alloc, "a")?), 9);
+    Ok(merged && least && kept && most && removed)
 }
 
-// Reads of an absent key, and what each answers.
+// Reads of an absent key, and whether each answers as it should.
 fn read_often<R: Wait>(
     rt: &R,
     map: &DurableMap<MemDisk>,
@@ -136,14 +155,13 @@ fn read_often<R: Wait>(
     requires { IsReady map.now pass.old }
     ensures { IsReady map.now pass.new }
 {
-    let got = map.get(rt, pass, key(alloc, "a")?);
-    let default = map.get_or_default(rt, pass, key(alloc, "a")?, Value::Int(3));
-    let contained = map.contains_key(rt, pass, key(alloc, "a")?);
-    Ok(
-        matches!(got, Ok(Reply::Now(None)))
-            && now(default) == Some(3)
-            && matches!(contained, Ok(Reply::Did(false))),
-    )
+    let got = is_absent_now(map.get(rt, pass, key(alloc, "a")?));
+    let default = is_now(
+        map.get_or_default(rt, pass, key(alloc, "a")?, Value::Int(3)),
+        3,
+    );
+    let contained = did(map.contains_key(rt, pass, key(alloc, "a")?), false);
+    Ok(got && default && contained)
 }
 
 // Makes all thirteen calls, and ends the loops.
@@ -175,15 +193,19 @@ fn thirteen_calls_answer_once_they_are_durable(rt: HostRuntime) -> Result<(), Re
     Ok(())
 }
 
-// Releases what is held, which is durable.
-fn released(map: &DurableMap<MemDisk>, pass: &mut Pass, held: Held) -> Option<Reply>
+// Whether what is held is durable, and the reply is this number, which is there now.
+fn gives(map: &DurableMap<MemDisk>, pass: &mut Pass, held: Held, wanted: i64) -> bool
     requires { IsReady map.now pass.old }
     ensures { IsReady map.now pass.new }
 {
     match map.release(pass, held) {
-        Released::Reply(_, reply) => Some(reply),
-        Released::NotYet(_) | Released::Failed => None,
+        Released::Reply(_, reply) => is_now(Ok(reply), wanted),
+        Released::NotYet(_) | Released::Failed => false,
     }
+}
+
+fn position(held: Held) -> u64 {
+    held.position().number()
 }
 
 // Makes a call of each `try_` form; the keys that are used are in stripes of their own.
@@ -192,14 +214,14 @@ fn try_changes(map: &DurableMap<MemDisk>, pass: &mut Pass, alloc: Global) -> Res
     ensures { IsReady map.now pass.new }
 {
     let one = Value::Int(1);
-    let _put = map.try_put(pass, key(alloc, "a")?, Value::Int(1))?;
-    let _added = map.try_put_if_absent(pass, key(alloc, "b")?, one)?;
-    let _replaced = map.try_replace(pass, key(alloc, "a")?, Value::Int(2))?;
+    let _put = position(map.try_put(pass, key(alloc, "a")?, Value::Int(1))?);
+    let _added = position(map.try_put_if_absent(pass, key(alloc, "b")?, one)?);
+    let _replaced = position(map.try_replace(pass, key(alloc, "a")?, Value::Int(2))?);
     let two = Value::Int(2);
-    let _swapped = map.try_replace_if(pass, key(alloc, "a")?, two, Value::Int(3))?;
-    let _removed = map.try_remove(pass, key(alloc, "b")?)?;
-    let last = map.try_remove_if(pass, key(alloc, "b")?, Value::Int(1))?;
-    Ok(last.position().number())
+    let _swapped = position(map.try_replace_if(pass, key(alloc, "a")?, two, Value::Int(3))?);
+    let _removed = position(map.try_remove(pass, key(alloc, "b")?)?);
+    let last = position(map.try_remove_if(pass, key(alloc, "b")?, Value::Int(1))?);
+    Ok(last)
 }
 
 fn try_functions(map: &DurableMap<MemDisk>, pass: &mut Pass, alloc: Global) -> Result<u64, Refusal>
@@ -207,14 +229,15 @@ fn try_functions(map: &DurableMap<MemDisk>, pass: &mut Pass, alloc: Global) -> R
     ensures { IsReady map.now pass.new }
 {
     let one = Some(Value::Int(1));
-    let _computed = map.try_compute(pass, key(alloc, "a")?, Func::Sum, one)?;
+    let _computed = position(map.try_compute(pass, key(alloc, "a")?, Func::Sum, one)?);
     let two = Some(Value::Int(2));
-    let _absent = map.try_compute_if_absent(pass, key(alloc, "c")?, Func::Const, two)?;
-    let _present = map.try_compute_if_present(pass, key(alloc, "c")?, Func::Drop, None)?;
-    let last = map.try_merge(pass, key(alloc, "a")?, Func::Sum, Value::Int(4))?;
-    Ok(last.position().number())
+    let _absent = position(map.try_compute_if_absent(pass, key(alloc, "c")?, Func::Const, two)?);
+    let _present = position(map.try_compute_if_present(pass, key(alloc, "c")?, Func::Drop, None)?);
+    let last = position(map.try_merge(pass, key(alloc, "a")?, Func::Sum, Value::Int(4))?);
+    Ok(last)
 }
 
+// A read of each kind; what the last two give is held.
 fn try_reads(
     map: &DurableMap<MemDisk>,
     pass: &mut Pass,
@@ -223,10 +246,9 @@ fn try_reads(
     requires { IsReady map.now pass.old }
     ensures { IsReady map.now pass.new }
 {
-    let _contained = map.try_contains_key(pass, key(alloc, "a")?)?;
-    let got = map.try_get(pass, key(alloc, "a")?)?;
+    let _contained = position(map.try_contains_key(pass, key(alloc, "a")?)?);
     let default = map.try_get_or_default(pass, key(alloc, "b")?, Value::Int(6))?;
-    Ok((got, default))
+    Ok((map.try_get(pass, key(alloc, "a")?)?, default))
 }
 
 /// Ends a loop after so many turns.
@@ -243,30 +265,38 @@ impl Ends for Turns {
     }
 }
 
-#[test]
-fn tries_are_held_until_they_are_durable(rt: HostRuntime) -> Result<(), Refusal> {
-    let alloc = rt.alloc();
-    let map = open(&rt, alloc, MemDisk::new(alloc))?;
+// What is held, which isn't durable.
+fn still_held(map: &DurableMap<MemDisk>, pass: &mut Pass, held: Held) -> Result<Held, Refusal>
+    requires { IsReady map.now pass.old }
+    ensures { IsReady map.now pass.new }
+{
+    match map.release(pass, held) {
+        Released::NotYet(held) => Ok(held),
+        Released::Reply(..) | Released::Failed => Err(Refusal::TooEarly),
+    }
+}
+
+// Makes all tries, and releases what two reads gave: first before it is durable, and then behind it.
+fn try_all<R: Wait>(rt: &R, map: &DurableMap<MemDisk>, alloc: Global) -> Result<bool, Refusal> {
     let mut pass = map.pass()?;
-    assert_eq!(rt; try_changes(&map, &mut pass, alloc)?, 6);
-    assert_eq!(rt; try_functions(&map, &mut pass, alloc)?, 10);
-    let (got, default) = try_reads(&map, &mut pass, alloc)?;
-    assert!(rt; map.learn(&mut pass, got.position()));
-    let Released::NotYet(got) = map.release(&mut pass, got) else {
-        return Err(Refusal::TooEarly);
-    };
+    let changed = try_changes(map, &mut pass, alloc)? == 6;
+    let computed = try_functions(map, &mut pass, alloc)? == 10;
+    let (got, default) = try_reads(map, &mut pass, alloc)?;
+    let learned = map.learn(&mut pass, got.position());
+    let got = still_held(map, &mut pass, got)?;
     // (a batch has four device calls, and a turn before them takes up what was changed)
     let turns = Turns {
         left: AtomicU32::new(5),
     };
-    flush_loop(&rt, &map, &turns);
-    assert_eq!(rt;
-        released(&map, &mut pass, got),
-        Some(Reply::Now(Some(Value::Int(8))))
-    );
-    assert_eq!(rt;
-        released(&map, &mut pass, default),
-        Some(Reply::Now(Some(Value::Int(6))))
-    );
+    flush_loop(rt, map, &turns);
+    let gave = gives(map, &mut pass, got, 8) && gives(map, &mut pass, default, 6);
+    Ok(changed && computed && learned && gave)
+}
+
+#[test]
+fn tries_are_held_until_they_are_durable(rt: HostRuntime) -> Result<(), Refusal> {
+    let alloc = rt.alloc();
+    let map = open(&rt, alloc, MemDisk::new(alloc))?;
+    assert!(rt; try_all(&rt, &map, alloc)?);
     Ok(())
 }
