@@ -1,6 +1,6 @@
 //! The program over its words and its streams.
 use disk_model::Unknown;
-use program::dchm;
+use program::{Host, dchm};
 use std::alloc::{AllocError, Global};
 use std::io;
 use std::io::{Read, Write};
@@ -54,7 +54,7 @@ const WAS_ABSENT_NOW_FIVE: &[u8] =
 
 const UNREADABLE: &[u8] = b"unreadable\n";
 
-pub(crate) fn words_of(alloc: Global, texts: &[&str]) -> Result<Vec<String>, AllocError> {
+fn words_of(alloc: Global, texts: &[&str]) -> Result<Vec<String>, AllocError> {
     let mut words = Vec::new(alloc);
     for text in texts {
         words.push(String::from_str(alloc, text)?)?;
@@ -62,79 +62,104 @@ pub(crate) fn words_of(alloc: Global, texts: &[&str]) -> Result<Vec<String>, All
     Ok(words)
 }
 
+/// What a run of the program left.
+#[derive(Drop)]
+pub(crate) struct Ended {
+    pub status: u8,
+    pub output: Vec<u8>,
+    pub error: Vec<u8>,
+}
+
+impl Ended {
+    pub(crate) fn is(&self, status: u8, output: &[u8], error: &[u8]) -> bool {
+        self.status == status && self.output.as_slice() == output && self.error.as_slice() == error
+    }
+}
+
+fn run_over<R: Host + AllocGlobal, I: Read>(
+    rt: &R,
+    texts: &[&str],
+    input: &mut I,
+) -> Result<Ended, Fail> {
+    let alloc = rt.alloc();
+    let words = words_of(alloc, texts)?;
+    let mut output = Vec::new(alloc);
+    let mut error = Vec::new(alloc);
+    let status = dchm(rt, alloc, Unknown, &words, input, &mut output, &mut error);
+    Ok(Ended {
+        status,
+        output,
+        error,
+    })
+}
+
+/// Runs the program over an input that it doesn't read.
+pub(crate) fn run<R: Host + AllocGlobal>(rt: &R, texts: &[&str]) -> Result<Ended, Fail> {
+    let mut input = b"unread".as_slice();
+    run_over(rt, texts, &mut input)
+}
+
+/// Whether it ends so.
+pub(crate) fn ends<R: Host + AllocGlobal>(
+    rt: &R,
+    texts: &[&str],
+    status: u8,
+    output: &[u8],
+    error: &[u8],
+) -> Result<bool, Fail> {
+    let ended = run(rt, texts)?;
+    Ok(ended.is(status, output, error))
+}
+
+fn answers_in_pieces<R: Host + AllocGlobal>(rt: &R, most: usize) -> Result<bool, Fail> {
+    let mut input = Pieces {
+        left: PUT_AND_GET,
+        most,
+        fails: false,
+    };
+    let ended = run_over(rt, &["dchm", "mem"], &mut input)?;
+    Ok(ended.is(0, WAS_ABSENT_NOW_FIVE, b""))
+}
+
 #[test]
 fn table_in_pieces(rt: HostRuntime) -> Result<(), Fail> {
     let _sockets: Sockets = None;
-    let alloc = rt.alloc();
-    let words = words_of(alloc, &["dchm", "mem"])?;
     for most in 1..20 {
-        let mut input = Pieces {
-            left: PUT_AND_GET,
-            most,
-            fails: false,
-        };
-        let mut output = Vec::new(alloc);
-        let mut error = Vec::new(alloc);
-        let status = dchm(
-            &rt,
-            alloc,
-            Unknown,
-            &words,
-            &mut input,
-            &mut output,
-            &mut error,
-        );
-        assert_eq!(rt; status, 0);
-        assert_eq!(rt;
-            output.as_slice(),
-            WAS_ABSENT_NOW_FIVE,
-            "{most} bytes at a time"
-        );
-        assert!(rt; error.is_empty());
+        assert!(rt; answers_in_pieces(&rt, most)?, "{most} bytes at a time");
     }
     Ok(())
 }
 
 #[test]
-fn streams_that_fail(rt: HostRuntime) -> Result<(), Fail> {
+fn an_input_that_fails(rt: HostRuntime) -> Result<(), Fail> {
     let _sockets: Sockets = None;
-    let alloc = rt.alloc();
-    let words = words_of(alloc, &["dchm", "mem"])?;
     let mut input = Pieces {
         left: PUT_AND_GET,
         most: 19,
         fails: true,
     };
-    let mut output = Vec::new(alloc);
+    let ended = run_over(&rt, &["dchm", "mem"], &mut input)?;
+    assert!(rt; ended.is(1, WAS_ABSENT_NOW_FIVE, UNREADABLE));
+    Ok(())
+}
+
+#[test]
+fn an_output_that_fails(rt: HostRuntime) -> Result<(), Fail> {
+    let _sockets: Sockets = None;
+    let alloc = rt.alloc();
+    let words = words_of(alloc, &["dchm", "mem"])?;
+    let mut input = PUT_AND_GET;
     let mut error = Vec::new(alloc);
-    assert_eq!(rt;
-        dchm(
-            &rt,
-            alloc,
-            Unknown,
-            &words,
-            &mut input,
-            &mut output,
-            &mut error
-        ),
-        1
+    let status = dchm(
+        &rt,
+        alloc,
+        Unknown,
+        &words,
+        &mut input,
+        &mut Closed,
+        &mut error,
     );
-    assert_eq!(rt; output.as_slice(), WAS_ABSENT_NOW_FIVE);
-    assert_eq!(rt; error.as_slice(), UNREADABLE);
-    let mut rest = PUT_AND_GET;
-    let mut error = Vec::new(alloc);
-    assert_eq!(rt;
-        dchm(
-            &rt,
-            alloc,
-            Unknown,
-            &words,
-            &mut rest,
-            &mut Closed,
-            &mut error
-        ),
-        1
-    );
+    assert_eq!(rt; status, 1);
     assert_eq!(rt; error.as_slice(), UNREADABLE);
     Ok(())
 }
@@ -142,54 +167,29 @@ fn streams_that_fail(rt: HostRuntime) -> Result<(), Fail> {
 #[test]
 fn command_lines_not_known(rt: HostRuntime) -> Result<(), Fail> {
     let _sockets: Sockets = None;
-    let alloc = rt.alloc();
-    for texts in [["dchm", "frobnicate"], ["dchm", "--loud"], ["dchm", ""]] {
-        let words = words_of(alloc, &texts)?;
-        let mut input = PUT_AND_GET;
-        let mut output = Vec::new(alloc);
-        let mut error = Vec::new(alloc);
-        assert_eq!(rt;
-            dchm(
-                &rt,
-                alloc,
-                Unknown,
-                &words,
-                &mut input,
-                &mut output,
-                &mut error
-            ),
-            2
+    for word in ["frobnicate", "--loud", ""] {
+        let ended = run(&rt, &["dchm", word])?;
+        assert!(rt;
+            ended.status == 2 && ended.output.is_empty() && !ended.error.is_empty(),
+            "{word}"
         );
-        assert!(rt; output.is_empty());
-        assert!(rt; !error.is_empty());
     }
     Ok(())
+}
+
+// Whether the word asks for help, and nothing is read.
+fn is_helped<R: Host + AllocGlobal>(rt: &R, word: &str) -> Result<bool, Fail> {
+    let mut input = PUT_AND_GET;
+    let ended = run_over(rt, &["dchm", word], &mut input)?;
+    let is_help = ended.status == 0 && !ended.output.is_empty() && ended.error.is_empty();
+    Ok(is_help && input == PUT_AND_GET)
 }
 
 #[test]
 fn help_is_no_mistake(rt: HostRuntime) -> Result<(), Fail> {
     let _sockets: Sockets = None;
-    let alloc = rt.alloc();
-    for texts in [["dchm", "--help"], ["dchm", "-h"], ["dchm", "help"]] {
-        let words = words_of(alloc, &texts)?;
-        let mut input = PUT_AND_GET;
-        let mut output = Vec::new(alloc);
-        let mut error = Vec::new(alloc);
-        assert_eq!(rt;
-            dchm(
-                &rt,
-                alloc,
-                Unknown,
-                &words,
-                &mut input,
-                &mut output,
-                &mut error
-            ),
-            0
-        );
-        assert!(rt; !output.is_empty());
-        assert!(rt; error.is_empty());
-        assert_eq!(rt; input, PUT_AND_GET);
+    for word in ["--help", "-h", "help"] {
+        assert!(rt; is_helped(&rt, word)?, "{word}");
     }
     Ok(())
 }

@@ -8,8 +8,31 @@ use disk_model::MemDisk;
 use java_hash::StripeCount;
 use map_model::reference::ReferenceMap;
 use map_types::{Command, Read, Refusal};
+use memory_map::Memory;
 use std::alloc::Global;
+use std::sync::Wait;
 use wire_frames::Request;
+
+/// Whether a read gives the same reply on both.
+fn reads_the_same<R: Wait>(
+    memory: &mut Memory<MemDisk, R>,
+    reference: &ReferenceMap,
+    read: Read,
+) -> Result<bool, Refusal> {
+    let wanted = reference.read(&read)?;
+    Ok(memory.call(Request::Read(read))? == wanted)
+}
+
+/// Whether a change gives the same reply on both.
+fn changes_the_same<R: Wait>(
+    memory: &mut Memory<MemDisk, R>,
+    reference: &mut ReferenceMap,
+    alloc: Global,
+    command: Command,
+) -> Result<bool, Refusal> {
+    let wanted = reference.change(alloc, &command)?;
+    Ok(memory.call(Request::Change(command))? == wanted)
+}
 
 #[test]
 fn requests_to_the_map_in_memory(rt: HostRuntime) -> Result<(), Refusal> {
@@ -18,16 +41,12 @@ fn requests_to_the_map_in_memory(rt: HostRuntime) -> Result<(), Refusal> {
     let mut memory = begun(&rt, alloc, MemDisk::new(alloc))?;
     let mut reference = ReferenceMap::new(alloc);
     for turn in 0..10_000u32 {
-        let (given, wanted) = if dice.below(4) == 0 {
-            let read = dice.read(alloc)?;
-            let wanted = reference.read(&read)?;
-            (memory.call(Request::Read(read))?, wanted)
+        let same = if dice.below(4) == 0 {
+            reads_the_same(&mut memory, &reference, dice.read(alloc)?)?
         } else {
-            let command = dice.command(alloc)?;
-            let wanted = reference.change(alloc, &command)?;
-            (memory.call(Request::Change(command))?, wanted)
+            changes_the_same(&mut memory, &mut reference, alloc, dice.command(alloc)?)?
         };
-        assert_eq!(rt; given, wanted, "turn {turn}");
+        assert!(rt; same, "turn {turn}");
     }
     Ok(())
 }

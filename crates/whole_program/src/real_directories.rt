@@ -1,59 +1,12 @@
 //! Directories of the system: the program formats and checks them, and they are opened again.
-use crate::command_lines::{Sockets, words_of};
+use crate::command_lines::{Sockets, ends, run};
 use disk_model::{DirDisk, Unknown};
 use java_hash::StripeCount;
 use map_types::Refusal;
-use program::{Host, dchm};
+use program::Host;
 use recovery::open_parts;
 use std::fs;
 use std::test::Fail;
-
-/// What a run of the program left.
-#[derive(Drop)]
-struct Ended {
-    status: u8,
-    output: Vec<u8>,
-    error: Vec<u8>,
-}
-
-impl Ended {
-    fn is(&self, status: u8, output: &[u8], error: &[u8]) -> bool {
-        self.status == status && self.output.as_slice() == output && self.error.as_slice() == error
-    }
-}
-
-fn run<R: Host + AllocGlobal>(rt: &R, texts: &[&str]) -> Result<Ended, Fail> {
-    let alloc = rt.alloc();
-    let words = words_of(alloc, texts)?;
-    let mut input = b"unread".as_slice();
-    let mut output = Vec::new(alloc);
-    let mut error = Vec::new(alloc);
-    let status = dchm(
-        rt,
-        alloc,
-        Unknown,
-        &words,
-        &mut input,
-        &mut output,
-        &mut error,
-    );
-    Ok(Ended {
-        status,
-        output,
-        error,
-    })
-}
-
-fn ends<R: Host + AllocGlobal>(
-    rt: &R,
-    texts: &[&str],
-    status: u8,
-    output: &[u8],
-    error: &[u8],
-) -> Result<bool, Fail> {
-    let ended = run(rt, texts)?;
-    Ok(ended.is(status, output, error))
-}
 
 fn make_directory(rt: &HostRuntime, directory: &str) -> Result<(), Fail> {
     let _ = fs::remove_dir_all(rt, directory);
@@ -173,9 +126,10 @@ fn numbers_of_stripes_not_allowed(rt: HostRuntime) -> Result<(), Fail> {
     let _sockets: Sockets = None;
     for stripes in ["3", "0", "512", "x", ""] {
         let ended = run(&rt, &["dchm", "init", "nowhere", "--stripes", stripes])?;
-        assert_eq!(rt; ended.status, 2);
-        assert!(rt; ended.output.is_empty());
-        assert!(rt; !ended.error.is_empty());
+        assert!(rt;
+            ended.status == 2 && ended.output.is_empty() && !ended.error.is_empty(),
+            "{stripes}"
+        );
     }
     Ok(())
 }

@@ -1,44 +1,13 @@
 //! Scripts of whole schedules: what the program prints of them.
-use crate::command_lines::{Sockets, words_of};
-use disk_model::Unknown;
-use program::{Host, dchm};
+use crate::command_lines::{Ended, Sockets, ends, run};
+use program::Host;
 use std::alloc::Global;
 use std::fs;
 use std::test::Fail;
 
-/// What a run of the program left.
-#[derive(Drop)]
-struct Played {
-    status: u8,
-    output: Vec<u8>,
-    error: Vec<u8>,
-}
-
-fn play_file<R: Host + AllocGlobal>(rt: &R, path: &str) -> Result<Played, Fail> {
-    let alloc = rt.alloc();
-    let words = words_of(alloc, &["dchm", "sim", path])?;
-    let mut input = b"unread".as_slice();
-    let mut output = Vec::new(alloc);
-    let mut error = Vec::new(alloc);
-    let status = dchm(
-        rt,
-        alloc,
-        Unknown,
-        &words,
-        &mut input,
-        &mut output,
-        &mut error,
-    );
-    Ok(Played {
-        status,
-        output,
-        error,
-    })
-}
-
-fn play<R: Host + AllocGlobal>(rt: &R, script: &[u8]) -> Result<Played, Fail> {
+fn play<R: Host + AllocGlobal>(rt: &R, script: &[u8]) -> Result<Ended, Fail> {
     fs::write(rt, "script", script)?;
-    play_file(rt, "script")
+    run(rt, &["dchm", "sim", "script"])
 }
 
 // These lines, each behind its number.
@@ -56,17 +25,13 @@ fn numbered(alloc: Global, lines: &str) -> Result<String, Fail> {
 fn prints<R: Host + AllocGlobal>(rt: &R, script: &str, lines: &str) -> Result<bool, Fail> {
     let wanted = numbered(rt.alloc(), lines)?;
     let played = play(rt, script.as_bytes())?;
-    Ok(
-        played.status == 0
-            && played.output.as_slice() == wanted.as_bytes()
-            && played.error.is_empty(),
-    )
+    Ok(played.is(0, wanted.as_bytes(), b""))
 }
 
 // Whether the script is refused before anything is printed.
 fn is_misused<R: Host + AllocGlobal>(rt: &R, script: &[u8], error: &[u8]) -> Result<bool, Fail> {
     let played = play(rt, script)?;
-    Ok(played.status == 2 && played.output.is_empty() && played.error.as_slice() == error)
+    Ok(played.is(2, b"", error))
 }
 
 /// A change of `a` to 5, whose batch is written and synced; then its reply is asked for.
@@ -779,10 +744,13 @@ fn bad_scripts_print_nothing(rt: HostRuntime) -> Result<(), Fail> {
     );
     assert!(rt; is_misused(&rt, b"start 0 put a _", b"line 1: a value is needed\n")?);
     assert!(rt; is_misused(&rt, b"\xFF\n", b"the script isn't UTF-8\n")?);
-    let none = play(&rt, b"\n\n")?;
-    assert!(rt; none.status == 0 && none.output.is_empty() && none.error.is_empty());
-    let absent = play_file(&rt, "no-script")?;
-    assert!(rt; absent.status == 1 && absent.output.is_empty());
-    assert!(rt; absent.error.as_slice() == b"unreadable\n".as_slice());
+    Ok(())
+}
+
+#[test]
+fn no_lines_and_no_script(rt: HostRuntime) -> Result<(), Fail> {
+    let _sockets: Sockets = None;
+    assert!(rt; play(&rt, b"\n\n")?.is(0, b"", b""));
+    assert!(rt; ends(&rt, &["dchm", "sim", "no-script"], 1, b"", b"unreadable\n")?);
     Ok(())
 }
