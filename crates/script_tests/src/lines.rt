@@ -41,7 +41,7 @@ enum Left {
     Chosen,
 }
 
-fn left(fill: Fill) -> Left {
+fn left_by(fill: Fill) -> Left {
     match fill {
         Fill::Old => Left::Old,
         Fill::New => Left::New,
@@ -53,7 +53,7 @@ fn left(fill: Fill) -> Left {
 // Where the event stops the machine, and what is left.
 fn stop(event: Option<Event>) -> Option<(Option<Side>, Left)> {
     match event {
-        Some(Event::Stop { within, fill }) => Some((within, left(fill))),
+        Some(Event::Stop { within, fill }) => Some((within, left_by(fill))),
         _ => None,
     }
 }
@@ -151,7 +151,7 @@ fn device_call(event: Option<Event>) -> Option<(Side, Option<Left>)> {
     match event {
         Some(Event::Device { side, ending }) => match ending {
             Ending::Done => Some((side, None)),
-            Ending::Fails(fill) => Some((side, Some(left(fill)))),
+            Ending::Fails(fill) => Some((side, Some(left_by(fill)))),
         },
         _ => None,
     }
