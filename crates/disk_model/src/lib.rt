@@ -8,6 +8,8 @@ mod kept;
 mod memory;
 mod past;
 mod plan;
+#[cfg(test)]
+mod tests;
 
 pub use dir::{DirDisk, Start, Unknown};
 pub use disk::{DeviceError, Disk};

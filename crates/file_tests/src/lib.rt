@@ -1,14 +1,10 @@
-//! Tests of the four files of a directory: the disk, its logs, its checkpoints, and what is opened and formatted.
+//! Tests of the files of a directory: its logs, its checkpoints, and what is opened and formatted.
 #![tactic(auto)]
 
 #[cfg(test)]
 mod checkpoints;
 #[cfg(test)]
-mod disks;
-#[cfg(test)]
 mod formatting;
-#[cfg(test)]
-mod layouts;
 #[cfg(test)]
 mod loading;
 #[cfg(test)]

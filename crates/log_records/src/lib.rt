@@ -8,6 +8,8 @@ pub mod laws;
 pub mod lengths;
 pub mod methods;
 pub mod reading;
+#[cfg(test)]
+mod tests;
 pub mod writing;
 
 pub use laws::{cut_records, fields_agree, one_record, record_agrees};

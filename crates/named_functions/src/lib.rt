@@ -2,5 +2,7 @@
 #![tactic(auto)]
 
 mod functions;
+#[cfg(test)]
+mod tests;
 
 pub use functions::{apply, copied};

@@ -7,3 +7,6 @@ pub mod words;
 
 pub use at::At;
 pub use words::PlainWords;
+
+#[cfg(test)]
+mod tests;

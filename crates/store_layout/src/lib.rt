@@ -61,3 +61,20 @@ pub fn log_file(generation: u64) -> usize
 {
     2 + (generation % 2) as usize
 }
+
+#[cfg(test)]
+mod tests {
+    use super::{checkpoint_file, log_file};
+
+    #[test]
+    fn logs_take_turns(rt: HostRuntime) {
+        assert_eq!(rt; log_file(0), 2);
+        assert_eq!(rt; log_file(7), 3);
+    }
+
+    #[test]
+    fn checkpoints_take_turns(rt: HostRuntime) {
+        assert_eq!(rt; checkpoint_file(0), 0);
+        assert_eq!(rt; checkpoint_file(7), 1);
+    }
+}

@@ -1,9 +1,9 @@
 //! Whole calls over plain words.
 ghost use Rattle.std.specs.Prelude.{◌≡◌};
 
+use crate::{At, PlainWords};
 use java_hash::StripeCount;
 use map_types::{Change, Command, Key, Question, Read, Refusal, Reply, Value};
-use plain_words::{At, PlainWords};
 use std::alloc::Global;
 use std::process::Abort;
 use ticket_order::{Held, Released, Steps, release, try_call, try_read};
@@ -54,16 +54,6 @@ fn one_pass_puts_and_reads(rt: HostRuntime) -> Result<(), Refusal> {
         }
         _ => assert!(rt; false, "the reply is durable"),
     }
-    Ok(())
-}
-
-#[test]
-fn a_held_reply_is_given_up(rt: HostRuntime) -> Result<(), Refusal> {
-    let alloc = rt.alloc();
-    let mut words = PlainWords::empty(alloc, sixteen(&rt), 0)?;
-    let held = try_call(&mut At::new(&mut words, 0), alloc, put_one(alloc)?)?;
-    assert_eq!(rt; held.position().number(), 1);
-    held.give_up();
     Ok(())
 }
 

@@ -1,6 +1,6 @@
 ghost use Rattle.std.specs.Prelude.{◌<◌};
 
-use disk_model::{DeviceError, DirDisk, Disk, Failure, Fill, MemDisk, Unknown};
+use crate::{DeviceError, DirDisk, Disk, Failure, Fill, MemDisk, Unknown};
 use std::alloc::Global;
 use std::fs;
 use std::test::Fail;

@@ -1,5 +1,5 @@
 //! Each method once on the plain program.
-use map_model::ReferenceMap;
+use crate::reference::ReferenceMap;
 use map_types::{Change, Command, Func, FuncError, Key, Question, Read, Refusal, Reply, Value};
 use std::alloc::Global;
 

@@ -1,6 +1,6 @@
 //! The table of the functions, one row for each old value and one column for each argument.
+use crate::functions::apply;
 use map_types::{Func, FuncError, Refusal, Value};
-use named_functions::apply;
 use std::alloc::Global;
 
 // An operand or what a function gives of two.

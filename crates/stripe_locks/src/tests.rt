@@ -2,6 +2,8 @@
 ghost use Rattle.std.specs.Prelude.{◌≡◌, ◌<◌, None, false, true};
 ghost use Rattle.stripe_locks.specs.Passes.{recorded, stripe_count, IsPassOf};
 
+use crate::rule::Pass;
+use crate::stripes::Stripes;
 use java_hash::StripeCount;
 use map_types::{Change, Command, Func, Key, Question, Read, Refusal, Reply, Value};
 use one_history::empty_parts;
@@ -9,7 +11,6 @@ use std::alloc::Global;
 use std::process::Abort;
 use std::sync::Wait;
 use std::thread::{join, map_indices};
-use stripe_locks::{Pass, Stripes};
 use ticket_order::{Held, Position, Released, Steps};
 
 const CALLS: u64 = 1000;
