@@ -5,8 +5,6 @@ mod chains;
 mod parts;
 mod plans;
 mod ready;
-#[cfg(test)]
-mod tests;
 
 pub use parts::{Part, Prepared};
 pub use ready::{Acted, Ready, Unready};

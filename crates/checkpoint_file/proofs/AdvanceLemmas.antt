@@ -8,8 +8,8 @@ use Rattle.disk_model.proofs.FileLemmas.{with_same, with_other}
 use Rattle.disk_model.proofs.MomentLemmas.{one_call}
 use Rattle.map_types.specs.declared.refusals.Refusal.TheVariants.{Failed}
 use Rattle.store_layout.specs.Checkpoints.{Section, checkpoint_file}
-use Rattle.checkpoint_file.specs.declared.phase.CheckpointPhase.{CheckpointPhase}
-use Rattle.checkpoint_file.specs.declared.phase.CheckpointPhase.TheVariants.{Idle, Gate, GateWritten, GateSynced, Ready, Staged, Header, HeaderWritten, HeaderSynced, Opened, Sealed}
+use Rattle.store_layout.specs.declared.checkpoint_phase.CheckpointPhase.{CheckpointPhase}
+use Rattle.store_layout.specs.declared.checkpoint_phase.CheckpointPhase.TheVariants.{Idle, Gate, GateWritten, GateSynced, Ready, Staged, Header, HeaderWritten, HeaderSynced, Opened, Sealed}
 use Rattle.checkpoint_file.specs.States.{CheckpointState, call_in, state_after}
 use Rattle.checkpoint_file.specs.Standing.{Stands, IsKept, MayRead}
 use Rattle.checkpoint_file.specs.Advancing.{Advances, MayAdvance}

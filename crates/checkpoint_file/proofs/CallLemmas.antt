@@ -6,7 +6,7 @@ use Rattle.disk_model.specs.Calls.{Fails}
 use Rattle.disk_model.specs.Files.{Files, now, with_file}
 use Rattle.disk_model.specs.Gates.{Call, syncs}
 use Rattle.disk_model.proofs.FileLemmas.{with_same, with_other}
-use Rattle.checkpoint_file.specs.declared.phase.CheckpointPhase.TheVariants.{GateWritten, HeaderWritten, Opened}
+use Rattle.store_layout.specs.declared.checkpoint_phase.CheckpointPhase.TheVariants.{GateWritten, HeaderWritten, Opened}
 use Rattle.checkpoint_file.specs.States.{CheckpointState, call_in}
 
 with_itself : (number : ℕ) (files : Files) → with_file number (files number) files ≡ files

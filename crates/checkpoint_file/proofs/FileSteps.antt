@@ -6,8 +6,8 @@ use Rattle.std.proofs.lemmas.Bool.Decides.{nat_tests}
 use Rattle.disk_model.specs.Files.{File, Range, MayLeave, IsTorn, at_rest, byte_at, is_written, overwritten, written, synced}
 use Rattle.disk_model.specs.Gates.{IsShut}
 use Rattle.disk_model.proofs.GateLemmas.{kept_front, overwritten_at, sure_reached, sure_torn, sure_synced}
-use Rattle.store_layout.specs.Checkpoints.{is_sealed}
-use Rattle.checkpoint_file.specs.Standing.{IsClosing, is_to_close}
+use Rattle.store_layout.specs.Checkpoints.{is_sealed, is_to_close}
+use Rattle.checkpoint_file.specs.Standing.{IsClosing}
 
 -- ---- what is not sealed
 

@@ -8,7 +8,7 @@ use Rattle.map_model.specs.Maps.{Map}
 use Rattle.log_records.specs.Layout.{first_layout}
 use Rattle.store_layout.specs.Checkpoints.{Section, IsEntryOf, IsSection, marked_bytes, section_bytes, sections_bytes}
 use Rattle.store_layout.proofs.CheckpointLemmas.{are_push, greatest_push, marks_push, sections_push}
-use Rattle.checkpoint_file.specs.declared.phase.CheckpointPhase.TheVariants.{Ready}
+use Rattle.store_layout.specs.declared.checkpoint_phase.CheckpointPhase.TheVariants.{Ready}
 use Rattle.checkpoint_file.specs.States.{CheckpointState, AreKeysOf, AreWellFormed, with_section}
 use Rattle.checkpoint_file.specs.Standing.{HasFilled, AtPhase, Stands}
 

@@ -8,8 +8,8 @@ use Rattle.disk_model.proofs.GateLemmas.{shut_long, shut_written, shut_synced, o
 use Rattle.log_records.specs.Layout.{first_layout}
 use Rattle.store_layout.specs.Checkpoints.{Section, IsWhole, IsCheckpoint, checkpoint_header, greatest_mark, is_sealed, sections_bytes, section_bytes}
 use Rattle.store_layout.proofs.CheckpointLemmas.{sections_push, length-checkpoint_header}
-use Rattle.checkpoint_file.specs.declared.phase.CheckpointPhase.{CheckpointPhase}
-use Rattle.checkpoint_file.specs.declared.phase.CheckpointPhase.TheVariants.{Idle, Gate, GateWritten, GateSynced, Ready, Staged, Header, HeaderWritten, HeaderSynced, Opened, Sealed}
+use Rattle.store_layout.specs.declared.checkpoint_phase.CheckpointPhase.{CheckpointPhase}
+use Rattle.store_layout.specs.declared.checkpoint_phase.CheckpointPhase.TheVariants.{Idle, Gate, GateWritten, GateSynced, Ready, Staged, Header, HeaderWritten, HeaderSynced, Opened, Sealed}
 use Rattle.checkpoint_file.specs.States.{CheckpointState, call_in, state_after}
 use Rattle.checkpoint_file.specs.Standing.{HasGiven, IsClosing, IsFilled, HasStaged, HasFilled, IsSealed, AtPhase, Stands, IsSealedOrNot, MayRead, checkpoint_of, written_of}
 use Rattle.checkpoint_file.proofs.FileSteps.{rest_leaves, closed_written, closed_torn, closing_synced, shut_more, shut_over, shut_less, shut_torn_behind, shut_leaves, shut_unsealed}

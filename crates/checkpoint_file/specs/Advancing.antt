@@ -7,7 +7,7 @@ use Rattle.disk_model.specs.Moments.{AtEachMoment}
 use Rattle.map_types.specs.declared.refusals.Refusal.{Refusal}
 use Rattle.map_types.specs.declared.refusals.Refusal.TheVariants.{Failed}
 use Rattle.store_layout.specs.Checkpoints.{Section, checkpoint_file}
-use Rattle.checkpoint_file.specs.declared.phase.CheckpointPhase.{CheckpointPhase}
+use Rattle.store_layout.specs.declared.checkpoint_phase.CheckpointPhase.{CheckpointPhase}
 use Rattle.checkpoint_file.specs.States.{CheckpointState, state_after}
 use Rattle.checkpoint_file.specs.Standing.{Stands, IsKept}
 

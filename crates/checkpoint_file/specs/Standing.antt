@@ -4,9 +4,9 @@ use Rattle.disk_model.specs.Files.{File, Files, MayLeave, at_rest}
 use Rattle.disk_model.specs.Gates.{IsShut, IsOpening}
 use Rattle.java_hash.specs.Stripes.{is_stripe_count}
 use Rattle.log_records.specs.Layout.{first_layout}
-use Rattle.store_layout.specs.Checkpoints.{Section, Checkpoint, AreMarkedFrom, AreSections, IsCheckpoint, checkpoint_bytes, checkpoint_file, greatest_mark, is_sealed, section_bytes, sections_bytes}
-use Rattle.checkpoint_file.specs.declared.phase.CheckpointPhase.{CheckpointPhase}
-use Rattle.checkpoint_file.specs.declared.phase.CheckpointPhase.TheVariants.{Idle, Gate, GateWritten, GateSynced, Ready, Staged, Header, HeaderWritten, HeaderSynced, Opened, Sealed}
+use Rattle.store_layout.specs.Checkpoints.{Section, Checkpoint, AreMarkedFrom, AreSections, IsCheckpoint, checkpoint_bytes, checkpoint_file, greatest_mark, is_sealed, is_to_close, section_bytes, sections_bytes}
+use Rattle.store_layout.specs.declared.checkpoint_phase.CheckpointPhase.{CheckpointPhase}
+use Rattle.store_layout.specs.declared.checkpoint_phase.CheckpointPhase.TheVariants.{Idle, Gate, GateWritten, GateSynced, Ready, Staged, Header, HeaderWritten, HeaderSynced, Opened, Sealed}
 use Rattle.checkpoint_file.specs.States.{CheckpointState}
 
 -- the checkpoint with these sections
@@ -28,11 +28,6 @@ pub record HasGiven (w : CheckpointState) (sections : List Section) : Type 0 whe
   pub low_fits : w.low < 2 ^ 64
   pub body_fits : w.body + length w.section < 2 ^ 64
   pub allowed : is_stripe_count w.stripes ≡ true
-
--- the gate reads open, or there is none
-abbrev pub is_to_close : List ℕ → Bool
-is_to_close [] = true
-is_to_close (gate ∷ rest) = gate == 165
 
 -- the gate reads closed; a stop leaves the old content, or no sealed checkpoint
 pub record IsClosing (old : List ℕ) (file : File) : Type 0 where

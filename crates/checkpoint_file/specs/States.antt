@@ -7,8 +7,8 @@ use Rattle.map_types.specs.declared.texts.Value.{Value}
 use Rattle.log_records.specs.Layout.{first_layout}
 use Rattle.log_records.specs.Spelling.{IsText, IsValue}
 use Rattle.store_layout.specs.Checkpoints.{checkpoint_header, marked_bytes}
-use Rattle.checkpoint_file.specs.declared.phase.CheckpointPhase.{CheckpointPhase}
-use Rattle.checkpoint_file.specs.declared.phase.CheckpointPhase.TheVariants.{Idle, Gate, GateWritten, GateSynced, Ready, Staged, Header, HeaderWritten, HeaderSynced, Opened, Sealed}
+use Rattle.store_layout.specs.declared.checkpoint_phase.CheckpointPhase.{CheckpointPhase}
+use Rattle.store_layout.specs.declared.checkpoint_phase.CheckpointPhase.TheVariants.{Idle, Gate, GateWritten, GateSynced, Ready, Staged, Header, HeaderWritten, HeaderSynced, Opened, Sealed}
 
 pub record CheckpointState : Type 0 where
   pub generation : ℕ

@@ -2,7 +2,7 @@
 ghost use Rattle.std.specs.Prelude.{◌≡◌, ◌<◌, IfOk, IfErr, OnOk, OnErr};
 ghost use Rattle.disk_model.specs.Calls.{Looks};
 ghost use Rattle.disk_model.specs.Files.{now};
-ghost use Rattle.checkpoint_file.specs.Standing.{is_to_close};
+ghost use Rattle.store_layout.specs.Checkpoints.{is_to_close};
 
 use disk_model::Disk;
 use map_types::Refusal;

@@ -5,12 +5,11 @@ ghost use Rattle.disk_model.specs.Files.{File, now, at_rest};
 ghost use Rattle.disk_model.specs.Gates.{Call, IsPlaced};
 ghost use Rattle.disk_model.specs.Calls.{Makes, Fails};
 ghost use Rattle.map_model.specs.Maps.{Map};
-ghost use Rattle.store_layout.specs.Checkpoints.{Section, checkpoint_file, checkpoint_header};
+ghost use Rattle.store_layout.specs.Checkpoints.{Section, checkpoint_file, checkpoint_header, is_to_close};
 ghost use Rattle.checkpoint_file.specs.States.{AreKeysOf, IsOver, TakesSeal, TakesSection, begun, call_in, idle, state_after, with_section};
-ghost use Rattle.checkpoint_file.specs.Standing.{Stands, is_to_close};
+ghost use Rattle.checkpoint_file.specs.Standing.{Stands};
 ghost use Rattle.checkpoint_file.specs.Advancing.{Advances, MayAdvance};
 
-use crate::phase::CheckpointPhase;
 use crate::sections::{header, section_bytes};
 use disk_model::{DeviceError, Disk};
 use java_hash::StripeCount;
@@ -18,7 +17,8 @@ use map_types::{Key, Refusal, Value};
 use std::alloc::Global;
 use std::marker::Model;
 use store_layout::{
-    BODY_OFFSET, CHECKPOINT_HEADER_BYTES, CLOSED_GATE, MOST_ENTRIES, OPEN_GATE, checkpoint_file,
+    BODY_OFFSET, CHECKPOINT_HEADER_BYTES, CLOSED_GATE, CheckpointPhase, MOST_ENTRIES, OPEN_GATE,
+    checkpoint_file,
 };
 
 /// The checkpoint of one generation. It holds one staged section, and nothing of those that are

@@ -13,22 +13,23 @@ use Rattle.ticket_order.specs.declared.record.Record.{Record}
 use Rattle.ticket_order.specs.declared.stripe.Entry.{Entry}
 use Rattle.ticket_order.specs.Legality.{history_of}
 use Rattle.log_records.specs.Layout.{IsLayout, first_layout}
-use Rattle.store_layout.specs.Checkpoints.{IsCheckpoint, Section, checkpoint_file}
+use Rattle.store_layout.specs.Checkpoints.{IsCheckpoint, Section, checkpoint_file, is_to_close}
 use Rattle.store_layout.specs.Logs.{commands_in}
 use Rattle.store_layout.specs.OpeningLaws.{OneCheckpoint}
 use Rattle.gate_log.specs.States.{commands_of}
-use Rattle.checkpoint_file.specs.declared.phase.CheckpointPhase.{CheckpointPhase}
-use Rattle.checkpoint_file.specs.declared.phase.CheckpointPhase.TheVariants as phase
+use Rattle.store_layout.specs.declared.checkpoint_phase.CheckpointPhase.{CheckpointPhase}
+use Rattle.store_layout.specs.declared.checkpoint_phase.CheckpointPhase.TheVariants as phase
 use Rattle.checkpoint_file.specs.Advancing.{Advances, MayAdvance}
 use Rattle.checkpoint_file.specs.States.{CheckpointState, state_after}
 use Rattle.checkpoint_file.specs.Standing as checkpoint
-use Rattle.checkpoint_file.specs.Standing.{checkpoint_of, is_to_close}
+use Rattle.checkpoint_file.specs.Standing.{checkpoint_of}
 use Rattle.store_states.specs.Laws.{CheckpointIsSealed, StopsUseCheckpoint, StoresStop, WriterStepsOn, WriterStepsStop, sealed_with}
 use Rattle.store_states.specs.Standing as store
 use Rattle.store_states.specs.States.{Held}
 use Rattle.flusher.specs.declared.keeper.Keeper.{Keeper}
 use Rattle.flusher.specs.Fitting.{Fits, HoldsFor, StopsFit, Stores, batches_of, store_of}
-use Rattle.checkpoint_walk.specs.Checkpointing.{Checkpoints, HasGiven, KeepsAfter, IsUsed, UsesCheckpoint, checkpoints_of, kept_in}
+use Rattle.checkpoint_walk.specs.Checkpointing.{Checkpoints, HasGiven, KeepsAfter, checkpoints_of, kept_in}
+use Rattle.store_layout.specs.UsedCheckpoint.{IsUsed, UsesCheckpoint}
 use Rattle.checkpoint_walk.proofs.Sealed.{of_writer, writes_in}
 use Rattle.checkpoint_walk.proofs.Standing.{two_ways}
 

@@ -5,16 +5,15 @@ use Rattle.map_types.specs.declared.commands.Command.{Command}
 use Rattle.ticket_order.specs.declared.stripe.Entry.{Entry}
 use Rattle.ticket_order.specs.declared.record.Record.{Record}
 use Rattle.ticket_order.specs.Legality.{history_of}
-use Rattle.store_layout.specs.Checkpoints.{Checkpoint, checkpoint_file}
+use Rattle.store_layout.specs.Checkpoints.{Checkpoint, checkpoint_file, is_to_close}
 use Rattle.store_layout.specs.Logs.{Batch}
-use Rattle.gate_log.specs.declared.phase.Phase.{Phase}
-use Rattle.gate_log.specs.declared.phase.Phase.TheVariants.{Idle}
+use Rattle.store_layout.specs.declared.log_phase.Phase.{Phase}
+use Rattle.store_layout.specs.declared.log_phase.Phase.TheVariants.{Idle}
 use Rattle.gate_log.specs.States.{IsResting, LogState}
 use Rattle.gate_log.specs.States as log_states
 use Rattle.gate_log.specs.Standing as gate_log
 use Rattle.checkpoint_file.specs.States.{CheckpointState, begun}
 use Rattle.checkpoint_file.specs.Standing as checkpoint
-use Rattle.checkpoint_file.specs.Standing.{is_to_close}
 use Rattle.store_states.specs.Laws.{CheckpointBegins, RotationBegins}
 use Rattle.store_states.specs.States.{Held, StoreState}
 use Rattle.store_states.specs.Standing as store

@@ -8,7 +8,7 @@ use Rattle.ticket_order.specs.Legality.{history_of}
 use Rattle.store_layout.specs.Checkpoints.{Section, checkpoint_file, greatest_mark}
 use Rattle.checkpoint_file.specs.States.{CheckpointState}
 use Rattle.checkpoint_file.specs.Standing as checkpoint
-use Rattle.checkpoint_file.specs.declared.phase.CheckpointPhase.TheVariants.{Header}
+use Rattle.store_layout.specs.declared.checkpoint_phase.CheckpointPhase.TheVariants.{Header}
 use Rattle.store_states.specs.Laws.{SealBegins}
 use Rattle.store_states.specs.States.{StoreState}
 use Rattle.store_states.specs.Standing as store

@@ -10,8 +10,8 @@ use Rattle.ticket_order.specs.Legality.{history_of}
 use Rattle.gate_log.specs.States.{LogState}
 use Rattle.store_layout.specs.Checkpoints.{Section, checkpoint_file}
 use Rattle.store_layout.specs.OpeningLaws.{OneCheckpoint}
-use Rattle.checkpoint_file.specs.declared.phase.CheckpointPhase.{CheckpointPhase}
-use Rattle.checkpoint_file.specs.declared.phase.CheckpointPhase.TheVariants as phase
+use Rattle.store_layout.specs.declared.checkpoint_phase.CheckpointPhase.{CheckpointPhase}
+use Rattle.store_layout.specs.declared.checkpoint_phase.CheckpointPhase.TheVariants as phase
 use Rattle.checkpoint_file.specs.Advancing.{Advances}
 use Rattle.checkpoint_file.specs.States.{CheckpointState, call_in}
 use Rattle.checkpoint_file.specs.Standing as checkpoint
@@ -19,7 +19,8 @@ use Rattle.checkpoint_file.specs.Standing.{checkpoint_of}
 use Rattle.store_states.specs.Laws.{CheckpointIsSealed, StopsUseCheckpoint, StoresStop, WriterStepsOn, WriterStepsStop}
 use Rattle.flusher.specs.declared.keeper.Keeper.{Keeper}
 use Rattle.flusher.specs.Fitting.{Fits, StopsFit}
-use Rattle.checkpoint_walk.specs.Checkpointing.{Checkpoints, HasGiven, KeepsAfter, StepsCheckpoint, UsesCheckpoint, call_due, checkpoints_of, kept_in}
+use Rattle.checkpoint_walk.specs.Checkpointing.{Checkpoints, HasGiven, KeepsAfter, StepsCheckpoint, call_due, checkpoints_of, kept_in}
+use Rattle.store_layout.specs.UsedCheckpoint.{UsesCheckpoint}
 use Rattle.checkpoint_walk.proofs.Advanced.{Steps, due_or, fits_stepped, kept_other, moments, none_made, opened_or, same_after, stops_now, used_then}
 
 -- What the step of the checkpoint w ensures, which the keeper wrote.

@@ -9,8 +9,8 @@ use Rattle.store_layout.specs.Checkpoints.{Checkpoint, Section, checkpoint_file}
 use Rattle.store_layout.specs.Opening.{Holds, Opened as Found}
 use Rattle.gate_log.specs.States as log_states
 use Rattle.gate_log.specs.States.{IsResting, LogState}
-use Rattle.checkpoint_file.specs.declared.phase.CheckpointPhase.{CheckpointPhase}
-use Rattle.checkpoint_file.specs.declared.phase.CheckpointPhase.TheVariants.{Idle, Opened}
+use Rattle.store_layout.specs.declared.checkpoint_phase.CheckpointPhase.{CheckpointPhase}
+use Rattle.store_layout.specs.declared.checkpoint_phase.CheckpointPhase.TheVariants.{Idle, Opened}
 use Rattle.checkpoint_file.specs.States.{CheckpointState, TakesSeal, TakesSection, begun, call_in, state_after}
 use Rattle.checkpoint_file.specs.Standing as checkpoint
 use Rattle.flusher.specs.declared.keeper.Keeper.{Keeper}
@@ -100,12 +100,3 @@ pub record StepsCheckpoint {D : Type 0} (states : D → List Files) (failures : 
   -- where it fails, nothing of it changes but that it has failed
   pub err : IfErr result (λ refusal. (refusal ≡ Failed) × (checkpoints_of new ≡ record (checkpoints_of old) { writer = Some (record w { is_broken = true }) })
       × Fails states failures (checkpoint_file w.generation) call old.disk new.disk)
-
--- these contents use this checkpoint
-abbrev pub IsUsed : Checkpoint → Contents → Type 0
-IsUsed k contents = (found : Found) × Holds contents found × (found.checkpoint ≡ k)
-
--- What is read, and whatever a stop leaves, uses this checkpoint.
-pub record UsesCheckpoint (k : Checkpoint) (files : Files) : Type 0 where
-  pub read : IsUsed k (λ n. (files n).seen)
-  pub left : (contents : Contents) → Leaves files contents → IsUsed k contents

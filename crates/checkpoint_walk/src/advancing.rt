@@ -11,7 +11,8 @@ ghost use Rattle.checkpoint_file.specs.Advancing.{Advances, MayAdvance};
 ghost use Rattle.checkpoint_file.specs.States.{CheckpointState, call_in};
 ghost use Rattle.checkpoint_file.specs.Standing.{checkpoint_of};
 ghost use Rattle.flusher.specs.Fitting.{Fits, StopsFit};
-ghost use Rattle.checkpoint_walk.specs.Checkpointing.{HasGiven, KeepsAfter, StepsCheckpoint, UsesCheckpoint, call_due, checkpoints_of, phase_of};
+ghost use Rattle.checkpoint_walk.specs.Checkpointing.{HasGiven, KeepsAfter, StepsCheckpoint, call_due, checkpoints_of, phase_of};
+ghost use Rattle.store_layout.specs.UsedCheckpoint.{UsesCheckpoint};
 
 use checkpoint_file::{CheckpointPhase, CheckpointWriter};
 use disk_model::Disk;

@@ -3,8 +3,6 @@
 
 pub mod calls;
 pub mod connection;
-#[cfg(test)]
-mod tests;
 
 pub use calls::Calls;
 pub use connection::{ConnectionError, serve_connection};

@@ -3,8 +3,6 @@
 
 pub mod exits;
 pub mod named;
-#[cfg(test)]
-mod tests;
 
 pub use exits::{DONE, MISUSED, REFUSED, break_off, cannot_open, print, refuse, say};
 pub use named::{port_named, stripes_named};

@@ -3,8 +3,6 @@
 
 pub mod directory;
 pub mod summary;
-#[cfg(test)]
-mod tests;
 
 pub use directory::{check, check_disk, init, init_disk};
 pub use summary::{Summary, summarize};

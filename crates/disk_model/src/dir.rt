@@ -143,23 +143,34 @@ fn measure(file: &Option<File>) -> io::Result<usize> {
     }
 }
 
-// Reads on until `buf` is full or the file ends.
-fn fill(file: &Option<File>, at: usize, buf: &mut [u8]) -> io::Result<usize>
+/// Reads from that offset on until `buf` is full or the file ends, and returns how many bytes it read.
+/// What a signal interrupts is tried again; any other error ends it.
+pub fn fill_at<F: FileExt>(file: &F, at: usize, buf: &mut [u8]) -> io::Result<usize>
     ensures { IfOk result (λ n. n ≤ length buf.old) }
 {
-    let Some(file) = file else {
-        return Ok(0);
-    };
     let mut done = 0;
-    while done < buf.len() {
-        let offset = (at as u64).saturating_add(done as u64);
-        let count = file.read_at(&mut buf[done..], offset)?;
-        if count == 0 {
-            break;
+    for _turn in 0..u64::MAX {
+        if done >= buf.len() {
+            return Ok(done);
         }
-        done += count;
+        let offset = (at as u64).saturating_add(done as u64);
+        match file.read_at(&mut buf[done..], offset) {
+            Ok(0) => return Ok(done),
+            Ok(count) => done += count,
+            Err(error) if error.kind() == io::ErrorKind::Interrupted => {}
+            Err(error) => return Err(error),
+        }
     }
-    Ok(done)
+    Err(io::ErrorKind::Interrupted.into())
+}
+
+fn read_bytes(file: &Option<File>, at: usize, buf: &mut [u8]) -> io::Result<usize>
+    ensures { IfOk result (λ n. n ≤ length buf.old) }
+{
+    match file {
+        Some(file) => fill_at(file, at, buf),
+        None => Ok(0),
+    }
 }
 
 fn write_all(file: &Option<File>, at: usize, bytes: &[u8]) -> io::Result<()> {
@@ -198,7 +209,7 @@ impl<S: Start> Disk for DirDisk<S> {
 
     fn read(&mut self, file: usize, at: usize, buf: &mut [u8]) -> Result<usize, DeviceError> {
         let room = buf.len();
-        match fill(&self.files[file], at, buf) {
+        match read_bytes(&self.files[file], at, buf) {
             Ok(count) => {
                 self.past = self.past.with(&Note::Gave {
                     file,

@@ -8,10 +8,8 @@ mod kept;
 mod memory;
 mod past;
 mod plan;
-#[cfg(test)]
-mod tests;
 
-pub use dir::{DirDisk, Start, Unknown};
+pub use dir::{DirDisk, Start, Unknown, fill_at};
 pub use disk::{DeviceError, Disk};
 pub use fill::Fill;
 pub use memory::MemDisk;

@@ -8,8 +8,8 @@ use Rattle.ticket_order.specs.Calls.{RefusesSweep}
 use Rattle.ticket_order.specs.Records.{failing, missing, publishing}
 use Rattle.ticket_order.specs.StepRules.{AllLegalSections}
 use Rattle.ticket_order.specs.declared.stripe.Entry.{Entry}
-use Rattle.gate_log.specs.declared.phase.Phase.{Phase}
-use Rattle.gate_log.specs.declared.phase.Phase.TheVariants.{Header, HeaderWritten, Idle, Opened, Staged, Synced, Written}
+use Rattle.store_layout.specs.declared.log_phase.Phase.{Phase}
+use Rattle.store_layout.specs.declared.log_phase.Phase.TheVariants.{Header, HeaderWritten, Idle, Opened, Staged, Synced, Written}
 use Rattle.gate_log.specs.States.{LogState}
 use Rattle.flusher.specs.declared.keeper.Keeper.{Keeper}
 use Rattle.flusher.specs.declared.sweeper.Sweeper.{Sweeper}

@@ -8,14 +8,14 @@ use Rattle.map_types.specs.declared.refusals.Refusal.{Refusal}
 use Rattle.map_types.specs.declared.refusals.Refusal.TheVariants.{Failed}
 use Rattle.store_layout.specs.Checkpoints.{checkpoint_file}
 use Rattle.store_layout.specs.Logs.{log_file}
-use Rattle.gate_log.specs.declared.phase.Phase.{Phase}
-use Rattle.gate_log.specs.declared.phase.Phase.TheVariants.{Idle}
+use Rattle.store_layout.specs.declared.log_phase.Phase.{Phase}
+use Rattle.store_layout.specs.declared.log_phase.Phase.TheVariants.{Idle}
 use Rattle.gate_log.specs.States.{LogState}
-use Rattle.checkpoint_file.specs.declared.phase.CheckpointPhase.{CheckpointPhase}
+use Rattle.store_layout.specs.declared.checkpoint_phase.CheckpointPhase.{CheckpointPhase}
 use Rattle.checkpoint_file.specs.States.{CheckpointState}
 use Rattle.store_states.specs.Standing.{IsSealedIn}
 use Rattle.flusher.specs.declared.keeper.Keeper.{Keeper}
-use Rattle.flusher.specs.Hands.{SameEntries}
+use Rattle.flusher.specs.HandSteps.{SameEntries}
 use Rattle.flusher.specs.Keeping.{committed_by}
 use Rattle.flusher.specs.Rotating.{StepsLogs, due_of, logs_of}
 use Rattle.checkpoint_walk.specs.Checkpointing.{Checkpoints, StepsCheckpoint, call_due, phase_of}

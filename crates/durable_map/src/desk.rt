@@ -169,8 +169,12 @@ impl<D: Disk> Desk<D> {
 
     /// A turn of the checkpoints: where none runs, one is begun once the newest log has at least so many
     /// bytes; else it makes the device call that is due in its file, captures its next stripe, or seals
-    /// it. While its log is begun it waits for the turns of the log.
+    /// it. While its log is begun it waits for the turns of the log. Refused with `Failed` once a device
+    /// call has failed or a FAIL was made.
     pub(crate) fn checkpoint(&mut self, bytes: u64) -> Result<Turn, Refusal> {
+        if self.keeper.is_broken || self.keeper.has_failed {
+            return Err(Refusal::Failed);
+        }
         let Some(writer) = &self.keeper.checkpoint else {
             return self.begin_checkpoint(bytes);
         };

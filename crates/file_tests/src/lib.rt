@@ -1,17 +1,11 @@
-//! Tests of the files of a directory: its logs, its checkpoints, and what is opened and formatted.
+//! Tests of directories: the files on a real disk, which file has what, and what is printed of a directory.
 #![tactic(auto)]
 
 #[cfg(test)]
-mod checkpoints;
+mod disks;
 #[cfg(test)]
-mod formatting;
+mod interrupted;
 #[cfg(test)]
-mod loading;
+mod layouts;
 #[cfg(test)]
-mod logs;
-#[cfg(test)]
-mod opening;
-#[cfg(test)]
-mod refusals;
-#[cfg(test)]
-mod scans;
+mod printed_directories;

@@ -17,12 +17,12 @@ use Rattle.flusher.specs.declared.keeper.Keeper.{Keeper}
 use Rattle.flusher.specs.declared.sweeper.Sweep.{Sweep}
 use Rattle.flusher.specs.declared.sweeper.Walking.{Walking}
 use Rattle.flusher.specs.declared.sweeper.Walking.TheVariants.{Rests, SweepTakes, SweepGives}
-use Rattle.flusher.specs.Hands.{Hand}
+use Rattle.store_layout.specs.Hands.{Hand}
 use Rattle.flusher.specs.Gathering.{Accounts, AreTaken, Gathers, HasSweptBelow}
 use Rattle.flusher.specs.Sweeping.{StandsBy}
 use Rattle.flusher.specs.Keeping.{is_walking}
 use Rattle.flusher.specs.Fitting.{Fits, IsBeside}
-use Rattle.flusher.proofs.Entries.{grown, shrunk}
+use Rattle.ticket_order.proofs.Entries.{grown, shrunk}
 use Rattle.flusher.proofs.Storing.{stores_seen}
 
 gathers_beside : (hand : Hand) (gone : List Command) (p w : Record) → IsBeside p w → Gathers hand gone p → Gathers hand gone w

@@ -18,11 +18,12 @@ use Rattle.ticket_order.specs.Calls.{SweepsStripe, RefusesSweep}
 use Rattle.ticket_order.specs.declared.record.Purpose.TheVariants.{Nothing, Sweep as ToKeep}
 use Rattle.map_types.specs.declared.refusals.Refusal.TheVariants.{NoMemory}
 use Rattle.java_hash.proofs.StripeLaws.{stripe_of_within}
-use Rattle.flusher.specs.Hands.{Hand, Holds, MakesRoom, Gains}
+use Rattle.store_layout.specs.Hands.{Hand, Holds}
+use Rattle.flusher.specs.HandSteps.{MakesRoom, Gains}
 use Rattle.flusher.specs.Gathering.{Accounts, Gathers, AreTaken, HasSweptBelow, AreGathered, Collects}
 use Rattle.flusher.specs.declared.sweeper.Sweep.{Sweep}
 use Rattle.flusher.specs.Sweeping.{HasNone, IsBetween}
-use Rattle.flusher.proofs.Entries.{found, same_command, grown, shrunk, at_ticket, below_past, filtered, passes}
+use Rattle.ticket_order.proofs.Entries.{found, same_command, grown, shrunk, at_ticket, below_past, filtered, passes}
 
 -- the test by which a stripe's entries are known
 abbrev is_of : ℕ → ℕ → Entry → Bool

@@ -24,7 +24,7 @@ use Rattle.flusher.specs.declared.sweeper.Sweep.{Sweep}
 use Rattle.flusher.specs.declared.sweeper.Walking.{Walking}
 use Rattle.flusher.specs.declared.sweeper.Walking.TheVariants.{Rests, SweepTakes, SweepGives}
 use Rattle.flusher.specs.declared.sweeper.Sweeper.{Sweeper}
-use Rattle.flusher.specs.Hands.{Hand, IsRun}
+use Rattle.store_layout.specs.Hands.{Hand, IsRun}
 use Rattle.flusher.specs.Gathering.{Accounts, Gathers}
 use Rattle.flusher.specs.Sweeping.{Stands, StandsBy, HasNone, IsSwept}
 use Rattle.flusher.specs.Keeping.{is_walking}
@@ -32,7 +32,7 @@ use Rattle.flusher.specs.Rotating.{MayRotate}
 use Rattle.flusher.specs.Fitting.{Fits, HasSeenMore, HoldsFront, IsEmptyIn, IsFoundFor, IsQuiet, IsUnbroken, IsUnused, IsTakenFront, Stores, WereTaken, store_of}
 use Rattle.flusher.proofs.Storing.{holds_found, stores_seen}
 use Rattle.flusher.proofs.Staging.{taken_in_hand}
-use Rattle.flusher.proofs.Entries.{grown, shrunk}
+use Rattle.ticket_order.proofs.Entries.{grown, shrunk}
 use Rattle.flusher.proofs.Passing.{reached_by, front_of_all}
 use Rattle.flusher.proofs.Quiet.{IsGrown, swept_grown}
 

@@ -1,6 +1,5 @@
 pub mod Places
 pub mod Runs
-pub mod Entries
 pub mod Gathered
 pub mod Walked
 pub mod Standing

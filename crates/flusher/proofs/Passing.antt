@@ -9,10 +9,11 @@ use Rattle.ticket_order.specs.declared.stripe.Entry.{Entry}
 use Rattle.ticket_order.specs.declared.record.Record.{Record}
 use Rattle.ticket_order.specs.Records.{entry, reach}
 use Rattle.ticket_order.specs.Legality.{entries_from}
-use Rattle.flusher.specs.Hands.{Hand, Holds, SameEntries}
+use Rattle.store_layout.specs.Hands.{Hand, Holds}
+use Rattle.flusher.specs.HandSteps.{SameEntries}
 use Rattle.flusher.specs.Gathering.{Accounts, Gathers, Collects}
 use Rattle.flusher.specs.Keeping.{passed}
-use Rattle.flusher.proofs.Entries.{IsAt, found, there_is, same_command, at_ticket}
+use Rattle.ticket_order.proofs.Entries.{IsAt, found, there_is, same_command, at_ticket}
 
 pub accounts_same : (old new : Hand) (gone : List Command) (first : ℕ) (taken : List Entry) (seen : List Command) → SameEntries old new → Accounts old gone first taken seen → Accounts new gone first taken seen
 accounts_same old new gone first taken seen s a = record {

@@ -7,7 +7,8 @@ use Rattle.std.proofs.lemmas.List.Elements.{All-more, All-weaker, All-contains, 
 use Rattle.map_types.specs.declared.commands.Command.{Command}
 use Rattle.ticket_order.specs.declared.stripe.Entry.{Entry}
 use Rattle.ticket_order.specs.Records.{entry}
-use Rattle.flusher.specs.Hands.{Hand, Holds, HasPlace, MakesRoom, Gains}
+use Rattle.store_layout.specs.Hands.{Hand, Holds}
+use Rattle.flusher.specs.HandSteps.{HasPlace, MakesRoom, Gains}
 
 pub places_more : (next len more : ℕ) (entries : List Entry) (i : ℕ) (e : Entry) → len ≤ more → i < length entries → e ≡ get_or entries i e → (next ≤ e.ticket → e.ticket < next + more)
     → All (λ e. next ≤ e.ticket → e.ticket < next + len) (take i entries) → All (λ e. next ≤ e.ticket → e.ticket < next + more) (take (i + 1) entries)

@@ -12,7 +12,7 @@ use Rattle.store_layout.specs.Logs.{frame, records_bytes}
 use Rattle.store_layout.proofs.LogLemmas.{length-frame, records_push}
 use Rattle.gate_log.specs.States.{LogState}
 use Rattle.flusher.specs.Keeping.{IsFull}
-use Rattle.flusher.specs.Hands.{Hand, most_from, IsRun, FitsBatch, IsLongest}
+use Rattle.store_layout.specs.Hands.{Hand, most_from, IsRun, FitsBatch, IsLongest}
 
 -- of two runs one is a front of the other
 pub run_front : (xs ys : List Command) (r s : List (Option Command)) → map Some xs ++ r ≡ map Some ys ++ s → length xs ≤ length ys → (rest : List Command) × (ys ≡ xs ++ rest) × (r ≡ map Some rest ++ s)

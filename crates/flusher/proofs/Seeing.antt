@@ -22,7 +22,7 @@ use Rattle.flusher.specs.declared.sweeper.Walking.TheVariants.{Rests, SweepTakes
 use Rattle.flusher.specs.declared.sweeper.Swept.{Swept}
 use Rattle.flusher.specs.declared.sweeper.Swept.TheVariants.{More, Held, Done}
 use Rattle.flusher.specs.declared.sweeper.Sweeper.{Sweeper}
-use Rattle.flusher.specs.Hands.{Hand}
+use Rattle.store_layout.specs.Hands.{Hand}
 use Rattle.flusher.specs.Sweeping.{IsSwept, IsHolding, Stands, StandsBy, StepsOn, AfterTake, AfterGive}
 use Rattle.flusher.specs.Fitting.{HasSeenMore}
 use Rattle.flusher.proofs.Quiet.{IsGrown, by_capture, by_change, by_read, by_release, refused_grown, swept_grown}

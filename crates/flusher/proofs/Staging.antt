@@ -8,14 +8,15 @@ use Rattle.ticket_order.specs.declared.stripe.Entry.{Entry}
 use Rattle.ticket_order.specs.Records.{entry}
 use Rattle.ticket_order.specs.Legality.{entries_from}
 use Rattle.gate_log.specs.States.{AreFrom, commands_of}
-use Rattle.flusher.specs.Hands.{Hand, Holds, IsRun, Gains, SameEntries}
+use Rattle.store_layout.specs.Hands.{Hand, Holds, IsRun}
+use Rattle.flusher.specs.HandSteps.{Gains, SameEntries}
 use Rattle.ticket_order.specs.declared.record.Record.{Record}
 use Rattle.flusher.specs.declared.sweeper.Walking.TheVariants.{Rests}
 use Rattle.flusher.specs.declared.sweeper.Sweep.{Sweep}
 use Rattle.flusher.specs.declared.sweeper.Sweeper.{Sweeper}
 use Rattle.flusher.specs.Gathering.{Accounts}
 use Rattle.flusher.specs.Sweeping as Sweeping
-use Rattle.flusher.proofs.Entries.{found, there_is, same_command, grown, shrunk}
+use Rattle.ticket_order.proofs.Entries.{found, there_is, same_command, grown, shrunk}
 use Rattle.flusher.proofs.Runs.{none_is_some}
 
 pub from_there : (t : ℕ) (xs : List Command) → AreFrom t (entries_from t xs)

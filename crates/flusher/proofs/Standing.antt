@@ -15,12 +15,12 @@ use Rattle.flusher.specs.declared.sweeper.Walking.TheVariants.{Rests, SweepTakes
 use Rattle.flusher.specs.declared.sweeper.Swept.{Swept}
 use Rattle.flusher.specs.declared.sweeper.Swept.TheVariants.{More, Done}
 use Rattle.flusher.specs.declared.sweeper.Sweeper.{Sweeper}
-use Rattle.flusher.specs.Hands.{Hand}
+use Rattle.store_layout.specs.Hands.{Hand}
 use Rattle.flusher.specs.Gathering.{Collects}
 use Rattle.flusher.specs.Sweeping.{IsBetween, IsHolding, IsSwept, HasNone, StandsBy, Stands, DrainsStripe, AfterGive, IsDone, HasGathered}
 use Rattle.ticket_order.specs.Walks.{steps_left, is_holding, refusal_of_walk}
 use Rattle.ticket_order.proofs.Left.{none_to_hand_out, refusing_left}
-use Rattle.flusher.specs.Hands.{MakesRoom, Gains}
+use Rattle.flusher.specs.HandSteps.{MakesRoom, Gains}
 use Rattle.flusher.specs.Sweeping.{IsReady}
 use Rattle.flusher.proofs.Gathered.{collected, only_room, collects_none, gains_nothing, HasDrained, drained, put_back, moved, all_gathered}
 

@@ -10,14 +10,13 @@ use Rattle.map_types.specs.declared.commands.Command.{Command}
 use Rattle.map_types.specs.declared.refusals.Refusal.{Refusal}
 use Rattle.map_model.specs.Histories.{History}
 use Rattle.ticket_order.specs.declared.stripe.Entry.{Entry}
-use Rattle.store_layout.specs.Checkpoints.{Checkpoint}
+use Rattle.store_layout.specs.Checkpoints.{Checkpoint, is_to_close}
 use Rattle.store_layout.specs.Logs.{Batch, commands_in, log_file}
-use Rattle.gate_log.specs.declared.phase.Phase.{Phase}
-use Rattle.gate_log.specs.declared.phase.Phase.TheVariants.{Idle, Header, HeaderWritten, Staged, Written, Synced, Opened}
+use Rattle.store_layout.specs.declared.log_phase.Phase.{Phase}
+use Rattle.store_layout.specs.declared.log_phase.Phase.TheVariants.{Idle, Header, HeaderWritten, Staged, Written, Synced, Opened}
 use Rattle.gate_log.specs.States.{LogState, commands_of, log_after}
 use Rattle.gate_log.specs.Standing as gate_log
 use Rattle.gate_log.specs.Advancing.{Advances, committed_after, staged_after}
-use Rattle.checkpoint_file.specs.Standing.{is_to_close}
 use Rattle.store_states.specs.States.{Held, StoreState, newest_batches}
 use Rattle.store_states.specs.Standing as store
 use Rattle.store_states.specs.Laws.{EndStepsOn, LogEnds, LogStepsOn, LogStepsStop, NextIsReady, NextStepsOn, NextStepsStop, StoresStop, stepped}

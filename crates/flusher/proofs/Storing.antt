@@ -7,10 +7,9 @@ use Rattle.ticket_order.specs.declared.stripe.Entry.{Entry}
 use Rattle.ticket_order.specs.declared.record.Opening.{Opening}
 use Rattle.ticket_order.specs.declared.record.Record.{Record}
 use Rattle.ticket_order.specs.Legality.{history_from, history_of}
-use Rattle.store_layout.specs.Checkpoints.{checkpoint_file}
+use Rattle.store_layout.specs.Checkpoints.{checkpoint_file, is_to_close}
 use Rattle.store_layout.specs.OpeningLaws.{FrontStays}
 use Rattle.store_layout.specs.Standing as layout
-use Rattle.checkpoint_file.specs.Standing.{is_to_close}
 use Rattle.gate_log.specs.States.{LogState, resumed}
 use Rattle.store_states.specs.States.{StoreState}
 use Rattle.store_states.specs.Standing as store

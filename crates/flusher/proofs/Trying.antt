@@ -28,12 +28,13 @@ use Rattle.flusher.specs.declared.sweeper.Walking.TheVariants.{Rests, SweepTakes
 use Rattle.flusher.specs.declared.sweeper.Swept.{Swept}
 use Rattle.flusher.specs.declared.sweeper.Swept.TheVariants.{More, Done}
 use Rattle.flusher.specs.declared.sweeper.Sweeper.{Sweeper}
-use Rattle.flusher.specs.Hands.{Hand, SameEntries}
+use Rattle.store_layout.specs.Hands.{Hand}
+use Rattle.flusher.specs.HandSteps.{SameEntries}
 use Rattle.flusher.specs.Gathering.{Accounts, Gathers, HasSweptBelow, Collects}
 use Rattle.flusher.specs.Sweeping.{Stands, StandsBy, StepsOn}
 use Rattle.flusher.specs.Keeping.{SweepsOnce, StaysAt, is_walking}
 use Rattle.flusher.specs.Fitting.{Fits}
-use Rattle.flusher.proofs.Entries.{grown}
+use Rattle.ticket_order.proofs.Entries.{grown}
 use Rattle.flusher.proofs.Gathered.{accounts_more, accounts_later, taken_later, taken_of_history, low_enough}
 use Rattle.flusher.proofs.Passing.{collects_same}
 use Rattle.flusher.proofs.Quiet.{sweeps_quiet, refuses_quiet}

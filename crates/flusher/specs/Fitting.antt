@@ -9,14 +9,13 @@ use Rattle.ticket_order.specs.declared.stripe.Entry.{Entry}
 use Rattle.ticket_order.specs.declared.record.Record.{Record}
 use Rattle.ticket_order.specs.declared.record.StepMade.{StepMade}
 use Rattle.ticket_order.specs.Legality.{entries_from, history_of}
-use Rattle.store_layout.specs.Checkpoints.{checkpoint_file}
+use Rattle.store_layout.specs.Checkpoints.{checkpoint_file, is_to_close}
 use Rattle.store_layout.specs.Logs.{Batch, log_file}
 use Rattle.store_layout.specs.Opening.{Opened as FoundStore, Holds, map_of, newest_of, prefix_of}
-use Rattle.gate_log.specs.declared.phase.Phase.{Phase}
-use Rattle.gate_log.specs.declared.phase.Phase.TheVariants.{Idle, Header, HeaderWritten, Staged, Written, Synced, Opened}
+use Rattle.store_layout.specs.declared.log_phase.Phase.{Phase}
+use Rattle.store_layout.specs.declared.log_phase.Phase.TheVariants.{Idle, Header, HeaderWritten, Staged, Written, Synced, Opened}
 use Rattle.gate_log.specs.States.{LogState, batch_of, commands_of}
 use Rattle.gate_log.specs.Standing as gate_log
-use Rattle.checkpoint_file.specs.Standing.{is_to_close}
 use Rattle.store_states.specs.States.{StoreState, Held}
 use Rattle.store_states.specs.Standing as store
 use Rattle.flusher.specs.declared.keeper.Keeper.{Keeper}

@@ -8,7 +8,7 @@ use Rattle.ticket_order.specs.declared.record.Record.{Record}
 use Rattle.ticket_order.specs.declared.record.StepMade.TheVariants.{Looked}
 use Rattle.ticket_order.specs.Records.{entry, reach}
 use Rattle.ticket_order.specs.Legality.{entries_from}
-use Rattle.flusher.specs.Hands.{Hand, Holds}
+use Rattle.store_layout.specs.Hands.{Hand, Holds}
 
 -- The entries in `taken` are exactly those of `gone`, which are no longer in hand, and those in hand. All of them are entries of `seen`. Both
 -- lists of commands begin at the ticket `first`.

@@ -7,13 +7,13 @@ use Rattle.log_records.specs.Layout.{first_layout}
 use Rattle.store_layout.specs.Logs.{frame}
 use Rattle.gate_log.specs.States.{LogState, IsResting, batch_of}
 use Rattle.ticket_order.specs.declared.stripe.Entry.{Entry}
-use Rattle.gate_log.specs.declared.phase.Phase.{Phase}
-use Rattle.gate_log.specs.declared.phase.Phase.TheVariants.{Staged, Opened}
+use Rattle.store_layout.specs.declared.log_phase.Phase.{Phase}
+use Rattle.store_layout.specs.declared.log_phase.Phase.TheVariants.{Staged, Opened}
 use Rattle.flusher.specs.declared.sweeper.Sweeper.{Sweeper}
 use Rattle.flusher.specs.declared.sweeper.Sweep.{Sweep}
 use Rattle.ticket_order.specs.declared.record.Record.{Record}
 use Rattle.ticket_order.specs.Calls.{SweepsStripe}
-use Rattle.flusher.specs.Hands.{Hand, IsLongest}
+use Rattle.store_layout.specs.Hands.{Hand, IsLongest}
 use Rattle.flusher.specs.Gathering.{HasSweptBelow, Collects}
 use Rattle.flusher.specs.declared.sweeper.Walking.{Walking}
 use Rattle.flusher.specs.declared.sweeper.Walking.TheVariants.{Rests, SweepTakes, SweepGives}

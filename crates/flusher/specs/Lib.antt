@@ -1,4 +1,4 @@
-pub mod Hands
+pub mod HandSteps
 pub mod Gathering
 pub mod Sweeping
 pub mod Keeping

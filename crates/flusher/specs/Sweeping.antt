@@ -17,7 +17,8 @@ use Rattle.flusher.specs.declared.sweeper.Walking.TheVariants.{Rests, SweepTakes
 use Rattle.flusher.specs.declared.sweeper.Swept.{Swept}
 use Rattle.flusher.specs.declared.sweeper.Swept.TheVariants.{More, Held, Done}
 use Rattle.flusher.specs.declared.sweeper.Sweeper.{Sweeper}
-use Rattle.flusher.specs.Hands.{Hand, Gains}
+use Rattle.store_layout.specs.Hands.{Hand}
+use Rattle.flusher.specs.HandSteps.{Gains}
 use Rattle.flusher.specs.Gathering.{Gathers, HasSweptBelow, AreGathered, Collects}
 
 -- the kind of the step that comes next

@@ -6,7 +6,8 @@ ghost use Rattle.map_types.specs.declared.commands.Command.{Command};
 ghost use Rattle.ticket_order.specs.Legality.{entries_from};
 ghost use Rattle.log_records.specs.Layout.{first_layout};
 ghost use Rattle.store_layout.specs.Logs.{frame};
-ghost use Rattle.flusher.specs.Hands.{Hand, most_from, MakesRoom, Gains, IsRun, IsLongest};
+ghost use Rattle.store_layout.specs.Hands.{Hand, most_from, IsRun, IsLongest};
+ghost use Rattle.flusher.specs.HandSteps.{MakesRoom, Gains};
 
 use log_records::record_len;
 use map_types::Command;
@@ -39,7 +40,7 @@ pub struct InHand {
 impl Model for InHand {
     ghost use Rattle.log_records.specs.Layout.{first_layout};
     ghost use Rattle.store_layout.specs.Logs.{frame};
-    ghost use Rattle.flusher.specs.Hands.{Hand};
+    ghost use Rattle.store_layout.specs.Hands.{Hand};
 
     ghost Value = { Hand };
 

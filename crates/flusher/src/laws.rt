@@ -7,7 +7,7 @@ ghost use Rattle.ticket_order.specs.declared.stripe.Entry.{Entry};
 ghost use Rattle.ticket_order.specs.Legality.{entries_from, history_of};
 ghost use Rattle.disk_model.specs.Files.{now};
 ghost use Rattle.flusher.specs.Fitting.{Fits, IsBeside, IsTakenFront, StopsFit, WereTaken};
-ghost use Rattle.flusher.specs.Hands.{IsRun};
+ghost use Rattle.store_layout.specs.Hands.{IsRun};
 ghost use Rattle.flusher.specs.Keeping.{is_walking};
 
 use crate::keeper::Keeper;

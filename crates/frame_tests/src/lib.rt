@@ -1,5 +1,9 @@
-//! Tests of the frames of a connection: requests however cut, replies, and streams that halt.
+//! Tests of connections: their dialogues, the lines of the program, and the calls of a client.
 #![tactic(auto)]
 
 #[cfg(test)]
-mod frames;
+mod client;
+#[cfg(test)]
+mod complaints;
+#[cfg(test)]
+mod dialogues;

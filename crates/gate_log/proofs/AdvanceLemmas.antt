@@ -8,8 +8,8 @@ use Rattle.disk_model.proofs.FileLemmas.{with_same, with_other}
 use Rattle.disk_model.proofs.MomentLemmas.{one_call}
 use Rattle.map_types.specs.declared.refusals.Refusal.TheVariants.{Failed}
 use Rattle.store_layout.specs.Logs.{Batch, log_file}
-use Rattle.gate_log.specs.declared.phase.Phase.{Phase}
-use Rattle.gate_log.specs.declared.phase.Phase.TheVariants.{Idle, Header, HeaderWritten, Staged, Written, Synced, Opened}
+use Rattle.store_layout.specs.declared.log_phase.Phase.{Phase}
+use Rattle.store_layout.specs.declared.log_phase.Phase.TheVariants.{Idle, Header, HeaderWritten, Staged, Written, Synced, Opened}
 use Rattle.gate_log.specs.States.{LogState, call_in, log_after}
 use Rattle.gate_log.specs.Standing.{Stands, IsReady, IsKept, MayRead}
 use Rattle.gate_log.specs.Advancing.{Advances, MayAdvance, committed_after, staged_after}

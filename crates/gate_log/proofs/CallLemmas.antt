@@ -6,7 +6,7 @@ use Rattle.disk_model.specs.Calls.{Fails}
 use Rattle.disk_model.specs.Files.{Files, now, with_file}
 use Rattle.disk_model.specs.Gates.{Call, syncs}
 use Rattle.disk_model.proofs.FileLemmas.{with_same, with_other}
-use Rattle.gate_log.specs.declared.phase.Phase.TheVariants.{HeaderWritten, Written, Opened}
+use Rattle.store_layout.specs.declared.log_phase.Phase.TheVariants.{HeaderWritten, Written, Opened}
 use Rattle.gate_log.specs.States.{LogState, call_in}
 
 with_itself : (number : ℕ) (files : Files) → with_file number (files number) files ≡ files

@@ -5,8 +5,8 @@ use Rattle.disk_model.specs.Moments.{AtEachMoment}
 use Rattle.disk_model.proofs.MomentLemmas.{no_call, goes_on, weaker, in_the_end}
 use Rattle.map_types.specs.declared.refusals.Refusal.{Refusal}
 use Rattle.store_layout.specs.Logs.{Batch, log_file}
-use Rattle.gate_log.specs.declared.phase.Phase.{Phase}
-use Rattle.gate_log.specs.declared.phase.Phase.TheVariants.{Idle, Header, HeaderWritten, Staged, Written, Synced, Opened}
+use Rattle.store_layout.specs.declared.log_phase.Phase.{Phase}
+use Rattle.store_layout.specs.declared.log_phase.Phase.TheVariants.{Idle, Header, HeaderWritten, Staged, Written, Synced, Opened}
 use Rattle.gate_log.specs.States.{LogState, log_after}
 use Rattle.gate_log.specs.Standing.{Stands, IsReady, IsKept, IsDone, IsBeforeOrAfter, MayRead}
 use Rattle.gate_log.specs.Advancing.{Advances, committed_after, staged_after}

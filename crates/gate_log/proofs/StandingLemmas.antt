@@ -8,8 +8,8 @@ use Rattle.disk_model.proofs.GateLemmas.{shut_long, shut_written, shut_torn, shu
 use Rattle.log_records.specs.Layout.{first_layout}
 use Rattle.store_layout.specs.Logs.{Batch, IsLog, IsClosed, IsEnded, end_frame, frame, header}
 use Rattle.store_layout.proofs.LogLemmas.{front_push, commands_push, run_push, length-header}
-use Rattle.gate_log.specs.declared.phase.Phase.{Phase}
-use Rattle.gate_log.specs.declared.phase.Phase.TheVariants.{Idle, Header, HeaderWritten, Staged, Written, Synced, Opened}
+use Rattle.store_layout.specs.declared.log_phase.Phase.{Phase}
+use Rattle.store_layout.specs.declared.log_phase.Phase.TheVariants.{Idle, Header, HeaderWritten, Staged, Written, Synced, Opened}
 use Rattle.gate_log.specs.States.{LogState, bytes_staged, call_in, log_after}
 use Rattle.gate_log.specs.Standing.{front_of, HasCommitted, IsNext, HasNone, HasNext, AtRest, AtPhase, Stands, IsReady, IsDone, MayRead}
 use Rattle.gate_log.specs.Advancing.{committed_after, staged_after}

@@ -7,8 +7,8 @@ use Rattle.disk_model.specs.Moments.{AtEachMoment}
 use Rattle.map_types.specs.declared.refusals.Refusal.{Refusal}
 use Rattle.map_types.specs.declared.refusals.Refusal.TheVariants.{Failed}
 use Rattle.store_layout.specs.Logs.{Batch, log_file}
-use Rattle.gate_log.specs.declared.phase.Phase.{Phase}
-use Rattle.gate_log.specs.declared.phase.Phase.TheVariants.{Opened}
+use Rattle.store_layout.specs.declared.log_phase.Phase.{Phase}
+use Rattle.store_layout.specs.declared.log_phase.Phase.TheVariants.{Opened}
 use Rattle.gate_log.specs.States.{LogState, call_in, log_after}
 use Rattle.gate_log.specs.Standing.{Stands, IsKept}
 

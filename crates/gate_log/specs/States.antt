@@ -4,8 +4,8 @@ use Rattle.disk_model.specs.Gates.{Call, writes, syncs}
 use Rattle.map_types.specs.declared.commands.Command.{Command}
 use Rattle.ticket_order.specs.declared.stripe.Entry.{Entry}
 use Rattle.store_layout.specs.Logs.{Batch, end_frame, header}
-use Rattle.gate_log.specs.declared.phase.Phase.{Phase}
-use Rattle.gate_log.specs.declared.phase.Phase.TheVariants.{Idle, Header, HeaderWritten, Staged, Written, Synced, Opened}
+use Rattle.store_layout.specs.declared.log_phase.Phase.{Phase}
+use Rattle.store_layout.specs.declared.log_phase.Phase.TheVariants.{Idle, Header, HeaderWritten, Staged, Written, Synced, Opened}
 
 pub record LogState : Type 0 where
   pub generation : ℕ

@@ -7,9 +7,9 @@ ghost use Rattle.gate_log.specs.States.{log_after};
 ghost use Rattle.gate_log.specs.Standing.{Stands, IsKept};
 
 use crate::log::GateLog;
-use crate::phase::Phase;
 use disk_model::Disk;
 use map_types::Refusal;
+use store_layout::Phase;
 
 /// Commits what is staged, by four device calls: the frame is written behind the closed gate, synced,
 /// and then the gate is opened, and that is synced.

@@ -5,11 +5,10 @@ mod commit;
 mod frames;
 mod laws;
 mod log;
-mod phase;
 mod scan;
 
 pub use commit::commit_staged;
 pub use laws::stops_of_a_log;
 pub use log::GateLog;
-pub use phase::Phase;
 pub use scan::{Found, Scan, one_reading};
+pub use store_layout::Phase;

@@ -10,12 +10,11 @@ ghost use Rattle.gate_log.specs.Standing.{Stands};
 ghost use Rattle.gate_log.specs.Advancing.{Advances, MayAdvance};
 
 use crate::frames::{batch_frame, end_frame_and_gate, frame_len, header_and_gate};
-use crate::phase::Phase;
 use disk_model::{DeviceError, Disk};
 use map_types::Refusal;
 use std::alloc::Global;
 use std::marker::Model;
-use store_layout::{HEADER_BYTES, MOST_LOG_BYTES, OPEN_GATE, log_file};
+use store_layout::{HEADER_BYTES, MOST_LOG_BYTES, OPEN_GATE, Phase, log_file};
 use ticket_order::Entry;
 
 /// The log of one generation. It holds one staged frame, and nothing of what was committed; the disk

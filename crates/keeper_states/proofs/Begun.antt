@@ -6,10 +6,9 @@ use Rattle.map_types.specs.declared.refusals.Refusal.{Refusal}
 use Rattle.map_types.specs.declared.refusals.Refusal.TheVariants as refusal
 use Rattle.ticket_order.specs.declared.record.Record.{Record}
 use Rattle.disk_model.specs.Files.{File, Files, at_rest, now}
-use Rattle.store_layout.specs.Checkpoints.{checkpoint_file}
-use Rattle.gate_log.specs.declared.phase.Phase.TheVariants as log_phase
+use Rattle.store_layout.specs.Checkpoints.{checkpoint_file, is_to_close}
+use Rattle.store_layout.specs.declared.log_phase.Phase.TheVariants as log_phase
 use Rattle.gate_log.specs.States.{LogState, begun as log_begun}
-use Rattle.checkpoint_file.specs.Standing.{is_to_close}
 use Rattle.checkpoint_file.specs.States.{CheckpointState, begun, first_phase}
 use Rattle.store_states.specs.States.{Held, StoreState}
 use Rattle.store_states.specs.Standing.{WriterStands}

@@ -19,7 +19,7 @@ use Rattle.ticket_order.specs.Walks.{Give, Look, next_kind}
 use Rattle.disk_model.specs.Files.{Files, now}
 use Rattle.store_layout.specs.Checkpoints.{Section}
 use Rattle.gate_log.specs.States.{LogState}
-use Rattle.checkpoint_file.specs.declared.phase.CheckpointPhase.TheVariants.{Ready}
+use Rattle.store_layout.specs.declared.checkpoint_phase.CheckpointPhase.TheVariants.{Ready}
 use Rattle.checkpoint_file.specs.States as checkpoint
 use Rattle.checkpoint_file.specs.States.{CheckpointState}
 use Rattle.flusher.specs.declared.keeper.Keeper.{Keeper}

@@ -6,12 +6,13 @@ use Rattle.disk_model.specs.Files.{Files, now}
 use Rattle.disk_model.specs.Gates.{Call}
 use Rattle.store_layout.specs.Checkpoints.{Section}
 use Rattle.gate_log.specs.States.{LogState}
-use Rattle.checkpoint_file.specs.declared.phase.CheckpointPhase.{CheckpointPhase}
-use Rattle.checkpoint_file.specs.declared.phase.CheckpointPhase.TheVariants.{Idle, Gate, GateWritten, GateSynced, Ready, Staged, Header, HeaderWritten, HeaderSynced, Opened, Sealed}
+use Rattle.store_layout.specs.declared.checkpoint_phase.CheckpointPhase.{CheckpointPhase}
+use Rattle.store_layout.specs.declared.checkpoint_phase.CheckpointPhase.TheVariants.{Idle, Gate, GateWritten, GateSynced, Ready, Staged, Header, HeaderWritten, HeaderSynced, Opened, Sealed}
 use Rattle.checkpoint_file.specs.States.{CheckpointState, call_in, state_after}
 use Rattle.flusher.specs.declared.keeper.Keeper.{Keeper}
 use Rattle.flusher.specs.Fitting.{Fits}
-use Rattle.checkpoint_walk.specs.Checkpointing.{Checkpoints, HasGiven, StepsCheckpoint, UsesCheckpoint, call_due, checkpoints_of, kept_in}
+use Rattle.checkpoint_walk.specs.Checkpointing.{Checkpoints, HasGiven, StepsCheckpoint, call_due, checkpoints_of, kept_in}
+use Rattle.store_layout.specs.UsedCheckpoint.{UsesCheckpoint}
 use Rattle.schedules.specs.declared.event.Ending.TheVariants as ending
 use Rattle.schedules.specs.declared.event.Event.TheVariants as event
 use Rattle.schedules.specs.declared.event.Side.TheVariants as side

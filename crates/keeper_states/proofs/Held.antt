@@ -21,7 +21,7 @@ use Rattle.flusher.specs.declared.keeper.Keeper.{Keeper}
 use Rattle.flusher.specs.declared.sweeper.Sweep as sweeper
 use Rattle.flusher.specs.declared.sweeper.Walking.{Walking}
 use Rattle.flusher.specs.declared.sweeper.Walking.TheVariants as walking
-use Rattle.flusher.specs.Hands.{Hand}
+use Rattle.store_layout.specs.Hands.{Hand}
 use Rattle.flusher.specs.Sweeping.{IsSwept, StandsBy}
 use Rattle.flusher.proofs.Quiet as swept
 use Rattle.gate_log.specs.States.{commands_of}

@@ -8,7 +8,7 @@ use Rattle.ticket_order.specs.Legality.{history_of}
 use Rattle.disk_model.specs.Files.{File, Files, now}
 use Rattle.log_records.specs.Layout.{first_layout}
 use Rattle.store_layout.specs.Logs.{Batch, frame, log_file}
-use Rattle.gate_log.specs.declared.phase.Phase.TheVariants.{Opened}
+use Rattle.store_layout.specs.declared.log_phase.Phase.TheVariants.{Opened}
 use Rattle.gate_log.specs.States.{batch_of, commands_of}
 use Rattle.gate_log.specs.Standing as log
 use Rattle.store_states.specs.States.{newest_batches}

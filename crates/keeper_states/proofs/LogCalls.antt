@@ -6,7 +6,7 @@ use Rattle.ticket_order.specs.declared.record.Record.{Record}
 use Rattle.disk_model.specs.Files.{Files, now}
 use Rattle.disk_model.specs.Gates as disk
 use Rattle.store_layout.specs.Logs.{log_file}
-use Rattle.gate_log.specs.declared.phase.Phase.{Phase}
+use Rattle.store_layout.specs.declared.log_phase.Phase.{Phase}
 use Rattle.gate_log.specs.States.{LogState}
 use Rattle.flusher.specs.declared.keeper.Keeper.{Keeper}
 use Rattle.flusher.specs.declared.sweeper.Sweeper.{Sweeper}

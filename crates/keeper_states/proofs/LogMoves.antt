@@ -4,8 +4,8 @@ use Rattle.ticket_order.specs.declared.stripe.Entry.{Entry}
 use Rattle.disk_model.specs.Files.{File, Files, with_file}
 use Rattle.store_layout.specs.Checkpoints.{checkpoint_file}
 use Rattle.store_layout.specs.Logs.{log_file}
-use Rattle.gate_log.specs.declared.phase.Phase.{Phase}
-use Rattle.gate_log.specs.declared.phase.Phase.TheVariants.{Idle, Header, HeaderWritten, Staged, Written, Synced, Opened}
+use Rattle.store_layout.specs.declared.log_phase.Phase.{Phase}
+use Rattle.store_layout.specs.declared.log_phase.Phase.TheVariants.{Idle, Header, HeaderWritten, Staged, Written, Synced, Opened}
 use Rattle.gate_log.specs.States.{LogState, begun, log_after}
 use Rattle.gate_log.specs.Standing.{IsReady}
 use Rattle.checkpoint_file.specs.States.{CheckpointState}

@@ -11,7 +11,7 @@ use Rattle.gate_log.specs.States.{LogState}
 use Rattle.flusher.specs.declared.keeper.Keeper.{Keeper}
 use Rattle.flusher.specs.Fitting.{Fits}
 use Rattle.flusher.specs.Keeping.{MayStage, Stages, is_walking}
-use Rattle.flusher.proofs.Entries.{length-entries}
+use Rattle.ticket_order.proofs.Entries.{length-entries}
 use Rattle.schedules.specs.declared.event.Event.TheVariants as event
 use Rattle.schedules.specs.declared.outcome.Outcome.TheVariants as outcome
 use Rattle.schedules.specs.World.{World, Life, Committing, LogWork, is_resting, rests}

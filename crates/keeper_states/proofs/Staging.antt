@@ -18,10 +18,10 @@ use Rattle.flusher.specs.declared.sweeper.Walking.{Walking}
 use Rattle.flusher.specs.declared.sweeper.Walking.TheVariants as walking
 use Rattle.flusher.specs.Fitting.{Fits, IsEmptyIn}
 use Rattle.flusher.specs.Gathering.{Accounts}
-use Rattle.flusher.specs.Hands.{FitsBatch, IsLongest, IsRun}
+use Rattle.store_layout.specs.Hands.{FitsBatch, IsLongest, IsRun}
 use Rattle.flusher.specs.Keeping.{IsFull, MayStage, is_walking}
 use Rattle.flusher.specs.Rotating.{MayRotate}
-use Rattle.flusher.proofs.Entries.{at_ticket, found}
+use Rattle.ticket_order.proofs.Entries.{at_ticket, found}
 use Rattle.flusher.proofs.Keeping.{is_free}
 use Rattle.flusher.proofs.Passing.{front_of_all}
 use Rattle.flusher.proofs.Staging.{accounts_staged, taken_in_hand}

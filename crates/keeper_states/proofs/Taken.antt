@@ -15,7 +15,7 @@ use Rattle.flusher.specs.declared.sweeper.Swept.{Swept}
 use Rattle.flusher.specs.declared.sweeper.Swept.TheVariants.{More, Held, Done}
 use Rattle.flusher.specs.declared.sweeper.Walking.{Walking}
 use Rattle.flusher.specs.declared.sweeper.Walking.TheVariants as walking
-use Rattle.flusher.specs.Hands.{Hand}
+use Rattle.store_layout.specs.Hands.{Hand}
 use Rattle.flusher.specs.Sweeping.{AfterGive, AfterTake, IsHolding, IsSwept, StandsBy, StepsOn}
 use Rattle.flusher.proofs.Quiet as swept
 use Rattle.gate_log.specs.States.{commands_of}

@@ -7,11 +7,11 @@ use Rattle.ticket_order.specs.Records.{reach}
 use Rattle.ticket_order.specs.Walks.{next_kind}
 use Rattle.disk_model.specs.Files.{Files, now}
 use Rattle.store_layout.specs.Checkpoints.{Section}
-use Rattle.gate_log.specs.declared.phase.Phase.{Phase}
-use Rattle.gate_log.specs.declared.phase.Phase.TheVariants as log_phase
+use Rattle.store_layout.specs.declared.log_phase.Phase.{Phase}
+use Rattle.store_layout.specs.declared.log_phase.Phase.TheVariants as log_phase
 use Rattle.gate_log.specs.States.{LogState, call_in}
-use Rattle.checkpoint_file.specs.declared.phase.CheckpointPhase.{CheckpointPhase}
-use Rattle.checkpoint_file.specs.declared.phase.CheckpointPhase.TheVariants.{Idle, Gate, GateWritten, GateSynced, Ready, Staged, Header, HeaderWritten, HeaderSynced, Opened, Sealed}
+use Rattle.store_layout.specs.declared.checkpoint_phase.CheckpointPhase.{CheckpointPhase}
+use Rattle.store_layout.specs.declared.checkpoint_phase.CheckpointPhase.TheVariants.{Idle, Gate, GateWritten, GateSynced, Ready, Staged, Header, HeaderWritten, HeaderSynced, Opened, Sealed}
 use Rattle.checkpoint_file.specs.States as checkpoint
 use Rattle.checkpoint_file.specs.States.{CheckpointState}
 use Rattle.store_states.specs.Standing.{IsTurn}

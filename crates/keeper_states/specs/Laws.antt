@@ -14,8 +14,8 @@ use Rattle.ticket_order.specs.Records.{failing, outbox_held, publishing, reach}
 use Rattle.ticket_order.specs.Walks as walks
 use Rattle.disk_model.specs.declared.fill.Fill.{Fill}
 use Rattle.disk_model.specs.Files.{Files}
-use Rattle.gate_log.specs.declared.phase.Phase.{Phase}
-use Rattle.checkpoint_file.specs.declared.phase.CheckpointPhase.{CheckpointPhase}
+use Rattle.store_layout.specs.declared.log_phase.Phase.{Phase}
+use Rattle.store_layout.specs.declared.checkpoint_phase.CheckpointPhase.{CheckpointPhase}
 use Rattle.store_layout.specs.Opening.{Opened}
 use Rattle.flusher.specs.declared.keeper.Keeper.{Keeper}
 use Rattle.flusher.specs.declared.sweeper.Sweep.{Sweep}

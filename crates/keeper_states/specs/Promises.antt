@@ -10,22 +10,24 @@ use Rattle.disk_model.specs.Files.{Files, now}
 use Rattle.disk_model.specs.Gates.{Call}
 use Rattle.store_layout.specs.Checkpoints.{Section}
 use Rattle.flusher.specs.declared.keeper.Keeper.{Keeper}
-use Rattle.gate_log.specs.declared.phase.Phase.{Phase}
-use Rattle.gate_log.specs.declared.phase.Phase.TheVariants as log_phase
-use Rattle.checkpoint_file.specs.declared.phase.CheckpointPhase.{CheckpointPhase}
-use Rattle.checkpoint_file.specs.declared.phase.CheckpointPhase.TheVariants as checkpoint_phase
+use Rattle.store_layout.specs.declared.log_phase.Phase.{Phase}
+use Rattle.store_layout.specs.declared.log_phase.Phase.TheVariants as log_phase
+use Rattle.store_layout.specs.declared.checkpoint_phase.CheckpointPhase.{CheckpointPhase}
+use Rattle.store_layout.specs.declared.checkpoint_phase.CheckpointPhase.TheVariants as checkpoint_phase
 use Rattle.checkpoint_file.specs.Standing.{checkpoint_of}
 use Rattle.checkpoint_file.specs.States.{CheckpointState}
 use Rattle.flusher.specs.Fitting.{Fits}
 use Rattle.flusher.specs.declared.sweeper.Swept.{Swept}
 use Rattle.flusher.specs.Sweeping.{StepsOn}
-use Rattle.flusher.specs.Hands.{IsLongest, SameEntries}
+use Rattle.store_layout.specs.Hands.{IsLongest}
+use Rattle.flusher.specs.HandSteps.{SameEntries}
 use Rattle.flusher.specs.Keeping.{IsFull, IsPast, MayStage, Stages, committed_by}
 use Rattle.flusher.specs.Rotating.{StepsLogs, due_of, logs_of}
 use Rattle.schedules.specs.declared.outcome.DeviceCall.{DeviceCall}
 use Rattle.schedules.specs.After.{called, failed}
 use Rattle.schedules.specs.Cases.{IsPossible}
-use Rattle.checkpoint_walk.specs.Checkpointing.{Begins, HasAllSections, HasGiven, IsMarkedAbove, MayBegin, StepsCheckpoint, UsesCheckpoint, IsNextStripe, call_due, sealing}
+use Rattle.checkpoint_walk.specs.Checkpointing.{Begins, HasAllSections, HasGiven, IsMarkedAbove, MayBegin, StepsCheckpoint, IsNextStripe, call_due, sealing}
+use Rattle.store_layout.specs.UsedCheckpoint.{UsesCheckpoint}
 use Rattle.checkpoint_walk.specs.Walking.{AfterStep, FitsWalking, GivesPartIn}
 
 -- a checkpoint was to be begun

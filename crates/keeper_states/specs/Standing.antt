@@ -10,7 +10,7 @@ use Rattle.store_layout.specs.Checkpoints.{Section}
 use Rattle.log_records.specs.Layout.{first_layout}
 use Rattle.store_layout.specs.Opening.{Opened, newest_of, prefix_of}
 use Rattle.store_layout.specs.Readings.{gate_behind}
-use Rattle.gate_log.specs.declared.phase.Phase.TheVariants.{Idle}
+use Rattle.store_layout.specs.declared.log_phase.Phase.TheVariants.{Idle}
 use Rattle.gate_log.specs.States.{LogState}
 use Rattle.checkpoint_file.specs.States.{CheckpointState, first_phase}
 use Rattle.flusher.specs.declared.keeper.Keeper.{Keeper}

@@ -8,8 +8,6 @@ pub mod laws;
 pub mod lengths;
 pub mod methods;
 pub mod reading;
-#[cfg(test)]
-mod tests;
 pub mod writing;
 
 pub use laws::{cut_records, fields_agree, one_record, record_agrees};

@@ -5,8 +5,6 @@
 pub mod laws;
 pub mod outcomes;
 pub mod reference;
-#[cfg(test)]
-mod tests;
 
 pub use outcomes::{Outcome, answer_at};
 pub use reference::ReferenceMap;

@@ -10,7 +10,7 @@ use console::{MISUSED, break_off, cannot_open, port_named, refuse, say, stripes_
 use disk_model::{DirDisk, Disk, Start};
 use durable_map::{DurableMap, Ends, checkpoint_loop, flush_loop};
 use java_hash::StripeCount;
-use log::{Log, info};
+use log::{Log, info, warn};
 use map_types::Refusal;
 use recovery::open_parts;
 use std::alloc::Global;
@@ -21,8 +21,13 @@ use std::rt::Files;
 use std::sync::Wait;
 use std::sync::atomic::{AtomicBool, Ordering};
 use std::thread::Threads;
+use std::time::{Clock, Duration};
 use std::{io, thread};
 use wire_frames::write_whole;
+
+/// How long a server waits before it tries again to accept a connection, in milliseconds: what fails
+/// (as for want of descriptors) fails again at once.
+const ACCEPT_PAUSE: u64 = 20;
 
 /// The words of a server's command line.
 #[derive(Clone, Copy)]
@@ -148,15 +153,25 @@ pub(crate) fn run<D: Disk + Drop + Send, G: Gate + Sync, C: Arrivals, R: Threads
 
 /// The connections that a listener accepts.
 #[derive(Drop)]
-struct Door<'a> {
+struct Door<'a, R: Clock + Log> {
+    rt: &'a R,
     listener: &'a TcpListener,
 }
 
-impl Arrivals for Door<'_> {
+impl<R: Clock + Log> Arrivals for Door<'_, R> {
+    // Where none can be accepted it tries again after a pause, and the log has one record of it.
     fn next(&mut self) -> Option<TcpStream> {
+        let mut has_said = false;
         for stream in self.listener.incoming() {
-            if let Ok(stream) = stream {
-                return Some(stream);
+            match stream {
+                Ok(stream) => return Some(stream),
+                Err(error) => {
+                    if !has_said {
+                        warn!(self.rt; "no connection can be accepted: {error}");
+                        has_said = true;
+                    }
+                    thread::sleep(self.rt, Duration::from_millis(ACCEPT_PAUSE));
+                }
             }
         }
         None
@@ -178,7 +193,7 @@ fn host<
     D: Disk + Drop + Send,
     W: Write,
     E: Write,
-    R: Net<Listener = TcpListener, Stream = TcpStream> + Log + Threads + Wait + Sync,
+    R: Net<Listener = TcpListener, Stream = TcpStream> + Clock + Log + Threads + Wait + Sync,
 >(
     rt: &R,
     alloc: Global,
@@ -202,6 +217,7 @@ fn host<
     }
     let shop = Shop::new(alloc, map, settings.bytes);
     let mut door = Door {
+        rt,
         listener: &listener,
     };
     match run(rt, &shop, &NoGate, &mut door, settings.workers) {
@@ -215,7 +231,7 @@ pub(crate) fn serve_disk<
     D: Disk + Drop + Send,
     W: Write,
     E: Write,
-    R: Net<Listener = TcpListener, Stream = TcpStream> + Log + Threads + Wait + Sync,
+    R: Net<Listener = TcpListener, Stream = TcpStream> + Clock + Log + Threads + Wait + Sync,
 >(rt: &R, alloc: Global, disk: D, settings: &Settings, output: &mut W, error: &mut E) -> u8
     ensures { Hosts D.states D.failures D.honest settings.now.port disk (W.contents output.old) (W.contents output.new) result }
 {
@@ -229,7 +245,8 @@ pub(crate) fn serve_disk<
 }
 
 /// Serves the map of a directory on a port of this machine, with the words of its command line. It ends
-/// only by being ended.
+/// only by being ended. Of its four files those that are absent are made: an empty one may have been left
+/// out of a copy.
 ///
 /// The status is 2 with a text on `error` where the words aren't allowed; 1 with `unreadable` on `error`
 /// where the directory's lock or files, the port or `output` fail; and 1 with `refused` and the refusal
@@ -241,6 +258,7 @@ pub fn serve<
     E: Write,
     R: Files<File = File>
         + Net<Listener = TcpListener, Stream = TcpStream>
+        + Clock
         + Log
         + Threads
         + Wait
@@ -255,7 +273,7 @@ pub fn serve<
             return MISUSED;
         }
     };
-    match DirDisk::open(rt, alloc, words.directory, start) {
+    match DirDisk::create(rt, alloc, words.directory, start) {
         Ok(disk) => serve_disk(rt, alloc, disk, &settings, output, error),
         Err(failure) => cannot_open(alloc, &failure, error),
     }

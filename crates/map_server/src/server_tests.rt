@@ -339,12 +339,9 @@ fn after_a_device_failure_each_call_fails(rt: HostRuntime) -> Result<(), Fail> {
 }
 
 /// What a server of the disk at the port complains of, which prints nothing and ends with status 1.
-fn complaint<R: Net<Listener = TcpListener, Stream = TcpStream> + Log + Threads + Wait + Sync>(
-    rt: &R,
-    alloc: Global,
-    disk: MemDisk,
-    port: u16,
-) -> Result<Vec<u8>, Fail> {
+fn complaint<
+    R: Net<Listener = TcpListener, Stream = TcpStream> + Clock + Log + Threads + Wait + Sync,
+>(rt: &R, alloc: Global, disk: MemDisk, port: u16) -> Result<Vec<u8>, Fail> {
     let settings = Settings {
         port,
         stripes: sixteen()?,

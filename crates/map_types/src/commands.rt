@@ -133,24 +133,3 @@ pub enum Reply {
     /// The function faulted, and the mapping stayed as it was.
     Fault(FuncError),
 }
-
-#[cfg(test)]
-mod tests {
-    use super::Func;
-
-    #[test]
-    fn functions_by_number(rt: HostRuntime) {
-        for number in 0..=255u8 {
-            let known = Func::of(number).map(|func| func.number());
-            assert_eq!(rt;
-                known,
-                if number >= 1 && number <= 8 {
-                    Some(number)
-                } else {
-                    None
-                },
-                "{number}"
-            );
-        }
-    }
-}

@@ -93,22 +93,3 @@ impl Ord for Key {
         self.text.as_str().cmp(other.text.as_str())
     }
 }
-
-#[cfg(test)]
-mod tests {
-    use super::Key;
-    use crate::refusals::Refusal;
-
-    #[test]
-    fn keys_up_to_their_limit(rt: HostRuntime) -> Result<(), Refusal> {
-        let alloc = rt.alloc();
-        let longest = "k".repeat(alloc, 255)?;
-        let longer = "k".repeat(alloc, 256)?;
-        assert_eq!(rt; Key::new(alloc, longest.as_str())?.as_str().len(), 255);
-        assert!(rt; matches!(Key::new(alloc, longer.as_str()), Err(Refusal::KeyTooLong)));
-        let a = Key::new(alloc, "a")?;
-        assert!(rt; a < Key::new(alloc, "aa")?);
-        assert!(rt; a == a.clone()?);
-        Ok(())
-    }
-}

@@ -112,30 +112,3 @@ impl<T: Drop> From<AllocFailed<T>> for Refusal {
         Refusal::NoMemory
     }
 }
-
-#[cfg(test)]
-mod tests {
-    use super::Refusal;
-
-    #[test]
-    fn printed_refusals(rt: HostRuntime) -> Result<(), Refusal> {
-        let alloc = rt.alloc();
-        for (refusal, number, text) in [
-            (Refusal::BadFrame, 6, "6 BadFrame"),
-            (Refusal::Busy { stripe: 3 }, 8, "8 Busy 3"),
-            (
-                Refusal::Damaged {
-                    file: 2,
-                    offset: 17,
-                },
-                12,
-                "12 Damaged 2 17",
-            ),
-            (Refusal::SeatsSpent, 19, "19 SeatsSpent"),
-        ] {
-            assert_eq!(rt; refusal.number(), number);
-            assert_eq!(rt; format!(in alloc; "{refusal}")?.as_str(), text);
-        }
-        Ok(())
-    }
-}

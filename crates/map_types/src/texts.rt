@@ -117,29 +117,3 @@ impl Value {
         }
     }
 }
-
-#[cfg(test)]
-mod tests {
-    use super::{Text, Value};
-    use crate::refusals::Refusal;
-
-    #[test]
-    fn texts_up_to_their_limit(rt: HostRuntime) -> Result<(), Refusal> {
-        let alloc = rt.alloc();
-        let longest = "v".repeat(alloc, 4096)?;
-        let longer = "v".repeat(alloc, 4097)?;
-        assert_eq!(rt; Text::new(alloc, longest.as_str())?.as_str().len(), 4096);
-        assert!(rt;
-            matches!(
-                Value::text(alloc, longer.as_str()),
-                Err(Refusal::ValueTooLong)
-            )
-        );
-        let head = Text::new(alloc, "ab")?;
-        let both = head.followed_by(alloc, &Text::new(alloc, "c")?)?;
-        assert_eq!(rt; both.as_str(), "abc");
-        assert!(rt; Value::text(alloc, "1")?.is_same(&Value::text(alloc, "1")?));
-        assert!(rt; !Value::Int(1).is_same(&Value::text(alloc, "1")?));
-        Ok(())
-    }
-}

@@ -14,7 +14,7 @@ use Rattle.ticket_order.specs.Calls.{Misses, Reaches, SeesAgain}
 use Rattle.gate_log.specs.States.{LogState}
 use Rattle.flusher.specs.declared.keeper.Keeper.{Keeper}
 use Rattle.flusher.specs.Fitting.{IsTakenFront, WereTaken}
-use Rattle.flusher.specs.Hands.{FitsBatch, Hand, IsLongest}
+use Rattle.store_layout.specs.Hands.{FitsBatch, Hand, IsLongest}
 use Rattle.flusher.specs.Keeping.{is_too_long}
 use Rattle.wire_frames.specs.declared.requests.Request.{Request}
 use Rattle.connections.specs.Dialogue.{Answer}

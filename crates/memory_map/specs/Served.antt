@@ -15,7 +15,7 @@ use Rattle.ticket_order.specs.Calls.{MakesCall, MakesRead, RefusesChange, Refuse
 use Rattle.gate_log.specs.States.{LogState, IsResting}
 use Rattle.flusher.specs.declared.keeper.Keeper.{Keeper}
 use Rattle.flusher.specs.Fitting.{Fits, HasSeenMore, IsQuiet, IsTakenFront, WereTaken}
-use Rattle.flusher.specs.Hands.{FitsBatch}
+use Rattle.store_layout.specs.Hands.{FitsBatch}
 use Rattle.flusher.specs.Keeping.{is_too_long, is_walking}
 use Rattle.wire_frames.specs.declared.requests.Request.{Request}
 use Rattle.wire_frames.specs.declared.requests.Request.TheVariants.{Change, Read}

@@ -2,7 +2,5 @@
 #![tactic(auto)]
 
 mod functions;
-#[cfg(test)]
-mod tests;
 
 pub use functions::{apply, copied};

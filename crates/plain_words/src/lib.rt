@@ -7,6 +7,3 @@ pub mod words;
 
 pub use at::At;
 pub use words::PlainWords;
-
-#[cfg(test)]
-mod tests;

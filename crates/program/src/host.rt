@@ -6,10 +6,12 @@ use std::net::{Net, TcpListener, TcpStream};
 use std::rt::Files;
 use std::sync::Wait;
 use std::thread::Threads;
+use std::time::Clock;
 
-/// Files, sockets, threads, records, and leave to wait.
+/// Files, sockets, the clock, threads, records, and leave to wait.
 pub trait Host: Files<File = File>
     + Net<Listener = TcpListener, Stream = TcpStream>
+    + Clock
     + Log
     + Threads
     + Wait
@@ -18,6 +20,7 @@ pub trait Host: Files<File = File>
 impl<
     T: Files<File = File>
         + Net<Listener = TcpListener, Stream = TcpStream>
+        + Clock
         + Log
         + Threads
         + Wait

@@ -12,10 +12,9 @@ use Rattle.atomic_methods.specs.PartState.{PartState}
 use Rattle.ticket_order.specs.declared.record.Opening.{Opening}
 use Rattle.ticket_order.specs.declared.record.Record.{Record}
 use Rattle.one_history.specs.Turns.{maps_of, opening_of}
-use Rattle.store_layout.specs.Checkpoints.{Checkpoint, checkpoint_file}
+use Rattle.store_layout.specs.Checkpoints.{Checkpoint, checkpoint_file, is_to_close}
 use Rattle.store_layout.specs.Logs.{Batch, IsClosed, commands_in, log_file, log_front}
 use Rattle.store_layout.specs.Opening.{Contents, FoundLog, AreLogs, map_of, newest_by, newest_of, StandsFor}
-use Rattle.checkpoint_file.specs.Standing.{is_to_close}
 use Rattle.gate_log.specs.States.{LogState, resumed}
 use Rattle.gate_log.specs.Standing as log
 use Rattle.flusher.specs.Fitting.{IsFoundFor}

@@ -8,13 +8,14 @@ use Rattle.disk_model.proofs.MomentLemmas.{goes_on, in_the_end, weaker}
 use Rattle.map_types.specs.declared.refusals.Refusal.{Refusal}
 use Rattle.log_records.specs.Layout.{first_layout}
 use Rattle.store_layout.specs.Logs.{Batch, IsClosed, header}
-use Rattle.gate_log.specs.declared.phase.Phase.{Phase}
-use Rattle.gate_log.specs.declared.phase.Phase.TheVariants.{Header, HeaderWritten, Idle}
+use Rattle.store_layout.specs.declared.log_phase.Phase.{Phase}
+use Rattle.store_layout.specs.declared.log_phase.Phase.TheVariants.{Header, HeaderWritten, Idle}
 use Rattle.gate_log.specs.States.{LogState, begun, call_in, log_after}
 use Rattle.gate_log.specs.Standing.{IsBeforeOrAfter, IsKept, Stands}
 use Rattle.gate_log.specs.Advancing.{Advances, committed_after, staged_after}
 use Rattle.gate_log.proofs.StandingLemmas.{reads_in}
-use Rattle.recovery.specs.Formatting.{Becomes, first_log}
+use Rattle.recovery.specs.Formatting.{Becomes}
+use Rattle.store_layout.specs.FirstFiles.{first_log}
 use Rattle.recovery.proofs.NewFiles.{log_is, written_down, written_first}
 
 -- but for the first log's, the files are as they were

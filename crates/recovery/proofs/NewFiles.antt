@@ -7,13 +7,13 @@ use Rattle.disk_model.specs.Calls.{Looks, Makes}
 use Rattle.disk_model.specs.Files.{File, Files, at_rest, empty_files, now, synced, with_file, written}
 use Rattle.disk_model.specs.Gates.{Call, called, syncs, writes}
 use Rattle.disk_model.proofs.FileLemmas.{with_other}
-use Rattle.checkpoint_file.specs.Standing.{is_to_close}
+use Rattle.store_layout.specs.Checkpoints.{is_to_close, checkpoint_bytes}
 use Rattle.gate_log.proofs.Scanning.{same_now}
 use Rattle.log_records.specs.Layout.{first_layout}
-use Rattle.store_layout.specs.Checkpoints.{checkpoint_bytes}
 use Rattle.store_layout.specs.Logs.{header}
 use Rattle.store_layout.specs.Opening.{first_checkpoint}
-use Rattle.recovery.specs.Formatting.{Becomes, first_log, new_files}
+use Rattle.recovery.specs.Formatting.{Becomes}
+use Rattle.store_layout.specs.FirstFiles.{first_log, new_files}
 use Rattle.recovery.specs.Syncing.{AfterSyncs, states_synced}
 use Rattle.recovery.proofs.OneFileLemmas.{now_made}
 

@@ -48,19 +48,3 @@ pub record IsClear (files : Files) : Type 0 where
 pub record Becomes (number : ℕ) (file : File) (start files : Files) : Type 0 where
   pub others : (n : ℕ) → n ≢ number → files n ≡ start n
   pub is : files number ≡ file
-
--- a log without batches, behind whose header the gate is closed
-abbrev pub first_log : List ℕ
-first_log = log_front first_layout 0 0 [] ++ 0 ∷ []
-
--- What empty files hold once they are those of a new store: a sealed checkpoint of so many stripes without entries, and the log that goes on
--- from it.
-abbrev pub new_contents : ℕ → Contents
-new_contents stripes = λ number.
-    if number == 0 then 165 ∷ checkpoint_bytes first_layout (first_checkpoint stripes)
-    else if number == 2 then first_log
-    else []
-
--- and nothing of them is pending
-abbrev pub new_files : ℕ → Files
-new_files stripes = λ number. at_rest (new_contents stripes number)

@@ -9,7 +9,8 @@ ghost use Rattle.store_layout.specs.Checkpoints.{checkpoint_bytes, is_sealed};
 ghost use Rattle.store_layout.specs.Opening.{first_checkpoint};
 ghost use Rattle.gate_log.specs.Scan.{failed_in};
 ghost use Rattle.recovery.specs.LogReading.{contents_of};
-ghost use Rattle.recovery.specs.Formatting.{AtStops, IsClear, IsFormatted, IsNew, IsNewOrUnformatted, IsUnformatted, new_files};
+ghost use Rattle.recovery.specs.Formatting.{AtStops, IsClear, IsFormatted, IsNew, IsNewOrUnformatted, IsUnformatted};
+ghost use Rattle.store_layout.specs.FirstFiles.{new_files};
 ghost use Rattle.recovery.specs.Syncing.{SyncsAndLooks};
 
 use crate::first_bytes::first_bytes;

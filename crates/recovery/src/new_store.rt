@@ -8,7 +8,8 @@ ghost use Rattle.log_records.specs.Layout.{first_layout};
 ghost use Rattle.store_layout.specs.Checkpoints.{is_sealed};
 ghost use Rattle.store_layout.specs.Logs.{IsClosed};
 ghost use Rattle.gate_log.specs.Scan.{failed_in};
-ghost use Rattle.recovery.specs.Formatting.{Becomes, IsSealedWith, OneFile, first_log};
+ghost use Rattle.recovery.specs.Formatting.{Becomes, IsSealedWith, OneFile};
+ghost use Rattle.store_layout.specs.FirstFiles.{first_log};
 
 use checkpoint_file::must_close;
 use disk_model::Disk;

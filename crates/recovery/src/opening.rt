@@ -2,13 +2,12 @@
 ghost use Rattle.std.specs.Prelude.{◌≡◌, ◌+◌, [], IfOk, IfErr, OnOk};
 ghost use Rattle.disk_model.specs.Calls.{Looks};
 ghost use Rattle.disk_model.specs.Files.{now};
-ghost use Rattle.store_layout.specs.Checkpoints.{checkpoint_file};
+ghost use Rattle.store_layout.specs.Checkpoints.{checkpoint_file, is_to_close};
 ghost use Rattle.ticket_order.specs.declared.record.Record.{Record};
 ghost use Rattle.one_history.specs.Turns.{opening_of};
 ghost use Rattle.stripe_locks.specs.Passes.{begun_with, stripe_count};
 ghost use Rattle.store_layout.specs.Opening.{AreBadLogs, Refuses, StandsFor};
 ghost use Rattle.checkpoint_file.specs.Loads.{checkpoint_of, AreRising};
-ghost use Rattle.checkpoint_file.specs.Standing.{is_to_close};
 ghost use Rattle.gate_log.specs.Scan.{failed_in};
 ghost use Rattle.recovery.specs.Dividing.{ArePartsOf};
 ghost use Rattle.recovery.specs.LogReading.{contents_of, IsResumed, RefusesFor};

@@ -1,7 +1,7 @@
 -- What came of a script, as text.
 use Rattle.std.specs.Prelude.{◌≡◌, ◌+◌, ℕ, true, false, List, [], ◌∷◌, ◌++◌, length, Option, Some, None, codes, decimal}
-use Rattle.gate_log.specs.declared.phase.Phase.{Phase}
-use Rattle.gate_log.specs.declared.phase.Phase.TheVariants as phase
+use Rattle.store_layout.specs.declared.log_phase.Phase.{Phase}
+use Rattle.store_layout.specs.declared.log_phase.Phase.TheVariants as phase
 use Rattle.schedules.specs.declared.outcome.End.{End}
 use Rattle.schedules.specs.declared.outcome.End.TheVariants as ends
 use Rattle.schedules.specs.declared.outcome.Made.{Made}

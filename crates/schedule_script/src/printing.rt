@@ -6,10 +6,10 @@ ghost use Rattle.schedule_script.specs.Texts.{made_text, phase_name, IsCaptureTe
 use crate::line::Form;
 use crate::script::{Span, telling};
 use call_text::{refusal_text, reply_text};
-use gate_log::Phase;
 use map_types::Refusal;
 use schedules::{End, Made, Outcome};
 use std::alloc::{AllocError, Global};
+use store_layout::Phase;
 
 /// The name of a phase of the log.
 fn phase_name(phase: Phase) -> &'static str

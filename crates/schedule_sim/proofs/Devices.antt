@@ -11,14 +11,14 @@ use Rattle.std.specs.List.{AllByRecursion}
 use Rattle.std.specs.Option.{ok_or}
 use Rattle.disk_model.specs.declared.fill.Fill.TheVariants.{New}
 use Rattle.disk_model.specs.Gates.{Call}
-use Rattle.checkpoint_file.specs.declared.phase.CheckpointPhase.{CheckpointPhase}
+use Rattle.store_layout.specs.declared.checkpoint_phase.CheckpointPhase.{CheckpointPhase}
 use Rattle.checkpoint_file.specs.States.{CheckpointState}
 use Rattle.checkpoint_walk.specs.Checkpointing.{StepsCheckpoint, call_due}
 use Rattle.disk_model.specs.Moments.{AtEachMoment}
 use Rattle.ticket_order.specs.Legality.{history_of}
 use Rattle.store_states.specs.Standing.{StopsStand}
-use Rattle.gate_log.specs.declared.phase.Phase.{Phase}
-use Rattle.gate_log.specs.declared.phase.Phase.TheVariants as log_phase
+use Rattle.store_layout.specs.declared.log_phase.Phase.{Phase}
+use Rattle.store_layout.specs.declared.log_phase.Phase.TheVariants as log_phase
 use Rattle.gate_log.specs.States.{LogState, call_in}
 use Rattle.flusher.specs.declared.keeper.Keeper.{Keeper}
 use Rattle.flusher.specs.Fitting.{Fits, StopsFit}

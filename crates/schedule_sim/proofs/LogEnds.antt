@@ -4,7 +4,7 @@ use Rattle.map_types.specs.declared.commands.Command.{Command}
 use Rattle.map_types.specs.declared.refusals.Refusal.{Refusal}
 use Rattle.one_history.specs.Turns.{record_of}
 use Rattle.disk_model.specs.declared.fill.Fill.{Fill}
-use Rattle.gate_log.specs.declared.phase.Phase.{Phase}
+use Rattle.store_layout.specs.declared.log_phase.Phase.{Phase}
 use Rattle.flusher.specs.declared.keeper.Keeper.{Keeper}
 use Rattle.flusher.specs.Fitting.{Fits, done_after}
 use Rattle.flusher.specs.Rotating.{logs_of}

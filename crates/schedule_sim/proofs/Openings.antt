@@ -21,7 +21,8 @@ use Rattle.store_layout.specs.Checkpoints.{Checkpoint}
 use Rattle.store_layout.specs.Logs.{Batch, commands_in}
 use Rattle.store_layout.specs.Opening.{Opened, logged_by, newest_by, newest_of, prefix_of}
 use Rattle.disk_model.specs.Files.{Leaves, now}
-use Rattle.recovery.specs.Formatting.{AtStops, IsNew, new_files}
+use Rattle.recovery.specs.Formatting.{AtStops, IsNew}
+use Rattle.store_layout.specs.FirstFiles.{new_files}
 use Rattle.recovery.specs.Dividing.{ArePartsOf}
 use Rattle.recovery.specs.Opening.{IsAtStart}
 use Rattle.schedules.specs.World.{World, start}

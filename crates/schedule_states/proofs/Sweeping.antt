@@ -12,7 +12,7 @@ use Rattle.map_types.specs.declared.commands.Command.{Command}
 use Rattle.map_types.specs.declared.commands.Reply.{Reply}
 use Rattle.map_model.specs.Parts.{is_in_stripe}
 use Rattle.map_model.specs.Histories.{IsLegalChange}
-use Rattle.flusher.proofs.Entries.{IsAt, at_ticket, filtered, found, passes}
+use Rattle.ticket_order.proofs.Entries.{IsAt, at_ticket, filtered, found, passes}
 use Rattle.ticket_order.specs.declared.stripe.Entry.{Entry}
 use Rattle.ticket_order.specs.declared.record.Asked.{Asked}
 use Rattle.ticket_order.specs.declared.record.Asked.TheVariants.{Changing}

@@ -7,7 +7,7 @@ use Rattle.std.proofs.lemmas.List.{ext_get_or, get_or-drop, get_or-map, get_or-t
 use Rattle.std.proofs.lemmas.List.{length-take-le, take-append-drop}
 use Rattle.std.proofs.lemmas.Option.{get_or_from_slice_get, slice_get_within}
 use Rattle.map_types.specs.declared.commands.Command.{Command}
-use Rattle.flusher.specs.Hands.{FitsBatch, Hand, Holds, IsRun}
+use Rattle.store_layout.specs.Hands.{FitsBatch, Hand, Holds, IsRun}
 use Rattle.schedules.specs.World.{World, Life, InHand, next_commands, place_of}
 use Rattle.schedules.specs.InHand.{IsHandOf}
 use Rattle.schedules.specs.Laws.{LongestRunInHand}

@@ -5,7 +5,7 @@ use Rattle.java_hash.specs.Hash.{hash_of, weighted_sum}
 use Rattle.java_hash.specs.Stripes.{stripe_of}
 use Rattle.java_hash.specs.Units.{units_of}
 use Rattle.log_records.specs.Layout.{first_layout}
-use Rattle.flusher.specs.Hands.{FitsBatch}
+use Rattle.store_layout.specs.Hands.{FitsBatch}
 use Rattle.store_layout.specs.Logs.{frame, header}
 use Rattle.store_layout.specs.Opening.{Opened}
 use Rattle.schedules.specs.World.{World, Life, Place, WithWorker, InOutbox, InHand, begun_by, gate_after, next_commands, place_of}

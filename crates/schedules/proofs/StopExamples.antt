@@ -22,8 +22,8 @@ use Rattle.store_layout.specs.Examples.{a, log_with_five, number}
 use Rattle.store_layout.specs.Logs.{Batch, IsClosed, frame, header, log_front}
 use Rattle.store_layout.specs.Opening.{Contents, StandsFor, first_checkpoint}
 use Rattle.store_layout.specs.OpeningLaws.{FirstIsWhole, FirstStands, OneStanding}
-use Rattle.recovery.specs.Formatting.{new_contents}
-use Rattle.recovery.specs.Formatting.{new_contents}
+use Rattle.store_layout.specs.FirstFiles.{new_contents}
+use Rattle.store_layout.specs.FirstFiles.{new_contents}
 use Rattle.schedules.specs.World.{begun_by, start}
 use Rattle.schedules.specs.After.{after}
 use Rattle.schedules.specs.Examples.{StoppedBefore, StoppedOpen, StoppedShut, frame_bytes, put_a}

@@ -8,9 +8,8 @@ use Rattle.disk_model.specs.declared.fill.Fill.{Fill}
 use Rattle.disk_model.specs.Files.{Files, synced, with_file}
 use Rattle.disk_model.specs.Fills.{after_stop, torn}
 use Rattle.disk_model.specs.Gates as disk
-use Rattle.store_layout.specs.Checkpoints.{Section, checkpoint_file}
+use Rattle.store_layout.specs.Checkpoints.{Section, checkpoint_file, is_to_close}
 use Rattle.store_layout.specs.Opening.{Opened}
-use Rattle.checkpoint_file.specs.Standing.{is_to_close}
 use Rattle.schedules.specs.declared.event.Ending.{Ending}
 use Rattle.schedules.specs.declared.event.Ending.TheVariants as ending
 use Rattle.schedules.specs.declared.event.Event.{Event}

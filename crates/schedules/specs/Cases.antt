@@ -11,12 +11,12 @@ use Rattle.disk_model.specs.Files.{AreBytes, Files}
 use Rattle.disk_model.specs.Gates.{IsPlaced}
 use Rattle.store_layout.specs.Checkpoints.{greatest_mark}
 use Rattle.store_layout.specs.Opening.{Opened, Holds, Refuses, map_of, prefix_of}
-use Rattle.gate_log.specs.declared.phase.Phase.{Phase}
-use Rattle.gate_log.specs.declared.phase.Phase.TheVariants as log_phase
-use Rattle.checkpoint_file.specs.declared.phase.CheckpointPhase.{CheckpointPhase}
-use Rattle.checkpoint_file.specs.declared.phase.CheckpointPhase.TheVariants as checkpoint_phase
-use Rattle.flusher.specs.Hands.{FitsBatch}
-use Rattle.checkpoint_walk.specs.Checkpointing.{UsesCheckpoint}
+use Rattle.store_layout.specs.declared.log_phase.Phase.{Phase}
+use Rattle.store_layout.specs.declared.log_phase.Phase.TheVariants as log_phase
+use Rattle.store_layout.specs.declared.checkpoint_phase.CheckpointPhase.{CheckpointPhase}
+use Rattle.store_layout.specs.declared.checkpoint_phase.CheckpointPhase.TheVariants as checkpoint_phase
+use Rattle.store_layout.specs.Hands.{FitsBatch}
+use Rattle.store_layout.specs.UsedCheckpoint.{UsesCheckpoint}
 use Rattle.schedules.specs.declared.event.Ending.{Ending}
 use Rattle.schedules.specs.declared.event.Ending.TheVariants as ending
 use Rattle.schedules.specs.declared.event.Event.{Event}

@@ -14,9 +14,9 @@ use Rattle.disk_model.specs.declared.fill.Fill.TheVariants.{Old, New, Byte}
 use Rattle.store_layout.specs.Examples.{a, number}
 use Rattle.store_layout.specs.Logs.{frame}
 use Rattle.store_layout.specs.Opening.{Opened, StandsFor, first_checkpoint}
-use Rattle.gate_log.specs.declared.phase.Phase.TheVariants as log_phase
-use Rattle.checkpoint_file.specs.declared.phase.CheckpointPhase.{CheckpointPhase}
-use Rattle.checkpoint_file.specs.declared.phase.CheckpointPhase.TheVariants as checkpoint_phase
+use Rattle.store_layout.specs.declared.log_phase.Phase.TheVariants as log_phase
+use Rattle.store_layout.specs.declared.checkpoint_phase.CheckpointPhase.{CheckpointPhase}
+use Rattle.store_layout.specs.declared.checkpoint_phase.CheckpointPhase.TheVariants as checkpoint_phase
 use Rattle.schedules.specs.declared.event.Ending.TheVariants as ending
 use Rattle.schedules.specs.declared.event.Event.TheVariants as event
 use Rattle.schedules.specs.declared.event.Side.TheVariants as side

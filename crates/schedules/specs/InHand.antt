@@ -1,7 +1,7 @@
 -- The tickets in hand, as a keeper holds them.
 use Rattle.std.specs.Prelude.{◌≡◌, ℕ, ◌≤◌, Some, slice_get}
 use Rattle.map_types.specs.declared.commands.Command.{Command}
-use Rattle.flusher.specs.Hands.{Hand, Holds}
+use Rattle.store_layout.specs.Hands.{Hand, Holds}
 use Rattle.schedules.specs.World.{World, Life, InHand, place_of}
 
 -- The keeper holds exactly the tickets, from the committed count on, that are in hand as the events and outcomes say, each with its command.

@@ -12,7 +12,7 @@ use Rattle.disk_model.specs.Files.{Files}
 use Rattle.disk_model.specs.declared.fill.Fill.TheVariants.{New}
 use Rattle.store_layout.specs.Opening.{Contents, Holds, Opened, StandsFor, StandsForFront}
 use Rattle.store_layout.specs.Standing.{reach}
-use Rattle.flusher.specs.Hands.{Hand, IsLongest}
+use Rattle.store_layout.specs.Hands.{Hand, IsLongest}
 use Rattle.schedules.specs.declared.event.Event.{Event}
 use Rattle.schedules.specs.declared.outcome.DeviceCall.{DeviceCall}
 use Rattle.schedules.specs.declared.outcome.Outcome.{Outcome}

@@ -11,7 +11,7 @@ use Rattle.store_layout.specs.Checkpoints.{Section}
 use Rattle.store_layout.specs.Logs.{Batch, frame}
 use Rattle.store_layout.specs.Opening.{FoundLog, Opened, newest_of, prefix_of}
 use Rattle.store_layout.specs.Readings.{gate_behind}
-use Rattle.recovery.specs.Formatting.{new_files}
+use Rattle.store_layout.specs.FirstFiles.{new_files}
 
 -- ---- workers
 

@@ -1,7 +1,6 @@
 //! What came of an event.
-use checkpoint_file::CheckpointPhase;
-use gate_log::Phase;
 use map_types::{Key, Refusal, Reply, Value};
+use store_layout::{CheckpointPhase, Phase};
 
 /// A step that a walk made, with what it found.
 #[derive(Clone, Copy, Debug, PartialEq, Eq)]

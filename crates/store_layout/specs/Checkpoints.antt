@@ -100,3 +100,8 @@ pub record IsCheckpoint (layout : Layout) (k : Checkpoint) (content : List ℕ) 
 -- an open gate, and room for a header behind it
 abbrev pub is_sealed : List ℕ → Bool
 is_sealed content = nat_le 36 (length content) && slice_index_or content 0 0 == 165
+
+-- the gate reads open, or there is none
+abbrev pub is_to_close : List ℕ → Bool
+is_to_close [] = true
+is_to_close (gate ∷ rest) = gate == 165

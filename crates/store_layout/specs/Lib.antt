@@ -1,9 +1,12 @@
 pub mod Checkpoints
 pub mod Examples
 pub mod Faults
+pub mod FirstFiles
+pub mod Hands
 pub mod Laws
 pub mod Logs
 pub mod Opening
 pub mod OpeningLaws
 pub mod Readings
 pub mod Standing
+pub mod UsedCheckpoint

@@ -5,8 +5,13 @@ ghost use Rattle.std.specs.Prelude.{◌≡◌};
 ghost use Rattle.store_layout.specs.Checkpoints as checkpoints;
 ghost use Rattle.store_layout.specs.Logs as logs;
 
+mod checkpoint_phase;
 pub mod examples;
 pub mod laws;
+mod log_phase;
+
+pub use checkpoint_phase::CheckpointPhase;
+pub use log_phase::Phase;
 
 /// The version byte of each file.
 pub const VERSION: u8 = 1;
@@ -60,21 +65,4 @@ pub fn log_file(generation: u64) -> usize
     ensures { result ≡ logs.log_file generation }
 {
     2 + (generation % 2) as usize
-}
-
-#[cfg(test)]
-mod tests {
-    use super::{checkpoint_file, log_file};
-
-    #[test]
-    fn logs_take_turns(rt: HostRuntime) {
-        assert_eq!(rt; log_file(0), 2);
-        assert_eq!(rt; log_file(7), 3);
-    }
-
-    #[test]
-    fn checkpoints_take_turns(rt: HostRuntime) {
-        assert_eq!(rt; checkpoint_file(0), 0);
-        assert_eq!(rt; checkpoint_file(7), 1);
-    }
 }

@@ -13,8 +13,8 @@ use Rattle.store_layout.specs.Standing.{AreMarks, AreParts, IsLogOf, reach}
 use Rattle.checkpoint_file.specs.Standing as checkpoint
 use Rattle.checkpoint_file.specs.States as checkpoint_states
 use Rattle.checkpoint_file.specs.States.{CheckpointState, state_after}
-use Rattle.checkpoint_file.specs.declared.phase.CheckpointPhase.{CheckpointPhase}
-use Rattle.checkpoint_file.specs.declared.phase.CheckpointPhase.TheVariants as checkpoint_phase
+use Rattle.store_layout.specs.declared.checkpoint_phase.CheckpointPhase.{CheckpointPhase}
+use Rattle.store_layout.specs.declared.checkpoint_phase.CheckpointPhase.TheVariants as checkpoint_phase
 use Rattle.gate_log.specs.Standing as log
 use Rattle.gate_log.specs.States.{LogState, begun}
 use Rattle.store_states.specs.Laws.{CheckpointBegins, CheckpointIsSealed, RotationBegins, SealBegins, SectionIsGiven, WriterStepsOn}

@@ -9,13 +9,13 @@ use Rattle.store_layout.specs.Laws.{LogsGoOn, RestoringGoesOn}
 use Rattle.store_layout.specs.Logs.{Batch, commands_in, log_file}
 use Rattle.store_layout.specs.Opening.{Opened, log_of, logged_by}
 use Rattle.store_layout.specs.Standing.{IsLogOf, IsNextOf, Restores}
-use Rattle.checkpoint_file.specs.declared.phase.CheckpointPhase.{CheckpointPhase}
-use Rattle.checkpoint_file.specs.declared.phase.CheckpointPhase.TheVariants as checkpoint_phase
+use Rattle.store_layout.specs.declared.checkpoint_phase.CheckpointPhase.{CheckpointPhase}
+use Rattle.store_layout.specs.declared.checkpoint_phase.CheckpointPhase.TheVariants as checkpoint_phase
 use Rattle.checkpoint_file.specs.States.{CheckpointState}
 use Rattle.gate_log.specs.Advancing.{committed_after, staged_after}
 use Rattle.gate_log.specs.Standing as log
-use Rattle.gate_log.specs.declared.phase.Phase.{Phase}
-use Rattle.gate_log.specs.declared.phase.Phase.TheVariants.{Idle, Header, HeaderWritten, Staged, Written, Synced, Opened as log_opened}
+use Rattle.store_layout.specs.declared.log_phase.Phase.{Phase}
+use Rattle.store_layout.specs.declared.log_phase.Phase.TheVariants.{Idle, Header, HeaderWritten, Staged, Written, Synced, Opened as log_opened}
 use Rattle.gate_log.specs.States.{LogState, log_after}
 use Rattle.store_states.specs.Laws.{EndStepsOn, LogEnds, LogStepsOn, NextIsReady, NextStepsOn, stepped}
 use Rattle.store_states.specs.States.{StoreState, Held, low_after, newest_batches, with_batches}

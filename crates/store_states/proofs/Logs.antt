@@ -12,8 +12,8 @@ use Rattle.store_layout.specs.Opening.{logged_by, next_low}
 use Rattle.store_layout.specs.Standing.{IsLogOf}
 use Rattle.gate_log.specs.Standing as log
 use Rattle.gate_log.specs.States.{LogState}
-use Rattle.gate_log.specs.declared.phase.Phase.{Phase}
-use Rattle.gate_log.specs.declared.phase.Phase.TheVariants.{Idle, Header, HeaderWritten, Staged, Written, Synced, Opened}
+use Rattle.store_layout.specs.declared.log_phase.Phase.{Phase}
+use Rattle.store_layout.specs.declared.log_phase.Phase.TheVariants.{Idle, Header, HeaderWritten, Staged, Written, Synced, Opened}
 use Rattle.store_states.specs.States.{low_after, newest_batches}
 use Rattle.store_states.specs.Standing.{HasNextLog, IsTurn, LogsStand, NextLogIsOf, NextStands}
 use Rattle.store_states.proofs.Contents.{LogsRead, commands_append}

@@ -10,8 +10,8 @@ use Rattle.checkpoint_file.specs.Standing as checkpoint
 use Rattle.checkpoint_file.specs.States.{CheckpointState}
 use Rattle.gate_log.specs.Standing as log
 use Rattle.gate_log.specs.States.{LogState}
-use Rattle.gate_log.specs.declared.phase.Phase.{Phase}
-use Rattle.gate_log.specs.declared.phase.Phase.TheVariants.{Idle, Header, HeaderWritten, Staged, Written, Synced, Opened}
+use Rattle.store_layout.specs.declared.log_phase.Phase.{Phase}
+use Rattle.store_layout.specs.declared.log_phase.Phase.TheVariants.{Idle, Header, HeaderWritten, Staged, Written, Synced, Opened}
 use Rattle.store_states.specs.States.{StoreState, Held, newest_batches}
 use Rattle.store_states.specs.Standing.{Follows, IsTurn, LogsStand, NextStands, Stands, WriterStands}
 use Rattle.store_states.proofs.Contents.{rest_leaves}

@@ -11,8 +11,8 @@ use Rattle.store_layout.specs.Laws.{PartsAndLogRestore, RestoringGoesOn}
 use Rattle.store_layout.specs.Standing.{IsNextOf, Restores, reach}
 use Rattle.checkpoint_file.specs.Standing as checkpoint
 use Rattle.checkpoint_file.specs.States.{CheckpointState}
-use Rattle.checkpoint_file.specs.declared.phase.CheckpointPhase.{CheckpointPhase}
-use Rattle.checkpoint_file.specs.declared.phase.CheckpointPhase.TheVariants.{Idle, Gate, GateWritten, GateSynced, Ready, Staged, Header, HeaderWritten, HeaderSynced, Opened as gate_opened, Sealed}
+use Rattle.store_layout.specs.declared.checkpoint_phase.CheckpointPhase.{CheckpointPhase}
+use Rattle.store_layout.specs.declared.checkpoint_phase.CheckpointPhase.TheVariants.{Idle, Gate, GateWritten, GateSynced, Ready, Staged, Header, HeaderWritten, HeaderSynced, Opened as gate_opened, Sealed}
 use Rattle.gate_log.specs.Standing as log
 use Rattle.gate_log.specs.States.{LogState}
 use Rattle.store_states.specs.States.{StoreState, Held, newest_batches}

@@ -12,12 +12,12 @@ use Rattle.store_layout.specs.Standing.{IsNextOf, grown, reach}
 use Rattle.checkpoint_file.specs.Standing as checkpoint
 use Rattle.checkpoint_file.specs.States as checkpoint_states
 use Rattle.checkpoint_file.specs.States.{CheckpointState, state_after}
-use Rattle.checkpoint_file.specs.declared.phase.CheckpointPhase.TheVariants as checkpoint_phase
+use Rattle.store_layout.specs.declared.checkpoint_phase.CheckpointPhase.TheVariants as checkpoint_phase
 use Rattle.gate_log.specs.Standing as log
 use Rattle.gate_log.specs.States.{LogState, IsResting, begun, log_after}
 use Rattle.gate_log.specs.Advancing.{committed_after, staged_after}
-use Rattle.gate_log.specs.declared.phase.Phase.{Phase}
-use Rattle.gate_log.specs.declared.phase.Phase.TheVariants.{Idle, Header, HeaderWritten, Staged, Written, Synced, Opened as log_opened}
+use Rattle.store_layout.specs.declared.log_phase.Phase.{Phase}
+use Rattle.store_layout.specs.declared.log_phase.Phase.TheVariants.{Idle, Header, HeaderWritten, Staged, Written, Synced, Opened as log_opened}
 use Rattle.store_states.specs.States.{StoreState, Held, newest_batches, next_batches, with_batches}
 use Rattle.store_states.specs.Standing.{Stands, StopsStand, staged_count}
 

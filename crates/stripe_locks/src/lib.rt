@@ -11,8 +11,6 @@ mod rule;
 mod starts;
 mod steps;
 mod stripes;
-#[cfg(test)]
-mod tests;
 mod waiting;
 
 pub use beginning::Beginning;

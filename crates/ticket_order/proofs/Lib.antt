@@ -3,3 +3,4 @@ pub mod Taking
 pub mod Walking
 mod Refusing
 pub mod Left
+pub mod Entries

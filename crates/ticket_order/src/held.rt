@@ -33,20 +33,3 @@ pub enum Released {
     /// The store has failed, and the position will not become durable in this life.
     Failed,
 }
-
-#[cfg(test)]
-mod tests {
-    use super::Held;
-    use crate::numbers::Position;
-    use map_types::Reply;
-
-    #[test]
-    fn held_replies_tell_their_position(rt: HostRuntime) {
-        let held = Held {
-            position: Position::new(3),
-            reply: Reply::Did(true),
-        };
-        assert_eq!(rt; held.position().number(), 3);
-        held.give_up();
-    }
-}

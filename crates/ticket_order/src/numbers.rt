@@ -73,15 +73,3 @@ impl Position {
         self.number
     }
 }
-
-#[cfg(test)]
-mod tests {
-    use super::{Position, Ticket};
-
-    #[test]
-    fn positions_follow_tickets(rt: HostRuntime) {
-        assert_eq!(rt; Ticket::new(0).position().number(), 1);
-        assert_eq!(rt; Ticket::new(41).number(), 41);
-        assert_eq!(rt; Position::new(7).number(), 7);
-    }
-}

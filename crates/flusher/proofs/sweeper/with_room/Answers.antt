@@ -1,5 +1,6 @@
 use Rattle.std.proofs.Common.{subst, sym}
-use Rattle.flusher.specs.Hands.{Hand, MakesRoom}
+use Rattle.store_layout.specs.Hands.{Hand}
+use Rattle.flusher.specs.HandSteps.{MakesRoom}
 use Rattle.flusher.specs.Sweeping.{IsReady}
 use Rattle.flusher.proofs.Standing.{ready, not_ready}
 use Rattle.flusher.proofs.sweeper.with_room.Goals as goal

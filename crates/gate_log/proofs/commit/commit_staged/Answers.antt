@@ -1,4 +1,4 @@
-use Rattle.gate_log.specs.declared.phase.Phase.TheVariants.{Staged, Written, Synced, Opened}
+use Rattle.store_layout.specs.declared.log_phase.Phase.TheVariants.{Staged, Written, Synced, Opened}
 use Rattle.gate_log.proofs.CommitLemmas.{begins, works_at, due_at, any_moment, reaches}
 use Rattle.gate_log.proofs.commit.commit_staged.Goals as goal
 

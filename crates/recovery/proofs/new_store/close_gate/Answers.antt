@@ -1,6 +1,6 @@
 use Rattle.std.proofs.Common.{◌≡◌, true, sym, ap, ◌∙◌}
 use Rattle.disk_model.specs.Files.{File, now}
-use Rattle.checkpoint_file.specs.Standing.{is_to_close}
+use Rattle.store_layout.specs.Checkpoints.{is_to_close}
 use Rattle.recovery.proofs.GateClosing.{comes_shut, not_written, on_ok, stays_shut, syncing, writing}
 use Rattle.recovery.proofs.NewFiles.{closed_first, not_left}
 use Rattle.recovery.proofs.new_store.close_gate.Goals as goal

@@ -1,6 +1,5 @@
 use Rattle.std.proofs.Common.{◌≡◌, ◌+◌, subst}
-use Rattle.checkpoint_file.specs.Standing.{is_to_close}
-use Rattle.store_layout.specs.Checkpoints.{checkpoint_file}
+use Rattle.store_layout.specs.Checkpoints.{is_to_close, checkpoint_file}
 use Rattle.store_layout.specs.Opening.{Contents, Refuses}
 use Rattle.recovery.specs.LogReading.{RefusesFor, contents_of}
 use Rattle.recovery.specs.Opening.{IsOpened}

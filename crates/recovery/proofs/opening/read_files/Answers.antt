@@ -1,8 +1,7 @@
 use Rattle.std.proofs.Common.{◌≡◌, ◌+◌, ◌-◌, ap, ◌∙◌, arith}
 use Rattle.std.proofs.lemmas.Result.{err_from_is_err_and}
 use Rattle.disk_model.specs.Files.{Files}
-use Rattle.checkpoint_file.specs.Standing.{is_to_close}
-use Rattle.store_layout.specs.Checkpoints.{checkpoint_file}
+use Rattle.store_layout.specs.Checkpoints.{is_to_close, checkpoint_file}
 use Rattle.recovery.specs.LogReading.{contents_of}
 use Rattle.gate_log.proofs.Scanning.{looks_on, same_now}
 use Rattle.recovery.proofs.opening.read_files.Goals as goal

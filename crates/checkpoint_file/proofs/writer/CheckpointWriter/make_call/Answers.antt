@@ -2,7 +2,7 @@ use Rattle.std.proofs.Common.{◌≡◌, ◌⊎◌, ◌≤◌, ◌+◌, length, 
 use Rattle.disk_model.specs.Files.{now}
 use Rattle.store_layout.specs.Checkpoints.{checkpoint_file}
 use Rattle.checkpoint_file.specs.States.{CheckpointState, call_in}
-use Rattle.checkpoint_file.specs.declared.phase.CheckpointPhase.TheVariants.{GateWritten, GateSynced, Staged, Header, HeaderWritten, Opened}
+use Rattle.store_layout.specs.declared.checkpoint_phase.CheckpointPhase.TheVariants.{GateWritten, GateSynced, Staged, Header, HeaderWritten, Opened}
 use Rattle.checkpoint_file.proofs.CallLemmas.{sync_fails}
 use Rattle.checkpoint_file.proofs.writer.CheckpointWriter.make_call.Goals as goal
 

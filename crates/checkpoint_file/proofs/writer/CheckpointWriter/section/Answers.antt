@@ -1,7 +1,7 @@
 use Rattle.std.proofs.Common.{◌≡◌, ◌+◌, ◌<◌, ◌^◌, length, arith, rules}
 use Rattle.log_records.specs.Layout.{first_layout}
 use Rattle.store_layout.specs.Checkpoints.{marked_bytes}
-use Rattle.checkpoint_file.specs.declared.phase.CheckpointPhase.TheVariants.{Ready}
+use Rattle.store_layout.specs.declared.checkpoint_phase.CheckpointPhase.TheVariants.{Ready}
 use Rattle.checkpoint_file.proofs.StagingLemmas.{staged_stands}
 use Rattle.checkpoint_file.proofs.writer.CheckpointWriter.section.Goals as goal
 

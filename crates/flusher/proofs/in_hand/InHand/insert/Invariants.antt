@@ -1,4 +1,4 @@
-use Rattle.flusher.specs.Hands.{Gains}
+use Rattle.flusher.specs.HandSteps.{Gains}
 use Rattle.flusher.proofs.in_hand.InHand.insert.Given as goal
 
 abbrev pub invariant-loop-entry : goal.invariant-loop-entry

@@ -1,5 +1,5 @@
 use Rattle.std.proofs.Common.{◌≡◌, arith, ◌-◌, ◌++◌, ap, replicate, None, ◌∙◌}
-use Rattle.flusher.specs.Hands.{Hand}
+use Rattle.store_layout.specs.Hands.{Hand}
 use Rattle.flusher.proofs.Places.{same_hand}
 use Rattle.flusher.proofs.in_hand.InHand.lengthen.Goals as goal
 

@@ -1,5 +1,5 @@
 use Rattle.std.proofs.Common.{◌≡◌, ◌-◌, arith, ap, ◌∙◌, Some, length, set}
-use Rattle.flusher.specs.Hands.{Hand}
+use Rattle.store_layout.specs.Hands.{Hand}
 use Rattle.flusher.proofs.Places.{gains_put}
 use Rattle.flusher.proofs.in_hand.InHand.put.Goals as goal
 

@@ -2,7 +2,7 @@ use Rattle.std.proofs.Common.{◌≡◌, ◌≤◌, List, None, take, drop, repl
 use Rattle.std.specs.Vec.{vec_len, vec_capacity}
 use Rattle.map_types.specs.declared.commands.Command.{Command}
 use Rattle.ticket_order.specs.Legality.{entries_from}
-use Rattle.flusher.specs.Hands.{IsRun}
+use Rattle.store_layout.specs.Hands.{IsRun}
 use Rattle.flusher.proofs.in_hand.InHand.take_run.Given as goal
 
 abbrev pub invariant-loop-index : goal.invariant-loop-index

@@ -1,5 +1,5 @@
 use Rattle.std.proofs.Common.{◌≡◌, ◌≢◌, Some, None, ap, ◌∙◌, refl, sym, rules}
-use Rattle.gate_log.specs.declared.phase.Phase.TheVariants.{Idle}
+use Rattle.store_layout.specs.declared.log_phase.Phase.TheVariants.{Idle}
 use Rattle.flusher.specs.declared.keeper.Keeper.{Keeper}
 use Rattle.flusher.proofs.Committing.{stops_by}
 use Rattle.flusher.proofs.Advancing.{count_after, fits_ended, fits_headed, fits_logged, log_at_moments, log_may, logged_moments, next_at_moments, same_hand, same_next, still_moments}

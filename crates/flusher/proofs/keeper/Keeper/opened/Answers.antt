@@ -1,5 +1,5 @@
 use Rattle.std.proofs.Common.{◌∙◌, ap, arith, refl, ℕ, []}
-use Rattle.flusher.specs.Hands.{Hand}
+use Rattle.store_layout.specs.Hands.{Hand}
 use Rattle.flusher.proofs.Keeping.{fits_opened}
 use Rattle.flusher.proofs.keeper.Keeper.opened.Goals as goal
 

@@ -5,8 +5,9 @@ use Rattle.ticket_order.specs.Legality.{entries_from}
 use Rattle.log_records.specs.Layout.{first_layout}
 use Rattle.store_layout.specs.Logs.{frame}
 use Rattle.gate_log.specs.States.{AreFrom, commands_of}
-use Rattle.flusher.specs.Hands.{Hand, Gains}
-use Rattle.flusher.proofs.Entries.{length-entries}
+use Rattle.store_layout.specs.Hands.{Hand}
+use Rattle.flusher.specs.HandSteps.{Gains}
+use Rattle.ticket_order.proofs.Entries.{length-entries}
 use Rattle.flusher.proofs.Staging.{from_there, commands_there, put_back_run}
 use Rattle.flusher.proofs.keeper.Keeper.stage_run.Goals as goal
 

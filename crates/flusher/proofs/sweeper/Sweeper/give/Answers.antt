@@ -6,7 +6,8 @@ use Rattle.ticket_order.specs.Walks.{entries_of_walk}
 use Rattle.flusher.specs.declared.sweeper.Sweeper.{Sweeper}
 use Rattle.map_types.specs.declared.refusals.Refusal.TheVariants.{NoMemory}
 use Rattle.ticket_order.specs.declared.stripe.Entry.{Entry}
-use Rattle.flusher.specs.Hands.{Hand, Gains}
+use Rattle.store_layout.specs.Hands.{Hand}
+use Rattle.flusher.specs.HandSteps.{Gains}
 use Rattle.flusher.specs.Gathering.{Collects}
 use Rattle.flusher.specs.Sweeping.{IsReady, IsSwept, Stands}
 use Rattle.flusher.proofs.Standing.{IsNext, go_on_next, after_drain, stands_drained, done_drained, stands_put_back}

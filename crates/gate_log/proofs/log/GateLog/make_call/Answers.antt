@@ -2,7 +2,7 @@ use Rattle.std.proofs.Common.{◌≡◌, ◌⊎◌, ◌≤◌, length, sym, ap, 
 use Rattle.disk_model.specs.Files.{now}
 use Rattle.store_layout.specs.Logs.{log_file}
 use Rattle.gate_log.specs.States.{LogState, call_in}
-use Rattle.gate_log.specs.declared.phase.Phase.TheVariants.{HeaderWritten, Staged, Written, Synced, Opened}
+use Rattle.store_layout.specs.declared.log_phase.Phase.TheVariants.{HeaderWritten, Staged, Written, Synced, Opened}
 use Rattle.gate_log.proofs.CallLemmas.{sync_fails}
 use Rattle.gate_log.proofs.log.GateLog.make_call.Goals as goal
 

@@ -1,0 +1,229 @@
+//! The dialogues of connections, over readers and writers that halt.
+use connections::{Calls, ConnectionError, serve_connection};
+use map_types::{Change, Command, Refusal, Reply, Value};
+use std::alloc::Global;
+use std::io;
+use std::io::{Read, Write};
+use wire_frames::Request;
+
+/// A map of one key that fails at every change but `Put`.
+#[derive(Drop)]
+struct OneValue {
+    value: Option<Value>,
+}
+
+impl Calls for OneValue {
+    ghost took = { λ _ _ _ _. Unit {0} };
+
+    fn call(&mut self, request: Request) -> Result<Reply, Refusal> {
+        match request {
+            Request::Read(_) => Ok(Reply::Now(self.value.clone()?)),
+            Request::Change(command) => {
+                let Command { change, .. } = command;
+                match change {
+                    Change::Put(value) => Ok(Reply::Was(self.value.replace(value))),
+                    _ => Err(Refusal::Failed),
+                }
+            }
+        }
+    }
+}
+
+/// A reader that is interrupted before each piece, gives pieces of at most so many bytes, and fails
+/// at their end.
+#[derive(Drop)]
+struct Pieces<'a> {
+    left: &'a [u8],
+    most: usize,
+    interrupts: bool,
+    fails: bool,
+}
+
+impl Read for Pieces<'_> {
+    fn read(&mut self, buf: &mut [u8]) -> io::Result<usize> {
+        self.interrupts = !self.interrupts;
+        if self.interrupts {
+            return Err(io::Error::from(io::ErrorKind::Interrupted));
+        }
+        if self.left.is_empty() && self.fails {
+            return Err(io::Error::from(io::ErrorKind::ConnectionReset));
+        }
+        let len = self.left.len().min(self.most).min(buf.len());
+        let (front, rest) = self.left.split_at(len);
+        buf[..len].copy_from_slice(front);
+        self.left = rest;
+        Ok(len)
+    }
+}
+
+/// A writer that has room for so many bytes, and fails behind them.
+#[derive(Drop)]
+struct Room {
+    bytes: [u8; 64],
+    len: usize,
+    most: usize,
+}
+
+impl Room {
+    fn of(most: usize) -> Room {
+        Room {
+            bytes: [0; 64],
+            len: 0,
+            most,
+        }
+    }
+
+    fn written(&self) -> &[u8] {
+        &self.bytes[..self.len.min(64)]
+    }
+}
+
+impl Write for Room {
+    fn write(&mut self, buf: &[u8]) -> io::Result<usize> {
+        let Some(first) = buf.first() else {
+            return Ok(0);
+        };
+        if self.len >= self.most || self.len >= 64 {
+            return Err(io::Error::from(io::ErrorKind::BrokenPipe));
+        }
+        self.bytes[self.len] = *first;
+        self.len += 1;
+        Ok(1)
+    }
+
+    fn flush(&mut self) -> io::Result<()> {
+        Ok(())
+    }
+}
+
+/// A put of `a` and a get of it, and their replies.
+const PUT_GET: &[u8] = b"\x00\x0C\x10\x01a\x01\x00\x00\x00\x00\x00\x00\x00\x05\x00\x03\x01\x01a";
+
+const PUT_GET_REPLIES: &[u8] = b"\x00\x02\x00\x00\x00\x0A\x01\x01\x00\x00\x00\x00\x00\x00\x00\x05";
+
+/// Refused requests, and a refused length with a request behind it.
+const REFUSED: &[u8] =
+    b"\x00\x04\x10\x01a\x00\x00\x01\x04\x00\x06\x10\x01a\x02\x10\x01\x00\x03\x01\x01\xFF\x00\x03\x01\x01a\x00\x00\x00\x03\x01\x01a";
+
+const REFUSED_REPLIES: &[u8] =
+    b"\x00\x02\x81\x00\x00\x02\x84\x00\x00\x02\x83\x00\x00\x02\x92\x00\x00\x02\x01\x00\x00\x02\x86\x00";
+
+/// A get, a removal that fails, and another get.
+const FAILED: &[u8] = b"\x00\x03\x01\x01a\x00\x03\x12\x01a\x00\x03\x01\x01a";
+
+const FAILED_REPLIES: &[u8] = b"\x00\x02\x01\x00\x00\x02\x89\x00";
+
+const DIALOGUES: [(&[u8], &[u8]); 4] = [
+    (PUT_GET, PUT_GET_REPLIES),
+    (REFUSED, REFUSED_REPLIES),
+    (FAILED, FAILED_REPLIES),
+    (b"", b""),
+];
+
+// Whether the reader's requests are answered with these replies.
+fn is_answered<R: Read>(alloc: Global, reader: &mut R, replies: &[u8]) -> bool {
+    let mut writer = Vec::new(alloc);
+    let mut calls = OneValue { value: None };
+    let served = serve_connection(alloc, reader, &mut writer, &mut calls);
+    served.is_ok() && writer.as_slice() == replies
+}
+
+// The same where they come in pieces of at most so many bytes.
+fn is_answered_in_pieces(alloc: Global, requests: &[u8], replies: &[u8], most: usize) -> bool {
+    let mut reader = Pieces {
+        left: requests,
+        most,
+        interrupts: false,
+        fails: false,
+    };
+    is_answered(alloc, &mut reader, replies)
+}
+
+fn is_answered_in_every_cutting(alloc: Global, requests: &[u8], replies: &[u8]) -> bool {
+    for most in 1..=requests.len() {
+        if !is_answered_in_pieces(alloc, requests, replies, most) {
+            return false;
+        }
+    }
+    true
+}
+
+fn is_answered_whole(alloc: Global, requests: &[u8], replies: &[u8]) -> bool {
+    let mut reader = requests;
+    is_answered(alloc, &mut reader, replies)
+}
+
+#[test]
+fn dialogues_in_every_cutting(rt: HostRuntime) {
+    let alloc = rt.alloc();
+    for (requests, replies) in DIALOGUES {
+        let is_answered = is_answered_whole(alloc, requests, replies)
+            && is_answered_in_every_cutting(alloc, requests, replies);
+        assert!(rt; is_answered, "{requests:?}");
+    }
+}
+
+// Whether a reader that fails behind so many bytes is told, and this front of the replies was written.
+fn fails_behind(alloc: Global, len: usize, replies: &[u8]) -> bool {
+    let mut reader = Pieces {
+        left: PUT_GET.get(..len).unwrap_or(PUT_GET),
+        most: 5,
+        interrupts: false,
+        fails: true,
+    };
+    let mut writer = Room::of(64);
+    let mut calls = OneValue { value: None };
+    let served = serve_connection(alloc, &mut reader, &mut writer, &mut calls);
+    matches!(served, Err(ConnectionError::Reader(_))) && writer.written() == replies
+}
+
+#[test]
+fn a_reader_that_fails(rt: HostRuntime) {
+    for len in 0..=PUT_GET.len() {
+        let answered = if len < 14 {
+            0
+        } else if len < 19 {
+            4
+        } else {
+            16
+        };
+        let replies = &PUT_GET_REPLIES[..answered];
+        assert!(rt; fails_behind(rt.alloc(), len, replies), "{len}");
+    }
+}
+
+// Whether a writer that has room for this front of the replies alone is told, and has got it.
+fn fails_with_room_for(alloc: Global, replies: &[u8]) -> bool {
+    let mut reader = PUT_GET;
+    let mut writer = Room::of(replies.len());
+    let mut calls = OneValue { value: None };
+    let served = serve_connection(alloc, &mut reader, &mut writer, &mut calls);
+    matches!(served, Err(ConnectionError::Writer(_))) && writer.written() == replies
+}
+
+#[test]
+fn a_writer_that_fails(rt: HostRuntime) {
+    for most in 0..PUT_GET_REPLIES.len() {
+        let replies = &PUT_GET_REPLIES[..most];
+        assert!(rt; fails_with_room_for(rt.alloc(), replies), "{most}");
+    }
+}
+
+/// It passes too where any one allocation is refused.
+#[test]
+fn memory_that_is_refused(rt: HostRuntime) {
+    let mut reader = PUT_GET;
+    let mut writer = Room::of(64);
+    let mut calls = OneValue { value: None };
+    let served = serve_connection(rt.alloc(), &mut reader, &mut writer, &mut calls);
+    let written = writer.written();
+    let is_allowed = match served {
+        Ok(()) => {
+            written == PUT_GET_REPLIES
+                || written == b"\x00\x02\x87\x00\x00\x02\x01\x00".as_slice()
+                || written == b"\x00\x02\x00\x00\x00\x02\x87\x00".as_slice()
+        }
+        Err(error) => matches!(error, ConnectionError::NoMemory) && written.is_empty(),
+    };
+    assert!(rt; is_allowed, "{written:?}");
+}

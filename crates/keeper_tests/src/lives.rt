@@ -1,0 +1,141 @@
+//! A checkpoint over two lives of a store.
+ghost use Rattle.std.specs.Prelude.{◌≡◌, ◌<◌, List};
+ghost use Rattle.map_types.specs.declared.commands.Command.{Command};
+ghost use Rattle.flusher.specs.Fitting.{Fits};
+
+use crate::checkpoints::{capture_one, commit_most, reads, write_times};
+use crate::stores::{advance_times, join, put_by, rejoin};
+use checkpoint_walk::{begin, seal};
+use disk_model::{Disk, Fill, MemDisk};
+use flusher::Keeper;
+use java_hash::StripeCount;
+use map_types::Refusal;
+use recovery::open_parts;
+use std::alloc::Global;
+use std::sync::Wait;
+use ticket_order::Steps;
+
+// Sweeps, commits and publishes one command.
+fn sweep_one<D: Disk, R: Wait, S: Steps>(
+    rt: &R,
+    keeper: &mut Keeper<D>,
+    steps: &mut S,
+) -> Result<u32, Refusal>
+    requires { (done : List Command) × Fits D.states D.honest (S.stripe_count steps.old) done keeper.old (S.recorded steps.old) }
+    ensures kept { (done : List Command) × Fits D.states D.honest (S.stripe_count steps.new) done keeper.new (S.recorded steps.new) }
+    ensures place { S.place steps.new ≡ S.place steps.old }
+{
+    let _count = keeper.sweep(rt, steps)?;
+    commit_most(keeper, steps, 1)
+}
+
+// Commits one command, and begins a checkpoint with its log.
+fn rotate<D: Disk, R: Wait, S: Steps>(
+    rt: &R,
+    keeper: &mut Keeper<D>,
+    steps: &mut S,
+) -> Result<(), Refusal>
+    requires { (done : List Command) × Fits D.states D.honest (S.stripe_count steps.old) done keeper.old (S.recorded steps.old) }
+    ensures place { S.place steps.new ≡ S.place steps.old }
+{
+    let _one = sweep_one(rt, keeper, steps)?;
+    begin(keeper)?;
+    advance_times(keeper, 6);
+    Ok(())
+}
+
+// The first life of a store of one stripe.
+fn rotate_once<R: Wait>(rt: &R, alloc: Global, one: StripeCount) -> Result<MemDisk, Refusal> {
+    let mut joined = join(alloc, MemDisk::new(alloc), one)?;
+    put_by(&joined.stripes, &mut joined.worker, alloc, "a", 5)?;
+    let mut steps = joined.stripes.at(&mut joined.pass);
+    rotate(rt, &mut joined.keeper, &mut steps)?;
+    Ok(joined.keeper.into_disk())
+}
+
+// Commits one command, writes a checkpoint of one stripe, whose log is there, and answers its mark.
+fn seal_one<D: Disk, R: Wait, S: Steps>(
+    rt: &R,
+    keeper: &mut Keeper<D>,
+    steps: &mut S,
+) -> Result<u64, Refusal>
+    requires { (done : List Command) × Fits D.states D.honest (S.stripe_count steps.old) done keeper.old (S.recorded steps.old) }
+    ensures place { S.place steps.new ≡ S.place steps.old }
+{
+    let _one = sweep_one(rt, keeper, steps)?;
+    begin(keeper)?;
+    write_times(keeper, 3);
+    let mark = capture_one(rt, keeper, steps, 0)?;
+    seal(keeper)?;
+    write_times(keeper, 4);
+    Ok(mark)
+}
+
+// The second life: one command more, and the checkpoint is sealed.
+fn seal_once<R: Wait>(
+    rt: &R,
+    alloc: Global,
+    disk: MemDisk,
+    one: StripeCount,
+) -> Result<(u64, MemDisk), Refusal> {
+    let mut joined = rejoin(alloc, disk, one)?;
+    put_by(&joined.stripes, &mut joined.worker, alloc, "b", 6)?;
+    let mut steps = joined.stripes.at(&mut joined.pass);
+    let mark = seal_one(rt, &mut joined.keeper, &mut steps)?;
+    Ok((mark, joined.keeper.into_disk()))
+}
+
+// How long the files are: the second checkpoint and the two logs.
+fn lengths(disk: &mut MemDisk) -> [usize; 3] {
+    let mut lengths = [0; 3];
+    for (index, len) in lengths.iter_mut().enumerate() {
+        *len = disk.len(1 + index).unwrap_or(0);
+    }
+    lengths
+}
+
+/// The log that a rotation begins behind one command.
+const SECOND_LOG: [u8; 18] = [1, 0, 0, 0, 0, 0, 0, 0, 1, 0, 0, 0, 0, 0, 0, 0, 1, 0];
+
+/// The gate and the header of the checkpoint that the second life seals.
+const SEALED_HEADER: [u8; 36] = [
+    0xA5, 1, 0, 0, 0, 0, 0, 0, 0, 1, 0, 0, 0, 0, 0, 0, 0, 1, 0, 0, 0, 0, 0, 0, 0, 2, 0, 1, 0, 0, 0,
+    0, 0, 0, 0, 0x22,
+];
+
+// Whether the file begins so.
+fn begins(disk: &mut MemDisk, file: usize, expected: &[u8; 36]) -> bool
+    requires { file < 4 }
+{
+    let mut bytes = [0; 36];
+    disk.read(file, 0, &mut bytes) == Ok(36) && &bytes == expected
+}
+
+// How many commands are opened, and how many entries.
+fn counted(alloc: Global, disk: MemDisk, stripes: StripeCount) -> Option<(u64, usize)> {
+    let Ok((_, parts, first)) = open_parts(alloc, disk, stripes) else {
+        return None;
+    };
+    let mut entries = 0usize;
+    for part in &parts {
+        entries = entries.saturating_add(part.len());
+    }
+    Some((first, entries))
+}
+
+#[test]
+fn a_checkpoint_over_two_lives(rt: HostRuntime) -> Result<(), Refusal> {
+    let alloc = rt.alloc();
+    let one = StripeCount::new(1).ok_or(Refusal::WrongPhase)?;
+    let mut disk = rotate_once(&rt, alloc, one)?;
+    assert_eq!(rt; lengths(&mut disk), [0, 62, 18]);
+    assert!(rt; reads(&mut disk, 3, &SECOND_LOG));
+    assert!(rt; disk.stop(&Fill::Old).is_ok());
+    let (mark, mut disk) = seal_once(&rt, alloc, disk, one)?;
+    assert_eq!(rt; mark, 2);
+    assert_eq!(rt; lengths(&mut disk), [70, 62, 48]);
+    assert!(rt; begins(&mut disk, 1, &SEALED_HEADER));
+    assert!(rt; disk.stop(&Fill::Old).is_ok());
+    assert_eq!(rt; counted(alloc, disk, one), Some((2, 2)));
+    Ok(())
+}

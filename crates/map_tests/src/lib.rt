@@ -1,0 +1,17 @@
+//! Tests of the map's types and functions, a stripe's part, and the words and stripes that passes share.
+#![tactic(auto)]
+
+#[cfg(test)]
+mod functions;
+#[cfg(test)]
+mod hashes;
+#[cfg(test)]
+mod parts;
+#[cfg(test)]
+mod stripes;
+#[cfg(test)]
+mod tickets;
+#[cfg(test)]
+mod types;
+#[cfg(test)]
+mod words;

@@ -1,0 +1,104 @@
+//! The kinds of values, functions and refusals, at their limits.
+use map_types::{Func, Key, Refusal, Text, Value};
+use std::alloc::Global;
+
+// The length of the key of so many bytes.
+fn key_of(alloc: Global, len: usize) -> Result<usize, Refusal> {
+    let text = "k".repeat(alloc, len)?;
+    let key = Key::new(alloc, text.as_str())?;
+    Ok(key.as_str().len())
+}
+
+#[test]
+fn keys_up_to_their_limit(rt: HostRuntime) {
+    assert_eq!(rt; key_of(rt.alloc(), 255), Ok(255));
+    assert_eq!(rt; key_of(rt.alloc(), 256), Err(Refusal::KeyTooLong));
+}
+
+fn is_before(alloc: Global, first: &str, second: &str) -> Result<bool, Refusal> {
+    Ok(Key::new(alloc, first)? < Key::new(alloc, second)?)
+}
+
+#[test]
+fn keys_in_byte_order(rt: HostRuntime) -> Result<(), Refusal> {
+    assert!(rt; is_before(rt.alloc(), "a", "aa")?);
+    let key = Key::new(rt.alloc(), "a")?;
+    assert!(rt; key == key.clone()?);
+    Ok(())
+}
+
+// The length of the text of so many bytes.
+fn text_of(alloc: Global, len: usize) -> Result<usize, Refusal> {
+    let text = "v".repeat(alloc, len)?;
+    let text = Text::new(alloc, text.as_str())?;
+    Ok(text.as_str().len())
+}
+
+fn value_of(alloc: Global, len: usize) -> Result<bool, Refusal> {
+    let text = "v".repeat(alloc, len)?;
+    let value = Value::text(alloc, text.as_str())?;
+    Ok(matches!(value, Value::Text(_)))
+}
+
+#[test]
+fn texts_up_to_their_limit(rt: HostRuntime) {
+    assert_eq!(rt; text_of(rt.alloc(), 4096), Ok(4096));
+    assert_eq!(rt; text_of(rt.alloc(), 4097), Err(Refusal::ValueTooLong));
+    assert_eq!(rt; value_of(rt.alloc(), 4096), Ok(true));
+    assert_eq!(rt; value_of(rt.alloc(), 4097), Err(Refusal::ValueTooLong));
+}
+
+#[test]
+fn texts_follow_one_another(rt: HostRuntime) -> Result<(), Refusal> {
+    let alloc = rt.alloc();
+    let tail = Text::new(alloc, "c")?;
+    let both = Text::new(alloc, "ab")?.followed_by(alloc, &tail)?;
+    assert_eq!(rt; both.as_str(), "abc");
+    Ok(())
+}
+
+#[test]
+fn values_of_kind_and_content(rt: HostRuntime) -> Result<(), Refusal> {
+    let text = Value::text(rt.alloc(), "1")?;
+    assert!(rt; Value::text(rt.alloc(), "1")?.is_same(&text));
+    assert!(rt; !Value::Int(1).is_same(&text));
+    Ok(())
+}
+
+#[test]
+fn functions_by_number(rt: HostRuntime) {
+    for number in 0..=255u8 {
+        let known = Func::of(number).map(|func| func.number());
+        assert_eq!(rt;
+            known,
+            if number >= 1 && number <= 8 {
+                Some(number)
+            } else {
+                None
+            },
+            "{number}"
+        );
+    }
+}
+
+#[test]
+fn printed_refusals(rt: HostRuntime) -> Result<(), Refusal> {
+    let alloc = rt.alloc();
+    for (refusal, number, text) in [
+        (Refusal::BadFrame, 6, "6 BadFrame"),
+        (Refusal::Busy { stripe: 3 }, 8, "8 Busy 3"),
+        (
+            Refusal::Damaged {
+                file: 2,
+                offset: 17,
+            },
+            12,
+            "12 Damaged 2 17",
+        ),
+        (Refusal::SeatsSpent, 19, "19 SeatsSpent"),
+    ] {
+        assert_eq!(rt; refusal.number(), number);
+        assert_eq!(rt; format!(in alloc; "{refusal}")?.as_str(), text);
+    }
+    Ok(())
+}

@@ -1,0 +1,10 @@
+//! Tests of the map in memory: its journal on a disk that fails, and random calls of it and of a part
+//! beside the plain program of the model.
+#![tactic(auto)]
+
+#[cfg(test)]
+mod dice;
+#[cfg(test)]
+mod journal;
+#[cfg(test)]
+mod random;

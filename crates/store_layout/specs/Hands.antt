@@ -1,0 +1,36 @@
+-- The commands in hand, by their tickets, and which of them one batch may have.
+use Rattle.std.specs.Prelude.{◌≡◌, ℕ, ◌+◌, ◌-◌, ◌<◌, ◌≤◌, ◌^◌, List, ◌++◌, length, map, min, Option, Some, None, slice_index_or}
+use Rattle.map_types.specs.declared.commands.Command.{Command}
+use Rattle.log_records.specs.Layout.{first_layout}
+use Rattle.store_layout.specs.Logs.{frame}
+
+-- The commands of consecutive tickets, from `next` on; there is none where a ticket is not in hand.
+pub record Hand : Type 0 where
+  pub next : ℕ
+  pub slots : List (Option Command)
+
+-- ticket t is in hand, with this command
+pub record Holds (hand : Hand) (t : ℕ) (command : Command) : Type 0 where
+  pub reached : hand.next ≤ t
+  pub there : slice_index_or hand.slots (t - hand.next) None ≡ Some command
+
+-- these commands are in hand, from the first place on
+abbrev pub IsRun : Hand → List Command → Type 0
+IsRun hand commands = (rest : List (Option Command)) × (hand.slots ≡ map Some commands ++ rest)
+
+-- they may be one batch, of at most so many
+pub record FitsBatch (most first : ℕ) (commands : List Command) : Type 0 where
+  pub few : length commands ≤ most
+  pub fits : first + length commands < 2 ^ 64
+  pub within : length commands ≤ 65536
+  pub short : length (frame first_layout (record { first = first; commands = commands })) ≤ 1048576
+
+-- how many commands one batch from this ticket on may have, by their number and by their tickets
+abbrev pub most_from : ℕ → ℕ → ℕ
+most_from first most = min (min most 65536) (18446744073709551615 - first)
+
+-- the longest run that may be one batch
+pub record IsLongest (most : ℕ) (hand : Hand) (commands : List Command) : Type 0 where
+  pub run : IsRun hand commands
+  pub fits : FitsBatch most hand.next commands
+  pub longest : (others : List Command) → IsRun hand others → FitsBatch most hand.next others → length others ≤ length commands

@@ -1,5 +1,0 @@
-use Rattle.stripe_locks.specs.Passes.{IsPassOf}
-use Rattle.stripe_locks.proofs.tests.greatest_of.Given as goal
-
-abbrev pub invariant-loop-held : goal.invariant-loop-held
-invariant-loop-held g l = IsPassOf l.stripes l.pass

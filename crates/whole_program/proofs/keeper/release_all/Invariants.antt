@@ -1,5 +1,0 @@
-use Rattle.stripe_locks.specs.Passes.{IsPassOf}
-use Rattle.whole_program.proofs.keeper.release_all.Given as goal
-
-abbrev pub invariant-loop-held : goal.invariant-loop-held
-invariant-loop-held l = IsPassOf l.stripes l.worker

@@ -1,0 +1,195 @@
+"""What bench/ and tests/ share: requests and replies of both protocols, and the servers' processes."""
+import contextlib
+import os
+import re
+import resource
+import select
+import shutil
+import signal
+import socket
+import struct
+import subprocess
+import sys
+import tempfile
+import time
+
+HOST = "127.0.0.1"
+PROGRAM = os.path.join(os.path.dirname(os.path.abspath(__file__)), "..", "crates", "dchm", "out", "dchm")
+REPLY_SECONDS = 30
+START_SECONDS = 60
+
+
+class Dchm:
+    """Get, Put of an Int, and Merge with SUM, as frames of a u16 length."""
+    METHODS = {"get": 1, "put": 16, "merge": 25}
+    STATUSES = {"get": b"\x01", "put": b"\x00", "merge": b"\x01"}
+    SUM = b"\x04"
+
+    @classmethod
+    def request(cls, kind, key, number=None):
+        body = bytes([cls.METHODS[kind], len(key)]) + key
+        if kind == "merge":
+            body += cls.SUM
+        if kind != "get":
+            body += b"\x01" + number.to_bytes(8, "big", signed=True)
+        return len(body).to_bytes(2, "big") + body
+
+    @staticmethod
+    def is_whole(reply):
+        return len(reply) >= 2 and len(reply) >= 2 + int.from_bytes(reply[:2], "big")
+
+    @classmethod
+    def number(cls, kind, reply):
+        """The number that the reply tells; None where it is absent."""
+        status = cls.STATUSES[kind]
+        if len(reply) == 12 and reply[:4] == b"\x00\x0a" + status + b"\x01":
+            return int.from_bytes(reply[4:], "big", signed=True)
+        if kind != "merge" and reply == b"\x00\x02" + status + b"\x00":
+            return None
+        raise ValueError(f"reply to {kind}: {reply.hex(' ')}")
+
+
+class Redis:
+    """GET, SET and INCRBY, as arrays of bulk strings."""
+    WORDS = {"get": b"GET", "put": b"SET", "merge": b"INCRBY"}
+    NUMBER = re.compile(rb":(-?\d+)\r\n")
+    BULK = re.compile(rb"\$(\d+)\r\n(-?\d+)\r\n")
+
+    @classmethod
+    def request(cls, kind, key, number=None):
+        words = [cls.WORDS[kind], key] + ([] if kind == "get" else [b"%d" % number])
+        return b"*%d\r\n" % len(words) + b"".join(b"$%d\r\n%s\r\n" % (len(word), word) for word in words)
+
+    @staticmethod
+    def is_whole(reply):
+        """A bulk string has two lines (here each is a number's), any other reply has one."""
+        lines = 2 if reply[:1] == b"$" and reply[1:2] != b"-" else 1
+        return reply[-2:] == b"\r\n" and reply.count(b"\r\n") >= lines
+
+    @classmethod
+    def number(cls, kind, reply):
+        """The number that the reply tells; None where it tells none."""
+        if kind == "merge" and (found := cls.NUMBER.fullmatch(reply)):
+            return int(found[1])
+        if kind == "get" and (found := cls.BULK.fullmatch(reply)) and int(found[1]) == len(found[2]):
+            return int(found[2])
+        if (kind, reply) in (("get", b"$-1\r\n"), ("put", b"+OK\r\n")):
+            return None
+        raise ValueError(f"reply to {kind}: {reply!r}")
+
+
+class Connection:
+    """A blocking socket that has one request under way; a reply that takes too long raises BlockingIOError."""
+
+    def __init__(self, protocol, port):
+        self.protocol = protocol
+        self.socket = socket.create_connection((HOST, port))
+        self.socket.setsockopt(socket.IPPROTO_TCP, socket.TCP_NODELAY, 1)
+        self.socket.setsockopt(socket.SOL_SOCKET, socket.SO_RCVTIMEO, struct.pack("ll", REPLY_SECONDS, 0))
+
+    def ask(self, kind, request):
+        """Sends the request, reads its whole reply, and answers the number that it tells."""
+        self.socket.sendall(request)
+        reply = b""
+        while not self.protocol.is_whole(reply):
+            more = self.socket.recv(4096)
+            if not more:
+                raise ConnectionError("the server ended the connection")
+            reply += more
+        return self.protocol.number(kind, reply)
+
+    def close(self):
+        self.socket.close()
+
+
+def free_port():
+    with socket.socket() as listener:
+        listener.bind((HOST, 0))
+        return listener.getsockname()[1]
+
+
+def end_by_signal():
+    """SIGTERM and SIGHUP end the script as an error does: what it started is stopped."""
+    for number in (signal.SIGTERM, signal.SIGHUP):
+        if signal.getsignal(number) != signal.SIG_IGN:
+            signal.signal(number, lambda got, _: sys.exit(128 + got))
+
+
+@contextlib.contextmanager
+def temporary_directory():
+    directory = tempfile.mkdtemp(prefix="dchm-bench-")
+    try:
+        yield directory
+    finally:
+        shutil.rmtree(directory, ignore_errors=True)
+
+
+@contextlib.contextmanager
+def process(words, errors, limits=()):
+    """A process that is stopped at the end; its standard error goes to a file, which is shown after an error.
+
+    `limits` are pairs of a resource and its limit. SIGXFSZ stays ignored, so that a write past a limit fails.
+    """
+    def limit():
+        for kind, most in limits:
+            resource.setrlimit(kind, (most, most))
+
+    with open(errors, "ab") as file:
+        child = subprocess.Popen(words, stdin=subprocess.DEVNULL, stdout=subprocess.PIPE, stderr=file,
+                                 preexec_fn=limit, restore_signals=False)
+    try:
+        yield child
+    except BaseException:
+        with open(errors, encoding="utf-8", errors="replace") as file:
+            print(f"{words[0]}, standard error:\n{file.read()}", file=sys.stderr, end="")
+        raise
+    finally:
+        with child.stdout:
+            child.terminate()
+            try:
+                child.wait(10)
+            except subprocess.TimeoutExpired:
+                child.kill()
+                child.wait()
+
+
+def init(program, directory):
+    os.mkdir(directory)
+    subprocess.run([program, "init", directory], check=True, stdout=subprocess.DEVNULL)
+
+
+@contextlib.contextmanager
+def dchm(program, directory, workers, words=(), limits=()):
+    """`dchm serve` once it has said that it listens: the process and its port."""
+    port, errors = free_port(), directory + ".errors"
+    line = [program, "serve", directory, "--port", str(port), "--workers", str(workers), *words]
+    with process(line, errors, limits) as child:
+        ready, _, _ = select.select([child.stdout], [], [], START_SECONDS)
+        said = child.stdout.readline() if ready else b""
+        if said != b"listening %d\n" % port:
+            raise RuntimeError(f"dchm serve said {said!r}")
+        yield child, port
+
+
+@contextlib.contextmanager
+def redis(program, directory):
+    """`redis-server`, each change synced, once it takes a connection: the process and its port."""
+    os.mkdir(directory)
+    port, errors = free_port(), directory + ".errors"
+    line = [program, "--bind", HOST, "--port", str(port), "--dir", directory, "--daemonize", "no", "--loglevel",
+            "warning", "--logfile", errors, "--appendonly", "yes", "--appendfsync", "always", "--save", ""]
+    with process(line, errors) as child:
+        end = time.monotonic() + START_SECONDS
+        while not takes_connections(port):
+            if child.poll() is not None or time.monotonic() > end:
+                raise RuntimeError("redis-server takes no connection")
+            time.sleep(0.02)
+        yield child, port
+
+
+def takes_connections(port):
+    try:
+        socket.create_connection((HOST, port), 1).close()
+        return True
+    except OSError:
+        return False
