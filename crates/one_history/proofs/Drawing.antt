@@ -12,6 +12,7 @@ use Rattle.map_model.proofs.HistoryLaws.{legal_change}
 use Rattle.ticket_order.specs.declared.record.Opening.{Opening}
 use Rattle.ticket_order.specs.declared.record.Asked.TheVariants.{Changing}
 use Rattle.ticket_order.specs.declared.record.Call.{Call}
+use Rattle.ticket_order.specs.declared.record.StepMade.{StepMade}
 use Rattle.ticket_order.specs.declared.record.StepMade.TheVariants as made
 use Rattle.ticket_order.specs.declared.record.Holding.{Holding}
 use Rattle.ticket_order.specs.declared.record.Record.{Record}
@@ -21,8 +22,8 @@ use Rattle.ticket_order.specs.StepRules.{MayDraw, Draws}
 use Rattle.one_history.specs.declared.book.Book.{Book}
 use Rattle.one_history.specs.declared.slot.Slot.{Slot}
 use Rattle.one_history.specs.declared.slot.Slot.TheVariants.{Home, HeldBy}
-use Rattle.one_history.specs.Turns.{record_of, unseen, drew}
-use Rattle.one_history.specs.OneHistory.{IsFront, IsUpTo, Holds, Knows, IsOneHistory, changes_by, stripe_in}
+use Rattle.one_history.specs.Turns.{record_of, words_of, unseen, drew}
+use Rattle.one_history.specs.OneHistory.{IsFront, IsUpTo, Holds, Knows, AreOf, IsOneHistory, changes_by, stripe_in}
 use Rattle.one_history.specs.Moves.{BookMoves}
 use Rattle.one_history.specs.Kept.{slot_of, Lies, draws_left, IsKept}
 use Rattle.one_history.proofs.Fronts.{front_refl, front_trans, front_one}
@@ -30,7 +31,7 @@ use Rattle.one_history.proofs.Legal.{calls_longer, calls_both, sections_longer}
 use Rattle.one_history.proofs.Contents.{content_drawn, content_other, own_reply}
 use Rattle.one_history.proofs.Orders.{order_push, push_change, own_more, other_more}
 use Rattle.one_history.proofs.Knowing.{up_to_more, done_same}
-use Rattle.one_history.proofs.Slots.{one_turned, same_record, other_records, holds_still, held_before, room_drawn, count_small}
+use Rattle.one_history.proofs.Slots.{holders_turned, one_turned, same_record, other_records, holds_still, held_before, room_drawn, count_small}
 use Rattle.one_history.proofs.Watching.{whole}
 
 stripe_drawn : (q : ℕ) (c : Command) (x : Option Holding) → stripe_in (drawing_at q c x) ≡ stripe_in x
@@ -53,6 +54,9 @@ module _ (n t durable : ℕ) (has_failed : Bool) (slots : List Slot) (b : Book) 
 
   abbrev w : Record
   w = drawing (record_of j b) (unseen (record_of j b) b.history) c
+
+  abbrev s : StepMade
+  s = made.Drew ((record_of j b).opening.first + length ((record_of j b).seen ++ unseen (record_of j b) b.history))
 
   abbrev h' : List Command
   h' = b.history ++ c ∷ []
@@ -170,11 +174,18 @@ module _ (n t durable : ℕ) (has_failed : Bool) (slots : List Slot) (b : Book) 
 
   one_drew : IsOneHistory (drew j c b)
   one_drew =
-      one_turned b j w h' (b.authors ++ j ∷ []) b.deeds kept.one within
+      let words : AreOf b (words_of b) = kept.one.words in
+      let counted : (words_of b).tickets ≡ b.opening.first + length b.history = words.tickets in
+      one_turned b j s w h' (b.authors ++ j ∷ []) b.deeds kept.one within
       (let was : length b.authors ≡ length b.history = kept.one.authors in omega (arith, more_by_one, length-append b.authors (j ∷ [])))
       (All-push (λ u. u < length b.passes) b.authors j kept.one.by_passes within) refl kept.one.begun
       (let was : b.deeds.durable ≤ b.opening.first + length b.history = kept.one.reached in omega (arith, more_by_one))
       knows_drawn knows_other
+      (record {
+        recorded = refl;
+        finds = ticket_is ∙ sym counted;
+        words = record { tickets = omega (arith, more_by_one); durable = words.durable; failed = words.failed };
+      })
 
   same : stripe_in w.holding ≡ stripe_in (record_of j b).holding
   same = stripe_drawn (r.opening.first + length (r.seen ++ between)) c r.holding
@@ -183,7 +194,7 @@ module _ (n t durable : ℕ) (has_failed : Bool) (slots : List Slot) (b : Book) 
   lies l (Home content) is k =
       let apart : l ≢ may.held.stripe = λ s. (let f : Home content ≡ HeldBy j = sym is ∙ (ap (λ u. slot_of u slots) s ∙ slot_here) in cc) in
       content_other b.opening b.stripes b.history b.deeds.taken l content.part.map content.outbox.items c (other_stripe l apart) k
-  lies l (HeldBy u) is k = holds_still b l j u w h' (b.authors ++ j ∷ []) b.deeds within same k
+  lies l (HeldBy u) is k = holds_still b l j u s w h' (b.authors ++ j ∷ []) b.deeds within same k
 
   pub kept_drew : IsKept n (t + 1) durable has_failed slots (drew j c b)
   kept_drew = record {
@@ -193,14 +204,15 @@ module _ (n t durable : ℕ) (has_failed : Bool) (slots : List Slot) (b : Book) 
     durable_is = kept.durable_is;
     failed_is = kept.failed_is;
     few = (let was : length b.passes ≤ 65536 = kept.few in omega (arith, length-set b.passes j w));
-    room = room_drawn b j w c (b.authors ++ j ∷ []) b.deeds within one_left refl more_by_one kept.room;
+    room = room_drawn b j s w c (b.authors ++ j ∷ []) b.deeds within one_left refl more_by_one kept.room;
     one = one_drew;
     each_slot = λ l lt. lies l (slot_of l slots) refl (kept.each_slot l lt);
-    carried = λ i l x. kept.carried i l (held_before b i j l w h' (b.authors ++ j ∷ []) b.deeds within same x);
+    carried = λ i l x. kept.carried i l (held_before b i j l s w h' (b.authors ++ j ∷ []) b.deeds within same x);
+    holders = holders_turned b j s w h' (b.authors ++ j ∷ []) b.deeds slots refl kept.holders;
   }
 
   same_now : record_of j (drew j c b) ≡ w
-  same_now = same_record b j w h' (b.authors ++ j ∷ []) b.deeds within
+  same_now = same_record b j s w h' (b.authors ++ j ∷ []) b.deeds within
 
   t_is : t ≡ r.opening.first + length (r.seen ++ between)
   t_is = kept.counted ∙ sym ticket_is
@@ -213,7 +225,7 @@ module _ (n t durable : ℕ) (has_failed : Bool) (slots : List Slot) (b : Book) 
     opening = refl;
     stripes = refl;
     passes = length-set b.passes j w;
-    others = λ l ne. other_records b j l w h' (b.authors ++ j ∷ []) b.deeds ne;
+    others = λ l ne. other_records b j l s w h' (b.authors ++ j ∷ []) b.deeds ne;
     words = record {
       command = c;
       reply = (step (part_held r.holding) c).reply;

@@ -3,7 +3,8 @@ use Rattle.std.proofs.Common.{ℕ, ◌≡◌, ◌≢◌, ◌<◌, ◌≤◌, ◌
 use Rattle.std.specs.List.{All}
 use Rattle.std.proofs.lemmas.List.{get_or-set_same, get_or-set_other}
 use Rattle.std.proofs.Math.ListN.{length-set}
-use Rattle.std.proofs.lemmas.Bool.{cases_eq, eq-eqb}
+use Rattle.std.specs.Prelude.{if◌then◌else◌}
+use Rattle.std.proofs.lemmas.Bool.{cases_eq, eq-eqb, ne_eqb}
 use Rattle.std.proofs.lemmas.List.Elements.{All-push}
 use Rattle.map_types.specs.declared.commands.Command.{Command}
 use Rattle.map_types.specs.declared.commands.Read.{Read}
@@ -17,25 +18,27 @@ use Rattle.ticket_order.specs.declared.record.Call.{Call}
 use Rattle.ticket_order.specs.declared.record.Opening.{Opening}
 use Rattle.ticket_order.specs.declared.record.Purpose.{Purpose}
 use Rattle.ticket_order.specs.declared.record.Purpose.TheVariants.{Nothing, Answer, Sweep, Capture}
+use Rattle.ticket_order.specs.declared.record.StepMade.{StepMade}
 use Rattle.ticket_order.specs.declared.record.StepMade.TheVariants as made
 use Rattle.ticket_order.specs.declared.record.Holding.{Holding}
 use Rattle.ticket_order.specs.declared.record.Record.{Record}
-use Rattle.ticket_order.specs.Records.{reach, call, giving, calls_for, answered, sections_for, captured, swept_by, outbox_for}
+use Rattle.ticket_order.specs.Records.{reach, call, stripe_held, giving, calls_for, answered, sections_for, captured, swept_by, outbox_for}
 use Rattle.ticket_order.specs.Legality.{IsContent, history_of}
 use Rattle.ticket_order.specs.StepRules.{MayGive, Suits, Gives, AllLegalCalls, AllLegalSections}
 use Rattle.one_history.specs.declared.book.Book.{Book}
 use Rattle.one_history.specs.declared.book.Deeds.{Deeds}
 use Rattle.one_history.specs.declared.slot.Slot.{Slot}
 use Rattle.one_history.specs.declared.slot.Slot.TheVariants.{Home, HeldBy}
-use Rattle.one_history.specs.Turns.{record_of, gave}
-use Rattle.one_history.specs.OneHistory.{IsUpTo, HasDone, HasSeen, Holds, Knows, IsOneHistory, HoldsStripe, AreInOrder, changes_in, stripe_in}
+use Rattle.one_history.specs.Interleaving.{Words, with_holder}
+use Rattle.one_history.specs.Turns.{record_of, words_of, gave}
+use Rattle.one_history.specs.OneHistory.{IsUpTo, HasDone, HasSeen, Holds, Knows, AreOf, IsOneHistory, HoldsStripe, AreInOrder, changes_in, stripe_in}
 use Rattle.one_history.specs.Moves.{BookMoves}
-use Rattle.one_history.specs.Kept.{slot_of, Lies, IsKept}
+use Rattle.one_history.specs.Kept.{slot_of, holder_in, Lies, IsKept}
 use Rattle.one_history.proofs.Legal.{calls_longer, calls_both, sections_longer, sections_both, read_of_section}
 use Rattle.one_history.proofs.Contents.{content_swept, content_unswept}
 use Rattle.one_history.proofs.Orders.{order_push, push_read}
 use Rattle.one_history.proofs.Knowing.{nothing_more, watches, only_keeper, done_by_none}
-use Rattle.one_history.proofs.Slots.{one_turned, same_record, other_records, other_holds, other_held, room_turned}
+use Rattle.one_history.proofs.Slots.{words_turned, one_turned, same_record, other_records, other_holds, other_held, room_turned}
 
 -- the content that goes back is that of the stripe, less what a sweep keeps
 content_back : (o : Opening) (n : ℕ) (h : List Command) (taken : List Entry) (d : Holding) (p : Purpose) → IsContent o n h taken d.stripe d.part d.outbox → IsContent o n h (taken ++ swept_by p (Some d)) d.stripe d.part (outbox_for p d)
@@ -127,6 +130,9 @@ module _ (n t durable : ℕ) (has_failed : Bool) (slots : List Slot) (b : Book) 
   abbrev w : Record
   w = giving p (record_of j b)
 
+  abbrev s : StepMade
+  s = made.Gave (stripe_held (record_of j b).holding)
+
   abbrev k' : Deeds
   k' = record b.deeds { taken = b.deeds.taken ++ swept_by p (record_of j b).holding }
 
@@ -170,6 +176,9 @@ module _ (n t durable : ℕ) (has_failed : Bool) (slots : List Slot) (b : Book) 
   slot_here : slot_of d.stripe slots ≡ HeldBy j
   slot_here = kept.carried d.stripe j (record { within = within; has = ap stripe_in may.holding })
 
+  given : stripe_held (record_of j b).holding ≡ d.stripe
+  given = ap stripe_held may.holding
+
   knows_other : (l : ℕ) → l < length b.passes → l ≢ j → Knows b.opening b.stripes b.history b.authors k' l (record_of l b)
   unfolding here
   knows_other l lt ne =
@@ -187,7 +196,14 @@ module _ (n t durable : ℕ) (has_failed : Bool) (slots : List Slot) (b : Book) 
       })
 
   one_gave : IsOneHistory (gave j p b)
-  one_gave = one_turned b j w b.history b.authors k' kept.one within kept.one.authors kept.one.by_passes refl kept.one.begun kept.one.reached knows_gave knows_other
+  one_gave =
+      let words : AreOf b (words_of b) = kept.one.words in
+      one_turned b j s w b.history b.authors k' kept.one within kept.one.authors kept.one.by_passes refl kept.one.begun kept.one.reached knows_gave knows_other
+      (record {
+        recorded = refl;
+        finds = subst (λ u. (words_of b).holders u ≡ Some j) (sym given) (kept.holders d.stripe holds_it.within ∙ ap holder_in slot_here);
+        words = record { tickets = words.tickets; durable = words.durable; failed = words.failed };
+      })
 
   pub in_slots : i < length slots
   in_slots = (let s : b.stripes ≡ n = kept.stripes_are in let l : length slots ≡ n = kept.sized in let at : may.held.stripe ≡ i = may.stripe_is in let lt : may.held.stripe < b.stripes = holds_it.within in omega arith)
@@ -215,19 +231,29 @@ module _ (n t durable : ℕ) (has_failed : Bool) (slots : List Slot) (b : Book) 
       (content_kept b.opening b.stripes b.history b.deeds.taken d p l c.part.map c.outbox.items (λ e. apart (e ∙ may.stripe_is)) holds_it.content k)
   lies l (HeldBy u) apart is k =
       let other : u ≢ j = λ e. (let has : stripe_in r.holding ≡ Some l = subst (λ y. stripe_in (record_of y b).holding ≡ Some l) e k.has in let own : Some d.stripe ≡ Some l = sym (ap stripe_in may.holding) ∙ has in let same : l ≡ d.stripe = (cc) in apart (same ∙ may.stripe_is)) in
-      other_holds b l j u w b.history b.authors k' other k
+      other_holds b l j u s w b.history b.authors k' other k
 
   carried_now : (k l : ℕ) → HoldsStripe (gave j p b) l k → slot_of k (set slots i (Home content)) ≡ HeldBy l
   carried_now k l x = elim (cases_eq l j) [
     | inl e ↦
         let has : stripe_in (record_of j (gave j p b)).holding ≡ Some k = subst (λ u. stripe_in (record_of u (gave j p b)).holding ≡ Some k) e x.has in
-        let none : None ≡ Some k = sym (ap (λ (y : Record). stripe_in y.holding) (same_record b j w b.history b.authors k' within)) ∙ has in
+        let none : None ≡ Some k = sym (ap (λ (y : Record). stripe_in y.holding) (same_record b j s w b.history b.authors k' within)) ∙ has in
         absurd (cc)
     | inr ne ↦
-        let was : slot_of k slots ≡ HeldBy l = kept.carried k l (other_held b k j l w b.history b.authors k' ne x) in
+        let was : slot_of k slots ≡ HeldBy l = kept.carried k l (other_held b k j l s w b.history b.authors k' ne x) in
         let other : k ≢ i = λ e. (let f : HeldBy j ≡ HeldBy l = sym here_was ∙ subst (λ u. slot_of u slots ≡ HeldBy l) e was in ne (cc)) in
         set_there k other ∙ was
   ]
+
+  holders_now : (k : ℕ) → k < b.stripes → (words_of (gave j p b)).holders k ≡ holder_in (slot_of k (set slots i (Home content)))
+  holders_now k ll =
+      let at : stripe_held r.holding ≡ i = given ∙ may.stripe_is in
+      let after : (words_of (gave j p b)).holders k ≡ with_holder i None (words_of b).holders k =
+      ap (λ (x : Words). x.holders k) (words_turned b j s w b.history b.authors k') ∙ ap (λ u. with_holder u None (words_of b).holders k) at in
+      elim (cases_eq k i) [
+        | inl e ↦ after ∙ (ap (λ t. if t then None else (words_of b).holders k) (eq-eqb k i e) ∙ sym (ap holder_in (ap (λ u. slot_of u (set slots i (Home content))) e ∙ set_here)))
+        | inr ne ↦ after ∙ (ap (λ t. if t then None else (words_of b).holders k) (ne_eqb k i ne) ∙ (kept.holders k ll ∙ sym (ap holder_in (set_there k ne))))
+      ]
 
   pub kept_gave : IsKept n t durable has_failed (set slots i (Home content)) (gave j p b)
   kept_gave = record {
@@ -237,17 +263,18 @@ module _ (n t durable : ℕ) (has_failed : Bool) (slots : List Slot) (b : Book) 
     durable_is = kept.durable_is;
     failed_is = kept.failed_is;
     few = (let was : length b.passes ≤ 65536 = kept.few in omega (arith, length-set b.passes j w));
-    room = room_turned b j w k' within (omega arith) kept.room;
+    room = room_turned b j s w k' within (omega arith) kept.room;
     one = one_gave;
     each_slot = λ l lt. elim (cases_eq l i) [
       | inl e ↦ subst (λ u. Lies (gave j p b) u (slot_of u (set slots i (Home content)))) (sym e) (subst (λ x. Lies (gave j p b) i x) (sym set_here) back)
       | inr ne ↦ subst (λ x. Lies (gave j p b) l x) (sym (set_there l ne)) (lies l (slot_of l slots) ne refl (kept.each_slot l lt))
     ];
     carried = carried_now;
+    holders = holders_now;
   }
 
   same_now : record_of j (gave j p b) ≡ w
-  same_now = same_record b j w b.history b.authors k' within
+  same_now = same_record b j s w b.history b.authors k' within
 
   pub gives : Gives b.stripes p (record_of j b) (record_of j (gave j p b))
   gives = record { is = same_now; calls = calls_added.legal; sections = sections_added }
@@ -257,6 +284,6 @@ module _ (n t durable : ℕ) (has_failed : Bool) (slots : List Slot) (b : Book) 
     opening = refl;
     stripes = refl;
     passes = length-set b.passes j w;
-    others = λ l ne. other_records b j l w b.history b.authors k' ne;
+    others = λ l ne. other_records b j l s w b.history b.authors k' ne;
     words = (record { history = refl; authors = refl }, record { entries = swept_by p r.holding; deeds = refl; taken = ap (λ (y : Record). y.taken) same_now });
   }

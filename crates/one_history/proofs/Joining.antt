@@ -16,6 +16,7 @@ use Rattle.one_history.specs.declared.slot.Slot.TheVariants.{Home, HeldBy}
 use Rattle.one_history.specs.Turns.{record_of, joined}
 use Rattle.one_history.specs.OneHistory.{Knows, IsOneHistory, HoldsStripe, changes_by, changes_in, stripe_in}
 use Rattle.one_history.specs.Kept.{slot_of, Lies, draws_left, HasRoom, IsKept}
+use Rattle.one_history.proofs.Interleavings.{none_more}
 
 -- a pass that comes after all authors made no change of the history
 none_by : (j q : ℕ) (authors : List ℕ) (h : List Command) → All (λ i. i < j) authors → changes_by j q authors h ≡ []
@@ -68,6 +69,9 @@ module _ (n t durable : ℕ) (has_failed : Bool) (slots : List Slot) (b : Book) 
           let e : length b.passes ≡ j = omega (arith, joined_count) in
           subst (λ i. Knows b.opening b.stripes b.history b.authors b.deeds i (record_of i (joined b))) e (subst (Knows b.opening b.stripes b.history b.authors b.deeds (length b.passes)) (sym joined_last) knows_last)
     ];
+    steps = λ j. none_more b.passes w (newcomer b.opening) j refl ∙ kept.one.steps j;
+    found = kept.one.found;
+    words = record { tickets = kept.one.words.tickets; durable = kept.one.words.durable; failed = kept.one.words.failed };
   }
 
   holds_on : (l i : ℕ) → HoldsStripe b l i → HoldsStripe (joined b) l i
@@ -105,4 +109,5 @@ module _ (n t durable : ℕ) (has_failed : Bool) (slots : List Slot) (b : Book) 
     one = one_joined;
     each_slot = λ i lt. lies i (slot_of i slots) (kept.each_slot i lt);
     carried = λ i j x. kept.carried i j (held_before j i x);
+    holders = kept.holders;
   }

@@ -3,6 +3,7 @@ pub mod Legal
 pub mod Contents
 pub mod Orders
 pub mod Knowing
+pub mod Interleavings
 pub mod Slots
 pub mod Watching
 pub mod Taking

@@ -6,7 +6,7 @@ use Rattle.std.specs.Ordering.{nat_cmp}
 use Rattle.std.specs.Cmp.Lexicographic.{slice_cmp}
 use Rattle.map_types.specs.declared.texts.Value.{Value}
 use Rattle.std.proofs.lemmas.List.{get_or-replicate, length-replicate, get_or_append_left, get_or-append_right, get_or-map, nil_from_length}
-use Rattle.std.proofs.lemmas.List.Elements.{All-nil, All-head, All-tail}
+use Rattle.std.proofs.lemmas.List.Elements.{All-nil, All-head, All-tail, All-push, All-replicate}
 use Rattle.std.proofs.lemmas.List.Folds.{sum_by-replicate}
 use Rattle.std.proofs.lemmas.List.FromFn.{get_or-map-range_with_len}
 use Rattle.std.proofs.lemmas.List.Sums.{sum_by-append}
@@ -23,10 +23,12 @@ use Rattle.one_history.specs.declared.book.Book.{Book}
 use Rattle.one_history.specs.declared.book.Deeds.{Deeds}
 use Rattle.one_history.specs.declared.slot.Slot.{Slot}
 use Rattle.one_history.specs.declared.slot.Slot.TheVariants.{Home, HeldBy}
-use Rattle.one_history.specs.Turns.{record_of, maps_of, opening_of, started, at_start}
+use Rattle.one_history.specs.Interleaving.{words_after, AreFound, steps_by}
+use Rattle.one_history.specs.Turns.{record_of, words_of, maps_of, opening_of, started, at_start}
 use Rattle.one_history.specs.OneHistory.{Knows, IsOneHistory, HoldsStripe, AreParts, changes_by, changes_in, stripe_in}
-use Rattle.one_history.specs.Kept.{slot_of, Lies, draws_left, IsKept, IsPlaced, ArePlaced, AreEmpty, no_part}
+use Rattle.one_history.specs.Kept.{slot_of, holder_in, Lies, draws_left, IsKept, IsPlaced, ArePlaced, AreEmpty, no_part}
 use Rattle.one_history.proofs.Fronts.{front_refl}
+use Rattle.one_history.proofs.Interleavings.{none_made}
 
 -- one more part at home
 pub placed_push : (parts : List PartState) (slots : List Slot) (p : PartState) (x : Slot) → ArePlaced parts slots → IsPlaced p x → ArePlaced (parts ++ p ∷ []) (slots ++ x ∷ [])
@@ -99,7 +101,14 @@ knows_keeper o stripes n = record {
   held = λ d e. absurd (let no : None ≡ Some d = e in cc);
 }
 
+-- no step was made
+none_stepped : (o : Opening) (n j : ℕ) → (get_or (replicate n (worker o (n + 1)) ++ keeper o (n + 1) ∷ []) j (newcomer o)).steps ≡ []
+none_stepped o n j =
+    let none : (v : Record) → Type 0 = λ v. v.steps ≡ [] in
+    none_made (replicate n (worker o (n + 1)) ++ keeper o (n + 1) ∷ []) (newcomer o) j refl (All-push none (replicate n (worker o (n + 1))) (keeper o (n + 1)) (All-replicate none n (worker o (n + 1)) refl) refl)
+
 one_at_start : (o : Opening) (stripes n : ℕ) → IsOneHistory (started o stripes n)
+unfolding words_after AreFound steps_by
 one_at_start o stripes n = record {
   authors = refl;
   by_passes = All-nil _;
@@ -110,7 +119,19 @@ one_at_start o stripes n = record {
     | inl e ↦ subst (λ i. Knows o stripes [] [] (record { keeper = n; taken = []; durable = o.first; failed = false }) i (record_of i (started o stripes n))) (sym e) (subst (Knows o stripes [] [] (record { keeper = n; taken = []; durable = o.first; failed = false }) n) (sym (keeper_at o stripes n)) (knows_keeper o stripes n))
     | inr ne ↦ subst (Knows o stripes [] [] (record { keeper = n; taken = []; durable = o.first; failed = false }) j) (sym (worker_at o stripes n j (omega (arith, count_at_start o stripes n)))) (knows_worker o stripes n j (record { keeper = n; taken = []; durable = o.first; failed = false }) ne)
   ];
+  steps = none_stepped o n;
+  found = tt;
+  words = record { tickets = omega arith; durable = refl; failed = refl };
 }
+
+-- no stripe is held
+held_by_none : (o : Opening) (stripes n i : ℕ) → (words_of (started o stripes n)).holders i ≡ None
+unfolding words_after
+held_by_none o stripes n i = refl
+
+placed_free : (p : PartState) (x : Slot) → IsPlaced p x → holder_in x ≡ None
+placed_free p (Home content) at = refl
+placed_free p (HeldBy j) at = absurd at
 
 -- at the start no pass holds a stripe
 none_held : (o : Opening) (stripes n i j : ℕ) → HoldsStripe (started o stripes n) j i → ⊥
@@ -150,6 +171,7 @@ kept_at_start n first workers parts slots count are placed few =
       one = one_at_start o (length parts) workers;
       each_slot = λ i lt. lies i (slot_of i slots) (omega arith) (placed.each i lt);
       carried = λ i j x. absurd (none_held o (length parts) workers i j x);
+      holders = λ i lt. held_by_none o (length parts) workers i ∙ sym (placed_free (get_or parts i no_part) (slot_of i slots) (placed.each i lt));
     }
 
 -- empty parts

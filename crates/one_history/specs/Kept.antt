@@ -1,5 +1,5 @@
 -- What ties the words and the slots to the book.
-use Rattle.std.specs.Prelude.{◌≡◌, ℕ, ◌+◌, ◌<◌, ◌≤◌, ◌⊎◌, List, [], length, Bool, slice_index_or, sum_by, if◌then◌else◌}
+use Rattle.std.specs.Prelude.{◌≡◌, ℕ, ◌+◌, ◌<◌, ◌≤◌, ◌⊎◌, List, [], length, Option, Some, None, Bool, slice_index_or, sum_by, if◌then◌else◌}
 use Rattle.std.specs.List.{All}
 use Rattle.std.specs.FinMap as finite
 use Rattle.atomic_methods.specs.PartState.{PartState}
@@ -9,6 +9,7 @@ use Rattle.ticket_order.specs.Legality.{IsContent}
 use Rattle.one_history.specs.declared.book.Book.{Book}
 use Rattle.one_history.specs.declared.slot.Slot.{Slot}
 use Rattle.one_history.specs.declared.slot.Slot.TheVariants.{Home, HeldBy}
+use Rattle.one_history.specs.Turns.{words_of}
 use Rattle.one_history.specs.OneHistory.{IsOneHistory, HoldsStripe}
 
 abbrev pub slot_of : ℕ → List Slot → Slot
@@ -18,6 +19,11 @@ slot_of i slots = slice_index_or slots i (HeldBy 0)
 abbrev pub Lies : Book → ℕ → Slot → Type 0
 Lies b i (Home content) = IsContent b.opening b.stripes b.history b.deeds.taken i content.part.map content.outbox.items
 Lies b i (HeldBy j) = HoldsStripe b j i
+
+-- the pass that holds the stripe of this place
+abbrev pub holder_in : Slot → Option ℕ
+holder_in (Home content) = None
+holder_in (HeldBy j) = Some j
 
 -- how many tickets the pass may draw before it looks again
 abbrev pub draws_left : Record → ℕ
@@ -38,6 +44,7 @@ pub record IsKept (n tickets durable : ℕ) (failed : Bool) (slots : List Slot) 
   pub one : IsOneHistory b
   pub each_slot : (i : ℕ) → i < b.stripes → Lies b i (slot_of i slots)
   pub carried : (i j : ℕ) → HoldsStripe b j i → slot_of i slots ≡ HeldBy j
+  pub holders : (i : ℕ) → i < b.stripes → (words_of b).holders i ≡ holder_in (slot_of i slots)
 
 abbrev pub no_part : PartState
 no_part = record { map = finite.empty; growth = record { stripes = 0 } }

@@ -1,3 +1,4 @@
+pub mod Interleaving
 pub mod Turns
 pub mod OneHistory
 pub mod Kept

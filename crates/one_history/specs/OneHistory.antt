@@ -15,7 +15,8 @@ use Rattle.ticket_order.specs.Legality.{history_of, IsLegalSection, IsContent}
 use Rattle.ticket_order.specs.StepRules.{AllLegalCalls, AllLegalSections}
 use Rattle.one_history.specs.declared.book.Book.{Book}
 use Rattle.one_history.specs.declared.book.Deeds.{Deeds}
-use Rattle.one_history.specs.Turns.{record_of, maps_of}
+use Rattle.one_history.specs.Interleaving.{Words, words_at, AreFound, steps_by}
+use Rattle.one_history.specs.Turns.{record_of, words_of, maps_of}
 
 -- the history begins with what was seen
 pub record IsFront (seen h : List Command) : Type 0 where
@@ -83,7 +84,14 @@ module _ (o : Opening) (n : ℕ) (h : List Command) (authors : List ℕ) (k : De
     pub done : HasDone o k v v.keeper
     pub held : (d : Holding) → v.holding ≡ Some d → Holds v d
 
--- each change of the history is a pass's, and the records of all passes agree with it
+-- the words hold what the history and the deeds say
+pub record AreOf (b : Book) (w : Words) : Type 0 where
+  pub tickets : w.tickets ≡ b.opening.first + length b.history
+  pub durable : w.durable ≡ b.deeds.durable
+  pub failed : w.failed ≡ b.deeds.failed
+
+-- Each change of the history is a pass's, and the records of all passes agree with it. The steps that they recorded are those of one interleaving, in
+-- which each step finds what the steps before it left in the words.
 pub record IsOneHistory (b : Book) : Type 0 where
   pub authors : length b.authors ≡ length b.history
   pub by_passes : All (λ j. j < length b.passes) b.authors
@@ -91,6 +99,9 @@ pub record IsOneHistory (b : Book) : Type 0 where
   pub begun : b.opening.first ≤ b.deeds.durable
   pub reached : b.deeds.durable ≤ b.opening.first + length b.history
   pub passes : (j : ℕ) → j < length b.passes → Knows b.opening b.stripes b.history b.authors b.deeds j (record_of j b)
+  pub steps : (j : ℕ) → (record_of j b).steps ≡ steps_by j b.interleaving
+  pub found : AreFound (words_at b.opening) b.interleaving
+  pub words : AreOf b (words_of b)
 
 -- the stripe that is held
 abbrev pub stripe_in : Option Holding → Option ℕ

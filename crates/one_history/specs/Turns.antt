@@ -7,16 +7,28 @@ use Rattle.atomic_methods.specs.PartState.{PartState}
 use Rattle.ticket_order.specs.declared.stripe.Stripe.{Stripe}
 use Rattle.ticket_order.specs.declared.record.Opening.{Opening}
 use Rattle.ticket_order.specs.declared.record.Purpose.{Purpose}
+use Rattle.ticket_order.specs.declared.record.StepMade.{StepMade}
+use Rattle.ticket_order.specs.declared.record.StepMade.TheVariants as made
 use Rattle.ticket_order.specs.declared.record.Record.{Record}
-use Rattle.ticket_order.specs.Records.{past, newcomer, keeper_at_start, enrolling, missing, taking, looking, drawing, giving, swept_by, publishing, seeing, failing, living}
+use Rattle.ticket_order.specs.Records.{past, stripe_held, newcomer, keeper_at_start, enrolling, missing, taking, looking, drawing, giving, swept_by, publishing, seeing, failing, living}
 use Rattle.one_history.specs.declared.book.Book.{Book}
+use Rattle.one_history.specs.declared.book.PassStep.{PassStep}
+use Rattle.one_history.specs.Interleaving.{Words, words_at, words_after}
 
 -- the record of the pass j
 abbrev pub record_of : ℕ → Book → Record
 record_of j b = slice_index_or b.passes j (newcomer b.opening)
 
-abbrev pub with_record : ℕ → Record → Book → Book
-with_record j v b = record b { passes = slice_set b.passes j v }
+abbrev pub pass_step : ℕ → StepMade → PassStep
+pass_step j s = record { pass = j; step = s }
+
+-- the step s of the pass j, whose record is v after it
+abbrev pub with_step_by : ℕ → StepMade → Record → Book → Book
+with_step_by j s v b = record b { passes = slice_set b.passes j v; interleaving = b.interleaving ++ pass_step j s ∷ [] }
+
+-- what the words hold
+abbrev pub words_of : Book → Words
+words_of b = words_after (words_at b.opening) b.interleaving
 
 -- what the pass has not seen of the history
 abbrev pub unseen : Record → List Command → List Command
@@ -30,39 +42,43 @@ unseen_to n v h = unseen v (take (n - v.opening.first) h)
 abbrev pub took : ℕ → ℕ → Stripe → Book → Book
 took j i content b =
     let v : Record = record_of j b in
-    with_record j (taking v i content.part.map content.outbox.items (unseen_to (past content.outbox.items) v b.history)) b
+    with_step_by j (made.Took i content.outbox.items) (taking v i content.part.map content.outbox.items (unseen_to (past content.outbox.items) v b.history)) b
 
 -- TAKE of a stripe that another holds
 abbrev pub found_held : ℕ → ℕ → Book → Book
-found_held j i b = with_record j (missing (record_of j b) i) b
+found_held j i b = with_step_by j (made.FoundHeld i) (missing (record_of j b) i) b
 
 -- GIVE
 abbrev pub gave : ℕ → Purpose → Book → Book
-gave j p b = record (with_record j (giving p (record_of j b)) b) { deeds = record b.deeds { taken = b.deeds.taken ++ swept_by p (record_of j b).holding } }
+gave j p b = record (with_step_by j (made.Gave (stripe_held (record_of j b).holding)) (giving p (record_of j b)) b) { deeds = record b.deeds { taken = b.deeds.taken ++ swept_by p (record_of j b).holding } }
 
 -- TICKET: the change stands at the end of the history
 abbrev pub drew : ℕ → Command → Book → Book
-drew j c b = record (with_record j (drawing (record_of j b) (unseen (record_of j b) b.history) c) b) { history = b.history ++ c ∷ []; authors = b.authors ++ j ∷ [] }
+drew j c b =
+    let v : Record = record_of j b in let between : List Command = unseen v b.history in
+    record (with_step_by j (made.Drew (v.opening.first + length (v.seen ++ between))) (drawing v between c) b) { history = b.history ++ c ∷ []; authors = b.authors ++ j ∷ [] }
 
 -- LOOK
 abbrev pub looked : ℕ → Book → Book
-looked j b = with_record j (looking (record_of j b) (unseen (record_of j b) b.history)) b
+looked j b =
+    let v : Record = record_of j b in let between : List Command = unseen v b.history in
+    with_step_by j (made.Looked (v.opening.first + length (v.seen ++ between))) (looking v between) b
 
 -- DURABLE
 abbrev pub published : ℕ → ℕ → Book → Book
-published j n b = record (with_record j (publishing (record_of j b) n) b) { deeds = record b.deeds { durable = max b.deeds.durable n } }
+published j n b = record (with_step_by j (made.Published n) (publishing (record_of j b) n) b) { deeds = record b.deeds { durable = max b.deeds.durable n } }
 
 -- SEE
 abbrev pub saw : ℕ → Book → Book
-saw j b = with_record j (seeing (record_of j b) b.deeds.durable (unseen_to b.deeds.durable (record_of j b) b.history)) b
+saw j b = with_step_by j (made.Saw b.deeds.durable) (seeing (record_of j b) b.deeds.durable (unseen_to b.deeds.durable (record_of j b) b.history)) b
 
 -- FAIL
 abbrev pub failed : ℕ → Book → Book
-failed j b = record (with_record j (failing (record_of j b)) b) { deeds = record b.deeds { failed = true } }
+failed j b = record (with_step_by j made.Failed (failing (record_of j b)) b) { deeds = record b.deeds { failed = true } }
 
 -- ALIVE
 abbrev pub found_alive : ℕ → Book → Book
-found_alive j b = with_record j (living (record_of j b) (not b.deeds.failed)) b
+found_alive j b = with_step_by j (made.FoundAlive (not b.deeds.failed)) (living (record_of j b) (not b.deeds.failed)) b
 
 -- one more pass, which has made no step
 abbrev pub joined : Book → Book
@@ -77,6 +93,7 @@ started o stripes workers = record {
   authors = [];
   passes = replicate workers (enrolling (newcomer o) (workers + 1)) ++ enrolling (keeper_at_start o) (workers + 1) ∷ [];
   deeds = record { keeper = workers; taken = []; durable = o.first; failed = false };
+  interleaving = [];
 }
 
 -- the maps of the parts

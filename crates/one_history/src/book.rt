@@ -1,7 +1,7 @@
 //! What contracts know of the words. No value of `Book` is ever made.
 use map_types::Command;
 use std::collections::LinkedList;
-use ticket_order::{Entry, Opening, Record};
+use ticket_order::{Entry, Opening, Record, StepMade};
 
 /// What the keeper's pass has done.
 pub struct Deeds {
@@ -15,6 +15,13 @@ pub struct Deeds {
     pub failed: bool,
 }
 
+/// A step of one pass.
+pub struct PassStep {
+    /// The number of the pass.
+    pub pass: usize,
+    pub step: StepMade,
+}
+
 /// The one history, with the record of each pass.
 pub struct Book {
     pub opening: Opening,
@@ -25,5 +32,7 @@ pub struct Book {
     /// The number of the pass that made each change of the history.
     pub authors: LinkedList<usize>,
     pub passes: LinkedList<Record>,
+    /// The steps of all passes, in one order in which they find what they found.
+    pub interleaving: LinkedList<PassStep>,
     pub deeds: Deeds,
 }

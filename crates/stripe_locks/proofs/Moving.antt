@@ -123,7 +123,7 @@ module _ (o : Opening) (n id : ℕ) (me : M) (i number : ℕ) (is_pass : me.0.en
         w,
         keeps,
         tt,
-        reread o s k id me.0 at is_pass (made.FoundHeld i) b' (i + 4) me.1 (moves_found_held _ _ _ _ _ k.book q.place k.kept in_it i f.holder of_book no_stripe f.slot_is) refl refl same (kept_found_held _ _ _ _ _ k.book q.place k.kept in_it i),
+        reread o s k id me.0 at is_pass (made.FoundHeld i) b' (i + 4) me.1 (moves_found_held _ _ _ _ _ k.book q.place k.kept in_it i f.holder of_book no_stripe f.slot_is) refl refl same (kept_found_held _ _ _ _ _ k.book q.place k.kept in_it i f.holder of_book no_stripe f.slot_is),
         ((λ free. absurd (ne free)), λ _. (refl, law ∙ ap (missing me.0) (sym minus))),
       )
 

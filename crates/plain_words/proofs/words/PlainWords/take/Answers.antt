@@ -16,8 +16,12 @@ invariant_of-self c =
 
 pub invariant_of-self-in-HeldBy : goal.invariant_of-self-in-HeldBy
 invariant_of-self-in-HeldBy c =
+    let lt : c.args.stripe < c.self.inside.chronicle.book.stripes = rw c.self.view_is c.requires.within in
+    let fits : c.args.stripe < length c.self.inside.slots.items = omega (arith, c.self.invariant.stripes_are, c.self.invariant.sized) in
+    let held_here : slot_of c.args.stripe c.self.inside.slots.items ≡ HeldBy c.in-HeldBy.holder =
+    get_or_default _ c.args.stripe _ _ fits ∙ (sym c.index_mut-place.ensures.value ∙ (sym c.replace.ensures.value ∙ c.in-HeldBy.is)) in
     let held = sym c.in-HeldBy.is ∙ (c.replace.ensures.value ∙ c.index_mut-place.ensures.value) in
-    rw (c.note-in-HeldBy.ensures, held, set-get_or) (kept_found_held _ _ _ _ _ _ _ c.self.invariant (rw c.self.view_is c.requires.pass) _)
+    rw (c.note-in-HeldBy.ensures, held, set-get_or) (kept_found_held _ _ _ _ _ _ _ c.self.invariant (rw c.self.view_is c.requires.pass) _ _ lt (rw c.self.view_is c.requires.empty_handed) held_here)
 
 pub returns-in-Home-clause-step : goal.returns-in-Home-clause-step
 returns-in-Home-clause-step c =

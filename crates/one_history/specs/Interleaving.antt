@@ -1,0 +1,66 @@
+-- What the words hold after steps of passes in one order, and what each step finds in them.
+use Rattle.std.specs.Prelude.{◌≡◌, ◌≢◌, ℕ, ◌+◌, ◌≤◌, ◌==◌, max, List, [], ◌∷◌, Option, Some, None, Bool, true, false, not, if◌then◌else◌}
+use Rattle.ticket_order.specs.declared.record.Opening.{Opening}
+use Rattle.ticket_order.specs.declared.record.StepMade.{StepMade}
+use Rattle.ticket_order.specs.declared.record.StepMade.TheVariants.{Took, FoundHeld, Gave, Drew, Looked, Published, Saw, Failed, FoundAlive}
+use Rattle.one_history.specs.declared.book.PassStep.{PassStep}
+
+-- the ticket count, the durable count, whether a FAIL was made, and for each stripe the pass that holds it
+pub record Words : Type 0 where
+  pub tickets : ℕ
+  pub durable : ℕ
+  pub failed : Bool
+  pub holders : ℕ → Option ℕ
+
+-- before any step
+abbrev pub words_at : Opening → Words
+words_at o = record { tickets = o.first; durable = o.first; failed = false; holders = λ i. None }
+
+-- the holders, where stripe i has this one
+abbrev pub with_holder : ℕ → Option ℕ → (ℕ → Option ℕ) → ℕ → Option ℕ
+with_holder i holder holders k = if k == i then holder else holders k
+
+-- what a step of the pass j leaves in the words
+abbrev pub moved_by : ℕ → StepMade → Words → Words
+moved_by j (Took i outbox) w = record w { holders = with_holder i (Some j) w.holders }
+moved_by j (FoundHeld i) w = w
+moved_by j (Gave i) w = record w { holders = with_holder i None w.holders }
+moved_by j (Drew t) w = record w { tickets = w.tickets + 1 }
+moved_by j (Looked q) w = w
+moved_by j (Published x) w = record w { durable = max w.durable x }
+moved_by j (Saw d) w = w
+moved_by j Failed w = record w { failed = true }
+moved_by j (FoundAlive is_alive) w = w
+
+-- another pass than j
+pub record IsAnother (j : ℕ) (holder : Option ℕ) : Type 0 where
+  pub other : ℕ
+  pub is : holder ≡ Some other
+  pub apart : other ≢ j
+
+-- what the step of the pass j finds in the words: a TAKE whether the stripe is free, the others what their word holds
+abbrev pub Finds : ℕ → StepMade → Words → Type 0
+Finds j (Took i outbox) w = w.holders i ≡ None
+Finds j (FoundHeld i) w = IsAnother j (w.holders i)
+Finds j (Gave i) w = w.holders i ≡ Some j
+Finds j (Drew t) w = t ≡ w.tickets
+Finds j (Looked q) w = q ≡ w.tickets
+Finds j (Published x) w = (x ≤ w.tickets) × (w.failed ≡ false)
+Finds j (Saw d) w = d ≡ w.durable
+Finds j Failed w = Unit {0}
+Finds j (FoundAlive is_alive) w = is_alive ≡ not w.failed
+
+-- what the words hold after these steps
+unfoldable pub words_after : Words → List PassStep → Words
+words_after w [] = w
+words_after w (s ∷ rest) = words_after (moved_by s.pass s.step w) rest
+
+-- each step finds what those before it left in the words
+unfoldable pub AreFound : Words → List PassStep → Type 0
+AreFound w [] = Unit {0}
+AreFound w (s ∷ rest) = Finds s.pass s.step w × AreFound (moved_by s.pass s.step w) rest
+
+-- the steps of the pass j
+unfoldable pub steps_by : ℕ → List PassStep → List StepMade
+steps_by j [] = []
+steps_by j (s ∷ rest) = if s.pass == j then s.step ∷ steps_by j rest else steps_by j rest
