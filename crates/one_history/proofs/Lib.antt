@@ -11,3 +11,4 @@ pub mod Drawing
 pub mod Giving
 pub mod Starts
 pub mod Joining
+pub mod Staying

@@ -1,10 +1,13 @@
 -- There is one history, of which each pass has seen a front and in which each recorded call is legal.
-use Rattle.std.specs.Prelude.{◌≡◌, ℕ, ◌+◌, ◌<◌, ◌≤◌, ◌==◌, List, [], ◌∷◌, ◌++◌, length, Option, Some, None, Bool, true, false, if◌then◌else◌}
-use Rattle.std.specs.List.{All}
+use Rattle.std.specs.Prelude.{◌≡◌, ◌≢◌, ℕ, ◌+◌, ◌<◌, ◌≤◌, ◌==◌, List, [], ◌∷◌, ◌++◌, length, Option, Some, None, Bool, true, false, if◌then◌else◌}
+use Rattle.std.specs.List.{All, Contains}
 use Rattle.map_types.specs.declared.commands.Command.{Command}
 use Rattle.map_model.specs.Parts.{parts_of, union_of}
 use Rattle.atomic_methods.specs.PartState.{PartState}
+use Rattle.ticket_order.specs.declared.stripe.Entry.{Entry}
 use Rattle.ticket_order.specs.declared.record.Opening.{Opening}
+use Rattle.ticket_order.specs.declared.record.StepMade.{StepMade}
+use Rattle.ticket_order.specs.declared.record.StepMade.TheVariants.{Took, FoundHeld, Saw, FoundAlive}
 use Rattle.ticket_order.specs.declared.record.Asked.{Asked}
 use Rattle.ticket_order.specs.declared.record.Asked.TheVariants.{Changing, Reading}
 use Rattle.ticket_order.specs.declared.record.Call.{Call}
@@ -16,7 +19,7 @@ use Rattle.ticket_order.specs.StepRules.{AllLegalCalls, AllLegalSections}
 use Rattle.one_history.specs.declared.book.Book.{Book}
 use Rattle.one_history.specs.declared.book.Deeds.{Deeds}
 use Rattle.one_history.specs.Interleaving.{Words, words_at, AreFound, steps_by}
-use Rattle.one_history.specs.Turns.{record_of, words_of, maps_of}
+use Rattle.one_history.specs.Turns.{record_of, pass_step, words_of, maps_of}
 
 -- the history begins with what was seen
 pub record IsFront (seen h : List Command) : Type 0 where
@@ -102,6 +105,21 @@ pub record IsOneHistory (b : Book) : Type 0 where
   pub steps : (j : ℕ) → (record_of j b).steps ≡ steps_by j b.interleaving
   pub found : AreFound (words_at b.opening) b.interleaving
   pub words : AreOf b (words_of b)
+
+-- another pass than j took the stripe
+pub record IsTakenByAnother (b : Book) (j i : ℕ) : Type 0 where
+  pub taker : ℕ
+  pub outbox : List Entry
+  pub apart : taker ≢ j
+  pub took : Contains b.interleaving (pass_step taker (Took i outbox))
+
+-- What stays so once the pass j made this step: a SEE found no more than the durable count, an ALIVE says no only after a FAIL, and a TAKE finds its
+-- stripe held only after another pass took it.
+abbrev pub StaysSo : Book → ℕ → StepMade → Type 0
+StaysSo b j (Saw d) = d ≤ b.deeds.durable
+StaysSo b j (FoundAlive is_alive) = is_alive ≡ false → b.deeds.failed ≡ true
+StaysSo b j (FoundHeld i) = IsTakenByAnother b j i
+StaysSo b j step = Unit {0}
 
 -- the stripe that is held
 abbrev pub stripe_in : Option Holding → Option ℕ

@@ -1,5 +1,6 @@
 -- Two fronts of one history.
 use Rattle.std.proofs.Common.{ℕ, ◌≡◌, ◌+◌, ◌++◌, List, [], ◌∷◌, true, false, get_or, set, refl, arith, sym, ◌∙◌, ap, subst, inl, inr, ⊎_elim}
+use Rattle.std.specs.List.{All}
 use Rattle.std.proofs.lemmas.List.{set-get_or}
 use mathlib.Core.Option.{some, none}
 use lib.ListN.{get_elem?}
@@ -9,9 +10,11 @@ use Rattle.map_types.specs.declared.commands.Command.{Command}
 use Rattle.ticket_order.specs.declared.record.Opening.{Opening}
 use Rattle.ticket_order.specs.declared.record.Record.{Record}
 use Rattle.ticket_order.specs.Legality.{entries_from}
-use Rattle.one_history.specs.OneHistory.{IsFront}
+use Rattle.one_history.specs.OneHistory.{IsFront, StaysSo}
+use Rattle.one_history.proofs.Slots.{hold_apart}
+use Rattle.one_history.proofs.Staying.{steps_stay}
 use Rattle.stripe_locks.specs.Rule.{IsUnseated, Sits, Kept, commands_of}
-use Rattle.stripe_locks.specs.Fronts.{AreComparable, both_fronts, no_front, compared}
+use Rattle.stripe_locks.specs.Fronts.{AreComparable, both_fronts, no_front, compared, attested}
 use Rattle.stripe_locks.proofs.Turning.{M, seated, in_book, seats_set}
 
 one_longer : (x : Command) (xs ys : List Command) → AreComparable xs ys → AreComparable (x ∷ xs) (x ∷ ys)
@@ -64,4 +67,23 @@ allows_compare o n id me no_pass s k wide at range =
       tt,
       subst (λ (vs : List Record). Kept o record { words = set s.words 0 (get_or s.words 0 0); homes = s.homes; views = vs }) (sym (set_again s.views id me.0 at)) (subst (λ (ws : List ℕ). Kept o record { words = ws; homes = s.homes; views = s.views }) (sym (set-get_or s.words 0 0)) k),
       comparable me.0.seen (commands_of me.0.taken) u.front.rest u.other_front.rest (sym u.front.is ∙ u.other_front.is),
+    )
+
+pub allows_attest : (o : Opening) (n id : ℕ) (me : M) → me.0.enrolled ≡ true → Allows (Kept o) n id me 0 (λ x. x) (attested (step n 0 0 0 none) me)
+allows_attest o n id me is_pass s k wide at range =
+    let q = seated o s k id me.0 at is_pass in let in_it = in_book o s k id me.0 at is_pass in (
+      me.0,
+      keeps,
+      tt,
+      subst (λ (vs : List Record). Kept o record { words = set s.words 0 (get_or s.words 0 0); homes = s.homes; views = vs }) (sym (set_again s.views id me.0 at)) (subst (λ (ws : List ℕ). Kept o record { words = ws; homes = s.homes; views = s.views }) (sym (set-get_or s.words 0 0)) k),
+      (refl, refl, record {
+        book = k.book;
+        place = q.place;
+        within = in_it;
+        is = q.view_is;
+        begins = sym (ap (λ (r : Record). r.opening) (sym q.view_is) ∙ (k.kept.one.passes q.place in_it).opening);
+        one = k.kept.one;
+        apart = hold_apart _ _ _ _ _ k.book k.kept;
+        stays = subst (λ (r : Record). All (StaysSo k.book q.place) r.steps) q.view_is (steps_stay k.book k.kept.one q.place);
+      }),
     )

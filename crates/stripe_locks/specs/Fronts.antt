@@ -1,5 +1,6 @@
--- What two passes have seen of the one history.
-use Rattle.std.specs.Prelude.{ℕ, ◌⊎◌, List}
+-- What passes have seen of the one history, and that their records are of one.
+use Rattle.std.specs.Prelude.{◌≡◌, ℕ, ◌<◌, ◌⊎◌, List, length}
+use Rattle.std.specs.List.{All}
 use Rattle.std.specs.FinMap as finite
 use Rattle.atomic_table.specs.Table.{Step}
 use Rattle.map_types.specs.declared.commands.Command.{Command}
@@ -7,7 +8,9 @@ use Rattle.ticket_order.specs.declared.stripe.Stripe.{Stripe}
 use Rattle.ticket_order.specs.declared.record.Record.{Record}
 use Rattle.ticket_order.specs.Records.{newcomer}
 use Rattle.ticket_order.specs.Legality.{entries_from}
-use Rattle.one_history.specs.OneHistory.{IsFront}
+use Rattle.one_history.specs.declared.book.Book.{Book}
+use Rattle.one_history.specs.Turns.{record_of}
+use Rattle.one_history.specs.OneHistory.{IsFront, IsOneHistory, HoldApart, StaysSo}
 use Rattle.stripe_locks.specs.Rule.{commands_of}
 use Rattle.stripe_locks.specs.Plays.{Sat}
 use Rattle.std.specs.Prelude.{Option}
@@ -25,3 +28,17 @@ no_front = newcomer (record { first = 0; map = finite.empty })
 
 abbrev pub compared : Step (Option Stripe) → Sat → ℕ → Sat → Type 0
 compared st m r m' = AreComparable m.0.seen (commands_of m.0.taken)
+
+-- There is one history of all passes on the words, and this is the record of one of them: what each of its steps found is what the words held then.
+pub record StandsInOneHistory (v : Record) : Type 0 where
+  pub book : Book
+  pub place : ℕ
+  pub within : place < length book.passes
+  pub is : record_of place book ≡ v
+  pub begins : book.opening ≡ v.opening
+  pub one : IsOneHistory book
+  pub apart : HoldApart book
+  pub stays : All (StaysSo book place) v.steps
+
+abbrev pub attested : Step (Option Stripe) → Sat → ℕ → Sat → Type 0
+attested st m r m' = (m'.1 ≡ m.1) × (m'.0 ≡ m.0) × StandsInOneHistory m.0

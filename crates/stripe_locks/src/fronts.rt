@@ -1,7 +1,7 @@
 //! That all passes see one history.
 ghost use Rattle.std.specs.Prelude.{◌≡◌, None};
-ghost use Rattle.stripe_locks.specs.Passes.{recorded, IsPassOf};
-ghost use Rattle.stripe_locks.specs.Fronts.{AreComparable, both_fronts, no_front, compared};
+ghost use Rattle.stripe_locks.specs.Passes.{recorded, IsPassOf, IsSamePass};
+ghost use Rattle.stripe_locks.specs.Fronts.{AreComparable, StandsInOneHistory, both_fronts, no_front, compared, attested};
 
 use crate::rule::Pass;
 use crate::stripes::{Stripes, TICKETS};
@@ -24,7 +24,27 @@ impl Play<Option<Stripe>, Record> for Compare {
     ghost then = { compared };
 }
 
+/// The record is one of the one history.
+pub struct Attest;
+
+impl Play<Option<Stripe>, Record> for Attest {
+    ghost then = { attested };
+}
+
 impl Stripes {
+    /// A law: between any two steps there is one history of all passes, and the record of this one
+    /// is in it. All steps have one order, in which each finds what those before it left in its
+    /// word: a `Busy` came of a stripe that another held then, a reply goes out at a count that was
+    /// durable then, and a refusal for failure behind a FAIL. The call is no step of the pass.
+    pub fn stands_in_one_history(&self, pass: &mut Pass)
+        requires own { IsPassOf self.now pass.old }
+        ensures stands { StandsInOneHistory (recorded pass.old) }
+        ensures unchanged { recorded pass.new ≡ recorded pass.old }
+        ensures same { IsSamePass pass.old pass.new }
+    {
+        self.table.shared.load::<Attest>(&mut pass.seat, TICKETS);
+    }
+
     /// A law: of any two passes, what one has seen of the history goes on from what the other has
     /// seen. Both are spent by it; since what a pass has seen only grows, it held of them before.
     pub fn have_seen_one_history(&self, one: Pass, other: Pass)
