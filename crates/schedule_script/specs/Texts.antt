@@ -53,7 +53,8 @@ IsEndText (ends.Refused refusal) text = Unit {0}
 abbrev pub IsOutcomeText : Outcome → Text → Type 0
 IsOutcomeText outcome.Skipped text = text ≡ codes "skipped"
 IsOutcomeText (outcome.Refused refusal) text = Unit {0}
-IsOutcomeText (outcome.Opened prefix entries) text = text ≡ codes "open " ++ (decimal prefix ++ (codes " " ++ decimal (length entries.items)))
+IsOutcomeText (outcome.NotOpened calls refusal) text = Unit {0}
+IsOutcomeText (outcome.Opened calls prefix entries) text = text ≡ codes "open " ++ (decimal prefix ++ (codes " " ++ decimal (length entries.items)))
 IsOutcomeText outcome.Started text = text ≡ codes "start"
 IsOutcomeText (outcome.Stepped made end) text = IsEndText end text
 IsOutcomeText (outcome.Staged count) text = text ≡ codes "staged " ++ decimal count

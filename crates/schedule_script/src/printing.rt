@@ -68,8 +68,12 @@ fn outcome_text(alloc: Global, outcome: &Outcome) -> Result<String, AllocError>
 {
     match outcome {
         Outcome::Skipped => String::from_str(alloc, "skipped"),
-        Outcome::Refused(refusal) => refusal_text(alloc, *refusal),
-        Outcome::Opened { prefix, entries } => {
+        Outcome::Refused(refusal) | Outcome::NotOpened { refusal, .. } => {
+            refusal_text(alloc, *refusal)
+        }
+        Outcome::Opened {
+            prefix, entries, ..
+        } => {
             let count = entries.len();
             format!(in alloc; "open {prefix} {count}")
         }

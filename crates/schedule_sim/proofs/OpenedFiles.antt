@@ -9,7 +9,7 @@ use Rattle.map_types.specs.declared.refusals.Refusal.TheVariants as refusal
 use Rattle.disk_model.specs.Files.{Files, now, synced, with_file}
 use Rattle.recovery.specs.Syncing.{Stopped, SyncsAndLooks, states_synced}
 use Rattle.schedules.specs.After.{syncs_before, synced_below}
-use Rattle.schedule_sim.specs.Opening.{FailsAt, Syncing, Looking}
+use Rattle.schedule_sim.specs.Opening.{LastFails, Syncing, Looking}
 
 -- ---- the syncs
 
@@ -81,15 +81,13 @@ all_synced states failures honest old new e other (inr s) = syncs_and_looks stat
 
 syncs_low : (n count : ℕ) → count + 1 ≡ n → n ≤ 4 → syncs_before n ≡ count
 syncs_low n count is low =
-    let some : (n == 0) ≡ false = grind (arith, nat_tests, is) in
     let below : nat_lt n 5 ≡ true = grind (arith, nat_tests, low) in
-    rw (some, below) (omega (arith, is))
+    rw below (omega (arith, is))
 
 syncs_high : (n : ℕ) → 4 < n → syncs_before n ≡ 4
 syncs_high n high =
-    let some : (n == 0) ≡ false = grind (arith, nat_tests, high) in
     let beyond : nat_lt n 5 ≡ false = grind (arith, nat_tests, high) in
-    rw (some, beyond) refl
+    rw beyond refl
 
 none_added : (added : List Files) → length added ≡ 0 → added ≡ []
 none_added [] e = refl
@@ -108,29 +106,26 @@ three_synced old new before s count lost =
     let is : new ≡ states_synced 4 old = s.states ∙ ap (λ (added : List Files). added ++ states_synced 4 old) none in
     ap now is ∙ three_by old before (sym is ∙ lost)
 
-at_least : (old new : List Files) → Synced old new → length old + 4 ≤ length new
+pub at_least : (old new : List Files) → Synced old new → length old + 4 ≤ length new
 at_least old new s = omega (arith, ap (λ (past : List Files). length past) s.states, length-append s.added (states_synced 4 old), length_synced 4 old)
 
--- the event names a call
-pub record IsNamed (old new : List Files) (fails_at : Option ℕ) : Type 0 where
-  pub n : ℕ
-  pub is : fails_at ≡ Some n
-  pub some : 0 < n
-  pub files : now new ≡ synced_below (syncs_before n) (now old)
+-- what is there after so many calls of which the last failed
+pub record HasFailed (old new : List Files) (calls : ℕ) : Type 0 where
+  pub some : 1 ≤ calls
+  pub files : now new ≡ synced_below (syncs_before calls) (now old)
 
-named_by : (old new : List Files) (fails_at : Option ℕ) → Left old new → FailsAt old new fails_at → IsNamed old new fails_at
-named_by old new fails_at (AtSync count few long files) (Syncing n before is low made lost) =
-    let which : count + 1 ≡ n = omega (arith, long, made) in
-    record { n = n; is = is; some = omega (arith, which); files = files ∙ ap (λ k. synced_below k (now old)) (sym (syncs_low n count which low)) }
-named_by old new fails_at (AtSync count few long files) (Looking n is high made) = absurd (omega (arith, few, long, made))
-named_by old new fails_at (AllSynced s) (Syncing n before is low made lost) =
-    let which : 3 + 1 ≡ n = omega (arith, at_least old new s, made, low) in
+failed_by : (old new : List Files) (calls : ℕ) → Left old new → length old + calls ≡ length new → LastFails calls new → HasFailed old new calls
+failed_by old new calls (AtSync count few long files) made last =
+    let which : count + 1 ≡ calls = omega (arith, long, made) in
+    record { some = omega (arith, which); files = files ∙ ap (λ k. synced_below k (now old)) (sym (syncs_low calls count which (omega (arith, which, few)))) }
+failed_by old new calls (AllSynced s) made (Syncing before low lost) =
+    let which : 3 + 1 ≡ calls = omega (arith, at_least old new s, made, low) in
     let four : length old + 4 ≡ length new = omega (arith, which, made) in
-    record { n = n; is = is; some = omega (arith, which); files = three_synced old new before s four lost ∙ ap (λ k. synced_below k (now old)) (sym (syncs_low n 3 which low)) }
-named_by old new fails_at (AllSynced s) (Looking n is high made) =
-    record { n = n; is = is; some = omega (arith, high); files = s.files ∙ ap (λ k. synced_below k (now old)) (sym (syncs_high n high)) }
+    record { some = omega (arith, which); files = three_synced old new before s four lost ∙ ap (λ k. synced_below k (now old)) (sym (syncs_low calls 3 which low)) }
+failed_by old new calls (AllSynced s) made (Looking high) =
+    record { some = omega (arith, high); files = s.files ∙ ap (λ k. synced_below k (now old)) (sym (syncs_high calls high)) }
 
--- An opening that failed at the call that its event names leaves the files as the world has them then.
-pub failed_leaves : {D : Type 0} (states : D → List Files) (failures : D → ℕ) (honest : D → Type 0) (old new : D) (e : Refusal) (fails_at : Option ℕ) → Stopped states failures honest 4 old new e
-    → FailsAt (states old) (states new) fails_at → IsNamed (states old) (states new) fails_at
-failed_leaves states failures honest old new e fails_at stopped at = named_by (states old) (states new) fails_at (left_by states failures honest old new e stopped) at
+-- An opening whose last call failed leaves the files as the world has them then.
+pub failed_leaves : {D : Type 0} (states : D → List Files) (failures : D → ℕ) (honest : D → Type 0) (old new : D) (e : Refusal) (calls : ℕ) → Stopped states failures honest 4 old new e
+    → length (states old) + calls ≡ length (states new) → LastFails calls (states new) → HasFailed (states old) (states new) calls
+failed_leaves states failures honest old new e calls stopped made last = failed_by (states old) (states new) calls (left_by states failures honest old new e stopped) made last

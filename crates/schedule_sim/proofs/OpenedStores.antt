@@ -1,5 +1,5 @@
 -- What an opening leaves of a store.
-use Rattle.std.proofs.Common.{◌≡◌, ◌⊎◌, inl, inr, ℕ, ◌-◌, ◌<◌, ◌≤◌, ◌&&◌, ◌==◌, nat_lt, nat_le, if◌then◌else◌, List, [], ◌∷◌, length, map, take, Bool, true, false, Option, None, Some, MatchBool, Vec, Global, refl, sym, ◌∙◌, ap, subst, arith}
+use Rattle.std.proofs.Common.{◌≡◌, ◌⊎◌, inl, inr, ℕ, ◌+◌, ◌-◌, ◌<◌, ◌≤◌, ◌&&◌, ◌==◌, nat_lt, nat_le, if◌then◌else◌, List, [], ◌∷◌, length, map, take, Bool, true, false, Option, None, Some, MatchBool, Vec, Global, refl, sym, ◌∙◌, ap, subst, arith}
 use Rattle.std.specs.FinMap as finite
 use Rattle.std.proofs.lemmas.Bool.Decides.{nat_tests}
 use Rattle.std.proofs.lemmas.List.{ext_get_or, length-take-le}
@@ -25,7 +25,7 @@ use Rattle.schedules.specs.declared.outcome.Outcome.TheVariants as outcome
 use Rattle.schedules.specs.Machine.{whole}
 use Rattle.schedules.specs.World.{World, begun_by, seen_of}
 use Rattle.schedules.specs.After.{after, after_with, synced_below, syncs_made, without_life}
-use Rattle.schedules.specs.Cases.{Finds, HappensWith, Meets, OpensFiles, entry_of, names_call, names_sync}
+use Rattle.schedules.specs.Cases.{Finds, HappensWith, Meets, OpensFiles, entry_of, names_within}
 use Rattle.schedules.specs.Fitting.{fits_with}
 use Rattle.schedules.specs.Laws.{FrontIsFound, StandingFilesOpen}
 use Rattle.schedules.specs.Sound.{IsFront}
@@ -33,10 +33,10 @@ use Rattle.schedule_sim.specs.declared.life.Life as sim
 use Rattle.schedule_sim.specs.declared.store.Store.TheVariants.{Closed, Open}
 use Rattle.schedule_sim.specs.declared.traced.Traced.{Traced}
 use Rattle.schedule_sim.specs.Living.{IsLife}
-use Rattle.schedule_sim.specs.Opening.{FailsAt}
+use Rattle.schedule_sim.specs.Opening.{LastFails}
 use Rattle.schedule_sim.specs.Storing.{DidStore, IsClosed, IsOpening}
 use Rattle.schedule_sim.specs.Tracing.{traced_honest, traced_states}
-use Rattle.schedule_sim.proofs.OpenedFiles.{IsNamed, Synced, all_synced, failed_leaves, syncs_and_looks}
+use Rattle.schedule_sim.proofs.OpenedFiles.{HasFailed, Synced, all_synced, at_least, failed_leaves, syncs_and_looks}
 use Rattle.schedule_sim.proofs.Openings.{some_stripes}
 use Rattle.schedule_sim.proofs.Stores.{nothing}
 
@@ -81,87 +81,75 @@ meets_open : (w : World) (found : Opened) (stripes : StripeCount) (fails_at : Op
 meets_open w found stripes fails_at x life opens =
     subst (λ o. MatchBool (fits_with o (event.Open stripes fails_at)) (HappensWith w o found (event.Open stripes fails_at) x) (x ≡ outcome.Skipped)) (sym life) opens
 
-after_refused : (w : World) (found : Opened) (stripes : StripeCount) (fails_at : Option ℕ) (e : Refusal) → w.life ≡ None
-    → after w found (event.Open stripes fails_at) (outcome.Refused e) ≡ without_life w (synced_below (syncs_made fails_at) w.files)
+after_refused : (w : World) (found : Opened) (stripes : StripeCount) (fails_at : Option ℕ) (calls : ℕ) (e : Refusal) → w.life ≡ None
+    → after w found (event.Open stripes fails_at) (outcome.NotOpened calls e) ≡ without_life w (synced_below (syncs_made e calls) w.files)
 unfolding after
-after_refused w found stripes fails_at e life = ap (λ o. after_with w o found (event.Open stripes fails_at) (outcome.Refused e)) life
+after_refused w found stripes fails_at calls e life = ap (λ o. after_with w o found (event.Open stripes fails_at) (outcome.NotOpened calls e)) life
 
-refused_did : StandingFilesOpen → (w : World) (least : ℕ) (stripes : StripeCount) (fails_at : Option ℕ) (e : Refusal) (old new : Traced) → IsClosed w least old
-    → now (traced_states new) ≡ synced_below (syncs_made fails_at) (now (traced_states old)) → OpensFiles w nothing fails_at (outcome.Refused e)
-    → DidStore w least (event.Open stripes fails_at) (outcome.Refused e) (Closed new)
-refused_did law w least stripes fails_at e old new closed files opens =
-    let meets = meets_open w nothing stripes fails_at (outcome.Refused e) closed.life opens in
-    let leaves = after_refused w nothing stripes fails_at e closed.life in
+refused_did : StandingFilesOpen → (w : World) (least : ℕ) (stripes : StripeCount) (fails_at : Option ℕ) (calls : ℕ) (e : Refusal) (old new : Traced) → IsClosed w least old
+    → now (traced_states new) ≡ synced_below (syncs_made e calls) (now (traced_states old)) → OpensFiles w nothing fails_at (outcome.NotOpened calls e)
+    → DidStore w least (event.Open stripes fails_at) (outcome.NotOpened calls e) (Closed new)
+refused_did law w least stripes fails_at calls e old new closed files opens =
+    let meets = meets_open w nothing stripes fails_at (outcome.NotOpened calls e) closed.life opens in
+    let leaves = after_refused w nothing stripes fails_at calls e closed.life in
     let front = seen_stands w least old closed in
-    let next : IsClosed (without_life w (synced_below (syncs_made fails_at) w.files)) least new = closed_after w least (syncs_made fails_at) old new closed files in
+    let next : IsClosed (without_life w (synced_below (syncs_made e calls) w.files)) least new = closed_after w least (syncs_made e calls) old new closed files in
     record {
       found = nothing;
       meets = meets;
       answers = tt;
       front = tt;
-      opens = law w front.count _ (event.Open stripes fails_at) (outcome.Refused e) _ front.stands (record { found = nothing; meets = meets; world = refl });
+      opens = law w front.count _ (event.Open stripes fails_at) (outcome.NotOpened calls e) _ front.stands (record { found = nothing; meets = meets; world = refl });
       next = least;
       next_is = rw leaves refl;
       stands = rw leaves next;
     }
 
-some_named : (n : ℕ) → 0 < n → nat_lt 0 n ≡ true
-some_named n some = grind (arith, nat_tests, some)
-
 -- by the call that the event names
-pub failed_did : StandingFilesOpen → (w : World) (least : ℕ) (stripes : StripeCount) (fails_at : Option ℕ) (e : Refusal) (old new : Traced) → IsClosed w least old → e ≡ refusal.Failed
-    → Stopped traced_states (λ (traced : Traced). memory_failures traced.disk) traced_honest 4 old new e → FailsAt (traced_states old) (traced_states new) fails_at
-    → DidStore w least (event.Open stripes fails_at) (outcome.Refused e) (Closed new)
-failed_did law w least stripes fails_at e old new closed failed stopped at =
-    let named : IsNamed (traced_states old) (traced_states new) fails_at =
-    failed_leaves traced_states (λ (traced : Traced). memory_failures traced.disk) traced_honest old new e fails_at stopped at in
-    let names : names_call fails_at ≡ true = ap (λ o. names_call o) named.is ∙ some_named named.n named.some in
-    refused_did law w least stripes fails_at e old new closed
-    (named.files ∙ ap (λ o. synced_below (syncs_made o) (now (traced_states old))) (sym named.is))
-    (subst (λ r. OpensFiles w nothing fails_at (outcome.Refused r)) (sym failed) names)
+pub failed_did : StandingFilesOpen → (w : World) (least : ℕ) (stripes : StripeCount) (fails_at : Option ℕ) (calls : ℕ) (e : Refusal) (old new : Traced) → IsClosed w least old → e ≡ refusal.Failed
+    → Stopped traced_states (λ (traced : Traced). memory_failures traced.disk) traced_honest 4 old new e → length (traced_states old) + calls ≡ length (traced_states new)
+    → fails_at ≡ Some calls → LastFails calls (traced_states new) → DidStore w least (event.Open stripes fails_at) (outcome.NotOpened calls e) (Closed new)
+failed_did law w least stripes fails_at calls e old new closed failed stopped made named last =
+    let left : HasFailed (traced_states old) (traced_states new) calls =
+    failed_leaves traced_states (λ (traced : Traced). memory_failures traced.disk) traced_honest old new e calls stopped made last in
+    refused_did law w least stripes fails_at calls e old new closed
+    (left.files ∙ ap (λ r. synced_below (syncs_made r calls) (now (traced_states old))) (sym failed))
+    (subst (λ r. OpensFiles w nothing fails_at (outcome.NotOpened calls r)) (sym failed) (left.some, named))
 
-syncs_by : (n : ℕ) (zero low : Bool) → zero ≡ (n == 0) → low ≡ nat_lt n 5 → (nat_lt 0 n && nat_le n 4) ≡ false → (if zero then 4 else if low then n - 1 else 4) ≡ 4
-syncs_by n true low is_zero is_low none = refl
-syncs_by n false false is_zero is_low none = refl
-syncs_by n false true is_zero is_low none =
-    let some : nat_lt 0 n ≡ true = grind (arith, nat_tests, is_zero) in
-    let within : nat_le n 4 ≡ true = grind (arith, nat_tests, is_low) in
-    let no : true ≡ false = sym (rw (some, within) refl) ∙ none in
-    absurd cc
-
-syncs_all : (fails_at : Option ℕ) → names_sync fails_at ≡ false → syncs_made fails_at ≡ 4
-syncs_all None none = refl
-syncs_all (Some n) none = syncs_by n (n == 0) (nat_lt n 5) refl refl none
+syncs_all : (e : Refusal) (calls : ℕ) → (e ≡ refusal.Failed → ⊥) → syncs_made e calls ≡ 4
+syncs_all refusal.Failed calls other = absurd (other refl)
+syncs_all e calls other = refl
 
 not_failed : (e : Refusal) (Reason : Type 0) → (e ≡ refusal.Failed → ⊥) → RefusesFor Reason e → (e ≡ refusal.NoMemory) ⊎ Reason
 not_failed e Reason other (inl is) = absurd (other is)
 not_failed e Reason other (inr reason) = reason
 
-opens_refused : (w : World) (fails_at : Option ℕ) (e : Refusal) → (e ≡ refusal.Failed → ⊥) → names_sync fails_at ≡ false → (e ≡ refusal.NoMemory) ⊎ Refuses (seen_of w.files) e
-    → OpensFiles w nothing fails_at (outcome.Refused e)
-opens_refused w fails_at refusal.Failed other none reason = absurd (other refl)
-opens_refused w fails_at e other none reason = (none, reason)
+opens_refused : (w : World) (fails_at : Option ℕ) (calls : ℕ) (e : Refusal) → (e ≡ refusal.Failed → ⊥) → 4 ≤ calls → names_within fails_at calls ≡ false → (e ≡ refusal.NoMemory) ⊎ Refuses (seen_of w.files) e
+    → OpensFiles w nothing fails_at (outcome.NotOpened calls e)
+opens_refused w fails_at calls refusal.Failed other all none reason = absurd (other refl)
+opens_refused w fails_at calls e other all none reason = (all, none, reason)
 
 -- as the files are, or for want of memory
-pub other_did : StandingFilesOpen → (w : World) (least : ℕ) (stripes : StripeCount) (fails_at : Option ℕ) (e : Refusal) (old new : Traced) → IsClosed w least old → (e ≡ refusal.Failed → ⊥)
-    → names_sync fails_at ≡ false → Stopped traced_states (λ (traced : Traced). memory_failures traced.disk) traced_honest 4 old new e
-    → RefusesFor (Refuses (contents_of traced_states old) e) e → DidStore w least (event.Open stripes fails_at) (outcome.Refused e) (Closed new)
-other_did law w least stripes fails_at e old new closed other none stopped reason =
+pub other_did : StandingFilesOpen → (w : World) (least : ℕ) (stripes : StripeCount) (fails_at : Option ℕ) (calls : ℕ) (e : Refusal) (old new : Traced) → IsClosed w least old → (e ≡ refusal.Failed → ⊥)
+    → names_within fails_at calls ≡ false → length (traced_states old) + calls ≡ length (traced_states new)
+    → Stopped traced_states (λ (traced : Traced). memory_failures traced.disk) traced_honest 4 old new e
+    → RefusesFor (Refuses (contents_of traced_states old) e) e → DidStore w least (event.Open stripes fails_at) (outcome.NotOpened calls e) (Closed new)
+other_did law w least stripes fails_at calls e old new closed other none made stopped reason =
     let synced : Synced (traced_states old) (traced_states new) = all_synced traced_states (λ (traced : Traced). memory_failures traced.disk) traced_honest old new e other stopped in
     let reason' : RefusesFor (Refuses (seen_of w.files) e) e = subst (λ files. RefusesFor (Refuses (seen_of files) e) e) (sym closed.files) reason in
-    refused_did law w least stripes fails_at e old new closed
-    (synced.files ∙ ap (λ n. synced_below n (now (traced_states old))) (sym (syncs_all fails_at none)))
-    (opens_refused w fails_at e other none (not_failed e (Refuses (seen_of w.files) e) other reason'))
+    refused_did law w least stripes fails_at calls e old new closed
+    (synced.files ∙ ap (λ n. synced_below n (now (traced_states old))) (sym (syncs_all e calls other)))
+    (opens_refused w fails_at calls e other (omega (arith, made, at_least (traced_states old) (traced_states new) synced)) none (not_failed e (Refuses (seen_of w.files) e) other reason'))
 
 -- ---- a life begins
 
 abbrev opened_world : World → StripeCount → Opened → ℕ → World
 opened_world w stripes found prefix = record { files = synced_below 4 w.files; history = take prefix w.history; life = Some (begun_by stripes.count found) }
 
-after_opened : (w : World) (found : Opened) (stripes : StripeCount) (fails_at : Option ℕ) (prefix : ℕ) (entries : Vec MapEntry Global) → w.life ≡ None
-    → after w found (event.Open stripes fails_at) (outcome.Opened prefix entries) ≡ opened_world w stripes found prefix
+after_opened : (w : World) (found : Opened) (stripes : StripeCount) (fails_at : Option ℕ) (calls prefix : ℕ) (entries : Vec MapEntry Global) → w.life ≡ None
+    → after w found (event.Open stripes fails_at) (outcome.Opened calls prefix entries) ≡ opened_world w stripes found prefix
 unfolding after
-after_opened w found stripes fails_at prefix entries life = ap (λ o. after_with w o found (event.Open stripes fails_at) (outcome.Opened prefix entries)) life
+after_opened w found stripes fails_at calls prefix entries life = ap (λ o. after_with w o found (event.Open stripes fails_at) (outcome.Opened calls prefix entries)) life
 
 durable_found : (stripes : ℕ) (found : Opened) → prefix_of found ≡ (begun_by stripes found).durable
 unfolding begun_by
@@ -172,19 +160,19 @@ pub record AreLaws : Type 0 where
   pub front : FrontIsFound
   pub parts : PartsMakeTheMap
 
-pub opened_did : AreLaws → (w : World) (least : ℕ) (stripes : StripeCount) (fails_at : Option ℕ) (old : Traced) (keeper : Keeper Traced) (parts : List PartState) (first : ℕ)
-    (entries : Vec MapEntry Global) (life : sim.Life) → IsClosed w least old → names_sync fails_at ≡ false
+pub opened_did : AreLaws → (w : World) (least : ℕ) (stripes : StripeCount) (fails_at : Option ℕ) (calls : ℕ) (old : Traced) (keeper : Keeper Traced) (parts : List PartState) (first : ℕ)
+    (entries : Vec MapEntry Global) (life : sim.Life) → IsClosed w least old → names_within fails_at calls ≡ false → length (traced_states old) + calls ≡ length (traced_states keeper.disk)
     → SyncsAndLooks traced_states (λ (traced : Traced). memory_failures traced.disk) traced_honest 4 0 old keeper.disk
     → IsOpenedAs (contents_of traced_states old) stripes.count keeper parts first → map entry_of entries.items ≡ finite.entries (union_of (maps_of parts))
     → ((w' : World) (found : Opened) → IsOpening w' stripes.count found keeper parts → IsLife w' life)
-    → DidStore w least (event.Open stripes fails_at) (outcome.Opened first entries) (Open life)
-opened_did laws w least stripes fails_at old keeper parts first entries life closed none syncs opened entries_are begins =
+    → DidStore w least (event.Open stripes fails_at) (outcome.Opened calls first entries) (Open life)
+opened_did laws w least stripes fails_at calls old keeper parts first entries life closed none made syncs opened entries_are begins =
     let found = opened.found in
     let holds = subst (λ files. Holds (seen_of files) found) (sym closed.files) opened.holds in
     let front : IsFront w least found = laws.front w least (length w.history) found holds (seen_stands w least old closed) in
     let union : union_of (maps_of parts) ≡ map_of found = ap union_of opened.divided.maps ∙ laws.parts stripes.count (map_of found) (some_stripes stripes.count stripes.allowed) in
     let finds : Finds w found first entries.items = record { holds = holds; prefix_is = opened.first_is; entries_are = entries_are ∙ ap (λ m. finite.entries m) union } in
-    let leaves = after_opened w found stripes fails_at first entries closed.life in
+    let leaves = after_opened w found stripes fails_at calls first entries closed.life in
     let synced : Synced (traced_states old) (traced_states keeper.disk) = syncs_and_looks traced_states (λ (traced : Traced). memory_failures traced.disk) traced_honest 0 old keeper.disk syncs in
     let begun : IsLife (opened_world w stripes found first) life = begins (opened_world w stripes found first) found (record {
       life = refl;
@@ -197,7 +185,8 @@ opened_did laws w least stripes fails_at old keeper parts first entries life clo
     }) in
     record {
       found = found;
-      meets = meets_open w found stripes fails_at (outcome.Opened first entries) closed.life (none, finds);
+      meets = meets_open w found stripes fails_at (outcome.Opened calls first entries) closed.life
+          (omega (arith, made, at_least (traced_states old) (traced_states keeper.disk) synced), none, finds);
       answers = tt;
       front = front;
       opens = tt;

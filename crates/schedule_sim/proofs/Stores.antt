@@ -86,38 +86,38 @@ opens_none (event.Open stripes fails_at) x is = absurd (let never : false ≡ tr
 opens_none e x is = tt
 
 -- no event of a life opens a store
-opened_inside : (w : World) (l : Life) (e : Event) (prefix : ℕ) (entries : Vec MapEntry Global) → is_of_life e ≡ true → HappensInside w l e (outcome.Opened prefix entries) → ⊥
-opened_inside w l (event.Open stripes fails_at) prefix entries is happened = happened
-opened_inside w l (event.Stop within fill) prefix entries is happened = let e : false ≡ true = is in cc
-opened_inside w l event.Leave prefix entries is happened = let e : false ≡ true = is in cc
-opened_inside w l (event.Change worker c) prefix entries is happened = cc
-opened_inside w l (event.Read worker r) prefix entries is happened = cc
-opened_inside w l (event.Release worker) prefix entries is happened = cc
-opened_inside w l (event.Step worker) prefix entries is happened = happened
-opened_inside w l event.Sweep prefix entries is happened = happened
-opened_inside w l event.KeeperStep prefix entries is happened = happened
-opened_inside w l (event.Stage most) prefix entries is happened = happened
-opened_inside w l (event.Device side.Log ending.Done) prefix entries is happened = happened
-opened_inside w l (event.Device side.Log (ending.Fails fill)) prefix entries is happened = happened
-opened_inside w l (event.Device side.Checkpoint ending.Done) prefix entries is happened = happened
-opened_inside w l (event.Device side.Checkpoint (ending.Fails fill)) prefix entries is happened = happened
-opened_inside w l event.Publish prefix entries is happened = happened
-opened_inside w l event.Fail prefix entries is happened = cc
-opened_inside w l event.Begin prefix entries is happened = happened
-opened_inside w l (event.Capture stripe) prefix entries is happened = happened
-opened_inside w l event.Seal prefix entries is happened = happened
+opened_inside : (w : World) (l : Life) (e : Event) (calls prefix : ℕ) (entries : Vec MapEntry Global) → is_of_life e ≡ true → HappensInside w l e (outcome.Opened calls prefix entries) → ⊥
+opened_inside w l (event.Open stripes fails_at) calls prefix entries is happened = happened
+opened_inside w l (event.Stop within fill) calls prefix entries is happened = let e : false ≡ true = is in cc
+opened_inside w l event.Leave calls prefix entries is happened = let e : false ≡ true = is in cc
+opened_inside w l (event.Change worker c) calls prefix entries is happened = cc
+opened_inside w l (event.Read worker r) calls prefix entries is happened = cc
+opened_inside w l (event.Release worker) calls prefix entries is happened = cc
+opened_inside w l (event.Step worker) calls prefix entries is happened = happened
+opened_inside w l event.Sweep calls prefix entries is happened = happened
+opened_inside w l event.KeeperStep calls prefix entries is happened = happened
+opened_inside w l (event.Stage most) calls prefix entries is happened = happened
+opened_inside w l (event.Device side.Log ending.Done) calls prefix entries is happened = happened
+opened_inside w l (event.Device side.Log (ending.Fails fill)) calls prefix entries is happened = happened
+opened_inside w l (event.Device side.Checkpoint ending.Done) calls prefix entries is happened = happened
+opened_inside w l (event.Device side.Checkpoint (ending.Fails fill)) calls prefix entries is happened = happened
+opened_inside w l event.Publish calls prefix entries is happened = happened
+opened_inside w l event.Fail calls prefix entries is happened = cc
+opened_inside w l event.Begin calls prefix entries is happened = happened
+opened_inside w l (event.Capture stripe) calls prefix entries is happened = happened
+opened_inside w l event.Seal calls prefix entries is happened = happened
 
-opened_by : (b : Bool) (w : World) (l : Life) (e : Event) (x : Outcome) (prefix : ℕ) (entries : Vec MapEntry Global) → is_of_life e ≡ true → x ≡ outcome.Opened prefix entries
+opened_by : (b : Bool) (w : World) (l : Life) (e : Event) (x : Outcome) (calls prefix : ℕ) (entries : Vec MapEntry Global) → is_of_life e ≡ true → x ≡ outcome.Opened calls prefix entries
     → MatchBool b (HappensInside w l e x) (x ≡ outcome.Skipped) → ⊥
-opened_by true w l e x prefix entries is was meets = opened_inside w l e prefix entries is (subst (λ y. HappensInside w l e y) was meets)
-opened_by false w l e x prefix entries is was meets = let never : outcome.Opened prefix entries ≡ outcome.Skipped = sym was ∙ meets in cc
+opened_by true w l e x calls prefix entries is was meets = opened_inside w l e calls prefix entries is (subst (λ y. HappensInside w l e y) was meets)
+opened_by false w l e x calls prefix entries is was meets = let never : outcome.Opened calls prefix entries ≡ outcome.Skipped = sym was ∙ meets in cc
 
-front_by : (w : World) (least : ℕ) (x : Outcome) → ((prefix : ℕ) (entries : Vec MapEntry Global) → x ≡ outcome.Opened prefix entries → ⊥) → OpensFront w least nothing x
-front_by w least (outcome.Opened prefix entries) none = absurd (none prefix entries refl)
+front_by : (w : World) (least : ℕ) (x : Outcome) → ((calls prefix : ℕ) (entries : Vec MapEntry Global) → x ≡ outcome.Opened calls prefix entries → ⊥) → OpensFront w least nothing x
+front_by w least (outcome.Opened calls prefix entries) none = absurd (none calls prefix entries refl)
 front_by w least x none = tt
 
 front_none : (w : World) (least : ℕ) (l : Life) (e : Event) (x : Outcome) → w.life ≡ Some l → is_of_life e ≡ true → Meets w nothing e x → OpensFront w least nothing x
-front_none w least l e x life is meets = front_by w least x (λ prefix entries was. opened_by (fits w e) w l e x prefix entries is was (subst (λ o. MatchBool (fits w e) (HappensWith w o nothing e x) (x ≡ outcome.Skipped)) life meets))
+front_none w least l e x life is meets = front_by w least x (λ calls prefix entries was. opened_by (fits w e) w l e x calls prefix entries is was (subst (λ o. MatchBool (fits w e) (HappensWith w o nothing e x) (x ≡ outcome.Skipped)) life meets))
 
 pub life_did : (w : World) (least : ℕ) (e : Event) (x : Outcome) (old life : sim.Life) → IsLife w old → is_of_life e ≡ true → Did w e x life → DidStore w least e x (Open life)
 life_did w least e x old life was is did =

@@ -1,8 +1,24 @@
--- How an opening fails at the device call that its event names.
-use Rattle.std.specs.Prelude.{◌≡◌, ℕ, ◌+◌, ◌<◌, ◌≤◌, List, ◌∷◌, length, Option, Some}
+-- How many device calls an opening made, and how the last of them failed.
+use Rattle.std.specs.Prelude.{◌≡◌, ℕ, ◌+◌, ◌<◌, ◌≤◌, List, ◌∷◌, length}
 use Rattle.disk_model.specs.Files.{Files, now}
+use Rattle.schedules.specs.declared.outcome.Outcome.{Outcome}
+use Rattle.schedules.specs.declared.outcome.Outcome.TheVariants as outcome
+use Rattle.schedule_sim.specs.declared.store.Store.{Store}
+use Rattle.schedule_sim.specs.declared.store.Store.TheVariants.{Closed, Open}
+use Rattle.schedule_sim.specs.declared.traced.Traced.{Traced}
+use Rattle.schedule_sim.specs.Tracing.{traced_states}
 
--- The call is one of the four syncs, which was the last call and left the files as they were; or one after them, and the syncs were made.
-pub data FailsAt (old new : List Files) (fails_at : Option ℕ) : Type 0 where
-  Syncing : (n : ℕ) (before : List Files) → fails_at ≡ Some n → n ≤ 4 → length old + n ≡ length new → new ≡ now before ∷ before → FailsAt old new fails_at
-  Looking : (n : ℕ) → fails_at ≡ Some n → 4 < n → length old + 4 < length new → FailsAt old new fails_at
+-- The last of so many calls is one of the four syncs, and left the files as they were; or it is one after them.
+pub data LastFails (calls : ℕ) (states : List Files) : Type 0 where
+  Syncing : (before : List Files) → calls ≤ 4 → states ≡ now before ∷ before → LastFails calls states
+  Looking : 4 < calls → LastFails calls states
+
+abbrev pub disk_of : Store → Traced
+disk_of (Closed disk) = disk
+disk_of (Open life) = life.keeper.disk
+
+-- An opening of this disk tells how many device calls it made.
+abbrev pub TellsCalls : Traced → Store × Outcome → Type 0
+TellsCalls old (store, outcome.Opened calls prefix entries) = length (traced_states old) + calls ≡ length (traced_states (disk_of store))
+TellsCalls old (store, outcome.NotOpened calls refusal) = length (traced_states old) + calls ≡ length (traced_states (disk_of store))
+TellsCalls old (store, x) = ⊥

@@ -107,7 +107,8 @@ impl Life {
         requires fits { (p : Record) → p.opening ≡ opening_of first parts.items → IsUnused first p
             → keeping.Fits traced_states traced_honest stripes.count [] keeper p }
         requires start { IsAtStart stripes first keeper }
-        ensures { IfOk result (λ life. (w : World) (found : Opened) → IsOpening w stripes.count found keeper parts.items → IsLife w life) }
+        ensures life { IfOk result (λ life. (w : World) (found : Opened) → IsOpening w stripes.count found keeper parts.items → IsLife w life) }
+        ensures kept { IfOk result (λ life. life.keeper ≡ keeper) }
     {
         laws_of_parts();
         laws_of_lives::<Traced>();

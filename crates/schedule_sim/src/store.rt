@@ -17,7 +17,7 @@ ghost use Rattle.schedules.specs.World.{World};
 ghost use Rattle.schedules.specs.After.{without_life};
 ghost use Rattle.schedules.specs.declared.event.Event.TheVariants as event;
 ghost use Rattle.schedule_sim.specs.Living.{IsLife, is_of_life};
-ghost use Rattle.schedule_sim.specs.Opening.{FailsAt};
+ghost use Rattle.schedule_sim.specs.Opening.{LastFails, TellsCalls};
 ghost use Rattle.schedule_sim.specs.Storing.{DidStore, IsClosed, IsStore, LiesOn};
 ghost use Rattle.schedule_sim.specs.Tracing.{traced_states, traced_honest};
 
@@ -56,39 +56,30 @@ fn plan_opening(disk: &mut Traced, fails_at: Option<u64>) -> Result<(), AllocErr
 }
 
 // How many calls were made since there were so many.
-fn calls_since(disk: &Traced, before: Option<u64>) -> Option<u64>
-    ensures { (old : List Files) → IfSome before (λ n. n ≡ length old) → IfSome result (λ n. length old + n ≡ length (traced_states disk.now)) }
+fn calls_since(disk: &Traced, before: Option<u64>) -> Result<u64, AllocError>
+    ensures { (old : List Files) → IfSome before (λ n. n ≡ length old) → IfOk result (λ n. length old + n ≡ length (traced_states disk.now)) }
 {
-    disk.calls()?.checked_sub(before?)
+    let now = disk.calls().ok_or(AllocError)?;
+    let before = before.ok_or(AllocError)?;
+    now.checked_sub(before).ok_or(AllocError)
 }
 
-// Whether the event names one of the four syncs.
-fn names_sync(fails_at: Option<u64>) -> bool
-    ensures { result ≡ cases.names_sync fails_at }
+// Whether the event names one of the first so many calls.
+fn names_within(fails_at: Option<u64>, calls: u64) -> bool
+    ensures { result ≡ cases.names_within fails_at calls }
 {
     match fails_at {
-        Some(number) => 0 < number && number <= 4,
+        Some(number) => 0 < number && number <= calls,
         None => false,
     }
 }
 
-// Whether so many calls were made that the opening failed at the one that its event names.
-fn failed_at(disk: &Traced, made: u64, number: u64) -> bool
-    ensures { result ≡ true → (old : List Files) → length old + made ≡ length (traced_states disk.now) → FailsAt old (traced_states disk.now) (Some number) }
+// Whether an opening that failed did so at the call that its event names, as the last of so many.
+fn is_last(disk: &Traced, fails_at: Option<u64>, calls: u64) -> bool
+    ensures { result ≡ true → (fails_at ≡ Some calls) × LastFails calls (traced_states disk.now) }
 {
-    if number <= 4 {
-        made == number && disk.has_lost_sync()
-    } else {
-        made > 4
-    }
-}
-
-// Whether an opening that failed did so at the call that its event names.
-fn is_named(disk: &Traced, before: Option<u64>, fails_at: Option<u64>) -> bool
-    ensures { result ≡ true → (old : List Files) → IfSome before (λ n. n ≡ length old) → FailsAt old (traced_states disk.now) fails_at }
-{
-    match (calls_since(disk, before), fails_at) {
-        (Some(made), Some(number)) => failed_at(disk, made, number),
+    match fails_at {
+        Some(number) if number == calls => calls > 4 || disk.has_lost_sync(),
         _ => false,
     }
 }
@@ -98,20 +89,24 @@ fn is_named(disk: &Traced, before: Option<u64>, fails_at: Option<u64>) -> bool
 fn refused(
     disk: Traced,
     refusal: Refusal,
-    before: Option<u64>,
+    calls: u64,
     fails_at: Option<u64>,
 ) -> Result<(Store, Outcome), AllocError>
-    ensures { IfOk result (λ x. (w : World) (least : ℕ) (stripes : StripesOf) (old : Traced) → IfSome before (λ n. n ≡ length (traced_states old))
+    ensures did { IfOk result (λ x. (w : World) (least : ℕ) (stripes : StripesOf) (old : Traced) → length (traced_states old) + calls ≡ length (traced_states disk)
         → Stopped traced_states (λ traced. memory_failures traced.disk) traced_honest 4 old disk refusal → RefusesFor (Refuses (contents_of traced_states old) refusal) refusal
         → IsClosed w least old → DidStore w least (event.Open stripes fails_at) x.1 x.0) }
+    ensures told { (old : Traced) → length (traced_states old) + calls ≡ length (traced_states disk) → IfOk result (λ x. TellsCalls old x) }
 {
     steps_between_lives();
     let is_told = match refusal {
-        Refusal::Failed => is_named(&disk, before, fails_at),
-        _ => !names_sync(fails_at),
+        Refusal::Failed => is_last(&disk, fails_at, calls),
+        _ => !names_within(fails_at, calls),
     };
     if is_told {
-        Ok((Store::Closed(disk), Outcome::Refused(refusal)))
+        Ok((
+            Store::Closed(disk),
+            Outcome::NotOpened { calls, refusal },
+        ))
     } else {
         Err(AllocError)
     }
@@ -124,45 +119,56 @@ fn begun(
     stripes: StripeCount,
     parts: Vec<Part>,
     first: u64,
+    calls: u64,
 ) -> Result<(Store, Outcome), AllocError>
     requires parts { ArePartsOf stripes.count parts.items }
     requires fits { (p : Record) → p.opening ≡ opening_of first parts.items → IsUnused first p
         → Fits traced_states traced_honest stripes.count [] keeper p }
     requires start { IsAtStart stripes first keeper }
-    ensures { IfOk result (λ x. (w : World) (least : ℕ) (fails_at : Option ℕ) (old : Traced) → cases.names_sync fails_at ≡ false
+    ensures did { IfOk result (λ x. (w : World) (least : ℕ) (fails_at : Option ℕ) (old : Traced) → cases.names_within fails_at calls ≡ false
+        → length (traced_states old) + calls ≡ length (traced_states keeper.disk)
         → SyncsAndLooks traced_states (λ traced. memory_failures traced.disk) traced_honest 4 0 old keeper.disk
         → IsOpenedAs (contents_of traced_states old) stripes.count keeper parts.items first
         → IsClosed w least old → DidStore w least (event.Open stripes fails_at) x.1 x.0) }
+    ensures told { (old : Traced) → length (traced_states old) + calls ≡ length (traced_states keeper.disk) → IfOk result (λ x. TellsCalls old x) }
 {
     steps_between_lives();
     laws_of_parts();
     let entries = entries_of(alloc, &parts)?;
     let life = Life::new(alloc, keeper, stripes, parts, first)?;
     let outcome = Outcome::Opened {
+        calls,
         prefix: first,
         entries,
     };
     Ok((Store::Open(life), outcome))
 }
 
-// Opens the store that is on the disk. Each opening makes the four syncs, so one that is to fail at a
-// sync never succeeds.
+// Opens the store that is on the disk. Where an opening went past the call that its event names,
+// memory was missing.
 fn opened(
     alloc: Global,
     mut disk: Traced,
     stripes: StripeCount,
     fails_at: Option<u64>,
 ) -> Result<(Store, Outcome), AllocError>
-    ensures { IfOk result (λ x. (w : World) (least : ℕ) → IsClosed w least disk → DidStore w least (event.Open stripes fails_at) x.1 x.0) }
+    ensures did { IfOk result (λ x. (w : World) (least : ℕ) → IsClosed w least disk → DidStore w least (event.Open stripes fails_at) x.1 x.0) }
+    ensures told { IfOk result (λ x. TellsCalls disk x) }
 {
     plan_opening(&mut disk, fails_at)?;
     let before = disk.calls();
     match open_parts(alloc, disk, stripes) {
-        Ok((keeper, parts, first)) if !names_sync(fails_at) => {
-            begun(alloc, keeper, stripes, parts, first)
+        Ok((keeper, parts, first)) => {
+            let calls = calls_since(&keeper.disk, before)?;
+            if names_within(fails_at, calls) {
+                return Err(AllocError);
+            }
+            begun(alloc, keeper, stripes, parts, first, calls)
         }
-        Ok(_) => Err(AllocError),
-        Err((disk, refusal)) => refused(disk, refusal, before, fails_at),
+        Err((disk, refusal)) => {
+            let calls = calls_since(&disk, before)?;
+            refused(disk, refusal, calls, fails_at)
+        }
     }
 }
 

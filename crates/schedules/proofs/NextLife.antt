@@ -24,7 +24,7 @@ use Rattle.schedules.specs.Machine.{Opens, whole}
 use Rattle.schedules.specs.World.{World, Life, begun_by, seen_of}
 use Rattle.schedules.specs.Fitting.{fits, fits_with}
 use Rattle.schedules.specs.After.{after}
-use Rattle.schedules.specs.Cases.{HappensOutside, HappensWith, Meets, OpensFiles, StopsMachine, names_call}
+use Rattle.schedules.specs.Cases.{HappensOutside, HappensWith, Meets, OpensFiles, StopsMachine}
 use Rattle.schedules.specs.Runs.{Row, Happens, IsMove, OpensWell}
 use Rattle.schedules.specs.Sound.{IsFront, IsSound, IsSoundInside, IsSoundOutside, OpensFront}
 use Rattle.schedules.proofs.RunLaws.{opens_outside, quiet_outside, stops_outside}
@@ -63,9 +63,9 @@ module _ (rows : List Row) (files : Files) (history : List Command) (released : 
   open_goes : (stripes : StripeCount) (fails_at : Option ℕ) (x : Outcome) → Meets (lifeless files history) found (event.Open stripes fails_at) x → OpensFiles (lifeless files history) found fails_at x
       → OpensFront (lifeless files history) least found x → Goes rows files history released least found (event.Open stripes fails_at) x
   unfolding after begun_by
-  open_goes stripes fails_at (outcome.Opened prefix entries) meets case front =
-      found_goes stripes fails_at prefix _ (outcome.Opened prefix entries) meets refl (λ m is. (m, case.1.entries_are ∙ ap (λ (n : Map). finite.entries n) (sym is), refl)) refl case.1.prefix_is front
-  open_goes stripes fails_at (outcome.Refused reason) meets case front = quiet (event.Open stripes fails_at) (outcome.Refused reason) _ meets refl refl refl
+  open_goes stripes fails_at (outcome.Opened calls prefix entries) meets case front =
+      found_goes stripes fails_at prefix _ (outcome.Opened calls prefix entries) meets refl (λ m is. (m, case.2.entries_are ∙ ap (λ (n : Map). finite.entries n) (sym is), refl)) refl case.2.prefix_is front
+  open_goes stripes fails_at (outcome.NotOpened calls reason) meets case front = quiet (event.Open stripes fails_at) (outcome.NotOpened calls reason) _ meets refl refl refl
   open_goes stripes fails_at x meets case front = absurd case
 
   stop_goes : (within : Option Side) (fill : Fill) (x : Outcome) → Meets (lifeless files history) found (event.Stop within fill) x → StopsMachine (lifeless files history) within x
@@ -118,23 +118,23 @@ IsOther outcome.Skipped = ⊥
 IsOther x = Unit {0}
 
 module _ (never_both : NeverBoth) (w : World) (p : ℕ) (m : Map) (stands : StandsFor (seen_of w.files) p m) where
-  wanting : (fails_at : Option ℕ) (reason : Refusal) → (reason ≡ refusal.NoMemory) ⊎ Refuses (seen_of w.files) reason → (reason ≡ refusal.NoMemory) ⊎ ((reason ≡ refusal.Failed) × (names_call fails_at ≡ true))
-  wanting fails_at reason (inl is) = inl is
-  wanting fails_at reason (inr refuses) = absurd (never_both (seen_of w.files) p m reason stands refuses)
+  wanting : (fails_at : Option ℕ) (calls : ℕ) (reason : Refusal) → (reason ≡ refusal.NoMemory) ⊎ Refuses (seen_of w.files) reason → (reason ≡ refusal.NoMemory) ⊎ ((reason ≡ refusal.Failed) × (fails_at ≡ Some calls))
+  wanting fails_at calls reason (inl is) = inl is
+  wanting fails_at calls reason (inr refuses) = absurd (never_both (seen_of w.files) p m reason stands refuses)
 
-  refused_well : (found : Opened) (fails_at : Option ℕ) (reason : Refusal) → OpensFiles w found fails_at (outcome.Refused reason) → (reason ≡ refusal.NoMemory) ⊎ ((reason ≡ refusal.Failed) × (names_call fails_at ≡ true))
-  refused_well found fails_at refusal.Failed case = inr (refl, case)
-  refused_well found fails_at reason case = wanting fails_at reason case.1
+  refused_well : (found : Opened) (fails_at : Option ℕ) (calls : ℕ) (reason : Refusal) → OpensFiles w found fails_at (outcome.NotOpened calls reason) → (reason ≡ refusal.NoMemory) ⊎ ((reason ≡ refusal.Failed) × (fails_at ≡ Some calls))
+  refused_well found fails_at calls refusal.Failed case = inr (refl, case.1)
+  refused_well found fails_at calls reason case = wanting fails_at calls reason case.2
 
-  refused_by : (life : Option Life) (found : Opened) (stripes : StripeCount) (fails_at : Option ℕ) (reason : Refusal)
-      → MatchBool (fits_with life (event.Open stripes fails_at)) (HappensWith w life found (event.Open stripes fails_at) (outcome.Refused reason)) (outcome.Refused reason ≡ outcome.Skipped)
-      → (reason ≡ refusal.NoMemory) ⊎ ((reason ≡ refusal.Failed) × (names_call fails_at ≡ true))
+  refused_by : (life : Option Life) (found : Opened) (stripes : StripeCount) (fails_at : Option ℕ) (calls : ℕ) (reason : Refusal)
+      → MatchBool (fits_with life (event.Open stripes fails_at)) (HappensWith w life found (event.Open stripes fails_at) (outcome.NotOpened calls reason)) (outcome.NotOpened calls reason ≡ outcome.Skipped)
+      → (reason ≡ refusal.NoMemory) ⊎ ((reason ≡ refusal.Failed) × (fails_at ≡ Some calls))
   unfolding IsOther
-  refused_by None found stripes fails_at reason meets = refused_well found fails_at reason meets
-  refused_by (Some l) found stripes fails_at reason meets = absurd (subst IsOther meets tt)
+  refused_by None found stripes fails_at calls reason meets = refused_well found fails_at calls reason meets
+  refused_by (Some l) found stripes fails_at calls reason meets = absurd (subst IsOther meets tt)
 
   opens_well : (found : Opened) (e : Event) (x : Outcome) → Meets w found e x → OpensWell (e, x)
-  opens_well found (event.Open stripes fails_at) (outcome.Refused reason) meets = refused_by w.life found stripes fails_at reason meets
+  opens_well found (event.Open stripes fails_at) (outcome.NotOpened calls reason) meets = refused_by w.life found stripes fails_at calls reason meets
   opens_well found e x meets = tt
 
 pub standing_files_open : NeverBoth → StandingFilesOpen

@@ -35,8 +35,9 @@ new_map whole stands one =
 
 pub new_store_opens : FirstIsWhole → FirstStands → OneStanding → NewStoreOpens
 unfolding start after
-new_store_opens whole stands one stripes entries count none = (
+new_store_opens whole stands one stripes entries calls count none most = (
   (
+    most,
     refl,
     record {
       holds = new_holds whole;

@@ -120,7 +120,7 @@ rows_again [] before = refl
 rows_again (row ∷ rows) before = rows_again rows (row ∷ before)
 
 is_unrefused : Outcome → Bool
-is_unrefused (outcome.Refused reason) = false
+is_unrefused (outcome.NotOpened calls reason) = false
 is_unrefused x = true
 
 are_unrefused : List Row → Bool
@@ -129,7 +129,7 @@ are_unrefused (row ∷ rows) = is_unrefused row.1 && are_unrefused rows
 
 opens_well : (e : Event) (x : Outcome) → is_unrefused x ≡ true → OpensWell (e, x)
 unfolding is_unrefused
-opens_well (event.Open stripes fails_at) (outcome.Refused reason) is = absurd (not_both is)
+opens_well (event.Open stripes fails_at) (outcome.NotOpened calls reason) is = absurd (not_both is)
 opens_well e x is = tt
 
 all_open_well : (rows : List Row) → are_unrefused rows ≡ true → AllByRecursion OpensWell rows
@@ -155,13 +155,13 @@ last_row = (event.Step 0, outcome.Stepped (made.Saw 1) (ends.Replied 1 (Was None
 module _ (whole : FirstIsWhole) (stands : FirstStands) (one : OneStanding) (stripes : StripeCount) (entries : Vec MapEntry) (bytes gate : Vec ℕ) (count_is : stripes.count ≡ 16) (none : entries.items ≡ [])
     (is : bytes.items ≡ frame_bytes) (opens : gate.items ≡ 165 ∷ []) where
   open_row : Row
-  open_row = (event.Open stripes None, outcome.Opened 0 entries)
+  open_row = (event.Open stripes None, outcome.Opened 20 0 entries)
 
   opened_sound : IsSound (open_row ∷ []) opened 0 []
   unfolding open_row start begun_by
   opened_sound =
-      let opening = new_store_opens whole stands one stripes entries count_is none in
-      next_life_begins [] start [] 0 (event.Open stripes None) (outcome.Opened 0 entries) opened refl sound_at_start
+      let opening = new_store_opens whole stands one stripes entries 20 count_is none (omega arith) in
+      next_life_begins [] start [] 0 (event.Open stripes None) (outcome.Opened 20 0 entries) opened refl sound_at_start
       (record { found = new_store; meets = opening.0; world = sym opening.1 })
       (record { from_least = omega arith; within = omega arith; map = new_map whole stands one })
 

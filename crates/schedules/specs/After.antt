@@ -1,6 +1,8 @@
 -- What each event, with what came of it, leaves of the world.
 use Rattle.std.specs.Prelude.{ℕ, ◌+◌, ◌-◌, max, List, [], ◌∷◌, ◌++◌, length, take, drop, slice_set, Option, Some, None, Bool, true, false, ◌==◌, nat_lt, if◌then◌else◌}
 use Rattle.map_types.specs.declared.commands.Command.{Command}
+use Rattle.map_types.specs.declared.refusals.Refusal.{Refusal}
+use Rattle.map_types.specs.declared.refusals.Refusal.TheVariants as refusal
 use Rattle.map_model.specs.Parts.{is_in_stripe, part_of}
 use Rattle.map_model.specs.Steps.{fold_of}
 use Rattle.ticket_order.specs.declared.record.Asked.TheVariants.{Changing, Reading}
@@ -238,13 +240,14 @@ checkpoint_called l (Some running) = running_called l running
 
 -- ---- an opening
 
--- of the four syncs those before the device call that is to fail
+-- of the four syncs those before the n-th device call
 abbrev pub syncs_before : ℕ → ℕ
-syncs_before n = if n == 0 then 4 else if nat_lt n 5 then n - 1 else 4
+syncs_before n = if nat_lt n 5 then n - 1 else 4
 
-abbrev pub syncs_made : Option ℕ → ℕ
-syncs_made None = 4
-syncs_made (Some n) = syncs_before n
+-- those that an opening made which was refused so: all, or those before its last call, which failed
+abbrev pub syncs_made : Refusal → ℕ → ℕ
+syncs_made refusal.Failed calls = syncs_before calls
+syncs_made reason calls = 4
 
 -- ---- each event, by its outcome
 
@@ -288,11 +291,11 @@ stopped_or fill (outcome.Stopped (Some call)) w = without_life w (after_stop fil
 stopped_or fill x w = w
 
 -- An opening that succeeds leaves the commands that it found; one that is refused leaves no life.
-abbrev pub opened_or : ℕ → Option ℕ → Opened → Outcome → World → World
-opened_or stripes fails_at found (outcome.Opened prefix entries) w =
+abbrev pub opened_or : ℕ → Opened → Outcome → World → World
+opened_or stripes found (outcome.Opened calls prefix entries) w =
     record { files = synced_below 4 w.files; history = take prefix w.history; life = Some (begun_by stripes found) }
-opened_or stripes fails_at found (outcome.Refused refusal) w = without_life w (synced_below (syncs_made fails_at) w.files)
-opened_or stripes fails_at found x w = w
+opened_or stripes found (outcome.NotOpened calls reason) w = without_life w (synced_below (syncs_made reason calls) w.files)
+opened_or stripes found x w = w
 
 abbrev pub after_inside : World → Life → Event → Outcome → World
 after_inside w l (event.Change worker c) x = started_or x w (with_life w (with_job worker (Walks (Changing c) Begins) l))
@@ -313,7 +316,7 @@ after_inside w l event.Leave x = without_life w w.files
 after_inside w l (event.Open stripes fails_at) x = w
 
 abbrev pub after_outside : World → Opened → Event → Outcome → World
-after_outside w found (event.Open stripes fails_at) x = opened_or stripes.count fails_at found x w
+after_outside w found (event.Open stripes fails_at) x = opened_or stripes.count found x w
 after_outside w found (event.Stop within fill) x = stopped_or fill x w
 after_outside w found e x = w
 

@@ -328,15 +328,10 @@ Publishes l x = ⊥
 abbrev pub entry_of : MapEntry → List ℕ × Value
 entry_of entry = (entry.key, entry.value)
 
--- the event names a device call; they are counted from 1
-abbrev pub names_call : Option ℕ → Bool
-names_call None = false
-names_call (Some n) = nat_lt 0 n
-
--- that call is one of the four syncs, which every opening makes
-abbrev pub names_sync : Option ℕ → Bool
-names_sync None = false
-names_sync (Some n) = nat_lt 0 n && nat_le n 4
+-- the event names one of the first so many device calls; they are counted from 1
+abbrev pub names_within : Option ℕ → ℕ → Bool
+names_within None calls = false
+names_within (Some n) calls = nat_lt 0 n && nat_le n calls
 
 -- what the files hold is found; the outcome has the number of its commands, and all entries of its map in rising byte order of their keys
 pub record Finds (w : World) (found : Opened) (prefix : ℕ) (entries : List MapEntry) : Type 0 where
@@ -344,12 +339,13 @@ pub record Finds (w : World) (found : Opened) (prefix : ℕ) (entries : List Map
   pub prefix_is : prefix ≡ prefix_of found
   pub entries_are : map entry_of entries ≡ finite.entries (map_of found)
 
--- An opening is refused with 9 where the device call that its event names exists: so one of the four syncs always, and one after them perhaps. Else
--- it finds what the files hold, which its syncs leave as they read; or it is refused as they are, or for want of memory.
+-- An opening is refused with 9 exactly where the device call that its event names was made, as the last. Else it makes its four syncs and never comes
+-- to that call: it finds what the files hold, which the syncs leave as they read; or it is refused as they are, or for want of memory.
 abbrev pub OpensFiles : World → Opened → Option ℕ → Outcome → Type 0
-OpensFiles w found fails_at (outcome.Opened prefix entries) = (names_sync fails_at ≡ false) × Finds w found prefix entries.items
-OpensFiles w found fails_at (outcome.Refused refusal.Failed) = names_call fails_at ≡ true
-OpensFiles w found fails_at (outcome.Refused reason) = (names_sync fails_at ≡ false) × ((reason ≡ refusal.NoMemory) ⊎ Refuses (seen_of w.files) reason)
+OpensFiles w found fails_at (outcome.Opened calls prefix entries) = (4 ≤ calls) × (names_within fails_at calls ≡ false) × Finds w found prefix entries.items
+OpensFiles w found fails_at (outcome.NotOpened calls refusal.Failed) = (1 ≤ calls) × (fails_at ≡ Some calls)
+OpensFiles w found fails_at (outcome.NotOpened calls reason) =
+    (4 ≤ calls) × (names_within fails_at calls ≡ false) × ((reason ≡ refusal.NoMemory) ⊎ Refuses (seen_of w.files) reason)
 OpensFiles w found fails_at x = ⊥
 
 -- A stop within a device call names that call.

@@ -1,5 +1,5 @@
 -- One change on a store of 16 stripes, row by row; and the phases of a commit, a rotation and a checkpoint.
-use Rattle.std.specs.Prelude.{◌≡◌, ℕ, ◌+◌, List, [], ◌∷◌, ◌++◌, map, None, Some, true, false}
+use Rattle.std.specs.Prelude.{◌≡◌, ℕ, ◌+◌, ◌≤◌, List, [], ◌∷◌, ◌++◌, map, None, Some, true, false}
 use Rattle.std.specs.FinMap as finite
 use Rattle.std.specs.Global.{Vec}
 use Rattle.std.specs.List.{flat_map, range_with_len}
@@ -52,9 +52,9 @@ abbrev pub opened : World
 opened = record { files = synced_below 4 start.files; history = []; life = Some (begun_by 16 new_store) }
 
 abbrev pub NewStoreOpens : Type 0
-NewStoreOpens = (stripes : StripeCount) (entries : Vec MapEntry) → stripes.count ≡ 16 → entries.items ≡ [] →
-    Meets start new_store (event.Open stripes None) (outcome.Opened 0 entries)
-    × (after start new_store (event.Open stripes None) (outcome.Opened 0 entries) ≡ opened)
+NewStoreOpens = (stripes : StripeCount) (entries : Vec MapEntry) (calls : ℕ) → stripes.count ≡ 16 → entries.items ≡ [] → 4 ≤ calls →
+    Meets start new_store (event.Open stripes None) (outcome.Opened calls 0 entries)
+    × (after start new_store (event.Open stripes None) (outcome.Opened calls 0 entries) ≡ opened)
 
 -- ---- a becomes 5
 
@@ -143,7 +143,7 @@ ChangeIsReleased = (bytes gate : Vec ℕ) → bytes.items ≡ frame_bytes → ga
 -- All of it, from the opening on, is a run.
 abbrev pub schedule_rows : StripeCount → Vec MapEntry → Vec ℕ → Vec ℕ → List Row
 schedule_rows stripes entries bytes gate =
-    (event.Open stripes None, outcome.Opened 0 entries) ∷ (staged_rows ++ (written_rows bytes ++ (withheld_rows ++ released_rows gate)))
+    (event.Open stripes None, outcome.Opened 20 0 entries) ∷ (staged_rows ++ (written_rows bytes ++ (withheld_rows ++ released_rows gate)))
 
 abbrev pub ScheduleIsRun : Type 0
 ScheduleIsRun = (stripes : StripeCount) (entries : Vec MapEntry) (bytes gate : Vec ℕ) → stripes.count ≡ 16 → entries.items ≡ [] → bytes.items ≡ frame_bytes

@@ -18,7 +18,7 @@ use Rattle.schedules.specs.declared.outcome.Outcome.TheVariants as outcome
 use Rattle.schedules.specs.Machine.{Machine, Move, Calls, Releases, Stops, Opens, IsAllowed, begun, moved}
 use Rattle.schedules.specs.World.{World, Life, Job, Idle, Walks, Releasing, job_of, start}
 use Rattle.schedules.specs.After.{after}
-use Rattle.schedules.specs.Cases.{Meets, entry_of, names_call}
+use Rattle.schedules.specs.Cases.{Meets, entry_of}
 
 -- ---- the move that an outcome is
 
@@ -47,7 +47,7 @@ abbrev pub IsMove : World → Event → Outcome → Option Move → Type 0
 IsMove w e (outcome.Stepped m end) move = move ≡ move_of_step w e m end
 IsMove w e (outcome.Stopped within) move = IsStop move
 IsMove w e outcome.Left move = IsStop move
-IsMove w e (outcome.Opened prefix entries) move = (m : Map) × (map entry_of entries.items ≡ finite.entries m) × (move ≡ Some (Opens prefix m))
+IsMove w e (outcome.Opened calls prefix entries) move = (m : Map) × (map entry_of entries.items ≡ finite.entries m) × (move ≡ Some (Opens prefix m))
 IsMove w e x move = move ≡ None
 
 abbrev pub MayMove : Machine → Option Move → Type 0
@@ -85,9 +85,9 @@ unfoldable pub LeadsTo : List Row → World → Machine → Type 0
 LeadsTo [] w a = (w ≡ start) × (a ≡ begun)
 LeadsTo (row ∷ rows) w a = (w0 : World) × (a0 : Machine) × LeadsTo rows w0 a0 × Happens w0 row w × Moves w0 a0 row a
 
--- An opening is refused only for want of memory, or by the device call that its event names.
+-- An opening is refused only for want of memory, or by the device call that its event names, which was its last.
 abbrev pub OpensWell : Row → Type 0
-OpensWell (event.Open stripes fails_at, outcome.Refused reason) = (reason ≡ refusal.NoMemory) ⊎ ((reason ≡ refusal.Failed) × (names_call fails_at ≡ true))
+OpensWell (event.Open stripes fails_at, outcome.NotOpened calls reason) = (reason ≡ refusal.NoMemory) ⊎ ((reason ≡ refusal.Failed) × (fails_at ≡ Some calls))
 OpensWell row = Unit {0}
 
 unfoldable pub rows_onto : List Row → List Event → List Outcome → List Row

@@ -71,5 +71,5 @@ pub record IsFront (w : World) (least : ℕ) (found : Opened) : Type 0 where
 
 -- an opening that succeeds finds a front
 abbrev pub OpensFront : World → ℕ → Opened → Outcome → Type 0
-OpensFront w least found (outcome.Opened prefix entries) = IsFront w least found
+OpensFront w least found (outcome.Opened calls prefix entries) = IsFront w least found
 OpensFront w least found x = Unit {0}

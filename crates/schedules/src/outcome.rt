@@ -69,11 +69,17 @@ pub enum Outcome {
     /// The event doesn't fit, and changed nothing.
     Skipped,
     Refused(Refusal),
-    /// The files stand for the map after so many changes; its entries, their keys in rising order of
-    /// their bytes.
+    /// The store was opened with so many device calls. Its files stand for the map after so many
+    /// changes; its entries, their keys in rising order of their bytes.
     Opened {
+        calls: u64,
         prefix: u64,
         entries: Vec<MapEntry>,
+    },
+    /// The store wasn't opened, after so many device calls.
+    NotOpened {
+        calls: u64,
+        refusal: Refusal,
     },
     /// A walk or a release was begun.
     Started,

@@ -35,7 +35,11 @@ fn opened(alloc: Global, prefix: u64) -> Result<Outcome, Refusal> {
         key: Key::new(alloc, "a")?,
         value: Value::Int(1),
     })?;
-    Ok(Outcome::Opened { prefix, entries })
+    Ok(Outcome::Opened {
+        calls: 20,
+        prefix,
+        entries,
+    })
 }
 
 /// The texts that are wanted, line by line; behind one that doesn't come stands what came.
@@ -224,7 +228,11 @@ impl Report {
     }
 
     fn add_lives(&mut self) -> Result<(), AllocError> {
-        self.single(Outcome::Refused(DAMAGED), "refused 12 Damaged 2 17")?;
+        let damaged = Outcome::NotOpened {
+            calls: 20,
+            refusal: DAMAGED,
+        };
+        self.single(damaged, "refused 12 Damaged 2 17")?;
         self.single(Outcome::Stopped { within: None }, "stop")?;
         let within = Some(DeviceCall::Sync { file: 0 });
         self.single(Outcome::Stopped { within }, "stop")?;

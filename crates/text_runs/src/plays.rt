@@ -20,11 +20,15 @@ fn end_text(alloc: Global, end: &End) -> Result<String, AllocError> {
 
 fn outcome_text(alloc: Global, outcome: &Outcome) -> Result<String, AllocError> {
     match outcome {
-        Outcome::Opened { prefix, entries } => {
+        Outcome::Opened {
+            prefix, entries, ..
+        } => {
             let count = entries.len();
             format!(in alloc; "Opened {prefix} {count}")
         }
-        Outcome::Refused(refusal) => format!(in alloc; "Refused {refusal:?}"),
+        Outcome::Refused(refusal) | Outcome::NotOpened { refusal, .. } => {
+            format!(in alloc; "Refused {refusal:?}")
+        }
         Outcome::Stepped { made, end } => {
             let end = end_text(alloc, end)?;
             format!(in alloc; "{made:?} {end}")

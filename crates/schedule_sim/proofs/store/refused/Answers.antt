@@ -7,13 +7,14 @@ denied : (b : Bool) → not b ≡ true → b ≡ false
 denied false e = refl
 denied true e = absurd (let no : false ≡ true = e in cc)
 
-pub returns-then-is_told : goal.returns-then-is_told
-returns-then-is_told c = λ w least stripes old counted stopped reason closed.
+pub returns-then-is_told-clause-did : goal.returns-then-is_told-clause-did
+returns-then-is_told-clause-did c = λ w least stripes old made stopped reason closed.
     let law = c.steps_between_lives.ensures.well in
     let told = c.if-is_told.true in
     elim c.match-refusal.branch [
-      | in-Failed f ↦ failed_did law w least stripes c.args.fails_at c.args.refusal old c.args.disk closed f.in-Failed.is stopped
-          (f.is_named-is_told.ensures (sym f.is_told-is ∙ told) _ counted)
-      | in_default d ↦ other_did law w least stripes c.args.fails_at c.args.refusal old c.args.disk closed d.in_default.not-Failed
-          (sym d.names_sync.ensures ∙ denied d.names_sync.result (sym d.is_told-is ∙ told)) stopped reason
+      | in-Failed f ↦
+          let last = f.is_last-is_told.ensures (sym f.is_told-is ∙ told) in
+          failed_did law w least stripes c.args.fails_at c.args.calls c.args.refusal old c.args.disk closed f.in-Failed.is stopped made last.0 last.1
+      | in_default d ↦ other_did law w least stripes c.args.fails_at c.args.calls c.args.refusal old c.args.disk closed d.in_default.not-Failed
+          (sym d.names_within.ensures ∙ denied d.names_within.result (sym d.is_told-is ∙ told)) made stopped reason
     ]
