@@ -16,3 +16,4 @@ pub mod Advancing
 pub mod Trying
 pub mod Seeing
 pub mod Beside
+pub mod Counting

@@ -12,6 +12,8 @@ use Rattle.store_layout.specs.declared.log_phase.Phase.TheVariants.{Staged, Open
 use Rattle.flusher.specs.declared.sweeper.Sweeper.{Sweeper}
 use Rattle.flusher.specs.declared.sweeper.Sweep.{Sweep}
 use Rattle.ticket_order.specs.declared.record.Record.{Record}
+use Rattle.ticket_order.specs.declared.record.StepMade.{StepMade}
+use Rattle.ticket_order.specs.declared.record.StepMade.TheVariants.{Looked}
 use Rattle.ticket_order.specs.Calls.{SweepsStripe}
 use Rattle.store_layout.specs.Hands.{Hand, IsLongest}
 use Rattle.flusher.specs.Gathering.{HasSweptBelow, Collects}
@@ -64,6 +66,23 @@ pub record StaysAt (n : ℕ) (sweeper : Sweeper) (p : Record) : Type 0 where
   pub sweep : Sweep
   pub sweep_is : sweeper.sweep ≡ Some sweep
   pub below : HasSweptBelow n sweep.count sweep.stripe p
+
+-- what the LOOKs among these steps found, in order
+abbrev pub looks_of : List StepMade → List ℕ
+looks_of [] = []
+looks_of (Looked count ∷ made) = count ∷ looks_of made
+looks_of (other ∷ made) = looks_of made
+
+-- These are steps of a sweep of this count: where it was begun before them there is no LOOK, else there is one, which found the count.
+abbrev pub AreOfSweep : Option Sweep → ℕ → List StepMade → Type 0
+AreOfSweep (Some begun) count made = (count ≡ begun.count) × (looks_of made ≡ [])
+AreOfSweep None count made = looks_of made ≡ count ∷ []
+
+-- the steps that the pass's record gained are of the sweep that was begun, or of a whole one
+pub record MakesSweep (begun : Option Sweep) (count : ℕ) (p w : Record) : Type 0 where
+  pub made : List StepMade
+  pub steps : w.steps ≡ p.steps ++ made
+  pub sweep : AreOfSweep begun count made
 
 -- TAKE and GIVE: the stripe's outbox is in hand besides
 pub record SweepsOnce (n i : ℕ) (old new : Hand) (p w : Record) : Type 0 where

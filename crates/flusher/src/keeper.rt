@@ -1,5 +1,5 @@
 //! The keeper of one store: its disk, its logs, and the entries in hand.
-ghost use Rattle.std.specs.Prelude.{◌≡◌, ◌≢◌, ◌⊎◌, ◌↔◌, ◌||◌, ◌+◌, ◌<◌, ◌≤◌, ◌^◌, ℕ, List, Some, None, is_some, [], ◌∷◌, ◌++◌, length, true, false, Result, Ok, IfOk, IfErr, OnOk, OnErr};
+ghost use Rattle.std.specs.Prelude.{◌≡◌, ◌≢◌, ◌⊎◌, ◌↔◌, ◌||◌, ◌+◌, ◌<◌, ◌≤◌, ◌^◌, ℕ, List, Some, None, is_some, [], ◌∷◌, ◌++◌, length, true, false, Result, Ok, IfOk, IfErr, OnOk, OnErr, IfSome};
 ghost use Rattle.map_types.specs.declared.commands.Command.{Command};
 ghost use Rattle.ticket_order.specs.declared.record.Record.{Record};
 ghost use Rattle.ticket_order.specs.Records.{failing, publishing};
@@ -15,7 +15,7 @@ ghost use Rattle.store_layout.specs.Logs.{Batch};
 ghost use Rattle.store_layout.specs.Hands.{FitsBatch, IsLongest, IsRun};
 ghost use Rattle.flusher.specs.HandSteps.{SameEntries};
 ghost use Rattle.flusher.specs.Sweeping.{HasGathered, IsDone, StepsOn, next_kind};
-ghost use Rattle.flusher.specs.Keeping.{IsFull, IsPast, MayStage, Stages, StaysAt, SweepsOnce, committed_by, is_too_long, is_walking, passed};
+ghost use Rattle.flusher.specs.Keeping.{IsFull, IsPast, MakesSweep, MayStage, Stages, StaysAt, SweepsOnce, committed_by, is_too_long, is_walking, passed};
 ghost use Rattle.flusher.specs.Rotating.{IsTold, StepsLogs, due_of, ended_in, logs_of};
 ghost use Rattle.flusher.specs.Fitting.{Fits, HasSeenMore, IsFoundFor, IsQuiet, IsUnused, StopsFit, done_after};
 
@@ -127,14 +127,16 @@ impl<D: Disk> Keeper<D> {
         self.sweeper.step(steps)
     }
 
-    /// Goes on with the sweep that is begun, or makes a whole one. A stripe that another holds is tried
-    /// again until it is free. Where no memory is found, the stripes before that one are drained, and
-    /// the next sweep goes on there.
+    /// Goes on with the sweep that is begun, or makes a whole one, and answers the count that its LOOK
+    /// found. A stripe that another holds is tried again until it is free. Where no memory is found, the
+    /// stripes before that one are drained, and the next sweep goes on there.
     pub fn sweep<R: Wait, S: Steps>(&mut self, rt: &R, steps: &mut S) -> Result<u64, Refusal>
         requires { (done : List Command) × Fits D.states D.honest (S.stripe_count steps.old) done self.old (S.recorded steps.old) }
         ensures done { (done : List Command) → Fits D.states D.honest (S.stripe_count steps.old) done self.old (S.recorded steps.old)
             → IfOk result (λ count. HasGathered self.new.sweeper (done ++ commands_of self.old.staged.items) count (S.recorded steps.new)) }
+        ensures count { IfOk result (λ count. MakesSweep self.old.sweeper.sweep count (S.recorded steps.old) (S.recorded steps.new)) }
         ensures err { IfErr result (λ refusal. (refusal ≡ Refusal.NoMemory) × StaysAt (S.stripe_count steps.new) self.new.sweeper (S.recorded steps.new)) }
+        ensures stays { OnErr result (IfSome self.new.sweeper.sweep (λ sweep. MakesSweep self.old.sweeper.sweep sweep.count (S.recorded steps.old) (S.recorded steps.new))) }
         ensures rests { is_walking self.new.sweeper.walking ≡ false }
         ensures fits { (done : List Command) → Fits D.states D.honest (S.stripe_count steps.old) done self.old (S.recorded steps.old)
             → Fits D.states D.honest (S.stripe_count steps.new) done self.new (S.recorded steps.new) }

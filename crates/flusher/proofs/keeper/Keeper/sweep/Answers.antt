@@ -1,9 +1,10 @@
-use Rattle.std.proofs.Common.{◌≡◌, ◌∙◌, ◌++◌, List, ap, subst}
+use Rattle.std.proofs.Common.{◌≡◌, ◌∙◌, ◌++◌, List, Ok, ap, subst}
 use Rattle.ticket_order.specs.declared.stripe.Entry.{Entry}
 use Rattle.gate_log.specs.States.{commands_of}
 use Rattle.flusher.specs.declared.keeper.Keeper.{Keeper}
 use Rattle.flusher.specs.declared.sweeper.Swept.TheVariants.{Done}
 use Rattle.flusher.specs.Sweeping.{IsDone}
+use Rattle.flusher.proofs.Counting.{After, goes_on, not_over, stays_in}
 use Rattle.flusher.proofs.Quiet.{quiet_then}
 use Rattle.flusher.proofs.Seeing.{sees_then}
 use Rattle.flusher.proofs.Trying.{put_back_at, stays_at}
@@ -27,6 +28,17 @@ returns-in-Err-clause-seen g c = sees_then _ _ _ c.loop-step.invariant.seen c.sw
 pub returns-in-Done-clause-seen : goal.returns-in-Done-clause-seen
 returns-in-Done-clause-seen g c = sees_then _ _ _ c.loop-step.invariant.seen c.sweep_step.ensures.seen
 
+pub returns-in-Err-clause-stays : goal.returns-in-Err-clause-stays
+returns-in-Err-clause-stays g c =
+    let one = c.sweep_step.ensures.one in
+    stays_in _ _ _ _ (goes_on _ _ _ _ _ _ _ _ _ _ one.made one.steps one.kind_is c.in-Err.ensures.steps_on c.loop-step.invariant.under_way)
+
+pub returns-in-Done-clause-count : goal.returns-in-Done-clause-count
+returns-in-Done-clause-count g c =
+    let one = c.sweep_step.ensures.one in
+    subst (λ s. After c.args.self.now.sweeper.sweep c.sweep_step.new.self.sweeper.sweep (g.S.Steps.recorded c.args.steps.now) (g.S.Steps.recorded c.sweep_step.new.steps) (Ok s)) c.in-Done.is
+    (goes_on _ _ _ _ _ _ _ _ _ _ one.made one.steps one.kind_is c.in-Ok.ensures.steps_on c.loop-step.invariant.under_way)
+
 pub returns-in-Done-clause-done : goal.returns-in-Done-clause-done
 returns-in-Done-clause-done g c = λ done f.
     let w = g.S.Steps.recorded c.sweep_step.new.steps in
@@ -46,6 +58,7 @@ loop-step-preserved g c =
       finite = tt;
       fits = λ done f. e.fits done (i.fits done f);
       quiet = quiet_then _ _ _ i.quiet e.quiet;
+      under_way = not_over _ _ _ _ c.in-Ok.swept c.in_default.not-Done (goes_on _ _ _ _ _ _ _ _ _ _ e.one.made e.one.steps e.one.kind_is c.in-Ok.ensures.steps_on i.under_way);
       seen = sees_then _ _ _ i.seen e.seen;
       same = e.same ∙ ap (λ (k : Keeper g.row.D.Denot). record k { sweeper = c.sweep_step.new.self.sweeper }) i.same;
       place = e.place ∙ i.place;

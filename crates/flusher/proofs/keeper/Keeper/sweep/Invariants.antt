@@ -1,6 +1,7 @@
 use Rattle.std.proofs.Common.{◌≡◌, List}
 use Rattle.map_types.specs.declared.commands.Command.{Command}
 use Rattle.flusher.specs.Fitting.{Fits, HasSeenMore, IsQuiet}
+use Rattle.flusher.proofs.Counting.{IsUnderWay}
 use Rattle.flusher.proofs.keeper.Keeper.sweep.Given as goal
 
 abbrev pub invariant-loop-step : goal.invariant-loop-step
@@ -10,6 +11,7 @@ invariant-loop-step g l = record {
   fits : (done : List Command) → Fits g.D.Disk.states g.D.Disk.honest (g.S.Steps.stripe_count l.initial.steps) done l.initial.self (g.S.Steps.recorded l.initial.steps)
       → Fits g.D.Disk.states g.D.Disk.honest (g.S.Steps.stripe_count l.steps) done l.self (g.S.Steps.recorded l.steps);
   quiet : IsQuiet (g.S.Steps.recorded l.initial.steps) (g.S.Steps.recorded l.steps);
+  under_way : IsUnderWay l.initial.self.sweeper.sweep l.self.sweeper.sweep (g.S.Steps.recorded l.initial.steps) (g.S.Steps.recorded l.steps);
   seen : HasSeenMore (g.S.Steps.recorded l.initial.steps) (g.S.Steps.recorded l.steps);
   same : l.self ≡ record l.initial.self { sweeper = l.self.sweeper };
   place : g.S.Steps.place l.steps ≡ g.S.Steps.place l.initial.steps;
