@@ -1,32 +1,32 @@
 -- What comes of a script: its events are played, and what came of its lines is printed.
-use Rattle.std.specs.Prelude.{◌≡◌, ◌⊎◌, ℕ, List, length, map, slice_get, Option, Some, Result, Ok, Err}
+use Rattle.std.specs.Prelude.{◌≡◌, ◌⊎◌, ℕ, true, List, map, Option, None, Result, Ok, Err}
 use Rattle.std.specs.List.{flat_map}
 use Rattle.schedules.specs.declared.event.Event.{Event}
-use Rattle.schedules.specs.declared.event.Event.TheVariants as event
 use Rattle.schedules.specs.declared.outcome.Outcome.{Outcome}
 use Rattle.schedules.specs.Runs.{IsRun}
 use Rattle.schedule_script.specs.declared.bad_line.ScriptError.{ScriptError}
 use Rattle.schedule_script.specs.declared.bad_line.ScriptError.TheVariants.{Bad, NoMemory}
 use Rattle.schedule_script.specs.declared.line.Line.{Line}
+use Rattle.schedule_script.specs.declared.script.Span.{Span}
 use Rattle.schedule_script.specs.Scripts.{Fault, script_of}
-use Rattle.schedule_script.specs.Spans.{events_of, most_stripes, span_of}
+use Rattle.schedule_script.specs.Spans.{TakesBack, events_of, most_stripes, span_of, stray_steps}
 use Rattle.schedule_script.specs.Texts.{IsScriptText}
 use Rattle.console.specs.Printing.{Prints, PrintsNothing}
 
 abbrev pub Text : Type 0
 Text = List ℕ
 
--- each event is as it was, or has become a step of a worker that there isn't
-pub record KeepsOrTakesBack (old new : List Event) : Type 0 where
-  pub count : length new ≡ length old
-  pub each : (place : ℕ) → (slice_get new place ≡ slice_get old place) ⊎ (slice_get new place ≡ Some (event.Step 64))
+-- The outcomes of these events, in which no steps stand behind a release that doesn't fit: they are of a run of the events, where that shows no such
+-- steps; where one shows some, those of the first such release are taken back, and the outcomes are those of the events that this leaves.
+pub data ComesOf (spans : List Span) (outcomes : List Outcome) : List Event → Type 0 where
+  Played : (events : List Event) → IsRun events outcomes → stray_steps 0 spans outcomes ≡ None → ComesOf spans outcomes events
+  PlayedAgain : (events : List Event) (shown : List Outcome) (left : List Event) → IsRun events shown → TakesBack (stray_steps 0 spans shown) events left true
+      → ComesOf spans outcomes left → ComesOf spans outcomes events
 
--- The outcomes are those of a run of the lines' events, but for steps that were taken back, and the text tells what came of each line.
+-- The lines' events are played, and the text tells what came of each line.
 pub record IsTold (lines : List Line) (text : Text) : Type 0 where
-  pub events : List Event
   pub outcomes : List Outcome
-  pub are_of : KeepsOrTakesBack (flat_map (events_of (most_stripes lines)) lines) events
-  pub played : IsRun events outcomes
+  pub played : ComesOf (map (span_of (most_stripes lines)) lines) outcomes (flat_map (events_of (most_stripes lines)) lines)
   pub told : IsScriptText 1 (map (span_of (most_stripes lines)) lines) outcomes text
 
 abbrev pub TellsScript : Result (List Line) Fault → Text → Type 0

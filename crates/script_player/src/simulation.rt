@@ -2,7 +2,7 @@
 ghost use Rattle.std.specs.Prelude.{◌≡◌, IfOk, IfErr, string_bytes};
 ghost use Rattle.schedules.specs.Runs.{IsRun};
 ghost use Rattle.schedule_script.specs.Scripts.{script_of, Reads};
-ghost use Rattle.script_player.specs.Simulation.{IsTold, KeepsOrTakesBack, Simulates, SimulatesText, TellsOrFails};
+ghost use Rattle.script_player.specs.Simulation.{ComesOf, IsTold, Simulates, SimulatesText, TellsOrFails};
 
 use console::{MISUSED, cannot_open, print, refuse, say};
 use map_types::Refusal;
@@ -17,17 +17,15 @@ use std::{fs, io};
 
 /// Plays the events of the script, and again where a release that didn't fit had steps: these are
 /// taken back first. So each line makes the steps of its own walk alone.
-#[tactic(auto, using(crate::proofs::Playing::kept, crate::proofs::Playing::taken_back, crate::proofs::Playing::not_taken, crate::proofs::Playing::and_then))]
 fn play(alloc: Global, script: &mut Script) -> Result<Vec<Outcome>, AllocError>
-    ensures played { IfOk result (λ outcomes. IsRun script.new.events.items outcomes.items) }
-    ensures events { KeepsOrTakesBack script.old.events.items script.new.events.items }
+    // the outcomes
+    ensures played { IfOk result (λ outcomes.
+        ComesOf script.old.spans.items outcomes.items script.old.events.items) }
+    // what stays
     ensures spans { script.new.spans ≡ script.old.spans }
 {
     let mut trace = run(alloc, script.events.as_slice())?;
-    'plays: for _ in 0..script.spans.len() {
-        if !script.take_back_steps(trace.outcomes.as_slice()) {
-            break;
-        }
+    'plays: while script.take_back_steps(trace.outcomes.as_slice()) {
         trace = run(alloc, script.events.as_slice())?;
     }
     Ok(trace.outcomes)

@@ -1,9 +1,14 @@
-use Rattle.std.proofs.Common.{◌≡◌}
+use Rattle.std.proofs.Common.{◌≡◌, List}
+use Rattle.schedules.specs.declared.outcome.Outcome.{Outcome}
 use Rattle.schedules.specs.Runs.{IsRun}
-use Rattle.script_player.specs.Simulation.{KeepsOrTakesBack}
+use Rattle.script_player.specs.Simulation.{ComesOf}
+use Rattle.script_player.proofs.Playing.{left}
 use Rattle.script_player.proofs.simulation.play.Given as goal
 
 abbrev pub invariant-plays : goal.invariant-plays
 invariant-plays l =
-    KeepsOrTakesBack l.fn.script.events.items l.script.events.items × (l.script.spans ≡ l.fn.script.spans)
-    × IsRun l.script.events.items l.trace.outcomes.items
+    IsRun l.script.events.items l.trace.outcomes.items × (l.script.spans ≡ l.fn.script.spans)
+    × ((outcomes : List Outcome) → ComesOf l.fn.script.spans.items outcomes l.script.events.items → ComesOf l.fn.script.spans.items outcomes l.fn.script.events.items)
+
+abbrev pub decreases-plays : goal.decreases-plays
+decreases-plays l = left l.script.events.items
