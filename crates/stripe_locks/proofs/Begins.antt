@@ -1,6 +1,7 @@
 -- The words and the slots at the start.
 use Rattle.std.proofs.Common.{ℕ, ◌≡◌, ◌+◌, ◌<◌, List, [], ◌∷◌, false, Option, Some, None, length, get_or, set, map, replicate, zero, suc, refl, arith, sym, ◌∙◌, ap, subst, length-set}
 use Rattle.std.proofs.lemmas.List.{get_or-set_same, get_or-set_other, get_or-replicate, length-replicate, length-map}
+use Rattle.std.proofs.lemmas.List.Elements.{All-nil}
 use mathlib.Core.Option.{some, some-injective, some-ne-none}
 use lib.ListN.{get_elem?}
 use Rattle.atomic_table.specs.Table.{opening}
@@ -58,5 +59,5 @@ opens n first parts ws xs count are stored is =
       keeper = refl;
       unjoined = λ e. refl;
       each_stripe = λ i lt. stands_first ws xs i (get_or parts i no_part) (slot_of i (map slot_with xs)) (omega arith) (word (i + 4) (omega arith) (omega arith)) refl (stored.each i (omega arith));
-      each_seat = alone (λ l u. Sits (λ place. 0) (at_start first parts 0) (get_or ws 3 0) l u u.enrolled) (newcomer o) (record { few = omega arith; front = record { rest = []; is = refl }; other_front = record { rest = []; is = refl } });
+      each_seat = alone (λ l u. Sits (λ place. 0) (at_start first parts 0) (get_or ws 3 0) l u u.enrolled) (newcomer o) (record { few = omega arith; front = record { rest = []; is = refl }; other_front = record { rest = []; is = refl }; borne_out = All-nil _ });
     }

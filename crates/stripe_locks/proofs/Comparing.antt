@@ -1,6 +1,8 @@
 -- Two fronts of one history.
-use Rattle.std.proofs.Common.{ℕ, ◌≡◌, ◌+◌, ◌++◌, List, [], ◌∷◌, true, false, get_or, set, refl, arith, sym, ◌∙◌, ap, subst, inl, inr, ⊎_elim}
+use Rattle.std.proofs.Common.{ℕ, ◌≡◌, ◌+◌, ◌++◌, List, [], ◌∷◌, Bool, true, false, get_or, set, refl, arith, sym, ◌∙◌, ap, subst, inl, inr, ⊎_elim}
 use Rattle.std.specs.List.{All}
+use Rattle.std.specs.Prelude.{if◌then◌else◌}
+use Rattle.std.proofs.lemmas.List.Elements.{All-nil, All-weaker}
 use Rattle.std.proofs.lemmas.List.{set-get_or}
 use mathlib.Core.Option.{some, none}
 use lib.ListN.{get_elem?}
@@ -8,12 +10,15 @@ use Rattle.atomic_table.specs.Table.{step, keeps, Allows, Joins}
 use Rattle.atomic_table.proofs.Lists.{set_else, set_again}
 use Rattle.map_types.specs.declared.commands.Command.{Command}
 use Rattle.ticket_order.specs.declared.record.Opening.{Opening}
+use Rattle.ticket_order.specs.declared.record.StepMade.{StepMade}
+use Rattle.ticket_order.specs.declared.record.StepMade.TheVariants.{Took, FoundHeld, Gave, Drew, Looked, Published, Saw, Failed, FoundAlive}
 use Rattle.ticket_order.specs.declared.record.Record.{Record}
 use Rattle.ticket_order.specs.Legality.{entries_from}
-use Rattle.one_history.specs.OneHistory.{IsFront, StaysSo}
+use Rattle.one_history.specs.declared.book.Book.{Book}
+use Rattle.one_history.specs.OneHistory.{IsFront, HasDone, Knows, StaysSo}
 use Rattle.one_history.proofs.Slots.{hold_apart}
 use Rattle.one_history.proofs.Staying.{steps_stay}
-use Rattle.stripe_locks.specs.Rule.{IsUnseated, Sits, Kept, commands_of}
+use Rattle.stripe_locks.specs.Rule.{BearsOut, IsUnseated, Sits, Kept, commands_of}
 use Rattle.stripe_locks.specs.Fronts.{AreComparable, both_fronts, no_front, compared, attested}
 use Rattle.stripe_locks.proofs.Turning.{M, seated, in_book, seats_set}
 
@@ -32,6 +37,22 @@ pub commands_are : (t : ℕ) (cs : List Command) → commands_of (entries_from t
 commands_are t [] = refl
 commands_are t (c ∷ cs) = ap (λ l. c ∷ l) (commands_are (t + 1) cs)
 
+borne_out : (b : Book) (j : ℕ) (w : Record) (s : StepMade) → w.published ≡ b.deeds.durable → w.failed ≡ b.deeds.failed → StaysSo b j s → BearsOut w.published w.failed s
+borne_out b j w (Took i outbox) durable failed x = tt
+borne_out b j w (FoundHeld i) durable failed x = tt
+borne_out b j w (Gave i) durable failed x = tt
+borne_out b j w (Drew t) durable failed x = tt
+borne_out b j w (Looked q) durable failed x = tt
+borne_out b j w (Published q) durable failed x = tt
+borne_out b j w (Saw d) durable failed x = omega (arith, durable)
+borne_out b j w Failed durable failed x = tt
+borne_out b j w (FoundAlive is_alive) durable failed x = λ no. failed ∙ x no
+
+-- what the keeper did bears out each pass's steps
+borne_out_by : (b : Book) (j : ℕ) (v w : Record) (keeper : Bool) → HasDone b.opening b.deeds w keeper → All (StaysSo b j) v.steps → All (BearsOut w.published w.failed) (if keeper then v.steps else [])
+borne_out_by b j v w true done stays = All-weaker (StaysSo b j) (BearsOut w.published w.failed) (λ s x. borne_out b j w s done.1 done.2 x) v.steps stays
+borne_out_by b j v w false done stays = All-nil _
+
 pub joins : (o : Opening) (id : ℕ) (v : Record) (other : ℕ) (w : Record) → v.enrolled ≡ true → w.enrolled ≡ true → Joins (Kept o) id v other w (both_fronts v w) no_front
 joins o id v other w is_pass is_pass' s k at apart at' =
     let there : get_elem? s.views other ≡ some w = sym (set_else s.views id other (both_fronts v w) apart) ∙ at' in
@@ -39,6 +60,10 @@ joins o id v other w is_pass is_pass' s k at apart at' =
     let q' = seated o s k other w there is_pass' in
     let front : IsFront v.seen k.book.history = subst (λ (r : Record). IsFront r.seen k.book.history) q.view_is (k.kept.one.passes q.place (in_book o s k id v at is_pass)).front in
     let front' : IsFront w.seen k.book.history = subst (λ (r : Record). IsFront r.seen k.book.history) q'.view_is (k.kept.one.passes q'.place (in_book o s k other w there is_pass')).front in
+    let knows : Knows k.book.opening k.book.stripes k.book.history k.book.authors k.book.deeds q'.place w =
+    subst (Knows k.book.opening k.book.stripes k.book.history k.book.authors k.book.deeds q'.place) q'.view_is (k.kept.one.passes q'.place (in_book o s k other w there is_pass')) in
+    let stays : All (StaysSo k.book q.place) v.steps = subst (λ (r : Record). All (StaysSo k.book q.place) r.steps) q.view_is (steps_stay k.book k.kept.one q.place) in
+    let borne_by : All (BearsOut w.published w.failed) (if w.keeper then v.steps else []) = borne_out_by k.book q.place v w w.keeper knows.done stays in
     record {
       book = k.book;
       slots = k.slots;
@@ -53,9 +78,9 @@ joins o id v other w is_pass is_pass' s k at apart at' =
       unjoined = k.unjoined;
       each_stripe = k.each_stripe;
       each_seat = seats_set (λ l u. Sits k.seats k.book (get_or s.words 3 0) l u u.enrolled) (set s.views id (both_fronts v w)) other no_front
-          (record { few = omega arith; front = record { rest = k.book.history; is = refl }; other_front = record { rest = k.book.history; is = refl } })
+          (record { few = omega arith; front = record { rest = k.book.history; is = refl }; other_front = record { rest = k.book.history; is = refl }; borne_out = All-nil _ })
           (λ l u ne e. seats_set (λ l u. Sits k.seats k.book (get_or s.words 3 0) l u u.enrolled) s.views id (both_fronts v w)
-          (record { few = omega arith; front = front; other_front = subst (λ cs. IsFront cs k.book.history) (sym (commands_are 0 w.seen)) front' })
+          (record { few = omega arith; front = front; other_front = subst (λ cs. IsFront cs k.book.history) (sym (commands_are 0 w.seen)) front'; borne_out = borne_by })
           (λ m z nm h. k.each_seat m z h) l u e);
     }
 
@@ -66,7 +91,7 @@ allows_compare o n id me no_pass s k wide at range =
       keeps,
       tt,
       subst (λ (vs : List Record). Kept o record { words = set s.words 0 (get_or s.words 0 0); homes = s.homes; views = vs }) (sym (set_again s.views id me.0 at)) (subst (λ (ws : List ℕ). Kept o record { words = ws; homes = s.homes; views = s.views }) (sym (set-get_or s.words 0 0)) k),
-      comparable me.0.seen (commands_of me.0.taken) u.front.rest u.other_front.rest (sym u.front.is ∙ u.other_front.is),
+      (comparable me.0.seen (commands_of me.0.taken) u.front.rest u.other_front.rest (sym u.front.is ∙ u.other_front.is), u.borne_out),
     )
 
 pub allows_attest : (o : Opening) (n id : ℕ) (me : M) → me.0.enrolled ≡ true → Allows (Kept o) n id me 0 (λ x. x) (attested (step n 0 0 0 none) me)

@@ -5,3 +5,4 @@ pub mod Seats
 pub mod Begins
 pub mod Misses
 pub mod Comparing
+pub mod Refuted

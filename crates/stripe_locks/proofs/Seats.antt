@@ -1,6 +1,7 @@
 -- A new seat, and a seat that becomes a pass's.
 use Rattle.std.proofs.Common.{ℕ, ◌≡◌, ◌≢◌, ◌+◌, ◌<◌, ◌≤◌, cond, eqb, eq-eqb, ne_eqb, List, [], Bool, true, false, length, max, get_or, set, refl, arith, sym, ◌∙◌, ap, subst, ⊎_elim, inl, inr, length-set}
 use Rattle.std.proofs.lemmas.List.{get_or-set_same, get_or-set_other, set-get_or}
+use Rattle.std.proofs.lemmas.List.Elements.{All-nil}
 use Rattle.std.proofs.lemmas.Bool.{cases_eq}
 use mathlib.Core.Option.{some, none}
 use lib.ListN.{get_elem?}
@@ -49,7 +50,7 @@ enters o n s k wide range =
         keeper = k.keeper;
         unjoined = k.unjoined;
         each_stripe = k.each_stripe;
-        each_seat = λ l u e. ⊎_elim (k.each_seat l u) (λ new. subst (λ v. Sits k.seats k.book (get_or s.words 3 0) l v v.enrolled) new (record { few = omega arith; front = record { rest = k.book.history; is = refl }; other_front = record { rest = k.book.history; is = refl } })) (at_snoc s.views w u l e);
+        each_seat = λ l u e. ⊎_elim (k.each_seat l u) (λ new. subst (λ v. Sits k.seats k.book (get_or s.words 3 0) l v v.enrolled) new (record { few = omega arith; front = record { rest = k.book.history; is = refl }; other_front = record { rest = k.book.history; is = refl }; borne_out = All-nil _ })) (at_snoc s.views w u l e);
       },
       (refl, k.few),
     )
@@ -82,7 +83,7 @@ module _ (o : Opening) (n id : ℕ) (me : M) (old number : ℕ) (few : old < 409
             record { place = x.place; number_is = x.number_is; within = omega arith; seat_is = put_else k.seats old id x.place (λ e. omega arith) ∙ x.seat_is; view_is = before x.place (omega arith) ∙ x.view_is }
         | false ↦ λ ne x.
             let le : u.passes ≤ get_or s.words 3 0 = x.few in
-            record { few = omega arith; front = record { rest = x.front.rest; is = history ∙ x.front.is }; other_front = record { rest = x.other_front.rest; is = history ∙ x.other_front.is } }
+            record { few = omega arith; front = record { rest = x.front.rest; is = history ∙ x.front.is }; other_front = record { rest = x.other_front.rest; is = history ∙ x.other_front.is }; borne_out = x.borne_out }
       ] in
       record {
         book = b';
@@ -144,7 +145,7 @@ module _ (o : Opening) (n id : ℕ) (me : M) (old number : ℕ) (few : old < 409
           unjoined = k.unjoined;
           each_stripe = k.each_stripe;
           each_seat = seats_set (λ l u. Sits k.seats k.book (get_or s.words 3 0) l u u.enrolled) s.views id w
-              (subst (Sits k.seats k.book (get_or s.words 3 0) id w) (sym no_pass) (record { few = omega arith; front = before.front; other_front = before.other_front }))
+              (subst (Sits k.seats k.book (get_or s.words 3 0) id w) (sym no_pass) (record { few = omega arith; front = before.front; other_front = before.other_front; borne_out = before.borne_out }))
               (λ l u ne there. k.each_seat l u there);
         }),
         (refl, (λ hit. absurd (miss hit)), λ ne. (refl, was, k.few)),

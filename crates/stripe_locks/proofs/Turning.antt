@@ -54,6 +54,7 @@ module _ (o : Opening) (s : St) (k : Kept o s) (id : ℕ) (v : Record) (at : get
     few = (let le : u.passes ≤ get_or s.words 3 0 = x.few in omega arith);
     front = front_trans _ _ _ x.front grows;
     other_front = front_trans _ _ _ x.other_front grows;
+    borne_out = x.borne_out;
   }
 
   pub turned : (made : StepMade) (b' : Book) (slots' : List Slot) (words' : List ℕ) (homes' : Homes) → BookMoves seated.place made k.book b' → b'.deeds.keeper ≡ k.book.deeds.keeper → IsFront k.book.history b'.history → IsSameOne v (record_of seated.place b')

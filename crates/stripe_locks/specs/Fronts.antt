@@ -1,5 +1,5 @@
 -- What passes have seen of the one history, and that their records are of one.
-use Rattle.std.specs.Prelude.{◌≡◌, ℕ, ◌<◌, ◌⊎◌, List, length}
+use Rattle.std.specs.Prelude.{◌≡◌, ℕ, ◌<◌, ◌⊎◌, List, [], length, if◌then◌else◌}
 use Rattle.std.specs.List.{All}
 use Rattle.std.specs.FinMap as finite
 use Rattle.atomic_table.specs.Table.{Step}
@@ -11,7 +11,7 @@ use Rattle.ticket_order.specs.Legality.{entries_from}
 use Rattle.one_history.specs.declared.book.Book.{Book}
 use Rattle.one_history.specs.Turns.{record_of}
 use Rattle.one_history.specs.OneHistory.{IsFront, IsOneHistory, HoldApart, StaysSo}
-use Rattle.stripe_locks.specs.Rule.{commands_of}
+use Rattle.stripe_locks.specs.Rule.{BearsOut, commands_of}
 use Rattle.stripe_locks.specs.Plays.{Sat}
 use Rattle.std.specs.Prelude.{Option}
 
@@ -19,15 +19,22 @@ use Rattle.std.specs.Prelude.{Option}
 abbrev pub AreComparable : List Command → List Command → Type 0
 AreComparable xs ys = IsFront xs ys ⊎ IsFront ys xs
 
--- the view of a seat that is no pass's any more, which keeps what two passes have seen
+-- The view of a seat that is no pass's any more, which keeps what two passes have seen; and where the other is the keeper's, the steps of the one with
+-- what the keeper published, and whether it failed.
 abbrev pub both_fronts : Record → Record → Record
-both_fronts v w = record (newcomer v.opening) { seen = v.seen; taken = entries_from 0 w.seen }
+both_fronts v w = record (newcomer v.opening) {
+  seen = v.seen;
+  taken = entries_from 0 w.seen;
+  steps = if w.keeper then v.steps else [];
+  published = w.published;
+  failed = w.failed;
+}
 
 abbrev pub no_front : Record
 no_front = newcomer (record { first = 0; map = finite.empty })
 
 abbrev pub compared : Step (Option Stripe) → Sat → ℕ → Sat → Type 0
-compared st m r m' = AreComparable m.0.seen (commands_of m.0.taken)
+compared st m r m' = AreComparable m.0.seen (commands_of m.0.taken) × All (BearsOut m.0.published m.0.failed) m.0.steps
 
 -- There is one history of all passes on the words, and this is the record of one of them: what each of its steps found is what the words held then.
 pub record StandsInOneHistory (v : Record) : Type 0 where

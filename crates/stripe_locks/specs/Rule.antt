@@ -1,6 +1,7 @@
 -- The rule of the shared words: between any two steps of any threads there is one history, which the words and the slots match.
 -- The words are the ticket count, the durable count, the failure word, the count of passes, and then one for each stripe.
 use Rattle.std.specs.Prelude.{◌≡◌, ℕ, ◌+◌, ◌<◌, ◌≤◌, max, List, length, map, Option, Some, Bool, true, false, slice_index}
+use Rattle.std.specs.List.{All}
 use mathlib.Core.Option.{some}
 use mathlib.Core.Option as maybe
 use lib.ListN.{get_elem?}
@@ -9,6 +10,8 @@ use Rattle.map_types.specs.declared.commands.Command.{Command}
 use Rattle.ticket_order.specs.declared.stripe.Stripe.{Stripe}
 use Rattle.ticket_order.specs.declared.stripe.Entry.{Entry}
 use Rattle.ticket_order.specs.declared.record.Opening.{Opening}
+use Rattle.ticket_order.specs.declared.record.StepMade.{StepMade}
+use Rattle.ticket_order.specs.declared.record.StepMade.TheVariants.{Saw, FoundAlive}
 use Rattle.ticket_order.specs.declared.record.Record.{Record}
 use Rattle.ticket_order.specs.Records.{keeper_at_start, enrolling}
 use Rattle.one_history.specs.declared.book.Book.{Book}
@@ -38,11 +41,18 @@ pub record IsSeated (seats : ℕ → ℕ) (b : Book) (joined : ℕ) (id : ℕ) (
 abbrev pub commands_of : List Entry → List Command
 commands_of entries = map (λ (e : Entry). e.command) entries
 
--- the seat is no pass's; what its view has of the history are two fronts
+-- This many commands published and this word for a failure bear out a step: a SEE found no more, and an ALIVE says no only after a FAIL.
+abbrev pub BearsOut : ℕ → Bool → StepMade → Type 0
+BearsOut published failed (Saw d) = d ≤ published
+BearsOut published failed (FoundAlive is_alive) = is_alive ≡ false → failed ≡ true
+BearsOut published failed step = Unit {0}
+
+-- The seat is no pass's. What its view has of the history are two fronts; its steps are borne out by what it has of the keeper's deeds.
 pub record IsUnseated (b : Book) (joined : ℕ) (v : Record) : Type 0 where
   pub few : v.passes ≤ joined
   pub front : IsFront v.seen b.history
   pub other_front : IsFront (commands_of v.taken) b.history
+  pub borne_out : All (BearsOut v.published v.failed) v.steps
 
 abbrev pub Sits : (ℕ → ℕ) → Book → ℕ → ℕ → Record → Bool → Type 0
 Sits seats b joined id v true = IsSeated seats b joined id v

@@ -1,6 +1,8 @@
 //! That all passes see one history.
-ghost use Rattle.std.specs.Prelude.{◌≡◌, None};
+ghost use Rattle.std.specs.Prelude.{◌≡◌, None, true};
+ghost use Rattle.std.specs.List.{All};
 ghost use Rattle.stripe_locks.specs.Passes.{recorded, IsPassOf, IsSamePass};
+ghost use Rattle.stripe_locks.specs.Rule.{BearsOut};
 ghost use Rattle.stripe_locks.specs.Fronts.{AreComparable, StandsInOneHistory, both_fronts, no_front, compared, attested};
 
 use crate::rule::Pass;
@@ -46,12 +48,15 @@ impl Stripes {
     }
 
     /// A law: of any two passes, what one has seen of the history goes on from what the other has
-    /// seen. Both are spent by it; since what a pass has seen only grows, it held of them before.
+    /// seen. Where the other is the keeper's, no SEE of the one found more than the keeper has
+    /// published, and none of its ALIVEs says no but behind the keeper's FAIL. Both are spent by it;
+    /// since what a pass has seen only grows, it held of them before.
     pub fn have_seen_one_history(&self, one: Pass, other: Pass)
         requires one { IsPassOf self.now one }
         requires other { IsPassOf self.now other }
         requires empty_handed { (recorded other).holding ≡ None }
-        ensures { AreComparable (recorded one).seen (recorded other).seen }
+        ensures fronts { AreComparable (recorded one).seen (recorded other).seen }
+        ensures borne_out { (recorded other).keeper ≡ true → All (BearsOut (recorded other).published (recorded other).failed) (recorded one).steps }
     {
         let Pass {
             mut seat,
