@@ -18,3 +18,5 @@ pub use laws::stops_of_a_checkpoint;
 pub use loading::{LoadedCheckpoint, LoadedSection, load};
 pub use store_layout::CheckpointPhase;
 pub use writer::CheckpointWriter;
+/// The short name of the same type.
+pub use writer::CheckpointWriter as CkptWriter;
