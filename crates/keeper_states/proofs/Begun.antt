@@ -151,6 +151,7 @@ module _ {D : Type 0} (states : D → List Files) (honest : D → Type 0) (n : �
         durable = s.durable;
         has_failed = s.has_failed;
         is_broken = s.is_broken;
+        staged = λ broken. absurd (two_ways old.is_broken broken works);
         store = λ _. record {
           log = goes (l.newest == l.sealed) l.log old.log new.next (length old.staged.items) so (λ e. (other e, k.log ∙ ap (λ o. work_by old.log o (length old.staged.items)) m.no_rotation));
           newest = k.newest;

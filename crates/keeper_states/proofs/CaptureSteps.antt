@@ -107,6 +107,7 @@ module _ {D : Type 0} (states : D → List Files) (honest : D → Type 0) (n : �
         has_failed = s.has_failed;
         is_broken = s.is_broken;
         store = λ _. record { log = k.log; newest = k.newest; gate = k.gate; sealed = k.sealed; checkpoint = written; both = both };
+        staged = s.staged;
       })
 
   resting : Rests ≡ walk_by old.stripes.count old.sweeper.walking None q

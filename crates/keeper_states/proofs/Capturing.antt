@@ -62,6 +62,7 @@ module _ {D : Type 0} (states : D → List Files) (honest : D → Type 0) (n : �
         has_failed = s.has_failed;
         is_broken = s.is_broken;
         store = λ works. let k = s.store works in record { log = k.log; newest = k.newest; gate = k.gate; sealed = k.sealed; checkpoint = k.checkpoint; both = k.both };
+        staged = s.staged;
       })
 
   after_missed : SeesHistory q w l → reach q ≡ reach p → new ≡ old → HasKeeper states new q (with_life w l)
@@ -77,6 +78,7 @@ module _ {D : Type 0} (states : D → List Files) (honest : D → Type 0) (n : �
     has_failed = s.has_failed;
     is_broken = s.is_broken;
     store = s.store;
+    staged = s.staged;
   })
 
   takes : (result : Result (Option ℕ) Refusal) (m : Made) → AfterTake n stripe old new p q result → MakesStep w l p q (Take stripe) m → result ≢ Err refusal.Failed → result ≢ Err refusal.WrongPhase

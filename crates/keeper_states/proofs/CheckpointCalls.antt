@@ -4,7 +4,7 @@ use Rattle.map_types.specs.declared.commands.Command.{Command}
 use Rattle.ticket_order.specs.declared.record.Record.{Record}
 use Rattle.disk_model.specs.Files.{Files, now}
 use Rattle.disk_model.specs.Gates.{Call}
-use Rattle.store_layout.specs.Checkpoints.{Section}
+use Rattle.store_layout.specs.Checkpoints.{Section, checkpoint_file}
 use Rattle.gate_log.specs.States.{LogState}
 use Rattle.store_layout.specs.declared.checkpoint_phase.CheckpointPhase.{CheckpointPhase}
 use Rattle.store_layout.specs.declared.checkpoint_phase.CheckpointPhase.TheVariants.{Idle, Gate, GateWritten, GateSynced, Ready, Staged, Header, HeaderWritten, HeaderSynced, Opened, Sealed}
@@ -19,14 +19,20 @@ use Rattle.schedules.specs.declared.event.Side.TheVariants as side
 use Rattle.schedules.specs.declared.outcome.DeviceCall.{DeviceCall}
 use Rattle.schedules.specs.declared.outcome.Outcome.TheVariants as outcome
 use Rattle.schedules.specs.World.{World, Life, Running, has_checkpoint_call, is_rotating}
-use Rattle.schedules.specs.After.{called, checkpoint_called, failed, running_called, with_files}
-use Rattle.schedules.specs.Cases.{IsPossible, UsesRunning, is_last_call, phase_of_checkpoint, phase_of_running}
-use Rattle.keeper_states.specs.Laws.{CheckpointAnswers, CheckpointFails}
+use Rattle.schedules.specs.After as outcomes
+use Rattle.schedules.specs.After.{called, checkpoint_called, failed, file_of, running_called, with_files}
+use Rattle.schedules.specs.Due.{checkpoint_call, checkpoint_number, running_call}
+use Rattle.schedules.specs.Cases.{IsDue, IsPossible, UsesRunning, is_last_call, phase_of_checkpoint, phase_of_running}
+use Rattle.keeper_states.specs.Laws.{CheckpointAnswers, CheckpointFails, file_due}
 use Rattle.keeper_states.specs.Promises.{IsMade, TriesCheckpoint}
 use Rattle.keeper_states.specs.Showing.{running_in, running_shown, sweep_shown, walk_by, work_by}
 use Rattle.keeper_states.specs.Standing.{Answers, BeginsBoth, IsWritten, KeeperStands, KnowsStore}
+use Rattle.keeper_states.proofs.StagedTold.{staged_told}
+use Rattle.keeper_states.proofs.CheckpointDue.{checkpoint_due}
+use Rattle.keeper_states.proofs.FilesTold.{files_are_told}
 use Rattle.keeper_states.proofs.Deciding.{both_true, not_true, two_ways}
 use Rattle.keeper_states.proofs.Moved.{same_history}
+use Rattle.keeper_states.proofs.SameCall.{known_call}
 use Rattle.keeper_states.proofs.Sealing.{stripes_by}
 
 -- ---- the world's checkpoint after a call
@@ -102,7 +108,8 @@ last_by o r is files l u = subst (UsesRunning files l) (sym is) u
 
 module _ {D : Type 0} (states : D → List Files) (failures : D → ℕ) (honest : D → Type 0) (n : ℕ) (done : List Command) (old new : Keeper D) (p : Record) (w : World) (l : Life) (call : DeviceCall) (phase : CheckpointPhase)
     (f : Fits states honest n done old p) (h : honest new.disk) (s : KeeperStands states old p w l) (works : old.is_broken ≡ false) (alone : old.next ≡ None) (has : has_checkpoint_call l.checkpoint ≡ true)
-    (t : TriesCheckpoint states failures honest old new (Ok phase)) (made : IsMade states call old.disk new.disk) (v : CheckpointState) (is : old.checkpoint ≡ Some v) where
+    (t : TriesCheckpoint states failures honest old new (Ok phase)) (made : IsMade states call old.disk new.disk) (v : CheckpointState) (is : old.checkpoint ≡ Some v)
+    (named : file_of call ≡ file_due old.checkpoint) where
   k : KnowsStore states old l
   k = s.store works
 
@@ -115,10 +122,27 @@ module _ {D : Type 0} (states : D → List Files) (failures : D → ℕ) (honest
   has_v : has_checkpoint_call (Some (running_shown v written.0)) ≡ true
   has_v = sym (ap has_checkpoint_call shown) ∙ has
 
+  the_due : (c : Call) × (call_in v.phase v ≡ Some c)
+  the_due = due v written.0 v.phase has_v
+
   steps : (c : Call) × StepsCheckpoint states failures honest c v old new (Ok phase)
-  steps =
-      let d = due v written.0 v.phase has_v in
-      (d.0, t.steps works d.0 v (ap (λ o. call_due o old.checkpoint) alone ∙ ap (call_due None) is ∙ d.1) is)
+  steps = (the_due.0, t.steps works the_due.0 v (ap (λ o. call_due o old.checkpoint) alone ∙ ap (call_due None) is ∙ the_due.1) is)
+
+  -- the call is the one that is due
+  is_due : IsDue w l side.Checkpoint call
+  unfolding steps
+  is_due =
+      let there : file_of call ≡ checkpoint_file v.generation = named ∙ ap file_due is in
+      let stripes : v.stripes ≡ l.stripes = stripes_by n old f.stripes v is ∙ sym f.stripes.count ∙ sym s.stripes in
+      let told : the_due.0 ≡ running_call l v.low (running_shown v written.0) =
+      checkpoint_due v l written.2.0 written.0 (now (states old.disk) (checkpoint_file v.generation)) the_due.0 written.2.1 stripes the_due.1 in
+      record {
+        file = there ∙ ap checkpoint_number (sym shown);
+        low = v.low;
+        what = known_call (outcomes.call_of call) the_due.0 (file_of call) (checkpoint_file v.generation) (now (states old.disk)) (now (states new.disk)) there made.state (ap now steps.1.ok.2.state)
+            ∙ told ∙ ap (checkpoint_call l v.low) (sym shown);
+        possible = subst (λ fs. IsPossible fs call) (sym s.files) made.possible;
+      }
 
   same_files : called call w.files ≡ now (states new.disk)
   same_files = ap (called call) s.files ∙ sym made.state
@@ -151,6 +175,7 @@ module _ {D : Type 0} (states : D → List Files) (failures : D → ℕ) (honest
         durable = s.durable ∙ sym (ap (λ (k : Keeper D). k.published) t.same);
         has_failed = s.has_failed ∙ sym (ap (λ (k : Keeper D). k.has_failed) t.same);
         is_broken = s.is_broken ∙ works ∙ sym t.works;
+        staged = λ broken. absurd (two_ways new.is_broken broken t.works);
         store = λ _. subst (KnowsStore states new) like knows;
       } in
       subst (λ m. KeeperStands states new p (with_files w (called call w.files) m) m) (sym like) at
@@ -171,7 +196,7 @@ module _ {D : Type 0} (states : D → List Files) (failures : D → ℕ) (honest
       let world : checkpoint_called l l.checkpoint ≡ m = ap (checkpoint_called l) shown ∙ g.world in
       let given : HasGiven (Some after) written.0 (now (states new.disk)) = t.given written.0 after (subst (λ o. HasGiven o written.0 (now (states old.disk))) (sym is) written.2) writer in
       record {
-        happens = (s.is_broken ∙ works, subst (λ fs. IsPossible fs call) (sym s.files) made.possible, steps.1.ok.1 ∙ sym (ap (λ (m : Life). phase_of_checkpoint m.checkpoint) world ∙ g.phase), uses);
+        happens = (s.is_broken ∙ works, is_due, steps.1.ok.1 ∙ sym (ap (λ (m : Life). phase_of_checkpoint m.checkpoint) world ∙ g.phase), uses);
         stands = subst (λ m. KeeperStands states new p (with_files w (called call w.files) m) m) (sym world) (stands_by m refl (record {
           log = log_same;
           newest = k.newest ∙ sym (ap (λ (k : Keeper D). k.log.generation) t.same);
@@ -188,7 +213,7 @@ module _ {D : Type 0} (states : D → List Files) (failures : D → ℕ) (honest
       let m : Life = record l { checkpoint = None; sealed = v.generation } in
       let world : checkpoint_called l l.checkpoint ≡ m = ap (checkpoint_called l) shown ∙ g.world in
       record {
-        happens = (s.is_broken ∙ works, subst (λ fs. IsPossible fs call) (sym s.files) made.possible, steps.1.ok.1 ∙ ap (λ ph. (state_after ph v).phase) g.last ∙ sym (ap (λ (m : Life). phase_of_checkpoint m.checkpoint) world), uses);
+        happens = (s.is_broken ∙ works, is_due, steps.1.ok.1 ∙ ap (λ ph. (state_after ph v).phase) g.last ∙ sym (ap (λ (m : Life). phase_of_checkpoint m.checkpoint) world), uses);
         stands = subst (λ m. KeeperStands states new p (with_files w (called call w.files) m) m) (sym world) (stands_by m refl (record {
           log = log_same;
           newest = k.newest ∙ sym (ap (λ (k : Keeper D). k.log.generation) t.same);
@@ -203,23 +228,26 @@ module _ {D : Type 0} (states : D → List Files) (failures : D → ℕ) (honest
   answers = elim (call_of l v written.0 v.phase has_v) [ inl g ↦ goes g | inr g ↦ ends g ]
 
 pub checkpoint_answers : {D : Type 0} (states : D → List Files) (failures : D → ℕ) (honest : D → Type 0) → CheckpointAnswers states failures honest
-checkpoint_answers {D} states failures honest n done old new p w l call phase f h s works has t made =
+checkpoint_answers {D} states failures honest n done old new p w l call phase f h s works has t made named =
     let k = s.store works in
     let b = both_true (not (is_rotating l.log)) (has_checkpoint_call l.checkpoint) has in
     let alone : old.next ≡ None = not_rotating old.log old.next (length old.staged.items) (sym (ap is_rotating k.log) ∙ not_true (is_rotating l.log) b.0) in
     let v = writer_of old.checkpoint l.checkpoint (now (states old.disk)) k.checkpoint b.1 in
-    answers states failures honest n done old new p w l call phase f h s works alone b.1 t made v.0 v.1
+    answers states failures honest n done old new p w l call phase f h s works alone b.1 t made v.0 v.1 named
 
 -- ---- a call that fails
 
 pub checkpoint_fails : {D : Type 0} (states : D → List Files) (failures : D → ℕ) (honest : D → Type 0) → CheckpointFails states failures honest
-checkpoint_fails {D} states failures honest old new p w l fill call e s works t lost =
+checkpoint_fails {D} states failures honest n done old new p w l fill call e f h s works t lost named =
     let m : Life = record l { is_broken = true } in
     let capture : new.capture ≡ old.capture = ap (λ (k : Keeper D). k.capture) t.same in
     let stripes : new.stripes ≡ old.stripes = ap (λ (k : Keeper D). k.stripes) t.same in
     let sweeper_is : new.sweeper ≡ old.sweeper = ap (λ (k : Keeper D). k.sweeper) t.same in
     record {
-      happens = (s.is_broken ∙ works, subst (λ fs. IsPossible fs call) (sym s.files) lost.possible);
+      happens = (
+        s.is_broken ∙ works,
+        record { file = named ∙ (files_are_told states honest n done old p w l f h s works).1; possible = subst (λ fs. IsPossible fs call) (sym s.files) lost.possible },
+      );
       stands = record {
         life = refl;
         files = ap (failed fill call) s.files ∙ sym lost.state;
@@ -231,6 +259,7 @@ checkpoint_fails {D} states failures honest old new p w l fill call e s works t 
         durable = s.durable ∙ sym (ap (λ (k : Keeper D). k.published) t.same);
         has_failed = s.has_failed ∙ sym (ap (λ (k : Keeper D). k.has_failed) t.same);
         is_broken = sym t.breaks;
+        staged = λ broken. staged_told states honest n done old p p w l f s ∙ ap (λ (k : Keeper D). length k.staged.items) (sym t.same);
         store = λ works. absurd (two_ways new.is_broken t.breaks works);
       };
     }

@@ -25,6 +25,7 @@ publish_answers {D} states honest n done old new p w l f s is =
         has_failed = s.has_failed;
         is_broken = s.is_broken;
         store = λ works. let k = s.store works in record { log = k.log; newest = k.newest; gate = k.gate; sealed = k.sealed; checkpoint = k.checkpoint; both = k.both };
+        staged = s.staged;
       };
     })
 
@@ -44,5 +45,6 @@ fail_answers {D} states old new p w l s is =
         has_failed = refl;
         is_broken = s.is_broken;
         store = λ works. let k = s.store works in record { log = k.log; newest = k.newest; gate = k.gate; sealed = k.sealed; checkpoint = k.checkpoint; both = k.both };
+        staged = s.staged;
       };
     })

@@ -3,10 +3,15 @@ pub mod Moved
 pub mod Deciding
 pub mod Known
 pub mod LogMoves
+pub mod SameCall
+pub mod LogDue
+pub mod CheckpointDue
+pub mod FilesTold
 pub mod LogCalls
 pub mod CheckpointCalls
 pub mod Staging
 pub mod Staged
+pub mod StagedTold
 pub mod WalkSteps
 pub mod Sweeping
 pub mod NextStripe

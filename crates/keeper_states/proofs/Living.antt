@@ -18,6 +18,7 @@ use Rattle.keeper_states.specs.Laws.{FrontIsSeen, OpeningStands, WorkersLeaveKee
 use Rattle.keeper_states.specs.Showing.{committing, sweep_shown, walk_by, walking_shown, work_by}
 use Rattle.keeper_states.specs.Standing.{BeginsBoth, HasKeeper, IsWritten, KeeperStands, SeesHistory, StandsIn}
 use Rattle.checkpoint_file.specs.States.{CheckpointState}
+use Rattle.keeper_states.proofs.Deciding.{two_ways}
 use Rattle.keeper_states.proofs.Lists.{drop_front, take_front}
 use Rattle.keeper_states.proofs.Moved.{same_history}
 
@@ -53,6 +54,7 @@ module _ {D : Type 0} (states : D → List Files) (keeper : Keeper D) (p : Recor
         has_failed = s.has_failed;
         is_broken = s.is_broken;
         store = λ works. let k = s.store works in record { log = k.log; newest = k.newest; gate = k.gate; sealed = k.sealed; checkpoint = k.checkpoint; both = k.both };
+        staged = s.staged;
       }
 
   steps : (worker : ℕ) (job : Job) (m : Made) (end : End) → HasKeeper states keeper p (worker_stepped w l worker job m end)
@@ -70,6 +72,7 @@ module _ {D : Type 0} (states : D → List Files) (keeper : Keeper D) (p : Recor
         has_failed = s.has_failed;
         is_broken = s.is_broken;
         store = λ works. let k = s.store works in record { log = k.log; newest = k.newest; gate = k.gate; sealed = k.sealed; checkpoint = k.checkpoint; both = k.both };
+        staged = s.staged;
       }
 
 pub workers_leave_keeper : {D : Type 0} (states : D → List Files) → WorkersLeaveKeeper states
@@ -120,6 +123,7 @@ opening_stands {D} states keeper p w stripes found k =
       durable = sym k.published;
       has_failed = sym k.not_failed;
       is_broken = sym k.works;
+      staged = λ broken. absurd (two_ways keeper.is_broken broken k.works);
       store = λ _. record {
         log = sym (ap (λ o. work_by keeper.log o (length keeper.staged.items)) k.no_next ∙ ap (λ ph. committing ph (length keeper.staged.items)) k.idle);
         newest = sym k.generation;

@@ -20,16 +20,20 @@ use Rattle.schedules.specs.declared.event.Side.TheVariants as side
 use Rattle.schedules.specs.declared.outcome.DeviceCall.{DeviceCall}
 use Rattle.schedules.specs.declared.outcome.Outcome.TheVariants as outcome
 use Rattle.schedules.specs.World.{World, Life, LogWork, Resting, Committing, Rotating, gate_after, is_resting}
-use Rattle.schedules.specs.After.{called, failed, log_called, with_files}
-use Rattle.schedules.specs.Cases.{IsPossible, MakesCall}
+use Rattle.schedules.specs.After.{call_of, called, failed, file_of, log_called, with_files}
+use Rattle.schedules.specs.Cases.{IsDue, IsPossible, MakesCall}
 use Rattle.keeper_states.specs.Laws.{BrokenAnswers, LogAnswers, LogFails}
 use Rattle.keeper_states.specs.Promises.{IsMade, TriesLog}
 use Rattle.keeper_states.specs.Showing.{sweep_shown, walk_by, work_shown}
 use Rattle.keeper_states.specs.Standing.{Answers, BeginsBoth, IsWritten, KeeperStands, KnowsStore}
 use Rattle.keeper_states.proofs.Deciding.{not_true, two_ways}
+use Rattle.keeper_states.proofs.FilesTold.{files_are_told}
 use Rattle.keeper_states.proofs.Known.{staged_gate}
+use Rattle.keeper_states.proofs.LogDue.{log_due}
+use Rattle.keeper_states.proofs.SameCall.{known_call}
 use Rattle.keeper_states.proofs.LogMoves.{Before, Moved, both_after, due_moves, moved, none_begun, same_sweep, written_beside}
 use Rattle.keeper_states.proofs.Moved.{inside, same_history}
+use Rattle.keeper_states.proofs.StagedTold.{staged_told}
 
 -- ---- a call that succeeds
 
@@ -50,7 +54,8 @@ others w l (Rotating left) = by (left == 1)
     by false = refl
 
 module _ {D : Type 0} (states : D → List Files) (failures : D → ℕ) (honest : D → Type 0) (n : ℕ) (done : List Command) (old new : Keeper D) (p : Record) (w : World) (l : Life) (call : DeviceCall) (phase : Phase)
-    (f : Fits states honest n done old p) (h : honest old.disk) (s : KeeperStands states old p w l) (works : old.is_broken ≡ false) (goes : is_resting l.log ≡ false) (t : TriesLog states failures honest old new (Ok phase)) (made : IsMade states call old.disk new.disk) where
+    (f : Fits states honest n done old p) (h : honest old.disk) (s : KeeperStands states old p w l) (works : old.is_broken ≡ false) (goes : is_resting l.log ≡ false) (t : TriesLog states failures honest old new (Ok phase)) (made : IsMade states call old.disk new.disk)
+    (named : file_of call ≡ log_file (due_of (logs_of old)).generation) where
   k : KnowsStore states old l
   k = s.store works
 
@@ -90,6 +95,7 @@ module _ {D : Type 0} (states : D → List Files) (failures : D → ℕ) (honest
         durable = s.durable ∙ sym (ap (λ (k : Keeper D). k.published) t.same);
         has_failed = s.has_failed ∙ sym (ap (λ (k : Keeper D). k.has_failed) t.same);
         is_broken = s.is_broken ∙ works ∙ sym t.works;
+        staged = λ broken. absurd (two_ways new.is_broken broken t.works);
         store = λ _. record {
           log = goes_on.work;
           newest = goes_on.generation;
@@ -104,22 +110,32 @@ module _ {D : Type 0} (states : D → List Files) (failures : D → ℕ) (honest
   answers : Answers states new p w l (event.Device side.Log ending.Done) (outcome.Logged call phase)
   answers =
       let steps = t.steps works (due_moves w l old.log before old.next (length old.staged.items) old.staged.items f.rotation stays) in
-      record { happens = (s.is_broken ∙ works, subst (λ fs. IsPossible fs call) (sym s.files) made.possible, steps.ok.1 ∙ sym goes_on.phase); stands = after }
+      let due = log_due states honest n done old p w l f h works s steps.call steps.due in
+      let is : IsDue w l side.Log call = record {
+        file = named ∙ due.1;
+        low = 0;
+        what = known_call (call_of call) steps.call (file_of call) (log_file (due_of (logs_of old)).generation) (now (states old.disk)) (now (states new.disk)) named made.state (ap now steps.ok.2.state) ∙ due.0;
+        possible = subst (λ fs. IsPossible fs call) (sym s.files) made.possible;
+      } in
+      record { happens = (s.is_broken ∙ works, is, steps.ok.1 ∙ sym goes_on.phase); stands = after }
 
 pub log_answers : {D : Type 0} (states : D → List Files) (failures : D → ℕ) (honest : D → Type 0) → LogAnswers states failures honest
-log_answers {D} states failures honest n done old new p w l call phase f h s works has t made =
-    answers states failures honest n done old new p w l call phase f h s works (not_true (is_resting l.log) has) t made
+log_answers {D} states failures honest n done old new p w l call phase f h s works has t made named =
+    answers states failures honest n done old new p w l call phase f h s works (not_true (is_resting l.log) has) t made named
 
 -- ---- a call that fails
 
 pub log_fails : {D : Type 0} (states : D → List Files) (failures : D → ℕ) (honest : D → Type 0) → LogFails states failures honest
-log_fails {D} states failures honest old new p w l fill call e s works t lost =
+log_fails {D} states failures honest n done old new p w l fill call e f h s works t lost named =
     let m : Life = record l { is_broken = true } in
     let capture : new.capture ≡ old.capture = ap (λ (k : Keeper D). k.capture) t.same in
     let stripes : new.stripes ≡ old.stripes = ap (λ (k : Keeper D). k.stripes) t.same in
     let sweeper_is : new.sweeper ≡ old.sweeper = t.kept.0 in
     record {
-      happens = (s.is_broken ∙ works, subst (λ fs. IsPossible fs call) (sym s.files) lost.possible);
+      happens = (
+        s.is_broken ∙ works,
+        record { file = named ∙ (files_are_told states honest n done old p w l f h s works).0; possible = subst (λ fs. IsPossible fs call) (sym s.files) lost.possible },
+      );
       stands = record {
         life = refl;
         files = ap (failed fill call) s.files ∙ sym lost.state;
@@ -131,6 +147,7 @@ log_fails {D} states failures honest old new p w l fill call e s works t lost =
         durable = s.durable ∙ sym (ap (λ (k : Keeper D). k.published) t.same);
         has_failed = s.has_failed ∙ sym (ap (λ (k : Keeper D). k.has_failed) t.same);
         is_broken = sym t.kept.2;
+        staged = λ broken. staged_told states honest n done old p p w l f s ∙ ap (λ xs. length xs.items) (sym t.kept.1);
         store = λ works. absurd (two_ways new.is_broken t.kept.2 works);
       };
     }

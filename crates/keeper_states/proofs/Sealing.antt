@@ -161,6 +161,7 @@ module _ {D : Type 0} (states : D → List Files) (honest : D → Type 0) (n : �
         durable = s.durable;
         has_failed = s.has_failed;
         is_broken = s.is_broken;
+        staged = s.staged;
         store = λ _. record {
           log = k.log;
           newest = k.newest;

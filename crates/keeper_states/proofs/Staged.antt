@@ -55,9 +55,9 @@ module _ {D : Type 0} (states : D → List Files) (honest : D → Type 0) (n : �
   may_by works e = rest_may old.log old.next (length old.staged.items) old.staged.items f.rotation (sym (ap is_resting (s.store works).log) ∙ e)
 
   -- the keeper stands so where its log does
-  stands_by : (g : LogWork) (log : LogState) → new.log ≡ log → new ≡ record old { log = new.log; sweeper = record old.sweeper { in_hand = new.sweeper.in_hand }; staged = new.staged } → log.generation ≡ old.log.generation → log.gate ≡ old.log.gate → log.committed ≡ old.log.committed
+  stands_by : old.is_broken ≡ false → (g : LogWork) (log : LogState) → new.log ≡ log → new ≡ record old { log = new.log; sweeper = record old.sweeper { in_hand = new.sweeper.in_hand }; staged = new.staged } → log.generation ≡ old.log.generation → log.gate ≡ old.log.gate → log.committed ≡ old.log.committed
       → (old.is_broken ≡ false → g ≡ work_by new.log old.next (length new.staged.items)) → KeeperStands states new p (with_life w (record l { log = g })) (record l { log = g })
-  stands_by g log log_is same generation gate committed shown =
+  stands_by works g log log_is same generation gate committed shown =
       let m : Life = record l { log = g } in
       subst (λ k. KeeperStands states k p (with_life w m) m) (sym same) (record {
         life = refl;
@@ -70,6 +70,7 @@ module _ {D : Type 0} (states : D → List Files) (honest : D → Type 0) (n : �
         durable = s.durable;
         has_failed = s.has_failed;
         is_broken = s.is_broken;
+        staged = λ broken. absurd (two_ways old.is_broken broken works);
         store = λ works. let k = s.store works in record {
           log = shown works;
           newest = k.newest ∙ sym generation ∙ sym (ap (λ (x : LogState). x.generation) log_is);
@@ -94,6 +95,7 @@ module _ {D : Type 0} (states : D → List Files) (honest : D → Type 0) (n : �
         durable = s.durable ∙ sym (ap (λ (k : Keeper D). k.published) same);
         has_failed = s.has_failed ∙ sym (ap (λ (k : Keeper D). k.has_failed) same);
         is_broken = s.is_broken ∙ sym (ap (λ (k : Keeper D). k.is_broken) same);
+        staged = λ broken. s.staged (sym (ap (λ (k : Keeper D). k.is_broken) same) ∙ broken) ∙ sym (ap (λ xs. length xs.items) staged);
         store = λ works. subst (λ k. KnowsStore states k l) (sym same)
             (let k = s.store (sym (ap (λ (k : Keeper D). k.is_broken) same) ∙ works) in record {
               log = k.log ∙ ap (λ x. work_by x old.next (length old.staged.items)) (sym log) ∙ ap (λ x. work_by new.log old.next (length x.items)) (sym staged);
@@ -106,20 +108,20 @@ module _ {D : Type 0} (states : D → List Files) (honest : D → Type 0) (n : �
       })
 
   -- some were
-  some_staged : (count : ℕ) (commands : List Command) → 1 ≤ count → count ≡ length commands → MayStage old.log old.next → Stages commands old.log old.sweeper.in_hand new.log new.sweeper.in_hand new.staged.items
+  some_staged : old.is_broken ≡ false → (count : ℕ) (commands : List Command) → 1 ≤ count → count ≡ length commands → MayStage old.log old.next → Stages commands old.log old.sweeper.in_hand new.log new.sweeper.in_hand new.staged.items
       → new ≡ record old { log = new.log; sweeper = record old.sweeper { in_hand = new.sweeper.in_hand }; staged = new.staged } → KeeperStands states new p (with_life w (record l { log = Committing count 4 })) (record l { log = Committing count 4 })
-  some_staged count commands some is may st same =
+  some_staged works count commands some is may st same =
       let long : count ≡ length new.staged.items = is ∙ sym (ap (λ (xs : List Entry). length xs) st.entries ∙ length-entries old.sweeper.in_hand.next commands) in
-      stands_by (Committing count 4) new.log refl same (ap (λ (x : LogState). x.generation) st.log) (ap (λ (x : LogState). x.gate) st.log) (ap (λ (x : LogState). x.committed) st.log)
+      stands_by works (Committing count 4) new.log refl same (ap (λ (x : LogState). x.generation) st.log) (ap (λ (x : LogState). x.gate) st.log) (ap (λ (x : LogState). x.committed) st.log)
       (λ works. ap (λ k. Committing k 4) long ∙ sym (ap (λ o. work_by new.log o (length new.staged.items)) may.1 ∙ ap (λ (x : LogState). committing x.phase (length new.staged.items)) st.log))
 
-  after_ok : (count : ℕ) (commands : List Command) → count ≡ length commands → MayStage old.log old.next → (count ≡ 0 → new ≡ old) → (1 ≤ count → Stages commands old.log old.sweeper.in_hand new.log new.sweeper.in_hand new.staged.items)
+  after_ok : old.is_broken ≡ false → (count : ℕ) (commands : List Command) → count ≡ length commands → MayStage old.log old.next → (count ≡ 0 → new ≡ old) → (1 ≤ count → Stages commands old.log old.sweeper.in_hand new.log new.sweeper.in_hand new.staged.items)
       → new ≡ record old { log = new.log; sweeper = record old.sweeper { in_hand = new.sweeper.in_hand }; staged = new.staged } → HasKeeper states new p (with_life w (record l { log = staged_by count l.log }))
-  after_ok zero commands is may none_ some same =
-      let e = none_ refl in stands_by l.log old.log (ap (λ (k : Keeper D). k.log) e) same refl refl refl
+  after_ok works zero commands is may none_ some same =
+      let e = none_ refl in stands_by works l.log old.log (ap (λ (k : Keeper D). k.log) e) same refl refl refl
       (λ works. (s.store works).log ∙ ap (λ x. work_by x old.next (length old.staged.items)) (sym (ap (λ (k : Keeper D). k.log) e)) ∙ ap (λ x. work_by new.log old.next (length x.items)) (sym (ap (λ (k : Keeper D). k.staged) e)))
-  after_ok (suc m) commands is may none_ some same =
-      subst (λ g. HasKeeper states new p (with_life w (record l { log = g }))) (sym (never_none m l.log)) (some_staged (suc m) commands (omega arith) is may (some (omega arith)) same)
+  after_ok works (suc m) commands is may none_ some same =
+      subst (λ g. HasKeeper states new p (with_life w (record l { log = g }))) (sym (never_none m l.log)) (some_staged works (suc m) commands (omega arith) is may (some (omega arith)) same)
     where
       never_none : (m : ℕ) (log : LogWork) → staged_by (suc m) log ≡ Committing (suc m) 4
       never_none m log = ap (λ b. if b then log else Committing (suc m) 4) (other_is (suc m) 0 (λ e. omega (arith, e)))
@@ -138,7 +140,7 @@ module _ {D : Type 0} (states : D → List Files) (honest : D → Type 0) (n : �
           subst (IsLongestRun w l most) (sym o.2) (longest states honest n done old p w l f s places rest may most o.0 o.1),
           λ past. ok_err count refusal.LogFull (t.full.1 (works, may, past_full states honest n done old p w l f s places rest may most o.0 o.1 k.gate (subst (IsPastFull w l) o.2 past))),
         );
-        stands = after_ok count o.0 o.2 may o.3 o.4 t.same;
+        stands = after_ok works count o.0 o.2 may o.3 o.4 t.same;
       }
   stage_by (Err e) t = record { happens = refused e t.no_other t; stands = unstaged t.same t.err.0 t.err.1 }
     where

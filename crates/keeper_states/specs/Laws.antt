@@ -16,7 +16,10 @@ use Rattle.disk_model.specs.declared.fill.Fill.{Fill}
 use Rattle.disk_model.specs.Files.{Files}
 use Rattle.store_layout.specs.declared.log_phase.Phase.{Phase}
 use Rattle.store_layout.specs.declared.checkpoint_phase.CheckpointPhase.{CheckpointPhase}
+use Rattle.store_layout.specs.Checkpoints.{checkpoint_file}
+use Rattle.store_layout.specs.Logs.{log_file}
 use Rattle.store_layout.specs.Opening.{Opened}
+use Rattle.checkpoint_file.specs.States.{CheckpointState}
 use Rattle.flusher.specs.declared.keeper.Keeper.{Keeper}
 use Rattle.flusher.specs.declared.sweeper.Sweep.{Sweep}
 use Rattle.flusher.specs.declared.sweeper.Swept.{Swept}
@@ -41,10 +44,12 @@ use Rattle.gate_log.specs.States.{call_in}
 use Rattle.flusher.specs.Rotating.{due_of, logs_of}
 use Rattle.checkpoint_walk.specs.Checkpointing.{call_due}
 use Rattle.schedules.specs.declared.outcome.End.{End}
-use Rattle.schedules.specs.After.{after, with_job, with_life, worker_stepped}
+use Rattle.schedules.specs.After.{after, file_of, with_job, with_life, worker_stepped}
 use Rattle.schedules.specs.World.{World, Life, Job, keeper_holds, rests}
 use Rattle.schedules.specs.Cases.{Meets, section_size}
+use Rattle.schedules.specs.Due.{due_file}
 use Rattle.schedules.specs.Fitting.{fits_inside, has_call}
+use Rattle.schedules.specs.Runs.{staged_in}
 use Rattle.checkpoint_walk.specs.Walking.{FitsWalking}
 use Rattle.keeper_states.specs.Promises.{IsLost, IsMade, StepsCapture, StepsSweep, TriesBegin, TriesCheckpoint, TriesLog, TriesSeal, TriesStage}
 use Rattle.keeper_states.specs.Telling.{MakesStep, capture_end, sweep_end}
@@ -86,22 +91,29 @@ SealAnswers {D} states honest = (n : ℕ) (done : List Command) (old new : Keepe
 abbrev pub LogAnswers : {D : Type 0} → (D → List Files) → (D → ℕ) → (D → Type 0) → Type 0
 LogAnswers {D} states failures honest = (n : ℕ) (done : List Command) (old new : Keeper D) (p : Record) (w : World) (l : Life) (call : DeviceCall) (phase : Phase)
     → Fits states honest n done old p → honest old.disk → KeeperStands states old p w l → old.is_broken ≡ false → has_call side.Log l ≡ true
-    → TriesLog states failures honest old new (Ok phase) → IsMade states call old.disk new.disk → Answers states new p w l (event.Device side.Log ending.Done) (outcome.Logged call phase)
+    → TriesLog states failures honest old new (Ok phase) → IsMade states call old.disk new.disk → file_of call ≡ log_file (due_of (logs_of old)).generation → Answers states new p w l (event.Device side.Log ending.Done) (outcome.Logged call phase)
 
 -- and which fails
 abbrev pub LogFails : {D : Type 0} → (D → List Files) → (D → ℕ) → (D → Type 0) → Type 0
-LogFails {D} states failures honest = (old new : Keeper D) (p : Record) (w : World) (l : Life) (fill : Fill) (call : DeviceCall) (e : Refusal) → KeeperStands states old p w l → old.is_broken ≡ false
-    → TriesLog states failures honest old new (Err e) → IsLost states fill call old.disk new.disk → Answers states new p w l (event.Device side.Log (ending.Fails fill)) (outcome.CallFailed call)
+LogFails {D} states failures honest = (n : ℕ) (done : List Command) (old new : Keeper D) (p : Record) (w : World) (l : Life) (fill : Fill) (call : DeviceCall) (e : Refusal)
+    → Fits states honest n done old p → honest old.disk → KeeperStands states old p w l → old.is_broken ≡ false
+    → TriesLog states failures honest old new (Err e) → IsLost states fill call old.disk new.disk → file_of call ≡ log_file (due_of (logs_of old)).generation → Answers states new p w l (event.Device side.Log (ending.Fails fill)) (outcome.CallFailed call)
+
+-- the file of the checkpoint that is written
+abbrev pub file_due : Option CheckpointState → ℕ
+file_due None = 0
+file_due (Some w) = checkpoint_file w.generation
 
 -- a call of the checkpoint, which succeeds
 abbrev pub CheckpointAnswers : {D : Type 0} → (D → List Files) → (D → ℕ) → (D → Type 0) → Type 0
 CheckpointAnswers {D} states failures honest = (n : ℕ) (done : List Command) (old new : Keeper D) (p : Record) (w : World) (l : Life) (call : DeviceCall) (phase : CheckpointPhase)
     → Fits states honest n done old p → honest new.disk → KeeperStands states old p w l → old.is_broken ≡ false → has_call side.Checkpoint l ≡ true
-    → TriesCheckpoint states failures honest old new (Ok phase) → IsMade states call old.disk new.disk → Answers states new p w l (event.Device side.Checkpoint ending.Done) (outcome.Checkpointed call phase)
+    → TriesCheckpoint states failures honest old new (Ok phase) → IsMade states call old.disk new.disk → file_of call ≡ file_due old.checkpoint → Answers states new p w l (event.Device side.Checkpoint ending.Done) (outcome.Checkpointed call phase)
 
 abbrev pub CheckpointFails : {D : Type 0} → (D → List Files) → (D → ℕ) → (D → Type 0) → Type 0
-CheckpointFails {D} states failures honest = (old new : Keeper D) (p : Record) (w : World) (l : Life) (fill : Fill) (call : DeviceCall) (e : Refusal) → KeeperStands states old p w l → old.is_broken ≡ false
-    → TriesCheckpoint states failures honest old new (Err e) → IsLost states fill call old.disk new.disk → Answers states new p w l (event.Device side.Checkpoint (ending.Fails fill)) (outcome.CallFailed call)
+CheckpointFails {D} states failures honest = (n : ℕ) (done : List Command) (old new : Keeper D) (p : Record) (w : World) (l : Life) (fill : Fill) (call : DeviceCall) (e : Refusal)
+    → Fits states honest n done old p → honest old.disk → KeeperStands states old p w l → old.is_broken ≡ false
+    → TriesCheckpoint states failures honest old new (Err e) → IsLost states fill call old.disk new.disk → file_of call ≡ file_due old.checkpoint → Answers states new p w l (event.Device side.Checkpoint (ending.Fails fill)) (outcome.CallFailed call)
 
 -- After a call has failed none is made.
 abbrev pub BrokenAnswers : {D : Type 0} → (D → List Files) → Type 0
@@ -193,6 +205,16 @@ StripeIsTold {D} states honest = (n : ℕ) (done : List Command) (keeper : Keepe
 abbrev pub CountsAreTold : {D : Type 0} → (D → List Files) → (D → Type 0) → Type 0
 CountsAreTold {D} states honest = (n : ℕ) (done : List Command) (keeper : Keeper D) (p : Record) (w : World) (l : Life) → FitsWalking states honest n done keeper p → KeeperStands states keeper p w l
     → (l.durable ≡ p.published) × (l.has_failed ≡ p.failed)
+
+-- the next call of the log, and that of the checkpoint, is of the file that the world says
+abbrev pub FilesAreTold : {D : Type 0} → (D → List Files) → (D → Type 0) → Type 0
+FilesAreTold {D} states honest = (n : ℕ) (done : List Command) (keeper : Keeper D) (p : Record) (w : World) (l : Life) → Fits states honest n done keeper p → honest keeper.disk → KeeperStands states keeper p w l
+    → keeper.is_broken ≡ false → (log_file (due_of (logs_of keeper)).generation ≡ due_file l side.Log) × (file_due keeper.checkpoint ≡ due_file l side.Checkpoint)
+
+-- as many commands are staged as the world says, also after a device call has failed
+abbrev pub StagedIsTold : {D : Type 0} → (D → List Files) → (D → Type 0) → Type 0
+StagedIsTold {D} states honest = (n : ℕ) (done : List Command) (keeper : Keeper D) (p : Record) (w : World) (l : Life) → FitsWalking states honest n done keeper p → KeeperStands states keeper p w l
+    → staged_in l.log ≡ length keeper.staged.items
 
 -- ---- what sweeps took
 

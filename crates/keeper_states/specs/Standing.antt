@@ -1,5 +1,5 @@
 -- How a keeper and its pass stand against the world.
-use Rattle.std.specs.Prelude.{◌≡◌, ℕ, ◌+◌, ◌<◌, ◌≤◌, List, [], ◌++◌, length, take, drop, Option, None, Some, Bool, false}
+use Rattle.std.specs.Prelude.{◌≡◌, ℕ, ◌+◌, ◌<◌, ◌≤◌, List, [], ◌++◌, length, take, drop, Option, None, Some, Bool, true, false}
 use Rattle.map_types.specs.declared.commands.Command.{Command}
 use Rattle.map_model.specs.Steps.{fold_of}
 use Rattle.std.specs.List.{Contains}
@@ -22,6 +22,7 @@ use Rattle.schedules.specs.declared.event.Event.{Event}
 use Rattle.schedules.specs.declared.outcome.Outcome.{Outcome}
 use Rattle.schedules.specs.After.{after_inside}
 use Rattle.schedules.specs.Cases.{HappensInside}
+use Rattle.schedules.specs.Runs.{staged_in}
 use Rattle.keeper_states.specs.Showing.{running_shown, sweep_shown, walk_shown, work_shown}
 
 -- The pass began with this life, and what it has seen is a front of the commands that the life has added.
@@ -52,7 +53,8 @@ pub record KnowsStore {D : Type 0} (states : D → List Files) (keeper : Keeper 
   pub checkpoint : IsWritten keeper.checkpoint l.checkpoint (now (states keeper.disk))
   pub both : BeginsBoth keeper.next keeper.checkpoint keeper.must_close
 
--- The keeper, whose pass has this record, is as the events and outcomes so far say. Of its files that is so until a device call fails.
+-- The keeper, whose pass has this record, is as the events and outcomes so far say. Of its files that is so until a device call fails; of how much is
+-- staged also then.
 pub record KeeperStands {D : Type 0} (states : D → List Files) (keeper : Keeper D) (p : Record) (w : World) (l : Life) : Type 0 where
   pub life : w.life ≡ Some l
   pub files : w.files ≡ now (states keeper.disk)
@@ -65,6 +67,7 @@ pub record KeeperStands {D : Type 0} (states : D → List Files) (keeper : Keepe
   pub has_failed : l.has_failed ≡ keeper.has_failed
   pub is_broken : l.is_broken ≡ keeper.is_broken
   pub store : keeper.is_broken ≡ false → KnowsStore states keeper l
+  pub staged : keeper.is_broken ≡ true → staged_in l.log ≡ length keeper.staged.items
 
 -- A ticket of this life is in hand, or was and is committed, exactly where a sweep of the pass took its entry.
 pub record TellsPlaces (p : Record) (l : Life) : Type 0 where

@@ -1,5 +1,5 @@
 //! Laws of a keeper against its world, each as the contract of a function.
-ghost use Rattle.keeper_states.specs.Laws.{AnswersAreMet, BeginAnswers, BrokenAnswers, CaptureAnswers, CaptureRefuses, CaptureStepAnswers, CaptureTakesNone, CheckpointAnswers, CheckpointCallIsTold, CheckpointFails, CountsAreTold, FailAnswers, FrontIsSeen, LogAnswers, LogCallIsTold, LogFails, OpeningStands, PublishAnswers, SealAnswers, StageAnswers, StripeIsTold, SweepAnswers, SweepStepAnswers, SweepTakesNone, SweepTakesOutbox, TooManyAreTooLarge, WalkIsTold, WorkersLeaveKeeper};
+ghost use Rattle.keeper_states.specs.Laws.{AnswersAreMet, BeginAnswers, BrokenAnswers, CaptureAnswers, CaptureRefuses, CaptureStepAnswers, CaptureTakesNone, CheckpointAnswers, CheckpointCallIsTold, CheckpointFails, CountsAreTold, FailAnswers, FilesAreTold, FrontIsSeen, LogAnswers, LogCallIsTold, LogFails, OpeningStands, PublishAnswers, SealAnswers, StageAnswers, StagedIsTold, StripeIsTold, SweepAnswers, SweepStepAnswers, SweepTakesNone, SweepTakesOutbox, TooManyAreTooLarge, WalkIsTold, WorkersLeaveKeeper};
 
 use disk_model::Disk;
 use schedules::laws::laws_of_runs;
@@ -49,13 +49,16 @@ pub fn laws_of_captures<D: Disk>()
     ensures too_large { TooManyAreTooLarge D.states D.honest }
 {}
 
-/// What the world says of the keeper's walk, of its pass, and of the device calls that are due.
+/// What the world says of the keeper's walk, of its pass, of the device calls that are due, and of how
+/// much is staged.
 pub fn laws_of_telling<D: Disk>()
     ensures walk { WalkIsTold D.states }
     ensures stripe { StripeIsTold D.states D.honest }
     ensures counts { CountsAreTold D.states D.honest }
     ensures log { LogCallIsTold D.states D.honest }
     ensures checkpoint { CheckpointCallIsTold D.states }
+    ensures staged { StagedIsTold D.states D.honest }
+    ensures files { FilesAreTold D.states D.honest }
 {}
 
 /// Which entries a step of the keeper took: none, or the outbox of the stripe that it held.

@@ -72,7 +72,9 @@ fn outcome_text(alloc: Global, outcome: &Outcome) -> Result<String, AllocError>
             refusal_text(alloc, *refusal)
         }
         Outcome::Opened {
-            prefix, entries, ..
+            prefix,
+            entries,
+            ..
         } => {
             let count = entries.len();
             format!(in alloc; "open {prefix} {count}")

@@ -18,10 +18,11 @@ use Rattle.schedules.specs.declared.event.Side.{Side}
 use Rattle.schedules.specs.declared.event.Side.TheVariants as side
 use Rattle.schedules.specs.declared.outcome.DeviceCall.{DeviceCall}
 use Rattle.schedules.specs.declared.outcome.Outcome.TheVariants as outcome
+use Rattle.schedules.specs.After.{file_of}
 use Rattle.schedules.specs.World.{World, Life, rests}
 use Rattle.schedules.specs.Fitting.{fits, fits_with, has_call}
 use Rattle.schedule_states.specs.Laws.{KeeperRests}
-use Rattle.keeper_states.specs.Laws.{BrokenAnswers, CheckpointAnswers, CheckpointCallIsTold, CheckpointFails, LogCallIsTold, WalkIsTold}
+use Rattle.keeper_states.specs.Laws.{BrokenAnswers, CheckpointAnswers, CheckpointCallIsTold, CheckpointFails, LogCallIsTold, WalkIsTold, file_due}
 use Rattle.keeper_states.specs.Promises.{IsLost, IsMade, TriesCheckpoint}
 use Rattle.schedule_sim.specs.declared.traced.Traced.{Traced}
 use Rattle.schedule_sim.specs.declared.life.Life as sim
@@ -108,10 +109,10 @@ pub checkpoint_calls : (w : World) (life new : sim.Life) (planned disk : Traced)
     → LogCallIsTold traced_states traced_honest → CheckpointCallIsTold traced_states → CheckpointAnswers traced_states failures traced_honest
     → KeeperRests → MayCall side.Checkpoint life.keeper → traced_states planned ≡ traced_states life.keeper.disk
     → TriesCheckpoint traced_states failures traced_honest (record life.keeper { disk = planned }) made result → Refits life planned made
-    → traced_states disk ≡ traced_states made.disk → WasLast None call (traced_states disk)
+    → traced_states disk ≡ traced_states made.disk → WasLast None call (traced_states disk) → file_of call ≡ file_due life.keeper.checkpoint
     → new.keeper ≡ record made { disk = disk } → new.words ≡ life.words → new.jobs.items ≡ life.jobs.items → IsLife w life
     → Did w (event.Device side.Checkpoint ending.Done) (outcome.Checkpointed call phase) new
-checkpoint_calls w life new planned disk made failures call phase result is walks log checkpoint law leaves may plan tries refits same was e1 e2 e3 a =
+checkpoint_calls w life new planned disk made failures call phase result is walks log checkpoint law leaves may plan tries refits same was named e1 e2 e3 a =
     let b = life.words in
     let fit = planned_fits b.stripes a.done life.keeper (record_of 64 b) planned plan (fits_now w life.keeper b life.jobs.items a may.no_capture) in
     let more = checkpoint_made life.keeper made failures planned result may tries.steps in
@@ -120,7 +121,7 @@ checkpoint_calls w life new planned disk made failures call phase result is walk
     ends_call w life new side.Checkpoint ending.Done (outcome.Checkpointed call phase) planned disk made a.done walks log checkpoint leaves may plan
     same (ap (λ k. k.capture) tries.same ∙ may.no_capture) (refits b.stripes a.done fit) tt
     (λ l stands has. law b.stripes a.done (record life.keeper { disk = planned }) made (record_of 64 b) w l call phase fit tt stands may.works has
-    (subst (λ r. TriesCheckpoint traced_states failures traced_honest (record life.keeper { disk = planned }) made r) is tries) is_made) e1 e2 e3 a
+    (subst (λ r. TriesCheckpoint traced_states failures traced_honest (record life.keeper { disk = planned }) made r) is tries) is_made named) e1 e2 e3 a
 
 -- it failed
 pub checkpoint_fails : (w : World) (life new : sim.Life) (planned disk : Traced) (made : Keeper Traced) (failures : Traced → ℕ) (fill : Fill)
@@ -128,10 +129,10 @@ pub checkpoint_fails : (w : World) (life new : sim.Life) (planned disk : Traced)
     → LogCallIsTold traced_states traced_honest → CheckpointCallIsTold traced_states → CheckpointFails traced_states failures traced_honest
     → KeeperRests → MayCall side.Checkpoint life.keeper → traced_states planned ≡ traced_states life.keeper.disk
     → TriesCheckpoint traced_states failures traced_honest (record life.keeper { disk = planned }) made result → Refits life planned made
-    → traced_states disk ≡ traced_states made.disk → WasLast (Some fill) call (traced_states disk)
+    → traced_states disk ≡ traced_states made.disk → WasLast (Some fill) call (traced_states disk) → file_of call ≡ file_due life.keeper.checkpoint
     → new.keeper ≡ record made { disk = disk } → new.words ≡ life.words → new.jobs.items ≡ life.jobs.items → IsLife w life
     → Did w (event.Device side.Checkpoint (ending.Fails fill)) (outcome.CallFailed call) new
-checkpoint_fails w life new planned disk made failures fill call result is walks log checkpoint law leaves may plan tries refits same was e1 e2 e3 a =
+checkpoint_fails w life new planned disk made failures fill call result is walks log checkpoint law leaves may plan tries refits same was named e1 e2 e3 a =
     let b = life.words in
     let err = is_err result is in
     let fit = planned_fits b.stripes a.done life.keeper (record_of 64 b) planned plan (fits_now w life.keeper b life.jobs.items a may.no_capture) in
@@ -141,5 +142,5 @@ checkpoint_fails w life new planned disk made failures fill call result is walks
     let is_lost : IsLost traced_states fill call planned made.disk = record { possible = left.possible; state = left.state } in
     ends_call w life new side.Checkpoint (ending.Fails fill) (outcome.CallFailed call) planned disk made a.done walks log checkpoint leaves may plan
     same (ap (λ k. k.capture) tries.same ∙ may.no_capture) (refits b.stripes a.done fit) tt
-    (λ l stands has. law (record life.keeper { disk = planned }) made (record_of 64 b) w l fill call err.0 stands may.works
-    (subst (λ r. TriesCheckpoint traced_states failures traced_honest (record life.keeper { disk = planned }) made r) err.1 tries) is_lost) e1 e2 e3 a
+    (λ l stands has. law b.stripes a.done (record life.keeper { disk = planned }) made (record_of 64 b) w l fill call err.0 fit tt stands may.works
+    (subst (λ r. TriesCheckpoint traced_states failures traced_honest (record life.keeper { disk = planned }) made r) err.1 tries) is_lost named) e1 e2 e3 a

@@ -2,7 +2,7 @@
 use Rattle.std.proofs.Common.{◌≡◌, ℕ, ◌≤◌, ◌<◌, List, ◌∷◌, length, Option, None, Some, MatchBool, Result, Ok, Err, IfOk, true, refl, sym, ◌∙◌, ap, subst, arith}
 use Rattle.std.proofs.lemmas.List.{ext_get_or, length-append}
 use Rattle.std.proofs.lemmas.Bool.Decides.{nat_tests}
-use Rattle.disk_model.specs.Files.{Files, Leaves, MayLeave, at_rest, now}
+use Rattle.disk_model.specs.Files.{Contents, Files, Leaves, MayLeave, at_rest, now}
 use Rattle.disk_model.specs.Fills.{after_stop, left_by}
 use Rattle.disk_model.specs.declared.fill.Fill.{Fill}
 use Rattle.ticket_order.specs.Legality.{history_of}
@@ -24,7 +24,7 @@ use Rattle.schedules.specs.Cases.{HappensWith, Meets}
 use Rattle.schedules.specs.Fitting.{fits, fits_with}
 use Rattle.schedules.specs.Laws.{KnownStands}
 use Rattle.schedules.specs.Runs.{OpensWell}
-use Rattle.schedules.specs.Sound.{AnswersLegally, OpensFront}
+use Rattle.schedules.specs.Sound.{AnswersLegally, AreAbove, OpensFront}
 use Rattle.schedule_states.specs.Workers.{WorkersStand}
 use Rattle.schedule_sim.specs.declared.job.Job.{Job}
 use Rattle.schedule_sim.specs.declared.life.Life as sim
@@ -34,10 +34,10 @@ use Rattle.schedule_sim.specs.declared.traced.Traced.{Traced}
 use Rattle.schedule_sim.specs.Tracing.{traced_states}
 use Rattle.schedule_sim.specs.Workers.{doings_of}
 use Rattle.schedule_sim.specs.Living.{IsLife, IsLifeOf}
-use Rattle.schedule_sim.specs.Storing.{DidStore, IsClosed, IsDurable, IsInterrupted, IsNext, IsStore, LiesOn}
+use Rattle.schedule_sim.specs.Storing.{DidStore, IsClosed, IsDurable, IsInterrupted, IsNext, IsStore, LiesOn, StopsWithin}
 use Rattle.schedule_sim.proofs.Doing.{goes_on, meets_inside}
 use Rattle.schedule_sim.proofs.Kept.{life_there}
-use Rattle.schedule_sim.proofs.Stopping.{life_stops}
+use Rattle.schedule_sim.proofs.Stopping.{above_stands, life_stops}
 use Rattle.schedule_sim.proofs.Stores.{nothing}
 
 -- ---- what lies on the disk
@@ -76,16 +76,25 @@ pub left_closed : (w : World) (least : ℕ) (disk : Traced) → LiesOn w least d
 left_closed w least disk lies = record { life = refl; files = lies.files; reached = lies.reached; stops = lies.stops }
 
 -- within a call the disk is as the call leaves it
-pub interrupted_lies : (w : World) (least : ℕ) (old : sim.Life) (call : DeviceCall) (disk disk' : Traced) → disk' ≡ disk → IsLife w old → IsDurable least w.life → IsInterrupted w call disk
+pub interrupted_lies : (w : World) (least : ℕ) (s : Side) (old : sim.Life) (call : DeviceCall) (disk disk' : Traced) → disk' ≡ disk → IsLife w old → IsDurable least w.life → IsInterrupted w s call disk
     → LiesOn (without_life w (entered call w.files)) least disk'
-interrupted_lies w least old call disk disk' same life durable stopped =
+interrupted_lies w least s old call disk disk' same life durable stopped =
     let there = life_there w old.keeper old.words old.jobs.items life in
-    let stops = subst (λ n. StopsStand (whole w.history) n (length w.history) (now (traced_states disk))) (sym (durable_is w least there.0 there.1.life durable)) (stopped.stops there.0 there.1.life) in
+    let above : (contents : Contents) → Leaves (now (traced_states disk)) contents → AreAbove w least contents =
+    subst (λ n. (contents : Contents) → Leaves (now (traced_states disk)) contents → AreAbove w n contents) (sym (durable_is w least there.0 there.1.life durable)) (stopped.stops there.0 there.1.life) in
     record {
       files = sym (ap (λ d. now (traced_states d)) same ∙ stopped.state);
       reached = durable_reached w least old.keeper old.words old.jobs.items life durable;
-      stops = subst (λ files. StopsStand (whole w.history) least (length w.history) files) stopped.state stops;
+      stops = λ contents leaves. above_stands w least contents (above contents (subst (λ files. Leaves files contents) (sym stopped.state) leaves));
     }
+
+-- within the call itself, too
+pub interrupted_within : (w : World) (least : ℕ) (s : Side) (old : sim.Life) (call : DeviceCall) (disk : Traced) → IsLife w old → IsDurable least w.life → IsInterrupted w s call disk
+    → (contents : Contents) → Leaves (entered call w.files) contents → AreAbove w least contents
+interrupted_within w least s old call disk life durable stopped contents leaves =
+    let there = life_there w old.keeper old.words old.jobs.items life in
+    subst (λ n. AreAbove w n contents) (sym (durable_is w least there.0 there.1.life durable))
+    (stopped.stops there.0 there.1.life contents (subst (λ files. Leaves files contents) (sym stopped.state) leaves))
 
 -- ---- a stop
 
@@ -119,13 +128,14 @@ stop_closes w least fill files old disk lies is after allowed =
 
 -- no life is there after it
 ended : (w : World) (least : ℕ) (e : Event) (x : Outcome) (files : Files) (store : Store) → Meets w nothing e x → AnswersLegally w e x → OpensFront w least nothing x → OpensWell (e, x)
-    → after w nothing e x ≡ without_life w files → IsStore (without_life w files) least store → DidStore w least e x store
-ended w least e x files store meets answers front opens is stands = record {
+    → StopsWithin w least e x → after w nothing e x ≡ without_life w files → IsStore (without_life w files) least store → DidStore w least e x store
+ended w least e x files store meets answers front opens within is stands = record {
   found = nothing;
   meets = meets;
   answers = answers;
   front = front;
   opens = opens;
+  within = within;
   next = least;
   next_is = subst (λ (v : World). IsNext least least v.life) (sym is) refl;
   stands = subst (λ v. IsStore v least store) (sym is) stands;
@@ -134,7 +144,7 @@ ended w least e x files store meets answers front opens is stands = record {
 pub left_did : (w : World) (least : ℕ) (old : sim.Life) (disk : Traced) → IsLife w old → LiesOn w least disk → DidStore w least event.Leave outcome.Left (Closed disk)
 left_did w least old disk life lies =
     let there = life_there w old.keeper old.words old.jobs.items life in
-    ended w least event.Leave outcome.Left w.files (Closed disk) (meets_inside w there.0 event.Leave outcome.Left there.1.life refl refl nothing) tt tt tt
+    ended w least event.Leave outcome.Left w.files (Closed disk) (meets_inside w there.0 event.Leave outcome.Left there.1.life refl refl nothing) tt tt tt tt
     (goes_on w nothing event.Leave outcome.Left tt ∙ ap (λ o. after_with w o nothing event.Leave outcome.Left) there.1.life) (left_closed w least disk lies)
 
 meets_stop : (w : World) (fill : Fill) (o : Option Life)
@@ -148,7 +158,7 @@ after_stopped w fill (Some l) = refl
 
 stopped_none : (w : World) (least : ℕ) (fill : Fill) (store : Store) → IsStore (without_life w (after_stop fill w.files)) least store → DidStore w least (event.Stop None fill) (outcome.Stopped None) store
 stopped_none w least fill store stands =
-    ended w least (event.Stop None fill) (outcome.Stopped None) (after_stop fill w.files) store (meets_stop w fill w.life) tt tt tt
+    ended w least (event.Stop None fill) (outcome.Stopped None) (after_stop fill w.files) store (meets_stop w fill w.life) tt tt tt tt
     (goes_on w nothing (event.Stop None fill) (outcome.Stopped None) tt ∙ after_stopped w fill w.life) stands
 
 pub stopped_did : (w : World) (least : ℕ) (fill : Fill) (x : Outcome) (store : Store) → x ≡ outcome.Stopped None → IsStore (without_life w (after_stop fill w.files)) least store
@@ -156,18 +166,21 @@ pub stopped_did : (w : World) (least : ℕ) (fill : Fill) (x : Outcome) (store :
 stopped_did w least fill x store is stands = rw is (stopped_none w least fill store stands)
 
 stopped_some : (w : World) (least : ℕ) (s : Side) (fill : Fill) (old : sim.Life) (call : DeviceCall) (disk : Traced) (store : Store) → IsLife w old → fits w (event.Stop (Some s) fill) ≡ true
-    → IsInterrupted w call disk → IsStore (without_life w (after_stop fill (entered call w.files))) least store → DidStore w least (event.Stop (Some s) fill) (outcome.Stopped (Some call)) store
-stopped_some w least s fill old call disk store life fit stopped stands =
+    → IsDurable least w.life → IsInterrupted w s call disk → IsStore (without_life w (after_stop fill (entered call w.files))) least store
+    → DidStore w least (event.Stop (Some s) fill) (outcome.Stopped (Some call)) store
+stopped_some w least s fill old call disk store life fit durable stopped stands =
     let there = life_there w old.keeper old.words old.jobs.items life in
     let e : Event = event.Stop (Some s) fill in
     let x : Outcome = outcome.Stopped (Some call) in
     ended w least e x (after_stop fill (entered call w.files)) store
-    (meets_inside w there.0 e x there.1.life (sym (ap (λ o. fits_with o e) there.1.life) ∙ fit) stopped.possible nothing) tt tt tt
+    (meets_inside w there.0 e x there.1.life (sym (ap (λ o. fits_with o e) there.1.life) ∙ fit) (stopped.there there.0 there.1.life) nothing) tt tt tt
+    (interrupted_within w least s old call disk life durable stopped)
     (goes_on w nothing e x tt ∙ ap (λ o. after_with w o nothing e x) there.1.life) stands
 
 pub stopped_within_did : (w : World) (least : ℕ) (s : Side) (fill : Fill) (old : sim.Life) (call : DeviceCall) (disk : Traced) (x : Outcome) (store : Store) → x ≡ outcome.Stopped (Some call) → IsLife w old
-    → fits w (event.Stop (Some s) fill) ≡ true → IsInterrupted w call disk → IsStore (without_life w (after_stop fill (entered call w.files))) least store → DidStore w least (event.Stop (Some s) fill) x store
-stopped_within_did w least s fill old call disk x store is life fit stopped stands = rw is (stopped_some w least s fill old call disk store life fit stopped stands)
+    → fits w (event.Stop (Some s) fill) ≡ true → IsDurable least w.life → IsInterrupted w s call disk → IsStore (without_life w (after_stop fill (entered call w.files))) least store
+    → DidStore w least (event.Stop (Some s) fill) x store
+stopped_within_did w least s fill old call disk x store is life fit durable stopped stands = rw is (stopped_some w least s fill old call disk store life fit durable stopped stands)
 
 -- what holds of a value that is there, from two things that do
 pub both_ok : {A E : Type 0} (P Q R : A → Type 0) (r : Result A E) → ((x : A) → P x → Q x → R x) → IfOk r P → IfOk r Q → IfOk r R

@@ -6,6 +6,7 @@ use Rattle.ticket_order.specs.declared.record.Record.{Record}
 use Rattle.one_history.specs.declared.book.Book.{Book}
 use Rattle.one_history.specs.Turns.{record_of}
 use Rattle.disk_model.specs.declared.fill.Fill.{Fill}
+use Rattle.disk_model.specs.Files as disk
 use Rattle.disk_model.specs.Files.{Files, now}
 use Rattle.std.specs.List.{AllByRecursion}
 use Rattle.std.specs.Option.{ok_or}
@@ -16,7 +17,7 @@ use Rattle.checkpoint_file.specs.States.{CheckpointState}
 use Rattle.checkpoint_walk.specs.Checkpointing.{StepsCheckpoint, call_due}
 use Rattle.disk_model.specs.Moments.{AtEachMoment}
 use Rattle.ticket_order.specs.Legality.{history_of}
-use Rattle.store_states.specs.Standing.{StopsStand}
+use Rattle.store_layout.specs.Logs.{log_file}
 use Rattle.store_layout.specs.declared.log_phase.Phase.{Phase}
 use Rattle.store_layout.specs.declared.log_phase.Phase.TheVariants as log_phase
 use Rattle.gate_log.specs.States.{LogState, call_in}
@@ -30,21 +31,21 @@ use Rattle.schedules.specs.declared.event.Side.TheVariants as side
 use Rattle.schedules.specs.declared.outcome.DeviceCall.{DeviceCall}
 use Rattle.schedules.specs.World.{World, Life}
 use Rattle.schedules.specs.Fitting.{fits, fits_with, has_call}
-use Rattle.schedules.specs.After.{failed}
-use Rattle.schedules.specs.Cases.{IsPossible}
+use Rattle.schedules.specs.After.{failed, file_of}
+use Rattle.schedules.specs.Cases.{IsPossible, IsThere}
+use Rattle.schedules.specs.Due.{due_file}
 use Rattle.schedules.specs.Laws.{EnteredAsFailed, KnownStands}
-use Rattle.schedules.specs.Machine.{whole}
-use Rattle.keeper_states.specs.Laws.{CheckpointCallIsTold, LogCallIsTold, WalkIsTold}
+use Rattle.keeper_states.specs.Laws.{CheckpointCallIsTold, FilesAreTold, LogCallIsTold, StagedIsTold, WalkIsTold, file_due}
 use Rattle.keeper_states.specs.Standing.{KeeperStands}
 use Rattle.schedule_sim.specs.declared.traced.Traced.{Traced}
 use Rattle.schedule_sim.specs.declared.job.Job.{Job}
-use Rattle.schedule_sim.specs.Calling.{MayCall, is_due}
+use Rattle.schedule_sim.specs.Calling.{MayCall, is_due, number_due}
 use Rattle.schedule_sim.specs.Living.{IsLifeOf}
 use Rattle.schedule_sim.specs.Noting.{WasLast, left}
 use Rattle.schedule_sim.specs.Storing.{IsInterrupted}
 use Rattle.schedule_sim.specs.Tracing.{traced_states, traced_honest}
 use Rattle.schedule_sim.proofs.Kept.{fits_now, life_there, rests}
-use Rattle.schedule_sim.proofs.Stopping.{life_stops}
+use Rattle.schedule_sim.proofs.Stopping.{life_keeps}
 use Rattle.schedule_sim.proofs.TracedCalls.{HasOneMore}
 
 -- ---- which calls can be made
@@ -125,6 +126,7 @@ planned_stands keeper p w l disk same k = record {
   durable = k.durable;
   has_failed = k.has_failed;
   is_broken = k.is_broken;
+  staged = k.staged;
   store = λ works. let s = k.store works in record { log = s.log; newest = s.newest; gate = s.gate; sealed = s.sealed; checkpoint = rw same s.checkpoint; both = s.both };
 }
 
@@ -155,20 +157,34 @@ newest_has : (P : Files → Type 0) (new old added : List Files) → new ≡ add
 newest_has P new old [] is first each = subst (λ states. P (now states)) (sym is) first
 newest_has P new old (files ∷ added) is first each = subst (λ states. P (now states)) (sym is) each.0
 
-pub interrupted : KnownStands → EnteredAsFailed → (w : World) (keeper : Keeper Traced) (b : Book) (jobs : List Job) (call : DeviceCall) (planned made last : Traced) → IsLifeOf w keeper b jobs
+of_side : (s : Side) (keeper : Keeper Traced) (l : Life) → (log_file (due_of (logs_of keeper)).generation ≡ due_file l side.Log) × (file_due keeper.checkpoint ≡ due_file l side.Checkpoint) → number_due s keeper ≡ due_file l s
+of_side side.Log keeper l told = told.0
+of_side side.Checkpoint keeper l told = told.1
+
+-- the call is of the file that the world says
+there_by : FilesAreTold traced_states traced_honest → (s : Side) (w : World) (keeper : Keeper Traced) (b : Book) (jobs : List Job) (call : DeviceCall) → IsLifeOf w keeper b jobs → MayCall s keeper
+    → file_of call ≡ number_due s keeper → IsPossible w.files call → (l : Life) → w.life ≡ Some l → IsThere w l s call
+there_by files s w keeper b jobs call a may named possible l life =
+    let there = life_there w keeper b jobs a in
+    let same : Some there.0 ≡ Some l = sym there.1.life ∙ life in
+    let stands = subst (λ (v : Life). KeeperStands traced_states keeper (record_of 64 b) w v) (let e : there.0 ≡ l = cc in e) there.1.keeper_stands in
+    let told = files b.stripes a.done keeper (record_of 64 b) w l (fits_now w keeper b jobs a may.no_capture) tt stands may.works in
+    record { file = named ∙ of_side s keeper l told; possible = possible }
+
+pub interrupted : KnownStands → StagedIsTold traced_states traced_honest → FilesAreTold traced_states traced_honest → EnteredAsFailed → (s : Side) (w : World) (keeper : Keeper Traced) (b : Book) (jobs : List Job) (call : DeviceCall) (planned made last : Traced) → IsLifeOf w keeper b jobs
     → traced_states planned ≡ traced_states keeper.disk → HasOneMore (traced_states made) (traced_states planned) → AtEachMoment traced_states planned made (StopsFit (history_of (record_of 64 b)) keeper)
-    → traced_states last ≡ traced_states made → WasLast (Some New) call (traced_states last) → IsInterrupted w call last
-interrupted stand entered w keeper b jobs call planned made last a plan more moments same was =
+    → traced_states last ≡ traced_states made → WasLast (Some New) call (traced_states last) → MayCall s keeper → file_of call ≡ number_due s keeper → IsInterrupted w s call last
+interrupted stand told files entered s w keeper b jobs call planned made last a plan more moments same was may named =
     let there = life_there w keeper b jobs a in
     let at : now (traced_states planned) ≡ w.files = ap now plan ∙ sym there.1.keeper_stands.files in
     let is = noted (Some New) call (traced_states planned) (traced_states made) more (subst (λ states. WasLast (Some New) call states) same was) in
     let possible = subst (λ files. IsPossible files call) at is.possible in
     record {
-      possible = possible;
+      there = there_by files s w keeper b jobs call a may named possible;
       state = ap now same ∙ is.state ∙ ap (λ files. failed New call files) at ∙ sym (entered call w.files possible);
-      stops = λ l life. subst (λ states. StopsStand (whole w.history) l.durable (length w.history) (now states)) (sym same)
-          (life_stops stand w l keeper b jobs a life (now (traced_states made))
-          (newest_has (StopsFit (history_of (record_of 64 b)) keeper) (traced_states made) (traced_states planned) moments.added moments.longer moments.first moments.each));
+      stops = λ l life contents leaves. life_keeps stand told w l keeper b jobs a life (now (traced_states made))
+          (newest_has (StopsFit (history_of (record_of 64 b)) keeper) (traced_states made) (traced_states planned) moments.added moments.longer moments.first moments.each)
+          contents (subst (λ states. disk.Leaves (now states) contents) same leaves);
     }
 
 -- ---- what the keeper's functions say of the call

@@ -23,3 +23,4 @@ pub mod Stores
 pub mod OpenedFiles
 pub mod OpenedStores
 pub mod Closings
+pub mod Fronts

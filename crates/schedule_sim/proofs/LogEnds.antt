@@ -4,15 +4,17 @@ use Rattle.map_types.specs.declared.commands.Command.{Command}
 use Rattle.map_types.specs.declared.refusals.Refusal.{Refusal}
 use Rattle.one_history.specs.Turns.{record_of}
 use Rattle.disk_model.specs.declared.fill.Fill.{Fill}
+use Rattle.store_layout.specs.Logs.{log_file}
 use Rattle.store_layout.specs.declared.log_phase.Phase.{Phase}
 use Rattle.flusher.specs.declared.keeper.Keeper.{Keeper}
 use Rattle.flusher.specs.Fitting.{Fits, done_after}
-use Rattle.flusher.specs.Rotating.{logs_of}
+use Rattle.flusher.specs.Rotating.{due_of, logs_of}
 use Rattle.schedules.specs.declared.event.Ending.TheVariants as ending
 use Rattle.schedules.specs.declared.event.Event.TheVariants as event
 use Rattle.schedules.specs.declared.event.Side.TheVariants as side
 use Rattle.schedules.specs.declared.outcome.DeviceCall.{DeviceCall}
 use Rattle.schedules.specs.declared.outcome.Outcome.TheVariants as outcome
+use Rattle.schedules.specs.After.{file_of}
 use Rattle.schedules.specs.World.{World}
 use Rattle.schedule_states.specs.Laws.{KeeperRests}
 use Rattle.keeper_states.specs.Laws.{CheckpointCallIsTold, LogAnswers, LogCallIsTold, LogFails, WalkIsTold}
@@ -43,10 +45,10 @@ pub log_calls : (w : World) (life new : sim.Life) (planned disk : Traced) (made 
     → CheckpointCallIsTold traced_states → LogAnswers traced_states failures traced_honest → KeeperRests → MayCall side.Log life.keeper
     → traced_states planned ≡ traced_states life.keeper.disk
     → TriesLog traced_states failures traced_honest (record life.keeper { disk = planned }) made result → Refits life planned made result
-    → traced_states disk ≡ traced_states made.disk → WasLast None call (traced_states disk)
+    → traced_states disk ≡ traced_states made.disk → WasLast None call (traced_states disk) → file_of call ≡ log_file (due_of (logs_of life.keeper)).generation
     → new.keeper ≡ record made { disk = disk } → new.words ≡ life.words → new.jobs.items ≡ life.jobs.items → IsLife w life
     → Did w (event.Device side.Log ending.Done) (outcome.Logged call phase) new
-log_calls w life new planned disk made failures call phase result is walks log checkpoint law leaves may plan tries refits same was e1 e2 e3 a =
+log_calls w life new planned disk made failures call phase result is walks log checkpoint law leaves may plan tries refits same was named e1 e2 e3 a =
     let b = life.words in
     let fit = planned_fits b.stripes a.done life.keeper (record_of 64 b) planned plan (fits_now w life.keeper b life.jobs.items a may.no_capture) in
     let more = log_made life.keeper failures planned made.disk (logs_of made) result may tries.steps in
@@ -56,7 +58,7 @@ log_calls w life new planned disk made failures call phase result is walks log c
     (done_after result life.keeper.log.phase a.done life.keeper.staged.items) walks log checkpoint leaves may plan same
     (ap (λ k. k.capture) tries.same ∙ may.no_capture) (refits b.stripes a.done fit) tt
     (λ l stands has. law b.stripes a.done (record life.keeper { disk = planned }) made (record_of 64 b) w l call phase fit tt stands may.works has
-    (subst (λ r. TriesLog traced_states failures traced_honest (record life.keeper { disk = planned }) made r) is tries) is_made) e1 e2 e3 a
+    (subst (λ r. TriesLog traced_states failures traced_honest (record life.keeper { disk = planned }) made r) is tries) is_made named) e1 e2 e3 a
 
 -- it failed
 pub log_fails : (w : World) (life new : sim.Life) (planned disk : Traced) (made : Keeper Traced) (failures : Traced → ℕ) (fill : Fill)
@@ -64,10 +66,10 @@ pub log_fails : (w : World) (life new : sim.Life) (planned disk : Traced) (made 
     → LogCallIsTold traced_states traced_honest → CheckpointCallIsTold traced_states → LogFails traced_states failures traced_honest → KeeperRests
     → MayCall side.Log life.keeper → traced_states planned ≡ traced_states life.keeper.disk
     → TriesLog traced_states failures traced_honest (record life.keeper { disk = planned }) made result → Refits life planned made result
-    → traced_states disk ≡ traced_states made.disk → WasLast (Some fill) call (traced_states disk)
+    → traced_states disk ≡ traced_states made.disk → WasLast (Some fill) call (traced_states disk) → file_of call ≡ log_file (due_of (logs_of life.keeper)).generation
     → new.keeper ≡ record made { disk = disk } → new.words ≡ life.words → new.jobs.items ≡ life.jobs.items → IsLife w life
     → Did w (event.Device side.Log (ending.Fails fill)) (outcome.CallFailed call) new
-log_fails w life new planned disk made failures fill call result fails walks log checkpoint law leaves may plan tries refits same was e1 e2 e3 a =
+log_fails w life new planned disk made failures fill call result fails walks log checkpoint law leaves may plan tries refits same was named e1 e2 e3 a =
     let b = life.words in
     let err = is_err result fails in
     let fit = planned_fits b.stripes a.done life.keeper (record_of 64 b) planned plan (fits_now w life.keeper b life.jobs.items a may.no_capture) in
@@ -78,5 +80,5 @@ log_fails w life new planned disk made failures fill call result fails walks log
     ends_call w life new side.Log (ending.Fails fill) (outcome.CallFailed call) planned disk made
     (done_after result life.keeper.log.phase a.done life.keeper.staged.items) walks log checkpoint leaves may plan same
     (ap (λ k. k.capture) tries.same ∙ may.no_capture) (refits b.stripes a.done fit) tt
-    (λ l stands has. law (record life.keeper { disk = planned }) made (record_of 64 b) w l fill call err.0 stands may.works
-    (subst (λ r. TriesLog traced_states failures traced_honest (record life.keeper { disk = planned }) made r) err.1 tries) is_lost) e1 e2 e3 a
+    (λ l stands has. law b.stripes a.done (record life.keeper { disk = planned }) made (record_of 64 b) w l fill call err.0 fit tt stands may.works
+    (subst (λ r. TriesLog traced_states failures traced_honest (record life.keeper { disk = planned }) made r) err.1 tries) is_lost named) e1 e2 e3 a

@@ -46,7 +46,7 @@ settled : (there content : List ℕ) → MayLeave (at_rest there) content → co
 settled there content may = ext_get_or 0 content there (omega (arith, may.no_shorter, may.no_longer))
     (λ i l. may.same i (let beyond : nat_le (length there) i ≡ false = grind (arith, nat_tests, l, may.no_longer) in beyond))
 
-leaves_seen : (file : File) → IsCoherent file → MayLeave file file.seen
+pub leaves_seen : (file : File) → IsCoherent file → MayLeave file file.seen
 leaves_seen file is = record { no_shorter = is.no_shorter; no_longer = is.no_longer; bytes = is.bytes; same = λ i none. refl }
 
 before_by : (b : Bool) (file : File) (content : List ℕ) → IsCoherent file → MayLeave (if b then synced file else file) content → MayLeave file content
@@ -56,7 +56,7 @@ before_by false file content is may = may
 leaves_before : (n : ℕ) (files : Files) (contents : Contents) → AreCoherent files → Leaves (synced_below n files) contents → Leaves files contents
 leaves_before n files contents are leaves number low = before_by (nat_lt number n) (files number) (contents number) (are number low) (leaves number low)
 
-now_coherent : (states : List Files) → AllCoherent states → AreCoherent (now states)
+pub now_coherent : (states : List Files) → AllCoherent states → AreCoherent (now states)
 now_coherent [] all = empty_coherent
 now_coherent (files ∷ past) all = all.0
 
@@ -72,7 +72,7 @@ closed_after w least n old new closed files = record {
 }
 
 -- what is read stands for a front of the history
-seen_stands : (w : World) (least : ℕ) (old : Traced) → IsClosed w least old → StandsForFront (whole w.history) least (length w.history) (seen_of w.files)
+pub seen_stands : (w : World) (least : ℕ) (old : Traced) → IsClosed w least old → StandsForFront (whole w.history) least (length w.history) (seen_of w.files)
 seen_stands w least old closed = closed.stops (seen_of w.files) (λ number low. leaves_seen (w.files number) (closed_coherent w least old closed number low))
 
 -- ---- a refusal
@@ -100,6 +100,7 @@ refused_did law w least stripes fails_at calls e old new closed files opens =
       answers = tt;
       front = tt;
       opens = law w front.count _ (event.Open stripes fails_at) (outcome.NotOpened calls e) _ front.stands (record { found = nothing; meets = meets; world = refl });
+      within = tt;
       next = least;
       next_is = rw leaves refl;
       stands = rw leaves next;
@@ -190,6 +191,7 @@ opened_did laws w least stripes fails_at calls old keeper parts first entries li
       answers = tt;
       front = front;
       opens = tt;
+      within = tt;
       next = prefix_of found;
       next_is = rw leaves tt;
       stands = rw leaves (begun, durable_found stripes.count found);

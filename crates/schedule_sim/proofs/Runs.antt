@@ -1,20 +1,24 @@
 -- What the loop of a run keeps.
-use Rattle.std.proofs.Common.{◌≡◌, ℕ, suc, ◌+◌, ◌<◌, ◌≤◌, get_or, take, List, [], ◌∷◌, ◌++◌, length, Option, None, Some, refl, sym, ◌∙◌, ap, subst, arith}
+use Rattle.std.proofs.Common.{◌≡◌, ◌⊎◌, inl, inr, ℕ, suc, ◌+◌, ◌<◌, ◌≤◌, get_or, take, List, [], ◌∷◌, ◌++◌, length, Option, None, Some, refl, sym, ◌∙◌, ap, subst, arith}
 use Rattle.std.specs.List.{AllByRecursion}
 use Rattle.std.proofs.Math.Seq.{take-suc}
 use Rattle.std.proofs.lemmas.List.{length-append}
 use Rattle.ticket_order.specs.declared.record.Call.{Call}
+use Rattle.disk_model.specs.Files.{Contents, Leaves}
 use Rattle.schedules.specs.declared.event.Event.{Event}
+use Rattle.schedules.specs.declared.event.Event.TheVariants as event
 use Rattle.schedules.specs.declared.outcome.Outcome.{Outcome}
+use Rattle.schedules.specs.declared.outcome.Outcome.TheVariants as outcome
 use Rattle.schedules.specs.World.{World, Life, start}
 use Rattle.schedules.specs.After.{after}
 use Rattle.schedules.specs.Laws.{LifeGoesOn, NextLifeBegins, RowsGoOn, SoundAtStart, SoundBetweenIsRun, SoundIsRun}
-use Rattle.schedules.specs.Runs.{Row, Happens, IsRun, OpensWell, rows_of, rows_onto}
-use Rattle.schedules.specs.Sound.{IsSound, IsSoundWith, released_by}
+use Rattle.schedules.specs.Runs.{Row, Happens, IsRun, OpensWell, rows_of, rows_onto, stopped_in}
+use Rattle.schedules.specs.Sound.{AreAbove, IsSound, IsSoundWith, Stays, durable_or, released_by}
 use Rattle.schedule_sim.specs.declared.store.Store.{Store}
 use Rattle.schedule_sim.specs.declared.store.Store.TheVariants.{Closed, Open}
-use Rattle.schedule_sim.specs.Storing.{DidStore, IsDurable, IsNext, IsStore}
+use Rattle.schedule_sim.specs.Storing.{DidStore, IsDurable, IsNext, IsStore, StandsNow, StopsWithin}
 use Rattle.schedule_sim.specs.Living.{IsLifeOf}
+use Rattle.schedule_sim.proofs.Fronts.{now_at_start}
 use Rattle.schedule_sim.specs.Workers.{doings_of}
 use Rattle.schedule_sim.specs.declared.traced.Traced.{Traced}
 use Rattle.schedule_sim.specs.declared.job.Job.{Job}
@@ -29,6 +33,7 @@ pub record IsKept (events : List Event) (outcomes : List Outcome) (store : Store
   pub released : List Call
   pub one_each : length outcomes ≡ length events
   pub stands : IsStore world least store
+  pub now : StandsNow world least
   pub sound : IsSound (rows_of events outcomes) world least released
   pub opens : AllByRecursion OpensWell (rows_of events outcomes)
 
@@ -63,37 +68,63 @@ with_next : (o : Option Life) (rows : List Row) (w : World) (least next : ℕ) (
 with_next None rows w least next released is sound = rw is sound
 with_next (Some l) rows w least next released is sound = sound
 
+-- what is durable in the life that is there, or between lives the count that is kept
+by_life : (o : Option Life) (least next : ℕ) → IsNext least next o → (IsDurable next o) ⊎ (o ≡ None) → next ≡ durable_or o least
+by_life None least next is there = is
+by_life (Some l) least next is (inl durable) = durable
+by_life (Some l) least next is (inr none) = absurd cc
+
+counted : (w : World) (least : ℕ) (store : Store) → IsStore w least store → (IsDurable least w.life) ⊎ (w.life ≡ None)
+counted w least (Closed disk) stands = inr stands.life
+counted w least (Open life) stands = inl stands.1
+
+-- what a stop may leave at the event
+stops_in : (w : World) (least : ℕ) (e : Event) (x : Outcome) → StandsNow w least → StopsWithin w least e x → (contents : Contents) → Leaves (stopped_in (e, x) w.files) contents → AreAbove w least contents
+stops_in w least (event.Stop within fill) (outcome.Stopped (Some call)) now stops = stops
+stops_in w least e x now stops = now.left
+
+stays : (w : World) (least : ℕ) (e : Event) (x : Outcome) (store : Store) → StandsNow w least → (did : DidStore w least e x store) → StandsNow (after w did.found e x) did.next
+    → Stays w least (e, x) (after w did.found e x) (durable_or (after w did.found e x).life least)
+stays w least e x store now did next =
+    let w' : World = after w did.found e x in
+    subst (λ n. Stays w least (e, x) w' n) (by_life w'.life least did.next did.next_is (counted w' did.next store did.stands))
+    (record { within = stops_in w least e x now did.within; left = next.left; read = next.read })
+
 -- what one event more keeps
 abbrev GoesOn : List Row → World → ℕ → Row → World → ℕ → Type 0
 GoesOn rows w least row w' next = (released : List Call) × IsSound (row ∷ rows) w' next released
 
 goes_on : LifeGoesOn → NextLifeBegins → (rows : List Row) (w : World) (least : ℕ) (released : List Call) (e : Event) (x : Outcome) (store : Store) → Where w least → IsSound rows w least released
-    → (did : DidStore w least e x store) → GoesOn rows w least (e, x) (after w did.found e x) did.next
-goes_on life next rows w least released e x store (Between none) sound did =
+    → StandsNow w least → (did : DidStore w least e x store) → StandsNow (after w did.found e x) did.next → GoesOn rows w least (e, x) (after w did.found e x) did.next
+goes_on life next rows w least released e x store (Between none) sound now did then =
+    let stay = stays w least e x store now did then in
     let w' : World = after w did.found e x in
     let happens : Happens w (e, x) w' = record { found = did.found; meets = did.meets; world = refl } in (
       released,
       with_next w'.life ((e, x) ∷ rows) w' least did.next released did.next_is
-          (next rows w released least e x w' none (subst (λ o. IsSoundWith o rows w least released) none sound) happens did.front),
+          (next rows w released least e x w' none (subst (λ o. IsSoundWith o rows w least released) none sound) happens stay did.front),
     )
-goes_on life next rows w least released e x store (Within l is durable reached) sound did =
+goes_on life next rows w least released e x store (Within l is durable reached) sound now did then =
+    let stay = stays w least e x store now did then in
     let w' : World = after w did.found e x in
     let happens : Happens w (e, x) w' = record { found = did.found; meets = did.meets; world = refl } in
     let low : l.durable ≤ least = rw durable (omega arith) in
     let high : least ≤ length w.history = rw durable reached in (
       released_by w e x released,
       with_next w'.life ((e, x) ∷ rows) w' least did.next (released_by w e x released) did.next_is
-          (life rows w l released least e x w' is (subst (λ o. IsSoundWith o rows w least released) is sound) happens did.answers low high),
+          (life rows w l released least e x w' is (subst (λ o. IsSoundWith o rows w least released) is sound) happens
+          (subst (λ n. Stays w n (e, x) w' (durable_or w'.life least)) durable stay) did.answers low high),
     )
 
 pub kept_at_start : SoundAtStart → (store : Store) → IsStore start 0 store → IsKept [] [] store
 unfolding start rows_onto
-kept_at_start sound store stands = record { world = start; least = 0; released = []; one_each = refl; stands = stands; sound = sound; opens = tt }
+kept_at_start sound store stands = record { world = start; least = 0; released = []; one_each = refl; stands = stands; now = now_at_start store stands; sound = sound; opens = tt }
 
 pub kept_on : AreLaws → (events : List Event) (outcomes : List Outcome) (store store' : Store) (e : Event) (x : Outcome) → (kept : IsKept events outcomes store)
-    → DidStore kept.world kept.least e x store' → IsKept (events ++ e ∷ []) (outcomes ++ x ∷ []) store'
-kept_on laws events outcomes store store' e x kept did =
-    let more = goes_on laws.life laws.next (rows_of events outcomes) kept.world kept.least kept.released e x store' (where_it_is kept.world kept.least store kept.stands) kept.sound did in
+    → DidStore kept.world kept.least e x store' → ((w : World) (least : ℕ) → IsStore w least store' → StandsNow w least) → IsKept (events ++ e ∷ []) (outcomes ++ x ∷ []) store'
+kept_on laws events outcomes store store' e x kept did fronts =
+    let then = fronts (after kept.world did.found e x) did.next did.stands in
+    let more = goes_on laws.life laws.next (rows_of events outcomes) kept.world kept.least kept.released e x store' (where_it_is kept.world kept.least store kept.stands) kept.sound kept.now did then in
     let rows_are = laws.rows events outcomes e x kept.one_each in
     record {
       world = after kept.world did.found e x;
@@ -101,6 +132,7 @@ kept_on laws events outcomes store store' e x kept did =
       released = more.0;
       one_each = omega (arith, length-append outcomes (x ∷ []), length-append events (e ∷ []), kept.one_each);
       stands = did.stands;
+      now = then;
       sound = subst (λ rs. IsSound rs (after kept.world did.found e x) did.next more.0) (sym rows_are) more.1;
       opens = subst (λ rs. AllByRecursion OpensWell rs) (sym rows_are) (did.opens, kept.opens);
     }
@@ -116,12 +148,13 @@ kept_is_run inside outside events outcomes store kept =
 
 -- with the next event of the schedule
 pub kept_after : AreLaws → (events : List Event) (i : ℕ) (outcomes outcomes' : List Outcome) (store store' : Store) (e : Event) (x : Outcome) → i < length events → e ≡ get_or events i e
-    → outcomes' ≡ outcomes ++ x ∷ [] → (kept : IsKept (take i events) outcomes store) → DidStore kept.world kept.least e x store' → IsKept (take (i + 1) events) outcomes' store'
-kept_after laws events i outcomes outcomes' store store' e x below at more kept did =
+    → outcomes' ≡ outcomes ++ x ∷ [] → (kept : IsKept (take i events) outcomes store) → DidStore kept.world kept.least e x store'
+    → ((w : World) (least : ℕ) → IsStore w least store' → StandsNow w least) → IsKept (take (i + 1) events) outcomes' store'
+kept_after laws events i outcomes outcomes' store store' e x below at more kept did fronts =
     let next : i + 1 ≡ suc i = omega arith in
     let last : take (i + 1) events ≡ take i events ++ e ∷ [] =
     ap (λ n. take n events) next ∙ take-suc events i e below ∙ ap (λ v. take i events ++ v ∷ []) (sym at) in
-    rw (more, last) (kept_on laws (take i events) outcomes store store' e x kept did)
+    rw (more, last) (kept_on laws (take i events) outcomes store store' e x kept did fronts)
 
 pub kept_to_end : SoundIsRun → SoundBetweenIsRun → (events : List Event) (i : ℕ) (outcomes : List Outcome) (store : Store) → take i events ≡ events → IsKept (take i events) outcomes store
     → IsRun events outcomes

@@ -8,7 +8,7 @@ use Rattle.ticket_order.specs.Legality.{history_of}
 use Rattle.ticket_order.specs.declared.walk.Walk.{Walk}
 use Rattle.one_history.specs.declared.book.Book.{Book}
 use Rattle.one_history.specs.Turns.{record_of}
-use Rattle.disk_model.specs.Files.{Contents, Files}
+use Rattle.disk_model.specs.Files.{Contents, Files, Leaves}
 use Rattle.store_layout.specs.Opening.{StandsForFront}
 use Rattle.store_layout.specs.Standing.{reach}
 use Rattle.store_states.specs.Standing.{StopsStand}
@@ -17,8 +17,10 @@ use Rattle.flusher.specs.Fitting.{StopsFit}
 use Rattle.checkpoint_walk.specs.Walking.{FitsBy}
 use Rattle.schedules.specs.Machine.{whole}
 use Rattle.schedules.specs.World.{World, Life}
-use Rattle.schedules.specs.Sound.{IsKnownOf}
+use Rattle.schedules.specs.Runs.{least_of, most_of, staged_in}
+use Rattle.schedules.specs.Sound.{AreAbove, IsKnownOf}
 use Rattle.schedules.specs.Laws.{KnownStands}
+use Rattle.keeper_states.specs.Laws.{StagedIsTold}
 use Rattle.keeper_states.specs.Standing.{SeesHistory}
 use Rattle.schedule_sim.specs.declared.traced.Traced.{Traced}
 use Rattle.schedule_sim.specs.declared.job.Job.{Job}
@@ -56,6 +58,45 @@ wider h least most low high contents lower higher s = record {
 durable_within : (n : ℕ) (done : List Command) (keeper : Keeper Traced) (p : Record) (o : Option Walk) → FitsBy o traced_states traced_honest n done keeper p → keeper.published ≤ keeper.log.committed
 durable_within n done keeper p None fits = fits.tells.durable
 durable_within n done keeper p (Some walk) fits = fits.fits.tells.durable
+
+-- Files that a stop may leave for the keeper stand for what they have to, and for no fewer commands than are durable.
+pub life_keeps : KnownStands → StagedIsTold traced_states traced_honest → (w : World) (l : Life) (keeper : Keeper Traced) (b : Book) (jobs : List Job) → IsLifeOf w keeper b jobs → w.life ≡ Some l → (files : Files)
+    → StopsFit (history_of (record_of 64 b)) keeper files → (contents : Contents) → Leaves files contents → AreAbove w l.durable contents
+life_keeps law told w l keeper b jobs a is files stops contents leaves =
+    let there = life_there w keeper b jobs a in
+    let same : Some there.0 ≡ Some l = sym there.1.life ∙ is in
+    let stands = there.1.keeper_stands in
+    let p = record_of 64 b in
+    let knows = known p w there.0 stands.history in
+    let durable = subst (λ (v : Life). v.durable ≤ keeper.log.committed) (let e : there.0 ≡ l = cc in e)
+    (subst (λ n. n ≤ keeper.log.committed) (sym stands.durable) (durable_within b.stripes a.done keeper p keeper.capture a.fits)) in
+    let least : least_of w.life ≡ keeper.log.committed = ap least_of there.1.life ∙ stands.committed in
+    let staged = told b.stripes a.done keeper p w there.0 a.fits stands in
+    let most : most_of w.history w.life ≡ keeper.log.committed + length keeper.staged.items =
+    ap (most_of w.history) there.1.life ∙ ap (λ n. n + staged_in there.0.log) stands.committed ∙ ap (λ n. keeper.log.committed + n) staged in
+    let front = law (history_of p) w.history knows keeper.log.committed (keeper.log.committed + length keeper.staged.items) contents (stops contents leaves) in
+    record {
+      front = record {
+        count = front.count;
+        stands = front.stands;
+        from_first = front.from_first;
+        within = front.within;
+        from_least = omega (arith, front.from_least, least);
+        to_most = omega (arith, front.to_most, most);
+      };
+      above = omega (arith, durable, front.from_least);
+    }
+
+-- so they stand for a front of at least so many commands
+pub above_stands : (w : World) (least : ℕ) (contents : Contents) → AreAbove w least contents → StandsForFront (whole w.history) least (length w.history) contents
+above_stands w least contents a = record {
+  count = a.front.count;
+  stands = a.front.stands;
+  from_first = a.front.from_first;
+  within = a.front.within;
+  from_least = a.above;
+  to_most = omega (arith, a.front.within);
+}
 
 -- Files that a stop may leave for the keeper may be left for its life.
 pub life_stops : KnownStands → (w : World) (l : Life) (keeper : Keeper Traced) (b : Book) (jobs : List Job) → IsLifeOf w keeper b jobs → w.life ≡ Some l → (files : Files)

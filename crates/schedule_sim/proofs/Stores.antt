@@ -27,7 +27,7 @@ use Rattle.schedule_sim.specs.declared.store.Store.{Store}
 use Rattle.schedule_sim.specs.declared.store.Store.TheVariants.{Closed, Open}
 use Rattle.schedule_sim.specs.declared.traced.Traced.{Traced}
 use Rattle.schedule_sim.specs.Living.{Did, IsLife, is_of_life}
-use Rattle.schedule_sim.specs.Storing.{DidStore, IsClosed, IsDurable, IsNext, IsStore}
+use Rattle.schedule_sim.specs.Storing.{DidStore, IsClosed, IsDurable, IsNext, IsStore, StopsWithin}
 
 -- what an opening found where none was made
 pub nothing : Opened
@@ -43,6 +43,10 @@ opens_well : (e : Event) → OpensWell (e, outcome.Skipped)
 opens_well (event.Open stripes fails_at) = tt
 opens_well e = tt
 
+within_none : (w : World) (least : ℕ) (e : Event) → StopsWithin w least e outcome.Skipped
+within_none w least (event.Stop within fill) = tt
+within_none w least e = tt
+
 pub skipped : (w : World) (least : ℕ) (e : Event) (store : Store) → fits w e ≡ false → IsStore w least store → DidStore w least e outcome.Skipped store
 unfolding after
 skipped w least e store unfit stands = record {
@@ -51,6 +55,7 @@ skipped w least e store unfit stands = record {
   answers = tt;
   front = tt;
   opens = opens_well e;
+  within = within_none w least e;
   next = least;
   next_is = next_same least w.life;
   stands = stands;
@@ -84,6 +89,11 @@ next_of least next (Some l) is = tt
 opens_none : (e : Event) (x : Outcome) → is_of_life e ≡ true → OpensWell (e, x)
 opens_none (event.Open stripes fails_at) x is = absurd (let never : false ≡ true = is in cc)
 opens_none e x is = tt
+
+-- none of them is a stop
+within_life : (w : World) (least : ℕ) (e : Event) (x : Outcome) → is_of_life e ≡ true → StopsWithin w least e x
+within_life w least (event.Stop within fill) x is = absurd (let never : false ≡ true = is in cc)
+within_life w least e x is = tt
 
 -- no event of a life opens a store
 opened_inside : (w : World) (l : Life) (e : Event) (calls prefix : ℕ) (entries : Vec MapEntry Global) → is_of_life e ≡ true → HappensInside w l e (outcome.Opened calls prefix entries) → ⊥
@@ -130,6 +140,7 @@ life_did w least e x old life was is did =
       answers = did.answers;
       front = front_none w least there.0 e x there.1.life is (did.meets nothing);
       opens = opens_none e x is;
+      within = within_life w least e x is;
       next = next.0;
       next_is = next_of least next.0 (after w nothing e x).life next.1;
       stands = (stands, next.1);

@@ -1,10 +1,12 @@
 -- When the keeper of a life can make a device call.
-use Rattle.std.specs.Prelude.{◌≡◌, None, Bool, true, false, is_some}
+use Rattle.std.specs.Prelude.{◌≡◌, ℕ, None, Bool, true, false, is_some}
+use Rattle.store_layout.specs.Logs.{log_file}
 use Rattle.gate_log.specs.States.{call_in}
 use Rattle.flusher.specs.declared.keeper.Keeper.{Keeper}
 use Rattle.flusher.specs.Keeping.{is_walking}
 use Rattle.flusher.specs.Rotating.{due_of, logs_of}
 use Rattle.checkpoint_walk.specs.Checkpointing.{call_due}
+use Rattle.keeper_states.specs.Laws.{file_due}
 use Rattle.schedules.specs.declared.event.Side.{Side}
 use Rattle.schedules.specs.declared.event.Side.TheVariants as side
 use Rattle.schedule_sim.specs.declared.traced.Traced.{Traced}
@@ -13,6 +15,11 @@ use Rattle.schedule_sim.specs.declared.traced.Traced.{Traced}
 abbrev pub is_due : Side → Keeper Traced → Bool
 is_due side.Log keeper = is_some (call_in (due_of (logs_of keeper)).phase (due_of (logs_of keeper)))
 is_due side.Checkpoint keeper = is_some (call_due keeper.next keeper.checkpoint)
+
+-- it is of this file
+abbrev pub number_due : Side → Keeper Traced → ℕ
+number_due side.Log keeper = log_file (due_of (logs_of keeper)).generation
+number_due side.Checkpoint keeper = file_due keeper.checkpoint
 
 -- No walk is under way, no call has failed, and one is due.
 pub record MayCall (s : Side) (keeper : Keeper Traced) : Type 0 where

@@ -1,22 +1,25 @@
 -- How a store, closed or in a life, stands against the world of its events and outcomes.
 use Rattle.std.specs.Prelude.{◌≡◌, ℕ, ◌≤◌, List, length, Option, None, Some}
-use Rattle.disk_model.specs.Files.{now}
+use Rattle.disk_model.specs.Files.{Contents, Leaves, now}
 use Rattle.map_model.specs.Steps.{fold_of}
 use Rattle.atomic_methods.specs.PartState.{PartState}
 use Rattle.flusher.specs.declared.keeper.Keeper.{Keeper}
 use Rattle.recovery.specs.Dividing.{IsDivided}
 use Rattle.recovery.specs.LogReading.{GoesOnFrom}
 use Rattle.store_layout.specs.Opening.{Opened, map_of, newest_of, prefix_of}
+use Rattle.schedules.specs.declared.event.Side.{Side}
 use Rattle.schedules.specs.declared.outcome.DeviceCall.{DeviceCall}
 use Rattle.store_states.specs.Standing.{StopsStand}
 use Rattle.schedules.specs.declared.event.Event.{Event}
+use Rattle.schedules.specs.declared.event.Event.TheVariants as event
 use Rattle.schedules.specs.declared.outcome.Outcome.{Outcome}
+use Rattle.schedules.specs.declared.outcome.Outcome.TheVariants as outcome
 use Rattle.schedules.specs.Machine.{whole}
-use Rattle.schedules.specs.World.{World, Life, begun_by}
+use Rattle.schedules.specs.World.{World, Life, begun_by, seen_of}
 use Rattle.schedules.specs.After.{after, entered}
-use Rattle.schedules.specs.Cases.{IsPossible, Meets}
+use Rattle.schedules.specs.Cases.{IsThere, Meets}
 use Rattle.schedules.specs.Runs.{OpensWell}
-use Rattle.schedules.specs.Sound.{AnswersLegally, OpensFront}
+use Rattle.schedules.specs.Sound.{AnswersLegally, AreAbove, OpensFront}
 use Rattle.schedule_sim.specs.declared.traced.Traced.{Traced}
 use Rattle.schedule_sim.specs.declared.store.Store.{Store}
 use Rattle.schedule_sim.specs.declared.store.Store.TheVariants.{Closed, Open}
@@ -44,6 +47,20 @@ abbrev pub IsNext : ℕ → ℕ → Option Life → Type 0
 IsNext least next None = next ≡ least
 IsNext least next (Some l) = Unit {0}
 
+-- ---- the files now
+
+-- Whatever a stop may leave now stands for a front of the history as it has to, of no fewer than so many commands, and so does what is read.
+pub record StandsNow (w : World) (least : ℕ) : Type 0 where
+  pub left : (contents : Contents) → Leaves w.files contents → AreAbove w least contents
+  pub read : AreAbove w least (seen_of w.files)
+
+-- where the machine stops within a device call, so does whatever it may leave then
+abbrev pub StopsWithin : World → ℕ → Event → Outcome → Type 0
+StopsWithin w least (event.Stop within fill) (outcome.Stopped (Some call)) = (contents : Contents) → Leaves (entered call w.files) contents → AreAbove w least contents
+StopsWithin w least e x = Unit {0}
+
+-- ---- an event
+
 -- The outcome meets the case of the event; a reply that it releases is one thread's, an opening finds a front of the history and is refused only
 -- as it may be; and the store stands as the world then says.
 pub record DidStore (w : World) (least : ℕ) (e : Event) (x : Outcome) (store : Store) : Type 0 where
@@ -52,6 +69,7 @@ pub record DidStore (w : World) (least : ℕ) (e : Event) (x : Outcome) (store :
   pub answers : AnswersLegally w e x
   pub front : OpensFront w least found x
   pub opens : OpensWell (e, x)
+  pub within : StopsWithin w least e x
   pub next : ℕ
   pub next_is : IsNext least next (after w found e x).life
   pub stands : IsStore (after w found e x) next store
@@ -77,8 +95,8 @@ pub record LiesOn (w : World) (least : ℕ) (disk : Traced) : Type 0 where
   pub stops : StopsStand (whole w.history) least (length w.history) w.files
 
 -- A stop falls within this call of the life: the disk is as the call leaves it then, and whatever a stop leaves of that stands for a front of the
--- history, of no fewer commands than the durable count.
-pub record IsInterrupted (w : World) (call : DeviceCall) (disk : Traced) : Type 0 where
-  pub possible : IsPossible w.files call
+-- history as it has to, of no fewer commands than the durable count.
+pub record IsInterrupted (w : World) (s : Side) (call : DeviceCall) (disk : Traced) : Type 0 where
+  pub there : (l : Life) → w.life ≡ Some l → IsThere w l s call
   pub state : now (traced_states disk) ≡ entered call w.files
-  pub stops : (l : Life) → w.life ≡ Some l → StopsStand (whole w.history) l.durable (length w.history) (now (traced_states disk))
+  pub stops : (l : Life) → w.life ≡ Some l → (contents : Contents) → Leaves (now (traced_states disk)) contents → AreAbove w l.durable contents

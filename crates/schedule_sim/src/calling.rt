@@ -5,7 +5,7 @@ ghost use Rattle.schedules.specs.Fitting.{fits};
 ghost use Rattle.schedules.specs.declared.event.Event.TheVariants as event;
 ghost use Rattle.schedules.specs.declared.event.Side.TheVariants as sides;
 ghost use Rattle.disk_model.specs.declared.fill.Fill.{Fill as TheFill};
-ghost use Rattle.schedule_sim.specs.Calling.{MayCall, is_due};
+ghost use Rattle.schedule_sim.specs.Calling.{MayCall, is_due, number_due};
 ghost use Rattle.schedule_sim.specs.Living.{Did, IsLife};
 ghost use Rattle.schedule_sim.specs.Storing.{IsInterrupted};
 
@@ -21,6 +21,7 @@ use schedule_states::laws::steps_of_the_keeper;
 use schedules::laws::{laws_of_files, laws_of_known_histories};
 use schedules::{DeviceCall, Ending, Outcome, Side};
 use std::alloc::AllocError;
+use store_layout::{checkpoint_file, log_file};
 
 impl Life {
     // Whether a device call of this side is to be made.
@@ -63,6 +64,36 @@ impl Life {
         !self.keeper.is_walking() && !self.keeper.is_broken && self.has_call(side)
     }
 
+    // The file of the next device call of this side.
+    fn number_due(&self, side: Side) -> usize
+        ensures { result ≡ number_due side self.now.keeper }
+    {
+        match side {
+            Side::Log => self.log_due(),
+            Side::Checkpoint => self.checkpoint_due(),
+        }
+    }
+
+    fn log_due(&self) -> usize
+        ensures { result ≡ number_due sides.Log self.now.keeper }
+    {
+        match &self.keeper.next {
+            Some(next) if matches!(next.phase(), Phase::Header | Phase::HeaderWritten) => {
+                log_file(next.generation())
+            }
+            _ => log_file(self.keeper.log.generation()),
+        }
+    }
+
+    fn checkpoint_due(&self) -> usize
+        ensures { result ≡ number_due sides.Checkpoint self.now.keeper }
+    {
+        match &self.keeper.checkpoint {
+            Some(writer) => checkpoint_file(writer.generation()),
+            None => 0,
+        }
+    }
+
     // The logs make their next device call. No contract of a disk tells which of its calls failed, so
     // this asks the disk's note; the paths with no note are taken only where memory was missing.
     fn call_log(&mut self, ending: &Ending) -> Result<Outcome, AllocError>
@@ -73,13 +104,14 @@ impl Life {
         laws_of_telling::<Traced>();
         laws_of_log_calls::<Traced>();
         steps_of_the_keeper();
+        let file = self.log_due();
         match ending {
             Ending::Done => {
                 self.keeper.disk.plan_none();
                 let Ok(phase) = self.keeper.advance() else {
                     return Err(AllocError);
                 };
-                let call = self.keeper.disk.take_made().ok_or(AllocError)?;
+                let call = self.keeper.disk.take_made(file).ok_or(AllocError)?;
                 Ok(Outcome::Logged { call, phase })
             }
             Ending::Fails(fill) => {
@@ -87,7 +119,7 @@ impl Life {
                 if self.keeper.advance().is_ok() {
                     return Err(AllocError);
                 }
-                let call = self.keeper.disk.take_lost(fill).ok_or(AllocError)?;
+                let call = self.keeper.disk.take_lost(fill, file).ok_or(AllocError)?;
                 Ok(Outcome::CallFailed { call })
             }
         }
@@ -102,13 +134,14 @@ impl Life {
         laws_of_telling::<Traced>();
         laws_of_checkpoint_calls::<Traced>();
         steps_of_the_keeper();
+        let file = self.checkpoint_due();
         match ending {
             Ending::Done => {
                 self.keeper.disk.plan_none();
                 let Ok(phase) = advance(&mut self.keeper) else {
                     return Err(AllocError);
                 };
-                let call = self.keeper.disk.take_made().ok_or(AllocError)?;
+                let call = self.keeper.disk.take_made(file).ok_or(AllocError)?;
                 Ok(Outcome::Checkpointed { call, phase })
             }
             Ending::Fails(fill) => {
@@ -116,7 +149,7 @@ impl Life {
                 if advance(&mut self.keeper).is_ok() {
                     return Err(AllocError);
                 }
-                let call = self.keeper.disk.take_lost(fill).ok_or(AllocError)?;
+                let call = self.keeper.disk.take_lost(fill, file).ok_or(AllocError)?;
                 Ok(Outcome::CallFailed { call })
             }
         }
@@ -148,11 +181,12 @@ impl Life {
     /// fails, with all that it was to write pending.
     pub(crate) fn interrupt(&mut self, side: Side) -> Result<DeviceCall, AllocError>
         requires life { (w : World) × (fill : TheFill) × IsLife w self.old × (fits w (event.Stop (Some side) fill) ≡ true) }
-        ensures { IfOk result (λ call. (w : World) → IsLife w self.old → IsInterrupted w call self.new.keeper.disk) }
+        ensures { IfOk result (λ call. (w : World) → IsLife w self.old → IsInterrupted w side call self.new.keeper.disk) }
     {
         laws_of_telling::<Traced>();
         laws_of_known_histories();
         laws_of_files();
+        let file = self.number_due(side);
         self.keeper.disk.plan(0, &Fill::New)?;
         match side {
             Side::Log => {
@@ -162,6 +196,9 @@ impl Life {
                 let _ = advance(&mut self.keeper);
             }
         }
-        self.keeper.disk.take_lost(&Fill::New).ok_or(AllocError)
+        self.keeper
+            .disk
+            .take_lost(&Fill::New, file)
+            .ok_or(AllocError)
     }
 }

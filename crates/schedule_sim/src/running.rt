@@ -29,6 +29,7 @@ pub fn run(alloc: Global, events: &[Event]) -> Result<Trace, AllocError>
         if next.is_short() {
             return Err(AllocError);
         }
+        next.stands_for_a_front();
         outcomes.push(outcome)?;
         store = next;
     }

@@ -18,20 +18,22 @@ ghost use Rattle.schedules.specs.After.{without_life};
 ghost use Rattle.schedules.specs.declared.event.Event.TheVariants as event;
 ghost use Rattle.schedule_sim.specs.Living.{IsLife, is_of_life};
 ghost use Rattle.schedule_sim.specs.Opening.{LastFails, TellsCalls};
-ghost use Rattle.schedule_sim.specs.Storing.{DidStore, IsClosed, IsStore, LiesOn};
+ghost use Rattle.schedule_sim.specs.Storing.{DidStore, IsClosed, IsStore, LiesOn, StandsNow};
 ghost use Rattle.schedule_sim.specs.Tracing.{traced_states, traced_honest};
 
 use crate::entries::entries_of;
 use crate::life::Life;
 use crate::traced::Traced;
 use atomic_methods::Part;
+use checkpoint_walk::stops_while_capturing;
 use disk_model::Fill;
 use flusher::Keeper;
 use java_hash::StripeCount;
+use keeper_states::laws::laws_of_telling;
 use map_model::laws::laws_of_parts;
 use map_types::Refusal;
 use recovery::open_parts;
-use schedules::laws::steps_between_lives;
+use schedules::laws::{laws_of_known_histories, steps_between_lives};
 use schedules::{DeviceCall, Event, Outcome, Side};
 use std::alloc::{AllocError, Global};
 
@@ -103,10 +105,7 @@ fn refused(
         _ => !names_within(fails_at, calls),
     };
     if is_told {
-        Ok((
-            Store::Closed(disk),
-            Outcome::NotOpened { calls, refusal },
-        ))
+        Ok((Store::Closed(disk), Outcome::NotOpened { calls, refusal }))
     } else {
         Err(AllocError)
     }
@@ -204,6 +203,18 @@ impl Store {
         match self {
             Store::Closed(disk) => disk,
             Store::Open(life) => life.into_disk(),
+        }
+    }
+
+    /// Whatever a stop may leave now, and what is read, stands for a front of the history as it has to.
+    pub(crate) fn stands_for_a_front(&self)
+        ensures { (w : World) (least : ℕ) → IsStore w least self.now → StandsNow w least }
+    {
+        laws_of_known_histories();
+        laws_of_telling::<Traced>();
+        match self {
+            Store::Closed(_disk) => {}
+            Store::Open(life) => stops_while_capturing(&life.keeper),
         }
     }
 

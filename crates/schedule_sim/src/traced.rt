@@ -3,6 +3,7 @@ ghost use Rattle.std.specs.Prelude.{◌≡◌, true, false, List, ◌∷◌, [],
 ghost use Rattle.disk_model.specs.Files.{Files, Leaves, now, empty_files};
 ghost use Rattle.disk_model.specs.Memory.{memory_states, planned_of};
 ghost use Rattle.disk_model.specs.Fills.{after_stop, left_by};
+ghost use Rattle.schedules.specs.After.{file_of};
 ghost use Rattle.schedule_sim.specs.Noting.{CameTo, IsCounted, IsPlanned, IsSameFill, IsTied, WasLast, counted_prop, planned_prop, tied_prop};
 
 use disk_model::{DeviceError, Disk, Failure, Fill, MemDisk};
@@ -88,6 +89,17 @@ fn note(
     }
 }
 
+// Whether it is a call of this file.
+fn is_of(call: &DeviceCall, file: usize) -> bool
+    ensures { result ≡ true → file_of call.now ≡ file }
+{
+    match call {
+        DeviceCall::Write { file: number, .. } | DeviceCall::Sync { file: number } => {
+            *number == file
+        }
+    }
+}
+
 // One call more.
 fn one_more(calls: Option<u64>) -> Option<u64>
     ensures { (files : Files) (states : List Files) → IsCounted calls states → IsCounted result (files ∷ states) }
@@ -136,24 +148,27 @@ impl Traced {
         Ok(())
     }
 
-    /// The last call, where that was a write or a sync that succeeded.
-    pub(crate) fn take_made(&mut self) -> Option<DeviceCall>
+    /// The last call, where that was a write or a sync of this file that succeeded.
+    pub(crate) fn take_made(&mut self, file: usize) -> Option<DeviceCall>
         ensures same { traced_states self.new ≡ traced_states self.old }
         ensures made { IfSome result (λ call. WasLast Option.None call (traced_states self.new)) }
+        ensures file { IfSome result (λ call. file_of call ≡ file) }
     {
-        match self.last.take() {
-            Some(Noted { call, lost: None }) => Some(call),
-            _ => None,
-        }
+        let Some(Noted { call, lost: None }) = self.last.take() else {
+            return None;
+        };
+        if is_of(&call, file) { Some(call) } else { None }
     }
 
-    /// The last call, where that was a write or a sync that was planned to fail with this fill.
-    pub(crate) fn take_lost(&mut self, fill: &Fill) -> Option<DeviceCall>
+    /// The last call, where that was a write or a sync of this file that was planned to fail with this
+    /// fill.
+    pub(crate) fn take_lost(&mut self, fill: &Fill, file: usize) -> Option<DeviceCall>
         ensures same { traced_states self.new ≡ traced_states self.old }
         ensures lost { IfSome result (λ call. WasLast (Option.Some fill.now) call (traced_states self.new)) }
+        ensures file { IfSome result (λ call. file_of call ≡ file) }
     {
         let noted = self.last.take()?;
-        if is_same_fill(noted.lost.as_ref()?, fill) {
+        if is_same_fill(noted.lost.as_ref()?, fill) && is_of(&noted.call, file) {
             Some(noted.call)
         } else {
             None

@@ -11,7 +11,7 @@ use Rattle.schedules.specs.declared.outcome.Outcome.{Outcome}
 use Rattle.schedules.specs.declared.outcome.Outcome.TheVariants as outcome
 use Rattle.schedules.specs.World.{World, Life}
 use Rattle.schedules.specs.Fitting.{fits}
-use Rattle.schedules.specs.Cases.{HappensInside, HappensOutside, HappensWith, MakesCall, StopsMachine}
+use Rattle.schedules.specs.Cases.{HappensInside, HappensOutside, HappensWith, MakesCall, StopsInside}
 use Rattle.schedules.specs.Laws.{SkippedWhereUnfit}
 
 IsOther : Outcome → Type 0
@@ -28,9 +28,9 @@ no_call w l side.Log (ending.Fails fill) h = h
 no_call w l side.Checkpoint ending.Done h = h
 no_call w l side.Checkpoint (ending.Fails fill) h = h
 
-no_stop : (w : World) (within : Option Side) → StopsMachine w within outcome.Skipped → ⊥
-no_stop w None h = h
-no_stop w (Some s) h = h
+no_stop : (w : World) (l : Life) (within : Option Side) → StopsInside w l within outcome.Skipped → ⊥
+no_stop w l None h = h
+no_stop w l (Some s) h = h
 
 never_inside : (w : World) (l : Life) (e : Event) → HappensInside w l e outcome.Skipped → ⊥
 unfolding IsOther
@@ -48,7 +48,7 @@ never_inside w l event.Fail h = other outcome.FailMade tt h
 never_inside w l event.Begin h = h
 never_inside w l (event.Capture stripe) h = h
 never_inside w l event.Seal h = h
-never_inside w l (event.Stop within fill) h = no_stop w within h
+never_inside w l (event.Stop within fill) h = no_stop w l within h
 never_inside w l event.Leave h = other outcome.Left tt h
 
 never_outside : (w : World) (found : Opened) (e : Event) → HappensOutside w found e outcome.Skipped → ⊥
@@ -66,7 +66,7 @@ never_outside w found event.Fail h = h
 never_outside w found event.Begin h = h
 never_outside w found (event.Capture stripe) h = h
 never_outside w found event.Seal h = h
-never_outside w found (event.Stop within fill) h = no_stop w within h
+never_outside w found (event.Stop within fill) h = h
 never_outside w found event.Leave h = h
 
 never : (w : World) (life : Option Life) (found : Opened) (e : Event) → HappensWith w life found e outcome.Skipped → ⊥

@@ -1,5 +1,5 @@
 -- The commit of one change, row by row, and stops within it.
-use Rattle.std.proofs.Common.{◌≡◌, ◌<◌, ℕ, zero, suc, Bool, true, List, [], ◌∷◌, ◌++◌, refl, sym, subst, arith}
+use Rattle.std.proofs.Common.{◌≡◌, ◌<◌, ℕ, zero, suc, Bool, true, List, [], ◌∷◌, ◌++◌, refl, sym, ap, subst, arith}
 use Rattle.std.specs.Global.{Vec}
 use Rattle.std.specs.Prelude.{◌&&◌, nat_lt}
 use Rattle.std.specs.Str.{chars}
@@ -8,6 +8,7 @@ use Rattle.java_hash.specs.Hash.{hash_of, weighted_sum}
 use Rattle.java_hash.specs.Stripes.{stripe_of}
 use Rattle.java_hash.specs.Units.{units_of}
 use Rattle.disk_model.specs.Files.{AreBytes}
+use Rattle.disk_model.specs.Gates.{writes}
 use Rattle.store_layout.specs.Logs.{frame, header}
 use Rattle.schedules.specs.World.{World, begun_by, start}
 use Rattle.schedules.specs.After.{after}
@@ -51,8 +52,17 @@ withheld bytes = after_rows new_store (written bytes) withheld_rows
 written_meets : (bytes : Vec ℕ) → bytes.items ≡ frame_bytes → AllMeet new_store staged (written_rows bytes)
 unfolding staged after begun_by start stripe_of hash_of weighted_sum units_of chars frame header
 written_meets bytes is = (
-  (refl, record { file = omega arith; place = omega arith; bytes = subst AreBytes (sym is) frame_is_bytes }, refl),
-  ((refl, record { file = omega arith; place = tt; bytes = λ i. omega arith }, refl), tt),
+  (
+    refl,
+    record {
+      file = refl;
+      low = 0;
+      what = ap (λ (items : List ℕ). writes 18 items) is;
+      possible = record { file = omega arith; place = omega arith; bytes = subst AreBytes (sym is) frame_is_bytes };
+    },
+    refl,
+  ),
+  ((refl, record { file = refl; low = 0; what = refl; possible = record { file = omega arith; place = tt; bytes = λ i. omega arith } }, refl), tt),
 )
 
 withheld_meets : (bytes : Vec ℕ) → AllMeet new_store (written bytes) withheld_rows
@@ -62,8 +72,17 @@ withheld_meets bytes = (refl, ((refl, omega arith), ((refl, refl), tt)))
 released_meets : (bytes gate : Vec ℕ) → gate.items ≡ 165 ∷ [] → AllMeet new_store (withheld bytes) (released_rows gate)
 unfolding withheld written staged after begun_by start stripe_of hash_of weighted_sum units_of chars frame header
 released_meets bytes gate is = (
-  (refl, record { file = omega arith; place = omega arith; bytes = subst AreBytes (sym is) gate_is_bytes }, refl),
-  ((refl, record { file = omega arith; place = tt; bytes = λ i. omega arith }, refl), (refl, (refl, ((refl, omega arith, refl), tt)))),
+  (
+    refl,
+    record {
+      file = refl;
+      low = 0;
+      what = ap (λ (items : List ℕ). writes 17 items) is;
+      possible = record { file = omega arith; place = omega arith; bytes = subst AreBytes (sym is) gate_is_bytes };
+    },
+    refl,
+  ),
+  ((refl, record { file = refl; low = 0; what = refl; possible = record { file = omega arith; place = tt; bytes = λ i. omega arith } }, refl), (refl, (refl, ((refl, omega arith, refl), tt)))),
 )
 
 pub change_is_released : ChangeIsReleased

@@ -9,5 +9,5 @@ pub mod NextLife
 pub mod OpeningExamples
 pub mod RowExamples
 pub mod RunLaws
-pub mod ScheduleExample
 pub mod StopExamples
+pub mod UnwrittenExample

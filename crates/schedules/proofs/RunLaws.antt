@@ -5,27 +5,42 @@ use Rattle.std.proofs.lemmas.List.{length-take-le, take-take, take_all}
 use Rattle.map_types.specs.declared.commands.Command.{Command}
 use Rattle.ticket_order.specs.declared.record.Call.{Call}
 use Rattle.ticket_order.specs.Legality.{IsLegalCall}
+use Rattle.disk_model.specs.Files.{Contents}
 use Rattle.schedules.specs.declared.event.Event.{Event}
 use Rattle.schedules.specs.declared.outcome.Outcome.{Outcome}
 use Rattle.schedules.specs.Laws.{DrawsInside, EndsInside, OpensOutside, OutcomesAreMoves, QuietInside, QuietOutside, ReleasesInside, RowsGoOn}
 use Rattle.schedules.specs.Laws.{RunsAnswerAsOneThread, SoundAtStart, SoundBetweenIsRun, SoundIsRun, StopsOutside}
 use Rattle.schedules.specs.Machine.{Machine, Move, Calls, Releases, Stops, Opens, AreAllowed, AreReleasedTo, IsAllowed, MayStop, begun, machine}
 use Rattle.schedules.specs.Machine.{machine_after, moved, whole}
-use Rattle.schedules.specs.World.{World, start}
-use Rattle.schedules.specs.Runs.{Row, Happens, IsMove, LeadsTo, MayMove, moved_by, rows_of, rows_onto}
+use Rattle.schedules.specs.World.{World, seen_of, start}
+use Rattle.schedules.specs.Runs.{AreKept, Row, Happens, IsMove, Keeps, LeadsTo, MayMove, moved_by, rows_of, rows_onto}
+use Rattle.schedules.specs.Sound.{AreAbove, Stays}
 use Rattle.schedules.proofs.MachineLaws.{released_stay_legal}
 
 -- ---- one row more
 
 -- what the rows led to goes on with this move, or none
 module _ (rows : List Row) (w : World) (a : Machine) (row : Row) (w' : World) where
-  led : LeadsTo rows w a → Happens w row w' → (move : Option Move) → IsMove w row.0 row.1 move → MayMove a move → LeadsTo (row ∷ rows) w' (moved_by a move)
+  led : LeadsTo rows w a → Happens w row w' → (move : Option Move) → Keeps w a row w' (moved_by a move) → IsMove w row.0 row.1 move → MayMove a move → LeadsTo (row ∷ rows) w' (moved_by a move)
   unfolding LeadsTo
-  led leads happens move is allowed = (w, a, leads, happens, record { move = move; is_move = is; allowed = allowed; machine = refl })
+  led leads happens move keeps is allowed = (w, a, leads, happens, record { move = move; is_move = is; allowed = allowed; machine = refl }, keeps)
 
 released_further : (p q : ℕ) (calls : List Call) → p ≤ q → AreReleasedTo p calls → AreReleasedTo q calls
 released_further p q [] l all = tt
 released_further p q (call ∷ calls) l all = (omega (arith, all.0, l), released_further p q calls l all.1)
+
+-- contents of no fewer commands than this count keep each that was released
+above_kept : (w : World) (least : ℕ) (h : List Command) (released : List Call) → AreReleasedTo least released → (contents : Contents) → AreAbove w least contents → AreKept w (machine h released) contents
+above_kept w least h released within contents above = record { front = above.front; released = released_further least above.front.count released above.above within }
+
+-- whatever the machine's history is
+stays_kept : (w : World) (least : ℕ) (row : Row) (w' : World) (next : ℕ) (h h' : List Command) (released released' : List Call) → AreReleasedTo least released → AreReleasedTo next released' → Stays w least row w' next
+    → Keeps w (machine h released) row w' (machine h' released')
+stays_kept w least row w' next h h' released released' within within' stays = record {
+  within = λ contents leaves. above_kept w least h released within contents (stays.within contents leaves);
+  left = λ contents leaves. above_kept w' next h' released' within' contents (stays.left contents leaves);
+  read = above_kept w' next h' released' within' (seen_of w'.files) stays.read;
+}
 
 -- the machine with the history that the world has
 at_history : (rows : List Row) (w : World) (h : List Command) (released : List Call) → w.history ≡ h → LeadsTo rows w (machine h released) → LeadsTo rows w (machine w.history released)
@@ -34,20 +49,27 @@ at_history rows w h released same leads = subst (λ (x : List Command). LeadsTo 
 -- ---- in a life
 
 pub quiet_inside : QuietInside
-quiet_inside rows w durable released row w' durable' sound happens is same l = record {
-  leads = at_history (row ∷ rows) w' w.history released same (led rows w (machine w.history released) row w' sound.leads happens None is tt);
-  within = released_further durable durable' released l sound.within;
-}
+quiet_inside rows w durable released row w' durable' sound happens stays is same l =
+    let within = released_further durable durable' released l sound.within in
+    record {
+      leads = at_history (row ∷ rows) w' w.history released same
+          (led rows w (machine w.history released) row w' sound.leads happens None (stays_kept w durable row w' durable' w.history w.history released released sound.within within stays) is tt);
+      within = within;
+    }
 
 pub draws_inside : DrawsInside
-draws_inside rows w durable released row w' c sound happens is same = record {
-  leads = at_history (row ∷ rows) w' (w.history ++ c ∷ []) released same (led rows w (machine w.history released) row w' sound.leads happens (Some (Calls c)) is tt);
+draws_inside rows w durable released row w' c sound happens stays is same = record {
+  leads = at_history (row ∷ rows) w' (w.history ++ c ∷ []) released same
+      (led rows w (machine w.history released) row w' sound.leads happens (Some (Calls c))
+      (stays_kept w durable row w' durable w.history (w.history ++ c ∷ []) released released sound.within sound.within stays) is tt);
   within = sound.within;
 }
 
 pub releases_inside : ReleasesInside
-releases_inside rows w durable released row w' call sound happens is same legal l = record {
-  leads = at_history (row ∷ rows) w' w.history (call ∷ released) same (led rows w (machine w.history released) row w' sound.leads happens (Some (Releases call)) is legal);
+releases_inside rows w durable released row w' call sound happens stays is same legal l = record {
+  leads = at_history (row ∷ rows) w' w.history (call ∷ released) same
+      (led rows w (machine w.history released) row w' sound.leads happens (Some (Releases call))
+      (stays_kept w durable row w' durable w.history w.history released (call ∷ released) sound.within (l, sound.within) stays) is legal);
   within = (l, sound.within);
 }
 
@@ -64,21 +86,26 @@ within_history : (w w' : World) (least : ℕ) → w'.history ≡ w.history → l
 within_history w w' least same l = subst (λ (x : List Command). least ≤ length x) (sym same) l
 
 pub ends_inside : EndsInside
-ends_inside rows w durable released row w' least sound happens is same l reached = record {
-  leads = for_each (row ∷ rows) w' w.history released same (λ p may. led rows w (machine w.history released) row w' sound.leads happens (Some (Stops p)) (is p) may);
-  within = released_further durable least released l sound.within;
-  reached = within_history w w' least same reached;
-}
+ends_inside rows w durable released row w' least sound happens stays is same l reached =
+    let within = released_further durable least released l sound.within in
+    record {
+      leads = for_each (row ∷ rows) w' w.history released same (λ p may.
+          led rows w (machine w.history released) row w' sound.leads happens (Some (Stops p))
+          (stays_kept w durable row w' least w.history (take p w.history) released released sound.within within stays) (is p) may);
+      within = within;
+      reached = within_history w w' least same reached;
+    }
 
 -- a stop that leaves p of the first p commands leaves all of them
 left_as_many : (h : List Command) (released : List Call) (p : ℕ) → MayStop p (machine h released) → MayStop p (machine (take p h) released)
 left_as_many h released p may = record { released = may.released; within = omega (arith, length-take-le p h may.within) }
 
 pub stops_outside : StopsOutside
-stops_outside rows w least released row w' sound happens is same = record {
+stops_outside rows w least released row w' sound happens stays is same = record {
   leads = for_each (row ∷ rows) w' w.history released same (λ p may.
       subst (λ (x : List Command). LeadsTo (row ∷ rows) w' (machine x released)) (take-take p p w.history (omega arith))
-      (led rows w (machine (take p w.history) released) row w' (sound.leads p may) happens (Some (Stops p)) (is p) (left_as_many w.history released p may)));
+      (led rows w (machine (take p w.history) released) row w' (sound.leads p may) happens (Some (Stops p))
+      (stays_kept w least row w' least (take p w.history) (take p (take p w.history)) released released sound.within sound.within stays) (is p) (left_as_many w.history released p may)));
   within = sound.within;
   reached = within_history w w' least same sound.reached;
 }
@@ -86,18 +113,21 @@ stops_outside rows w least released row w' sound happens is same = record {
 -- ---- between lives
 
 pub quiet_outside : QuietOutside
-quiet_outside rows w least released row w' sound happens is same = record {
-  leads = for_each (row ∷ rows) w' w.history released same (λ p may. led rows w (machine (take p w.history) released) row w' (sound.leads p may) happens None is tt);
+quiet_outside rows w least released row w' sound happens stays is same = record {
+  leads = for_each (row ∷ rows) w' w.history released same (λ p may.
+      led rows w (machine (take p w.history) released) row w' (sound.leads p may) happens None
+      (stays_kept w least row w' least (take p w.history) (take p w.history) released released sound.within sound.within stays) is tt);
   within = sound.within;
   reached = within_history w w' least same sound.reached;
 }
 
 pub opens_outside : OpensOutside
-opens_outside rows w least released row w' p m sound happens is same l within map_is =
+opens_outside rows w least released row w' p m sound happens stays is same l within map_is =
     let may : MayStop p (machine w.history released) = record { released = released_further least p released l sound.within; within = within } in
     record {
       leads = at_history (row ∷ rows) w' (take p w.history) released same
-          (led rows w (machine (take p w.history) released) row w' (sound.leads p may) happens (Some (Opens p m)) is (sym (length-take-le p w.history within), map_is));
+          (led rows w (machine (take p w.history) released) row w' (sound.leads p may) happens (Some (Opens p m))
+          (stays_kept w least row w' p (take p w.history) (take p w.history) released released sound.within may.released stays) is (sym (length-take-le p w.history within), map_is));
       within = may.released;
     }
 
@@ -146,7 +176,7 @@ moved_on a b (Some move) may is (moves, allowed, after) =
 moves_of : (rows : List Row) (w : World) (a : Machine) → LeadsTo rows w a → MovesTo a
 unfolding LeadsTo MovesTo
 moves_of [] w a (world, machine) = ([], tt, sym machine)
-moves_of (row ∷ rows) w a (w0, a0, leads, happens, moves) = moved_on a0 a moves.move moves.allowed moves.machine (moves_of rows w0 a0 leads)
+moves_of (row ∷ rows) w a (w0, a0, leads, happens, moves, keeps) = moved_on a0 a moves.move moves.allowed moves.machine (moves_of rows w0 a0 leads)
 
 pub outcomes_are_moves : OutcomesAreMoves
 unfolding MovesTo

@@ -36,6 +36,7 @@ use Rattle.schedules.specs.World.{Asking, FirstSees, HasMissed, FoundFailure, In
 use Rattle.schedules.specs.World.{CaptureGives, LogWork, Resting, Committing, Rotating, Running, count, gate_after, is_held, is_resting, job_of}
 use Rattle.schedules.specs.World.{needs_rotation, next_commands, next_section, place_of, seen_of, stripe_asked, sweep_or}
 use Rattle.schedules.specs.Fitting.{fits}
+use Rattle.schedules.specs.Due.{due_call, due_file}
 use Rattle.schedules.specs.After.{bytes_of, call_of, called, checkpoint_called, file_of, log_called, section_at}
 
 -- ---- the steps of a call
@@ -198,11 +199,23 @@ StagesRun w l most x = ⊥
 
 -- ---- a device call
 
--- the call is one that a caller may make: of one of the four files, at its end or before
+-- the call is one that may be made: of one of the four files, at its end or before
 pub record IsPossible (files : Files) (call : DeviceCall) : Type 0 where
   pub file : file_of call < 4
   pub place : IsPlaced (call_of call) (files (file_of call))
   pub bytes : AreBytes (bytes_of call)
+
+-- the call is the one that is due: of that file, at that place, with those bytes. The low ticket of a checkpoint is left open.
+pub record IsDue (w : World) (l : Life) (s : Side) (call : DeviceCall) : Type 0 where
+  pub file : file_of call ≡ due_file l s
+  pub low : ℕ
+  pub what : call_of call ≡ due_call w l low s
+  pub possible : IsPossible w.files call
+
+-- of a call that fails, or within which the machine stops, the file is told: it is the one that is due
+pub record IsThere (w : World) (l : Life) (s : Side) (call : DeviceCall) : Type 0 where
+  pub file : file_of call ≡ due_file l s
+  pub possible : IsPossible w.files call
 
 -- a frame's four calls: it is written, synced, its gate is opened, that is synced
 abbrev pub frame_phase : ℕ → Phase
@@ -265,11 +278,11 @@ UsesRunning files l (Some running) = is_last_call running ≡ true →
 abbrev pub MakesCall : World → Life → Side → Ending → Outcome → Type 0
 MakesCall w l s e (outcome.Refused refusal.Failed) = l.is_broken ≡ true
 MakesCall w l side.Log ending.Done (outcome.Logged call phase) =
-    (l.is_broken ≡ false) × IsPossible w.files call × (phase ≡ phase_of_log (log_called w l l.log).log)
+    (l.is_broken ≡ false) × IsDue w l side.Log call × (phase ≡ phase_of_log (log_called w l l.log).log)
 MakesCall w l side.Checkpoint ending.Done (outcome.Checkpointed call phase) =
-    (l.is_broken ≡ false) × IsPossible w.files call × (phase ≡ phase_of_checkpoint (checkpoint_called l l.checkpoint).checkpoint)
+    (l.is_broken ≡ false) × IsDue w l side.Checkpoint call × (phase ≡ phase_of_checkpoint (checkpoint_called l l.checkpoint).checkpoint)
     × UsesRunning (called call w.files) l l.checkpoint
-MakesCall w l s (ending.Fails fill) (outcome.CallFailed call) = (l.is_broken ≡ false) × IsPossible w.files call
+MakesCall w l s (ending.Fails fill) (outcome.CallFailed call) = (l.is_broken ≡ false) × IsThere w l s call
 MakesCall w l s e x = ⊥
 
 -- ---- a checkpoint
@@ -349,10 +362,15 @@ OpensFiles w found fails_at (outcome.NotOpened calls reason) =
 OpensFiles w found fails_at x = ⊥
 
 -- A stop within a device call names that call.
-abbrev pub StopsMachine : World → Option Side → Outcome → Type 0
-StopsMachine w None (outcome.Stopped None) = Unit {0}
-StopsMachine w (Some s) (outcome.Stopped (Some call)) = IsPossible w.files call
-StopsMachine w within x = ⊥
+abbrev pub StopsInside : World → Life → Option Side → Outcome → Type 0
+StopsInside w l None (outcome.Stopped None) = Unit {0}
+StopsInside w l (Some s) (outcome.Stopped (Some call)) = IsThere w l s call
+StopsInside w l within x = ⊥
+
+-- between lives there is none
+abbrev pub StopsOutside : Outcome → Type 0
+StopsOutside (outcome.Stopped None) = Unit {0}
+StopsOutside x = ⊥
 
 -- ---- all of them
 
@@ -375,13 +393,13 @@ HappensInside w l event.Fail x = x ≡ outcome.FailMade
 HappensInside w l event.Begin x = BeginsCheckpoint l x
 HappensInside w l (event.Capture stripe) x = BeginsCapture l stripe x
 HappensInside w l event.Seal x = BeginsSeal l x
-HappensInside w l (event.Stop within fill) x = StopsMachine w within x
+HappensInside w l (event.Stop within fill) x = StopsInside w l within x
 HappensInside w l event.Leave x = x ≡ outcome.Left
 HappensInside w l (event.Open stripes fails_at) x = ⊥
 
 abbrev pub HappensOutside : World → Opened → Event → Outcome → Type 0
 HappensOutside w found (event.Open stripes fails_at) x = OpensFiles w found fails_at x
-HappensOutside w found (event.Stop within fill) x = StopsMachine w within x
+HappensOutside w found (event.Stop within fill) x = StopsOutside x
 HappensOutside w found e x = ⊥
 
 abbrev pub HappensWith : World → Option Life → Opened → Event → Outcome → Type 0

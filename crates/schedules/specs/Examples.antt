@@ -140,14 +140,25 @@ abbrev pub ChangeIsReleased : Type 0
 ChangeIsReleased = (bytes gate : Vec ℕ) → bytes.items ≡ frame_bytes → gate.items ≡ 165 ∷ [] →
     AllMeet new_store opened (staged_rows ++ (written_rows bytes ++ (withheld_rows ++ released_rows gate)))
 
--- All of it, from the opening on, is a run.
-abbrev pub schedule_rows : StripeCount → Vec MapEntry → Vec ℕ → Vec ℕ → List Row
-schedule_rows stripes entries bytes gate =
-    (event.Open stripes None, outcome.Opened 20 0 entries) ∷ (staged_rows ++ (written_rows bytes ++ (withheld_rows ++ released_rows gate)))
+-- ---- or nothing is written
 
-abbrev pub ScheduleIsRun : Type 0
-ScheduleIsRun = (stripes : StripeCount) (entries : Vec MapEntry) (bytes gate : Vec ℕ) → stripes.count ≡ 16 → entries.items ≡ [] → bytes.items ≡ frame_bytes
-    → gate.items ≡ 165 ∷ [] → IsRun (map (λ row. row.0) (schedule_rows stripes entries bytes gate)) (map (λ row. row.1) (schedule_rows stripes entries bytes gate))
+-- all four calls of the commit are syncs of another file
+abbrev pub unwritten_rows : List Row
+unwritten_rows =
+    (event.Device side.Log ending.Done, outcome.Logged (device.Sync 0) log_phase.Written)
+    ∷ (event.Device side.Log ending.Done, outcome.Logged (device.Sync 0) log_phase.Synced)
+    ∷ (event.Device side.Log ending.Done, outcome.Logged (device.Sync 0) log_phase.Opened)
+    ∷ (event.Device side.Log ending.Done, outcome.Logged (device.Sync 0) log_phase.Idle)
+    ∷ []
+
+abbrev pub opened_rows : StripeCount → ℕ → Vec MapEntry → List Row → List Row
+opened_rows stripes calls entries rows = (event.Open stripes None, outcome.Opened calls 0 entries) ∷ rows
+
+-- So these are no rows of a run, with no opening behind them that would show it.
+abbrev pub UnwrittenIsNoRun : Type 0
+UnwrittenIsNoRun = (stripes : StripeCount) (calls : ℕ) (entries : Vec MapEntry) →
+    IsRun (map (λ row. row.0) (opened_rows stripes calls entries (staged_rows ++ unwritten_rows)))
+    (map (λ row. row.1) (opened_rows stripes calls entries (staged_rows ++ unwritten_rows))) → ⊥
 
 -- ---- or the machine stops before the gate is open, or within the call that opens it
 

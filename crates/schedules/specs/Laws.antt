@@ -24,7 +24,7 @@ use Rattle.schedules.specs.After.{entered, failed}
 use Rattle.schedules.specs.Cases.{IsLongestRun, IsPossible, Meets}
 use Rattle.schedules.specs.InHand.{IsHandOf}
 use Rattle.schedules.specs.Runs.{Row, Happens, IsMove, IsRun, LeadsTo, OpensWell, rows_of}
-use Rattle.schedules.specs.Sound.{AnswersLegally, IsFront, IsKnownOf, IsSound, IsSoundInside, IsSoundOutside, OpensFront, released_by}
+use Rattle.schedules.specs.Sound.{AnswersLegally, IsFront, IsKnownOf, IsSound, IsSoundInside, IsSoundOutside, OpensFront, Stays, durable_or, released_by}
 
 -- ---- the machine
 
@@ -95,40 +95,40 @@ SoundAtStart = IsSoundOutside [] start 0 []
 -- an event of a life that is no move
 abbrev pub QuietInside : Type 0
 QuietInside = (rows : List Row) (w : World) (durable : ℕ) (released : List Call) (row : Row) (w' : World) (durable' : ℕ) →
-    IsSoundInside rows w durable released → Happens w row w' → IsMove w row.0 row.1 None → w'.history ≡ w.history → durable ≤ durable' → IsSoundInside (row ∷ rows) w' durable' released
+    IsSoundInside rows w durable released → Happens w row w' → Stays w durable row w' durable' → IsMove w row.0 row.1 None → w'.history ≡ w.history → durable ≤ durable' → IsSoundInside (row ∷ rows) w' durable' released
 
 -- a TICKET
 abbrev pub DrawsInside : Type 0
 DrawsInside = (rows : List Row) (w : World) (durable : ℕ) (released : List Call) (row : Row) (w' : World) (c : Command) →
-    IsSoundInside rows w durable released → Happens w row w' → IsMove w row.0 row.1 (Some (Calls c)) → w'.history ≡ w.history ++ c ∷ [] → IsSoundInside (row ∷ rows) w' durable released
+    IsSoundInside rows w durable released → Happens w row w' → Stays w durable row w' durable → IsMove w row.0 row.1 (Some (Calls c)) → w'.history ≡ w.history ++ c ∷ [] → IsSoundInside (row ∷ rows) w' durable released
 
 -- a reply that is released
 abbrev pub ReleasesInside : Type 0
 ReleasesInside = (rows : List Row) (w : World) (durable : ℕ) (released : List Call) (row : Row) (w' : World) (call : Call) →
-    IsSoundInside rows w durable released → Happens w row w' → IsMove w row.0 row.1 (Some (Releases call)) → w'.history ≡ w.history
+    IsSoundInside rows w durable released → Happens w row w' → Stays w durable row w' durable → IsMove w row.0 row.1 (Some (Releases call)) → w'.history ≡ w.history
     → IsLegalCall (whole w.history) call → call.position ≤ durable
     → IsSoundInside (row ∷ rows) w' durable (call ∷ released)
 
 -- a stop, or a life that is left
 abbrev pub EndsInside : Type 0
 EndsInside = (rows : List Row) (w : World) (durable : ℕ) (released : List Call) (row : Row) (w' : World) (least : ℕ) →
-    IsSoundInside rows w durable released → Happens w row w' → ((p : ℕ) → IsMove w row.0 row.1 (Some (Stops p))) → w'.history ≡ w.history → durable ≤ least → least ≤ length w.history
+    IsSoundInside rows w durable released → Happens w row w' → Stays w durable row w' least → ((p : ℕ) → IsMove w row.0 row.1 (Some (Stops p))) → w'.history ≡ w.history → durable ≤ least → least ≤ length w.history
     → IsSoundOutside (row ∷ rows) w' least released
 
 -- a stop between lives
 abbrev pub StopsOutside : Type 0
 StopsOutside = (rows : List Row) (w : World) (least : ℕ) (released : List Call) (row : Row) (w' : World) → IsSoundOutside rows w least released
-    → Happens w row w' → ((p : ℕ) → IsMove w row.0 row.1 (Some (Stops p))) → w'.history ≡ w.history → IsSoundOutside (row ∷ rows) w' least released
+    → Happens w row w' → Stays w least row w' least → ((p : ℕ) → IsMove w row.0 row.1 (Some (Stops p))) → w'.history ≡ w.history → IsSoundOutside (row ∷ rows) w' least released
 
 -- an event between lives that is no move
 abbrev pub QuietOutside : Type 0
 QuietOutside = (rows : List Row) (w : World) (least : ℕ) (released : List Call) (row : Row) (w' : World) → IsSoundOutside rows w least released
-    → Happens w row w' → IsMove w row.0 row.1 None → w'.history ≡ w.history → IsSoundOutside (row ∷ rows) w' least released
+    → Happens w row w' → Stays w least row w' least → IsMove w row.0 row.1 None → w'.history ≡ w.history → IsSoundOutside (row ∷ rows) w' least released
 
 -- an opening that finds the map after the first p commands, and loses none at whose position a reply was released
 abbrev pub OpensOutside : Type 0
 OpensOutside = (rows : List Row) (w : World) (least : ℕ) (released : List Call) (row : Row) (w' : World) (p : ℕ) (m : Map) →
-    IsSoundOutside rows w least released → Happens w row w' → IsMove w row.0 row.1 (Some (Opens p m)) → w'.history ≡ take p w.history
+    IsSoundOutside rows w least released → Happens w row w' → Stays w least row w' p → IsMove w row.0 row.1 (Some (Opens p m)) → w'.history ≡ take p w.history
     → least ≤ p → p ≤ length w.history → m ≡ fold_of (take p w.history) → IsSoundInside (row ∷ rows) w' p released
 
 -- ---- each event, by its case
@@ -136,13 +136,14 @@ OpensOutside = (rows : List Row) (w : World) (least : ℕ) (released : List Call
 -- In a life each event keeps it, where the reply that it may release is legal; and where the life ends, for any count from the durable one on.
 abbrev pub LifeGoesOn : Type 0
 LifeGoesOn = (rows : List Row) (w : World) (l : Life) (released : List Call) (least : ℕ) (e : Event) (x : Outcome) (w' : World) →
-    w.life ≡ Some l → IsSoundInside rows w l.durable released → Happens w (e, x) w' → AnswersLegally w e x
+    w.life ≡ Some l → IsSoundInside rows w l.durable released → Happens w (e, x) w' → Stays w l.durable (e, x) w' (durable_or w'.life least) → AnswersLegally w e x
     → l.durable ≤ least → least ≤ length w.history → IsSound ((e, x) ∷ rows) w' least (released_by w e x released)
 
 -- Between lives each event keeps it, where an opening finds a front of the history.
 abbrev pub NextLifeBegins : Type 0
 NextLifeBegins = (rows : List Row) (w : World) (released : List Call) (least : ℕ) (e : Event) (x : Outcome) (w' : World) →
-    w.life ≡ None → IsSoundOutside rows w least released → (happens : Happens w (e, x) w') → OpensFront w least happens.found x → IsSound ((e, x) ∷ rows) w' least released
+    w.life ≡ None → IsSoundOutside rows w least released → (happens : Happens w (e, x) w') → Stays w least (e, x) w' (durable_or w'.life least)
+    → OpensFront w least happens.found x → IsSound ((e, x) ∷ rows) w' least released
 
 -- what files that stand for a front of the history are found to be
 abbrev pub FrontIsFound : Type 0

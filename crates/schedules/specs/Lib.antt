@@ -2,6 +2,7 @@ pub mod Machine
 pub mod World
 pub mod Fitting
 pub mod After
+pub mod Due
 pub mod Cases
 pub mod Runs
 pub mod Sound

@@ -1,12 +1,14 @@
 -- Whole runs: what events and outcomes lead to, and the machine of one list that they are a run of.
-use Rattle.std.specs.Prelude.{◌≡◌, ◌⊎◌, ℕ, List, [], ◌∷◌, length, map, Option, Some, None, true}
+use Rattle.std.specs.Prelude.{◌≡◌, ◌⊎◌, ℕ, ◌+◌, List, [], ◌∷◌, length, map, Option, Some, None, true}
 use Rattle.std.specs.List.{AllByRecursion}
 use Rattle.std.specs.FinMap as finite
 use Rattle.map_types.specs.declared.refusals.Refusal.TheVariants as refusal
+use Rattle.map_types.specs.declared.commands.Command.{Command}
 use Rattle.map_model.specs.Maps.{Map}
 use Rattle.ticket_order.specs.declared.record.Asked.TheVariants.{Changing}
 use Rattle.ticket_order.specs.Records.{call}
-use Rattle.store_layout.specs.Opening.{Opened}
+use Rattle.disk_model.specs.Files.{Contents, Files, Leaves}
+use Rattle.store_layout.specs.Opening.{Opened, StandsForFront}
 use Rattle.schedules.specs.declared.event.Event.{Event}
 use Rattle.schedules.specs.declared.event.Event.TheVariants as event
 use Rattle.schedules.specs.declared.outcome.End.{End}
@@ -15,9 +17,9 @@ use Rattle.schedules.specs.declared.outcome.Made.{Made}
 use Rattle.schedules.specs.declared.outcome.Made.TheVariants as made
 use Rattle.schedules.specs.declared.outcome.Outcome.{Outcome}
 use Rattle.schedules.specs.declared.outcome.Outcome.TheVariants as outcome
-use Rattle.schedules.specs.Machine.{Machine, Move, Calls, Releases, Stops, Opens, IsAllowed, begun, moved}
-use Rattle.schedules.specs.World.{World, Life, Job, Idle, Walks, Releasing, job_of, start}
-use Rattle.schedules.specs.After.{after}
+use Rattle.schedules.specs.Machine.{Machine, Move, Calls, Releases, Stops, Opens, AreReleasedTo, IsAllowed, begun, moved, whole}
+use Rattle.schedules.specs.World.{World, Life, Job, Idle, Walks, Releasing, LogWork, Committing, job_of, seen_of, start}
+use Rattle.schedules.specs.After.{after, entered}
 use Rattle.schedules.specs.Cases.{Meets, entry_of}
 
 -- ---- the move that an outcome is
@@ -64,6 +66,18 @@ moved_by a (Some move) = moved a move
 abbrev pub Row : Type 0
 Row = Event × Outcome
 
+-- the files as a stop finds them, within a device call or between two
+abbrev pub stopped_in : Row → Files → Files
+stopped_in (event.Stop within fill, outcome.Stopped (Some call)) files = entered call files
+stopped_in row files = files
+
+-- Whatever a stop may leave at the event is so (P), and so (Q) is what it may leave after it, and what is read then.
+-- (Within a call that is made a stop leaves what it may leave before that, or what it may leave after it.)
+pub record AtEachMoment (P Q : Contents → Type 0) (row : Row) (files files' : Files) : Type 0 where
+  pub within : (contents : Contents) → Leaves (stopped_in row files) contents → P contents
+  pub left : (contents : Contents) → Leaves files' contents → Q contents
+  pub read : Q (seen_of files')
+
 -- The outcome meets its case, and this is the world after it.
 pub record Happens (w : World) (row : Row) (w' : World) : Type 0 where
   -- what an opening found in the files
@@ -78,12 +92,40 @@ pub record Moves (w : World) (a : Machine) (row : Row) (a' : Machine) : Type 0 w
   pub allowed : MayMove a move
   pub machine : a' ≡ moved_by a move
 
+-- ---- what the files stand for
+
+-- of a life what is committed
+abbrev pub least_of : Option Life → ℕ
+least_of None = 0
+least_of (Some l) = l.committed
+
+-- how many commands are staged
+abbrev pub staged_in : LogWork → ℕ
+staged_in (Committing n left) = n
+staged_in log = 0
+
+-- of a life what is committed and staged
+abbrev pub most_of : List Command → Option Life → ℕ
+most_of history None = length history
+most_of history (Some l) = l.committed + staged_in l.log
+
+-- These contents stand for a front of the history: it loses no command at whose position a reply was released, in any life; and in a life none that is
+-- committed, and has none that isn't committed or staged.
+pub record AreKept (w : World) (a : Machine) (contents : Contents) : Type 0 where
+  pub front : StandsForFront (whole w.history) (least_of w.life) (most_of w.history w.life) contents
+  pub released : AreReleasedTo front.count a.released
+
+-- so do the files at each moment of an event, and after it
+abbrev pub Keeps : World → Machine → Row → World → Machine → Type 0
+Keeps w a row w' a' = AtEachMoment (AreKept w a) (AreKept w' a') row w.files w'.files
+
 -- ---- a run
 
 -- The rows, the newest first, lead from the beginning to this world, and to this state of the machine.
 unfoldable pub LeadsTo : List Row → World → Machine → Type 0
 LeadsTo [] w a = (w ≡ start) × (a ≡ begun)
-LeadsTo (row ∷ rows) w a = (w0 : World) × (a0 : Machine) × LeadsTo rows w0 a0 × Happens w0 row w × Moves w0 a0 row a
+LeadsTo (row ∷ rows) w a =
+    (w0 : World) × (a0 : Machine) × LeadsTo rows w0 a0 × Happens w0 row w × Moves w0 a0 row a × Keeps w0 a0 row w a
 
 -- An opening is refused only for want of memory, or by the device call that its event names, which was its last.
 abbrev pub OpensWell : Row → Type 0
@@ -98,8 +140,8 @@ rows_onto rows es xs = rows
 abbrev pub rows_of : List Event → List Outcome → List Row
 rows_of es xs = rows_onto [] es xs
 
--- The outcomes are those of a run, whatever the events are: one for each event, each meets its case, and together they are a run of the machine of
--- one list.
+-- The outcomes are those of a run, whatever the events are: one for each event, each meets its case, the files stand for what they have to at each
+-- moment, and together they are a run of the machine of one list.
 pub record IsRun (events : List Event) (outcomes : List Outcome) : Type 0 where
   pub one_each : length outcomes ≡ length events
   pub world : World

@@ -5,13 +5,14 @@ use Rattle.map_model.specs.Histories.{History}
 use Rattle.map_model.specs.Steps.{fold_of}
 use Rattle.ticket_order.specs.declared.record.Call.{Call}
 use Rattle.ticket_order.specs.Legality.{IsLegalCall}
-use Rattle.store_layout.specs.Opening.{Opened, map_of, prefix_of}
+use Rattle.disk_model.specs.Files.{Contents}
+use Rattle.store_layout.specs.Opening.{Opened, StandsForFront, map_of, prefix_of}
 use Rattle.schedules.specs.declared.event.Event.{Event}
 use Rattle.schedules.specs.declared.outcome.Outcome.{Outcome}
 use Rattle.schedules.specs.declared.outcome.Outcome.TheVariants as outcome
 use Rattle.schedules.specs.Machine.{MayStop, Move, Releases, AreReleasedTo, machine, whole}
 use Rattle.schedules.specs.World.{World, Life}
-use Rattle.schedules.specs.Runs.{Row, LeadsTo, move_of_step}
+use Rattle.schedules.specs.Runs.{AtEachMoment, Row, LeadsTo, least_of, most_of, move_of_step}
 
 -- In a life the machine has the whole history, and no reply was released above the durable count.
 pub record IsSoundInside (rows : List Row) (w : World) (durable : ℕ) (released : List Call) : Type 0 where
@@ -32,6 +33,22 @@ IsSoundWith (Some l) rows w least released = IsSoundInside rows w l.durable rele
 -- in a life or between lives
 abbrev pub IsSound : List Row → World → ℕ → List Call → Type 0
 IsSound rows w least released = IsSoundWith w.life rows w least released
+
+-- ---- the files
+
+-- these contents stand for a front of the history as they have to, and of no fewer than so many commands
+pub record AreAbove (w : World) (least : ℕ) (contents : Contents) : Type 0 where
+  pub front : StandsForFront (whole w.history) (least_of w.life) (most_of w.history w.life) contents
+  pub above : least ≤ front.count
+
+-- at each moment of an event, and after it
+abbrev pub Stays : World → ℕ → Row → World → ℕ → Type 0
+Stays w least row w' next = AtEachMoment (AreAbove w least) (AreAbove w' next) row w.files w'.files
+
+-- what is durable in a life, or between lives this count
+abbrev pub durable_or : Option Life → ℕ → ℕ
+durable_or None least = least
+durable_or (Some l) least = l.durable
 
 -- ---- the history as one who came later knows it
 

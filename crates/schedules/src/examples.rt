@@ -1,5 +1,5 @@
 //! One change on a new store, row by row, each as the contract of a function.
-ghost use Rattle.schedules.specs.Examples.{BatchIsCommitted, ChangeIsReleased, ChangeIsStaged, CheckpointGoesOn, NewStoreOpens, NotYetInHand, OtherIsRefused, RotationGoesOn, ScheduleIsRun, StoppedBefore, StoppedOpen, StoppedShut};
+ghost use Rattle.schedules.specs.Examples.{BatchIsCommitted, ChangeIsReleased, ChangeIsStaged, CheckpointGoesOn, NewStoreOpens, NotYetInHand, OtherIsRefused, RotationGoesOn, StoppedBefore, StoppedOpen, StoppedShut, UnwrittenIsNoRun};
 
 use store_layout::laws::{laws_of_new_stores, laws_of_opening};
 
@@ -14,10 +14,11 @@ pub fn one_change()
     laws_of_opening();
 }
 
-/// Its frame is written and its reply released; or the machine stops before that.
+/// Its frame is written and its reply released; or the machine stops before that; or nothing is written,
+/// and it isn't committed.
 pub fn one_commit()
     ensures released { ChangeIsReleased }
-    ensures run { ScheduleIsRun }
+    ensures unwritten { UnwrittenIsNoRun }
     ensures before { StoppedBefore }
     ensures within_open { StoppedOpen }
     ensures within_shut { StoppedShut }

@@ -21,7 +21,9 @@ fn end_text(alloc: Global, end: &End) -> Result<String, AllocError> {
 fn outcome_text(alloc: Global, outcome: &Outcome) -> Result<String, AllocError> {
     match outcome {
         Outcome::Opened {
-            prefix, entries, ..
+            prefix,
+            entries,
+            ..
         } => {
             let count = entries.len();
             format!(in alloc; "Opened {prefix} {count}")

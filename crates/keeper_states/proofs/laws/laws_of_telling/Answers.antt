@@ -1,6 +1,8 @@
+use Rattle.keeper_states.proofs.FilesTold.{files_are_told}
 use Rattle.keeper_states.proofs.Held.{stripe_is_told}
 use Rattle.keeper_states.proofs.Taken.{counts_are_told}
 use Rattle.keeper_states.proofs.Told.{checkpoint_call_is_told, log_call_is_told, walk_is_told}
+use Rattle.keeper_states.proofs.StagedTold.{staged_is_told}
 use Rattle.keeper_states.proofs.laws.laws_of_telling.Goals as goal
 
 pub returns : goal.returns
@@ -10,4 +12,6 @@ returns g c = record {
   counts = counts_are_told g.D.Disk.states g.D.Disk.honest;
   log = log_call_is_told g.D.Disk.states g.D.Disk.honest;
   checkpoint = checkpoint_call_is_told g.D.Disk.states;
+  staged = staged_is_told g.D.Disk.states g.D.Disk.honest;
+  files = files_are_told g.D.Disk.states g.D.Disk.honest;
 }

@@ -19,7 +19,7 @@ pub loop-event-preserved : goal.loop-event-preserved
 loop-event-preserved c =
     let going = c.loop-event.invariant in (
       kept_after going.1 c.args.events.now c.loop-event.event-index c.loop-event.outcomes.items c.push.new.self.items c.loop-event.store c.in_ok-next.next c.event-item.result c.in_ok-next.outcome
-          c.loop-event-test.true c.event-item.is c.in_ok-push.ensures.items going.0 (c.in_ok-next.ensures going.0.world going.0.least going.0.stands),
+          c.loop-event-test.true c.event-item.is c.in_ok-push.ensures.items going.0 (c.in_ok-next.ensures going.0.world going.0.least going.0.stands) c.stands_for_a_front.ensures,
       going.1,
       going.2,
       going.3,

@@ -14,6 +14,12 @@ if_ok (Err e) P Q f p = p
 planned : (w : World) (least : ℕ) (old new : Traced) → traced_states new ≡ traced_states old → IsClosed w least old → IsClosed w least new
 planned w least old new same closed = record { life = closed.life; files = closed.files ∙ ap now (sym same); reached = closed.reached; stops = closed.stops }
 
--- how many calls were made is told of the same states
-same_count : (old new last : Traced) (calls : ℕ) → traced_states new ≡ traced_states old → length (traced_states new) + calls ≡ length (traced_states last) → length (traced_states old) + calls ≡ length (traced_states last)
-same_count old new last calls same made = ap (λ states. length states + calls) (sym same) ∙ made
+pub returns-else-names_within-clause-did : goal.returns-else-names_within-clause-did
+returns-else-names_within-clause-did c = if_ok c.begun.result _ _ (λ x did w least closed. did w least c.args.fails_at c.plan_opening.new.disk
+    (sym c.names_within.ensures ∙ c.if-names_within.false) (c.in_ok-calls-in-Ok.ensures (traced_states c.plan_opening.new.disk) c.calls-before.ensures) c.in-Ok.ensures.calls (c.in-Ok.ensures.ok tt).1
+    (planned w least c.args.disk c.plan_opening.new.disk c.plan_opening.ensures closed)) c.begun.ensures.did
+
+pub returns-in_ok-calls-in-Err-clause-did : goal.returns-in_ok-calls-in-Err-clause-did
+returns-in_ok-calls-in-Err-clause-did c = if_ok c.refused.result _ _ (λ x did w least closed. did w least c.args.stripes c.plan_opening.new.disk
+    (c.in_ok-calls-in-Err.ensures (traced_states c.plan_opening.new.disk) c.calls-before.ensures) c.in-Err.ensures.stopped (c.in-Err.ensures.err tt).1
+    (planned w least c.args.disk c.plan_opening.new.disk c.plan_opening.ensures closed)) c.refused.ensures.did

@@ -17,7 +17,7 @@ returns c =
     let call = c.in_ok-call.call in
     let disk = c.interrupt.new.self.keeper.disk in
     let stopped = c.in_ok-call.ensures w stands.0 in
-    stopped_within_did w least c.args.side c.args.fill.now c.args.life call disk x.1 x.0 outcome stands.0 (sym (c.if-not-may_call.ensures.told w c.args.fill.now stands.0)) stopped
+    stopped_within_did w least c.args.side c.args.fill.now c.args.life call disk x.1 x.0 outcome stands.0 (sym (c.if-not-may_call.ensures.told w c.args.fill.now stands.0)) stands.1 stopped
     (store (without_life w (entered call w.files)) least
-    (interrupted_lies w least c.args.life call disk c.into_disk.result c.into_disk.ensures.disk stands.0 stands.1 stopped)))
+    (interrupted_lies w least c.args.side c.args.life call disk c.into_disk.result c.into_disk.ensures.disk stands.0 stands.1 stopped)))
     c.stopped.ensures.store c.stopped.ensures.outcome

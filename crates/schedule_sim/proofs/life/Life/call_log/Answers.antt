@@ -1,5 +1,8 @@
-use Rattle.std.proofs.Common.{None, Ok, Some, refl, sym, ◌∙◌, subst}
+use Rattle.std.proofs.Common.{◌≡◌, None, Ok, Some, refl, sym, ◌∙◌, subst}
 use Rattle.one_history.specs.Turns.{record_of}
+use Rattle.store_layout.specs.Logs.{log_file}
+use Rattle.flusher.specs.Rotating.{due_of, logs_of}
+use Rattle.schedules.specs.After.{file_of}
 use Rattle.schedules.specs.declared.event.Event.TheVariants as event
 use Rattle.schedules.specs.declared.event.Side.TheVariants as side
 use Rattle.schedules.specs.declared.outcome.Outcome.TheVariants as outcome
@@ -46,6 +49,8 @@ returns-in_ok-call-in-Done c w a =
     let new : Life = record { keeper = record made { disk = disk }; words = life.words; jobs = life.jobs } in
     let was = ok_of (Ok call) c.take_made.result _ (λ t. WasLast None t (traced_states disk)) (λ t. WasLast None t (traced_states disk))
     c.in_ok-call-in-Done.ensures.value c.take_made.ensures.made (λ t is. is) in
+    let named = ok_of (Ok call) c.take_made.result _ (λ t. file_of t ≡ c.log_due-file.result) (λ t. file_of t ≡ log_file (due_of (logs_of life.keeper)).generation)
+    c.in_ok-call-in-Done.ensures.value c.take_made.ensures.file (λ t is. is ∙ c.log_due-file.ensures) in
     subst (λ e. Did w (event.Device side.Log e) (outcome.Logged call c.in-Ok.phase) new) (sym c.in-Done.is)
     (log_calls w life new c.plan_none.new.self disk made _ call c.in-Ok.phase c.advance.result c.in-Ok.is told.walk told.log told.checkpoint
     c.laws_of_log_calls.ensures.done c.steps_of_the_keeper.ensures.rests c.requires.may c.plan_none.ensures
@@ -57,7 +62,7 @@ returns-in_ok-call-in-Done c w a =
       kept = c.advance.ensures.kept;
       same = c.advance.ensures.same;
     })
-    (λ n done. c.advance.ensures.fits n done (record_of 64 life.words)) c.take_made.ensures.same was refl refl refl a)
+    (λ n done. c.advance.ensures.fits n done (record_of 64 life.words)) c.take_made.ensures.same was named refl refl refl a)
 
 pub returns-in_ok-call-in-Fails : goal.returns-in_ok-call-in-Fails
 returns-in_ok-call-in-Fails c w a =
@@ -70,6 +75,8 @@ returns-in_ok-call-in-Fails c w a =
     let new : Life = record { keeper = record made { disk = disk }; words = life.words; jobs = life.jobs } in
     let was = ok_of (Ok call) c.take_lost.result _ (λ t. WasLast (Some fill) t (traced_states disk)) (λ t. WasLast (Some fill) t (traced_states disk))
     c.in_ok-call-in-Fails.ensures.value c.take_lost.ensures.lost (λ t is. is) in
+    let named = ok_of (Ok call) c.take_lost.result _ (λ t. file_of t ≡ c.log_due-file.result) (λ t. file_of t ≡ log_file (due_of (logs_of life.keeper)).generation)
+    c.in_ok-call-in-Fails.ensures.value c.take_lost.ensures.file (λ t is. is ∙ c.log_due-file.ensures) in
     subst (λ e. Did w (event.Device side.Log e) (outcome.CallFailed call) new) (sym c.in-Fails.is)
     (log_fails w life new c.plan.new.self disk made _ fill call c.advance-in-Fails.result (sym c.is_ok.ensures.value ∙ c.if-is_ok.false) told.walk
     told.log told.checkpoint c.laws_of_log_calls.ensures.fails c.steps_of_the_keeper.ensures.rests c.requires.may c.plan.ensures
@@ -81,4 +88,4 @@ returns-in_ok-call-in-Fails c w a =
       kept = c.advance-in-Fails.ensures.kept;
       same = c.advance-in-Fails.ensures.same;
     })
-    (λ n done. c.advance-in-Fails.ensures.fits n done (record_of 64 life.words)) c.take_lost.ensures.same was refl refl refl a)
+    (λ n done. c.advance-in-Fails.ensures.fits n done (record_of 64 life.words)) c.take_lost.ensures.same was named refl refl refl a)

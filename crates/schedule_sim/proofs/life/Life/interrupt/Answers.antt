@@ -1,7 +1,8 @@
-use Rattle.std.proofs.Common.{Some, sym, ◌∙◌, ap, subst}
+use Rattle.std.proofs.Common.{◌≡◌, IfSome, Option, None, Some, sym, ◌∙◌, ap, subst}
 use Rattle.one_history.specs.Turns.{record_of}
 use Rattle.disk_model.specs.declared.fill.Fill.TheVariants.{New}
 use Rattle.flusher.specs.Rotating.{logs_of}
+use Rattle.schedules.specs.After.{file_of}
 use Rattle.schedules.specs.World.{World}
 use Rattle.schedule_sim.specs.declared.life.Life.{Life}
 use Rattle.schedule_sim.specs.Calling.{MayCall}
@@ -13,6 +14,10 @@ use Rattle.schedule_sim.proofs.Devices.{checkpoint_made, interrupted, log_made, 
 use Rattle.schedule_sim.proofs.Kept.{fits_now}
 use Rattle.schedule_sim.proofs.life.Life.interrupt.Goals as goal
 use Rattle.schedule_sim.proofs.life.Life.interrupt.Goals.{in-Log, in-Checkpoint}
+
+both_some : {A : Type 0} (o : Option A) (P Q : A → Type 0) → IfSome o P → IfSome o Q → IfSome o (λ x. P x × Q x)
+both_some None P Q p q = tt
+both_some (Some x) P Q p q = (p, q)
 
 pub advance-requires : goal.advance-requires
 advance-requires c =
@@ -51,18 +56,20 @@ returns c =
     let planned = c.plan.new.self in
     let disk = c.take_lost.new.self in
     let fits = planned_fits b.stripes begun.done life.keeper (record_of 64 b) planned c.plan.ensures (fits_now c.requires.life.0 life.keeper b jobs begun may.no_capture) in
-    ok_of c.ok_or.result c.take_lost.result _ (λ call. WasLast (Some New) call (traced_states disk)) (λ call. (w : World) → IsLife w life → IsInterrupted w call disk) c.ok_or.ensures.value c.take_lost.ensures.lost
+    let both = both_some c.take_lost.result (λ call. WasLast (Some New) call (traced_states disk)) (λ call. file_of call ≡ c.number_due-file.result) c.take_lost.ensures.lost c.take_lost.ensures.file in
+    ok_of c.ok_or.result c.take_lost.result _ (λ call. WasLast (Some New) call (traced_states disk) × (file_of call ≡ c.number_due-file.result)) (λ call. (w : World) → IsLife w life → IsInterrupted w c.args.side call disk)
+    c.ok_or.ensures.value both
     (λ call was w a. elim c.match-side.branch [
       | in-Log v ↦
           let made = v.advance.new.self in
-          interrupted c.laws_of_known_histories.ensures.stands c.laws_of_files.ensures.entered w life.keeper b jobs call planned made.disk disk a c.plan.ensures
+          interrupted c.laws_of_known_histories.ensures.stands told.staged told.files c.laws_of_files.ensures.entered c.args.side w life.keeper b jobs call planned made.disk disk a c.plan.ensures
           (log_made life.keeper _ planned made.disk (logs_of made) v.advance.result (subst (λ s. MayCall s life.keeper) v.in-Log.is may) v.advance.ensures.steps)
           (v.advance.ensures.any_moment b.stripes begun.done (record_of 64 b) fits tt)
-          (c.take_lost.ensures.same ∙ ap (λ (l : Life). traced_states l.keeper.disk) v.self-is) was
+          (c.take_lost.ensures.same ∙ ap (λ (l : Life). traced_states l.keeper.disk) v.self-is) was.0 may (was.1 ∙ c.number_due-file.ensures)
       | in-Checkpoint v ↦
           let made = v.advance-in-Checkpoint.new.keeper in
-          interrupted c.laws_of_known_histories.ensures.stands c.laws_of_files.ensures.entered w life.keeper b jobs call planned made.disk disk a c.plan.ensures
+          interrupted c.laws_of_known_histories.ensures.stands told.staged told.files c.laws_of_files.ensures.entered c.args.side w life.keeper b jobs call planned made.disk disk a c.plan.ensures
           (checkpoint_made life.keeper made _ planned v.advance-in-Checkpoint.result (subst (λ s. MayCall s life.keeper) v.in-Checkpoint.is may) v.advance-in-Checkpoint.ensures.steps)
           (v.advance-in-Checkpoint.ensures.any_moment b.stripes begun.done (record_of 64 b) fits tt)
-          (c.take_lost.ensures.same ∙ ap (λ (l : Life). traced_states l.keeper.disk) v.self-is) was
+          (c.take_lost.ensures.same ∙ ap (λ (l : Life). traced_states l.keeper.disk) v.self-is) was.0 may (was.1 ∙ c.number_due-file.ensures)
     ])
