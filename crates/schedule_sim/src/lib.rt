@@ -14,4 +14,6 @@ mod traced;
 mod walking;
 mod watched;
 
+pub use disk_model::Fill;
 pub use running::{Trace, run};
+pub use schedules::{Event, Outcome};
