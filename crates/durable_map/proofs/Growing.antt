@@ -5,11 +5,8 @@ use Rattle.ticket_order.specs.declared.record.StepMade.{StepMade}
 use Rattle.ticket_order.specs.declared.record.StepMade.TheVariants.{FoundAlive, Saw}
 use Rattle.ticket_order.specs.StepRules.{Lives, Sees}
 use Rattle.ticket_order.specs.Calls.{Misses, MissesAlive, Reaches, SeesAgain}
+use Rattle.flusher.proofs.OwnCalls.{lives, none_goes_on, sees, then}
 use Rattle.durable_map.specs.Durable.{EndsDurable, FoundFailure, GrewBy, MakesNoCall}
-
--- a list that has grown to m, and grows by one more
-pub push : {A : Type 0} (l m a : List A) (s : A) → m ≡ l ++ a → m ++ s ∷ [] ≡ l ++ (a ++ s ∷ [])
-push l m a s e = ap (λ z. z ++ s ∷ []) e ∙ append_assoc l a (s ∷ [])
 
 pub grew_on : (v u w : Record) (a b : List StepMade) → GrewBy v a u → GrewBy u b w → GrewBy v (a ++ b) w
 grew_on v u w a b e f = f ∙ (ap (λ l. l ++ b) e ∙ append_assoc v.steps a b)
@@ -17,37 +14,16 @@ grew_on v u w a b e f = f ∙ (ap (λ l. l ++ b) e ∙ append_assoc v.steps a b)
 -- ---- steps that make no call
 
 pub makes_none : (v : Record) → MakesNoCall v v
-makes_none v = record { opening = refl; calls = refl; holding = refl; seen = record { more = []; is = sym (append-nil v.seen) }; made = []; steps = sym (append-nil v.steps) }
+makes_none v = record { goes_on = none_goes_on v; calls = refl; holding = refl }
 
 pub goes_on : (v u w : Record) → MakesNoCall v u → MakesNoCall u w → MakesNoCall v w
-goes_on v u w a b = record {
-  opening = b.opening ∙ a.opening;
-  calls = b.calls ∙ a.calls;
-  holding = b.holding ∙ a.holding;
-  seen = record { more = a.seen.more ++ b.seen.more; is = b.seen.is ∙ (ap (λ l. l ++ b.seen.more) a.seen.is ∙ append_assoc v.seen a.seen.more b.seen.more) };
-  made = a.made ++ b.made;
-  steps = grew_on v u w a.made b.made a.steps b.steps;
-}
+goes_on v u w a b = record { goes_on = then v u w a.goes_on b.goes_on; calls = b.calls ∙ a.calls; holding = b.holding ∙ a.holding }
 
 sees_none : (v w : Record) (d : ℕ) → Sees v d w → MakesNoCall v w
-sees_none v w d s = record {
-  opening = ap (λ (r : Record). r.opening) s.is;
-  calls = ap (λ (r : Record). r.calls) s.is;
-  holding = ap (λ (r : Record). r.holding) s.is;
-  seen = record { more = s.between; is = ap (λ (r : Record). r.seen) s.is };
-  made = Saw d ∷ [];
-  steps = ap (λ (r : Record). r.steps) s.is;
-}
+sees_none v w d s = record { goes_on = sees v d w s; calls = ap (λ (r : Record). r.calls) s.is; holding = ap (λ (r : Record). r.holding) s.is }
 
 lives_none : (v w : Record) (b : Bool) → Lives v b w → MakesNoCall v w
-lives_none v w b s = record {
-  opening = ap (λ (r : Record). r.opening) s.is;
-  calls = ap (λ (r : Record). r.calls) s.is;
-  holding = ap (λ (r : Record). r.holding) s.is;
-  seen = record { more = []; is = ap (λ (r : Record). r.seen) s.is ∙ sym (append-nil v.seen) };
-  made = FoundAlive b ∷ [];
-  steps = ap (λ (r : Record). r.steps) s.is;
-}
+lives_none v w b s = record { goes_on = lives v b w s; calls = ap (λ (r : Record). r.calls) s.is; holding = ap (λ (r : Record). r.holding) s.is }
 
 pub missed : (p : ℕ) (b : Bool) (v w : Record) → MissesAlive p b v w → MakesNoCall v w
 missed p b v w m = goes_on v m.between w (sees_none v m.between m.misses.durable m.misses.sees) (lives_none m.between w b m.lives)
@@ -62,7 +38,7 @@ pub released : (p : ℕ) (v w : Record) → Reaches p v w ⊎ SeesAgain p v (Rea
 released p v w (inl r) = (sees_none v w r.durable r.sees, ends_behind v v w p [] (sym (append-nil v.steps)) r)
 released p v w (inr s) =
     let first = missed p false v s.between s.first in
-    (goes_on v s.between w first (sees_none s.between w s.second.durable s.second.sees), ends_behind v s.between w p first.made first.steps s.second)
+    (goes_on v s.between w first (sees_none s.between w s.second.durable s.second.sees), ends_behind v s.between w p first.goes_on.beside.made first.goes_on.beside.steps s.second)
 
 pub failed : (p : ℕ) (v w : Record) → SeesAgain p v (Misses p) w → MakesNoCall v w × FoundFailure v w
 failed p v w s =

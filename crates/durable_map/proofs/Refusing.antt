@@ -1,5 +1,5 @@
 -- A call that was refused before it was made.
-use Rattle.std.proofs.Common.{◌≡◌, inl, ℕ, ◌≤◌, List, [], ◌∷◌, ◌++◌, append_assoc, replicate, true, false, refl, ap, subst, ◌∙◌}
+use Rattle.std.proofs.Common.{◌≡◌, inl, ℕ, ◌≤◌, List, [], ◌∷◌, ◌++◌, append_assoc, replicate, Err, true, false, refl, ap, subst, ◌∙◌}
 use Rattle.java_hash.specs.Stripes.{stripe_of}
 use Rattle.map_types.specs.declared.commands.Command.{Command}
 use Rattle.map_types.specs.declared.commands.Read.{Read}
@@ -11,7 +11,9 @@ use Rattle.ticket_order.specs.declared.record.StepMade.TheVariants.{FoundAlive, 
 use Rattle.ticket_order.specs.Records.{reach, stripe_held, ticket_limit}
 use Rattle.ticket_order.specs.Calls.{FindsFailure, GivesBack, LooksAround, walked}
 use Rattle.stripe_locks.specs.Waits.{RefusesChangeInTime, RefusesReadInTime, Waits}
-use Rattle.durable_map.specs.Durable.{FoundFailure, FoundSpent, RefusesCall}
+use Rattle.flusher.proofs.OwnCalls.{refused_change_goes_on, refused_read_goes_on, then}
+use Rattle.durable_map.specs.Durable.{Completes, FoundFailure, FoundSpent, RefusesCall}
+use Rattle.durable_map.proofs.Answering.{waited}
 
 -- a list that has grown to m, and grows by two more
 middle : {A : Type 0} (l m a : List A) (s t : A) → m ≡ l ++ a → (m ++ s ∷ []) ++ t ∷ [] ≡ l ++ (a ++ s ∷ t ∷ [])
@@ -48,45 +50,51 @@ finds_spent i v b w waits k spent =
     }
 
 -- a change that waited for its stripe, and was refused
-pub change_refused : (n : ℕ) (v : Record) (c : Command) (w : Record) (e : Refusal) → RefusesChangeInTime v (stripe_of n c.key) e w → RefusesCall v (Changing c) e w
-change_refused n v c w refusal.NullValue k = absurd k.refused
-change_refused n v c w refusal.KeyTooLong k = absurd k.refused
-change_refused n v c w refusal.ValueTooLong k = absurd k.refused
-change_refused n v c w refusal.UnknownMethod k = absurd k.refused
-change_refused n v c w refusal.UnknownFunction k = absurd k.refused
-change_refused n v c w refusal.BadFrame k = absurd k.refused
-change_refused n v c w refusal.NoMemory k = k.refused.0.same_calls ∙ ap (λ (r : Record). r.calls) k.waits.is
-change_refused n v c w (refusal.Busy x0) k = absurd (k.not_busy x0 refl)
-change_refused n v c w refusal.Failed k = (finds_failure _ v k.waited w k.waits k.refused, inl (k.refused.same_calls ∙ ap (λ (r : Record). r.calls) k.waits.is))
-change_refused n v c w refusal.TicketsSpent k = (tt, finds_spent _ v k.waited w k.waits k.refused.0 k.refused.1, k.refused.0.same_calls ∙ ap (λ (r : Record). r.calls) k.waits.is)
-change_refused n v c w refusal.NotFormatted k = absurd k.refused
-change_refused n v c w (refusal.Damaged x0 x1) k = absurd k.refused
-change_refused n v c w refusal.WrongVersion k = absurd k.refused
-change_refused n v c w refusal.LogFull k = absurd k.refused
-change_refused n v c w refusal.AlreadyFormatted k = absurd k.refused
-change_refused n v c w refusal.WrongPhase k = absurd k.refused
-change_refused n v c w refusal.TooEarly k = absurd k.refused
-change_refused n v c w refusal.NotText k = absurd k.refused
-change_refused n v c w refusal.SeatsSpent k = absurd k.refused
+refuses_change : (n : ℕ) (v : Record) (c : Command) (w : Record) (e : Refusal) → RefusesChangeInTime v (stripe_of n c.key) e w → RefusesCall v (Changing c) e w
+refuses_change n v c w refusal.NullValue k = absurd k.refused
+refuses_change n v c w refusal.KeyTooLong k = absurd k.refused
+refuses_change n v c w refusal.ValueTooLong k = absurd k.refused
+refuses_change n v c w refusal.UnknownMethod k = absurd k.refused
+refuses_change n v c w refusal.UnknownFunction k = absurd k.refused
+refuses_change n v c w refusal.BadFrame k = absurd k.refused
+refuses_change n v c w refusal.NoMemory k = k.refused.0.same_calls ∙ ap (λ (r : Record). r.calls) k.waits.is
+refuses_change n v c w (refusal.Busy x0) k = absurd (k.not_busy x0 refl)
+refuses_change n v c w refusal.Failed k = (finds_failure _ v k.waited w k.waits k.refused, inl (k.refused.same_calls ∙ ap (λ (r : Record). r.calls) k.waits.is))
+refuses_change n v c w refusal.TicketsSpent k = (tt, finds_spent _ v k.waited w k.waits k.refused.0 k.refused.1, k.refused.0.same_calls ∙ ap (λ (r : Record). r.calls) k.waits.is)
+refuses_change n v c w refusal.NotFormatted k = absurd k.refused
+refuses_change n v c w (refusal.Damaged x0 x1) k = absurd k.refused
+refuses_change n v c w refusal.WrongVersion k = absurd k.refused
+refuses_change n v c w refusal.LogFull k = absurd k.refused
+refuses_change n v c w refusal.AlreadyFormatted k = absurd k.refused
+refuses_change n v c w refusal.WrongPhase k = absurd k.refused
+refuses_change n v c w refusal.TooEarly k = absurd k.refused
+refuses_change n v c w refusal.NotText k = absurd k.refused
+refuses_change n v c w refusal.SeatsSpent k = absurd k.refused
 
 -- a read that waited for its stripe, and was refused
-pub read_refused : (n : ℕ) (v : Record) (c : Read) (w : Record) (e : Refusal) → RefusesReadInTime v (stripe_of n c.key) e w → RefusesCall v (Reading c) e w
-read_refused n v c w refusal.NullValue k = absurd k.refused
-read_refused n v c w refusal.KeyTooLong k = absurd k.refused
-read_refused n v c w refusal.ValueTooLong k = absurd k.refused
-read_refused n v c w refusal.UnknownMethod k = absurd k.refused
-read_refused n v c w refusal.UnknownFunction k = absurd k.refused
-read_refused n v c w refusal.BadFrame k = absurd k.refused
-read_refused n v c w refusal.NoMemory k = k.refused.same_calls ∙ ap (λ (r : Record). r.calls) k.waits.is
-read_refused n v c w (refusal.Busy x0) k = absurd (k.not_busy x0 refl)
-read_refused n v c w refusal.Failed k = (finds_failure _ v k.waited w k.waits k.refused, inl (k.refused.same_calls ∙ ap (λ (r : Record). r.calls) k.waits.is))
-read_refused n v c w refusal.TicketsSpent k = absurd k.refused
-read_refused n v c w refusal.NotFormatted k = absurd k.refused
-read_refused n v c w (refusal.Damaged x0 x1) k = absurd k.refused
-read_refused n v c w refusal.WrongVersion k = absurd k.refused
-read_refused n v c w refusal.LogFull k = absurd k.refused
-read_refused n v c w refusal.AlreadyFormatted k = absurd k.refused
-read_refused n v c w refusal.WrongPhase k = absurd k.refused
-read_refused n v c w refusal.TooEarly k = absurd k.refused
-read_refused n v c w refusal.NotText k = absurd k.refused
-read_refused n v c w refusal.SeatsSpent k = absurd k.refused
+refuses_read : (n : ℕ) (v : Record) (c : Read) (w : Record) (e : Refusal) → RefusesReadInTime v (stripe_of n c.key) e w → RefusesCall v (Reading c) e w
+refuses_read n v c w refusal.NullValue k = absurd k.refused
+refuses_read n v c w refusal.KeyTooLong k = absurd k.refused
+refuses_read n v c w refusal.ValueTooLong k = absurd k.refused
+refuses_read n v c w refusal.UnknownMethod k = absurd k.refused
+refuses_read n v c w refusal.UnknownFunction k = absurd k.refused
+refuses_read n v c w refusal.BadFrame k = absurd k.refused
+refuses_read n v c w refusal.NoMemory k = k.refused.same_calls ∙ ap (λ (r : Record). r.calls) k.waits.is
+refuses_read n v c w (refusal.Busy x0) k = absurd (k.not_busy x0 refl)
+refuses_read n v c w refusal.Failed k = (finds_failure _ v k.waited w k.waits k.refused, inl (k.refused.same_calls ∙ ap (λ (r : Record). r.calls) k.waits.is))
+refuses_read n v c w refusal.TicketsSpent k = absurd k.refused
+refuses_read n v c w refusal.NotFormatted k = absurd k.refused
+refuses_read n v c w (refusal.Damaged x0 x1) k = absurd k.refused
+refuses_read n v c w refusal.WrongVersion k = absurd k.refused
+refuses_read n v c w refusal.LogFull k = absurd k.refused
+refuses_read n v c w refusal.AlreadyFormatted k = absurd k.refused
+refuses_read n v c w refusal.WrongPhase k = absurd k.refused
+refuses_read n v c w refusal.TooEarly k = absurd k.refused
+refuses_read n v c w refusal.NotText k = absurd k.refused
+refuses_read n v c w refusal.SeatsSpent k = absurd k.refused
+
+pub change_refused : (n : ℕ) (v : Record) (c : Command) (w : Record) (e : Refusal) → RefusesChangeInTime v (stripe_of n c.key) e w → Completes v (Changing c) (Err e) w
+change_refused n v c w e k = record { goes_on = then v k.waited w (waited _ v k.waited k.waits) (refused_change_goes_on k.waited _ e w k.refused); adds = refuses_change n v c w e k }
+
+pub read_refused : (n : ℕ) (v : Record) (r : Read) (w : Record) (e : Refusal) → RefusesReadInTime v (stripe_of n r.key) e w → Completes v (Reading r) (Err e) w
+read_refused n v r w e k = record { goes_on = then v k.waited w (waited _ v k.waited k.waits) (refused_read_goes_on k.waited _ e w k.refused); adds = refuses_read n v r w e k }

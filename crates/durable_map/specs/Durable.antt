@@ -14,7 +14,7 @@ use Rattle.ticket_order.specs.Records.{call, reach, ticket_limit}
 use Rattle.ticket_order.specs.Calls.{MakesCall, MakesRead, RefusesChange, RefusesRead}
 use Rattle.ticket_order.specs.Legality.{IsLegal, history_of}
 use Rattle.one_history.specs.OneHistory.{Follows}
-use Rattle.flusher.specs.Fitting.{HasSeenMore}
+use Rattle.flusher.specs.Fitting.{GoesOnByCalls}
 
 -- the record grew by these steps
 abbrev pub GrewBy : Record → List StepMade → Record → Type 0
@@ -22,12 +22,9 @@ GrewBy v made w = w.steps ≡ v.steps ++ made
 
 -- The pass made steps that add no call, and took no stripe.
 pub record MakesNoCall (v w : Record) : Type 0 where
-  pub opening : w.opening ≡ v.opening
+  pub goes_on : GoesOnByCalls v w
   pub calls : w.calls ≡ v.calls
   pub holding : w.holding ≡ v.holding
-  pub seen : HasSeenMore v w
-  pub made : List StepMade
-  pub steps : GrewBy v made w
 
 -- the last step that was made is a SEE that reached the position
 pub record EndsDurable (v : Record) (position : ℕ) (w : Record) : Type 0 where
@@ -80,10 +77,24 @@ RefusesCall v asked TicketsSpent w = DrawsTicket asked × FoundSpent v w × (w.c
 RefusesCall v asked Failed w = FoundFailure v w × GrewAtMost v asked w
 RefusesCall v asked other w = ⊥
 
--- what a call leaves, by its answer
-abbrev pub Completes : Record → Asked → Result Reply Refusal → Record → Type 0
-Completes v asked (Ok reply) w = AnswersCall v asked reply w
-Completes v asked (Err refusal) w = RefusesCall v asked refusal w
+-- what a call adds to the record, by its answer
+abbrev pub Adds : Record → Asked → Result Reply Refusal → Record → Type 0
+Adds v asked (Ok reply) w = AnswersCall v asked reply w
+Adds v asked (Err refusal) w = RefusesCall v asked refusal w
+
+-- What a call leaves. Whatever it answers, the pass goes on from what it was, so that calls of one pass are calls of one history.
+pub record Completes (v : Record) (asked : Asked) (result : Result Reply Refusal) (w : Record) : Type 0 where
+  pub goes_on : GoesOnByCalls v w
+  pub adds : Adds v asked result w
+
+-- Two calls of a pass, one after the other: both are legal in the history that it has seen at last, and the second stands behind the first.
+pub record FollowEachOther (v : Record) (first : Asked) (one : Reply) (second : Asked) (other : Reply) (w : Record) : Type 0 where
+  pub position : ℕ
+  pub next : ℕ
+  pub grew : w.calls ≡ (v.calls ++ call position first one ∷ []) ++ call next second other ∷ []
+  pub first_legal : IsLegal (history_of w) position first one
+  pub second_legal : IsLegal (history_of w) next second other
+  pub order : Follows position second next
 
 -- what a try of a call over n stripes leaves, by its answer
 abbrev pub Tries : ℕ → Record → Asked → Result Held Refusal → Record → Type 0

@@ -5,6 +5,7 @@ mod calls;
 mod changes;
 mod desk;
 mod keeping;
+pub mod laws;
 mod loops;
 mod map;
 mod reads;

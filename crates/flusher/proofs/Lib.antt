@@ -16,4 +16,5 @@ pub mod Advancing
 pub mod Trying
 pub mod Seeing
 pub mod Beside
+pub mod OwnCalls
 pub mod Counting

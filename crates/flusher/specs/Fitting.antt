@@ -148,6 +148,11 @@ pub record IsBeside (p w : Record) : Type 0 where
   pub made : List StepMade
   pub steps : w.steps ≡ p.steps ++ made
 
+-- The pass goes on from what it was, by steps of calls and releases alone: no capture of it kept a section either.
+pub record GoesOnByCalls (p w : Record) : Type 0 where
+  pub beside : IsBeside p w
+  pub sections : w.sections ≡ p.sections
+
 -- the sweeps of the pass took these commands, from this ticket on
 abbrev pub WereTaken : ℕ → List Command → Record → Type 0
 WereTaken first commands p = (e : Entry) → Contains (entries_from first commands) e → Contains p.taken e

@@ -1,3 +1,3 @@
-pub mod Beside
+pub mod OwnEntry
 pub mod NewMaps
 pub mod Releasing

@@ -19,7 +19,8 @@ use Rattle.flusher.specs.Keeping.{is_too_long}
 use Rattle.wire_frames.specs.declared.requests.Request.{Request}
 use Rattle.connections.specs.Dialogue.{Answer}
 use Rattle.memory_map.specs.Served.{AreTaken, CannotCommit, IsCommitted, IsGivenOut, IsIdle, IsSwept, IsWithheld, Makes, Took, fails}
-use Rattle.memory_map.proofs.Beside.{grown, own_taken}
+use Rattle.ticket_order.proofs.Entries.{grown}
+use Rattle.memory_map.proofs.OwnEntry.{own_taken}
 
 -- what is committed was published
 reached_published : (position : ℕ) (made w : Record) (log : LogState) → IsCommitted position made w log → position ≤ w.published

@@ -3,7 +3,8 @@ use Rattle.std.proofs.lemmas.Result.{err_from_is_err_and}
 use Rattle.map_types.specs.declared.refusals.Refusal.{Refusal}
 use Rattle.flusher.specs.Keeping.{is_walking}
 use Rattle.memory_map.specs.Served.{CannotCommit}
-use Rattle.memory_map.proofs.Beside.{quiet_then, seen_then}
+use Rattle.flusher.proofs.Quiet.{quiet_then}
+use Rattle.flusher.proofs.Seeing.{sees_then}
 use Rattle.memory_map.proofs.memory.commit_in_time.Goals as goal
 
 pub commit_some-requires-clause-kept : goal.commit_some-requires-clause-kept
@@ -20,7 +21,7 @@ loop-turn-preserved g c =
       idle = c.in_ok-commit_some.ensures.ok;
       kept = c.commit_some.ensures.kept (g.S.Steps.stripe_count c.sweep-swept.new.steps) (g.S.Steps.recorded c.sweep-swept.new.steps) (k.0, c.sweep-swept.ensures.fits k.0 k.1);
       quiet = quiet_then _ _ _ c.loop-turn.invariant.quiet c.sweep-swept.ensures.quiet;
-      seen = seen_then _ _ _ c.loop-turn.invariant.seen c.sweep-swept.ensures.seen;
+      seen = sees_then _ _ _ c.loop-turn.invariant.seen c.sweep-swept.ensures.seen;
       place = c.sweep-swept.ensures.place ∙ c.loop-turn.invariant.place;
       stripes = c.sweep-swept.ensures.stripes ∙ c.loop-turn.invariant.stripes;
     }
@@ -43,4 +44,4 @@ pub returns-in_err-commit_some-clause-quiet : goal.returns-in_err-commit_some-cl
 returns-in_err-commit_some-clause-quiet g c = quiet_then _ _ _ c.loop-turn.invariant.quiet c.sweep-swept.ensures.quiet
 
 pub returns-in_err-commit_some-clause-seen : goal.returns-in_err-commit_some-clause-seen
-returns-in_err-commit_some-clause-seen g c = seen_then _ _ _ c.loop-turn.invariant.seen c.sweep-swept.ensures.seen
+returns-in_err-commit_some-clause-seen g c = sees_then _ _ _ c.loop-turn.invariant.seen c.sweep-swept.ensures.seen

@@ -4,7 +4,7 @@ use Rattle.map_types.specs.declared.refusals.Refusal.TheVariants.{Failed}
 use Rattle.ticket_order.specs.declared.record.Record.{Record}
 use Rattle.connections.specs.Dialogue.{Answer}
 use Rattle.memory_map.specs.Served.{AreTaken, IsCommitted, IsKept, IsWithheld}
-use Rattle.memory_map.proofs.Beside.{sees}
+use Rattle.flusher.proofs.OwnCalls.{sees}
 use Rattle.memory_map.proofs.Releasing.{found}
 use Rattle.memory_map.proofs.memory.give_out.Goals as goal
 
@@ -45,4 +45,4 @@ returns-clause-kept g c =
     let out = found c.args.held.position made p w c.make_durable.new.keeper.log commits c.in-Reply.ensures.released.2 in
     let free = ap (λ (r : Record). r.holding) out.sees.is ∙ c.pass_goes_on.ensures.free n k.0 p k.1 done.0.still in
     subst (λ (m : ℕ). IsKept g.D.Disk.states g.D.Disk.honest m c.make_durable.new.keeper w) (sym c.release.ensures.stripes)
-    (k.0, c.pass_goes_on.ensures.fits n k.0 p k.1 done.0.still w (sees p out.durable w out.sees) free)
+    (k.0, c.pass_goes_on.ensures.fits n k.0 p k.1 done.0.still w (sees p out.durable w out.sees).beside free)

@@ -10,7 +10,7 @@ returns-in-Reply-clause-ok g c =
     let r = c.in-Reply.ensures.released in
     let k = released _ _ _ r.2 in (
       r.1 ∙ turn.reply_is,
-      subst (λ (p : ℕ). EndsDurable (recorded c.args.pass.now) p (recorded c.release.new.pass)) turn.position_is (ends_after _ _ _ _ turn.beside.made turn.beside.steps k.1),
+      subst (λ (p : ℕ). EndsDurable (recorded c.args.pass.now) p (recorded c.release.new.pass)) turn.position_is (ends_after _ _ _ _ turn.beside.goes_on.beside.made turn.beside.goes_on.beside.steps k.1),
     )
 
 pub returns-in-Reply-clause-beside : goal.returns-in-Reply-clause-beside
@@ -20,7 +20,7 @@ pub returns-in-Failed-clause-err : goal.returns-in-Failed-clause-err
 returns-in-Failed-clause-err g c =
     let turn = c.loop-turn.invariant in
     let k = failed _ _ _ c.in-Failed.ensures.released in
-    (refl, fails_after _ _ _ turn.beside.made turn.beside.steps k.1)
+    (refl, fails_after _ _ _ turn.beside.goes_on.beside.made turn.beside.goes_on.beside.steps k.1)
 
 pub returns-in-Failed-clause-beside : goal.returns-in-Failed-clause-beside
 returns-in-Failed-clause-beside g c = let k = failed _ _ _ c.in-Failed.ensures.released in goes_on _ _ _ c.loop-turn.invariant.beside k.0
