@@ -11,21 +11,42 @@ fn empty_part() -> Result<Part, Refusal> {
     }
 }
 
-fn command(alloc: Global, key: &str, change: Change) -> Result<Command, Refusal> {
-    let key = Key::new(alloc, key)?;
-    Ok(Command { key, change })
-}
-
-/// Makes the change of the key "k".
-fn change(part: &mut Part, alloc: Global, change: Change) -> Result<Reply, Refusal> {
-    let command = command(alloc, "k", change)?;
-    let prepared = part.prepare(alloc, &command)?;
-    Ok(part.act(prepared))
-}
-
 fn text_of(alloc: Global, len: usize) -> Result<Value, Refusal> {
     let text = "v".repeat(alloc, len)?;
     Value::text(alloc, text.as_str())
+}
+
+/// A change, by the number that it puts, or the length of its text.
+#[derive(Clone, Copy)]
+enum Step {
+    Put(i64),
+    PutText(usize),
+    JoinText(usize),
+    Remove,
+    RemoveText(usize),
+}
+
+fn change_of(alloc: Global, step: Step) -> Result<Change, Refusal> {
+    match step {
+        Step::Put(number) => Ok(Change::Put(Value::Int(number))),
+        Step::PutText(len) => Ok(Change::Put(text_of(alloc, len)?)),
+        Step::JoinText(len) => Ok(Change::Merge(Func::Concat, text_of(alloc, len)?)),
+        Step::Remove => Ok(Change::Remove),
+        Step::RemoveText(len) => Ok(Change::RemoveIf(text_of(alloc, len)?)),
+    }
+}
+
+fn command(alloc: Global, key: &str, step: Step) -> Result<Command, Refusal> {
+    let key = Key::new(alloc, key)?;
+    let change = change_of(alloc, step)?;
+    Ok(Command { key, change })
+}
+
+// Makes the change of the key "k".
+fn change(part: &mut Part, alloc: Global, step: Step) -> Result<Reply, Refusal> {
+    let command = command(alloc, "k", step)?;
+    let prepared = part.prepare(alloc, &command)?;
+    Ok(part.act(prepared))
 }
 
 /// What comes of a text that is joined by another.
@@ -36,7 +57,7 @@ enum Joined {
     Other,
 }
 
-fn joined_of(reply: &Reply) -> Joined {
+fn joined_of(reply: Reply) -> Joined {
     match reply {
         Reply::Now(Some(Value::Text(_))) => Joined::Text,
         Reply::Fault(FuncError::TooLong) => Joined::TooLong,
@@ -46,15 +67,17 @@ fn joined_of(reply: &Reply) -> Joined {
 
 // Joins one byte to a text of so many bytes.
 fn join(alloc: Global, part: &mut Part, len: usize) -> Result<Joined, Refusal> {
-    let _was = change(part, alloc, Change::Put(text_of(alloc, len)?))?;
-    let merge = Change::Merge(Func::Concat, text_of(alloc, 1)?);
-    Ok(joined_of(&change(part, alloc, merge)?))
+    change(part, alloc, Step::PutText(len))?;
+    Ok(joined_of(change(part, alloc, Step::JoinText(1))?))
+}
+
+fn is_done(reply: Reply) -> bool {
+    matches!(reply, Reply::Did(true))
 }
 
 // Whether the text has 4096 bytes.
 fn is_longest(alloc: Global, part: &mut Part) -> Result<bool, Refusal> {
-    let remove = Change::RemoveIf(text_of(alloc, 4096)?);
-    Ok(change(part, alloc, remove)? == Reply::Did(true))
+    Ok(is_done(change(part, alloc, Step::RemoveText(4096))?))
 }
 
 fn joined_and_removed(alloc: Global, len: usize) -> Result<(Joined, bool), Refusal> {
@@ -81,7 +104,7 @@ fn act(ready: Ready) -> (bool, usize) {
 }
 
 fn acted(alloc: Global) -> Result<(bool, usize), Refusal> {
-    let command = command(alloc, "a", Change::Put(Value::Int(5)))?;
+    let command = command(alloc, "a", Step::Put(5))?;
     match Ready::new(alloc, empty_part()?, command) {
         Ok(ready) => Ok(act(ready)),
         Err(unready) => Err(unready.refusal),
@@ -93,37 +116,41 @@ fn ready_change(rt: HostRuntime) {
     assert_eq!(rt; acted(rt.alloc()), Ok((true, 1)));
 }
 
+fn is_five(reply: Reply) -> bool {
+    matches!(reply, Reply::Now(Some(Value::Int(5))))
+}
+
 // Whether the key "k" alone is mapped, to 5.
 fn is_kept(alloc: Global, part: &Part) -> Result<bool, Refusal> {
     let read = Read {
         key: Key::new(alloc, "k")?,
         question: Question::Get,
     };
-    Ok(part.read(&read)? == Reply::Now(Some(Value::Int(5))) && part.len() == 1)
+    Ok(is_five(part.read(&read)?) && part.len() == 1)
 }
 
-// Prepares the change of a key, which may be refused.
-fn prepare(alloc: Global, part: &mut Part, key: &str, change: Change) -> Result<(), Refusal> {
-    let command = command(alloc, key, change)?;
-    let _prepared = part.prepare(alloc, &command);
-    Ok(())
+fn is_ready(part: &mut Part, alloc: Global, command: Command) -> bool {
+    part.prepare(alloc, &command).is_ok()
 }
 
-// Whether the part stays the same as changes are prepared.
-fn stays(alloc: Global, part: &mut Part) -> Result<bool, Refusal> {
-    prepare(alloc, part, "k", Change::Put(Value::Int(6)))?;
-    let is_put = is_kept(alloc, part)?;
-    prepare(alloc, part, "k", Change::Remove)?;
-    let is_removed = is_kept(alloc, part)?;
-    prepare(alloc, part, "b", Change::Put(Value::Int(7)))?;
-    Ok(is_put && is_removed && is_kept(alloc, part)?)
+// Prepares the change of a key, which may be refused. Whether the key "k" stays the same.
+fn stays(alloc: Global, part: &mut Part, key: &str, step: Step) -> Result<bool, Refusal> {
+    let _is_ready = is_ready(part, alloc, command(alloc, key, step)?);
+    is_kept(alloc, part)
 }
 
 /// Whichever one allocation is refused, a change that isn't prepared leaves the content.
 #[test]
 fn refused_memory(rt: HostRuntime) -> Result<(), Refusal> {
+    let alloc = rt.alloc();
     let mut part = empty_part()?;
-    let _was = change(&mut part, rt.alloc(), Change::Put(Value::Int(5)))?;
-    assert!(rt; stays(rt.alloc(), &mut part)?);
+    change(&mut part, alloc, Step::Put(5))?;
+    for (key, step) in [
+        ("k", Step::Put(6)),
+        ("k", Step::Remove),
+        ("b", Step::Put(7)),
+    ] {
+        assert!(rt; stays(alloc, &mut part, key, step)?, "{key}");
+    }
     Ok(())
 }

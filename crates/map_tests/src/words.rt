@@ -19,16 +19,26 @@ fn put_one(alloc: Global) -> Result<Command, Refusal> {
     })
 }
 
+fn get_one(alloc: Global) -> Result<Read, Refusal> {
+    Ok(Read {
+        key: Key::new(alloc, "k")?,
+        question: Question::Get,
+    })
+}
+
 fn position_of(held: &Held) -> u64
     ensures { result ≡ held.now.position }
 {
     held.position().number()
 }
 
-fn number_now(reply: &Reply) -> Option<i64> {
-    match reply {
-        Reply::Now(Some(Value::Int(number))) => Some(*number),
-        _ => None,
+// Whether the number 1 is there at position 1.
+fn is_one_at_one(released: &Released) -> bool {
+    match released {
+        Released::Reply(position, Reply::Now(Some(Value::Int(number)))) => {
+            *number == 1 && position.number() == 1
+        }
+        _ => false,
     }
 }
 
@@ -37,23 +47,12 @@ fn one_pass_puts_and_reads(rt: HostRuntime) -> Result<(), Refusal> {
     let alloc = rt.alloc();
     let mut words = PlainWords::empty(alloc, sixteen(&rt), 0)?;
     let mut at = At::new(&mut words, 0);
-    let changed = try_call(&mut at, alloc, put_one(alloc)?)?;
-    assert_eq!(rt; position_of(&changed), 1);
-    let get = Read {
-        key: Key::new(alloc, "k")?,
-        question: Question::Get,
-    };
-    let read = try_read(&mut at, get)?;
-    let position = position_of(&read);
-    assert!(rt; position == 1);
-    at.durable(position);
-    match release(&mut at, read) {
-        Released::Reply(position, reply) => {
-            assert_eq!(rt; position.number(), 1);
-            assert_eq!(rt; number_now(&reply), Some(1));
-        }
-        _ => assert!(rt; false, "the reply is durable"),
-    }
+    let changed = position_of(&try_call(&mut at, alloc, put_one(alloc)?)?);
+    let held = try_read(&mut at, get_one(alloc)?)?;
+    let read = position_of(&held);
+    at.durable(read);
+    let released = release(&mut at, held);
+    assert!(rt; changed == 1 && read == 1 && is_one_at_one(&released));
     Ok(())
 }
 
