@@ -145,6 +145,7 @@ fn a_pass_learns_of_positions(rt: HostRuntime) -> Result<(), Refusal> {
     let mut two = stripes.pass()?;
     assert!(rt; learns(&stripes, &mut one, &mut two, rt.alloc()));
     assert_eq!(rt; stripes.look(&mut two), 1);
+    stripes.stands_in_one_history(&mut two);
     stripes.have_seen_one_history(two, stripes.pass()?);
     Ok(())
 }
