@@ -101,14 +101,18 @@ allows_attest o n id me is_pass s k wide at range =
       keeps,
       tt,
       subst (λ (vs : List Record). Kept o record { words = set s.words 0 (get_or s.words 0 0); homes = s.homes; views = vs }) (sym (set_again s.views id me.0 at)) (subst (λ (ws : List ℕ). Kept o record { words = ws; homes = s.homes; views = s.views }) (sym (set-get_or s.words 0 0)) k),
-      (refl, refl, record {
-        book = k.book;
-        place = q.place;
-        within = in_it;
-        is = q.view_is;
-        begins = sym (ap (λ (r : Record). r.opening) (sym q.view_is) ∙ (k.kept.one.passes q.place in_it).opening);
-        one = k.kept.one;
-        apart = hold_apart _ _ _ _ _ k.book k.kept;
-        stays = subst (λ (r : Record). All (StaysSo k.book q.place) r.steps) q.view_is (steps_stay k.book k.kept.one q.place);
-      }),
+      (
+        refl,
+        refl,
+        record {
+          book = k.book;
+          place = q.place;
+          within = in_it;
+          is = q.view_is;
+          begins = sym (ap (λ (r : Record). r.opening) (sym q.view_is) ∙ (k.kept.one.passes q.place in_it).opening);
+          one = k.kept.one;
+          apart = hold_apart _ _ _ _ _ k.book k.kept;
+          stays = subst (λ (r : Record). All (StaysSo k.book q.place) r.steps) q.view_is (steps_stay k.book k.kept.one q.place);
+        },
+      ),
     )
