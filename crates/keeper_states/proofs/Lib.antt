@@ -7,6 +7,7 @@ pub mod SameCall
 pub mod LogDue
 pub mod CheckpointDue
 pub mod FilesTold
+pub mod CallsTold
 pub mod LogCalls
 pub mod CheckpointCalls
 pub mod Staging

@@ -14,6 +14,7 @@ use Rattle.ticket_order.specs.Records.{failing, outbox_held, publishing, reach}
 use Rattle.ticket_order.specs.Walks as walks
 use Rattle.disk_model.specs.declared.fill.Fill.{Fill}
 use Rattle.disk_model.specs.Files.{Files}
+use Rattle.disk_model.specs.Gates.{Call}
 use Rattle.store_layout.specs.declared.log_phase.Phase.{Phase}
 use Rattle.store_layout.specs.declared.checkpoint_phase.CheckpointPhase.{CheckpointPhase}
 use Rattle.store_layout.specs.Checkpoints.{checkpoint_file}
@@ -47,7 +48,7 @@ use Rattle.schedules.specs.declared.outcome.End.{End}
 use Rattle.schedules.specs.After.{after, file_of, with_job, with_life, worker_stepped}
 use Rattle.schedules.specs.World.{World, Life, Job, keeper_holds, rests}
 use Rattle.schedules.specs.Cases.{Meets, section_size}
-use Rattle.schedules.specs.Due.{due_file}
+use Rattle.schedules.specs.Due.{checkpoint_call, due_file, log_call}
 use Rattle.schedules.specs.Fitting.{fits_inside, has_call}
 use Rattle.schedules.specs.Runs.{staged_in}
 use Rattle.checkpoint_walk.specs.Walking.{FitsWalking}
@@ -210,6 +211,12 @@ CountsAreTold {D} states honest = (n : ℕ) (done : List Command) (keeper : Keep
 abbrev pub FilesAreTold : {D : Type 0} → (D → List Files) → (D → Type 0) → Type 0
 FilesAreTold {D} states honest = (n : ℕ) (done : List Command) (keeper : Keeper D) (p : Record) (w : World) (l : Life) → Fits states honest n done keeper p → honest keeper.disk → KeeperStands states keeper p w l
     → keeper.is_broken ≡ false → (log_file (due_of (logs_of keeper)).generation ≡ due_file l side.Log) × (file_due keeper.checkpoint ≡ due_file l side.Checkpoint)
+
+-- the call of the log that is due, and that of the checkpoint, is the one that the world says
+abbrev pub CallsAreTold : {D : Type 0} → (D → List Files) → (D → Type 0) → Type 0
+CallsAreTold {D} states honest = (n : ℕ) (done : List Command) (keeper : Keeper D) (p : Record) (w : World) (l : Life) (call : Call) → Fits states honest n done keeper p → honest keeper.disk → KeeperStands states keeper p w l
+    → keeper.is_broken ≡ false → (call_in (due_of (logs_of keeper)).phase (due_of (logs_of keeper)) ≡ Some call → call ≡ log_call w l l.log)
+    × (call_due keeper.next keeper.checkpoint ≡ Some call → (low : ℕ) × (call ≡ checkpoint_call l low l.checkpoint))
 
 -- as many commands are staged as the world says, also after a device call has failed
 abbrev pub StagedIsTold : {D : Type 0} → (D → List Files) → (D → Type 0) → Type 0

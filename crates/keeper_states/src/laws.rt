@@ -1,5 +1,5 @@
 //! Laws of a keeper against its world, each as the contract of a function.
-ghost use Rattle.keeper_states.specs.Laws.{AnswersAreMet, BeginAnswers, BrokenAnswers, CaptureAnswers, CaptureRefuses, CaptureStepAnswers, CaptureTakesNone, CheckpointAnswers, CheckpointCallIsTold, CheckpointFails, CountsAreTold, FailAnswers, FilesAreTold, FrontIsSeen, LogAnswers, LogCallIsTold, LogFails, OpeningStands, PublishAnswers, SealAnswers, StageAnswers, StagedIsTold, StripeIsTold, SweepAnswers, SweepStepAnswers, SweepTakesNone, SweepTakesOutbox, TooManyAreTooLarge, WalkIsTold, WorkersLeaveKeeper};
+ghost use Rattle.keeper_states.specs.Laws.{AnswersAreMet, BeginAnswers, BrokenAnswers, CallsAreTold, CaptureAnswers, CaptureRefuses, CaptureStepAnswers, CaptureTakesNone, CheckpointAnswers, CheckpointCallIsTold, CheckpointFails, CountsAreTold, FailAnswers, FilesAreTold, FrontIsSeen, LogAnswers, LogCallIsTold, LogFails, OpeningStands, PublishAnswers, SealAnswers, StageAnswers, StagedIsTold, StripeIsTold, SweepAnswers, SweepStepAnswers, SweepTakesNone, SweepTakesOutbox, TooManyAreTooLarge, WalkIsTold, WorkersLeaveKeeper};
 
 use disk_model::Disk;
 use schedules::laws::laws_of_runs;
@@ -59,6 +59,7 @@ pub fn laws_of_telling<D: Disk>()
     ensures checkpoint { CheckpointCallIsTold D.states }
     ensures staged { StagedIsTold D.states D.honest }
     ensures files { FilesAreTold D.states D.honest }
+    ensures calls { CallsAreTold D.states D.honest }
 {}
 
 /// Which entries a step of the keeper took: none, or the outbox of the stripe that it held.

@@ -173,7 +173,7 @@ stopped_some w least s fill old call disk store life fit durable stopped stands 
     let e : Event = event.Stop (Some s) fill in
     let x : Outcome = outcome.Stopped (Some call) in
     ended w least e x (after_stop fill (entered call w.files)) store
-    (meets_inside w there.0 e x there.1.life (sym (ap (λ o. fits_with o e) there.1.life) ∙ fit) (stopped.there there.0 there.1.life) nothing) tt tt tt
+    (meets_inside w there.0 e x there.1.life (sym (ap (λ o. fits_with o e) there.1.life) ∙ fit) (stopped.due there.0 there.1.life) nothing) tt tt tt
     (interrupted_within w least s old call disk life durable stopped)
     (goes_on w nothing e x tt ∙ ap (λ o. after_with w o nothing e x) there.1.life) stands
 

@@ -35,11 +35,11 @@ use Rattle.schedules.specs.After.{failed, file_of}
 use Rattle.schedules.specs.Cases.{IsPossible, IsThere}
 use Rattle.schedules.specs.Due.{due_file}
 use Rattle.schedules.specs.Laws.{EnteredAsFailed, KnownStands}
-use Rattle.keeper_states.specs.Laws.{CheckpointCallIsTold, FilesAreTold, LogCallIsTold, StagedIsTold, WalkIsTold, file_due}
+use Rattle.keeper_states.specs.Laws.{CheckpointCallIsTold, LogCallIsTold, WalkIsTold}
 use Rattle.keeper_states.specs.Standing.{KeeperStands}
 use Rattle.schedule_sim.specs.declared.traced.Traced.{Traced}
 use Rattle.schedule_sim.specs.declared.job.Job.{Job}
-use Rattle.schedule_sim.specs.Calling.{MayCall, is_due, number_due}
+use Rattle.schedule_sim.specs.Calling.{MayCall, is_due}
 use Rattle.schedule_sim.specs.Living.{IsLifeOf}
 use Rattle.schedule_sim.specs.Noting.{WasLast, left}
 use Rattle.schedule_sim.specs.Storing.{IsInterrupted}
@@ -132,7 +132,7 @@ planned_stands keeper p w l disk same k = record {
 
 -- ---- the call that was made
 
-phase_due : (phase : Phase) (log : LogState) → is_some (call_in phase log) ≡ true → phase ≢ log_phase.Idle
+pub phase_due : (phase : Phase) (log : LogState) → is_some (call_in phase log) ≡ true → phase ≢ log_phase.Idle
 phase_due phase log due is = let no : false ≡ true = sym (ap (λ at. is_some (call_in at log)) is) ∙ due in cc
 
 made_one : (old new : Logs) (disk_old disk_new : Traced) (result : Result Phase Refusal) (failures : Traced → ℕ) → StepsLogs traced_states failures traced_honest old new disk_old disk_new result
@@ -153,39 +153,9 @@ noted lost call old new more was = subst (λ states. Leaves lost call old states
 
 -- ---- a stop within it
 
-newest_has : (P : Files → Type 0) (new old added : List Files) → new ≡ added ++ old → P (now old) → AllByRecursion P added → P (now new)
+pub newest_has : (P : Files → Type 0) (new old added : List Files) → new ≡ added ++ old → P (now old) → AllByRecursion P added → P (now new)
 newest_has P new old [] is first each = subst (λ states. P (now states)) (sym is) first
 newest_has P new old (files ∷ added) is first each = subst (λ states. P (now states)) (sym is) each.0
-
-of_side : (s : Side) (keeper : Keeper Traced) (l : Life) → (log_file (due_of (logs_of keeper)).generation ≡ due_file l side.Log) × (file_due keeper.checkpoint ≡ due_file l side.Checkpoint) → number_due s keeper ≡ due_file l s
-of_side side.Log keeper l told = told.0
-of_side side.Checkpoint keeper l told = told.1
-
--- the call is of the file that the world says
-there_by : FilesAreTold traced_states traced_honest → (s : Side) (w : World) (keeper : Keeper Traced) (b : Book) (jobs : List Job) (call : DeviceCall) → IsLifeOf w keeper b jobs → MayCall s keeper
-    → file_of call ≡ number_due s keeper → IsPossible w.files call → (l : Life) → w.life ≡ Some l → IsThere w l s call
-there_by files s w keeper b jobs call a may named possible l life =
-    let there = life_there w keeper b jobs a in
-    let same : Some there.0 ≡ Some l = sym there.1.life ∙ life in
-    let stands = subst (λ (v : Life). KeeperStands traced_states keeper (record_of 64 b) w v) (let e : there.0 ≡ l = cc in e) there.1.keeper_stands in
-    let told = files b.stripes a.done keeper (record_of 64 b) w l (fits_now w keeper b jobs a may.no_capture) tt stands may.works in
-    record { file = named ∙ of_side s keeper l told; possible = possible }
-
-pub interrupted : KnownStands → StagedIsTold traced_states traced_honest → FilesAreTold traced_states traced_honest → EnteredAsFailed → (s : Side) (w : World) (keeper : Keeper Traced) (b : Book) (jobs : List Job) (call : DeviceCall) (planned made last : Traced) → IsLifeOf w keeper b jobs
-    → traced_states planned ≡ traced_states keeper.disk → HasOneMore (traced_states made) (traced_states planned) → AtEachMoment traced_states planned made (StopsFit (history_of (record_of 64 b)) keeper)
-    → traced_states last ≡ traced_states made → WasLast (Some New) call (traced_states last) → MayCall s keeper → file_of call ≡ number_due s keeper → IsInterrupted w s call last
-interrupted stand told files entered s w keeper b jobs call planned made last a plan more moments same was may named =
-    let there = life_there w keeper b jobs a in
-    let at : now (traced_states planned) ≡ w.files = ap now plan ∙ sym there.1.keeper_stands.files in
-    let is = noted (Some New) call (traced_states planned) (traced_states made) more (subst (λ states. WasLast (Some New) call states) same was) in
-    let possible = subst (λ files. IsPossible files call) at is.possible in
-    record {
-      there = there_by files s w keeper b jobs call a may named possible;
-      state = ap now same ∙ is.state ∙ ap (λ files. failed New call files) at ∙ sym (entered call w.files possible);
-      stops = λ l life contents leaves. life_keeps stand told w l keeper b jobs a life (now (traced_states made))
-          (newest_has (StopsFit (history_of (record_of 64 b)) keeper) (traced_states made) (traced_states planned) moments.added moments.longer moments.first moments.each)
-          contents (subst (λ states. disk.Leaves (now states) contents) same leaves);
-    }
 
 -- ---- what the keeper's functions say of the call
 
@@ -197,17 +167,17 @@ log_made keeper failures planned made new result may steps =
     let log = due_of (logs_of keeper) in
     made_one (logs_of keeper) new planned made result failures (steps may.works (phase_due log.phase log may.due))
 
-record HasDue (next : Option LogState) (writer : Option CheckpointState) : Type 0 where
-  call : Call
-  state : CheckpointState
-  due : call_due next writer ≡ Some call
-  writer_is : writer ≡ Some state
+pub record HasDue (next : Option LogState) (writer : Option CheckpointState) : Type 0 where
+  pub call : Call
+  pub state : CheckpointState
+  pub due : call_due next writer ≡ Some call
+  pub writer_is : writer ≡ Some state
 
 due_in : (o : Option Call) → is_some o ≡ true → (call : Call) × (o ≡ Some call)
 due_in None e = absurd (let no : false ≡ true = e in cc)
 due_in (Some call) e = (call, refl)
 
-has_due : (next : Option LogState) (writer : Option CheckpointState) → is_some (call_due next writer) ≡ true → HasDue next writer
+pub has_due : (next : Option LogState) (writer : Option CheckpointState) → is_some (call_due next writer) ≡ true → HasDue next writer
 has_due (Some next) writer e = absurd (let no : false ≡ true = e in cc)
 has_due None None e = absurd (let no : false ≡ true = e in cc)
 has_due None (Some v) e = let d = due_in (call_due None (Some v)) e in record { call = d.0; state = v; due = d.1; writer_is = refl }

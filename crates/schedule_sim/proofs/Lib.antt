@@ -14,6 +14,7 @@ pub mod EntriesOfParts
 pub mod Counting
 pub mod Stopping
 pub mod Devices
+pub mod Interrupts
 pub mod DeviceEnds
 pub mod LogEnds
 pub mod CheckpointEnds

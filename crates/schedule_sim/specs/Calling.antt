@@ -1,5 +1,6 @@
 -- When the keeper of a life can make a device call.
-use Rattle.std.specs.Prelude.{◌≡◌, ℕ, None, Bool, true, false, is_some}
+use Rattle.std.specs.Prelude.{◌≡◌, ℕ, Option, None, Some, Bool, true, false, is_some}
+use Rattle.disk_model.specs.Gates.{Call, writes, syncs}
 use Rattle.store_layout.specs.Logs.{log_file}
 use Rattle.gate_log.specs.States.{call_in}
 use Rattle.flusher.specs.declared.keeper.Keeper.{Keeper}
@@ -11,10 +12,20 @@ use Rattle.schedules.specs.declared.event.Side.{Side}
 use Rattle.schedules.specs.declared.event.Side.TheVariants as side
 use Rattle.schedule_sim.specs.declared.traced.Traced.{Traced}
 
--- one is due on this side
+-- the one that is due on this side
+abbrev pub call_on : Side → Keeper Traced → Option Call
+call_on side.Log keeper = call_in (due_of (logs_of keeper)).phase (due_of (logs_of keeper))
+call_on side.Checkpoint keeper = call_due keeper.next keeper.checkpoint
+
+-- whether there is one
 abbrev pub is_due : Side → Keeper Traced → Bool
 is_due side.Log keeper = is_some (call_in (due_of (logs_of keeper)).phase (due_of (logs_of keeper)))
 is_due side.Checkpoint keeper = is_some (call_due keeper.next keeper.checkpoint)
+
+abbrev pub is_sync : Option Call → Bool
+is_sync None = false
+is_sync (Some (writes at bytes)) = false
+is_sync (Some syncs) = true
 
 -- it is of this file
 abbrev pub number_due : Side → Keeper Traced → ℕ

@@ -17,7 +17,7 @@ use Rattle.schedules.specs.declared.outcome.Outcome.TheVariants as outcome
 use Rattle.schedules.specs.Machine.{whole}
 use Rattle.schedules.specs.World.{World, Life, begun_by, seen_of}
 use Rattle.schedules.specs.After.{after, entered}
-use Rattle.schedules.specs.Cases.{IsThere, Meets}
+use Rattle.schedules.specs.Cases.{IsDue, Meets}
 use Rattle.schedules.specs.Runs.{OpensWell}
 use Rattle.schedules.specs.Sound.{AnswersLegally, AreAbove, OpensFront}
 use Rattle.schedule_sim.specs.declared.traced.Traced.{Traced}
@@ -97,6 +97,6 @@ pub record LiesOn (w : World) (least : ℕ) (disk : Traced) : Type 0 where
 -- A stop falls within this call of the life: the disk is as the call leaves it then, and whatever a stop leaves of that stands for a front of the
 -- history as it has to, of no fewer commands than the durable count.
 pub record IsInterrupted (w : World) (s : Side) (call : DeviceCall) (disk : Traced) : Type 0 where
-  pub there : (l : Life) → w.life ≡ Some l → IsThere w l s call
+  pub due : (l : Life) → w.life ≡ Some l → IsDue w l s call
   pub state : now (traced_states disk) ≡ entered call w.files
   pub stops : (l : Life) → w.life ≡ Some l → (contents : Contents) → Leaves (now (traced_states disk)) contents → AreAbove w l.durable contents

@@ -5,20 +5,19 @@ ghost use Rattle.schedules.specs.Fitting.{fits};
 ghost use Rattle.schedules.specs.declared.event.Event.TheVariants as event;
 ghost use Rattle.schedules.specs.declared.event.Side.TheVariants as sides;
 ghost use Rattle.disk_model.specs.declared.fill.Fill.{Fill as TheFill};
-ghost use Rattle.schedule_sim.specs.Calling.{MayCall, is_due, number_due};
+ghost use Rattle.schedule_sim.specs.Calling.{MayCall, call_on, is_due, is_sync, number_due};
 ghost use Rattle.schedule_sim.specs.Living.{Did, IsLife};
 ghost use Rattle.schedule_sim.specs.Storing.{IsInterrupted};
 
 use crate::life::Life;
 use crate::traced::Traced;
 use checkpoint_file::CheckpointPhase;
-use checkpoint_walk::advance;
-use disk_model::Fill;
+use checkpoint_walk::{advance, stops_while_capturing};
 use gate_log::Phase;
 use keeper_states::laws::{laws_of_checkpoint_calls, laws_of_log_calls, laws_of_telling};
 use map_types::Refusal;
 use schedule_states::laws::steps_of_the_keeper;
-use schedules::laws::{laws_of_files, laws_of_known_histories};
+use schedules::laws::laws_of_known_histories;
 use schedules::{DeviceCall, Ending, Outcome, Side};
 use std::alloc::AllocError;
 use store_layout::{checkpoint_file, log_file};
@@ -177,28 +176,84 @@ impl Life {
         }
     }
 
-    /// Has the machine stop within the next device call of this side: the call is made, as one that
-    /// fails, with all that it was to write pending.
+    // Whether the next device call of this side is a sync.
+    fn is_sync_due(&self, side: Side) -> bool
+        ensures { result ≡ is_sync (call_on side self.now.keeper) }
+    {
+        match side {
+            Side::Log => self.is_log_sync_due(),
+            Side::Checkpoint => self.is_checkpoint_sync_due(),
+        }
+    }
+
+    fn is_log_sync_due(&self) -> bool
+        ensures { result ≡ is_sync (call_on sides.Log self.now.keeper) }
+    {
+        match &self.keeper.next {
+            Some(next) if matches!(next.phase(), Phase::Header) => false,
+            Some(next) if matches!(next.phase(), Phase::HeaderWritten) => true,
+            _ => matches!(
+                self.keeper.log.phase(),
+                Phase::HeaderWritten | Phase::Written | Phase::Opened
+            ),
+        }
+    }
+
+    fn is_checkpoint_sync_due(&self) -> bool
+        ensures { result ≡ is_sync (call_on sides.Checkpoint self.now.keeper) }
+    {
+        match &self.keeper.checkpoint {
+            Some(writer) if self.keeper.next.is_none() => matches!(
+                writer.phase(),
+                CheckpointPhase::GateWritten
+                    | CheckpointPhase::HeaderWritten
+                    | CheckpointPhase::Opened
+            ),
+            _ => false,
+        }
+    }
+
+    // The write that is due on this side is made.
+    fn write(&mut self, side: Side) -> Result<DeviceCall, AllocError>
+        requires life { (w : World) × IsLife w self.old }
+        requires may { MayCall side self.old.keeper }
+        requires writes { is_sync (call_on side self.old.keeper) ≡ false }
+        ensures { IfOk result (λ call. (w : World) → IsLife w self.old → IsInterrupted w side call self.new.keeper.disk) }
+    {
+        laws_of_telling::<Traced>();
+        laws_of_log_calls::<Traced>();
+        laws_of_checkpoint_calls::<Traced>();
+        laws_of_known_histories();
+        let file = self.number_due(side);
+        self.keeper.disk.plan_none();
+        match side {
+            Side::Log => {
+                let Ok(_phase) = self.keeper.advance() else {
+                    return Err(AllocError);
+                };
+            }
+            Side::Checkpoint => {
+                let Ok(_phase) = advance(&mut self.keeper) else {
+                    return Err(AllocError);
+                };
+            }
+        }
+        self.keeper.disk.take_made(file).ok_or(AllocError)
+    }
+
+    /// Has the machine stop within the next device call of this side. A write counts as made then, and
+    /// a sync as not made.
     pub(crate) fn interrupt(&mut self, side: Side) -> Result<DeviceCall, AllocError>
         requires life { (w : World) × (fill : TheFill) × IsLife w self.old × (fits w (event.Stop (Some side) fill) ≡ true) }
         ensures { IfOk result (λ call. (w : World) → IsLife w self.old → IsInterrupted w side call self.new.keeper.disk) }
     {
         laws_of_telling::<Traced>();
         laws_of_known_histories();
-        laws_of_files();
-        let file = self.number_due(side);
-        self.keeper.disk.plan(0, &Fill::New)?;
-        match side {
-            Side::Log => {
-                let _ = self.keeper.advance();
-            }
-            Side::Checkpoint => {
-                let _ = advance(&mut self.keeper);
-            }
+        stops_while_capturing(&self.keeper);
+        if self.is_sync_due(side) {
+            let file = self.number_due(side);
+            return Ok(DeviceCall::Sync { file });
         }
-        self.keeper
-            .disk
-            .take_lost(&Fill::New, file)
-            .ok_or(AllocError)
+        self.write(side)
     }
 }

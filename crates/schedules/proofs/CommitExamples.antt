@@ -40,13 +40,13 @@ gate_is_bytes = are_bytes (165 ∷ []) refl
 
 -- ---- worlds
 
-staged : World
+unfoldable pub staged : World
 staged = after_rows new_store opened staged_rows
 
-written : Vec ℕ → World
+unfoldable pub written : Vec ℕ → World
 written bytes = after_rows new_store staged (written_rows bytes)
 
-withheld : Vec ℕ → World
+unfoldable pub withheld : Vec ℕ → World
 withheld bytes = after_rows new_store (written bytes) withheld_rows
 
 written_meets : (bytes : Vec ℕ) → bytes.items ≡ frame_bytes → AllMeet new_store staged (written_rows bytes)

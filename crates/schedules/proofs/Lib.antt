@@ -3,11 +3,16 @@ pub mod CommitExamples
 pub mod FileLaws
 pub mod HandLaws
 pub mod KnownLaws
+pub mod LeftExamples
 pub mod LifeGoing
 pub mod MachineLaws
 pub mod NextLife
 pub mod OpeningExamples
+pub mod OpeningRun
+pub mod PlainRows
 pub mod RowExamples
 pub mod RunLaws
+pub mod ScheduleExample
+pub mod StillFiles
 pub mod StopExamples
 pub mod UnwrittenExample

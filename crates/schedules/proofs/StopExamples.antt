@@ -71,10 +71,10 @@ module _ (whole : FirstIsWhole) (stands : FirstStands) (one : OneStanding) (cont
   unfolding start
   sealed_there = subst (λ (content : List ℕ). IsCheckpoint first_layout (first_checkpoint 16) content) (sym first) (first_sealed whole)
 
-  shut_stands : (gate : ℕ) → gate ≢ 165 → contents 2 ≡ log_with_five gate → StandsFor contents 0 finite.empty
+  pub shut_stands : (gate : ℕ) → gate ≢ 165 → contents 2 ≡ log_with_five gate → StandsFor contents 0 finite.empty
   shut_stands gate shut third = stands contents 16 sealed_there second (subst (λ (content : List ℕ). IsClosed first_layout 0 0 [] content) (sym third) (shut_closed gate shut))
 
-  open_stands : contents 2 ≡ log_with_five 165 → StandsFor contents 1 (finite.from_entries ((a, number 5) ∷ []))
+  pub open_stands : contents 2 ≡ log_with_five 165 → StandsFor contents 1 (finite.from_entries ((a, number 5) ∷ []))
   unfolding five stripe_of hash_of weighted_sum units_of chars
   open_stands third = record {
     found = record { checkpoint = first_checkpoint 16; first = five ∷ []; second = None };
@@ -100,10 +100,10 @@ byte_at_rest byte content =
     ∙ ap (λ (past : Bool). if past then byte else byte_at i content) (let within : nat_le (length content) i ≡ false = grind (arith, nat_tests, l, long) in within))
 
 -- the log's file once the frame is synced, and once its gate is written
-log_file : List ℕ → File
+unfoldable pub log_file : List ℕ → File
 log_file bytes = synced (written 18 bytes (at_rest (log_front first_layout 0 0 [] ++ 0 ∷ [])))
 
-gated : List ℕ → List ℕ → File
+unfoldable pub gated : List ℕ → List ℕ → File
 gated bytes gate = written 17 gate (log_file bytes)
 
 left_of : Fill → File → List ℕ

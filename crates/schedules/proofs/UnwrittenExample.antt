@@ -35,11 +35,11 @@ none_opens [] = true
 none_opens (row ∷ rows) = if is_opening row.0 then false else none_opens rows
 
 -- behind these rows, the newest first
-onto : List Row → List Row → List Row
+unfoldable pub onto : List Row → List Row → List Row
 onto before [] = before
 onto before (row ∷ rows) = onto (row ∷ before) rows
 
-rows_again : (rows before : List Row) → rows_onto before (map (λ (row : Row). row.0) rows) (map (λ (row : Row). row.1) rows) ≡ onto before rows
+pub rows_again : (rows before : List Row) → rows_onto before (map (λ (row : Row). row.0) rows) (map (λ (row : Row). row.1) rows) ≡ onto before rows
 unfolding rows_onto onto
 rows_again [] before = refl
 rows_again (row ∷ rows) before = rows_again rows (row ∷ before)

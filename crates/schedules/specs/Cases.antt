@@ -212,7 +212,7 @@ pub record IsDue (w : World) (l : Life) (s : Side) (call : DeviceCall) : Type 0 
   pub what : call_of call ≡ due_call w l low s
   pub possible : IsPossible w.files call
 
--- of a call that fails, or within which the machine stops, the file is told: it is the one that is due
+-- of a call that fails the file is told: it is the one that is due
 pub record IsThere (w : World) (l : Life) (s : Side) (call : DeviceCall) : Type 0 where
   pub file : file_of call ≡ due_file l s
   pub possible : IsPossible w.files call
@@ -364,7 +364,7 @@ OpensFiles w found fails_at x = ⊥
 -- A stop within a device call names that call.
 abbrev pub StopsInside : World → Life → Option Side → Outcome → Type 0
 StopsInside w l None (outcome.Stopped None) = Unit {0}
-StopsInside w l (Some s) (outcome.Stopped (Some call)) = IsThere w l s call
+StopsInside w l (Some s) (outcome.Stopped (Some call)) = IsDue w l s call
 StopsInside w l within x = ⊥
 
 -- between lives there is none

@@ -56,6 +56,11 @@ NewStoreOpens = (stripes : StripeCount) (entries : Vec MapEntry) (calls : ℕ) �
     Meets start new_store (event.Open stripes None) (outcome.Opened calls 0 entries)
     × (after start new_store (event.Open stripes None) (outcome.Opened calls 0 entries) ≡ opened)
 
+-- This alone is a run.
+abbrev pub OpeningIsRun : Type 0
+OpeningIsRun = (stripes : StripeCount) (entries : Vec MapEntry) (calls : ℕ) → stripes.count ≡ 16 → entries.items ≡ [] → 4 ≤ calls →
+    IsRun (event.Open stripes None ∷ []) (outcome.Opened calls 0 entries ∷ [])
+
 -- ---- a becomes 5
 
 abbrev pub put_a : Command
@@ -139,6 +144,15 @@ released_rows gate =
 abbrev pub ChangeIsReleased : Type 0
 ChangeIsReleased = (bytes gate : Vec ℕ) → bytes.items ≡ frame_bytes → gate.items ≡ 165 ∷ [] →
     AllMeet new_store opened (staged_rows ++ (written_rows bytes ++ (withheld_rows ++ released_rows gate)))
+
+-- All of it, from the opening on, is a run.
+abbrev pub schedule_rows : StripeCount → Vec MapEntry → Vec ℕ → Vec ℕ → List Row
+schedule_rows stripes entries bytes gate =
+    (event.Open stripes None, outcome.Opened 20 0 entries) ∷ (staged_rows ++ (written_rows bytes ++ (withheld_rows ++ released_rows gate)))
+
+abbrev pub ScheduleIsRun : Type 0
+ScheduleIsRun = (stripes : StripeCount) (entries : Vec MapEntry) (bytes gate : Vec ℕ) → stripes.count ≡ 16 → entries.items ≡ [] → bytes.items ≡ frame_bytes
+    → gate.items ≡ 165 ∷ [] → IsRun (map (λ row. row.0) (schedule_rows stripes entries bytes gate)) (map (λ row. row.1) (schedule_rows stripes entries bytes gate))
 
 -- ---- or nothing is written
 

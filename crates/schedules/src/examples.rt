@@ -1,11 +1,12 @@
 //! One change on a new store, row by row, each as the contract of a function.
-ghost use Rattle.schedules.specs.Examples.{BatchIsCommitted, ChangeIsReleased, ChangeIsStaged, CheckpointGoesOn, NewStoreOpens, NotYetInHand, OtherIsRefused, RotationGoesOn, StoppedBefore, StoppedOpen, StoppedShut, UnwrittenIsNoRun};
+ghost use Rattle.schedules.specs.Examples.{BatchIsCommitted, ChangeIsReleased, ChangeIsStaged, CheckpointGoesOn, NewStoreOpens, NotYetInHand, OpeningIsRun, OtherIsRefused, RotationGoesOn, ScheduleIsRun, StoppedBefore, StoppedOpen, StoppedShut, UnwrittenIsNoRun};
 
 use store_layout::laws::{laws_of_new_stores, laws_of_opening};
 
 /// The store is opened, a change is made, swept and staged.
 pub fn one_change()
     ensures opened { NewStoreOpens }
+    ensures run { OpeningIsRun }
     ensures refused { OtherIsRefused }
     ensures not_yet { NotYetInHand }
     ensures staged { ChangeIsStaged }
@@ -18,6 +19,7 @@ pub fn one_change()
 /// and it isn't committed.
 pub fn one_commit()
     ensures released { ChangeIsReleased }
+    ensures run { ScheduleIsRun }
     ensures unwritten { UnwrittenIsNoRun }
     ensures before { StoppedBefore }
     ensures within_open { StoppedOpen }

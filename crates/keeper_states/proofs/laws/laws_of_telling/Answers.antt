@@ -1,3 +1,4 @@
+use Rattle.keeper_states.proofs.CallsTold.{calls_are_told}
 use Rattle.keeper_states.proofs.FilesTold.{files_are_told}
 use Rattle.keeper_states.proofs.Held.{stripe_is_told}
 use Rattle.keeper_states.proofs.Taken.{counts_are_told}
@@ -14,4 +15,5 @@ returns g c = record {
   checkpoint = checkpoint_call_is_told g.D.Disk.states;
   staged = staged_is_told g.D.Disk.states g.D.Disk.honest;
   files = files_are_told g.D.Disk.states g.D.Disk.honest;
+  calls = calls_are_told g.D.Disk.states g.D.Disk.honest;
 }

@@ -1,3 +1,4 @@
+use Rattle.schedules.proofs.ScheduleExample.{schedule_is_run}
 use Rattle.schedules.proofs.UnwrittenExample.{unwritten_is_no_run}
 use Rattle.schedules.proofs.CommitExamples.{change_is_released}
 use Rattle.schedules.proofs.StopExamples.{stopped_before, stopped_open, stopped_shut}
@@ -17,3 +18,6 @@ returns-clause-within_shut c = stopped_shut c.laws_of_new_stores.ensures.whole c
 
 pub returns-clause-unwritten : goal.returns-clause-unwritten
 returns-clause-unwritten c = unwritten_is_no_run c.laws_of_new_stores.ensures.whole c.laws_of_new_stores.ensures.stands c.laws_of_opening.ensures.one
+
+pub returns-clause-run : goal.returns-clause-run
+returns-clause-run c = schedule_is_run c.laws_of_new_stores.ensures.whole c.laws_of_new_stores.ensures.stands c.laws_of_opening.ensures.one
