@@ -1,8 +1,7 @@
 //! The program `dchm`.
 #![tactic(auto)]
 
-use disk_model::Unknown;
-use program::dchm;
+use map_server::dchm;
 use std::net::{TcpListener, TcpStream};
 use std::process::ExitCode;
 use std::{env, io};
@@ -20,8 +19,8 @@ fn main(rt: HostRuntime) -> io::Result<ExitCode> {
     let mut error = rt.stderr();
     let status = dchm(
         &rt,
+        &rt,
         rt.alloc(),
-        Unknown,
         &words,
         &mut input,
         &mut output,

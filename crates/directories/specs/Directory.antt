@@ -1,20 +1,18 @@
 -- What formatting a directory and checking one print, and what they do to it.
-use Rattle.std.specs.Prelude.{◌≡◌, ◌≢◌, ◌⊎◌, ℕ, ◌+◌, ◌-◌, ◌^◌, min, true, List, ◌++◌, Option, codes, decimal}
+use Rattle.std.specs.Prelude.{◌≡◌, ◌≢◌, ◌⊎◌, ℕ, ◌+◌, ◌-◌, ◌^◌, min, List, ◌++◌, Option, None, Some, codes, decimal}
 use Rattle.std.specs.FinMap as finite
 use Rattle.std.specs.List.{sum_by}
 use Rattle.map_model.specs.Maps.{Map}
 use Rattle.map_model.specs.Parts.{parts_of}
 use Rattle.map_types.specs.declared.refusals.Refusal.{Refusal}
 use Rattle.map_types.specs.declared.refusals.Refusal.TheVariants.{AlreadyFormatted, Failed, NoMemory}
-use Rattle.disk_model.specs.Events.{Event, states_from, AllAgree}
 use Rattle.disk_model.specs.Files.{Files, now}
 use Rattle.disk_model.specs.Moments.{AtEachMoment}
-use Rattle.disk_model.specs.declared.fill.Fill.{Fill}
-use Rattle.java_hash.specs.Stripes.{is_stripe_count}
 use Rattle.store_layout.specs.Opening.{Contents, Opened, Holds, Refuses, map_of, prefix_of}
 use Rattle.recovery.specs.Formatting.{AtStops, IsFormatted, IsNew, IsNewOrUnformatted, IsUnformatted}
 use Rattle.recovery.specs.LogReading.{RefusesFor, contents_of}
 use Rattle.recovery.specs.Syncing.{Stopped, SyncsAndLooks}
+use Rattle.console.specs.Naming.{IsNamed, IsStripeCount}
 use Rattle.console.specs.Printing.{Prints, PrintsNothing}
 use Rattle.directories.specs.declared.summary.Summary.{Summary}
 use Rattle.directories.specs.declared.summary.Counts.{Counts}
@@ -94,34 +92,37 @@ pub record IsNotOpened {D : Type 0} (states : D → List Files) (failures : D �
   pub stopped : Stopped states failures honest 4 old new refusal
   pub reason : honest new → honest old × RefusesFor (Refuses (contents_of states old) refusal) refusal
 
--- The numbers of the disk were printed, or opening it was refused and nothing was printed; this is how the disk was left.
-pub record Checks {D : Type 0} (states : D → List Files) (failures : D → ℕ) (honest : D → Type 0) (old : D) (w0 w1 : Option (List ℕ)) (status : ℕ) : Type 0 where
-  pub new : D
-  pub ends : ((summary : Summary) × IsSummed states failures honest old new summary × Prints (summary_text summary) w0 w1 status)
-      ⊎ ((refusal : Refusal) × IsNotOpened states failures honest old new refusal × PrintsNothing w0 w1 status)
+-- The numbers of the disk were printed, or opening it was refused and nothing was printed.
+abbrev pub Checks : {D : Type 0} → (D → List Files) → (D → ℕ) → (D → Type 0) → D → D → Option (List ℕ) → Option (List ℕ) → ℕ → Type 0
+Checks states failures honest old new w0 w1 status =
+    ((summary : Summary) × IsSummed states failures honest old new summary × Prints (summary_text summary) w0 w1 status)
+    ⊎ ((refusal : Refusal) × IsNotOpened states failures honest old new refusal × PrintsNothing w0 w1 status)
 
--- ---- a directory of the system
+-- ---- a directory that was opened
 
--- What the files held at first, and what writes that broke left, are given; the events are what happened to the device.
+-- IsOpened says that a disk has the files of a directory, as they were when it was opened.
+module _ {D : Type 0} (states : D → List Files) (failures : D → ℕ) (honest : D → Type 0) (IsOpened : List ℕ → D → Type 0) (directory : List ℕ) where
+  -- a disk of the directory was formatted for so many stripes, or that was refused
+  pub record FormatsDirectory (stripes : ℕ) (w0 w1 : Option (List ℕ)) (status : ℕ) : Type 0 where
+    pub old : D
+    pub new : D
+    pub opened : IsOpened directory old
+    pub formats : Formats states failures honest stripes old new w0 w1 status
 
--- The directory was formatted for an allowed number of stripes, and then a stop leaves the empty map; or nothing was printed, with status 1, or 2 where
--- the number isn't allowed.
-pub record IsMadeOn (files : Files) (left : ℕ → Fill) (w0 w1 : Option (List ℕ)) (status : ℕ) : Type 0 where
-  pub stripes : ℕ
-  pub allowed : is_stripe_count stripes ≡ true
-  pub events : List Event
-  pub stands : AllAgree files left events → AtStops IsNew (now (states_from files left events))
-  pub prints : Prints (formatted_line stripes) w0 w1 status
+  -- The word names an allowed number of stripes, and the directory was formatted for it, or couldn't be opened. Or the word names none, and nothing was
+  -- printed, with status 2.
+  abbrev pub Inits : List ℕ → Option (List ℕ) → Option (List ℕ) → ℕ → Type 0
+  Inits word w0 w1 status =
+      ((stripes : ℕ) × IsNamed IsStripeCount word (Some stripes) × (FormatsDirectory stripes w0 w1 status ⊎ PrintsNothing w0 w1 status))
+      ⊎ (IsNamed IsStripeCount word None × (w1 ≡ w0) × (status ≡ 2))
 
-abbrev pub Inits : Files → (ℕ → Fill) → Option (List ℕ) → Option (List ℕ) → ℕ → Type 0
-Inits files left w0 w1 status = IsMadeOn files left w0 w1 status ⊎ ((w1 ≡ w0) × ((status ≡ 1) ⊎ (status ≡ 2)))
+  -- a disk of the directory was checked
+  pub record ChecksDirectory (w0 w1 : Option (List ℕ)) (status : ℕ) : Type 0 where
+    pub old : D
+    pub new : D
+    pub opened : IsOpened directory old
+    pub checks : Checks states failures honest old new w0 w1 status
 
--- These are the numbers of what the files held, and they were printed.
-pub record IsSummedOn (files : Files) (left : ℕ → Fill) (w0 w1 : Option (List ℕ)) (status : ℕ) : Type 0 where
-  pub summary : Summary
-  pub events : List Event
-  pub sums : AllAgree files left events → Summarizes (λ n. (files n).seen) summary
-  pub prints : Prints (summary_text summary) w0 w1 status
-
-abbrev pub Inspects : Files → (ℕ → Fill) → Option (List ℕ) → Option (List ℕ) → ℕ → Type 0
-Inspects files left w0 w1 status = IsSummedOn files left w0 w1 status ⊎ PrintsNothing w0 w1 status
+  -- the directory was checked, or couldn't be opened
+  abbrev pub Inspects : Option (List ℕ) → Option (List ℕ) → ℕ → Type 0
+  Inspects w0 w1 status = ChecksDirectory w0 w1 status ⊎ PrintsNothing w0 w1 status

@@ -1,16 +1,15 @@
 //! A directory is formatted, or looked at, and what came of it is printed.
 ghost use Rattle.directories.specs.Directory.{Checks, Formats, Inits, Inspects};
 
+use crate::opening::Directories;
 use crate::summary::summarize;
 use console::{MISUSED, cannot_open, print, refuse, say, stripes_named};
-use disk_model::{DirDisk, Disk, Start};
+use disk_model::Disk;
 use java_hash::StripeCount;
 use map_types::Refusal;
 use recovery::format;
 use std::alloc::Global;
-use std::fs::File;
 use std::io::Write;
-use std::rt::Files;
 
 /// Formats the disk, and prints the number of stripes. The line's memory is taken first.
 pub fn init_disk<D: Disk, W: Write, E: Write>(
@@ -32,59 +31,60 @@ pub fn init_disk<D: Disk, W: Write, E: Write>(
     }
 }
 
-/// Opens the disk, and then prints what it stands for.
-pub fn check_disk<D: Disk + Drop, W: Write, E: Write>(
+/// Opens the disk, and then prints what it stands for. The disk is handed back.
+pub fn check_disk<D: Disk, W: Write, E: Write>(
     alloc: Global,
     disk: D,
     output: &mut W,
     error: &mut E,
-) -> u8
-    ensures { Checks D.states D.failures D.honest disk (W.contents output.old) (W.contents output.new) result }
+) -> (D, u8)
+    ensures { Checks D.states D.failures D.honest disk result.0 (W.contents output.old) (W.contents output.new) result.1 }
 {
     match summarize(alloc, disk) {
-        Ok((_disk, summary)) => match summary.text(alloc) {
-            Ok(text) => print(text.as_str(), output, error),
-            Err(_) => refuse(alloc, Refusal::NoMemory, error),
+        Ok((disk, summary)) => match summary.text(alloc) {
+            Ok(text) => (disk, print(text.as_str(), output, error)),
+            Err(_) => (disk, refuse(alloc, Refusal::NoMemory, error)),
         },
-        Err((_disk, refusal)) => refuse(alloc, refusal, error),
+        Err((disk, refusal)) => (disk, refuse(alloc, refusal, error)),
     }
 }
 
 /// Makes the directory that of an empty map of so many stripes.
-pub fn init<F: Files<File = File>, S: Start, W: Write, E: Write>(
-    rt: &F,
+pub fn init<M: Directories, W: Write, E: Write>(
+    machine: &M,
     alloc: Global,
-    start: S,
     directory: &str,
     stripes: &str,
     output: &mut W,
     error: &mut E,
 ) -> u8
-    ensures { Inits S.Start.files S.Start.left (W.contents output.old) (W.contents output.new) result }
+    ensures { Inits M.Opened.states M.Opened.failures M.Opened.honest M.is_opened directory.now stripes.now (W.contents output.old) (W.contents output.new) result }
 {
     let Some(stripes) = stripes_named(stripes) else {
         say(error, "S is a power of two from 1 to 256\n");
         return MISUSED;
     };
-    match DirDisk::create(rt, alloc, directory, start) {
+    match machine.create_files(alloc, directory) {
         Ok(mut disk) => init_disk(alloc, &mut disk, stripes, output, error),
         Err(failure) => cannot_open(alloc, &failure, error),
     }
 }
 
 /// Prints what the directory stands for.
-pub fn check<F: Files<File = File>, S: Start, W: Write, E: Write>(
-    rt: &F,
+pub fn check<M: Directories, W: Write, E: Write>(
+    machine: &M,
     alloc: Global,
-    start: S,
     directory: &str,
     output: &mut W,
     error: &mut E,
 ) -> u8
-    ensures { Inspects S.Start.files S.Start.left (W.contents output.old) (W.contents output.new) result }
+    ensures { Inspects M.Opened.states M.Opened.failures M.Opened.honest M.is_opened directory.now (W.contents output.old) (W.contents output.new) result }
 {
-    match DirDisk::open(rt, alloc, directory, start) {
-        Ok(disk) => check_disk(alloc, disk, output, error),
+    match machine.open_files(alloc, directory) {
+        Ok(disk) => {
+            let (_disk, status) = check_disk(alloc, disk, output, error);
+            status
+        }
         Err(failure) => cannot_open(alloc, &failure, error),
     }
 }

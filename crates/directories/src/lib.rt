@@ -2,7 +2,9 @@
 #![tactic(auto)]
 
 pub mod directory;
+pub mod opening;
 pub mod summary;
 
 pub use directory::{check, check_disk, init, init_disk};
+pub use opening::Directories;
 pub use summary::{Summary, summarize};

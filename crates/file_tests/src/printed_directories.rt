@@ -15,7 +15,8 @@ fn a_disk_is_formatted_and_checked(rt: HostRuntime) -> Result<(), Fail> {
         init_disk(alloc, &mut disk, stripes, &mut output, &mut error),
         0
     );
-    assert_eq!(rt; check_disk(alloc, disk, &mut output, &mut error), 0);
+    let (_disk, status) = check_disk(alloc, disk, &mut output, &mut error);
+    assert_eq!(rt; status, 0);
     assert_eq!(rt;
         output.as_slice(),
         b"formatted 8\ngeneration 0\nstripes 8\nprefix 0\nentries 0\n".as_slice()

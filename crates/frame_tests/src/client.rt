@@ -1,8 +1,7 @@
 //! Calls of a server, and what is printed of their answers.
-use map_client::{ask, call};
+use map_client::{Servers, ask, call};
 use map_types::{Key, Question, Read, Refusal};
 use std::alloc::Global;
-use std::net::{Net, TcpStream};
 use wire_frames::Request;
 
 /// What comes of a call: the status, the output and what is said on the error output.
@@ -88,8 +87,8 @@ fn answers_as_they_are_printed(rt: HostRuntime) {
 }
 
 // Whether a call of these words at this port has no answer, and this is said of it.
-fn is_called<N: Net<Stream = TcpStream>>(
-    net: &N,
+fn is_called<M: Servers>(
+    machine: &M,
     alloc: Global,
     port: &str,
     words: &[&str],
@@ -97,7 +96,7 @@ fn is_called<N: Net<Stream = TcpStream>>(
 ) -> bool {
     let mut output = Vec::new(alloc);
     let mut error = Vec::new(alloc);
-    let status = call(net, alloc, port, words, &mut output, &mut error);
+    let status = call(machine, alloc, port, words, &mut output, &mut error);
     is_printed(status, &output, &error, expected)
 }
 

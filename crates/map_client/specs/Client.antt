@@ -80,14 +80,22 @@ PrintsMisuse o0 o1 status = (o1 ≡ o0) × (status ≡ 2)
 abbrev pub IsNoPort : List ℕ → Type 0
 IsNoPort text = IsNamed IsPort text None
 
-abbrev pub IsSomePort : List ℕ → Type 0
-IsSomePort text = (port : ℕ) × IsNamed IsPort text (Some port)
+-- IsConnected says of a reader and a writer that they are the ends of a new connection to a port.
+module _ {R W : Type 0} (remaining : R → Known) (contents : W → Known) (IsConnected : ℕ → R → W → Type 0) where
+  -- a server was asked at the port, and its answer printed
+  pub record AsksAtPort (port : ℕ) (request : Request) (o0 o1 : Known) (status : ℕ) : Type 0 where
+    pub reader : R
+    pub reader_after : R
+    pub writer : W
+    pub writer_after : W
+    pub connected : IsConnected port reader writer
+    pub asks : AsksServer (remaining reader) (remaining reader_after) (contents writer) (contents writer_after) o0 o1 request status
 
--- For the words of a call, where the port is none, nothing is printed, with status 2; else a reply is, or nothing, with status 1.
--- Words that are no call print nothing, with status 2; or 1 where no memory was found to read them.
-abbrev pub CallsServer : List ℕ → Result Asked BadWord → Known → Known → ℕ → Type 0
-CallsServer port (Ok asked) o0 o1 status =
-    (IsNoPort port × PrintsMisuse o0 o1 status)
-    ⊎ (IsSomePort port × (((reply : Reply) × PrintsReply reply o0 o1 status) ⊎ PrintsNothing o0 o1 status))
-CallsServer port (Err bad) o0 o1 status =
-    PrintsMisuse o0 o1 status ⊎ (IsSomePort port × PrintsNothing o0 o1 status)
+  -- For the words of a call, where the port is none, nothing is printed, with status 2; else a server is asked for what the words say, or nothing is
+  -- printed, with status 1. Words that are no call print nothing, with status 2; or 1 where no memory was found to read them.
+  abbrev pub CallsServer : List ℕ → Result Asked BadWord → Known → Known → ℕ → Type 0
+  CallsServer word (Ok asked) o0 o1 status =
+      (IsNoPort word × PrintsMisuse o0 o1 status)
+      ⊎ ((port : ℕ) × IsNamed IsPort word (Some port) × (AsksAtPort port (request_of asked) o0 o1 status ⊎ PrintsNothing o0 o1 status))
+  CallsServer word (Err bad) o0 o1 status =
+      PrintsMisuse o0 o1 status ⊎ ((port : ℕ) × IsNamed IsPort word (Some port) × PrintsNothing o0 o1 status)

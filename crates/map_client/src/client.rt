@@ -3,13 +3,12 @@ ghost use Rattle.std.specs.Prelude.{◌≡◌, IfNone, IfOk, IfSome, map, string
 ghost use Rattle.call_text.specs.Calls.{parse_call};
 ghost use Rattle.map_client.specs.Client.{AsksServer, CallsServer, Exchanges, IsReplyLine, PrintsReply, request_of};
 
+use crate::servers::Servers;
 use call_text::{Asked, BadWord, CallError, parse_call, reply_text};
 use console::{MISUSED, REFUSED, port_named, print, refuse, say};
 use map_types::{Refusal, Reply};
 use std::alloc::{AllocError, Global};
-use std::io;
 use std::io::{Read, Write};
-use std::net::{Net, TcpStream};
 use wire_frames::{ReplyError, Request, read_reply, request_frame, write_whole};
 
 /// Why a request has no answer.
@@ -114,23 +113,17 @@ fn misuse<E: Write>(alloc: Global, word: BadWord, error: &mut E) -> u8
     MISUSED
 }
 
-/// A connection to the port of this machine.
-fn connect<N: Net<Stream = TcpStream>>(net: &N, port: u16) -> io::Result<TcpStream> {
-    let stream = TcpStream::connect(net, ("127.0.0.1", port))?;
-    stream.set_nodelay(true)?;
-    Ok(stream)
-}
-
 /// Sends what the words ask for to the server at the port of this machine, and prints its reply.
-pub fn call<N: Net<Stream = TcpStream>, W: Write, E: Write>(
-    net: &N,
+pub fn call<M: Servers, W: Write, E: Write>(
+    machine: &M,
     alloc: Global,
     port: &str,
     words: &[&str],
     output: &mut W,
     error: &mut E,
 ) -> u8
-    ensures { CallsServer port.now (parse_call (map (λ word. word.now) words.now)) (W.contents output.old) (W.contents output.new) result }
+    ensures { CallsServer M.Reader.remaining M.Writer.contents M.is_connected port.now
+        (parse_call (map (λ word. word.now) words.now)) (W.contents output.old) (W.contents output.new) result }
 {
     let request = match parse_call(alloc, words) {
         Ok(asked) => Some(request_of(asked)),
@@ -144,8 +137,10 @@ pub fn call<N: Net<Stream = TcpStream>, W: Write, E: Write>(
     let Some(request) = request else {
         return refuse(alloc, Refusal::NoMemory, error);
     };
-    match connect(net, port) {
-        Ok(stream) => ask(alloc, &mut &stream, &mut &stream, &request, output, error),
+    match machine.connect_to(port) {
+        Ok((mut reader, mut writer)) => {
+            ask(alloc, &mut reader, &mut writer, &request, output, error)
+        }
         Err(_) => give_up(alloc, Unanswered::NoReply, error),
     }
 }

@@ -2,5 +2,7 @@
 #![tactic(auto)]
 
 pub mod client;
+pub mod servers;
 
 pub use client::{ask, call};
+pub use servers::Servers;

@@ -1,1 +1,3 @@
-mod Crosses
+pub mod CommandLines
+pub mod Getters
+pub mod Lines

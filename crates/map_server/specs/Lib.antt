@@ -1,2 +1,2 @@
-pub mod Serving
-pub mod Settings
+pub mod CommandLine
+pub mod Program

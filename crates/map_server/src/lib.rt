@@ -1,10 +1,10 @@
-//! The server: the map of a directory is served on a port, by workers on threads of their own.
+//! The program: what the words of its command line ask for is done; and what a server is made of.
 #![tactic(auto)]
 
-pub mod server;
-#[cfg(test)]
-mod server_tests;
-pub mod worker;
+mod host;
+pub mod program;
 
-pub use server::{ServerWords, serve};
-pub use worker::{Arrivals, Gate, NoGate, Worker, workers};
+pub use connections::{Calls, serve_connection};
+pub use host::Host;
+pub use program::dchm;
+pub use store_server::{Arrivals, Gate, NoGate, workers};

@@ -3,7 +3,7 @@ use crate::cases::{Block, bytes_of};
 use anyhow::{Context, Result, anyhow};
 use disk_model::{DirDisk, Unknown};
 use java_hash::StripeCount;
-use program::Host;
+use map_server::Host;
 use recovery::open_parts;
 use std::fs;
 

@@ -12,7 +12,7 @@ use anyhow::{Result, bail};
 use cases::{Block, read_blocks};
 use disk_blocks::{has_length, is_absent, make_directory, opens_as, write_file};
 use disk_model::{DirDisk, Unknown};
-use program::Host;
+use map_server::Host;
 use runs::play_run;
 use scripts::play_script;
 use std::net::{TcpListener, TcpStream};

@@ -2,8 +2,7 @@
 use crate::cases::{Block, add_bytes, first_word};
 use crate::streams::{Input, Output};
 use anyhow::{Result, bail};
-use disk_model::Unknown;
-use program::{Host, dchm};
+use map_server::{Host, dchm};
 use std::alloc::{AllocError, Global};
 
 /// How the program is run, and what is to come of it.
@@ -115,15 +114,7 @@ fn end<R: Host + AllocGlobal>(rt: &R, words: &[String], run: &Run) -> Ended {
         is_broken: run.is_output_broken,
     };
     let mut error = Vec::new(alloc);
-    let status = dchm(
-        rt,
-        alloc,
-        Unknown,
-        words,
-        &mut input,
-        &mut output,
-        &mut error,
-    );
+    let status = dchm(rt, rt, alloc, words, &mut input, &mut output, &mut error);
     Ended {
         status,
         output: output.bytes,

@@ -2,7 +2,7 @@
 use crate::cases::Block;
 use crate::runs::{Run, ends_well};
 use anyhow::{Context, Result, bail};
-use program::Host;
+use map_server::Host;
 use std::alloc::Global;
 use std::fs;
 

@@ -6,11 +6,8 @@ use Rattle.directories.proofs.directory.check_disk.Goals as goal
 pub returns-in-Ok-text : goal.returns-in-Ok-text
 returns-in-Ok-text g c =
     let text : c.as_str.result.now ≡ summary_text c.in-Ok.summary = c.as_str.ensures.value ∙ c.in-Ok-text.ensures in
-    record {
-      new = c.in-Ok._disk;
-      ends = inl (
-        c.in-Ok.summary,
-        c.in-Ok.ensures.ok,
-        subst (λ (t : List ℕ). Prints t (g.W.Write.contents c.args.output.now) (g.W.Write.contents c.print.new.output) c.print.result) text c.print.ensures,
-      );
-    }
+    inl (
+      c.in-Ok.summary,
+      c.in-Ok.ensures.ok,
+      subst (λ (t : List ℕ). Prints t (g.W.Write.contents c.args.output.now) (g.W.Write.contents c.print.new.output) c.print.result) text c.print.ensures,
+    )

@@ -1,0 +1,42 @@
+//! How a directory is opened.
+ghost use Rattle.std.specs.Prelude.{◌≡◌, [], ℕ, List, IfOk};
+
+use disk_model::{DirDisk, Disk, Unknown};
+use std::alloc::Global;
+use std::fs::File;
+use std::io;
+use std::rt::Files;
+
+/// Opens directories as disks. What is done with a directory is proved for every type that opens them:
+/// a disk comes of these two calls alone, whatever its files hold.
+pub trait Directories {
+    /// The disk that a directory is.
+    type Opened: Disk + Drop + Send;
+
+    /// The disk has the files of this directory, as they were when it was opened.
+    ghost is_opened: { List ℕ → Self.Opened → Type 0 };
+
+    /// Opens the files that are there. A write to one that is absent fails.
+    fn open_files(&self, alloc: Global, directory: &str) -> io::Result<Self::Opened>
+        ensures { IfOk result (λ disk. is_opened directory.now disk) };
+
+    /// The same, but makes the files that are absent.
+    fn create_files(&self, alloc: Global, directory: &str) -> io::Result<Self::Opened>
+        ensures { IfOk result (λ disk. is_opened directory.now disk) };
+}
+
+/// The directories of the system. Nothing has happened yet to what was opened; of which directory it is,
+/// no contract can tell.
+impl<F: Files<File = File>> Directories for F {
+    type Opened = DirDisk<Unknown>;
+
+    ghost is_opened = { λ directory disk. disk.past.events ≡ [] };
+
+    fn open_files(&self, alloc: Global, directory: &str) -> io::Result<DirDisk<Unknown>> {
+        DirDisk::open(self, alloc, directory, Unknown)
+    }
+
+    fn create_files(&self, alloc: Global, directory: &str) -> io::Result<DirDisk<Unknown>> {
+        DirDisk::create(self, alloc, directory, Unknown)
+    }
+}

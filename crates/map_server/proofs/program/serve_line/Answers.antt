@@ -1,0 +1,25 @@
+use Rattle.std.proofs.Common.{◌≡◌, false, codes}
+use Rattle.std.proofs.lemmas.Result.{IfOk-weaker}
+use Rattle.clap.specs.Words.{App, app_of, new_app, with_rule}
+use Rattle.clap.specs.declared.builder.command.Command.TheViews.{out-Command as fields_of}
+use Rattle.map_server.specs.CommandLine.{directory_rule, option_rule, port_rule}
+use Rattle.map_server.proofs.Lines.{stays_local, with_argument}
+use Rattle.map_server.proofs.program.serve_line.Goals as goal
+
+pub returns-clause-app : goal.returns-clause-app
+returns-clause-app c =
+    let bare : app_of c.about.result ≡ new_app (codes "serve") = rw c.about.ensures c.new.ensures.app in
+    let one = with_argument _ _ _ _ directory_rule c.in_ok-arg.ensures c.directory.ensures.local c.directory.ensures.rule bare in
+    let two = with_argument _ _ _ _ port_rule c.in_ok-arg-2.ensures c.port.ensures.local c.port.ensures.rule one in
+    let three = with_argument _ _ _ _ (option_rule (codes "stripes")) c.in_ok-arg-3.ensures c.stripes.ensures.local c.stripes.ensures.rule two in
+    let four = with_argument _ _ _ _ (option_rule (codes "workers")) c.in_ok-arg-4.ensures c.option-workers.ensures.local c.option-workers.ensures.rule three in
+    IfOk-weaker c.arg-5.result _ _ (λ command h. with_argument _ _ _ _ (option_rule (codes "checkpoint-bytes")) h c.option-bytes.ensures.local c.option-bytes.ensures.rule four) c.arg-5.ensures
+
+pub returns-clause-local : goal.returns-clause-local
+returns-clause-local c =
+    let bare : (fields_of c.about.result).has_globals ≡ false = rw c.about.ensures c.new.ensures.local in
+    let one = stays_local _ _ _ c.in_ok-arg.ensures c.directory.ensures.local bare in
+    let two = stays_local _ _ _ c.in_ok-arg-2.ensures c.port.ensures.local one in
+    let three = stays_local _ _ _ c.in_ok-arg-3.ensures c.stripes.ensures.local two in
+    let four = stays_local _ _ _ c.in_ok-arg-4.ensures c.option-workers.ensures.local three in
+    IfOk-weaker c.arg-5.result _ _ (λ command h. stays_local _ _ _ h c.option-bytes.ensures.local four) c.arg-5.ensures

@@ -1,0 +1,142 @@
+-- The command lines that are known, as the library that reads them sees them.
+use Rattle.std.specs.Prelude.{◌≡◌, ◌≢◌, ◌⊎◌, ℕ, true, List, [], map, Option, Some, codes, option_map, unwrap_or}
+use Rattle.clap.specs.Words.{App, Row, Rule, Text, IsAmong, Kinds, all_of, fault_of, first_of, new_app, new_rule, subcommand_of, with_rule, with_subcommand}
+use Rattle.clap.specs.Simple.{on_top}
+use Rattle.clap.specs.Lexer.{usize_max}
+use Rattle.clap.specs.declared.builder.action.ArgAction.TheVariants.{Set, Append}
+use Rattle.store_server.specs.declared.server.ServerWords.{ServerWords}
+use Rattle.map_server.specs.declared.program.Order.{Order}
+use Rattle.map_server.specs.declared.program.Order.TheVariants.{Mem, Init, Check, Serve, Call, Sim}
+use Rattle.clap.specs.declared.error.kind.ErrorKind.{ErrorKind}
+use Rattle.clap.specs.declared.error.kind.ErrorKind.TheVariants.{DisplayHelp, DisplayVersion, OutOfMemory}
+
+-- the directory's name, which is wanted
+abbrev pub directory_rule : Rule
+directory_rule = record (new_rule (codes "DIR")) { required = true; action = Some Set }
+
+-- an option of this name that takes a value
+abbrev pub option_rule : Text → Rule
+option_rule name = record (new_rule name) { long = Some name; action = Some Set; value_names = 1 }
+
+-- `--port P`, which is wanted
+abbrev pub port_rule : Rule
+port_rule = record (option_rule (codes "port")) { required = true }
+
+-- the words of a call, at least one: with the first of them they begin, and each behind it is one, whatever it looks like
+abbrev pub words_rule : Rule
+words_rule = record (new_rule (codes "METHOD")) {
+  required = true;
+  action = Some Append;
+  range = Some (record { start_inclusive = 1; end_inclusive = usize_max });
+  value_names = 2;
+  trailing_var_arg = true;
+}
+
+-- a file's name, which is wanted
+abbrev pub file_rule : Rule
+file_rule = record (new_rule (codes "FILE")) { required = true; action = Some Set }
+
+abbrev pub mem_line : App
+mem_line = new_app (codes "mem")
+
+abbrev pub init_line : App
+init_line = with_rule (with_rule (new_app (codes "init")) directory_rule) (option_rule (codes "stripes"))
+
+abbrev pub check_line : App
+check_line = with_rule (new_app (codes "check")) directory_rule
+
+abbrev pub serve_line : App
+serve_line =
+    with_rule (with_rule (with_rule (with_rule (with_rule (new_app (codes "serve")) directory_rule) port_rule) (option_rule (codes "stripes")))
+    (option_rule (codes "workers"))) (option_rule (codes "checkpoint-bytes"))
+
+abbrev pub call_line : App
+call_line = with_rule (with_rule (new_app (codes "call")) port_rule) words_rule
+
+abbrev pub sim_line : App
+sim_line = with_rule (new_app (codes "sim")) file_rule
+
+-- `dchm` with no subcommand, which it wants
+abbrev pub bare_line : App
+bare_line = on_top (λ s. record s { subcommand_required = true }) (new_app (codes "dchm"))
+
+-- `dchm`, which wants one of its subcommands
+abbrev pub command_line : App
+command_line =
+    with_subcommand (with_subcommand (with_subcommand (with_subcommand (with_subcommand (with_subcommand bare_line mem_line.top) init_line.top) check_line.top) serve_line.top)
+    call_line.top) sim_line.top
+
+-- what is wrong with the words, the program's name first, or help where they ask for it; nothing where they are known
+abbrev pub faults : List Text → Kinds
+faults words = fault_of command_line words
+
+-- the subcommand that the words name, and what they give its arguments
+abbrev pub named_by : List Text → Option (Text × List Row)
+named_by words = subcommand_of command_line words
+
+abbrev pub name_of : Option (Text × List Row) → Option Text
+name_of named = option_map (λ line. line.0) named
+
+-- ---- what is asked for
+
+-- the word that is given for an argument, or another where none is
+abbrev pub word_or : Text → Text → List Row → Text
+word_or other id rows = unwrap_or (first_of id rows) other
+
+abbrev pub directory_in : List Row → Text
+directory_in rows = word_or [] (codes "DIR") rows
+
+abbrev pub port_in : List Row → Text
+port_in rows = word_or [] (codes "port") rows
+
+-- `--stripes S`, which is 16 if left out
+abbrev pub stripes_in : List Row → Text
+stripes_in rows = word_or (codes "16") (codes "stripes") rows
+
+-- the words from METHOD on
+abbrev pub call_in : List Row → List Text
+call_in rows = unwrap_or (all_of (codes "METHOD") rows) []
+
+-- what `serve` is given; 4 workers and 67108864 bytes if left out
+pub record GivesServer (rows : List Row) (words : ServerWords) : Type 0 where
+  pub directory : words.directory.now ≡ directory_in rows
+  pub port : words.port.now ≡ port_in rows
+  pub stripes : words.stripes.now ≡ stripes_in rows
+  pub workers : words.workers.now ≡ word_or (codes "4") (codes "workers") rows
+  pub bytes : words.bytes.now ≡ word_or (codes "67108864") (codes "checkpoint-bytes") rows
+
+-- this subcommand is named, and its arguments are given so
+abbrev pub Names : Option (Text × List Row) → Text → (List Row → Type 0) → Type 0
+Names named name Given = (rows : List Row) × (named ≡ Some (name, rows)) × Given rows
+
+-- the subcommand that is named, with what it is given, asks for this
+abbrev pub Asks : Option (Text × List Row) → Order → Type 0
+Asks named Mem =
+    (name_of named ≢ Some (codes "init")) × (name_of named ≢ Some (codes "check")) × (name_of named ≢ Some (codes "serve"))
+    × (name_of named ≢ Some (codes "call")) × (name_of named ≢ Some (codes "sim"))
+Asks named (Init directory stripes) =
+    Names named (codes "init") (λ rows. (directory.now ≡ directory_in rows) × (stripes.now ≡ stripes_in rows))
+Asks named (Check directory) = Names named (codes "check") (λ rows. directory.now ≡ directory_in rows)
+Asks named (Serve words) = Names named (codes "serve") (λ rows. GivesServer rows words)
+Asks named (Call port words) =
+    Names named (codes "call") (λ rows. (port.now ≡ port_in rows) × (map (λ word. word.now) words.items ≡ call_in rows))
+Asks named (Sim file) = Names named (codes "sim") (λ rows. file.now ≡ word_or [] (codes "FILE") rows)
+
+-- ---- words that have a fault
+
+-- no memory was found, and nothing was written to the output
+abbrev pub FindsNoMemory : Option (List ℕ) → Option (List ℕ) → ℕ → Type 0
+FindsNoMemory w0 w1 status = (status ≡ 1) × (w1 ≡ w0)
+
+-- What the program does with words of this fault: it writes help to the output, with status 0; for another fault it writes nothing there, and the status is 2.
+abbrev pub Advises : ErrorKind → Option (List ℕ) → Option (List ℕ) → ℕ → Type 0
+Advises DisplayHelp w0 w1 status = (status ≡ 0) ⊎ FindsNoMemory w0 w1 status
+Advises DisplayVersion w0 w1 status = (status ≡ 0) ⊎ FindsNoMemory w0 w1 status
+Advises OutOfMemory w0 w1 status = FindsNoMemory w0 w1 status
+Advises fault w0 w1 status = ((status ≡ 2) × (w1 ≡ w0)) ⊎ FindsNoMemory w0 w1 status
+
+-- the words have one of these faults, or no memory was found to read them
+pub record Misuses (kinds : Kinds) (w0 w1 : Option (List ℕ)) (status : ℕ) : Type 0 where
+  pub fault : ErrorKind
+  pub is : (fault ≡ OutOfMemory) ⊎ IsAmong fault kinds
+  pub advises : Advises fault w0 w1 status

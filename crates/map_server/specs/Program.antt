@@ -1,0 +1,55 @@
+-- What a run of the program leaves of its streams.
+use Rattle.std.specs.Prelude.{◌≡◌, ◌≢◌, ◌⊎◌, ℕ, List, [], ◌∷◌, map, Option, Result, MatchResult, codes}
+use Rattle.clap.specs.Words.{Row, Text}
+use Rattle.connections.specs.declared.connection.ConnectionError.{ConnectionError}
+use Rattle.connections.specs.Connection.{Connection}
+use Rattle.memory_map.specs.Maps.{Answered, IsEmpty, MapState}
+use Rattle.disk_model.specs.Files.{Files}
+use Rattle.map_server.specs.CommandLine.{faults, named_by, Asks, FindsNoMemory, Misuses}
+use Rattle.map_server.specs.declared.program.Order.{Order}
+use Rattle.map_server.specs.declared.program.Order.TheVariants.{Mem, Init, Check, Serve, Call, Sim}
+use Rattle.directories.specs.Directory.{Inits, Inspects}
+use Rattle.call_text.specs.Calls.{parse_call}
+use Rattle.map_client.specs.Client.{CallsServer}
+use Rattle.store_server.specs.Serving.{ServesOn}
+use Rattle.script_player.specs.Simulation.{Simulates}
+
+-- What was written is the dialogue of what was read, each request answered by the map, which was empty at first. The status is 0 where the connection ended by itself, and 1 where it broke off.
+pub record Dialogues (r0 r1 w0 w1 : Option (List ℕ)) (status : ℕ) : Type 0 where
+  pub before : MapState
+  pub after : MapState
+  pub empty : IsEmpty before
+  pub result : Result (Unit {0}) ConnectionError
+  pub connection : Connection Answered r0 r1 w0 w1 before after result
+  pub status_is : MatchResult result (λ done. status ≡ 0) (λ error. status ≡ 1)
+
+-- the map was served, or it could not be begun and nothing was read or written
+abbrev pub Serves : Option (List ℕ) → Option (List ℕ) → Option (List ℕ) → Option (List ℕ) → ℕ → Type 0
+Serves r0 r1 w0 w1 status = Dialogues r0 r1 w0 w1 status ⊎ ((r1 ≡ r0) × (w1 ≡ w0) × (status ≡ 1))
+
+-- Of the disks and the connections that the program is given it is told what the clauses of their types tell. IsOpened says that a disk has the files of a
+-- directory, as they were when it was opened; IsConnected says that a reader and a writer are the ends of a new connection to a port.
+module _ {D R W : Type 0} (states : D → List Files) (failures : D → ℕ) (honest : D → Type 0) (IsOpened : Text → D → Type 0)
+    (remaining : R → Option (List ℕ)) (contents : W → Option (List ℕ)) (IsConnected : ℕ → R → W → Type 0) where
+  -- what was asked for was done; but for `mem` nothing was read
+  abbrev pub Does : Order → Option (List ℕ) → Option (List ℕ) → Option (List ℕ) → Option (List ℕ) → ℕ → Type 0
+  Does Mem r0 r1 w0 w1 status = Serves r0 r1 w0 w1 status
+  Does (Init directory stripes) r0 r1 w0 w1 status = (r1 ≡ r0) × Inits states failures honest IsOpened directory.now stripes.now w0 w1 status
+  Does (Check directory) r0 r1 w0 w1 status = (r1 ≡ r0) × Inspects states failures honest IsOpened directory.now w0 w1 status
+  Does (Serve words) r0 r1 w0 w1 status = (r1 ≡ r0) × ServesOn states failures honest IsOpened words w0 w1 status
+  Does (Call port words) r0 r1 w0 w1 status =
+      (r1 ≡ r0) × CallsServer remaining contents IsConnected port.now (parse_call (map (λ word. word.now) words.items)) w0 w1 status
+  Does (Sim file) r0 r1 w0 w1 status = (r1 ≡ r0) × Simulates w0 w1 status
+
+  -- what the subcommand that is named asks for was done
+  pub record Obeys (named : Option (Text × List Row)) (r0 r1 w0 w1 : Option (List ℕ)) (status : ℕ) : Type 0 where
+    pub order : Order
+    pub asked : Asks named order
+    pub done : Does order r0 r1 w0 w1 status
+
+  -- For words that are known it is done what they name, and for those of `dchm mem` the map is served; or no memory was found to read them. For other
+  -- words nothing is read.
+  pub record Ran (words : List Text) (r0 r1 w0 w1 : Option (List ℕ)) (status : ℕ) : Type 0 where
+    pub mem : (name : Text) → words ≡ name ∷ codes "mem" ∷ [] → Serves r0 r1 w0 w1 status
+    pub known : faults words ≡ [] → Obeys (named_by words) r0 r1 w0 w1 status ⊎ ((r1 ≡ r0) × FindsNoMemory w0 w1 status)
+    pub unknown : faults words ≢ [] → (r1 ≡ r0) × Misuses (faults words) w0 w1 status

@@ -1,0 +1,222 @@
+//! Workers: threads that serve connections over the running store, each with a pass of its own.
+ghost use Rattle.std.specs.Prelude.{◌≡◌, ℕ, IfOk, IfErr};
+ghost use Rattle.stripe_locks.specs.Plays.{joining};
+ghost use Rattle.durable_map.specs.Maps.{opening_of};
+ghost use Rattle.connections.specs.Connection.{Connection};
+ghost use Rattle.store_server.specs.Serving.{Completed};
+
+use connections::{Calls, ConnectionError, serve_connection};
+use crossbeam_channel::{Receiver, Sender, bounded};
+use disk_model::Disk;
+use durable_map::DurableMap;
+use map_types::{Refusal, Reply};
+use std::alloc::Global;
+use std::io::{Read, Write};
+use std::marker::Model;
+use std::net::TcpStream;
+use std::sync::Wait;
+use std::sync::atomic::{AtomicU64, Ordering};
+use std::thread;
+use std::thread::Threads;
+use stripe_locks::Pass;
+use wire_frames::Request;
+
+/// How many connections wait for a worker at most.
+const MOST_WAITING: usize = 64;
+
+/// Is told of each request that is taken up, and again once it is answered. The requests are numbered
+/// from 0 in the order in which they are taken up.
+pub trait Gate {
+    fn before(&self, n: u64);
+
+    fn after(&self, n: u64);
+}
+
+/// The gate of a server, which holds nothing up.
+#[derive(Drop)]
+pub struct NoGate;
+
+impl Gate for NoGate {
+    fn before(&self, _n: u64) {}
+
+    fn after(&self, _n: u64) {}
+}
+
+/// Where connections come from.
+pub trait Arrivals {
+    /// The next connection, or nothing where no more come.
+    fn next(&mut self) -> Option<TcpStream>;
+}
+
+/// A worker answers each request by a call of the running store, with its own pass.
+#[derive(Drop)]
+pub struct Worker<'a, D: Disk + Drop, G: Gate, R: Wait> {
+    rt: &'a R,
+    map: &'a DurableMap<D>,
+    gate: &'a G,
+    taken_up: &'a AtomicU64,
+    pass: Pass,
+}
+
+impl<'a, D: Disk + Drop, G: Gate, R: Wait> Model for Worker<'a, D, G, R> {
+    ghost use Rattle.stripe_locks.specs.Passes.{recorded};
+    ghost use Rattle.durable_map.specs.Maps.{IsReady};
+    ghost use Rattle.ticket_order.specs.declared.record.Record.{Record};
+    ghost use Rattle.ticket_order.specs.contracts.record.Record as record_type;
+
+    ghost Value = { Record };
+
+    ghost coded = { record_type.the_row.coded };
+
+    ghost view = { λ worker. recorded worker.pass };
+
+    ghost invariant = { λ worker. IsReady worker.map.now worker.pass };
+}
+
+impl<'a, D: Disk + Drop, G: Gate, R: Wait> Worker<'a, D, G, R> {
+    /// A worker, which takes a new pass. The requests of all workers are counted in `taken_up`.
+    pub fn new(
+        rt: &'a R,
+        map: &'a DurableMap<D>,
+        gate: &'a G,
+        taken_up: &'a AtomicU64,
+    ) -> Result<Worker<'a, D, G, R>, Refusal>
+        ensures joins { IfOk result (λ worker. (found : ℕ) × (worker ≡ joining (opening_of map.now) found)) }
+        ensures err { IfErr result (λ refusal. refusal ≡ Refusal.SeatsSpent) }
+    {
+        let pass = map.pass()?;
+        Ok(Worker {
+            rt,
+            map,
+            gate,
+            taken_up,
+            pass,
+        })
+    }
+
+    // Makes the call of a request.
+    fn answer(&mut self, request: Request) -> Result<Reply, Refusal>
+        ensures { Completed self.old request result self.new }
+    {
+        match request {
+            Request::Change(command) => self.map.change(self.rt, &mut self.pass, command),
+            Request::Read(read) => self.map.read(self.rt, &mut self.pass, read),
+        }
+    }
+
+    /// Serves a connection until it ends or breaks off.
+    pub fn serve<I: Read, O: Write>(
+        &mut self,
+        alloc: Global,
+        reader: &mut I,
+        writer: &mut O,
+    ) -> Result<(), ConnectionError>
+        ensures { Connection Completed (I.remaining reader.old) (I.remaining reader.new) (O.contents writer.old) (O.contents writer.new) self.old self.new result }
+    {
+        serve_connection(alloc, reader, writer, self)
+    }
+}
+
+impl<D: Disk + Drop, G: Gate, R: Wait> Calls for Worker<'_, D, G, R> {
+    ghost took = { Completed };
+
+    fn call(&mut self, request: Request) -> Result<Reply, Refusal> {
+        let n = self.taken_up.fetch_add(1, Ordering::SeqCst);
+        self.gate.before(n);
+        let answer = self.answer(request);
+        self.gate.after(n);
+        answer
+    }
+}
+
+/// What the workers share.
+#[derive(Drop)]
+struct Crew<'a, D: Disk + Drop, G: Gate> {
+    alloc: Global,
+    map: &'a DurableMap<D>,
+    gate: &'a G,
+    taken_up: AtomicU64,
+    streams: Receiver<TcpStream, Global>,
+}
+
+// Serves connections until no more come. What befalls a connection ends that one alone.
+fn work<D: Disk + Drop, G: Gate, R: Wait>(rt: &R, crew: &Crew<'_, D, G>) {
+    let Ok(mut worker) = Worker::new(rt, crew.map, crew.gate, &crew.taken_up) else {
+        return;
+    };
+    for _ in rt.forever() {
+        let Ok(stream) = crew.streams.recv(rt) else {
+            return;
+        };
+        let _ = stream.set_nodelay(true);
+        let _ = worker.serve(crew.alloc, &mut &stream, &mut &stream);
+    }
+    unreachable!()
+}
+
+// Hands each connection to the workers.
+fn hand_out<C: Arrivals, R: Wait>(rt: &R, accepted: &Sender<TcpStream, Global>, arrivals: &mut C) {
+    for _ in rt.forever() {
+        let Some(stream) = arrivals.next() else {
+            return;
+        };
+        if accepted.send(rt, stream).is_err() {
+            return;
+        }
+    }
+    unreachable!()
+}
+
+// Starts the workers, and hands the connections out. The workers end once the sender is dropped.
+fn employ<D: Disk + Drop + Send, G: Gate + Sync, C: Arrivals, R: Threads + Wait + Sync>(
+    rt: &R,
+    crew: &Crew<'_, D, G>,
+    accepted: Sender<TcpStream, Global>,
+    arrivals: &mut C,
+    count: usize,
+) -> Result<(), Refusal>
+    ensures { IfErr result (λ refusal. refusal ≡ Refusal.NoMemory) }
+{
+    let has_started = thread::scope(thread::scope_env(), rt, |scope| {
+        for _ in 0..count {
+            if scope.spawn(move || work(rt, crew)).is_err() {
+                drop(accepted);
+                return false;
+            }
+        }
+        hand_out(rt, &accepted, arrivals);
+        drop(accepted);
+        true
+    });
+    if has_started {
+        Ok(())
+    } else {
+        Err(Refusal::NoMemory)
+    }
+}
+
+/// Serves the connections with so many workers, and returns once no more come and each that came has
+/// ended. Each worker takes one pass as it starts, and serves one connection after another with it; at
+/// most 64 more wait for a worker. Refused with `NoMemory` where a thread can't be started.
+pub fn workers<D: Disk + Drop + Send, G: Gate + Sync, C: Arrivals, R: Threads + Wait + Sync>(
+    rt: &R,
+    alloc: Global,
+    map: &DurableMap<D>,
+    gate: &G,
+    arrivals: &mut C,
+    count: usize,
+) -> Result<(), Refusal>
+    ensures { IfErr result (λ refusal. refusal ≡ Refusal.NoMemory) }
+{
+    let Ok((accepted, streams)) = bounded(alloc, MOST_WAITING) else {
+        return Err(Refusal::NoMemory);
+    };
+    let crew = Crew {
+        alloc,
+        map,
+        gate,
+        taken_up: AtomicU64::new(0),
+        streams,
+    };
+    employ(rt, &crew, accepted, arrivals, count)
+}
