@@ -14,13 +14,13 @@ use console::{DONE, MISUSED, break_off, refuse, say};
 use directories::{Directories, check, init};
 use disk_model::MemDisk;
 use map_client::{Servers, call};
-use store_server::{ServerWords, serve};
 use map_types::Refusal;
 use memory_map::Memory;
 use script_player::sim;
 use std::alloc::{AllocError, Global};
 use std::io::{Read, Write};
 use std::sync::Wait;
+use store_server::{ServerWords, serve};
 
 /// What a command line asks for.
 #[derive(Drop)]
