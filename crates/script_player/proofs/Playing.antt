@@ -101,7 +101,7 @@ skips_nobody w w' row happens unfit =
 all_skip : (rows : List Row) (w : World) (a : Machine) → LeadsTo rows w a → AllByRecursion SkipsNobody rows
 unfolding LeadsTo
 all_skip [] w a leads = tt
-all_skip (row ∷ rows) w a (w0, a0, leads, happens, moves) = (skips_nobody w0 w row happens, all_skip rows w0 a0 leads)
+all_skip (row ∷ rows) w a (w0, a0, leads, happens, moves, keeps) = (skips_nobody w0 w row happens, all_skip rows w0 a0 leads)
 
 all_before : (rows : List Row) (events : List Event) (outcomes : List Outcome) → AllByRecursion SkipsNobody (rows_onto rows events outcomes) → AllByRecursion SkipsNobody rows
 unfolding rows_onto
