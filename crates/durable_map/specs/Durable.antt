@@ -4,7 +4,6 @@ use Rattle.map_types.specs.declared.commands.Reply.{Reply}
 use Rattle.map_types.specs.declared.refusals.Refusal.{Refusal}
 use Rattle.map_types.specs.declared.refusals.Refusal.TheVariants.{Failed, NoMemory, TicketsSpent}
 use Rattle.java_hash.specs.Stripes.{stripe_of}
-use Rattle.ticket_order.specs.declared.held.Held.{Held}
 use Rattle.ticket_order.specs.declared.record.Asked.{Asked}
 use Rattle.ticket_order.specs.declared.record.Asked.TheVariants.{Changing, Reading}
 use Rattle.ticket_order.specs.declared.record.Record.{Record}
@@ -14,7 +13,11 @@ use Rattle.ticket_order.specs.Records.{call, reach, ticket_limit}
 use Rattle.ticket_order.specs.Calls.{MakesCall, MakesRead, RefusesChange, RefusesRead}
 use Rattle.ticket_order.specs.Legality.{IsLegal, history_of}
 use Rattle.one_history.specs.OneHistory.{Follows}
+use Rattle.stripe_locks.specs.Holding.{position_of, reply_of}
+use Rattle.stripe_locks.specs.declared.held.Held.{Held}
 use Rattle.flusher.specs.Fitting.{GoesOnByCalls}
+use Rattle.durable_map.specs.declared.map.DurableMap.{DurableMap}
+use Rattle.durable_map.specs.Maps.{IsHeldOf, stripe_count}
 
 -- the record grew by these steps
 abbrev pub GrewBy : Record → List StepMade → Record → Type 0
@@ -96,9 +99,9 @@ pub record FollowEachOther (v : Record) (first : Asked) (one : Reply) (second : 
   pub second_legal : IsLegal (history_of w) next second other
   pub order : Follows position second next
 
--- what a try of a call over n stripes leaves, by its answer
-abbrev pub Tries : ℕ → Record → Asked → Result Held Refusal → Record → Type 0
-Tries n v (Changing command) (Ok held) w = MakesCall n v command held.position held.reply w
-Tries n v (Changing command) (Err refusal) w = RefusesChange v (stripe_of n command.key) refusal w
-Tries n v (Reading read) (Ok held) w = MakesRead n v read held.position held.reply w
-Tries n v (Reading read) (Err refusal) w = RefusesRead v (stripe_of n read.key) refusal w
+-- what a try of a call leaves, by its answer
+abbrev pub Tries : {D : Type 0} → DurableMap D → Record → Asked → Result Held Refusal → Record → Type 0
+Tries map v (Changing command) (Ok held) w = IsHeldOf map held × MakesCall (stripe_count map) v command (position_of held) (reply_of held) w
+Tries map v (Changing command) (Err refusal) w = RefusesChange v (stripe_of (stripe_count map) command.key) refusal w
+Tries map v (Reading read) (Ok held) w = IsHeldOf map held × MakesRead (stripe_count map) v read (position_of held) (reply_of held) w
+Tries map v (Reading read) (Err refusal) w = RefusesRead v (stripe_of (stripe_count map) read.key) refusal w

@@ -4,6 +4,9 @@ use Rattle.std.specs.Arc.{arc_value}
 use Rattle.ticket_order.specs.declared.record.Opening.{Opening}
 use Rattle.stripe_locks.specs.Passes as shared
 use Rattle.stripe_locks.specs.Passes.{begun_with, recorded}
+use Rattle.stripe_locks.specs.Holding as holding
+use Rattle.stripe_locks.specs.declared.held.Held.{Held}
+use Rattle.stripe_locks.specs.declared.held.Released.{Released}
 use Rattle.stripe_locks.specs.declared.rule.Pass.{Pass}
 use Rattle.durable_map.specs.declared.map.DurableMap.{DurableMap}
 
@@ -23,3 +26,11 @@ IsPassOf map pass = shared.IsPassOf (arc_value map.stripes) pass
 pub record IsReady {D : Type 0} (map : DurableMap D) (pass : Pass) : Type 0 where
   pub own : IsPassOf map pass
   pub free : (recorded pass).holding ≡ None
+
+-- a pass of this map made the call whose reply is held
+abbrev pub IsHeldOf : {D : Type 0} → DurableMap D → Held → Type 0
+IsHeldOf map held = holding.IsHeldOf (arc_value map.stripes) held
+
+-- a reply that is still held is one of this map
+abbrev pub StaysHeldOf : {D : Type 0} → DurableMap D → Released → Type 0
+StaysHeldOf map released = holding.StaysHeldOf (arc_value map.stripes) released

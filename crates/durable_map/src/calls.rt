@@ -1,17 +1,18 @@
 //! Whole calls: each answers once its position is durable.
 ghost use Rattle.std.specs.Prelude.{◌≡◌, IfOk, IfErr};
 ghost use Rattle.ticket_order.specs.declared.record.Asked.TheVariants.{Changing, Reading};
+ghost use Rattle.stripe_locks.specs.Holding.{position_of, reply_of};
 ghost use Rattle.stripe_locks.specs.Passes.{recorded, IsSamePass};
 ghost use Rattle.durable_map.specs.Durable.{Completes, EndsDurable, FoundFailure, MakesNoCall};
-ghost use Rattle.durable_map.specs.Maps.{IsPassOf, IsReady};
+ghost use Rattle.durable_map.specs.Maps.{IsHeldOf, IsPassOf, IsReady};
 
 use crate::map::DurableMap;
 use crossbeam_utils::Backoff;
 use disk_model::Disk;
 use map_types::{Command, Read, Refusal, Reply};
 use std::sync::Wait;
-use stripe_locks::Pass;
-use ticket_order::{Held, Position, Released};
+use stripe_locks::{Held, Pass, Released};
+use ticket_order::Position;
 
 impl<D: Disk + Drop> DurableMap<D> {
     // Returns after a moment, or once the position may have become durable. A thread that waits long
@@ -27,7 +28,8 @@ impl<D: Disk + Drop> DurableMap<D> {
     // Waits until the position of a call is durable, and gives its reply out.
     fn finish<R: Wait>(&self, rt: &R, pass: &mut Pass, held: Held) -> Result<Reply, Refusal>
         requires own { IsPassOf self.now pass.old }
-        ensures ok { IfOk result (λ reply. (reply ≡ held.reply) × EndsDurable (recorded pass.old) held.position (recorded pass.new)) }
+        requires held { IsHeldOf self.now held }
+        ensures ok { IfOk result (λ reply. (reply ≡ reply_of held) × EndsDurable (recorded pass.old) (position_of held) (recorded pass.new)) }
         ensures err { IfErr result (λ refusal. (refusal ≡ Refusal.Failed) × FoundFailure (recorded pass.old) (recorded pass.new)) }
         ensures beside { MakesNoCall (recorded pass.old) (recorded pass.new) }
         ensures same { IsSamePass pass.old pass.new }

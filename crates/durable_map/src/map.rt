@@ -6,11 +6,12 @@ ghost use Rattle.ticket_order.specs.Records.{reach};
 ghost use Rattle.ticket_order.specs.StepRules.{Looks};
 ghost use Rattle.ticket_order.specs.Calls.{Releases};
 ghost use Rattle.one_history.specs.Turns as turns;
+ghost use Rattle.stripe_locks.specs.Holding.{answer_of, position_of, reply_of};
 ghost use Rattle.stripe_locks.specs.Passes.{recorded, IsSamePass, Joins};
 ghost use Rattle.flusher.specs.Fitting.{Fits, IsUnused};
 ghost use Rattle.recovery.specs.Opening.{IsAtStart};
 ghost use Rattle.recovery.specs.Dividing.{ArePartsOf};
-ghost use Rattle.durable_map.specs.Maps.{IsPassOf, IsReady, opening_of, stripe_count};
+ghost use Rattle.durable_map.specs.Maps.{IsHeldOf, IsPassOf, IsReady, opening_of, stripe_count, StaysHeldOf};
 
 use crate::desk::Desk;
 use crate::keeping::what_is_kept;
@@ -20,8 +21,8 @@ use flusher::Keeper;
 use map_types::Refusal;
 use std::alloc::Global;
 use std::sync::{Arc, Mutex};
-use stripe_locks::{Pass, Stripes};
-use ticket_order::{Held, Position, Released};
+use stripe_locks::{Held, Pass, Released, Stripes};
+use ticket_order::Position;
 
 /// A durable map that many threads share. Each makes its calls with a pass of its own. The replies come
 /// once `flush_loop`, on a thread of its own, has committed what they rest on.
@@ -103,8 +104,10 @@ impl<D: Disk + Drop> DurableMap<D> {
 
     /// Gives the reply out where its position is durable. It takes no memory and doesn't wait.
     pub fn release(&self, pass: &mut Pass, held: Held) -> Released
-        requires { IsPassOf self.now pass.old }
-        ensures released { Releases held.position held.reply (recorded pass.old) result (recorded pass.new) }
+        requires own { IsPassOf self.now pass.old }
+        requires held { IsHeldOf self.now held }
+        ensures released { Releases (position_of held) (reply_of held) (recorded pass.old) (answer_of result) (recorded pass.new) }
+        ensures held { StaysHeldOf self.now result }
         ensures same { IsSamePass pass.old pass.new }
     {
         self.stripes.release(pass, held)

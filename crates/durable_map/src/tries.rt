@@ -6,13 +6,12 @@ ghost use Rattle.map_types.specs.declared.commands.Question.TheVariants.{Get, Ge
 ghost use Rattle.ticket_order.specs.declared.record.Asked.TheVariants.{Changing, Reading};
 ghost use Rattle.stripe_locks.specs.Passes.{recorded, IsSamePass};
 ghost use Rattle.durable_map.specs.Durable.{Tries};
-ghost use Rattle.durable_map.specs.Maps.{IsReady, stripe_count};
+ghost use Rattle.durable_map.specs.Maps.{IsReady};
 
 use crate::map::DurableMap;
 use disk_model::Disk;
 use map_types::{Change, Command, Func, Key, Question, Read, Refusal, Value};
-use stripe_locks::Pass;
-use ticket_order::Held;
+use stripe_locks::{Held, Pass};
 
 impl<D: Disk + Drop> DurableMap<D> {
     /// Makes a change, unless another pass holds the stripe of its key (`Busy`). `Failed` where the
@@ -20,7 +19,7 @@ impl<D: Disk + Drop> DurableMap<D> {
     /// changed.
     pub fn try_change(&self, pass: &mut Pass, command: Command) -> Result<Held, Refusal>
         requires { IsReady self.now pass.old }
-        ensures tries { Tries (stripe_count self.now) (recorded pass.old) (Changing command) result (recorded pass.new) }
+        ensures tries { Tries self.now (recorded pass.old) (Changing command) result (recorded pass.new) }
         ensures ready { IsReady self.now pass.new }
         ensures same { IsSamePass pass.old pass.new }
     {
@@ -33,7 +32,7 @@ impl<D: Disk + Drop> DurableMap<D> {
     /// has failed, and `NoMemory`.
     pub fn try_read(&self, pass: &mut Pass, read: Read) -> Result<Held, Refusal>
         requires { IsReady self.now pass.old }
-        ensures tries { Tries (stripe_count self.now) (recorded pass.old) (Reading read) result (recorded pass.new) }
+        ensures tries { Tries self.now (recorded pass.old) (Reading read) result (recorded pass.new) }
         ensures ready { IsReady self.now pass.new }
         ensures same { IsSamePass pass.old pass.new }
     {
@@ -43,7 +42,7 @@ impl<D: Disk + Drop> DurableMap<D> {
     /// `put`, held until it is released.
     pub fn try_put(&self, pass: &mut Pass, key: Key, value: Value) -> Result<Held, Refusal>
         requires { IsReady self.now pass.old }
-        ensures tries { Tries (stripe_count self.now) (recorded pass.old) (Changing (record { key = key; change = Put value })) result (recorded pass.new) }
+        ensures tries { Tries self.now (recorded pass.old) (Changing (record { key = key; change = Put value })) result (recorded pass.new) }
         ensures ready { IsReady self.now pass.new }
         ensures same { IsSamePass pass.old pass.new }
     {
@@ -59,7 +58,7 @@ impl<D: Disk + Drop> DurableMap<D> {
         value: Value,
     ) -> Result<Held, Refusal>
         requires { IsReady self.now pass.old }
-        ensures tries { Tries (stripe_count self.now) (recorded pass.old) (Changing (record { key = key; change = PutIfAbsent value })) result (recorded pass.new) }
+        ensures tries { Tries self.now (recorded pass.old) (Changing (record { key = key; change = PutIfAbsent value })) result (recorded pass.new) }
         ensures ready { IsReady self.now pass.new }
         ensures same { IsSamePass pass.old pass.new }
     {
@@ -70,7 +69,7 @@ impl<D: Disk + Drop> DurableMap<D> {
     /// `remove`, held until it is released.
     pub fn try_remove(&self, pass: &mut Pass, key: Key) -> Result<Held, Refusal>
         requires { IsReady self.now pass.old }
-        ensures tries { Tries (stripe_count self.now) (recorded pass.old) (Changing (record { key = key; change = Remove })) result (recorded pass.new) }
+        ensures tries { Tries self.now (recorded pass.old) (Changing (record { key = key; change = Remove })) result (recorded pass.new) }
         ensures ready { IsReady self.now pass.new }
         ensures same { IsSamePass pass.old pass.new }
     {
@@ -81,7 +80,7 @@ impl<D: Disk + Drop> DurableMap<D> {
     /// `remove_if`, held until it is released.
     pub fn try_remove_if(&self, pass: &mut Pass, key: Key, value: Value) -> Result<Held, Refusal>
         requires { IsReady self.now pass.old }
-        ensures tries { Tries (stripe_count self.now) (recorded pass.old) (Changing (record { key = key; change = RemoveIf value })) result (recorded pass.new) }
+        ensures tries { Tries self.now (recorded pass.old) (Changing (record { key = key; change = RemoveIf value })) result (recorded pass.new) }
         ensures ready { IsReady self.now pass.new }
         ensures same { IsSamePass pass.old pass.new }
     {
@@ -92,7 +91,7 @@ impl<D: Disk + Drop> DurableMap<D> {
     /// `replace`, held until it is released.
     pub fn try_replace(&self, pass: &mut Pass, key: Key, value: Value) -> Result<Held, Refusal>
         requires { IsReady self.now pass.old }
-        ensures tries { Tries (stripe_count self.now) (recorded pass.old) (Changing (record { key = key; change = Replace value })) result (recorded pass.new) }
+        ensures tries { Tries self.now (recorded pass.old) (Changing (record { key = key; change = Replace value })) result (recorded pass.new) }
         ensures ready { IsReady self.now pass.new }
         ensures same { IsSamePass pass.old pass.new }
     {
@@ -109,7 +108,7 @@ impl<D: Disk + Drop> DurableMap<D> {
         new: Value,
     ) -> Result<Held, Refusal>
         requires { IsReady self.now pass.old }
-        ensures tries { Tries (stripe_count self.now) (recorded pass.old) (Changing (record { key = key; change = ReplaceIf old new })) result (recorded pass.new) }
+        ensures tries { Tries self.now (recorded pass.old) (Changing (record { key = key; change = ReplaceIf old new })) result (recorded pass.new) }
         ensures ready { IsReady self.now pass.new }
         ensures same { IsSamePass pass.old pass.new }
     {
@@ -126,7 +125,7 @@ impl<D: Disk + Drop> DurableMap<D> {
         argument: Option<Value>,
     ) -> Result<Held, Refusal>
         requires { IsReady self.now pass.old }
-        ensures tries { Tries (stripe_count self.now) (recorded pass.old) (Changing (record { key = key; change = Compute func argument })) result (recorded pass.new) }
+        ensures tries { Tries self.now (recorded pass.old) (Changing (record { key = key; change = Compute func argument })) result (recorded pass.new) }
         ensures ready { IsReady self.now pass.new }
         ensures same { IsSamePass pass.old pass.new }
     {
@@ -143,7 +142,7 @@ impl<D: Disk + Drop> DurableMap<D> {
         argument: Option<Value>,
     ) -> Result<Held, Refusal>
         requires { IsReady self.now pass.old }
-        ensures tries { Tries (stripe_count self.now) (recorded pass.old) (Changing (record { key = key; change = ComputeIfAbsent func argument })) result (recorded pass.new) }
+        ensures tries { Tries self.now (recorded pass.old) (Changing (record { key = key; change = ComputeIfAbsent func argument })) result (recorded pass.new) }
         ensures ready { IsReady self.now pass.new }
         ensures same { IsSamePass pass.old pass.new }
     {
@@ -160,7 +159,7 @@ impl<D: Disk + Drop> DurableMap<D> {
         argument: Option<Value>,
     ) -> Result<Held, Refusal>
         requires { IsReady self.now pass.old }
-        ensures tries { Tries (stripe_count self.now) (recorded pass.old) (Changing (record { key = key; change = ComputeIfPresent func argument })) result (recorded pass.new) }
+        ensures tries { Tries self.now (recorded pass.old) (Changing (record { key = key; change = ComputeIfPresent func argument })) result (recorded pass.new) }
         ensures ready { IsReady self.now pass.new }
         ensures same { IsSamePass pass.old pass.new }
     {
@@ -177,7 +176,7 @@ impl<D: Disk + Drop> DurableMap<D> {
         value: Value,
     ) -> Result<Held, Refusal>
         requires { IsReady self.now pass.old }
-        ensures tries { Tries (stripe_count self.now) (recorded pass.old) (Changing (record { key = key; change = Merge func value })) result (recorded pass.new) }
+        ensures tries { Tries self.now (recorded pass.old) (Changing (record { key = key; change = Merge func value })) result (recorded pass.new) }
         ensures ready { IsReady self.now pass.new }
         ensures same { IsSamePass pass.old pass.new }
     {
@@ -188,7 +187,7 @@ impl<D: Disk + Drop> DurableMap<D> {
     /// `get`, held until it is released.
     pub fn try_get(&self, pass: &mut Pass, key: Key) -> Result<Held, Refusal>
         requires { IsReady self.now pass.old }
-        ensures tries { Tries (stripe_count self.now) (recorded pass.old) (Reading (record { key = key; question = Get })) result (recorded pass.new) }
+        ensures tries { Tries self.now (recorded pass.old) (Reading (record { key = key; question = Get })) result (recorded pass.new) }
         ensures ready { IsReady self.now pass.new }
         ensures same { IsSamePass pass.old pass.new }
     {
@@ -204,7 +203,7 @@ impl<D: Disk + Drop> DurableMap<D> {
         default: Value,
     ) -> Result<Held, Refusal>
         requires { IsReady self.now pass.old }
-        ensures tries { Tries (stripe_count self.now) (recorded pass.old) (Reading (record { key = key; question = GetOrDefault default })) result (recorded pass.new) }
+        ensures tries { Tries self.now (recorded pass.old) (Reading (record { key = key; question = GetOrDefault default })) result (recorded pass.new) }
         ensures ready { IsReady self.now pass.new }
         ensures same { IsSamePass pass.old pass.new }
     {
@@ -215,7 +214,7 @@ impl<D: Disk + Drop> DurableMap<D> {
     /// `contains_key`, held until it is released.
     pub fn try_contains_key(&self, pass: &mut Pass, key: Key) -> Result<Held, Refusal>
         requires { IsReady self.now pass.old }
-        ensures tries { Tries (stripe_count self.now) (recorded pass.old) (Reading (record { key = key; question = ContainsKey })) result (recorded pass.new) }
+        ensures tries { Tries self.now (recorded pass.old) (Reading (record { key = key; question = ContainsKey })) result (recorded pass.new) }
         ensures ready { IsReady self.now pass.new }
         ensures same { IsSamePass pass.old pass.new }
     {

@@ -1,6 +1,8 @@
 //! Replies that wait, come, and fail.
-ghost use Rattle.std.specs.Prelude.{◌≡◌, List, None};
+ghost use Rattle.std.specs.Prelude.{◌≡◌, List, None, IfOk};
+ghost use Rattle.std.specs.List.{All};
 ghost use Rattle.map_types.specs.declared.commands.Command.{Command};
+ghost use Rattle.stripe_locks.specs.Holding.{IsHeldOf};
 ghost use Rattle.stripe_locks.specs.Passes.{recorded, IsPassOf};
 ghost use Rattle.flusher.specs.Fitting.{Fits};
 
@@ -11,8 +13,8 @@ use java_hash::StripeCount;
 use map_types::{Command, Key, Question, Read, Refusal, Reply, Value};
 use std::alloc::Global;
 use std::sync::Wait;
-use stripe_locks::{Pass, Stripes};
-use ticket_order::{Held, Released, Steps};
+use stripe_locks::{Held, Pass, Released, Stripes};
+use ticket_order::Steps;
 
 // A disk whose call after so many fails.
 fn failing_disk(alloc: Global, after: u64) -> MemDisk {
@@ -51,7 +53,9 @@ fn hold_once(
 ) -> Result<(), Refusal>
     requires own { IsPassOf stripes.now worker.old }
     requires free { (recorded worker.old).holding ≡ None }
+    requires all { All (IsHeldOf stripes.now) all.old.items }
     ensures own { IsPassOf stripes.now worker.new }
+    ensures all { All (IsHeldOf stripes.now) all.new.items }
     ensures free { (recorded worker.new).holding ≡ None }
 {
     let held = make_once(stripes, worker, command)?;
@@ -69,7 +73,9 @@ fn make_times(
 ) -> Result<(), Refusal>
     requires own { IsPassOf stripes.now worker.old }
     requires free { (recorded worker.old).holding ≡ None }
+    requires all { All (IsHeldOf stripes.now) all.old.items }
     ensures own { IsPassOf stripes.now worker.new }
+    ensures all { All (IsHeldOf stripes.now) all.new.items }
     ensures free { (recorded worker.new).holding ≡ None }
 {
     for _ in 0..times {
@@ -99,6 +105,7 @@ fn publish_all<D: Disk, R: Wait, S: Steps>(
 fn read_by(stripes: &Stripes, worker: &mut Pass, alloc: Global, key: &str) -> Result<Held, Refusal>
     requires own { IsPassOf stripes.now worker.old }
     requires free { (recorded worker.old).holding ≡ None }
+    ensures held { IfOk result (IsHeldOf stripes.now) }
     ensures own { IsPassOf stripes.now worker.new }
 {
     let read = Read {
@@ -117,6 +124,7 @@ fn put_and_read(
 ) -> Result<Held, Refusal>
     requires own { IsPassOf stripes.now worker.old }
     requires free { (recorded worker.old).holding ≡ None }
+    ensures held { IfOk result (IsHeldOf stripes.now) }
     ensures own { IsPassOf stripes.now worker.new }
 {
     put_by(stripes, worker, alloc, key, 1)?;
@@ -143,6 +151,7 @@ fn release_in_time<D: Disk, R: Wait, S: Steps>(
 ) -> Result<Released, Refusal>
     requires kept { (done : List Command) × Fits D.states D.honest (S.stripe_count steps.old) done keeper.old (S.recorded steps.old) }
     requires own { IsPassOf stripes.now worker.old }
+    requires held { IsHeldOf stripes.now held }
 {
     let Released::NotYet(held) = stripes.release(worker, held) else {
         return Err(Refusal::TooEarly);
@@ -188,7 +197,10 @@ fn release_one(
     ends: &mut Ends,
 ) -> Result<(), Refusal>
     requires own { IsPassOf stripes.now worker.old }
+    requires held { IsHeldOf stripes.now held }
+    requires waiting { All (IsHeldOf stripes.now) ends.old.waiting.items }
     ensures own { IsPassOf stripes.now worker.new }
+    ensures waiting { All (IsHeldOf stripes.now) ends.new.waiting.items }
 {
     match stripes.release(worker, held) {
         Released::Reply(_, _) => ends.replies = ends.replies.wrapping_add(1),
@@ -205,7 +217,9 @@ fn release_all(
     all: Vec<Held>,
 ) -> Result<Ends, Refusal>
     requires own { IsPassOf stripes.now worker.old }
+    requires all { All (IsHeldOf stripes.now) all.items }
     ensures own { IsPassOf stripes.now worker.new }
+    ensures waiting { IfOk result (λ ends. All (IsHeldOf stripes.now) ends.waiting.items) }
 {
     let mut ends = Ends {
         replies: 0,
@@ -246,7 +260,9 @@ fn make_ten<D: Disk, R: Wait, S: Steps>(
     requires kept { (done : List Command) × Fits D.states D.honest (S.stripe_count steps.old) done keeper.old (S.recorded steps.old) }
     requires own { IsPassOf stripes.now worker.old }
     requires free { (recorded worker.old).holding ≡ None }
+    requires all { All (IsHeldOf stripes.now) all.old.items }
     ensures own { IsPassOf stripes.now worker.new }
+    ensures all { All (IsHeldOf stripes.now) all.new.items }
     ensures kept { (done : List Command) × Fits D.states D.honest (S.stripe_count steps.new) done keeper.new (S.recorded steps.new) }
 {
     make_times(stripes, worker, command, 5, all)?;
@@ -275,6 +291,7 @@ fn release_twice<D: Disk, R: Wait, S: Steps>(
 ) -> Result<([usize; 3], bool), Refusal>
     requires kept { (done : List Command) × Fits D.states D.honest (S.stripe_count steps.old) done keeper.old (S.recorded steps.old) }
     requires own { IsPassOf stripes.now worker.old }
+    requires all { All (IsHeldOf stripes.now) all.items }
 {
     let before = release_all(stripes, worker, alloc, all)?;
     let replies = before.replies;

@@ -2,6 +2,7 @@
 ghost use Rattle.std.specs.Prelude.{◌≡◌, ℕ, List, None, [], IfOk};
 ghost use Rattle.map_types.specs.declared.commands.Command.{Command};
 ghost use Rattle.ticket_order.specs.declared.record.Record.{Record};
+ghost use Rattle.stripe_locks.specs.Holding.{IsHeldOf};
 ghost use Rattle.stripe_locks.specs.Passes.{begun_with, recorded, stripe_count, IsPassOf};
 ghost use Rattle.flusher.specs.Fitting.{Fits, IsUnused};
 
@@ -13,8 +14,8 @@ use recovery::{format, open};
 use std::alloc::Global;
 use std::process::Abort;
 use std::sync::Wait;
-use stripe_locks::{Pass, Stripes};
-use ticket_order::{Held, Steps};
+use stripe_locks::{Held, Pass, Stripes};
+use ticket_order::Steps;
 
 pub(crate) fn sixteen<R: Abort>(rt: &R) -> StripeCount
     ensures { result.count ≡ 16 }
@@ -92,6 +93,7 @@ pub(crate) fn make_once(
 ) -> Result<Held, Refusal>
     requires own { IsPassOf stripes.now worker.old }
     requires free { (recorded worker.old).holding ≡ None }
+    ensures held { IfOk result (IsHeldOf stripes.now) }
     ensures own { IsPassOf stripes.now worker.new }
     ensures free { (recorded worker.new).holding ≡ None }
 {

@@ -1,5 +1,5 @@
 -- A call that waited for its stripe.
-use Rattle.std.proofs.Common.{ℕ, ◌≡◌, ◌<◌, ◌≤◌, None, ◌++◌, [], ◌∷◌, zero, suc, replicate, refl, arith, sym, ◌∙◌, ap, append_assoc, append-nil}
+use Rattle.std.proofs.Common.{ℕ, ◌≡◌, ◌<◌, ◌≤◌, List, None, subst, ◌++◌, [], ◌∷◌, zero, suc, replicate, refl, arith, sym, ◌∙◌, ap, append_assoc, append-nil}
 use Rattle.std.specs.Prelude.{Result, Ok, Err, IfOk, IfErr}
 use Rattle.java_hash.specs.Stripes.{stripe_of}
 use Rattle.map_types.specs.declared.commands.Command.{Command}
@@ -8,7 +8,14 @@ use Rattle.map_types.specs.declared.commands.Reply.{Reply}
 use Rattle.map_types.specs.declared.refusals.Refusal.{Refusal}
 use Rattle.map_types.specs.declared.refusals.Refusal.TheVariants as refusal
 use Rattle.ticket_order.specs.declared.stripe.Stripe.{Stripe}
-use Rattle.ticket_order.specs.declared.held.Held.{Held}
+use Rattle.stripe_locks.specs.declared.held.Held.{Held}
+use Rattle.stripe_locks.specs.declared.stripes.Stripes.{Stripes}
+use Rattle.stripe_locks.specs.Holding.{position_of, reply_of, IsHeldOf}
+use Rattle.stripe_locks.specs.Passes.{recorded, IsPassOf}
+use Rattle.std.specs.List.{Contains}
+use Rattle.std.proofs.lemmas.List.Elements.{Contains-push}
+use Rattle.ticket_order.specs.declared.record.Asked.{Asked}
+use Rattle.ticket_order.specs.declared.record.Call.{Call}
 use Rattle.ticket_order.specs.declared.record.Asked.TheVariants.{Changing, Reading}
 use Rattle.ticket_order.specs.declared.record.StepMade.{StepMade}
 use Rattle.ticket_order.specs.declared.record.StepMade.TheVariants.{FoundHeld}
@@ -51,6 +58,10 @@ read_in_time n v r content t position reply w k m = record {
 
 pub found_in_time : (n : ℕ) (v : Record) (i : ℕ) (content : Stripe) (t : Record) (k : TakesInTime n v i content t) → HasFound k.waited i content t
 found_in_time n v i content t k = record { between = k.takes.between; is = k.takes.is }
+
+-- the answer of a call that the maker's record grew by
+pub held_of : (s : Stripes) (x : Held) (asked : Asked) (b : Record) → IsPassOf s x.maker.value → (recorded x.maker.value).calls ≡ b.calls ++ call (position_of x) asked (reply_of x) ∷ [] → IsHeldOf s x
+held_of s x asked b own grew = record { own = own; asked = asked; made = subst (λ (calls : List Call). Contains calls (call (position_of x) asked (reply_of x))) (sym grew) (Contains-push b.calls (call (position_of x) asked (reply_of x))) }
 
 pub err_both : {A E : Type 0} (r : Result A E) (P Q Z : E → Type 0) → ((e : E) → P e → Q e → Z e) → IfErr r P → IfErr r Q → IfErr r Z
 err_both (Ok x) P Q Z f a b = tt
@@ -98,10 +109,10 @@ read_refused b w i refusal.TooEarly k free = absurd k
 read_refused b w i refusal.NotText k free = absurd k
 read_refused b w i refusal.SeatsSpent k free = absurd k
 
-pub change_over : (n i : ℕ) (b w : Record) (c : Command) (r : Result Held Refusal) → IfOk r (λ h. MakesCall n b c h.position h.reply w) → IfErr r (λ e. RefusesChange b i e w) → IfErr r IsNotBusy → w.holding ≡ None
+pub change_over : (n i : ℕ) (b w : Record) (c : Command) (r : Result Held Refusal) → IfOk r (λ h. MakesCall n b c (position_of h) (reply_of h) w) → IfErr r (λ e. RefusesChange b i e w) → IfErr r IsNotBusy → w.holding ≡ None
 change_over n i b w c (Ok h) k f g = ap (λ (x : Record). x.holding) k.is
 change_over n i b w c (Err e) k f g = change_refused b w i e f g
 
-pub read_over : (n i : ℕ) (b w : Record) (q : Read) (r : Result Held Refusal) → IfOk r (λ h. MakesRead n b q h.position h.reply w) → IfErr r (λ e. RefusesRead b i e w) → IfErr r IsNotBusy → w.holding ≡ None
+pub read_over : (n i : ℕ) (b w : Record) (q : Read) (r : Result Held Refusal) → IfOk r (λ h. MakesRead n b q (position_of h) (reply_of h) w) → IfErr r (λ e. RefusesRead b i e w) → IfErr r IsNotBusy → w.holding ≡ None
 read_over n i b w q (Ok h) k f g = ap (λ (x : Record). x.holding) k.is
 read_over n i b w q (Err e) k f g = read_refused b w i e f g

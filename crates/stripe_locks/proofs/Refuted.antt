@@ -1,4 +1,5 @@
--- Laws: steps that the rule of the shared words allows no pass. Of each there is a table that the rule holds of, so that it isn't allowed there.
+-- Laws: what can't be. Steps that the rule of the shared words allows no pass: of each there is a table that the rule holds of, so that it isn't allowed there.
+-- And a release over other stripes than those on which the call was made.
 use Rattle.std.proofs.Common.{ℕ, ◌≡◌, ◌≢◌, ◌+◌, ◌<◌, ◌≤◌, ◌^◌, ◌==◌, ◌++◌, List, [], ◌∷◌, zero, suc, eqb, Bool, true, false, Option, Some, None, length, get_or, set, max, refl, arith, sym, ◌∙◌, ap, subst, length-set}
 use Rattle.std.specs.Prelude.{if◌then◌else◌}
 use Rattle.std.specs.List.{All}
@@ -22,6 +23,9 @@ use Rattle.one_history.specs.Interleaving.{steps_by}
 use Rattle.one_history.specs.Turns.{record_of, pass_step}
 use Rattle.one_history.specs.OneHistory.{IsTakenByAnother, StaysSo}
 use Rattle.one_history.proofs.Staying.{steps_stay}
+use Rattle.stripe_locks.specs.declared.held.Held.{Held}
+use Rattle.stripe_locks.specs.declared.stripes.Stripes.{Stripes}
+use Rattle.stripe_locks.specs.Holding.{IsHeldOf}
 use Rattle.stripe_locks.specs.Rule.{bit, IsSeated, Kept}
 use Rattle.stripe_locks.specs.Plays.{saw, lived}
 use Rattle.stripe_locks.proofs.Turning.{St, M, seated}
@@ -115,3 +119,7 @@ no_take_without_a_look o n id me s stripe k wide at range is_pass alone allows =
     let did = allows s k wide at range in
     let told : did.0 ≡ missing me.0 stripe = did.4.1 in
     finds_none_held o s k id me at 0 did.0 did.1 did.3 (ap (λ (r : Record). r.enrolled) told ∙ is_pass) me.0.steps stripe (ap (λ (r : Record). r.steps) told) alone
+
+-- A reply that is held over other stripes isn't one of these, as a release over these asks for.
+pub none_held_elsewhere : (s t : Stripes) (h : Held) → t.table.shared.table_id ≢ s.table.shared.table_id → IsHeldOf t h → IsHeldOf s h → ⊥
+none_held_elsewhere s t h apart there here = apart (sym there.own ∙ here.own)

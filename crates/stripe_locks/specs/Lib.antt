@@ -2,5 +2,6 @@ pub mod Rule
 pub mod Plays
 pub mod Placed
 pub mod Passes
+pub mod Holding
 pub mod Waits
 pub mod Fronts

@@ -5,13 +5,16 @@ ghost use Rattle.ticket_order.specs.Records.{reach};
 ghost use Rattle.ticket_order.specs.StepRules.{Looks};
 ghost use Rattle.ticket_order.specs.Calls.{MakesCall, MakesRead, RefusesChange, RefusesRead, Releases};
 ghost use Rattle.stripe_locks.specs.Passes.{recorded, stripe_count, IsPassOf, IsSamePass};
+ghost use Rattle.stripe_locks.specs.Holding.{answer_of, position_of, reply_of, IsHeldOf, StaysHeldOf};
 
 use crate::board::Board;
+use crate::held::{Held, Released};
 use crate::rule::Pass;
 use crate::stripes::Stripes;
 use map_types::{Command, Read, Refusal};
+use std::snapshot::Snapshot;
 use ticket_order;
-use ticket_order::{Held, Position, Released};
+use ticket_order::Position;
 
 impl Stripes {
     /// The stripes, lent to the pass for its next steps.
@@ -32,7 +35,8 @@ impl Stripes {
     pub fn try_call(&self, pass: &mut Pass, command: Command) -> Result<Held, Refusal>
         requires own { IsPassOf self.now pass.old }
         requires empty_handed { (recorded pass.old).holding ≡ None }
-        ensures made { IfOk result (λ held. MakesCall (stripe_count self.now) (recorded pass.old) command held.position held.reply (recorded pass.new)) }
+        ensures made { IfOk result (λ held. MakesCall (stripe_count self.now) (recorded pass.old) command (position_of held) (reply_of held) (recorded pass.new)) }
+        ensures held { IfOk result (IsHeldOf self.now) }
         ensures refused { IfErr result (λ refusal. RefusesChange (recorded pass.old) (stripe_of (stripe_count self.now) command.key) refusal (recorded pass.new)) }
         ensures empty_handed { (recorded pass.new).holding ≡ None }
         ensures same { IsSamePass pass.old pass.new }
@@ -41,14 +45,17 @@ impl Stripes {
             stripes: self,
             pass,
         };
-        ticket_order::try_call(&mut board, self.alloc, command)
+        let held = ticket_order::try_call(&mut board, self.alloc, command)?;
+        let maker = Snapshot::of(pass);
+        Ok(Held { held, maker })
     }
 
     /// Makes a read, unless another pass holds the stripe of its key: TAKE, ALIVE, LOOK, GIVE.
     pub fn try_read(&self, pass: &mut Pass, read: Read) -> Result<Held, Refusal>
         requires own { IsPassOf self.now pass.old }
         requires empty_handed { (recorded pass.old).holding ≡ None }
-        ensures made { IfOk result (λ held. MakesRead (stripe_count self.now) (recorded pass.old) read held.position held.reply (recorded pass.new)) }
+        ensures made { IfOk result (λ held. MakesRead (stripe_count self.now) (recorded pass.old) read (position_of held) (reply_of held) (recorded pass.new)) }
+        ensures held { IfOk result (IsHeldOf self.now) }
         ensures refused { IfErr result (λ refusal. RefusesRead (recorded pass.old) (stripe_of (stripe_count self.now) read.key) refusal (recorded pass.new)) }
         ensures empty_handed { (recorded pass.new).holding ≡ None }
         ensures same { IsSamePass pass.old pass.new }
@@ -57,7 +64,9 @@ impl Stripes {
             stripes: self,
             pass,
         };
-        ticket_order::try_read(&mut board, read)
+        let held = ticket_order::try_read(&mut board, read)?;
+        let maker = Snapshot::of(pass);
+        Ok(Held { held, maker })
     }
 
     /// The count of tickets, by a LOOK.
@@ -80,8 +89,7 @@ impl Stripes {
         position.number() <= self.look_at_count(pass)
     }
 
-    /// Gives the reply out where its position is durable. It takes no memory and doesn't wait.
-    pub fn release(&self, pass: &mut Pass, held: Held) -> Released
+    fn release_on(&self, pass: &mut Pass, held: ticket_order::Held) -> ticket_order::Released
         requires own { IsPassOf self.now pass.old }
         ensures released { Releases held.position held.reply (recorded pass.old) result (recorded pass.new) }
         ensures same { IsSamePass pass.old pass.new }
@@ -91,5 +99,21 @@ impl Stripes {
             pass,
         };
         ticket_order::release(&mut board, held)
+    }
+
+    /// Gives the reply out where its position is durable. It takes no memory and doesn't wait.
+    pub fn release(&self, pass: &mut Pass, held: Held) -> Released
+        requires own { IsPassOf self.now pass.old }
+        requires held { IsHeldOf self.now held }
+        ensures released { Releases (position_of held) (reply_of held) (recorded pass.old) (answer_of result) (recorded pass.new) }
+        ensures held { StaysHeldOf self.now result }
+        ensures same { IsSamePass pass.old pass.new }
+    {
+        let Held { held, maker } = held;
+        match self.release_on(pass, held) {
+            ticket_order::Released::Reply(position, reply) => Released::Reply(position, reply),
+            ticket_order::Released::NotYet(held) => Released::NotYet(Held { held, maker }),
+            ticket_order::Released::Failed => Released::Failed,
+        }
     }
 }

@@ -5,6 +5,7 @@ mod beginning;
 mod board;
 mod calls;
 mod fronts;
+mod held;
 mod parking;
 mod plays;
 mod rule;
@@ -15,5 +16,6 @@ mod waiting;
 
 pub use beginning::Beginning;
 pub use board::Board;
+pub use held::{Held, Released};
 pub use rule::{Pass, StripeRule};
 pub use stripes::Stripes;

@@ -4,18 +4,21 @@ ghost use Rattle.ticket_order.specs.declared.record.Record.{Record};
 ghost use Rattle.ticket_order.specs.Calls.{HasFound, IsNotBusy, MakesCall, MakesRead, RefusesChange, RefusesRead};
 ghost use Rattle.java_hash.specs.Stripes.{stripe_of};
 ghost use Rattle.stripe_locks.specs.Passes.{recorded, stripe_count, IsPassOf, IsSamePass};
+ghost use Rattle.stripe_locks.specs.Holding.{position_of, reply_of, IsHeldOf};
 ghost use Rattle.stripe_locks.specs.Waits.{TakesInTime, MakesCallInTime, MakesReadInTime, RefusesChangeInTime, RefusesReadInTime};
 
 use crate::board::Board;
+use crate::held::Held;
 use crate::rule::Pass;
 use crate::stripes::{FIRST_STRIPE, Stripes};
 use crossbeam_utils::Backoff;
 use java_hash::stripe_of;
 use map_types::{Command, Read, Refusal};
+use std::snapshot::Snapshot;
 use std::sync::Wait;
 use std::sync::atomic::Ordering;
 use ticket_order;
-use ticket_order::{Held, Stripe};
+use ticket_order::Stripe;
 
 /// How often a waiting thread looks at a stripe's word before it sleeps.
 const MOST_LOOKS: u32 = 16;
@@ -62,8 +65,9 @@ impl Stripes {
     fn call_on(&self, pass: &mut Pass, command: Command, content: Stripe) -> Result<Held, Refusal>
         requires own { IsPassOf self.now pass.old }
         requires found { (b : Record) × HasFound b (stripe_of (stripe_count self.now) command.key) content (recorded pass.old) }
-        ensures made { (b : Record) → HasFound b (stripe_of (stripe_count self.now) command.key) content (recorded pass.old) → IfOk result (λ held. MakesCall (stripe_count self.now) b command held.position held.reply (recorded pass.new)) }
+        ensures made { (b : Record) → HasFound b (stripe_of (stripe_count self.now) command.key) content (recorded pass.old) → IfOk result (λ held. MakesCall (stripe_count self.now) b command (position_of held) (reply_of held) (recorded pass.new)) }
         ensures refused { (b : Record) → HasFound b (stripe_of (stripe_count self.now) command.key) content (recorded pass.old) → IfErr result (λ refusal. RefusesChange b (stripe_of (stripe_count self.now) command.key) refusal (recorded pass.new)) }
+        ensures held { IfOk result (IsHeldOf self.now) }
         ensures not_busy { IfErr result IsNotBusy }
         ensures same { IsSamePass pass.old pass.new }
     {
@@ -71,14 +75,17 @@ impl Stripes {
             stripes: self,
             pass,
         };
-        ticket_order::call_on(&mut board, self.alloc, command, content)
+        let held = ticket_order::call_on(&mut board, self.alloc, command, content)?;
+        let maker = Snapshot::of(pass);
+        Ok(Held { held, maker })
     }
 
     fn read_on(&self, pass: &mut Pass, read: Read, content: Stripe) -> Result<Held, Refusal>
         requires own { IsPassOf self.now pass.old }
         requires found { (b : Record) × HasFound b (stripe_of (stripe_count self.now) read.key) content (recorded pass.old) }
-        ensures made { (b : Record) → HasFound b (stripe_of (stripe_count self.now) read.key) content (recorded pass.old) → IfOk result (λ held. MakesRead (stripe_count self.now) b read held.position held.reply (recorded pass.new)) }
+        ensures made { (b : Record) → HasFound b (stripe_of (stripe_count self.now) read.key) content (recorded pass.old) → IfOk result (λ held. MakesRead (stripe_count self.now) b read (position_of held) (reply_of held) (recorded pass.new)) }
         ensures refused { (b : Record) → HasFound b (stripe_of (stripe_count self.now) read.key) content (recorded pass.old) → IfErr result (λ refusal. RefusesRead b (stripe_of (stripe_count self.now) read.key) refusal (recorded pass.new)) }
+        ensures held { IfOk result (IsHeldOf self.now) }
         ensures not_busy { IfErr result IsNotBusy }
         ensures same { IsSamePass pass.old pass.new }
     {
@@ -86,7 +93,9 @@ impl Stripes {
             stripes: self,
             pass,
         };
-        ticket_order::read_on(&mut board, read, content)
+        let held = ticket_order::read_on(&mut board, read, content)?;
+        let maker = Snapshot::of(pass);
+        Ok(Held { held, maker })
     }
 
     /// Makes a change, once the stripe of its key is free: TAKE as often as it takes, ALIVE, LOOK,
@@ -94,7 +103,8 @@ impl Stripes {
     pub fn call<R: Wait>(&self, rt: &R, pass: &mut Pass, command: Command) -> Result<Held, Refusal>
         requires own { IsPassOf self.now pass.old }
         requires empty_handed { (recorded pass.old).holding ≡ None }
-        ensures made { IfOk result (λ held. MakesCallInTime (stripe_count self.now) (recorded pass.old) command held.position held.reply (recorded pass.new)) }
+        ensures made { IfOk result (λ held. MakesCallInTime (stripe_count self.now) (recorded pass.old) command (position_of held) (reply_of held) (recorded pass.new)) }
+        ensures held { IfOk result (IsHeldOf self.now) }
         ensures refused { IfErr result (λ refusal. RefusesChangeInTime (recorded pass.old) (stripe_of (stripe_count self.now) command.key) refusal (recorded pass.new)) }
         ensures empty_handed { (recorded pass.new).holding ≡ None }
         ensures same { IsSamePass pass.old pass.new }
@@ -108,7 +118,8 @@ impl Stripes {
     pub fn read<R: Wait>(&self, rt: &R, pass: &mut Pass, read: Read) -> Result<Held, Refusal>
         requires own { IsPassOf self.now pass.old }
         requires empty_handed { (recorded pass.old).holding ≡ None }
-        ensures made { IfOk result (λ held. MakesReadInTime (stripe_count self.now) (recorded pass.old) read held.position held.reply (recorded pass.new)) }
+        ensures made { IfOk result (λ held. MakesReadInTime (stripe_count self.now) (recorded pass.old) read (position_of held) (reply_of held) (recorded pass.new)) }
+        ensures held { IfOk result (IsHeldOf self.now) }
         ensures refused { IfErr result (λ refusal. RefusesReadInTime (recorded pass.old) (stripe_of (stripe_count self.now) read.key) refusal (recorded pass.new)) }
         ensures empty_handed { (recorded pass.new).holding ≡ None }
         ensures same { IsSamePass pass.old pass.new }

@@ -3,6 +3,7 @@ use Rattle.std.proofs.lemmas.Result.{IfOk-weaker}
 use Rattle.java_hash.specs.Stripes.{stripe_of}
 use Rattle.ticket_order.specs.Calls.{IsNotBusy, MakesRead, RefusesRead}
 use Rattle.stripe_locks.specs.Passes.{recorded, stripe_count}
+use Rattle.stripe_locks.specs.Holding.{position_of, reply_of}
 use Rattle.stripe_locks.specs.Waits.{TakesInTime}
 use Rattle.stripe_locks.proofs.Misses.{read_in_time, found_in_time, err_both, read_over}
 use Rattle.stripe_locks.proofs.stripes.Stripes.read.Goals as goal
@@ -17,7 +18,7 @@ pub returns-clause-made : goal.returns-clause-made
 returns-clause-made g c =
     let at : c.stripe_of-stripe.result ≡ stripe_of (stripe_count c.args.self.now) c.args.read.key = search rules in
     let k = subst (λ (i : ℕ). TakesInTime (stripe_count c.args.self.now) (recorded c.args.pass.now) i c.take_in_time-content.result (recorded c.take_in_time-content.new.pass)) at c.take_in_time-content.ensures.step in
-    IfOk-weaker c.read_on.result (λ held. MakesRead (stripe_count c.args.self.now) k.waited c.args.read held.position held.reply (recorded c.read_on.new.pass)) _ (λ held m. read_in_time _ _ _ _ _ _ _ _ k m) (c.read_on.ensures.made k.waited (found_in_time _ _ _ _ _ k))
+    IfOk-weaker c.read_on.result (λ held. MakesRead (stripe_count c.args.self.now) k.waited c.args.read (position_of held) (reply_of held) (recorded c.read_on.new.pass)) _ (λ held m. read_in_time _ _ _ _ _ _ _ _ k m) (c.read_on.ensures.made k.waited (found_in_time _ _ _ _ _ k))
 
 pub returns-clause-refused : goal.returns-clause-refused
 returns-clause-refused g c =
