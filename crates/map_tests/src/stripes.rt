@@ -1,16 +1,18 @@
 //! Several passes, and several threads, on the same stripes.
-ghost use Rattle.std.specs.Prelude.{◌≡◌, ◌<◌, None, false, true};
+ghost use Rattle.std.specs.Prelude.{◌≡◌, ◌<◌, None, IfOk, false, true};
+ghost use Rattle.std.specs.List.{All};
+ghost use Rattle.stripe_locks.specs.Holding.{IsHeldOf};
 ghost use Rattle.stripe_locks.specs.Passes.{recorded, stripe_count, IsPassOf};
 
 use java_hash::StripeCount;
 use map_types::{Change, Command, Func, Key, Question, Read, Refusal, Reply, Value};
 use one_history::empty_parts;
-use std::alloc::Global;
+use std::alloc::{AllocError, Global};
 use std::process::Abort;
 use std::sync::Wait;
-use std::thread::{join, map_indices};
-use stripe_locks::{Pass, Stripes};
-use ticket_order::{Held, Position, Released, Steps};
+use std::thread::{Threads, join, map_indices};
+use stripe_locks::{Held, Pass, Released, Stripes};
+use ticket_order::{Position, Steps};
 
 const CALLS: u64 = 1000;
 
@@ -270,13 +272,26 @@ fn add_one(alloc: Global) -> Result<Command, Refusal> {
     })
 }
 
-fn add_often<R: Wait>(rt: &R, stripes: &Stripes, alloc: Global) -> Result<Held, Refusal> {
+fn add_often<R: Wait>(rt: &R, stripes: &Stripes, alloc: Global) -> Result<Held, Refusal>
+    ensures { IfOk result (IsHeldOf stripes.now) }
+{
     let mut pass = stripes.pass()?;
     let mut last = stripes.call(rt, &mut pass, add_one(alloc)?)?;
     for _turn in 1..ADDITIONS {
         last = stripes.call(rt, &mut pass, add_one(alloc)?)?;
     }
     Ok(last)
+}
+
+// What eight threads come to that add each.
+fn add_from_eight<R: Threads + Wait + Sync>(
+    rt: &R,
+    stripes: &Stripes,
+    alloc: Global,
+) -> Result<Vec<Result<Held, Refusal>>, AllocError>
+    ensures { IfOk result (λ all. All (λ answer. IfOk answer (IsHeldOf stripes.now)) all.items) }
+{
+    map_indices(rt, alloc, 8, &|_thread| add_often(rt, stripes, alloc))
 }
 
 // The reply's number, where its position is the same.
@@ -309,6 +324,7 @@ fn publish_all(stripes: &Stripes, keeper: &mut Pass) -> u64
 // The sum that is held, where it stands at the position of the same number.
 fn sum_of(stripes: &Stripes, pass: &mut Pass, held: Result<Held, Refusal>) -> Option<u64>
     requires own { IsPassOf stripes.now pass.old }
+    requires held { IfOk held (IsHeldOf stripes.now) }
     ensures own { IsPassOf stripes.now pass.new }
 {
     match held {
@@ -320,6 +336,7 @@ fn sum_of(stripes: &Stripes, pass: &mut Pass, held: Result<Held, Refusal>) -> Op
 // The greatest of the sums, each of which stands at the position of the same number.
 fn greatest_of(stripes: &Stripes, pass: Pass, all: Vec<Result<Held, Refusal>>) -> Option<u64>
     requires own { IsPassOf stripes.now pass }
+    requires all { All (λ answer. IfOk answer (IsHeldOf stripes.now)) all.items }
 {
     let mut pass = pass;
     let mut greatest = 0;
@@ -334,7 +351,7 @@ fn eight_threads_add_to_one_key(rt: HostRuntime) -> Result<(), Refusal> {
     let alloc = rt.alloc();
     let stripes = Stripes::empty(alloc, sixteen(&rt))?;
     let mut keeper = stripes.pass()?;
-    let lasts = map_indices(&rt, alloc, 8, &|_thread| add_often(&rt, &stripes, alloc))?;
+    let lasts = add_from_eight(&rt, &stripes, alloc)?;
     assert!(rt; keeper.is_keeper());
     assert_eq!(rt; publish_all(&stripes, &mut keeper), 1600);
     assert_eq!(rt; greatest_of(&stripes, keeper, lasts), Some(1600));

@@ -1,5 +1,6 @@
 //! The calls of a running map, on threads beside its loops.
-ghost use Rattle.durable_map.specs.Maps.{IsReady};
+ghost use Rattle.std.specs.Prelude.{IfOk};
+ghost use Rattle.durable_map.specs.Maps.{IsHeldOf, IsReady};
 
 use disk_model::MemDisk;
 use durable_map::{DurableMap, Ends, flush_loop};
@@ -11,8 +12,7 @@ use std::process::Abort;
 use std::sync::Wait;
 use std::sync::atomic::{AtomicBool, AtomicU32, Ordering};
 use std::thread::join;
-use stripe_locks::Pass;
-use ticket_order::{Held, Released};
+use stripe_locks::{Held, Pass, Released};
 
 /// Ends the loops once a test has made its calls.
 #[derive(Drop)]
@@ -195,8 +195,9 @@ fn thirteen_calls_answer_once_they_are_durable(rt: HostRuntime) -> Result<(), Re
 
 // Whether what is held is durable, and the reply is this number, which is there now.
 fn gives(map: &DurableMap<MemDisk>, pass: &mut Pass, held: Held, wanted: i64) -> bool
-    requires { IsReady map.now pass.old }
-    ensures { IsReady map.now pass.new }
+    requires ready { IsReady map.now pass.old }
+    requires held { IsHeldOf map.now held }
+    ensures ready { IsReady map.now pass.new }
 {
     match map.release(pass, held) {
         Released::Reply(_, reply) => is_now(Ok(reply), wanted),
@@ -243,8 +244,9 @@ fn try_reads(
     pass: &mut Pass,
     alloc: Global,
 ) -> Result<(Held, Held), Refusal>
-    requires { IsReady map.now pass.old }
-    ensures { IsReady map.now pass.new }
+    requires ready { IsReady map.now pass.old }
+    ensures held { IfOk result (λ both. IsHeldOf map.now both.0 × IsHeldOf map.now both.1) }
+    ensures ready { IsReady map.now pass.new }
 {
     let _contained = position(map.try_contains_key(pass, key(alloc, "a")?)?);
     let default = map.try_get_or_default(pass, key(alloc, "b")?, Value::Int(6))?;
@@ -267,8 +269,10 @@ impl Ends for Turns {
 
 // What is held, which isn't durable.
 fn still_held(map: &DurableMap<MemDisk>, pass: &mut Pass, held: Held) -> Result<Held, Refusal>
-    requires { IsReady map.now pass.old }
-    ensures { IsReady map.now pass.new }
+    requires ready { IsReady map.now pass.old }
+    requires held { IsHeldOf map.now held }
+    ensures held { IfOk result (IsHeldOf map.now) }
+    ensures ready { IsReady map.now pass.new }
 {
     match map.release(pass, held) {
         Released::NotYet(held) => Ok(held),

@@ -1,5 +1,6 @@
 //! The running store over a directory of the system, with each of its loops on a thread of its own.
-ghost use Rattle.durable_map.specs.Maps.{IsReady};
+ghost use Rattle.std.specs.Prelude.{IfOk};
+ghost use Rattle.durable_map.specs.Maps.{IsHeldOf, IsReady};
 
 use crate::calls::Flag;
 use disk_model::{DirDisk, Disk, Unknown};
@@ -16,8 +17,7 @@ use std::test::Fail;
 use std::thread::Threads;
 use std::time::{Clock, Duration};
 use std::{fs, thread};
-use stripe_locks::Pass;
-use ticket_order::{Held, Released};
+use stripe_locks::{Held, Pass, Released};
 
 /// How many turns are waited at most, each of a millisecond.
 const MOST_TURNS: u32 = 10_000;
@@ -47,7 +47,8 @@ fn released_in_time<D: Disk + Drop, C: Clock>(
     pass: &mut Pass,
     held: Held,
 ) -> Option<(u64, Reply)>
-    requires { IsReady map.now pass.old }
+    requires ready { IsReady map.now pass.old }
+    requires held { IsHeldOf map.now held }
 {
     let mut waiting = held;
     for _turn in 0..MOST_TURNS {
@@ -87,8 +88,9 @@ fn put_and_get(
     pass: &mut Pass,
     alloc: Global,
 ) -> Result<Held, Fail>
-    requires { IsReady map.now pass.old }
-    ensures { IsReady map.now pass.new }
+    requires ready { IsReady map.now pass.old }
+    ensures held { IfOk result (IsHeldOf map.now) }
+    ensures ready { IsReady map.now pass.new }
 {
     let _put = map.try_put(pass, Key::new(alloc, "k")?, Value::Int(1))?;
     let held = map.try_get(pass, Key::new(alloc, "k")?)?;
@@ -106,13 +108,14 @@ fn run_both<D: Disk + Drop + Send, R: Clock + Files<File = File> + Threads + Wai
     held: Held,
     flag: &Flag,
 ) -> (Option<(u64, Reply)>, bool)
-    requires { IsReady map.now pass.old }
+    requires ready { IsReady map.now pass.old }
+    requires held { IsHeldOf map.now held }
 {
     thread::scope(
         thread::scope_env(),
         rt,
         |scope|
-            requires { IsReady map.now pass.now }
+            requires { IsReady map.now pass.now × IsHeldOf map.now held }
         {
             let flusher = scope.spawn(move || flush_loop(rt, map, flag));
             let keeper = scope.spawn(move || checkpoint_loop(rt, map, LOG_BYTES, flag));
