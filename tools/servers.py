@@ -153,6 +153,12 @@ def process(words, errors, limits=()):
                 child.wait()
 
 
+def first_line(child):
+    """What the process prints first; nothing where it prints nothing in time."""
+    ready, _, _ = select.select([child.stdout], [], [], START_SECONDS)
+    return child.stdout.readline() if ready else b""
+
+
 def init(program, directory):
     os.mkdir(directory)
     subprocess.run([program, "init", directory], check=True, stdout=subprocess.DEVNULL)
@@ -164,8 +170,7 @@ def dchm(program, directory, workers, words=(), limits=()):
     port, errors = free_port(), directory + ".errors"
     line = [program, "serve", directory, "--port", str(port), "--workers", str(workers), *words]
     with process(line, errors, limits) as child:
-        ready, _, _ = select.select([child.stdout], [], [], START_SECONDS)
-        said = child.stdout.readline() if ready else b""
+        said = first_line(child)
         if said != b"listening %d\n" % port:
             raise RuntimeError(f"dchm serve said {said!r}")
         yield child, port
