@@ -1,6 +1,5 @@
 use Rattle.std.specs.Prelude.{IfOk}
 use Rattle.std.specs.List.{All}
-use Rattle.std.specs.Result.{Result}
 use Rattle.std.specs.Vec.Iter.{into_iter_items}
 use Rattle.stripe_locks.specs.Holding.{IsHeldOf}
 use Rattle.stripe_locks.specs.Passes.{IsPassOf}
