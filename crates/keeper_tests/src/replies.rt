@@ -203,11 +203,16 @@ fn release_one(
     ensures waiting { All (IsHeldOf stripes.now) ends.new.waiting.items }
 {
     match stripes.release(worker, held) {
-        Released::Reply(_, _) => ends.replies = ends.replies.wrapping_add(1),
-        Released::NotYet(held) => ends.waiting.push(held)?,
-        Released::Failed => ends.failed = ends.failed.wrapping_add(1),
+        Released::Reply(_, _) => {
+            ends.replies = ends.replies.wrapping_add(1);
+            Ok(())
+        }
+        Released::NotYet(held) => Ok(ends.waiting.push(held)?),
+        Released::Failed => {
+            ends.failed = ends.failed.wrapping_add(1);
+            Ok(())
+        }
     }
-    Ok(())
 }
 
 fn release_all(
