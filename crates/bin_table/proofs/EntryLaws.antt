@@ -1,5 +1,5 @@
 -- The map of a list of entries, as entries are added and taken out.
-use Rattle.std.proofs.Common.{◌≡◌, ℕ, ◌+◌, Bool, true, false, cond, ◌||◌, is_some, Option, None, Some, List, [], ◌∷◌, length, refl, sym, ap, ◌∙◌, arith}
+use Rattle.std.proofs.Common.{◌≡◌, ℕ, ◌+◌, Bool, true, false, cond, is_some, Option, None, Some, List, [], ◌∷◌, length, refl, sym, ap, ◌∙◌, arith}
 use Rattle.std.specs.Ordering.{nat_cmp}
 use Rattle.std.specs.Cmp.Lexicographic.{slice_cmp, nat_list_cmp_total}
 use Rattle.std.specs.FinMap as finite
@@ -8,7 +8,6 @@ use Rattle.map_model.specs.Maps.{Map}
 use Rattle.map_model.proofs.EntryLaws.{map_of}
 use Rattle.bin_table.specs.Chains.{Entries, find_in, HasDistinctKeys}
 use Rattle.map_model.proofs.MapLaws.{ties, same_gets}
-use Rattle.bin_table.proofs.KeyLaws.{ties_itself}
 use Rattle.bin_table.proofs.DetachLaws.{detached, find-detached_all}
 
 pub get-map_of : (es : Entries) (q : List ℕ) → finite.get (map_of es) q ≡ find_in q es
