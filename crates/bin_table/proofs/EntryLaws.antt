@@ -5,8 +5,7 @@ use Rattle.std.specs.Cmp.Lexicographic.{slice_cmp, nat_list_cmp_total}
 use Rattle.std.specs.FinMap as finite
 use Rattle.map_types.specs.declared.texts.Value.{Value}
 use Rattle.map_model.specs.Maps.{Map}
-use Rattle.map_model.proofs.EntryLaws.{map_of}
-use Rattle.bin_table.specs.Chains.{Entries, find_in, HasDistinctKeys}
+use Rattle.bin_table.specs.Chains.{Entries, find_in, HasDistinctKeys, map_of}
 use Rattle.map_model.proofs.MapLaws.{ties, same_gets}
 use Rattle.bin_table.proofs.DetachLaws.{detached, find-detached_all}
 
