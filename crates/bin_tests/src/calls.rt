@@ -75,24 +75,24 @@ pub(crate) fn find(growing: &Growing, alloc: Global, text: &str) -> Result<Optio
 }
 
 /// The keys of a test, in byte order of their texts: "k00000", "k00001" and so on.
-pub(crate) fn key_text(alloc: Global, number: usize) -> Result<String, Refusal> {
+pub(crate) fn key_text(alloc: Global, number: u32) -> Result<String, Refusal> {
     Ok(format!(in alloc; "k{number:05}")?)
 }
 
 /// Maps so many keys, one after another, each to its number.
-pub(crate) fn put_all(growing: &mut Growing, alloc: Global, keys: usize) -> Result<(), Refusal> {
+pub(crate) fn put_all(growing: &mut Growing, alloc: Global, keys: u32) -> Result<(), Refusal> {
     for number in 0..keys {
         let text = key_text(alloc, number)?;
-        put(growing, alloc, text.as_str(), number as i64)?;
+        put(growing, alloc, text.as_str(), i64::from(number))?;
     }
     Ok(())
 }
 
 /// Whether each of so many keys is mapped to its number.
-pub(crate) fn has_all(growing: &Growing, alloc: Global, keys: usize) -> Result<bool, Refusal> {
+pub(crate) fn has_all(growing: &Growing, alloc: Global, keys: u32) -> Result<bool, Refusal> {
     for number in 0..keys {
         let text = key_text(alloc, number)?;
-        if find(growing, alloc, text.as_str())? != Some(number as i64) {
+        if find(growing, alloc, text.as_str())? != Some(i64::from(number)) {
             return Ok(false);
         }
     }

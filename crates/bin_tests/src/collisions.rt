@@ -32,15 +32,15 @@ fn full(alloc: Global) -> Result<Growing, Refusal> {
     Ok(growing)
 }
 
-// Whether each key with this lowest bit is mapped to its number, or none.
+// Whether each key with an even or an odd number is mapped to its number, or none.
 fn are_found(
     growing: &Growing,
     alloc: Global,
-    lowest: u32,
+    is_odd: bool,
     is_mapped: bool,
 ) -> Result<bool, Refusal> {
     for half in 0..KEYS / 2 {
-        let number = 2 * half + lowest;
+        let number = 2 * half + u32::from(is_odd);
         let expected = is_mapped.then_some(i64::from(number));
         if find(growing, alloc, pairs(alloc, number)?.as_str())? != expected {
             return Ok(false);
@@ -71,8 +71,8 @@ fn all_are_found(alloc: Global) -> Result<bool, Refusal> {
     let growing = full(alloc)?;
     Ok(
         growing.len() == KEYS as usize
-            && are_found(&growing, alloc, 0, true)?
-            && are_found(&growing, alloc, 1, true)?,
+            && are_found(&growing, alloc, false, true)?
+            && are_found(&growing, alloc, true, true)?,
     )
 }
 
@@ -82,8 +82,8 @@ fn even_are_left(alloc: Global) -> Result<bool, Refusal> {
     remove_odd(&mut growing, alloc)?;
     Ok(
         growing.len() == KEYS as usize / 2
-            && are_found(&growing, alloc, 0, true)?
-            && are_found(&growing, alloc, 1, false)?,
+            && are_found(&growing, alloc, false, true)?
+            && are_found(&growing, alloc, true, false)?,
     )
 }
 

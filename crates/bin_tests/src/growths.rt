@@ -5,14 +5,14 @@ use bin_transfer::Growing;
 use map_types::Refusal;
 use std::alloc::Global;
 
-fn grown(alloc: Global, keys: usize) -> Result<Growing, Refusal> {
+fn grown(alloc: Global, keys: u32) -> Result<Growing, Refusal> {
     let mut growing = empty(alloc)?;
     put_all(&mut growing, alloc, keys)?;
     Ok(growing)
 }
 
 // The bins, and whether a growth runs, after so many new keys.
-fn seen(alloc: Global, keys: usize) -> Result<(usize, bool), Refusal> {
+fn seen(alloc: Global, keys: u32) -> Result<(usize, bool), Refusal> {
     let growing = grown(alloc, keys)?;
     Ok((growing.bins(), growing.is_growing()))
 }
@@ -75,7 +75,7 @@ fn changes_reach_both_tables(alloc: Global) -> Result<bool, Refusal> {
     let mut growing = grown(alloc, 49)?;
     for number in 0..3 {
         let text = key_text(alloc, number)?;
-        if put(&mut growing, alloc, text.as_str(), number as i64)? != Some(number as i64) {
+        if put(&mut growing, alloc, text.as_str(), i64::from(number))? != Some(i64::from(number)) {
             return Ok(false);
         }
     }
@@ -88,7 +88,7 @@ fn changes_while_a_growth_runs(rt: HostRuntime) {
 }
 
 // How many old bins each of five helps moves, of a growth that starts after so many new keys.
-fn helped(alloc: Global, keys: usize) -> Result<[usize; 5], Refusal> {
+fn helped(alloc: Global, keys: u32) -> Result<[usize; 5], Refusal> {
     let mut growing = grown(alloc, keys)?;
     if growing.is_growing() || growing.bins() >= MOST_BINS {
         return Ok([0; 5]);

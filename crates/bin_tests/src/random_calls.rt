@@ -6,7 +6,7 @@ use bin_transfer::Growing;
 use map_types::{Key, Refusal, Value};
 use std::alloc::Global;
 
-const KEYS: usize = 4_000;
+const KEYS: u32 = 4_000;
 
 const CALLS: u32 = 20_000;
 
@@ -17,7 +17,7 @@ struct Numbers {
 }
 
 impl Numbers {
-    fn below(&mut self, bound: usize) -> usize
+    fn below(&mut self, bound: u32) -> u32
         requires { 0 < bound }
         ensures { result < bound }
     {
@@ -25,7 +25,7 @@ impl Numbers {
             .state
             .wrapping_mul(6_364_136_223_846_793_005)
             .wrapping_add(1_442_695_040_888_963_407);
-        (self.state >> 33) as usize % bound
+        (self.state >> 33) as u32 % bound
     }
 }
 
@@ -38,7 +38,7 @@ fn is_alike(
 ) -> Result<bool, Refusal> {
     let number = numbers.below(KEYS);
     let text = key_text(alloc, number)?;
-    let Some(slot) = plain.get_mut(number) else {
+    let Some(slot) = plain.get_mut(number as usize) else {
         return Ok(false);
     };
     let expected = *slot;
@@ -49,7 +49,7 @@ fn is_alike(
             remove(growing, alloc, text.as_str())?
         }
         _ => {
-            let value = numbers.below(KEYS) as i64;
+            let value = i64::from(numbers.below(KEYS));
             *slot = Some(value);
             put(growing, alloc, text.as_str(), value)?
         }
@@ -88,7 +88,7 @@ fn call_often(
 fn is_entry(
     entry: Option<&(Key, Value)>,
     alloc: Global,
-    number: usize,
+    number: u32,
     value: i64,
 ) -> Result<bool, Refusal> {
     let text = key_text(alloc, number)?;
@@ -108,8 +108,8 @@ fn has_entries(
 ) -> Result<bool, Refusal> {
     let entries = growing.entries_sorted(alloc)?;
     let mut rest = entries.iter();
-    for (number, value) in plain.iter().enumerate() {
-        if let Some(value) = value {
+    for number in 0..KEYS {
+        if let Some(Some(value)) = plain.get(number as usize) {
             if !is_entry(rest.next(), alloc, number, *value)? {
                 return Ok(false);
             }
@@ -120,7 +120,7 @@ fn has_entries(
 
 fn called(alloc: Global) -> Result<(Counts, bool), Refusal> {
     let mut growing = empty(alloc)?;
-    let mut plain = Vec::from_elem(alloc, None, KEYS)?;
+    let mut plain = Vec::from_elem(alloc, None, KEYS as usize)?;
     let counts = call_often(&mut growing, &mut plain, alloc)?;
     Ok((counts, has_entries(&growing, &plain, alloc)?))
 }

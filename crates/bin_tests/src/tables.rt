@@ -90,7 +90,7 @@ fn two_keys_of_one_bin(rt: HostRuntime) {
     );
 }
 
-fn made_again(alloc: Global, keys: usize) -> Result<Growing, Refusal> {
+fn made_again(alloc: Global, keys: u32) -> Result<Growing, Refusal> {
     let mut growing = empty(alloc)?;
     put_all(&mut growing, alloc, keys)?;
     let entries = growing.entries_sorted(alloc)?;
@@ -98,9 +98,9 @@ fn made_again(alloc: Global, keys: usize) -> Result<Growing, Refusal> {
 }
 
 // The bins of a map of so many entries, whether a growth runs, and whether all are found.
-fn made_bins(alloc: Global, keys: usize) -> Result<(usize, bool, bool), Refusal> {
+fn made_bins(alloc: Global, keys: u32) -> Result<(usize, bool, bool), Refusal> {
     let growing = made_again(alloc, keys)?;
-    let has_all = growing.len() == keys && has_all(&growing, alloc, keys)?;
+    let has_all = growing.len() == keys as usize && has_all(&growing, alloc, keys)?;
     Ok((growing.bins(), growing.is_growing(), has_all))
 }
 
