@@ -5,6 +5,7 @@ ghost use Rattle.bin_table.specs.Tables.{IsBinCount};
 use crate::calls::{empty, has_all, node, number_of, put_all, spread_of, stripes};
 use bin_table::Bins;
 use bin_transfer::Growing;
+use java_hash::stripe_of;
 use map_types::{Key, Refusal, Value};
 use std::alloc::Global;
 
@@ -12,24 +13,24 @@ fn eight_bins(alloc: Global) -> Result<Bins, Refusal> {
     Ok(Bins::new(alloc, stripes(16)?, 8)?)
 }
 
-// The bin of the key among 8 of one of 16 stripes.
-fn bin_of_key(alloc: Global, text: &str) -> Result<usize, Refusal> {
+// The stripe of the key among 16, and its bin among 8 of that stripe.
+fn place_of(alloc: Global, text: &str) -> Result<(usize, usize), Refusal> {
     let table = eight_bins(alloc)?;
     let key = Key::new(alloc, text)?;
-    Ok(table.bin(spread_of(&key)))
+    Ok((stripe_of(text, stripes(16)?), table.bin(spread_of(&key))))
 }
 
 #[test]
-fn bins_of_keys(rt: HostRuntime) {
-    for (text, bin) in [
-        ("a", 6),
-        ("Aa", 4),
-        ("BB", 4),
-        ("hello", 3),
-        ("polygenelubricants", 0),
-        ("\u{1F600}", 7),
+fn stripes_and_bins_of_keys(rt: HostRuntime) {
+    for (text, stripe, bin) in [
+        ("a", 1, 6),
+        ("Aa", 0, 4),
+        ("BB", 0, 4),
+        ("hello", 11, 3),
+        ("polygenelubricants", 0, 0),
+        ("\u{1F600}", 8, 7),
     ] {
-        assert_eq!(rt; bin_of_key(rt.alloc(), text), Ok(bin), "bin of {text}");
+        assert_eq!(rt; place_of(rt.alloc(), text), Ok((stripe, bin)), "{text}");
     }
 }
 
