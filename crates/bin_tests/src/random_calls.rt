@@ -57,7 +57,7 @@ fn is_alike(
     Ok(answer == expected)
 }
 
-/// What came of the calls: how many answered as the vector, and after how many a growth was running.
+/// How many calls answered as the vector, and after how many a growth was running.
 #[derive(Clone, Copy)]
 struct Counts {
     alike: u32,
