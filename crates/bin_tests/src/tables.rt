@@ -91,6 +91,34 @@ fn two_keys_of_one_bin(rt: HostRuntime) {
     );
 }
 
+// The entry at the place has this key and this number.
+fn stands_at(entries: &[(Key, Value)], place: usize, text: &str, number: i64) -> bool {
+    match entries.get(place) {
+        Some(entry) => entry.0.as_str() == text && number_of(Some(&entry.1)) == Some(number),
+        None => false,
+    }
+}
+
+fn sorted(alloc: Global) -> Result<bool, Refusal> {
+    let mut table = eight_bins(alloc)?;
+    set(&mut table, alloc, "hello", 1)?;
+    set(&mut table, alloc, "BB", 2)?;
+    set(&mut table, alloc, "Aa", 3)?;
+    let all = table.entries_sorted(alloc)?;
+    let entries = all.as_slice();
+    Ok(
+        entries.len() == 3
+            && stands_at(entries, 0, "Aa", 3)
+            && stands_at(entries, 1, "BB", 2)
+            && stands_at(entries, 2, "hello", 1),
+    )
+}
+
+#[test]
+fn entries_in_byte_order(rt: HostRuntime) {
+    assert_eq!(rt; sorted(rt.alloc()), Ok(true));
+}
+
 fn made_again(alloc: Global, keys: u32) -> Result<Growing, Refusal> {
     let mut growing = empty(alloc)?;
     put_all(&mut growing, alloc, keys)?;

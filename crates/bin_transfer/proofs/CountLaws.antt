@@ -4,8 +4,7 @@ use Rattle.std.proofs.Math.Nat.{pow-succ'}
 use Rattle.std.proofs.Math.Pow.{pow_mono}
 use Rattle.std.proofs.lemmas.Bool.{cases_lt}
 use Rattle.std.proofs.lemmas.Nat.{pow_pos}
-use Rattle.bin_table.specs.declared.bins.TheConstants.{MOST_BINS}
-use Rattle.bin_table.specs.Tables.{IsBinCount}
+use Rattle.bin_table.specs.Tables.{IsBinCount, most_bins}
 use Rattle.bin_transfer.specs.Due.{due_from}
 
 -- of two different powers of two the greater is at least twice the other
@@ -16,11 +15,11 @@ twice_at_least a b i j is_a is_b below =
       | inr le ↦ let down : 2 ^ j ≤ 2 ^ i = pow_mono le in absurd (omega arith)
     ]
 
-pub double : (m : ℕ) → IsBinCount m → m < MOST_BINS → IsBinCount (2 * m)
+pub double : (m : ℕ) → IsBinCount m → m < most_bins → IsBinCount (2 * m)
 double m count below = record {
   exponent = suc count.exponent;
   power = ap (λ n. 2 * n) count.power ∙ sym (pow-succ' 2 count.exponent);
-  within = twice_at_least m MOST_BINS count.exponent 20 count.power refl below;
+  within = twice_at_least m most_bins count.exponent 20 count.power refl below;
 }
 
 pub some_bins : (m : ℕ) → IsBinCount m → 0 < m
