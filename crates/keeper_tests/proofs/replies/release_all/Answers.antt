@@ -11,4 +11,4 @@ loop-held-preserved c =
     let left = into_iter_items c.next.new.self in
     let front : into_iter_items c.loop-held.held-iterator ≡ c.in-Some.held ∷ left = search rules in
     let own : IsPassOf c.args.stripes.now c.release_one.new.worker = search rules in
-    (own, All-tail (IsHeldOf c.args.stripes.now) c.in-Some.held left (subst (All (IsHeldOf c.args.stripes.now)) front c.loop-held.invariant.1.0), c.release_one.ensures.waiting)
+    (own, All-tail (IsHeldOf c.args.stripes.now) c.in-Some.held left (subst (All (IsHeldOf c.args.stripes.now)) front c.loop-held.invariant.1), c.release_one.ensures.waiting)
