@@ -37,9 +37,12 @@ CannotFormat states failures honest old new refusal =
     ((refusal ≡ Failed) × (failures new ≡ failures old + 1))
     ⊎ ((refusal ≡ NoMemory) ⊎ ((refusal ≡ AlreadyFormatted) × (honest new → IsFormatted (contents_of states old))))
 
--- whatever a stop leaves now stands for the empty map, and the line says how many stripes it has
-pub record IsMade {D : Type 0} (states : D → List Files) (honest : D → Type 0) (stripes : ℕ) (new : D) (w0 w1 : Option (List ℕ)) (status : ℕ) : Type 0 where
-  pub stands : honest new → AtStops IsNew (now (states new))
+-- The disk wasn't formatted before and no device call failed; whatever a stop leaves now is a new store of so many stripes, and the line names that
+-- number.
+pub record IsMade {D : Type 0} (states : D → List Files) (failures : D → ℕ) (honest : D → Type 0) (stripes : ℕ) (old new : D) (w0 w1 : Option (List ℕ)) (status : ℕ) : Type 0 where
+  pub unformatted : honest new → IsUnformatted (contents_of states old)
+  pub unfailing : failures new ≡ failures old
+  pub stands : honest new → AtStops (IsNew stripes) (now (states new))
   pub prints : Prints (formatted_line stripes) w0 w1 status
 
 -- formatting was refused for a reason, and but for a device failure nothing was written
@@ -49,11 +52,11 @@ pub record IsNotMade {D : Type 0} (states : D → List Files) (failures : D → 
   pub untouched : refusal ≢ Failed → (new ≡ old) ⊎ SyncsAndLooks states failures honest 2 0 old new
   pub prints : PrintsNothing w0 w1 status
 
--- The disk was formatted, or it was refused. At every moment a stop leaves it unformatted or standing for the empty map, where it was unformatted before.
+-- The disk was formatted for so many stripes, or it was refused. At every moment a stop leaves it unformatted or a new store of so many, if it was unformatted before.
 pub record Formats {D : Type 0} (states : D → List Files) (failures : D → ℕ) (honest : D → Type 0) (stripes : ℕ) (old new : D) (w0 w1 : Option (List ℕ)) (status : ℕ) : Type 0 where
   pub was_honest : honest new → honest old
-  pub moments : honest new → AtStops IsUnformatted (now (states old)) → AtEachMoment states old new (AtStops IsNewOrUnformatted)
-  pub ends : IsMade states honest stripes new w0 w1 status ⊎ IsNotMade states failures honest old new w0 w1 status
+  pub moments : honest new → AtStops IsUnformatted (now (states old)) → AtEachMoment states old new (AtStops (IsNewOrUnformatted stripes))
+  pub ends : IsMade states failures honest stripes old new w0 w1 status ⊎ IsNotMade states failures honest old new w0 w1 status
 
 -- ---- checking
 

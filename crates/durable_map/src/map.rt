@@ -1,5 +1,5 @@
 //! A running map.
-ghost use Rattle.std.specs.Prelude.{◌≡◌, ◌⊎◌, ℕ, None, [], IfOk, IfErr, IsTrue, ◌↔◌, ◌≤◌};
+ghost use Rattle.std.specs.Prelude.{◌≡◌, ◌⊎◌, ℕ, None, [], false, IfOk, IfErr, IsTrue, ◌↔◌, ◌≤◌};
 ghost use Rattle.disk_model.specs.Files.{now};
 ghost use Rattle.ticket_order.specs.declared.record.Record.{Record};
 ghost use Rattle.ticket_order.specs.Records.{reach};
@@ -72,14 +72,19 @@ impl<D: Disk + Drop> DurableMap<D> {
         })
     }
 
-    /// A new pass, for one worker's calls. A pass isn't given back: where 4,095 were taken, the answer
-    /// is `SeatsSpent`.
+    /// A new pass, for one worker's calls: never the keeper's. A pass isn't given back: once 4,095 were
+    /// taken, `SeatsSpent` is returned.
     pub fn pass(&self) -> Result<Pass, Refusal>
         ensures ready { IfOk result (IsReady self.now) }
         ensures joins { IfOk result (Joins (opening_of self.now)) }
+        ensures worker { IfOk result (λ pass. (recorded pass).keeper ≡ false) }
         ensures err { IfErr result (λ refusal. refusal ≡ Refusal.SeatsSpent) }
     {
-        self.stripes.pass()
+        let pass = self.stripes.pass()?;
+        if pass.is_keeper() {
+            return Err(Refusal::SeatsSpent);
+        }
+        Ok(pass)
     }
 
     /// The count of tickets, by a LOOK.

@@ -14,19 +14,19 @@ use Rattle.stripe_locks.specs.Plays.{joining}
 use Rattle.flusher.specs.Fitting.{IsUnused}
 use Rattle.memory_map.specs.Maps.{CannotOpen, failed, forgotten}
 
-module _ {D : Type 0} (states : D → List Files) (failures : D → ℕ) (honest : D → Type 0) (disk mid left : D) where
+module _ {D : Type 0} (states : D → List Files) (failures : D → ℕ) (honest : D → Type 0) (stripes : ℕ) (disk mid left : D) where
   counted : (refusal : Refusal) → Stopped states failures honest 4 mid left refusal → failures left ≡ failures mid + failed_in {X = ℕ} (Err refusal)
   counted refusal (inl stopped) = subst (λ r. failures left ≡ failures mid + failed_in {X = ℕ} (Err r)) (sym stopped.0) stopped.1.counted
   counted refusal (inr looked) = looked.looks.failed_so ∙ ap (λ n. n + failed_in {X = ℕ} (Err refusal)) looked.synced.counted
 
   pub cannot_open : NeverBoth → failures mid ≡ failures disk → (refusal : Refusal) → Stopped states failures honest 4 mid left refusal
-      → RefusesFor (Refuses (contents_of states mid) refusal) refusal → IsNew (contents_of states mid) → CannotOpen states failures disk refusal left
+      → RefusesFor (Refuses (contents_of states mid) refusal) refusal → IsNew stripes (contents_of states mid) → CannotOpen states failures disk refusal left
   cannot_open law same refusal stopped (inl e) new =
       failed e (subst (λ r. failures left ≡ failures mid + failed_in {X = ℕ} (Err r)) e (counted refusal stopped) ∙ ap (λ n. n + 1) same)
   cannot_open law same refusal stopped (inr (inl e)) new =
       let count : failures left ≡ failures mid + 0 = subst (λ r. failures left ≡ failures mid + failed_in {X = ℕ} (Err r)) e (counted refusal stopped) in
       forgotten e (omega (arith, count, same))
-  cannot_open law same refusal stopped (inr (inr bad)) new = absurd (law (contents_of states mid) 0 finite.empty refusal new bad)
+  cannot_open law same refusal stopped (inr (inr bad)) new = absurd (law (contents_of states mid) 0 finite.empty refusal new.stands bad)
 
 pub if_ok : {X E : Type 0} (P Q : X → Type 0) (r : Result X E) → ((x : X) → P x → Q x) → IfOk r P → IfOk r Q
 if_ok P Q (Ok x) f p = f x p

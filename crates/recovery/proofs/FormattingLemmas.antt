@@ -84,8 +84,8 @@ module _ (P : Contents → Type 0) where
         goes_on states old mid new (AtStops P) so_far
         (weaker states mid new (λ files. files ≡ now (states mid)) (AtStops P) (λ files e. subst (AtStops P) (sym e) (in_the_end states old mid (AtStops P) so_far)) look.same)
 
-pub starts : (files : Files) → AtStops IsUnformatted files → AtStops IsNewOrUnformatted files
-starts files at contents leaves = inl (at contents leaves)
+pub starts : (stripes : ℕ) (files : Files) → AtStops IsUnformatted files → AtStops (IsNewOrUnformatted stripes) files
+starts stripes files at contents leaves = inl (at contents leaves)
 
 -- ---- no checkpoint is sealed
 

@@ -30,22 +30,22 @@ two_zero = λ e. absurd cc
 same_file : (P : List ℕ → Type 0) (a b : File) → b ≡ a → Leave P a → Leave P b
 same_file P a b e may = subst (λ (file : File). Leave P file) (sym e) may
 
-none_sealed : (files : Files) → Leave Unsealed (files 0) → Leave Unsealed (files 1) → AtStops IsNewOrUnformatted files
-none_sealed files first second contents leaves = inl (first (contents 0) (leaves 0 (omega arith)), second (contents 1) (leaves 1 (omega arith)))
+none_sealed : (stripes : ℕ) (files : Files) → Leave Unsealed (files 0) → Leave Unsealed (files 1) → AtStops (IsNewOrUnformatted stripes) files
+none_sealed stripes files first second contents leaves = inl (first (contents 0) (leaves 0 (omega arith)), second (contents 1) (leaves 1 (omega arith)))
 
 pub shut_on : {D : Type 0} (states : D → List Files) (one two : D) → IsShut [] [] (now (states one) 0) → AtEachMoment states one two (Others (now (states one))) → IsShut [] [] (now (states two) 0)
 shut_on states one two shut beginning =
     let there = in_the_end states one two (Others (now (states one))) beginning in
     subst (λ (file : File). IsShut [] [] file) (sym (there 0 zero_two)) shut
 
-module _ {D : Type 0} (states : D → List Files) (old one : D) (clear : IsClear (now (states old))) (closing : AtEachMoment states old one (OneFile 0 Unsealed (now (states old)))) where
+module _ {D : Type 0} (states : D → List Files) (stripes : ℕ) (old one : D) (clear : IsClear (now (states old))) (closing : AtEachMoment states old one (OneFile 0 Unsealed (now (states old)))) where
   abbrev pub Moments : D → Type 0
-  Moments new = AtEachMoment states old new (AtStops IsNewOrUnformatted)
+  Moments new = AtEachMoment states old new (AtStops (IsNewOrUnformatted stripes))
 
   pub closing_moments : Moments one
   closing_moments =
-      weaker states old one (OneFile 0 Unsealed (now (states old))) (AtStops IsNewOrUnformatted)
-      (λ files o. none_sealed files o.leaves (same_file Unsealed (now (states old) 1) (files 1) (o.others 1 one_zero) clear.second)) closing
+      weaker states old one (OneFile 0 Unsealed (now (states old))) (AtStops (IsNewOrUnformatted stripes))
+      (λ files o. none_sealed stripes files o.leaves (same_file Unsealed (now (states old) 1) (files 1) (o.others 1 one_zero) clear.second)) closing
 
   second_at_one : Leave Unsealed (now (states one) 1)
   second_at_one = let there = in_the_end states old one (OneFile 0 Unsealed (now (states old))) closing in same_file Unsealed (now (states old) 1) (now (states one) 1) (there.others 1 one_zero) clear.second
@@ -53,9 +53,9 @@ module _ {D : Type 0} (states : D → List Files) (old one : D) (clear : IsClear
   module _ (two : D) (shut : IsShut [] [] (now (states one) 0)) (beginning : AtEachMoment states one two (Others (now (states one)))) where
     pub beginning_moments : Moments two
     beginning_moments =
-        goes_on states old one two (AtStops IsNewOrUnformatted) closing_moments
-        (weaker states one two (Others (now (states one))) (AtStops IsNewOrUnformatted)
-        (λ files o. none_sealed files (same_file Unsealed (now (states one) 0) (files 0) (o 0 zero_two) (shut_stays [] (now (states one) 0) shut))
+        goes_on states old one two (AtStops (IsNewOrUnformatted stripes)) closing_moments
+        (weaker states one two (Others (now (states one))) (AtStops (IsNewOrUnformatted stripes))
+        (λ files o. none_sealed stripes files (same_file Unsealed (now (states one) 0) (files 0) (o 0 zero_two) (shut_stays [] (now (states one) 0) shut))
         (same_file Unsealed (now (states one) 1) (files 1) (o 1 one_two) second_at_one)) beginning)
 
     there : Others (now (states one)) (now (states two))
@@ -64,23 +64,24 @@ module _ {D : Type 0} (states : D → List Files) (old one : D) (clear : IsClear
     second_at_two : Leave Unsealed (now (states two) 1)
     second_at_two = same_file Unsealed (now (states one) 1) (now (states two) 1) (there 1 one_two) second_at_one
 
-    module _ (log : (content : List ℕ) → MayLeave (now (states two) 2) content → IsClosed first_layout 0 0 [] content) (stripes : ℕ) (whole : is_stripe_count stripes ≡ true) (bytes : List ℕ)
+    module _ (log : (content : List ℕ) → MayLeave (now (states two) 2) content → IsClosed first_layout 0 0 [] content) (whole : is_stripe_count stripes ≡ true) (bytes : List ℕ)
         (are : bytes ≡ checkpoint_bytes first_layout (first_checkpoint stripes)) where
-      stands : (contents : Contents) (rest : List ℕ) → contents 0 ≡ 165 ∷ (bytes ++ rest) → MayLeave (now (states two) 1) (contents 1) → MayLeave (now (states two) 2) (contents 2) → IsNew contents
+      stands : (contents : Contents) (rest : List ℕ) → contents 0 ≡ 165 ∷ (bytes ++ rest) → MayLeave (now (states two) 1) (contents 1) → MayLeave (now (states two) 2) (contents 2) → IsNew stripes contents
       stands contents rest e left_one left_two =
           let checkpoint : IsCheckpoint first_layout (first_checkpoint stripes) (contents 0) = record {
             rest = rest;
             bytes = e ∙ ap (λ (l : List ℕ). 165 ∷ (l ++ rest)) are;
             whole = (first_is_whole stripes whole).0;
           } in
-          first_stands contents stripes checkpoint (second_at_two (contents 1) left_one) (log (contents 2) left_two)
+          let stands = first_stands contents stripes checkpoint (second_at_two (contents 1) left_one) (log (contents 2) left_two) in
+          record { holds = stands.holds; stands = stands }
 
       pub sealing_moments : (new : D) → AtEachMoment states two new (OneFile 0 (IsSealedWith bytes) (now (states two))) → Moments new
       sealing_moments new sealing =
-          goes_on states old two new (AtStops IsNewOrUnformatted) beginning_moments
-          (weaker states two new (OneFile 0 (IsSealedWith bytes) (now (states two))) (AtStops IsNewOrUnformatted) each sealing)
+          goes_on states old two new (AtStops (IsNewOrUnformatted stripes)) beginning_moments
+          (weaker states two new (OneFile 0 (IsSealedWith bytes) (now (states two))) (AtStops (IsNewOrUnformatted stripes)) each sealing)
         where
-          each : (files : Files) → OneFile 0 (IsSealedWith bytes) (now (states two)) files → AtStops IsNewOrUnformatted files
+          each : (files : Files) → OneFile 0 (IsSealedWith bytes) (now (states two)) files → AtStops (IsNewOrUnformatted stripes) files
           each files o contents leaves =
               let left_one = subst (λ (file : File). MayLeave file (contents 1)) (o.others 1 one_zero) (leaves 1 (omega arith)) in
               let left_two = subst (λ (file : File). MayLeave file (contents 2)) (o.others 2 two_zero) (leaves 2 (omega arith)) in
@@ -90,7 +91,7 @@ module _ {D : Type 0} (states : D → List Files) (old one : D) (clear : IsClear
               ]
 
       pub new_in_the_end : (new : D) → AtEachMoment states two new (OneFile 0 (IsSealedWith bytes) (now (states two))) → ((content : List ℕ) → MayLeave (now (states new) 0) content → (rest : List ℕ) × (content ≡ 165 ∷ (bytes ++ rest)))
-          → AtStops IsNew (now (states new))
+          → AtStops (IsNew stripes) (now (states new))
       new_in_the_end new sealing sealed contents leaves =
           let o = in_the_end states two new (OneFile 0 (IsSealedWith bytes) (now (states two))) sealing in
           let left_one = subst (λ (file : File). MayLeave file (contents 1)) (o.others 1 one_zero) (leaves 1 (omega arith)) in

@@ -1,11 +1,9 @@
 -- What formatting a directory leaves.
-use Rattle.std.specs.Prelude.{◌≡◌, ◌≢◌, ◌⊎◌, ℕ, ◌==◌, true, false, if◌then◌else◌, List, [], ◌∷◌, ◌++◌}
+use Rattle.std.specs.Prelude.{◌≡◌, ◌≢◌, ◌⊎◌, ℕ, true, false, List, [], ◌∷◌, ◌++◌, None}
 use Rattle.std.specs.FinMap as finite
 use Rattle.disk_model.specs.Files.{Contents, File, Files, Leaves, MayLeave, at_rest}
-use Rattle.log_records.specs.Layout.{first_layout}
-use Rattle.store_layout.specs.Checkpoints.{checkpoint_bytes, is_sealed}
-use Rattle.store_layout.specs.Logs.{log_front}
-use Rattle.store_layout.specs.Opening.{StandsFor, first_checkpoint}
+use Rattle.store_layout.specs.Checkpoints.{is_sealed}
+use Rattle.store_layout.specs.Opening.{Holds, Opened, StandsFor, first_checkpoint}
 
 -- whatever a stop may leave of these files has P
 abbrev pub AtStops : (Contents → Type 0) → Files → Type 0
@@ -19,12 +17,17 @@ IsUnformatted contents = (is_sealed (contents 0) ≡ false) × (is_sealed (conte
 abbrev pub IsFormatted : Contents → Type 0
 IsFormatted contents = (is_sealed (contents 0) ≡ true) ⊎ (is_sealed (contents 1) ≡ true)
 
--- the files stand for no command and the empty map
-abbrev pub IsNew : Contents → Type 0
-IsNew contents = StandsFor contents 0 finite.empty
+-- what an opening finds in a new store of so many stripes: its first checkpoint, and no batch behind it
+abbrev pub first_opened : ℕ → Opened
+first_opened stripes = record { checkpoint = first_checkpoint stripes; first = []; second = None }
 
-abbrev pub IsNewOrUnformatted : Contents → Type 0
-IsNewOrUnformatted contents = IsUnformatted contents ⊎ IsNew contents
+-- the files hold what a new store of so many stripes does, and so stand for no command and the empty map
+pub record IsNew (stripes : ℕ) (contents : Contents) : Type 0 where
+  pub holds : Holds contents (first_opened stripes)
+  pub stands : StandsFor contents 0 finite.empty
+
+abbrev pub IsNewOrUnformatted : ℕ → Contents → Type 0
+IsNewOrUnformatted stripes contents = IsUnformatted contents ⊎ IsNew stripes contents
 
 -- the content is not sealed, or its gate is open and these bytes stand behind it
 abbrev pub IsSealedWith : List ℕ → List ℕ → Type 0

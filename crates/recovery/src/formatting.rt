@@ -38,9 +38,9 @@ fn make_store<D: Disk>(alloc: Global, disk: &mut D, bytes: &[u8]) -> Result<(), 
     ensures failed { IfErr result (λ refusal. refusal ≡ Refusal.Failed) }
     ensures failures { D.failures disk.new ≡ D.failures disk.old + failed_in result }
     ensures moments { D.honest disk.new → (stripes : ℕ) → is_stripe_count stripes ≡ true → bytes.now ≡ checkpoint_bytes first_layout (first_checkpoint stripes) → IsClear (now (D.states disk.old))
-        → AtEachMoment D.states disk.old disk.new (AtStops IsNewOrUnformatted) }
+        → AtEachMoment D.states disk.old disk.new (AtStops (IsNewOrUnformatted stripes)) }
     ensures ok { OnOk result (D.honest disk.new → (stripes : ℕ) → is_stripe_count stripes ≡ true → bytes.now ≡ checkpoint_bytes first_layout (first_checkpoint stripes)
-        → IsClear (now (D.states disk.old)) → AtStops IsNew (now (D.states disk.new))) }
+        → IsClear (now (D.states disk.old)) → AtStops (IsNew stripes) (now (D.states disk.new))) }
     ensures files { OnOk result (D.honest disk.new → (stripes : ℕ) → bytes.now ≡ checkpoint_bytes first_layout (first_checkpoint stripes) → now (D.states disk.old) ≡ empty_files → now (D.states disk.new) ≡ new_files stripes) }
 {
     close_gate(disk)?;
@@ -48,8 +48,8 @@ fn make_store<D: Disk>(alloc: Global, disk: &mut D, bytes: &[u8]) -> Result<(), 
     seal(disk, bytes)
 }
 
-/// Makes the directory that of an empty map, divided for so many stripes, where no checkpoint is sealed
-/// in it. All memory is taken before the first write.
+/// Makes the directory that of an empty map, divided for so many stripes, if no checkpoint is sealed in
+/// it. All memory is taken before the first write.
 pub fn format<D: Disk>(alloc: Global, disk: &mut D, stripes: StripeCount) -> Result<(), Refusal>
     ensures was_honest { D.honest disk.new → D.honest disk.old }
     ensures failures { D.failures disk.new ≡ D.failures disk.old + failed_in result }
@@ -57,9 +57,10 @@ pub fn format<D: Disk>(alloc: Global, disk: &mut D, stripes: StripeCount) -> Res
     ensures formatted { IfErr result (λ refusal. refusal ≡ Refusal.AlreadyFormatted → D.honest disk.new → IsFormatted (contents_of D.states disk.old)) }
     ensures unformatted { D.honest disk.new → result ≢ Err Refusal.AlreadyFormatted → result ≢ Err Refusal.Failed → IsUnformatted (contents_of D.states disk.old) }
     ensures untouched { IfErr result (λ refusal. refusal ≢ Refusal.Failed → SyncsAndLooks D.states D.failures D.honest 2 0 disk.old disk.new) }
-    ensures moments { D.honest disk.new → AtStops IsUnformatted (now (D.states disk.old)) → AtEachMoment D.states disk.old disk.new (AtStops IsNewOrUnformatted) }
-    ensures ok { OnOk result (D.honest disk.new → AtStops IsNew (now (D.states disk.new))) }
-    ensures reads { OnOk result (D.honest disk.new → IsNew (contents_of D.states disk.new)) }
+    ensures moments { D.honest disk.new → AtStops IsUnformatted (now (D.states disk.old))
+        → AtEachMoment D.states disk.old disk.new (AtStops (IsNewOrUnformatted stripes.count)) }
+    ensures ok { OnOk result (D.honest disk.new → AtStops (IsNew stripes.count) (now (D.states disk.new))) }
+    ensures reads { OnOk result (D.honest disk.new → IsNew stripes.count (contents_of D.states disk.new)) }
     ensures files { OnOk result (D.honest disk.new → now (D.states disk.old) ≡ empty_files → now (D.states disk.new) ≡ new_files stripes.count) }
 {
     sync_files(disk, 2)?;

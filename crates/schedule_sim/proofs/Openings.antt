@@ -127,7 +127,7 @@ life_began laws w stripes found keeper parts first b jobs some are fits start on
     rw (book, idle) (life_begins laws w stripes found keeper parts first some are fits start (subst IsOneHistory book one) (subst (λ v. HoldApart v) book apart) opening)
 
 -- a store that was formatted is closed, and stands for no command
-pub formatted_stands : (disk : Traced) → now (traced_states disk) ≡ new_files 16 → AtStops IsNew (now (traced_states disk)) → IsClosed start 0 disk
+pub formatted_stands : (disk : Traced) → now (traced_states disk) ≡ new_files 16 → AtStops (IsNew 16) (now (traced_states disk)) → IsClosed start 0 disk
 unfolding start
 formatted_stands disk files new = record {
   life = refl;
@@ -135,7 +135,7 @@ formatted_stands disk files new = record {
   reached = omega arith;
   stops = λ contents leaves. record {
     count = 0;
-    stands = new contents (subst (λ files. Leaves files contents) (sym files) leaves);
+    stands = (new contents (subst (λ files. Leaves files contents) (sym files) leaves)).stands;
     from_first = omega arith;
     within = omega arith;
     from_least = omega arith;

@@ -1,5 +1,5 @@
 //! Workers: threads that serve connections over the running store, each with a pass of its own.
-ghost use Rattle.std.specs.Prelude.{◌≡◌, ℕ, IfOk, IfErr};
+ghost use Rattle.std.specs.Prelude.{◌≡◌, ℕ, false, IfOk, IfErr};
 ghost use Rattle.stripe_locks.specs.Plays.{joining};
 ghost use Rattle.durable_map.specs.Maps.{opening_of};
 ghost use Rattle.connections.specs.Connection.{Connection};
@@ -82,6 +82,7 @@ impl<'a, D: Disk + Drop, G: Gate, R: Wait> Worker<'a, D, G, R> {
         taken_up: &'a AtomicU64,
     ) -> Result<Worker<'a, D, G, R>, Refusal>
         ensures joins { IfOk result (λ worker. (found : ℕ) × (worker ≡ joining (opening_of map.now) found)) }
+        ensures worker { IfOk result (λ worker. worker.keeper ≡ false) }
         ensures err { IfErr result (λ refusal. refusal ≡ Refusal.SeatsSpent) }
     {
         let pass = map.pass()?;

@@ -1,4 +1,4 @@
-use Rattle.std.proofs.Common.{◌≡◌, ◌∙◌, ◌+◌, ℕ, Err, List, [], inl, inr, refl, ap, subst}
+use Rattle.std.proofs.Common.{◌≡◌, ◌∙◌, ◌+◌, ℕ, Err, List, [], inl, inr, refl, ap, subst, arith}
 use Rattle.map_types.specs.declared.refusals.Refusal.{Refusal}
 use Rattle.map_types.specs.declared.refusals.Refusal.TheVariants as refusal
 use Rattle.gate_log.specs.Scan.{failed_in}
@@ -21,6 +21,8 @@ returns-in-Ok-format g c =
       was_honest = made.was_honest;
       moments = made.moments;
       ends = inl (record {
+        unformatted = λ honest. made.unformatted honest (λ e. absurd cc) (λ e. absurd cc);
+        unfailing = let same = made.failures in omega (arith, same);
         stands = made.ok;
         prints = subst (λ (text : List ℕ). Prints text (g.W.Write.contents c.args.output.now) (g.W.Write.contents c.print.new.output) c.print.result) line c.print.ensures;
       });

@@ -21,6 +21,6 @@ returns-in-Ok-clause-err g c =
     let mid = c.format.new.disk in
     if_err (λ x. Stopped states g.D.Disk.failures g.D.Disk.honest 4 mid x.0 x.1) (λ x. g.D.Disk.honest x.0 → g.D.Disk.honest mid × RefusesFor (Refuses (contents_of states mid) x.1) x.1)
     (λ x. g.D.Disk.honest x.0 → CannotOpen states g.D.Disk.failures c.args.disk x.1 x.0) c.open.result
-    (λ x stopped refused honest. cannot_open states g.D.Disk.failures g.D.Disk.honest c.args.disk mid x.0 c.laws_of_opening.ensures.never_both
+    (λ x stopped refused honest. cannot_open states g.D.Disk.failures g.D.Disk.honest _ c.args.disk mid x.0 c.laws_of_opening.ensures.never_both
     (let same = c.in-Ok.ensures.failures in omega (arith, same)) x.1 stopped (refused honest).1 (c.in-Ok.ensures.reads (refused honest).0))
     c.open.ensures.stopped c.open.ensures.err

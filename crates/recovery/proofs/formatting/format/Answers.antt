@@ -10,21 +10,21 @@ use Rattle.recovery.proofs.formatting.format.Goals as goal
 
 pub returns-in_err-sync_files-clause-moments : goal.returns-in_err-sync_files-clause-moments
 returns-in_err-sync_files-clause-moments g c = λ honest at.
-    stopped_moments IsNewOrUnformatted g.D.Disk.states g.D.Disk.failures c.args.disk.now (g.met.D.Disk.are_coherent c.args.disk.now) (starts _ at) 2 c.sync_files.new.disk (omega arith) c.in_err-sync_files.ensures.err
+    stopped_moments (IsNewOrUnformatted c.args.stripes.count) g.D.Disk.states g.D.Disk.failures c.args.disk.now (g.met.D.Disk.are_coherent c.args.disk.now) (starts _ _ at) 2 c.sync_files.new.disk (omega arith) c.in_err-sync_files.ensures.err
 
 pub returns-in_err-is_formatted-clause-moments : goal.returns-in_err-is_formatted-clause-moments
 returns-in_err-is_formatted-clause-moments g c = λ honest at.
-    looked_moments IsNewOrUnformatted g.D.Disk.states g.D.Disk.failures c.args.disk.now (g.met.D.Disk.are_coherent c.args.disk.now) (starts _ at) g.D.Disk.honest 2 _ c.sync_files.new.disk c.is_formatted.new.disk (omega arith)
+    looked_moments (IsNewOrUnformatted c.args.stripes.count) g.D.Disk.states g.D.Disk.failures c.args.disk.now (g.met.D.Disk.are_coherent c.args.disk.now) (starts _ _ at) g.D.Disk.honest 2 _ c.sync_files.new.disk c.is_formatted.new.disk (omega arith)
     c.in_ok-sync_files.ensures.ok c.is_formatted.ensures.looks
 
 pub returns-then-branch-clause-moments : goal.returns-then-branch-clause-moments
 returns-then-branch-clause-moments g c = λ honest at.
-    looked_moments IsNewOrUnformatted g.D.Disk.states g.D.Disk.failures c.args.disk.now (g.met.D.Disk.are_coherent c.args.disk.now) (starts _ at) g.D.Disk.honest 2 _ c.sync_files.new.disk c.is_formatted.new.disk (omega arith)
+    looked_moments (IsNewOrUnformatted c.args.stripes.count) g.D.Disk.states g.D.Disk.failures c.args.disk.now (g.met.D.Disk.are_coherent c.args.disk.now) (starts _ _ at) g.D.Disk.honest 2 _ c.sync_files.new.disk c.is_formatted.new.disk (omega arith)
     c.in_ok-sync_files.ensures.ok c.is_formatted.ensures.looks
 
 pub returns-in_err-bytes-clause-moments : goal.returns-in_err-bytes-clause-moments
 returns-in_err-bytes-clause-moments g c = λ honest at.
-    looked_moments IsNewOrUnformatted g.D.Disk.states g.D.Disk.failures c.args.disk.now (g.met.D.Disk.are_coherent c.args.disk.now) (starts _ at) g.D.Disk.honest 2 _ c.sync_files.new.disk c.is_formatted.new.disk (omega arith)
+    looked_moments (IsNewOrUnformatted c.args.stripes.count) g.D.Disk.states g.D.Disk.failures c.args.disk.now (g.met.D.Disk.are_coherent c.args.disk.now) (starts _ _ at) g.D.Disk.honest 2 _ c.sync_files.new.disk c.is_formatted.new.disk (omega arith)
     c.in_ok-sync_files.ensures.ok c.is_formatted.ensures.looks
 
 pub returns-clause-moments : goal.returns-clause-moments
@@ -32,8 +32,8 @@ returns-clause-moments g c = λ honest at.
     let before = c.make_store.ensures.was_honest honest in
     let clear = is_clear g.D.Disk.states g.D.Disk.failures g.D.Disk.honest c.args.disk.now c.sync_files.new.disk c.is_formatted.new.disk c.in_ok-sync_files.ensures.ok c.in_ok-is_formatted.ensures.looks _
     (c.in_ok-is_formatted.ensures.value before) c.if-branch.false in
-    goes_on g.D.Disk.states c.args.disk.now c.is_formatted.new.disk c.make_store.new.disk (AtStops IsNewOrUnformatted)
-    (looked_moments IsNewOrUnformatted g.D.Disk.states g.D.Disk.failures c.args.disk.now (g.met.D.Disk.are_coherent c.args.disk.now) (starts _ at) g.D.Disk.honest 2 _ c.sync_files.new.disk c.is_formatted.new.disk (omega arith)
+    goes_on g.D.Disk.states c.args.disk.now c.is_formatted.new.disk c.make_store.new.disk (AtStops (IsNewOrUnformatted c.args.stripes.count))
+    (looked_moments (IsNewOrUnformatted c.args.stripes.count) g.D.Disk.states g.D.Disk.failures c.args.disk.now (g.met.D.Disk.are_coherent c.args.disk.now) (starts _ _ at) g.D.Disk.honest 2 _ c.sync_files.new.disk c.is_formatted.new.disk (omega arith)
     c.in_ok-sync_files.ensures.ok c.is_formatted.ensures.looks)
     (c.make_store.ensures.moments honest c.args.stripes.count c.args.stripes.allowed (c.deref.ensures.value ∙ c.in_ok-bytes.ensures.ok) clear)
 

@@ -6,12 +6,12 @@ use Rattle.recovery.proofs.formatting.make_store.Goals as goal
 
 pub returns-in_err-close_gate-clause-moments : goal.returns-in_err-close_gate-clause-moments
 returns-in_err-close_gate-clause-moments g c = λ honest stripes whole are clear.
-    closing_moments g.D.Disk.states c.args.disk.now c.close_gate.new.disk clear (c.close_gate.ensures.moments honest clear.first clear.settled clear.unsealed)
+    closing_moments g.D.Disk.states stripes c.args.disk.now c.close_gate.new.disk clear (c.close_gate.ensures.moments honest clear.first clear.settled clear.unsealed)
 
 pub returns-in_err-begin_log-clause-moments : goal.returns-in_err-begin_log-clause-moments
 returns-in_err-begin_log-clause-moments g c = λ honest stripes whole are clear.
     let before = c.begin_log.ensures.was_honest honest in
-    beginning_moments g.D.Disk.states c.args.disk.now c.close_gate.new.disk clear (c.close_gate.ensures.moments before clear.first clear.settled clear.unsealed) c.begin_log.new.disk (c.in_ok-close_gate.ensures.ok before) c.begin_log.ensures.others
+    beginning_moments g.D.Disk.states stripes c.args.disk.now c.close_gate.new.disk clear (c.close_gate.ensures.moments before clear.first clear.settled clear.unsealed) c.begin_log.new.disk (c.in_ok-close_gate.ensures.ok before) c.begin_log.ensures.others
 
 pub seal-requires : goal.seal-requires
 seal-requires g c = λ honest.
@@ -23,8 +23,8 @@ returns-clause-moments g c = λ honest stripes whole are clear.
     let at_one = c.in_ok-begin_log.ensures.was_honest at_two in
     let shut = c.in_ok-close_gate.ensures.ok at_one in
     let others = c.in_ok-begin_log.ensures.others in
-    sealing_moments g.D.Disk.states c.args.disk.now c.close_gate.new.disk clear (c.in_ok-close_gate.ensures.moments at_one clear.first clear.settled clear.unsealed) c.begin_log.new.disk shut others c.in_ok-begin_log.ensures.ok
-    stripes whole c.args.bytes.now are c.seal.new.disk (c.seal.ensures.moments (shut_on g.D.Disk.states c.close_gate.new.disk c.begin_log.new.disk shut others))
+    sealing_moments g.D.Disk.states stripes c.args.disk.now c.close_gate.new.disk clear (c.in_ok-close_gate.ensures.moments at_one clear.first clear.settled clear.unsealed) c.begin_log.new.disk shut others c.in_ok-begin_log.ensures.ok
+    whole c.args.bytes.now are c.seal.new.disk (c.seal.ensures.moments (shut_on g.D.Disk.states c.close_gate.new.disk c.begin_log.new.disk shut others))
 
 pub returns-clause-ok : goal.returns-clause-ok
 returns-clause-ok g c =
@@ -34,8 +34,8 @@ returns-clause-ok g c =
     let shut = c.in_ok-close_gate.ensures.ok at_one in
     let others = c.in_ok-begin_log.ensures.others in
     let shut_then = shut_on g.D.Disk.states c.close_gate.new.disk c.begin_log.new.disk shut others in
-    new_in_the_end g.D.Disk.states c.args.disk.now c.close_gate.new.disk clear (c.in_ok-close_gate.ensures.moments at_one clear.first clear.settled clear.unsealed) c.begin_log.new.disk shut others c.in_ok-begin_log.ensures.ok
-    stripes whole c.args.bytes.now are c.seal.new.disk (c.seal.ensures.moments shut_then) (sealed shut_then)) c.seal.ensures.ok
+    new_in_the_end g.D.Disk.states stripes c.args.disk.now c.close_gate.new.disk clear (c.in_ok-close_gate.ensures.moments at_one clear.first clear.settled clear.unsealed) c.begin_log.new.disk shut others c.in_ok-begin_log.ensures.ok
+    whole c.args.bytes.now are c.seal.new.disk (c.seal.ensures.moments shut_then) (sealed shut_then)) c.seal.ensures.ok
 
 pub returns-clause-files : goal.returns-clause-files
 returns-clause-files g c =
