@@ -1,5 +1,2 @@
-mod KeyLaws
-mod DetachLaws
-mod PartLaws
-mod SortLaws
 mod PrepareLaws
+mod EmptyLaws
