@@ -1,2 +1,3 @@
 mod PrepareLaws
 mod EmptyLaws
+pub mod Crosses
