@@ -83,9 +83,9 @@ impl Part {
     }
 
     /// Gets all the memory that the change needs, so that `act` can make it. The content stays,
-    /// also where no memory is found, which is refused with `NoMemory`. Begins a growth that is due
-    /// and helps the one that runs, but where it refuses: there all stays. A growth that finds no
-    /// memory is put off.
+    /// also where no memory is found, which is refused with `NoMemory`. If nothing is refused, a
+    /// growth that is due begins, or is put off if it finds no memory, and the one that runs is
+    /// helped. If the change is refused, the growth stays as it is.
     pub fn prepare(&mut self, alloc: Global, command: &Command) -> Result<Prepared, Refusal>
         ensures ok { IfOk result (IsPrepared self.old.map command.now) }
         ensures content { self.new.map ≡ self.old.map }
