@@ -1,5 +1,3 @@
-mod KeyLaws
-mod DetachLaws
-mod PartLaws
-mod SortLaws
 mod PrepareLaws
+mod EmptyLaws
+pub mod Crosses

@@ -1,5 +1,6 @@
 -- What an action does to the map.
-use Rattle.std.specs.Prelude.{◌≡◌, ℕ, Bool, true, false, Option, None, Some, List}
+use Rattle.std.specs.Prelude.{◌≡◌, ℕ, Bool, true, false, IfSome, Option, None, Some, List}
+use Rattle.bin_table.specs.Tables.{spread_of_key}
 use Rattle.map_types.specs.declared.texts.Value.{Value}
 use Rattle.atomic_methods.specs.declared.parts.Action.{Action}
 use Rattle.atomic_methods.specs.declared.parts.Action.TheVariants.{Keep, Unmap, Replace, Insert}
@@ -21,3 +22,7 @@ abbrev pub Carries : List ℕ → Bool → Effect → Action → Type 0
 Carries key is_mapped effects.Keep action = change_of action ≡ None
 Carries key is_mapped effects.Unmap action = change_of action ≡ Some (key, None)
 Carries key is_mapped (effects.Store value) action = (change_of action ≡ Some (key, Some value)) × (is_in_place action ≡ is_mapped)
+
+-- the spread is that of the hash of the action's key
+abbrev pub IsHashed : Action → ℕ → Type 0
+IsHashed action spread = IfSome (change_of action) (λ change. spread ≡ spread_of_key change.0)

@@ -1,7 +1,6 @@
 //! One stripe's map, and what a change and a read do on it.
 #![tactic(auto)]
 
-mod chains;
 mod parts;
 mod plans;
 mod ready;

@@ -1,36 +1,30 @@
 //! One stripe's map.
-ghost use Rattle.std.specs.Prelude.{◌≡◌, ◌^◌, ◌-◌, ◌↔◌, IfOk, IfErr, IsTrue, Some, None, min};
+ghost use Rattle.std.specs.Prelude.{◌≡◌, ◌^◌, ◌-◌, ◌↔◌, IfOk, IfErr, OnOk, OnErr, IsTrue, Some, None, min};
 ghost use Rattle.std.specs.Option.{option_copied};
 ghost use Rattle.std.specs.FinMap as finite;
 ghost use Rattle.map_model.specs.Steps.{answer};
+ghost use Rattle.bin_table.specs.Tables.{spread_of_key};
+ghost use Rattle.atomic_methods.specs.PartState.{HasGrown};
 ghost use Rattle.atomic_methods.specs.Actions.{change_of, is_in_place, Carries};
 ghost use Rattle.atomic_methods.specs.Prepared.{acted, CanAct, IsPrepared};
 
-use crate::chains::{Chain, Detached, Node, clear, copied_entries, count, detach, value_at};
 use crate::plans::{Effect, Plan, answered, plan_change};
-use java_hash::StripeCount;
+use bin_table::Node;
+use bin_transfer::Growing;
+use java_hash::{StripeCount, hash, spread};
 use map_types::{Command, Key, Read, Refusal, Reply, Value};
-use std::alloc::Global;
+use std::alloc::{AllocError, Global};
 use std::marker::Model;
-use std::mem;
 
 /// The entries whose keys belong to one stripe. Contracts see it as its finite map, and what they
 /// need to know of its growth.
+#[derive(Drop)]
 pub struct Part {
-    stripes: StripeCount,
-    chain: Chain,
-}
-
-// By a loop, since a chain may be long.
-impl Drop for Part {
-    fn drop(self) {
-        let Part { stripes: _, chain } = self;
-        clear(chain);
-    }
+    table: Growing,
 }
 
 impl Model for Part {
-    ghost use Rattle.std.specs.Coded.{coded_ℕ, coded_list, coded×, code_by};
+    ghost use Rattle.std.specs.Coded.{coded_ℕ, coded_list, coded_option, coded×, code_by};
     ghost use Rattle.std.specs.Prelude.{refl};
     ghost use Rattle.std.specs.FinMap as finite;
     ghost use Rattle.map_types.specs.contracts.texts.Value as value_type;
@@ -38,80 +32,80 @@ impl Model for Part {
 
     ghost Value = { PartState };
 
-    ghost coded = { code_by _ (coded× (finite.code (coded_list coded_ℕ) value_type.the_row.coded) coded_ℕ) (λ s. (s.map, s.growth.stripes)) (λ p. record { map = p.0; growth = record { stripes = p.1 } }) (λ _. refl) };
+    ghost coded = { code_by _
+        (coded× (finite.code (coded_list coded_ℕ) value_type.the_row.coded)
+        (coded× coded_ℕ (coded× coded_ℕ (coded_option coded_ℕ))))
+        (λ s. (s.map, (s.growth.stripes, (s.growth.bins, s.growth.moved))))
+        (λ p. record {
+          map = p.0;
+          growth = record { stripes = p.1.0; bins = p.1.1.0; moved = p.1.1.1 };
+        })
+        (λ _. refl) };
 
-    ghost use Rattle.atomic_methods.specs.Chains.{chain_entries, map_of, HasDistinctKeys};
+    ghost view = { λ part. record {
+      map = part.table.map;
+      growth = record {
+        stripes = part.table.stripes;
+        bins = part.table.bins;
+        moved = part.table.moved;
+      };
+    } };
+}
 
-    ghost view = { λ part. record { map = map_of part.chain; growth = record { stripes = part.stripes.count } } };
-
-    ghost invariant = { λ part. HasDistinctKeys (chain_entries part.chain) };
+// The spread of the hash of the key.
+fn spread_of(key: &Key) -> u32
+    ensures { result ≡ spread_of_key key.now }
+{
+    spread(hash(key.as_str()))
 }
 
 impl Part {
-    /// An empty part of a map with so many stripes. It takes no memory.
-    pub fn new(stripes: StripeCount) -> Part
-        ensures map { result.map ≡ finite.empty }
-        ensures stripes { result.growth.stripes ≡ stripes.count }
+    /// An empty part of a map with so many stripes.
+    pub fn new(alloc: Global, stripes: StripeCount) -> Result<Part, AllocError>
+        ensures map { IfOk result (λ part. part.map ≡ finite.empty) }
+        ensures stripes { IfOk result (λ part. part.growth.stripes ≡ stripes.count) }
     {
-        Part {
-            stripes,
-            chain: Chain::End,
-        }
+        Ok(Part {
+            table: Growing::new(alloc, stripes)?,
+        })
     }
 
-    fn get(&self, key: &Key) -> Option<&Value>
-        ensures { option_copied result ≡ finite.get self.now.map key.now }
-    {
-        value_at(&self.chain, key)
-    }
-
-    // Unmaps the key.
-    fn unmap(&mut self, key: &Key)
-        ensures map { self.new.map ≡ finite.remove self.old.map key.now }
-        ensures growth { self.new.growth ≡ self.old.growth }
-    {
-        let chain = mem::replace(&mut self.chain, Chain::End);
-        let Detached { chain, .. } = detach(chain, key);
-        self.chain = chain;
-    }
-
-    // Gives the key, which is mapped, another value.
-    fn replace(&mut self, key: &Key, value: Value)
-        requires { IsTrue (finite.contains_key self.old.map key.now) }
+    // Gives the key, which is mapped and whose hash has this spread, another value.
+    fn replace(&mut self, spread: u32, key: &Key, value: Value)
+        requires spread { spread ≡ spread_of_key key.now }
+        requires mapped { IsTrue (finite.contains_key self.old.map key.now) }
         ensures map { self.new.map ≡ finite.insert self.old.map key.now value }
         ensures growth { self.new.growth ≡ self.old.growth }
     {
-        let chain = mem::replace(&mut self.chain, Chain::End);
-        let Detached { chain, taken } = detach(chain, key);
-        let mut node = taken.unwrap();
+        let mut node = self.table.take(spread, key).unwrap();
         node.value = value;
-        node.next = chain;
-        self.chain = Chain::Link(node);
-    }
-
-    // Adds an entry, whose key isn't mapped.
-    fn insert(&mut self, mut node: Box<Node>)
-        requires { finite.get self.old.map node.value.key ≡ None }
-        ensures map { self.new.map ≡ finite.insert self.old.map node.value.key node.value.value }
-        ensures growth { self.new.growth ≡ self.old.growth }
-    {
-        node.next = mem::replace(&mut self.chain, Chain::End);
-        self.chain = Chain::Link(node);
+        self.table.add(spread, node);
     }
 
     /// Gets all the memory that the change needs, so that `act` can make it. The content stays,
-    /// also where no memory is found, which is refused with `NoMemory`.
+    /// also where no memory is found, which is refused with `NoMemory`. If nothing is refused, a
+    /// growth that is due begins, or is put off if it finds no memory, and the one that runs is
+    /// helped. If the change is refused, the growth stays as it is.
     pub fn prepare(&mut self, alloc: Global, command: &Command) -> Result<Prepared, Refusal>
         ensures ok { IfOk result (IsPrepared self.old.map command.now) }
         ensures content { self.new.map ≡ self.old.map }
         ensures stripes { self.new.growth.stripes ≡ self.old.growth.stripes }
+        ensures growth { OnOk result (HasGrown self.old self.new) }
+        ensures unchanged { OnErr result (self.new.growth ≡ self.old.growth) }
         ensures err { IfErr result (λ refusal. refusal ≡ Refusal.NoMemory) }
     {
-        let old = self.get(&command.key);
+        let spread = spread_of(&command.key);
+        let old = self.table.get(spread, &command.key);
         let is_mapped = old.is_some();
         let Plan { effect, reply } = plan_change(alloc, old, &command.change)?;
         let action = prepare_action(alloc, &command.key, effect, is_mapped)?;
-        Ok(Prepared { action, reply })
+        // Last, since from here on nothing is refused.
+        let _is_put_off = self.table.grow(alloc);
+        Ok(Prepared {
+            action,
+            spread,
+            reply,
+        })
     }
 
     /// Makes the change that `prepare` has prepared for the content that the part still has.
@@ -121,12 +115,18 @@ impl Part {
         ensures growth { self.new.growth ≡ self.old.growth }
         ensures reply { result ≡ prepared.reply }
     {
-        let Prepared { action, reply } = prepared;
+        let Prepared {
+            action,
+            spread,
+            reply,
+        } = prepared;
         match action {
             Action::Keep => {}
-            Action::Unmap(key) => self.unmap(&key),
-            Action::Replace(key, value) => self.replace(&key, value),
-            Action::Insert(node) => self.insert(node),
+            Action::Unmap(key) => {
+                let _taken = self.table.take(spread, &key);
+            }
+            Action::Replace(key, value) => self.replace(spread, &key, value),
+            Action::Insert(node) => self.table.add(spread, node),
         }
         reply
     }
@@ -137,7 +137,8 @@ impl Part {
         ensures ok { IfOk result (λ reply. reply ≡ answer self.now.map read.now) }
         ensures err { IfErr result (λ refusal. refusal ≡ Refusal.NoMemory) }
     {
-        answered(self.get(&read.key), &read.question)
+        let spread = spread_of(&read.key);
+        answered(self.table.get(spread, &read.key), &read.question)
     }
 
     /// A copy of all entries, in rising byte order of their keys. Refuses with `NoMemory` alone.
@@ -145,27 +146,25 @@ impl Part {
         ensures ok { IfOk result (λ entries. entries.items ≡ finite.entries self.now.map) }
         ensures err { IfErr result (λ refusal. refusal ≡ Refusal.NoMemory) }
     {
-        let mut entries = copied_entries(alloc, &self.chain)?;
-        entries.sort_unstable_by(|a, b| a.0.cmp(&b.0));
-        Ok(entries)
+        Ok(self.table.entries_sorted(alloc)?)
     }
 
     /// The number of entries; the greatest number stands for all that are greater.
     pub fn len(&self) -> usize
         ensures { result ≡ min (finite.len self.now.map) (2 ^ 64 - 1) }
     {
-        count(&self.chain)
+        self.table.len()
     }
 
     /// Whether no key is mapped.
     pub fn is_empty(&self) -> bool
         ensures { IsTrue result ↔ (self.now.map ≡ finite.empty) }
     {
-        matches!(self.chain, Chain::End)
+        self.table.len() == 0
     }
 }
 
-// What is done to the chain, with the memory for it.
+// What is done to the table, with the memory for it.
 #[derive(Drop)]
 enum Action {
     Keep,
@@ -178,6 +177,8 @@ enum Action {
 #[derive(Drop)]
 pub struct Prepared {
     action: Action,
+    // The spread of the hash of the action's key, which is hashed once.
+    spread: u32,
     reply: Reply,
 }
 
@@ -186,9 +187,15 @@ impl Model for Prepared {
 
     ghost Value = { PreparedChange };
 
-    ghost use Rattle.atomic_methods.specs.Actions.{change_of, is_in_place};
+    ghost use Rattle.atomic_methods.specs.Actions.{change_of, is_in_place, IsHashed};
 
-    ghost view = { λ prepared. record { change = change_of prepared.action; in_place = is_in_place prepared.action; reply = prepared.reply } };
+    ghost view = { λ prepared. record {
+      change = change_of prepared.action;
+      in_place = is_in_place prepared.action;
+      reply = prepared.reply;
+    } };
+
+    ghost invariant = { λ prepared. IsHashed prepared.action prepared.spread };
 }
 
 // Only an entry that wasn't there takes a node.
@@ -209,16 +216,126 @@ fn prepare_action(
 }
 
 fn store_action(alloc: Global, key: Key, value: Value, is_mapped: bool) -> Result<Action, Refusal>
-    ensures ok { IfOk result (λ action. (change_of action ≡ Some (key, Some value)) × (is_in_place action ≡ is_mapped)) }
+    ensures change { IfOk result (λ action. change_of action ≡ Some (key, Some value)) }
+    ensures in_place { IfOk result (λ action. is_in_place action ≡ is_mapped) }
     ensures err { IfErr result (λ refusal. refusal ≡ Refusal.NoMemory) }
 {
     if is_mapped {
         return Ok(Action::Replace(key, value));
     }
-    let node = Node {
-        key,
-        value,
-        next: Chain::End,
-    };
-    Ok(Action::Insert(Box::new(alloc, node)?))
+    Ok(Action::Insert(Node::new(alloc, key, value)?))
+}
+
+#[cfg(test)]
+mod tests {
+    use super::Part;
+    use java_hash::StripeCount;
+    use map_types::{Change, Command, Key, Question, Read, Refusal, Reply, Value};
+    use std::alloc::Global;
+
+    /// What follows the new keys of a row.
+    #[derive(Clone, Copy, Debug)]
+    enum Then {
+        Nothing,
+        RemoveOne,
+        RemoveNone,
+        PutAgain,
+        GetAll,
+    }
+
+    fn key(alloc: Global, number: u32) -> Result<Key, Refusal> {
+        Key::new(alloc, format!(in alloc; "k{number:05}")?.as_str())
+    }
+
+    fn change(part: &mut Part, alloc: Global, key: Key, change: Change) -> Result<(), Refusal> {
+        let prepared = part.prepare(alloc, &Command { key, change })?;
+        part.act(prepared);
+        Ok(())
+    }
+
+    fn put(part: &mut Part, alloc: Global, number: u32) -> Result<(), Refusal> {
+        let value = Value::Int(i64::from(number));
+        change(part, alloc, key(alloc, number)?, Change::Put(value))
+    }
+
+    // A part into which so many new keys were put, one after another.
+    fn filled(alloc: Global, keys: u32) -> Result<Part, Refusal> {
+        let stripes = StripeCount::new(1).ok_or(Refusal::WrongPhase)?;
+        let mut part = Part::new(alloc, stripes)?;
+        for number in 0..keys {
+            put(&mut part, alloc, number)?;
+        }
+        Ok(part)
+    }
+
+    fn has(part: &Part, alloc: Global, number: u32) -> Result<bool, Refusal> {
+        let reply = part.read(&Read {
+            key: key(alloc, number)?,
+            question: Question::Get,
+        })?;
+        Ok(matches!(reply, Reply::Now(Some(Value::Int(found))) if found == i64::from(number)))
+    }
+
+    // Whether each of so many keys is mapped to its number.
+    fn has_all(part: &Part, alloc: Global, keys: u32) -> Result<bool, Refusal> {
+        for number in 0..keys {
+            if !has(part, alloc, number)? {
+                return Ok(false);
+            }
+        }
+        Ok(true)
+    }
+
+    // Whether all that the row does went well.
+    fn follow(part: &mut Part, alloc: Global, keys: u32, then: Then) -> Result<bool, Refusal> {
+        match then {
+            Then::Nothing => {}
+            Then::RemoveOne => change(part, alloc, key(alloc, 7)?, Change::Remove)?,
+            Then::RemoveNone => change(part, alloc, key(alloc, keys)?, Change::Remove)?,
+            Then::PutAgain => put(part, alloc, 7)?,
+            Then::GetAll => return has_all(part, alloc, keys),
+        }
+        Ok(true)
+    }
+
+    // Whether all went well, the bins then, and whether a growth runs.
+    fn seen(alloc: Global, keys: u32, then: Then) -> Result<(bool, usize, bool), Refusal> {
+        let mut part = filled(alloc, keys)?;
+        let is_well = follow(&mut part, alloc, keys, then)?;
+        Ok((is_well, part.table.bins(), part.table.is_growing()))
+    }
+
+    #[test]
+    fn changes_grow_a_part(rt: HostRuntime) {
+        for (keys, then, bins, is_growing) in [
+            (1, Then::Nothing, 1, false),
+            (2, Then::Nothing, 2, false),
+            (3, Then::Nothing, 4, false),
+            (4, Then::Nothing, 8, false),
+            (5, Then::Nothing, 8, false),
+            (6, Then::Nothing, 8, false),
+            (7, Then::Nothing, 16, false),
+            (12, Then::Nothing, 16, false),
+            (13, Then::Nothing, 32, false),
+            (24, Then::Nothing, 32, false),
+            (24, Then::RemoveNone, 32, true),
+            (25, Then::Nothing, 32, true),
+            (25, Then::GetAll, 32, true),
+            (25, Then::RemoveOne, 64, false),
+            (25, Then::RemoveNone, 64, false),
+            (25, Then::PutAgain, 64, false),
+            (26, Then::Nothing, 64, false),
+            (48, Then::Nothing, 64, false),
+            (49, Then::Nothing, 64, true),
+            (50, Then::GetAll, 64, true),
+            (51, Then::Nothing, 64, true),
+            (52, Then::GetAll, 128, false),
+        ] {
+            assert_eq!(rt;
+                seen(rt.alloc(), keys, then),
+                Ok((true, bins, is_growing)),
+                "{keys} keys, then {then:?}"
+            );
+        }
+    }
 }

@@ -89,7 +89,7 @@ pub(crate) fn calls(alloc: Global, calls: &str) -> Result<String, Refusal> {
         return Err(Refusal::WrongPhase);
     };
     let mut reference = ReferenceMap::new(alloc);
-    let mut part = Part::new(stripes);
+    let mut part = Part::new(alloc, stripes)?;
     let text = all_answered(alloc, &mut reference, &mut part, calls)?;
     if reference.entries().count() != part.len() {
         return Err(Refusal::WrongPhase);

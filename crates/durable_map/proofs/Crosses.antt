@@ -13,12 +13,7 @@ use Rattle.stripe_locks.specs.contracts.rule.Pass as Pass
 use Rattle.durable_map.specs.contracts.desk.Desk as Desk
 use Rattle.durable_map.specs.contracts.desk.Desk.TheInside as Inside
 use Rattle.durable_map.specs.contracts.map.DurableMap as DurableMap
-use Rattle.atomic_methods.specs.contracts.parts.Part as Part
-use Rattle.atomic_methods.specs.contracts.parts.Prepared as Prepared
-use Rattle.atomic_methods.specs.contracts.parts.Action as Action
-use Rattle.atomic_methods.specs.contracts.chains.Chain as Chain
-use Rattle.atomic_methods.specs.contracts.chains.Node as Node
-use Rattle.atomic_methods.proofs.chains.Chain.TheLaws.TheKnot as knot
+use Rattle.atomic_methods.proofs.Crosses.{part_send, prepared_send}
 use Rattle.map_types.proofs.commands.Reply.TheSendSync as reply
 use Rattle.map_types.proofs.commands.Read.TheSendSync as read
 use Rattle.map_types.proofs.keys.Key.TheSendSync as key
@@ -48,29 +43,14 @@ use Rattle.ticket_order.proofs.release_walk.ReleaseStage.TheSendSync as release
 
 ruleset leaves = (reply.the_send, reply.the_field_send, read.the_send, read.the_field_send, key.the_send, value.the_send, value.the_field_send, refusal.the_send, refusal.the_field_send, entry.the_send, entry.the_field_send, held.the_send, held.the_field_send, captured.the_send, captured.the_field_send, new_change.the_send, new_change.the_field_send, release.the_send, release.the_field_send, heap.send, Vec-send, Box-send)
 
-chain : IsSend (Chain.the_field).row
-chain = search (knot.send-Chain, sendable, crosses) depth 40
-
-node : IsSend (Node.the_field).row
-node = search (knot.send-Node, sendable, crosses) depth 40
-
-part : IsSend (Part.the_row)
-part = search (chain, leaves, sendable) depth 10
-
-action : IsSend (Action.the_field).row
-action = search (node, leaves, sendable) depth 20
-
-prepared : IsSend (Prepared.the_row)
-prepared = search (action, leaves, sendable) depth 20
-
 stripe : IsSend (Stripe.the_field).row
-stripe = search (part, leaves, sendable) depth 20
+stripe = search (part_send, leaves, sendable) depth 20
 
 taken : IsSend (Taken.the_field).row
 taken = search (stripe, sendable) depth 20
 
 change : IsSend (ChangeStage.the_field).row
-change = search (taken, prepared, leaves, sendable) depth 20
+change = search (taken, prepared_send, leaves, sendable) depth 20
 
 reads : IsSend (ReadStage.the_field).row
 reads = search (taken, leaves, sendable) depth 20

@@ -4,9 +4,9 @@ use java_hash::StripeCount;
 use map_types::{Change, Command, Func, FuncError, Key, Question, Read, Refusal, Reply, Value};
 use std::alloc::Global;
 
-fn empty_part() -> Result<Part, Refusal> {
+fn empty_part(alloc: Global) -> Result<Part, Refusal> {
     match StripeCount::new(16) {
-        Some(stripes) => Ok(Part::new(stripes)),
+        Some(stripes) => Ok(Part::new(alloc, stripes)?),
         None => Err(Refusal::WrongPhase),
     }
 }
@@ -81,7 +81,7 @@ fn is_longest(alloc: Global, part: &mut Part) -> Result<bool, Refusal> {
 }
 
 fn joined_and_removed(alloc: Global, len: usize) -> Result<(Joined, bool), Refusal> {
-    let mut part = empty_part()?;
+    let mut part = empty_part(alloc)?;
     let joined = join(alloc, &mut part, len)?;
     Ok((joined, is_longest(alloc, &mut part)?))
 }
@@ -105,7 +105,7 @@ fn act(ready: Ready) -> (bool, usize) {
 
 fn acted(alloc: Global) -> Result<(bool, usize), Refusal> {
     let command = command(alloc, "a", Step::Put(5))?;
-    match Ready::new(alloc, empty_part()?, command) {
+    match Ready::new(alloc, empty_part(alloc)?, command) {
         Ok(ready) => Ok(act(ready)),
         Err(unready) => Err(unready.refusal),
     }
@@ -143,7 +143,7 @@ fn stays(alloc: Global, part: &mut Part, key: &str, step: Step) -> Result<bool, 
 #[test]
 fn refused_memory(rt: HostRuntime) -> Result<(), Refusal> {
     let alloc = rt.alloc();
-    let mut part = empty_part()?;
+    let mut part = empty_part(alloc)?;
     change(&mut part, alloc, Step::Put(5))?;
     for (key, step) in [
         ("k", Step::Put(6)),

@@ -85,7 +85,7 @@ fn same_read(part: &Part, reference: &ReferenceMap, read: &Read) -> bool {
 fn methods_on_a_part(rt: HostRuntime) -> Result<(), Refusal> {
     let alloc = rt.alloc();
     let mut dice = Dice { state: 23 };
-    let mut part = Part::new(StripeCount::new(1).expect(&rt, "one stripe"));
+    let mut part = Part::new(alloc, StripeCount::new(1).expect(&rt, "one stripe"))?;
     let mut reference = ReferenceMap::new(alloc);
     for turn in 0..100_000u32 {
         let same = if dice.below(4) == 0 {

@@ -47,7 +47,10 @@ pub record IsKept (n tickets durable : ℕ) (failed : Bool) (slots : List Slot) 
   pub holders : (i : ℕ) → i < b.stripes → (words_of b).holders i ≡ holder_in (slot_of i slots)
 
 abbrev pub no_part : PartState
-no_part = record { map = finite.empty; growth = record { stripes = 0 } }
+no_part = record {
+  map = finite.empty;
+  growth = record { stripes = 0; bins = 0; moved = None };
+}
 
 -- the part is at home, with no entries
 abbrev pub IsPlaced : PartState → Slot → Type 0

@@ -15,7 +15,7 @@ pub fn empty_parts(alloc: Global, stripes: StripeCount) -> Result<Vec<Part>, Ref
 {
     let mut parts = Vec::new(alloc);
     for _stripe in 0..stripes.get() {
-        parts.push(Part::new(stripes))?;
+        parts.push(Part::new(alloc, stripes)?)?;
     }
     Ok(parts)
 }

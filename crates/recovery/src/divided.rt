@@ -38,7 +38,7 @@ impl Divided {
         laws_of_parts();
         let mut parts = Vec::new(alloc);
         for _ in 0..stripes.get() {
-            parts.push(Part::new(stripes))?;
+            parts.push(Part::new(alloc, stripes)?)?;
         }
         Ok(Divided { stripes, parts })
     }

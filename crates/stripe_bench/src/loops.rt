@@ -38,7 +38,7 @@ pub(crate) fn pairs_on_a_part(alloc: Global, pairs: u32) -> Result<(), Refusal> 
     let Some(count) = StripeCount::new(16) else {
         unreachable!()
     };
-    let mut part = Part::new(count);
+    let mut part = Part::new(alloc, count)?;
     for number in 0..pairs {
         pair_on_a_part(&mut part, alloc, number)?;
     }

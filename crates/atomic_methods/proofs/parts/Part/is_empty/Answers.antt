@@ -1,10 +1,11 @@
-use Rattle.std.proofs.Common.{◌≡◌, sym, ap, ◌∙◌}
-use Rattle.atomic_methods.specs.Chains.{chain_entries, map_of}
+use Rattle.std.proofs.Common.{◌≡◌, min, ap, ◌∙◌}
+use Rattle.std.specs.FinMap as finite
 use Rattle.atomic_methods.specs.PartState.{PartState}
-use Rattle.atomic_methods.proofs.PartLaws.{no_longer_empty}
+use Rattle.atomic_methods.proofs.EmptyLaws.{no_entry, empty_len}
 use Rattle.atomic_methods.proofs.parts.Part.is_empty.Goals as goal
 
-pub returns-in_default : goal.returns-in_default
-returns-in_default c =
-    let node = c.in_default.field-0.value in
-    (λ no. cc, λ is. absurd (no_longer_empty (node.key, node.value) (chain_entries node.next) (ap map_of (sym c.in_default.is) ∙ ap (λ (s : PartState). s.map) c.self.view_is ∙ is)))
+pub returns : goal.returns
+returns c =
+    let map : c.self.inside.table.map ≡ c.args.self.now.map = ap (λ (p : PartState). p.map) c.self.view_is in
+    let len : c.len.result ≡ min (finite.len c.args.self.now.map) 18446744073709551615 = c.len.ensures ∙ ap (λ m. min (finite.len m) 18446744073709551615) map in
+    (λ zero. no_entry c.args.self.now.map c.len.result len zero, λ is. empty_len c.args.self.now.map c.len.result len is)
