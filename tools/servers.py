@@ -1,6 +1,7 @@
 """What bench/ and tests/ share: requests and replies of both protocols, and the servers' processes."""
 import contextlib
 import os
+import random
 import re
 import resource
 import select
@@ -15,6 +16,8 @@ import time
 
 HOST = "127.0.0.1"
 PROGRAM = os.path.join(os.path.dirname(os.path.abspath(__file__)), "..", "crates", "dchm", "out", "dchm")
+# Ports below those that the system gives to clients of its own choice.
+PORTS = range(12000, 32000)
 REPLY_SECONDS = 30
 START_SECONDS = 60
 
@@ -87,8 +90,8 @@ class Connection:
         self.socket.setsockopt(socket.IPPROTO_TCP, socket.TCP_NODELAY, 1)
         self.socket.setsockopt(socket.SOL_SOCKET, socket.SO_RCVTIMEO, struct.pack("ll", REPLY_SECONDS, 0))
 
-    def ask(self, kind, request):
-        """Sends the request, reads its whole reply, and answers the number that it tells."""
+    def exchange(self, request):
+        """Sends the request, and answers its whole reply."""
         self.socket.sendall(request)
         reply = b""
         while not self.protocol.is_whole(reply):
@@ -96,16 +99,23 @@ class Connection:
             if not more:
                 raise ConnectionError("the server ended the connection")
             reply += more
-        return self.protocol.number(kind, reply)
+        return reply
+
+    def ask(self, kind, request):
+        """Sends the request, reads its whole reply, and answers the number that it tells."""
+        return self.protocol.number(kind, self.exchange(request))
 
     def close(self):
         self.socket.close()
 
 
 def free_port():
-    with socket.socket() as listener:
-        listener.bind((HOST, 0))
-        return listener.getsockname()[1]
+    """A port at which nothing listens, and which the system gives to no client."""
+    while True:
+        port = random.choice(PORTS)
+        with contextlib.suppress(OSError), socket.socket() as listener:
+            listener.bind((HOST, port))
+            return port
 
 
 def end_by_signal():
@@ -125,10 +135,11 @@ def temporary_directory():
 
 
 @contextlib.contextmanager
-def process(words, errors, limits=()):
+def process(words, errors, limits=(), environment=None):
     """A process that is stopped at the end; its standard error goes to a file, which is shown after an error.
 
     `limits` are pairs of a resource and its limit. SIGXFSZ stays ignored, so that a write past a limit fails.
+    `environment` is the script's own if left out.
     """
     def limit():
         for kind, most in limits:
@@ -136,7 +147,7 @@ def process(words, errors, limits=()):
 
     with open(errors, "ab") as file:
         child = subprocess.Popen(words, stdin=subprocess.DEVNULL, stdout=subprocess.PIPE, stderr=file,
-                                 preexec_fn=limit, restore_signals=False)
+                                 preexec_fn=limit if limits else None, restore_signals=False, env=environment)
     try:
         yield child
     except BaseException:
@@ -165,11 +176,11 @@ def init(program, directory):
 
 
 @contextlib.contextmanager
-def dchm(program, directory, workers, words=(), limits=()):
+def dchm(program, directory, workers, words=(), limits=(), environment=None):
     """`dchm serve` once it has said that it listens: the process and its port."""
     port, errors = free_port(), directory + ".errors"
     line = [program, "serve", directory, "--port", str(port), "--workers", str(workers), *words]
-    with process(line, errors, limits) as child:
+    with process(line, errors, limits, environment) as child:
         said = first_line(child)
         if said != b"listening %d\n" % port:
             raise RuntimeError(f"dchm serve said {said!r}")
