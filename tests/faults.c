@@ -4,7 +4,7 @@
  *   FAULT_PAGE       a file of the bytes of `struct page`, which the test reads while the program runs, and after it
  *   FAULT_DIRECTORY  the directory of the map; a call counts if its descriptor is of a file there, or of the directory
  *   FAULT_FILE       the one file there whose calls count; if left out, all of them
- *   FAULT_CALL       which calls count: sync, write, read, open
+ *   FAULT_CALL       which calls count: sync, write, read, open, or look (the length of a file is asked for)
  *   FAULT_FROM       the number of the first call that goes wrong, from 1
  *   FAULT_TO         the number of the last one
  *   FAULT_HOW        how: EIO, ENOSPC or EINTR, and nothing is done; short, and half of the bytes are moved; torn, and
@@ -22,10 +22,11 @@
 #include <stdlib.h>
 #include <string.h>
 #include <sys/mman.h>
+#include <sys/stat.h>
 #include <sys/types.h>
 #include <unistd.h>
 
-enum call { SYNC, WRITE, READ, OPEN, OTHER };
+enum call { SYNC, WRITE, READ, OPEN, LOOK, OTHER };
 
 struct page {
     uint64_t calls;  /* those that counted */
@@ -51,7 +52,7 @@ static uint64_t number_of(const char *name) {
 }
 
 static enum call call_named(const char *word) {
-    static const char *names[] = {"sync", "write", "read", "open"};
+    static const char *names[] = {"sync", "write", "read", "open", "look"};
     for (int call = 0; word && call < OTHER; call++)
         if (!strcmp(word, names[call]))
             return call;
@@ -189,6 +190,13 @@ int fsync(int fd) {
 int fdatasync(int fd) {
     size_t length = 1;
     MOVES(SYNC, REAL(fdatasync)(fd));
+}
+
+int statx(int fd, const char *restrict path, int flags, unsigned mask, struct statx *restrict found) {
+    size_t length = 1;
+    if (*path)
+        return REAL(statx)(fd, path, flags, mask, found);
+    MOVES(LOOK, REAL(statx)(fd, path, flags, mask, found));
 }
 
 /* The rest of a function that opens a file, with the mode behind `how` if there is one. */
