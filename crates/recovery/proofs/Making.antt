@@ -1,5 +1,5 @@
 -- The files of a new store.
-use Rattle.std.proofs.Common.{◌≡◌, ◌≢◌, inl, inr, [], ℕ, List, ◌∷◌, ◌++◌, true, sym, ap, subst, ◌∙◌, arith}
+use Rattle.std.proofs.Common.{◌≡◌, ◌≢◌, inl, inr, [], ℕ, List, ◌∷◌, ◌++◌, true, refl, sym, ap, subst, ◌∙◌, arith}
 use Rattle.java_hash.specs.Stripes.{is_stripe_count}
 use Rattle.disk_model.specs.Files.{Contents, File, Files, MayLeave, now}
 use Rattle.disk_model.specs.Gates.{IsShut}
@@ -8,9 +8,9 @@ use Rattle.disk_model.proofs.MomentLemmas.{goes_on, in_the_end, weaker}
 use Rattle.log_records.specs.Layout.{first_layout}
 use Rattle.store_layout.specs.Checkpoints.{IsCheckpoint, checkpoint_bytes}
 use Rattle.store_layout.specs.Logs.{IsClosed}
-use Rattle.store_layout.specs.Opening.{first_checkpoint}
-use Rattle.store_layout.proofs.NewStores.{first_is_whole, first_stands}
-use Rattle.recovery.specs.Formatting.{AtStops, IsClear, IsNew, IsNewOrUnformatted, IsSealedWith, OneFile}
+use Rattle.store_layout.specs.Opening.{Holds, first_checkpoint}
+use Rattle.store_layout.proofs.NewStores.{first_is_whole, greatest, no_map}
+use Rattle.recovery.specs.Formatting.{AtStops, IsClear, IsNew, IsNewOrUnformatted, IsSealedWith, OneFile, first_opened}
 use Rattle.recovery.proofs.LogBeginning.{Others}
 use Rattle.recovery.proofs.NewStoreLemmas.{Unsealed, shut_stays}
 use Rattle.recovery.proofs.OneFileLemmas.{Leave}
@@ -73,8 +73,14 @@ module _ {D : Type 0} (states : D → List Files) (stripes : ℕ) (old one : D) 
             bytes = e ∙ ap (λ (l : List ℕ). 165 ∷ (l ++ rest)) are;
             whole = (first_is_whole stripes whole).0;
           } in
-          let stands = first_stands contents stripes checkpoint (second_at_two (contents 1) left_one) (log (contents 2) left_two) in
-          record { holds = stands.holds; stands = stands }
+          let none = greatest 0 stripes in
+          let holds : Holds contents (first_opened stripes) = record {
+            checkpoint = checkpoint;
+            other = inl (second_at_two (contents 1) left_one);
+            logs = log (contents 2) left_two;
+            reaches = omega (arith, none);
+          } in
+          record { holds = holds; stands = record { found = first_opened stripes; holds = holds; prefix = refl; map = no_map stripes } }
 
       pub sealing_moments : (new : D) → AtEachMoment states two new (OneFile 0 (IsSealedWith bytes) (now (states two))) → Moments new
       sealing_moments new sealing =

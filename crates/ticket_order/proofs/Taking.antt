@@ -5,16 +5,17 @@ use Rattle.map_types.specs.declared.commands.Command.{Command}
 use Rattle.map_types.specs.declared.refusals.Refusal.{Refusal}
 use Rattle.map_types.specs.declared.refusals.Refusal.TheVariants as refusal
 use Rattle.map_model.specs.Maps.{Map}
+use Rattle.ticket_order.specs.declared.stripe.Entry.{Entry}
 use Rattle.ticket_order.specs.declared.stripe.Stripe.{Stripe}
 use Rattle.ticket_order.specs.declared.walk.Taken.{Taken}
 use Rattle.ticket_order.specs.declared.capture_walk.Captured.{Captured}
 use Rattle.ticket_order.specs.declared.record.Purpose.TheVariants.{Nothing, Sweep, Capture}
 use Rattle.ticket_order.specs.declared.record.Section.{Section}
 use Rattle.ticket_order.specs.declared.record.Record.{Record}
-use Rattle.ticket_order.specs.Records.{reach, taking, looking, giving, sections_for}
+use Rattle.ticket_order.specs.Records.{past, reach, taking, looking, giving, sections_for}
 use Rattle.ticket_order.specs.Legality.{history_of, IsLegalSection}
-use Rattle.ticket_order.specs.StepRules.{Looks, Gives, MayGive, AllLegalSections}
-use Rattle.ticket_order.specs.Calls.{CapturesStripe, HasLookedAt, HasTooMany}
+use Rattle.ticket_order.specs.StepRules.{Collects, Looks, Gives, MayGive, AllLegalSections, Rises}
+use Rattle.ticket_order.specs.Calls.{CapturesStripe, HasLookedAt, HasTooMany, SweepsStripe}
 use Rattle.ticket_order.specs.Walks.{Task, ToCapture, Refuses, HasContent, TookContent, HasSwept, HasCopied, IsRefusing}
 use Rattle.ticket_order.proofs.Apart.{not_full_by_memory}
 
@@ -27,6 +28,17 @@ may_sweep n b p task t x k part outbox = record {
   outbox_is = outbox;
   suits = (ap (λ (z : Record). z.keeper) k.took.is ∙ k.keeper, refl);
 }
+
+pub swept : (n : ℕ) (b p w : Record) (task : Task) (t : Taken) (es : List Entry) → HasSwept n b task t p → Gives n Sweep p w → es ≡ t.content.outbox.items → SweepsStripe n b t.stripe es w
+swept n b p w task t es k g same =
+    let kept : Collects n t.stripe b t.content.outbox.items p = k.took.collects k.keeper in
+    subst (λ xs. SweepsStripe n b t.stripe xs w) (sym same) (record {
+      part = t.content.part.map;
+      between = k.took.between;
+      is = g.is ∙ ap (giving Sweep) k.took.is;
+      rises = subst (λ (z : Record). Rises b (past t.content.outbox.items) z) (sym g.is) k.took.rises;
+      collects = subst (λ (z : Record). Collects n t.stripe b t.content.outbox.items z) (sym g.is) (record { more = kept.more; is = kept.is });
+    })
 
 -- which stripe a capture is of
 abbrev captured_stripe_of : Task → ℕ
