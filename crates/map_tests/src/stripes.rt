@@ -7,10 +7,10 @@ ghost use Rattle.stripe_locks.specs.Passes.{recorded, stripe_count, IsPassOf};
 use java_hash::StripeCount;
 use map_types::{Change, Command, Func, Key, Question, Read, Refusal, Reply, Value};
 use one_history::empty_parts;
-use std::alloc::{AllocError, Global};
+use std::alloc::Global;
 use std::process::Abort;
 use std::sync::Wait;
-use std::thread::{Threads, join, map_indices};
+use std::thread::{join, map_indices};
 use stripe_locks::{Held, Pass, Released, Stripes};
 use ticket_order::{Position, Steps};
 
@@ -283,17 +283,6 @@ fn add_often<R: Wait>(rt: &R, stripes: &Stripes, alloc: Global) -> Result<Held, 
     Ok(last)
 }
 
-// What eight threads come to that add each.
-fn add_from_eight<R: Threads + Wait + Sync>(
-    rt: &R,
-    stripes: &Stripes,
-    alloc: Global,
-) -> Result<Vec<Result<Held, Refusal>>, AllocError>
-    ensures { IfOk result (λ all. All (λ answer. IfOk answer (IsHeldOf stripes.now)) all.items) }
-{
-    map_indices(rt, alloc, 8, &|_thread| add_often(rt, stripes, alloc))
-}
-
 // The reply's number, where its position is the same.
 fn number_at_position(released: &Released) -> Option<u64> {
     match released {
@@ -351,7 +340,7 @@ fn eight_threads_add_to_one_key(rt: HostRuntime) -> Result<(), Refusal> {
     let alloc = rt.alloc();
     let stripes = Stripes::empty(alloc, sixteen(&rt))?;
     let mut keeper = stripes.pass()?;
-    let lasts = add_from_eight(&rt, &stripes, alloc)?;
+    let lasts = map_indices(&rt, alloc, 8, &|_thread| add_often(&rt, &stripes, alloc))?;
     assert!(rt; keeper.is_keeper());
     assert_eq!(rt; publish_all(&stripes, &mut keeper), 1600);
     assert_eq!(rt; greatest_of(&stripes, keeper, lasts), Some(1600));
