@@ -14,7 +14,7 @@ use Rattle.store_layout.specs.Faults.{AreEntries, IsFault, HasFault, no_head, ba
 use Rattle.store_layout.proofs.CheckpointLemmas.{are_push, entries_push, sections_push}
 use Rattle.checkpoint_file.specs.declared.loading.LoadedSection.{LoadedSection}
 use Rattle.checkpoint_file.specs.declared.unread.Unread.{Unread}
-use Rattle.checkpoint_file.specs.Loads.{section_of, sections_of, IsRising, AreRising, StandsAt, IsBehind, GoesOn, HasNoNext, IsNext, HasFewer, AreSoMany, IsLoaded, AreLoaded}
+use Rattle.checkpoint_file.specs.Loads.{section_of, sections_of, IsRising, AreRising, StandsAt, IsBehind, GoesOn, HasNoNext, MayFollow, IsNext, HasFewer, AreSoMany, IsLoaded, AreLoaded}
 use Rattle.checkpoint_file.proofs.PlaceLemmas.{goes_first, goes_further}
 
 abbrev Entry : Type 0
@@ -30,24 +30,28 @@ come_to content bytes rest old new behind size g =
 
 -- ---- entries
 
-module _ (stripes stripe : ℕ) where
-  pub no_entries : (es : List Entry) → es ≡ [] → (content rest : List ℕ) (unread : Unread) → StandsAt content unread.at rest → length rest ≡ unread.left
-      → AreEntries first_layout stripes stripe es × GoesOn content (entries_bytes first_layout es) rest unread
-  unfolding IsStrictlySortedBy
-  no_entries es is content rest unread stands size =
-      subst (λ (l : List Entry). AreEntries first_layout stripes stripe l × GoesOn content (entries_bytes first_layout l) rest unread) (sym is)
-      (record { each = tt; rising = tt }, record { left = rest; spelled = refl; stands = stands; size = size })
+pub no_entry_bytes : (es : List Entry) → es ≡ [] → (content rest : List ℕ) (unread : Unread) → StandsAt content unread.at rest → length rest ≡ unread.left
+    → GoesOn content (entries_bytes first_layout es) rest unread
+no_entry_bytes es is content rest unread stands size =
+    subst (λ (l : List Entry). GoesOn content (entries_bytes first_layout l) rest unread) (sym is) (record { left = rest; spelled = refl; stands = stands; size = size })
 
-  pub entries_step : (es : List Entry) (e : Entry) (used : ℕ) (content rest : List ℕ) (old new : Unread) → AreEntries first_layout stripes stripe es
-      → (g : GoesOn content (entries_bytes first_layout es) rest old) → IsNext stripes stripe es e used g.left → new.at ≡ old.at + used → new.left + used ≡ old.left
-      → (all : List Entry) → all ≡ es ++ e ∷ [] → AreEntries first_layout stripes stripe all × GoesOn content (entries_bytes first_layout all) rest new
-  entries_step es e used content rest old new are g next place fewer all is =
-      let bytes = entry_bytes first_layout e in
-      let size = next.size in
-      let further = goes_further content content (entries_bytes first_layout es) bytes rest old new refl g
-      (goes_first content g.left bytes next.others old new g.stands g.size next.spelled (omega (arith, place, size)) (omega (arith, fewer, size))) in
-      subst (λ (l : List Entry). AreEntries first_layout stripes stripe l × GoesOn content (entries_bytes first_layout l) rest new) (sym is)
-      (next.are are, subst (λ (l : List ℕ). GoesOn content l rest new) (sym (entries_push first_layout es e)) further)
+pub entry_bytes_more : (es : List Entry) (e : Entry) (used : ℕ) (content rest : List ℕ) (old new : Unread) → (g : GoesOn content (entries_bytes first_layout es) rest old)
+    → IsNext e used g.left → new.at ≡ old.at + used → new.left + used ≡ old.left → (all : List Entry) → all ≡ es ++ e ∷ [] → GoesOn content (entries_bytes first_layout all) rest new
+entry_bytes_more es e used content rest old new g next place fewer all is =
+    let bytes = entry_bytes first_layout e in
+    let size = next.size in
+    let further = goes_further content content (entries_bytes first_layout es) bytes rest old new refl g
+    (goes_first content g.left bytes next.others old new g.stands g.size next.spelled (omega (arith, place, size)) (omega (arith, fewer, size))) in
+    subst (λ (l : List ℕ). GoesOn content l rest new) (sym (ap (entries_bytes first_layout) is ∙ entries_push first_layout es e)) further
+
+module _ (stripes stripe : ℕ) where
+  pub no_entries : (es : List Entry) → es ≡ [] → AreEntries first_layout stripes stripe es
+  unfolding IsStrictlySortedBy
+  no_entries es is = subst (λ (l : List Entry). AreEntries first_layout stripes stripe l) (sym is) (record { each = tt; rising = tt })
+
+  pub entries_push_one : (es : List Entry) (e : Entry) (all : List Entry) → all ≡ es ++ e ∷ [] → AreEntries first_layout stripes stripe es → MayFollow stripes stripe es e
+      → AreEntries first_layout stripes stripe all
+  entries_push_one es e all is are follows = subst (λ (l : List Entry). AreEntries first_layout stripes stripe l) (sym is) (follows are)
 
   pub fewer_entries : (count offset : ℕ) (es : List Entry) (content rest : List ℕ) (old new : Unread) → IsBehind old new → length rest ≡ old.left
       → AreEntries first_layout stripes stripe es → (g : GoesOn content (entries_bytes first_layout es) rest new) → length es < count → (offset ≡ new.at) × HasNoNext stripes stripe es g.left
@@ -67,31 +71,35 @@ module _ (stripes stripe : ℕ) where
       omega (arith, length-append (big_bytes 8 mark) (big_bytes 4 count), length-bytes_high_first 8 mark, length-bytes_high_first 4 count) in
       goes_first content rest (big_bytes 8 mark ++ big_bytes 4 count) others old new stands size spelled (omega (arith, place, long)) (omega (arith, fewer, long))
 
-  pub section_whole : (read : LoadedSection) (count : ℕ) (content there rest : List ℕ) (old new : Unread) → there ≡ content → read.mark < 2 ^ 64 → count < 2 ^ 32
-      → (g : GoesOn content (big_bytes 8 read.mark ++ big_bytes 4 count) rest old)
-      → AreSoMany stripes stripe count read.entries.items × GoesOn there (entries_bytes first_layout read.entries.items) g.left new
-      → IsLoaded stripes stripe read × GoesOn content (section_bytes first_layout (section_of read)) rest new
-  unfolding marked_bytes
-  section_whole read count content there rest old new same mark_fits count_fits g found =
+  pub section_loaded : (read : LoadedSection) (count : ℕ) → read.mark < 2 ^ 64 → count < 2 ^ 32 → AreSoMany stripes stripe count read.entries.items → IsLoaded stripes stripe read
+  section_loaded read count mark_fits count_fits found =
       let es : List Entry = read.entries.items in
-      let rising : finite.entries (section_of read).map ≡ es = entries-map_of es found.0.are.rising in
-      let many = found.0.so_many in
+      let rising : finite.entries (section_of read).map ≡ es = entries-map_of es found.are.rising in
+      let many = found.so_many in
+      record {
+        fits = record {
+          mark_fits = mark_fits;
+          count_fits = subst (λ (l : List Entry). length l < 2 ^ 32) (sym rising) (omega (arith, many, count_fits));
+          entries = subst (λ (l : List Entry). AllByRecursion (IsEntryOf first_layout stripes stripe) l) (sym rising) found.are.each;
+        };
+        rising = rising;
+      }
+
+  pub section_whole : (read : LoadedSection) (count : ℕ) (content there rest : List ℕ) (old new : Unread) → there ≡ content → AreSoMany stripes stripe count read.entries.items
+      → (g : GoesOn content (big_bytes 8 read.mark ++ big_bytes 4 count) rest old) → GoesOn there (entries_bytes first_layout read.entries.items) g.left new
+      → GoesOn content (section_bytes first_layout (section_of read)) rest new
+  unfolding marked_bytes
+  section_whole read count content there rest old new same found g behind =
+      let es : List Entry = read.entries.items in
+      let rising : finite.entries (section_of read).map ≡ es = entries-map_of es found.are.rising in
+      let many = found.so_many in
       let head = big_bytes 8 read.mark ++ big_bytes 4 count in
-      let further = goes_further content there head (entries_bytes first_layout es) rest old new same g found.1 in
+      let further = goes_further content there head (entries_bytes first_layout es) rest old new same g behind in
       let bytes : head ++ entries_bytes first_layout es ≡ section_bytes first_layout (section_of read) =
       append_assoc (big_bytes 8 read.mark) (big_bytes 4 count) (entries_bytes first_layout es)
       ∙ ap (λ (n : ℕ). big_bytes 8 read.mark ++ (big_bytes 4 n ++ entries_bytes first_layout es)) (sym many)
-      ∙ ap (λ (l : List Entry). marked_bytes first_layout read.mark l) (sym rising) in (
-        record {
-          fits = record {
-            mark_fits = mark_fits;
-            count_fits = subst (λ (l : List Entry). length l < 2 ^ 32) (sym rising) (omega (arith, many, count_fits));
-            entries = subst (λ (l : List Entry). AllByRecursion (IsEntryOf first_layout stripes stripe) l) (sym rising) found.0.are.each;
-          };
-          rising = rising;
-        },
-        subst (λ (l : List ℕ). GoesOn content l rest new) bytes further,
-      )
+      ∙ ap (λ (l : List Entry). marked_bytes first_layout read.mark l) (sym rising) in
+      subst (λ (l : List ℕ). GoesOn content l rest new) bytes further
 
   -- a section whose mark and count don't fit
   pub no_section : stripe < stripes → (offset place : ℕ) (rest : List ℕ) → (offset ≡ place) × (length rest < 12) → (distance : ℕ) × (offset ≡ place + distance) × IsFault first_layout stripes stripe rest distance
@@ -129,29 +137,32 @@ rising_push : (reads : List LoadedSection) (read : LoadedSection) → AreRising 
 rising_push [] read all one = (one, tt)
 rising_push (x ∷ reads) read all one = (all.0, rising_push reads read all.1 one)
 
-module _ (stripes : ℕ) where
-  pub no_sections : (reads : List LoadedSection) → reads ≡ [] → (content rest : List ℕ) (unread : Unread) → StandsAt content unread.at rest → length rest ≡ unread.left
-      → AreLoaded stripes reads × GoesOn content (sections_bytes first_layout (sections_of reads)) rest unread
-  no_sections reads is content rest unread stands size =
-      subst (λ (l : List LoadedSection). AreLoaded stripes l × GoesOn content (sections_bytes first_layout (sections_of l)) rest unread) (sym is)
-      (record { fit = tt; rising = tt }, record { left = rest; spelled = refl; stands = stands; size = size })
+pub no_section_bytes : (reads : List LoadedSection) → reads ≡ [] → (content rest : List ℕ) (unread : Unread) → StandsAt content unread.at rest → length rest ≡ unread.left
+    → GoesOn content (sections_bytes first_layout (sections_of reads)) rest unread
+no_section_bytes reads is content rest unread stands size =
+    subst (λ (l : List LoadedSection). GoesOn content (sections_bytes first_layout (sections_of l)) rest unread) (sym is) (record { left = rest; spelled = refl; stands = stands; size = size })
 
-  pub sections_step : (reads : List LoadedSection) (read : LoadedSection) (number : ℕ) (content there rest : List ℕ) (old new : Unread) → number ≡ length reads → there ≡ content
-      → AreLoaded stripes reads → (g : GoesOn content (sections_bytes first_layout (sections_of reads)) rest old)
-      → IsLoaded stripes number read × GoesOn there (section_bytes first_layout (section_of read)) g.left new
-      → (all : List LoadedSection) → all ≡ reads ++ read ∷ [] → AreLoaded stripes all × GoesOn content (sections_bytes first_layout (sections_of all)) rest new
-  sections_step reads read number content there rest old new count same are g next all is =
-      let further = goes_further content there (sections_bytes first_layout (sections_of reads)) (section_bytes first_layout (section_of read)) rest old new same g next.1 in
+pub section_bytes_more : (reads : List LoadedSection) (read : LoadedSection) (content there rest : List ℕ) (old new : Unread) → there ≡ content
+    → (g : GoesOn content (sections_bytes first_layout (sections_of reads)) rest old) → GoesOn there (section_bytes first_layout (section_of read)) g.left new
+    → (all : List LoadedSection) → all ≡ reads ++ read ∷ [] → GoesOn content (sections_bytes first_layout (sections_of all)) rest new
+section_bytes_more reads read content there rest old new same g next all is =
+    let further = goes_further content there (sections_bytes first_layout (sections_of reads)) (section_bytes first_layout (section_of read)) rest old new same g next in
+    let bytes = sections_push first_layout (sections_of reads) (section_of read) in
+    subst (λ (l : List ℕ). GoesOn content l rest new) (sym (ap (λ (l : List LoadedSection). sections_bytes first_layout (sections_of l)) is ∙ ap (sections_bytes first_layout) (sections_more reads read) ∙ bytes)) further
+
+module _ (stripes : ℕ) where
+  pub no_sections : (reads : List LoadedSection) → reads ≡ [] → AreLoaded stripes reads
+  no_sections reads is = subst (λ (l : List LoadedSection). AreLoaded stripes l) (sym is) (record { fit = tt; rising = tt })
+
+  pub sections_step : (reads : List LoadedSection) (read : LoadedSection) (number : ℕ) → number ≡ length reads → AreLoaded stripes reads → IsLoaded stripes number read
+      → (all : List LoadedSection) → all ≡ reads ++ read ∷ [] → AreLoaded stripes all
+  sections_step reads read number count are next all is =
       let place : number ≡ 0 + length (sections_of reads) = omega (arith, count, length-map reads (λ (r : LoadedSection). section_of r)) in
-      let fit = are_push first_layout stripes 0 (sections_of reads) (section_of read) are.fit (subst (λ n. IsSection first_layout stripes n (section_of read)) place next.0.fits) in
-      let bytes = sections_push first_layout (sections_of reads) (section_of read) in
-      subst (λ (l : List LoadedSection). AreLoaded stripes l × GoesOn content (sections_bytes first_layout (sections_of l)) rest new) (sym is) (
-        record {
-          fit = subst (λ (l : List Section). AreSections first_layout stripes 0 l) (sym (sections_more reads read)) fit;
-          rising = rising_push reads read are.rising next.0.rising;
-        },
-        subst (λ (l : List ℕ). GoesOn content l rest new) (sym (ap (sections_bytes first_layout) (sections_more reads read) ∙ bytes)) further,
-      )
+      let fit = are_push first_layout stripes 0 (sections_of reads) (section_of read) are.fit (subst (λ n. IsSection first_layout stripes n (section_of read)) place next.fits) in
+      subst (λ (l : List LoadedSection). AreLoaded stripes l) (sym is) (record {
+        fit = subst (λ (l : List Section). AreSections first_layout stripes 0 l) (sym (sections_more reads read)) fit;
+        rising = rising_push reads read are.rising next.rising;
+      })
 
   -- behind these sections the next one has a fault
   pub sections_fault : (reads : List LoadedSection) (number offset : ℕ) (content rest : List ℕ) (old new : Unread) → number ≡ length reads → IsBehind old new → length rest ≡ old.left

@@ -83,9 +83,12 @@ abbrev pub HasNoNext : ℕ → ℕ → List (List ℕ × Value) → List ℕ →
 HasNoNext stripes stripe before rest =
     (entry : List ℕ × Value) (others : List ℕ) → rest ≡ entry_bytes first_layout entry ++ others → AreEntries first_layout stripes stripe (before ++ entry ∷ []) → ⊥
 
--- the entry that comes next takes so many bytes
-pub record IsNext (stripes stripe : ℕ) (before : List (List ℕ × Value)) (entry : List ℕ × Value) (used : ℕ) (rest : List ℕ) : Type 0 where
-  pub are : AreEntries first_layout stripes stripe before → AreEntries first_layout stripes stripe (before ++ entry ∷ [])
+-- where the entries before are those of a stripe, they are so with this one behind them
+abbrev pub MayFollow : ℕ → ℕ → List (List ℕ × Value) → List ℕ × Value → Type 0
+MayFollow stripes stripe before entry = AreEntries first_layout stripes stripe before → AreEntries first_layout stripes stripe (before ++ entry ∷ [])
+
+-- the entry stands at the front, and takes so many bytes
+pub record IsNext (entry : List ℕ × Value) (used : ℕ) (rest : List ℕ) : Type 0 where
   pub others : List ℕ
   pub spelled : rest ≡ entry_bytes first_layout entry ++ others
   pub size : used ≡ length (entry_bytes first_layout entry)

@@ -10,6 +10,7 @@ mod marks;
 mod pieces;
 mod sections;
 mod unread;
+mod window;
 mod writer;
 
 pub use gate::must_close;

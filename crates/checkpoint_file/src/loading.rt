@@ -1,5 +1,5 @@
-//! Reads a checkpoint out of its file. Every device call is a look, and one entry's bytes are held at
-//! a time.
+//! Reads a checkpoint out of its file. Every device call is a look, and the bytes of one window are held
+//! at a time.
 ghost use Rattle.std.specs.Prelude.{◌≡◌, ◌⊎◌, ℕ, ◌+◌, ◌*◌, ◌<◌, ◌≤◌, ◌^◌, ◌++◌, ◌∷◌, [], List, length, take, drop, min, false, None, Some, IfOk, IfErr, OnOk, IfSome, IfNone};
 ghost use Rattle.byteorder.specs.Endian.{big_bytes};
 ghost use Rattle.disk_model.specs.Calls.{Looks};
@@ -8,20 +8,19 @@ ghost use Rattle.log_records.specs.Layout.{first_layout};
 ghost use Rattle.store_layout.specs.Checkpoints.{IsCheckpoint, entries_bytes, section_bytes, sections_bytes, is_sealed};
 ghost use Rattle.store_layout.specs.Faults.{IsFault, HasFault, IsBadCheckpoint, size_fault};
 ghost use Rattle.checkpoint_file.specs.Heads.{HasFields, IsHead, failed_in};
-ghost use Rattle.checkpoint_file.specs.Loads.{checkpoint_of, section_of, sections_of, AreRising, IsUnloadable, seen_in, ForRest, IsBehind, GoesOn, RefusesIn, HasNoNext, IsNext, HasFewer, AreSoMany, IsLoaded, AreLoaded, IsBodyOf, IsBodyAt};
+ghost use Rattle.checkpoint_file.specs.Loads.{checkpoint_of, section_of, sections_of, AreRising, IsUnloadable, seen_in, ForRest, IsBehind, GoesOn, RefusesIn, HasNoNext, MayFollow, IsNext, HasFewer, AreSoMany, IsLoaded, AreLoaded, IsBodyOf, IsBodyAt};
+ghost use Rattle.checkpoint_file.specs.Window.{Holds};
 
 use crate::head::{Head, read_head};
 use crate::marks::{are_marked_from, greatest_mark};
 use crate::pieces::{Stripe, entry_at, mark_and_count, may_follow};
 use crate::unread::Unread;
+use crate::window::Window;
 use disk_model::Disk;
 use java_hash::StripeCount;
 use map_types::{Key, Refusal, Value};
 use std::alloc::Global;
 use store_layout::{BODY_OFFSET, SECTION_HEAD_BYTES};
-
-/// The longest entry has a key of 255 bytes and a text of 4,096.
-const MOST_ENTRY_BYTES: usize = 4_355;
 
 /// What a stripe held after the first `mark` commands, in rising byte order of the keys.
 #[derive(Drop)]
@@ -39,40 +38,19 @@ pub struct LoadedCheckpoint {
     pub sections: Vec<LoadedSection>,
 }
 
-// Fills the buffer with the next bytes. A device that gives fewer than its own length says is reported
-// as damage.
-fn fill<D: Disk>(disk: &mut D, unread: Unread, buf: &mut [u8]) -> Result<(), Refusal>
-    requires file { unread.file < 4 }
-    requires few { length buf.old ≤ unread.left }
-    ensures looks { Looks D.states D.failures D.honest (failed_in result) disk.old disk.new }
-    ensures ok { D.honest disk.new → ForRest D.states disk.old unread (λ rest. OnOk result (buf.new ≡ take (length buf.old) rest)) }
-    ensures err { IfErr result (RefusesIn unread.file (λ offset. D.honest disk.new → ForRest D.states disk.old unread (λ rest. ⊥))) }
-{
-    match disk.read(unread.file as usize, unread.at, buf) {
-        Ok(count) if count == buf.len() => Ok(()),
-        Ok(_) => Err(unread.damaged()),
-        Err(_) => Err(Refusal::Failed),
-    }
-}
-
-// The next bytes, as many as the longest entry has, or all where these are fewer.
-fn window<D: Disk>(alloc: Global, disk: &mut D, unread: Unread) -> Result<Vec<u8>, Refusal>
-    requires file { unread.file < 4 }
-    ensures looks { Looks D.states D.failures D.honest (failed_in result) disk.old disk.new }
-    ensures size { IfOk result (λ bytes. length bytes.items ≡ min unread.left 4355) }
-    ensures ok { D.honest disk.new → ForRest D.states disk.old unread (λ rest. IfOk result (λ bytes. bytes.items ≡ take (length bytes.items) rest)) }
-    ensures err { IfErr result (RefusesIn unread.file (λ offset. D.honest disk.new → ForRest D.states disk.old unread (λ rest. ⊥))) }
-{
-    let size = unread.left.min(MOST_ENTRY_BYTES);
-    let mut bytes = vec![in alloc; 0; size]?;
-    fill(disk, unread, &mut bytes)?;
-    Ok(bytes)
-}
-
 // The mark and the count of the section that begins here.
-fn section_head<D: Disk>(disk: &mut D, unread: Unread) -> Result<(u64, usize), Refusal>
+fn section_head<D: Disk>(
+    disk: &mut D,
+    window: &mut Window,
+    unread: Unread,
+) -> Result<(u64, usize), Refusal>
     requires file { unread.file < 4 }
+    requires room { unread.at + unread.left < 2 ^ 64 }
+    requires held { D.honest disk.old
+        → Holds (seen_in D.states disk.old unread.file) window.old }
     ensures looks { Looks D.states D.failures D.honest (failed_in result) disk.old disk.new }
+    ensures held { D.honest disk.new
+        → OnOk result (Holds (seen_in D.states disk.new unread.file) window.new) }
     ensures fits { IfOk result (λ head. (head.0 < 2 ^ 64) × (head.1 < 2 ^ 32)) }
     ensures long { OnOk result (12 ≤ unread.left) }
     ensures ok { D.honest disk.new → ForRest D.states disk.old unread (λ rest. IfOk result (λ head. rest ≡ (big_bytes 8 head.0 ++ big_bytes 4 head.1) ++ drop 12 rest)) }
@@ -81,28 +59,38 @@ fn section_head<D: Disk>(disk: &mut D, unread: Unread) -> Result<(u64, usize), R
     if unread.left < SECTION_HEAD_BYTES {
         return Err(unread.damaged());
     }
-    let mut head = [0; SECTION_HEAD_BYTES];
-    fill(disk, unread, &mut head)?;
-    Ok(mark_and_count(&head))
+    window.fill(disk, unread)?;
+    let bytes = window.front(unread);
+    Ok(mark_and_count(&bytes[..SECTION_HEAD_BYTES]))
 }
 
 // The entry that comes next behind these, and how many bytes it takes.
 fn next_entry<D: Disk>(
     alloc: Global,
     disk: &mut D,
+    window: &mut Window,
     unread: Unread,
     stripe: Stripe,
     before: &[(Key, Value)],
 ) -> Result<((Key, Value), usize), Refusal>
     requires file { unread.file < 4 }
+    requires room { unread.at + unread.left < 2 ^ 64 }
+    requires held { D.honest disk.old
+        → Holds (seen_in D.states disk.old unread.file) window.old }
     ensures looks { Looks D.states D.failures D.honest (failed_in result) disk.old disk.new }
+    ensures held { D.honest disk.new
+        → OnOk result (Holds (seen_in D.states disk.new unread.file) window.new) }
     ensures few { IfOk result (λ x. x.1 ≤ unread.left) }
-    ensures ok { D.honest disk.new → ForRest D.states disk.old unread (λ rest. IfOk result (λ x. IsNext stripe.of.count stripe.number before.now x.0 x.1 rest)) }
+    ensures follows { IfOk result (λ x.
+        MayFollow stripe.of.count stripe.number before.now x.0) }
+    ensures ok { D.honest disk.new → ForRest D.states disk.old unread (λ rest.
+        IfOk result (λ x. IsNext x.0 x.1 rest)) }
     ensures err { IfErr result (RefusesIn unread.file (λ offset. D.honest disk.new → ForRest D.states disk.old unread (λ rest. (offset ≡ unread.at)
         × HasNoNext stripe.of.count stripe.number before.now rest))) }
 {
-    let bytes = window(alloc, disk, unread)?;
-    let Some((entry, others)) = entry_at(alloc, &bytes)? else {
+    window.fill(disk, unread)?;
+    let bytes = window.front(unread);
+    let Some((entry, others)) = entry_at(alloc, bytes)? else {
         return Err(unread.damaged());
     };
     if !may_follow(before, &entry.0, stripe) {
@@ -116,23 +104,30 @@ fn next_entry<D: Disk>(
 fn entries<D: Disk>(
     alloc: Global,
     disk: &mut D,
+    window: &mut Window,
     unread: Unread,
     stripe: Stripe,
     count: usize,
 ) -> Result<(Vec<(Key, Value)>, Unread), Refusal>
     requires file { unread.file < 4 }
     requires room { unread.at + unread.left < 2 ^ 64 }
+    requires held { D.honest disk.old
+        → Holds (seen_in D.states disk.old unread.file) window.old }
     ensures looks { Looks D.states D.failures D.honest (failed_in result) disk.old disk.new }
+    ensures held { D.honest disk.new
+        → OnOk result (Holds (seen_in D.states disk.new unread.file) window.new) }
     ensures behind { IfOk result (λ x. IsBehind unread x.1) }
-    ensures ok { D.honest disk.new → ForRest D.states disk.old unread (λ rest. IfOk result (λ x. AreSoMany stripe.of.count stripe.number count x.0.items
-        × GoesOn (seen_in D.states disk.old unread.file) (entries_bytes first_layout x.0.items) rest x.1)) }
+    ensures many { IfOk result (λ x. AreSoMany stripe.of.count stripe.number count x.0.items) }
+    ensures ok { D.honest disk.new → ForRest D.states disk.old unread (λ rest. IfOk result (λ x.
+        GoesOn (seen_in D.states disk.old unread.file)
+        (entries_bytes first_layout x.0.items) rest x.1)) }
     ensures err { IfErr result (RefusesIn unread.file (λ offset. D.honest disk.new → ForRest D.states disk.old unread (λ rest. (distance : ℕ) × (offset ≡ unread.at + distance)
         × HasFewer stripe.of.count stripe.number count rest distance))) }
 {
     let mut entries = Vec::new(alloc);
     let mut rest = unread;
     for _ in 0..count {
-        let (entry, used) = next_entry(alloc, disk, rest, stripe, &entries)?;
+        let (entry, used) = next_entry(alloc, disk, window, rest, stripe, &entries)?;
         entries.push(entry)?;
         rest = rest.behind(used);
     }
@@ -143,22 +138,29 @@ fn entries<D: Disk>(
 fn section<D: Disk>(
     alloc: Global,
     disk: &mut D,
+    window: &mut Window,
     unread: Unread,
     stripe: Stripe,
 ) -> Result<(LoadedSection, Unread), Refusal>
     requires file { unread.file < 4 }
     requires room { unread.at + unread.left < 2 ^ 64 }
     requires some { stripe.number < stripe.of.count }
+    requires held { D.honest disk.old
+        → Holds (seen_in D.states disk.old unread.file) window.old }
     ensures looks { Looks D.states D.failures D.honest (failed_in result) disk.old disk.new }
+    ensures held { D.honest disk.new
+        → OnOk result (Holds (seen_in D.states disk.new unread.file) window.new) }
     ensures behind { IfOk result (λ x. IsBehind unread x.1) }
-    ensures ok { D.honest disk.new → ForRest D.states disk.old unread (λ rest. IfOk result (λ x. IsLoaded stripe.of.count stripe.number x.0
-        × GoesOn (seen_in D.states disk.old unread.file) (section_bytes first_layout (section_of x.0)) rest x.1)) }
+    ensures loaded { IfOk result (λ x. IsLoaded stripe.of.count stripe.number x.0) }
+    ensures ok { D.honest disk.new → ForRest D.states disk.old unread (λ rest. IfOk result (λ x.
+        GoesOn (seen_in D.states disk.old unread.file)
+        (section_bytes first_layout (section_of x.0)) rest x.1)) }
     ensures err { IfErr result (RefusesIn unread.file (λ offset. D.honest disk.new → ForRest D.states disk.old unread (λ rest. (distance : ℕ) × (offset ≡ unread.at + distance)
         × IsFault first_layout stripe.of.count stripe.number rest distance))) }
 {
-    let (mark, count) = section_head(disk, unread)?;
+    let (mark, count) = section_head(disk, window, unread)?;
     let behind = unread.behind(SECTION_HEAD_BYTES);
-    let (entries, rest) = entries(alloc, disk, behind, stripe, count)?;
+    let (entries, rest) = entries(alloc, disk, window, behind, stripe, count)?;
     Ok((LoadedSection { mark, entries }, rest))
 }
 
@@ -166,16 +168,21 @@ fn section<D: Disk>(
 fn all_sections<D: Disk>(
     alloc: Global,
     disk: &mut D,
+    window: &mut Window,
     unread: Unread,
     stripes: StripeCount,
 ) -> Result<(Vec<LoadedSection>, Unread), Refusal>
     requires file { unread.file < 4 }
     requires room { unread.at + unread.left < 2 ^ 64 }
+    requires held { D.honest disk.old
+        → Holds (seen_in D.states disk.old unread.file) window.old }
     ensures looks { Looks D.states D.failures D.honest (failed_in result) disk.old disk.new }
     ensures behind { IfOk result (λ x. IsBehind unread x.1) }
     ensures many { IfOk result (λ x. length x.0.items ≡ stripes.count) }
-    ensures ok { D.honest disk.new → ForRest D.states disk.old unread (λ rest. IfOk result (λ x. AreLoaded stripes.count x.0.items
-        × GoesOn (seen_in D.states disk.old unread.file) (sections_bytes first_layout (sections_of x.0.items)) rest x.1)) }
+    ensures loaded { IfOk result (λ x. AreLoaded stripes.count x.0.items) }
+    ensures ok { D.honest disk.new → ForRest D.states disk.old unread (λ rest. IfOk result (λ x.
+        GoesOn (seen_in D.states disk.old unread.file)
+        (sections_bytes first_layout (sections_of x.0.items)) rest x.1)) }
     ensures err { IfErr result (RefusesIn unread.file (λ offset. D.honest disk.new → ForRest D.states disk.old unread (λ rest. (distance : ℕ) × (offset ≡ unread.at + distance)
         × HasFault first_layout stripes.count rest distance))) }
 {
@@ -186,7 +193,7 @@ fn all_sections<D: Disk>(
             number,
             of: stripes,
         };
-        let (section, behind) = section(alloc, disk, rest, stripe)?;
+        let (section, behind) = section(alloc, disk, window, rest, stripe)?;
         sections.push(section)?;
         rest = behind;
     }
@@ -203,11 +210,13 @@ fn whole_body<D: Disk>(
     requires file { unread.file < 4 }
     requires room { unread.at + unread.left < 2 ^ 64 }
     ensures looks { Looks D.states D.failures D.honest (failed_in result) disk.old disk.new }
+    ensures loaded { IfOk result (λ sections. AreLoaded stripes.count sections.items) }
     ensures ok { D.honest disk.new → ForRest D.states disk.old unread (λ rest. IfOk result (λ sections. IsBodyOf stripes.count sections.items rest)) }
     ensures err { IfErr result (RefusesIn unread.file (λ offset. D.honest disk.new → ForRest D.states disk.old unread (λ rest. (distance : ℕ) × (offset ≡ unread.at + distance)
         × HasFault first_layout stripes.count rest distance))) }
 {
-    let (sections, behind) = all_sections(alloc, disk, unread, stripes)?;
+    let mut window = Window::new(alloc, unread.left)?;
+    let (sections, behind) = all_sections(alloc, disk, &mut window, unread, stripes)?;
     if behind.left > 0 {
         return Err(behind.damaged());
     }
@@ -255,8 +264,11 @@ fn load_body<D: Disk>(
 ) -> Result<LoadedCheckpoint, Refusal>
     requires { file < 2 }
     ensures looks { Looks D.states D.failures D.honest (failed_in result) disk.old disk.new }
-    ensures ok { D.honest disk.new → IsHead head.now file (seen_in D.states disk.old file) → IfOk result (λ loaded. IsCheckpoint first_layout (checkpoint_of loaded) (seen_in D.states disk.old file)
-        × AreRising loaded.sections.items) }
+    ensures ok { D.honest disk.new → IsHead head.now file (seen_in D.states disk.old file)
+        → IfOk result (λ loaded.
+        IsCheckpoint first_layout (checkpoint_of loaded) (seen_in D.states disk.old file)) }
+    ensures loaded { IfOk result (λ loaded.
+        AreLoaded loaded.stripes.count loaded.sections.items) }
     ensures err { IfErr result (λ refusal. (refusal ≡ Refusal.Failed) ⊎ ((refusal ≡ Refusal.NoMemory) ⊎ (D.honest disk.new → IsHead head.now file (seen_in D.states disk.old file)
         → IsBadCheckpoint first_layout file (seen_in D.states disk.old file) refusal))) }
 {
@@ -276,7 +288,7 @@ fn load_body<D: Disk>(
 }
 
 /// Reads the checkpoint that is sealed in the file; `None` where none is. Besides the entries that it
-/// hands on it holds the bytes of one entry, and memory may be wanting before a fault behind it is met.
+/// hands on it holds the bytes of one window, and memory may be wanting before a fault behind it is met.
 pub fn load<D: Disk>(
     alloc: Global,
     disk: &mut D,
@@ -285,7 +297,9 @@ pub fn load<D: Disk>(
     requires { file < 2 }
     ensures looks { Looks D.states D.failures D.honest (failed_in result) disk.old disk.new }
     ensures some { D.honest disk.new → IfOk result (λ found. IfSome found (λ loaded. IsCheckpoint first_layout (checkpoint_of loaded) (now (D.states disk.old) file).seen)) }
-    ensures rising { D.honest disk.new → IfOk result (λ found. IfSome found (λ loaded. AreRising loaded.sections.items)) }
+    ensures loaded { IfOk result (λ found. IfSome found (λ loaded.
+        AreLoaded loaded.stripes.count loaded.sections.items)) }
+    ensures rising { IfOk result (λ found. IfSome found (λ loaded. AreRising loaded.sections.items)) }
     ensures none { D.honest disk.new → IfOk result (λ found. IfNone found (is_sealed (now (D.states disk.old) file).seen ≡ false)) }
     ensures err { IfErr result (λ refusal. (refusal ≡ Refusal.Failed) ⊎ ((refusal ≡ Refusal.NoMemory) ⊎ (D.honest disk.new → IsUnloadable file (now (D.states disk.old) file).seen refusal))) }
 {

@@ -3,6 +3,7 @@ use Rattle.log_records.specs.Layout.{first_layout}
 use Rattle.disk_model.specs.Calls.{Looks}
 use Rattle.store_layout.specs.Checkpoints.{sections_bytes}
 use Rattle.checkpoint_file.specs.Loads.{sections_of, seen_in, ForRest, IsBehind, GoesOn, AreLoaded}
+use Rattle.checkpoint_file.specs.Window.{Holds}
 use Rattle.checkpoint_file.proofs.loading.all_sections.Given as goal
 
 -- the sections of so many stripes were read with looks alone, and the rest stands behind them
@@ -11,6 +12,8 @@ invariant-loop-number g l = record {
   looks : Looks g.D.Disk.states g.D.Disk.failures g.D.Disk.honest 0 l.fn.disk l.disk;
   behind : IsBehind l.fn.unread l.rest;
   so_many : l.number ≡ length l.sections.items;
-  read : g.D.Disk.honest l.disk → ForRest g.D.Disk.states l.fn.disk l.fn.unread (λ rest. AreLoaded l.stripes.count l.sections.items
-      × GoesOn (seen_in g.D.Disk.states l.fn.disk l.fn.unread.file) (sections_bytes first_layout (sections_of l.sections.items)) rest l.rest);
+  loaded : AreLoaded l.stripes.count l.sections.items;
+  held : g.D.Disk.honest l.disk → Holds (seen_in g.D.Disk.states l.disk l.rest.file) l.window;
+  read : g.D.Disk.honest l.disk → ForRest g.D.Disk.states l.fn.disk l.fn.unread (λ rest.
+      GoesOn (seen_in g.D.Disk.states l.fn.disk l.fn.unread.file) (sections_bytes first_layout (sections_of l.sections.items)) rest l.rest);
 }

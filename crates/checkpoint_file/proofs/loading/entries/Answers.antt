@@ -1,13 +1,14 @@
-use Rattle.std.proofs.Common.{◌≡◌, ◌++◌, ◌∷◌, [], ℕ, List, length, refl, ap, subst, arith, ◌∙◌}
+use Rattle.std.proofs.Common.{◌≡◌, ◌++◌, ◌∷◌, [], ℕ, List, length, refl, sym, ap, subst, arith, ◌∙◌}
 use Rattle.std.proofs.lemmas.List.{length-append}
 use Rattle.std.proofs.lemmas.Result.{err_from_is_err_and}
 use Rattle.map_types.specs.declared.texts.Value.{Value}
 use Rattle.log_records.specs.Layout.{first_layout}
 use Rattle.store_layout.specs.Checkpoints.{entries_bytes}
-use Rattle.checkpoint_file.specs.Loads.{HasNoNext, IsNext}
+use Rattle.checkpoint_file.specs.Loads.{seen_in, HasNoNext, MayFollow}
+use Rattle.checkpoint_file.specs.Window.{Holds}
 use Rattle.checkpoint_file.proofs.LookLemmas.{no_look, looks_on}
 use Rattle.checkpoint_file.proofs.PlaceLemmas.{at_rest_of, refuses_more}
-use Rattle.checkpoint_file.proofs.SectionReading.{no_entries, entries_step, fewer_entries}
+use Rattle.checkpoint_file.proofs.SectionReading.{no_entries, no_entry_bytes, entries_push_one, entry_bytes_more, fewer_entries}
 use Rattle.checkpoint_file.proofs.loading.entries.Goals as goal
 
 pub loop-init : goal.loop-init
@@ -15,7 +16,9 @@ loop-init g c = record {
   looks = no_look g.D.Disk.states g.D.Disk.failures g.D.Disk.honest c.args.disk.now;
   behind = record { file = refl; end = refl };
   so_many = let none = ap (λ (l : List (List ℕ × Value)). length l) c.new-entries.ensures.items in omega (arith, none);
-  read = λ honest rest is size. no_entries c.args.stripe.of.count c.args.stripe.number c.new-entries.result.items c.new-entries.ensures.items _ rest c.args.unread is size;
+  are = no_entries c.args.stripe.of.count c.args.stripe.number c.new-entries.result.items c.new-entries.ensures.items;
+  held = c.requires.held;
+  read = λ honest rest is size. no_entry_bytes c.new-entries.result.items c.new-entries.ensures.items _ rest c.args.unread is size;
 }
 
 pub returns-in_err-entry-clause-looks : goal.returns-in_err-entry-clause-looks
@@ -34,9 +37,9 @@ returns-in_err-entry-clause-err g c =
     (refuses_more c.args.unread.file c.loop.rest.file _ _ _ inv.behind.file
     (λ offset why honest rest is size.
     let so_far = inv.read (c.in_err-entry.ensures.looks.was_honest honest) rest is size in
-    fewer_entries c.args.stripe.of.count c.args.stripe.number c.args.count offset es _ rest c.args.unread c.loop.rest inv.behind size so_far.0 so_far.1 (omega (arith, counted))
-    (subst (λ (l : List (List ℕ × Value)). (offset ≡ c.loop.rest.at) × HasNoNext c.args.stripe.of.count c.args.stripe.number l so_far.1.left) c.deref.ensures.value
-    (at_rest_of g.D.Disk.states g.D.Disk.failures g.D.Disk.honest c.args.disk.now c.loop.disk c.args.unread c.loop.rest (entries_bytes first_layout es) rest _ inv.looks inv.behind.file so_far.1 (why honest))))
+    fewer_entries c.args.stripe.of.count c.args.stripe.number c.args.count offset es _ rest c.args.unread c.loop.rest inv.behind size inv.are so_far (omega (arith, counted))
+    (subst (λ (l : List (List ℕ × Value)). (offset ≡ c.loop.rest.at) × HasNoNext c.args.stripe.of.count c.args.stripe.number l so_far.left) c.deref.ensures.value
+    (at_rest_of g.D.Disk.states g.D.Disk.failures g.D.Disk.honest c.args.disk.now c.loop.disk c.args.unread c.loop.rest (entries_bytes first_layout es) rest _ inv.looks inv.behind.file so_far (why honest))))
     c.in_err-entry.ensures.err)
 
 pub returns-in_err-push-clause-looks : goal.returns-in_err-push-clause-looks
@@ -58,11 +61,13 @@ loop-preserved g c =
       looks = looks_on g.D.Disk.states g.D.Disk.failures g.D.Disk.honest 0 c.args.disk.now c.loop.disk c.next_entry.new.disk inv.looks c.in_ok-entry.ensures.looks;
       behind = record { file = c.behind-rest.ensures.same.file ∙ inv.behind.file; end = omega (arith, end_before, end_after) };
       so_many = omega (arith, counted, length-append es (entry ∷ []), ap (λ (l : List (List ℕ × Value)). length l) items);
+      are = entries_push_one c.args.stripe.of.count c.args.stripe.number es entry c.push.new.self.items items inv.are
+          (subst (λ (l : List (List ℕ × Value)). MayFollow c.args.stripe.of.count c.args.stripe.number l entry) c.deref.ensures.value c.in_ok-entry.ensures.follows);
+      held = λ honest. subst (λ (n : ℕ). Holds (seen_in g.D.Disk.states c.next_entry.new.disk n) c.next_entry.new.window) (sym c.behind-rest.ensures.same.file) (c.in_ok-entry.ensures.held honest);
       read = λ honest rest is size.
           let so_far = inv.read (c.in_ok-entry.ensures.looks.was_honest honest) rest is size in
-          entries_step c.args.stripe.of.count c.args.stripe.number es entry c.in_ok-entry.used _ rest c.loop.rest c.behind-rest.result so_far.0 so_far.1
-          (subst (λ (l : List (List ℕ × Value)). IsNext c.args.stripe.of.count c.args.stripe.number l entry c.in_ok-entry.used so_far.1.left) c.deref.ensures.value
-          (at_rest_of g.D.Disk.states g.D.Disk.failures g.D.Disk.honest c.args.disk.now c.loop.disk c.args.unread c.loop.rest (entries_bytes first_layout es) rest _ inv.looks inv.behind.file so_far.1
-          (c.in_ok-entry.ensures.ok honest)))
+          entry_bytes_more es entry c.in_ok-entry.used _ rest c.loop.rest c.behind-rest.result so_far
+          (at_rest_of g.D.Disk.states g.D.Disk.failures g.D.Disk.honest c.args.disk.now c.loop.disk c.args.unread c.loop.rest (entries_bytes first_layout es) rest _ inv.looks inv.behind.file so_far
+          (c.in_ok-entry.ensures.ok honest))
           c.behind-rest.ensures.place c.behind-rest.ensures.left c.push.new.self.items items;
     }

@@ -4,6 +4,7 @@ use Rattle.disk_model.specs.Calls.{Looks}
 use Rattle.store_layout.specs.Checkpoints.{entries_bytes}
 use Rattle.store_layout.specs.Faults.{AreEntries}
 use Rattle.checkpoint_file.specs.Loads.{seen_in, ForRest, IsBehind, GoesOn}
+use Rattle.checkpoint_file.specs.Window.{Holds}
 use Rattle.checkpoint_file.proofs.loading.entries.Given as goal
 
 -- so many entries were read with looks alone, and the rest stands behind them
@@ -12,6 +13,8 @@ invariant-loop g l = record {
   looks : Looks g.D.Disk.states g.D.Disk.failures g.D.Disk.honest 0 l.fn.disk l.disk;
   behind : IsBehind l.fn.unread l.rest;
   so_many : l.counter ≡ length l.entries.items;
-  read : g.D.Disk.honest l.disk → ForRest g.D.Disk.states l.fn.disk l.fn.unread (λ rest. AreEntries first_layout l.stripe.of.count l.stripe.number l.entries.items
-      × GoesOn (seen_in g.D.Disk.states l.fn.disk l.fn.unread.file) (entries_bytes first_layout l.entries.items) rest l.rest);
+  are : AreEntries first_layout l.stripe.of.count l.stripe.number l.entries.items;
+  held : g.D.Disk.honest l.disk → Holds (seen_in g.D.Disk.states l.disk l.rest.file) l.window;
+  read : g.D.Disk.honest l.disk → ForRest g.D.Disk.states l.fn.disk l.fn.unread (λ rest.
+      GoesOn (seen_in g.D.Disk.states l.fn.disk l.fn.unread.file) (entries_bytes first_layout l.entries.items) rest l.rest);
 }

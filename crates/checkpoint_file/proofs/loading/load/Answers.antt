@@ -35,12 +35,4 @@ returns-in_ok-load_body-in-Some-clause-some g c = λ honest.
     let same = same_seen g.D.Disk.states g.D.Disk.failures g.D.Disk.honest c.args.disk.now c.read_head.new.disk file file refl c.in_ok-head.ensures.looks in
     let is = rw c.in-Some.is at (c.in_ok-head.ensures.some (c.in_ok-load_body-in-Some.ensures.looks.was_honest honest)) in
     let found = c.in_ok-load_body-in-Some.ensures.ok honest (subst (λ (content : List ℕ). IsHead c.in-Some.head file content) (sym same) is) in
-    subst (λ (content : List ℕ). IsCheckpoint first_layout (checkpoint_of c.in_ok-load_body-in-Some.field-0) content) same found.0
-
-pub returns-in_ok-load_body-in-Some-clause-rising : goal.returns-in_ok-load_body-in-Some-clause-rising
-returns-in_ok-load_body-in-Some-clause-rising g c = λ honest.
-    let file = c.args.file in
-    let same = same_seen g.D.Disk.states g.D.Disk.failures g.D.Disk.honest c.args.disk.now c.read_head.new.disk file file refl c.in_ok-head.ensures.looks in
-    let is = rw c.in-Some.is at (c.in_ok-head.ensures.some (c.in_ok-load_body-in-Some.ensures.looks.was_honest honest)) in
-    let found = c.in_ok-load_body-in-Some.ensures.ok honest (subst (λ (content : List ℕ). IsHead c.in-Some.head file content) (sym same) is) in
-    found.1
+    subst (λ (content : List ℕ). IsCheckpoint first_layout (checkpoint_of c.in_ok-load_body-in-Some.field-0) content) same found

@@ -63,9 +63,7 @@ returns-clause-ok g c = λ honest is.
     c.in_ok-stripes.ensures.looks is.fields place.1 (c.in_ok-stripes.ensures.inside first) (c.in_ok-sections.ensures.ok honest) in
     let greatest : c.greatest_mark-greatest.result ≡ greatest_mark (sections_of reads) = c.greatest_mark-greatest.ensures ∙ ap (λ (l : List LoadedSection). greatest_mark (sections_of l)) c.deref.ensures.value in
     let marks = subst (λ (l : List LoadedSection). AreMarkedFrom c.args.head.now.low (sections_of l)) c.deref-2.ensures.value (c.are_marked_from-is_marked.ensures.0 c.if-not-is_marked.false) in
-    let low = c.requires in (
-      is_checkpoint c.args.file (seen_in g.D.Disk.states c.args.disk.now c.args.file) c.args.head.now is (c.in_ok-stripes.ensures.ok first is.fields) loaded refl refl place.0 body
-          (all_bytes (g.D.Disk.states c.args.disk.now) c.args.file (omega (arith, low)) (g.met.D.Disk.are_coherent c.args.disk.now))
-          (sym greatest ∙ c.if-greatest-head.false) marks,
-      body.loaded.rising,
-    )
+    let low = c.requires in
+    is_checkpoint c.args.file (seen_in g.D.Disk.states c.args.disk.now c.args.file) c.args.head.now is (c.in_ok-stripes.ensures.ok first is.fields) loaded refl refl place.0 body
+    (all_bytes (g.D.Disk.states c.args.disk.now) c.args.file (omega (arith, low)) (g.met.D.Disk.are_coherent c.args.disk.now))
+    (sym greatest ∙ c.if-greatest-head.false) marks

@@ -5,7 +5,7 @@ use Rattle.checkpoint_file.specs.declared.loading.LoadedSection.{LoadedSection}
 use Rattle.checkpoint_file.specs.Loads.{seen_in}
 use Rattle.checkpoint_file.proofs.LookLemmas.{looks_on, same_seen}
 use Rattle.checkpoint_file.proofs.PlaceLemmas.{at_rest_of, refuses_more}
-use Rattle.checkpoint_file.proofs.SectionReading.{section_begins, section_whole, no_section, bad_section}
+use Rattle.checkpoint_file.proofs.SectionReading.{section_begins, section_loaded, section_whole, no_section, bad_section}
 use Rattle.checkpoint_file.proofs.loading.section.Goals as goal
 
 pub returns-in_err-mark-clause-err : goal.returns-in_err-mark-clause-err
@@ -55,5 +55,10 @@ returns-clause-ok g c = λ honest rest is size.
     section_whole c.args.stripe.of.count c.args.stripe.number read count (seen_in g.D.Disk.states c.args.disk.now c.args.unread.file) (seen_in g.D.Disk.states c.section_head.new.disk c.behind-behind.result.file) rest
     c.behind-behind.result c.in_ok-entries.rest
     (same_seen g.D.Disk.states g.D.Disk.failures g.D.Disk.honest c.args.disk.now c.section_head.new.disk c.args.unread.file c.behind-behind.result.file same c.in_ok-mark.ensures.looks)
-    c.in_ok-mark.ensures.fits.0 c.in_ok-mark.ensures.fits.1 first
+    c.in_ok-entries.ensures.many first
     (at_rest_of g.D.Disk.states g.D.Disk.failures g.D.Disk.honest c.args.disk.now c.section_head.new.disk c.args.unread c.behind-behind.result head rest _ c.in_ok-mark.ensures.looks same first (c.in_ok-entries.ensures.ok honest))
+
+pub returns-clause-loaded : goal.returns-clause-loaded
+returns-clause-loaded g c =
+    let read : LoadedSection = record { mark = c.in_ok-mark.mark; entries = c.in_ok-entries.entries } in
+    section_loaded c.args.stripe.of.count c.args.stripe.number read c.in_ok-mark.count c.in_ok-mark.ensures.fits.0 c.in_ok-mark.ensures.fits.1 c.in_ok-entries.ensures.many

@@ -12,7 +12,7 @@ returns-then-behind-gt0-clause-err g c =
       c.damaged.ensures ∙ ap (λ (n : ℕ). Damaged n behind.at) c.in_ok-sections.ensures.behind.file,
       λ honest rest is size.
           let found = c.in_ok-sections.ensures.ok honest rest is size in
-          is_left_over c.args.stripes.count c.in_ok-sections.sections.items _ rest c.args.unread behind behind.at found.0 c.in_ok-sections.ensures.many c.in_ok-sections.ensures.behind size found.1
+          is_left_over c.args.stripes.count c.in_ok-sections.sections.items _ rest c.args.unread behind behind.at c.in_ok-sections.ensures.loaded c.in_ok-sections.ensures.many c.in_ok-sections.ensures.behind size found
           c.if-behind-gt0.true refl,
     ))
 
@@ -20,4 +20,4 @@ pub returns-clause-ok : goal.returns-clause-ok
 returns-clause-ok g c = λ honest rest is size.
     let found = c.in_ok-sections.ensures.ok honest rest is size in
     fills c.args.stripes.count c.in_ok-sections.sections.items (seen_in g.D.Disk.states c.args.disk.now c.args.unread.file) rest c.args.unread c.in_ok-sections.behind
-    found.0 c.in_ok-sections.ensures.many found.1 (let none = c.if-behind-gt0.false in omega (arith, none))
+    c.in_ok-sections.ensures.loaded c.in_ok-sections.ensures.many found (let none = c.if-behind-gt0.false in omega (arith, none))
