@@ -3,7 +3,9 @@ ghost use Rattle.std.specs.Prelude.{◌≡◌, ◌^◌, ◌-◌, ◌↔◌, IfOk
 ghost use Rattle.std.specs.Option.{option_copied};
 ghost use Rattle.std.specs.FinMap as finite;
 ghost use Rattle.map_model.specs.Steps.{answer};
+ghost use Rattle.bin_table.specs.Chains.{HasDistinctKeys};
 ghost use Rattle.bin_table.specs.Tables.{spread_of_key};
+ghost use Rattle.bin_transfer.specs.Due.{IsFewestBins};
 ghost use Rattle.atomic_methods.specs.PartState.{HasGrown};
 ghost use Rattle.atomic_methods.specs.Actions.{change_of, is_in_place, Carries};
 ghost use Rattle.atomic_methods.specs.Prepared.{acted, CanAct, IsPrepared};
@@ -67,6 +69,24 @@ impl Part {
     {
         Ok(Part {
             table: Growing::new(alloc, stripes)?,
+        })
+    }
+
+    /// A part of a map with so many stripes that has these entries, no two of one key. It has at
+    /// once the bins that it needs, and copies no key.
+    pub fn with_entries(
+        alloc: Global,
+        stripes: StripeCount,
+        entries: Vec<(Key, Value)>,
+    ) -> Result<Part, AllocError>
+        requires { HasDistinctKeys entries.items }
+        ensures map { IfOk result (λ part. part.map ≡ finite.from_entries entries.items) }
+        ensures stripes { IfOk result (λ part. part.growth.stripes ≡ stripes.count) }
+        ensures bins { IfOk result (λ part. IsFewestBins (finite.len part.map) part.growth.bins) }
+        ensures moved { IfOk result (λ part. part.growth.moved ≡ None) }
+    {
+        Ok(Part {
+            table: Growing::with_entries(alloc, stripes, entries)?,
         })
     }
 

@@ -110,59 +110,19 @@ own_same n parts i d old new there same are =
 
 -- ---- the empty map
 
-abbrev nothing : Map
+abbrev pub nothing : Map
 nothing = finite.empty
 
 unmapped : (q : List ℕ) → finite.get nothing q ≡ None
 unmapped q = finite.get-entries nothing q ∙ ap (λ (es : List (List ℕ × Value)). finite.find (slice_cmp nat_cmp) q es) no_entries
 
-no_part : (n s : ℕ) → part_of n s nothing ≡ nothing
+pub no_part : (n s : ℕ) → part_of n s nothing ≡ nothing
 no_part n s = same_gets _ _ (λ q. get-part_of n s nothing q ∙ elim (is_in_stripe n s q) as (λ b. cond b (finite.get nothing q) None ≡ finite.get nothing q) [
   | true ↦ refl
   | false ↦ sym (unmapped q)
 ])
 
-abbrev pub IsBlank : ℕ → PartState → Type 0
-IsBlank n p = (p.map ≡ finite.empty) × (p.growth.stripes ≡ n)
-
-blank_maps : (n a : ℕ) (parts : List PartState) → AllByRecursion (IsBlank n) parts → map (λ (p : PartState). p.map) parts ≡ map (λ s. part_of n s nothing) (range_with_len a (length parts))
-blank_maps n a [] all = refl
-blank_maps n a (p ∷ parts) all = ap₂ (λ (x : Map) (xs : List Map). x ∷ xs) (all.0.0 ∙ sym (no_part n a)) (blank_maps n (a + 1) parts all.1)
-
-blank_laid : (n : ℕ) (parts : List PartState) → AllByRecursion (IsBlank n) parts → AllByRecursion (λ (p : PartState). p.growth.stripes ≡ n) parts
-blank_laid n [] all = tt
-blank_laid n (p ∷ parts) all = (all.0.1, blank_laid n parts all.1)
-
--- empty parts are those of the empty map
-pub blank : (n : ℕ) (parts : List PartState) → length parts ≡ n → AllByRecursion (IsBlank n) parts → IsDivided n finite.empty parts
-blank n parts size all = record {
-  maps = blank_maps n 0 parts all ∙ ap (λ k. map (λ s. part_of n s nothing) (range_with_len 0 k)) size;
-  laid = blank_laid n parts all;
-}
-
 -- ---- entries
-
--- one entry more at the front
-pub put_more : (n k : ℕ) → k ≡ n → (old new : List PartState) (key : List ℕ) (value : Value) (es : List (List ℕ × Value))
-    → ((m : Map) → IsDivided k m old → IsDivided k (step m (record { key = key; change = Put value })).map new)
-    → IsDivided n (finite.from_entries es) old → IsDivided n (finite.from_entries ((key, value) ∷ es)) new
-put_more n k e old new key value es made divided =
-    subst (λ j. IsDivided j (finite.from_entries ((key, value) ∷ es)) new) e (made (finite.from_entries es) (subst (λ j. IsDivided j (finite.from_entries es) old) (sym e) divided))
 
 pub split_more : {X : Type 0} (all before rest done : List X) (x : X) → all ≡ before ++ done → before ≡ rest ++ x ∷ [] → all ≡ rest ++ (x ∷ done)
 split_more all before rest done x one two = one ∙ ap (λ l. l ++ done) two ∙ append_assoc rest (x ∷ []) done
-
--- the entries of one section more
-pub entries_more : (n k : ℕ) → k ≡ n → (old new : List PartState) (es more behind : List (List ℕ × Value))
-    → ((b : List (List ℕ × Value)) → IsDivided k (finite.from_entries b) old → IsDivided k (finite.from_entries (es ++ b)) new)
-    → IsDivided n (finite.from_entries (more ++ behind)) old → IsDivided n (finite.from_entries ((es ++ more) ++ behind)) new
-entries_more n k e old new es more behind added divided =
-    subst (λ (l : List (List ℕ × Value)). IsDivided n (finite.from_entries l) new) (sym (append_assoc es more behind))
-    (subst (λ j. IsDivided j (finite.from_entries (es ++ (more ++ behind))) new) e (added (more ++ behind) (subst (λ j. IsDivided j (finite.from_entries (more ++ behind)) old) (sym e) divided)))
-
--- all entries, on the empty map
-pub all_added : (n k j : ℕ) → k ≡ n → j ≡ k → (old new : List PartState) (es : List (List ℕ × Value)) → IsDivided n finite.empty old
-    → ((b : List (List ℕ × Value)) → IsDivided k (finite.from_entries b) old → IsDivided k (finite.from_entries (es ++ b)) new) → IsDivided j (finite.from_entries es) new
-all_added n k j e f old new es start added =
-    subst (λ i. IsDivided i (finite.from_entries es) new) (sym f)
-    (subst (λ (l : List (List ℕ × Value)). IsDivided k (finite.from_entries l) new) (append-nil es) (added [] (subst (λ i. IsDivided i nothing old) (sym e) start)))

@@ -1,4 +1,5 @@
 mod DividingLemmas
+mod GroupingLemmas
 mod CountingLemmas
 mod ReplayLemmas
 mod LogReadingLemmas

@@ -1,22 +1,20 @@
 //! The map while it is restored, divided into the parts of its stripes.
-ghost use Rattle.std.specs.Prelude.{◌≡◌, ◌++◌, ◌∷◌, ℕ, List, length, IfOk, IfErr, OnOk};
+ghost use Rattle.std.specs.Prelude.{◌≡◌, length, IfOk, IfErr, OnOk};
 ghost use Rattle.std.specs.Coded.{Coded-set, coded_ℕ, coded_list};
 ghost use Rattle.std.specs.FinMap as finite;
 ghost use Rattle.map_types.specs.contracts.texts.Value as value_type;
-ghost use Rattle.map_types.specs.declared.texts.Value.{Value};
 ghost use Rattle.map_model.specs.Maps.{Map};
 ghost use Rattle.map_model.specs.Parts.{parts_of, union_of};
 ghost use Rattle.map_model.specs.Steps.{step};
 ghost use Rattle.one_history.specs.OneHistory.{AreParts};
 ghost use Rattle.one_history.specs.Turns.{maps_of};
-ghost use Rattle.recovery.specs.Dividing.{IsDivided};
-ghost use Rattle.recovery.specs.Counting.{entries_in};
+ghost use Rattle.recovery.specs.Dividing.{AreGroups, IsDivided, lists_of};
 
+use crate::grouping::Groups;
 use atomic_methods::Part;
-use checkpoint_file::LoadedSection;
 use java_hash::{StripeCount, stripe_of};
 use map_model::laws::laws_of_parts;
-use map_types::{Change, Command, Key, Refusal, Value};
+use map_types::{Command, Refusal};
 use std::alloc::Global;
 
 /// The parts of a map, one for each stripe in order.
@@ -29,16 +27,20 @@ pub(crate) struct Divided {
 }
 
 impl Divided {
-    /// The parts of the empty map.
-    pub(crate) fn new(alloc: Global, stripes: StripeCount) -> Result<Divided, Refusal>
-        ensures ok { IfOk result (λ divided. IsDivided stripes.count finite.empty divided.parts.items) }
-        ensures stripes { IfOk result (λ divided. divided.stripes ≡ stripes) }
+    /// The parts of the map with these entries.
+    pub(crate) fn with_entries(alloc: Global, groups: Groups) -> Result<Divided, Refusal>
+        requires { (m : Map) × AreGroups groups.stripes.count m (lists_of groups.lists) }
+        ensures ok { IfOk result (λ divided. (m : Map)
+            → AreGroups groups.stripes.count m (lists_of groups.lists)
+            → IsDivided groups.stripes.count m divided.parts.items) }
+        ensures stripes { IfOk result (λ divided. divided.stripes ≡ groups.stripes) }
         ensures err { IfErr result (λ refusal. refusal ≡ Refusal.NoMemory) }
     {
         laws_of_parts();
+        let Groups { stripes, lists } = groups;
         let mut parts = Vec::new(alloc);
-        for _ in 0..stripes.get() {
-            parts.push(Part::new(alloc, stripes)?)?;
+        for list in lists {
+            parts.push(Part::with_entries(alloc, stripes, list)?)?;
         }
         Ok(Divided { stripes, parts })
     }
@@ -55,41 +57,6 @@ impl Divided {
         let part = &mut self.parts[stripe];
         let prepared = part.prepare(alloc, command)?;
         part.act(prepared);
-        Ok(())
-    }
-
-    /// Maps these keys, of which each stands there once.
-    pub(crate) fn add(
-        &mut self,
-        alloc: Global,
-        mut entries: Vec<(Key, Value)>,
-    ) -> Result<(), Refusal>
-        ensures stripes { self.new.stripes ≡ self.old.stripes }
-        ensures ok { OnOk result ((behind : List (List ℕ × Value)) → IsDivided self.old.stripes.count (finite.from_entries behind) self.old.parts.items
-            → IsDivided self.old.stripes.count (finite.from_entries (entries.items ++ behind)) self.new.parts.items) }
-        ensures err { IfErr result (λ refusal. refusal ≡ Refusal.NoMemory) }
-    {
-        while let Some((key, value)) = entries.pop() {
-            let change = Change::Put(value);
-            self.change(alloc, &Command { key, change })?;
-        }
-        Ok(())
-    }
-
-    /// Maps the keys of the sections, of which each stands there once.
-    pub(crate) fn add_all(
-        &mut self,
-        alloc: Global,
-        mut sections: Vec<LoadedSection>,
-    ) -> Result<(), Refusal>
-        ensures stripes { self.new.stripes ≡ self.old.stripes }
-        ensures ok { OnOk result ((behind : List (List ℕ × Value)) → IsDivided self.old.stripes.count (finite.from_entries behind) self.old.parts.items
-            → IsDivided self.old.stripes.count (finite.from_entries (entries_in sections.items ++ behind)) self.new.parts.items) }
-        ensures err { IfErr result (λ refusal. refusal ≡ Refusal.NoMemory) }
-    {
-        while let Some(section) = sections.pop() {
-            self.add(alloc, section.entries)?;
-        }
         Ok(())
     }
 }

@@ -4,6 +4,7 @@
 mod divided;
 mod first_bytes;
 mod formatting;
+mod grouping;
 mod heads;
 mod logs;
 mod new_store;

@@ -7,7 +7,7 @@ ghost use Rattle.ticket_order.specs.declared.record.Record.{Record};
 ghost use Rattle.one_history.specs.Turns.{opening_of};
 ghost use Rattle.stripe_locks.specs.Passes.{begun_with, stripe_count};
 ghost use Rattle.store_layout.specs.Opening.{AreBadLogs, Refuses, StandsFor};
-ghost use Rattle.checkpoint_file.specs.Loads.{checkpoint_of, AreRising};
+ghost use Rattle.checkpoint_file.specs.Loads.{checkpoint_of, AreLoaded, AreRising};
 ghost use Rattle.gate_log.specs.Scan.{failed_in};
 ghost use Rattle.recovery.specs.Dividing.{ArePartsOf};
 ghost use Rattle.recovery.specs.LogReading.{contents_of, IsResumed, RefusesFor};
@@ -49,6 +49,7 @@ fn restore_from<D: Disk>(
     stripes: StripeCount,
     loaded: LoadedCheckpoint,
 ) -> Result<Restored, Refusal>
+    requires { AreLoaded loaded.stripes.count loaded.sections.items }
     ensures looks { Looks D.states D.failures D.honest (failed_in result) disk.old disk.new }
     ensures resumed { IfOk result (λ found. IsResumed found.log) }
     ensures parts { IfOk result (λ found. ArePartsOf stripes.count found.parts.items) }

@@ -4,10 +4,12 @@ ghost use Rattle.std.specs.FinMap as finite;
 ghost use Rattle.java_hash.specs.Stripes.{stripe_of};
 ghost use Rattle.map_model.specs.Maps.{Map};
 ghost use Rattle.map_model.specs.Steps.{map_after};
+ghost use Rattle.checkpoint_file.specs.Loads.{AreLoaded};
 ghost use Rattle.recovery.specs.Counting.{counted_of, entries_in, greatest_of, marks_in};
 ghost use Rattle.recovery.specs.Restoring.{HasMap, IsSameFrame};
 
 use crate::divided::Divided;
+use crate::grouping::Groups;
 use checkpoint_file::{LoadedCheckpoint, LoadedSection};
 use java_hash::{StripeCount, stripe_of};
 use map_types::Refusal;
@@ -54,6 +56,7 @@ impl Restoring {
         stripes: StripeCount,
         loaded: LoadedCheckpoint,
     ) -> Result<Restoring, Refusal>
+        requires { AreLoaded loaded.stripes.count loaded.sections.items }
         ensures map { IfOk result (λ restoring. HasMap restoring (finite.from_entries (entries_in loaded.sections.items))) }
         ensures stripes { IfOk result (λ restoring. restoring.divided.stripes ≡ stripes) }
         ensures of { IfOk result (λ restoring. restoring.of ≡ loaded.stripes) }
@@ -61,8 +64,8 @@ impl Restoring {
         ensures err { IfErr result (λ refusal. refusal ≡ Refusal.NoMemory) }
     {
         let marks = marks_of(alloc, &loaded.sections)?;
-        let mut divided = Divided::new(alloc, stripes)?;
-        divided.add_all(alloc, loaded.sections)?;
+        let groups = Groups::of_sections(alloc, stripes, loaded.sections)?;
+        let divided = Divided::with_entries(alloc, groups)?;
         let of = loaded.stripes;
         Ok(Restoring { divided, of, marks })
     }

@@ -57,7 +57,7 @@ returns-clause-ok g c = λ honest.
     let same_contents = ap {B = Contents} (λ (files : Files) (n : ℕ). (files n).seen) (same_now g.D.Disk.states g.D.Disk.failures g.D.Disk.honest 0 c.args.disk.now c.load.new.disk first) in
     let same = ap (λ (files : Files). (files c.in_ok-file.file).seen) (same_now g.D.Disk.states g.D.Disk.failures g.D.Disk.honest 0 c.args.disk.now c.newest_file.new.disk c.in_ok-file.ensures.looks) in
     let checkpoint = subst (λ (content : List ℕ). IsCheckpoint first_layout (checkpoint_of c.in-Some.loaded) content) same (rw c.in-Some.is at (c.in_ok-loaded.ensures.some later)) in
-    let rising = rw c.in-Some.is at (c.in_ok-loaded.ensures.rising later) in
+    let rising = rw c.in-Some.is at c.in_ok-loaded.ensures.rising in
     if_ok _ (IsOpened contents c.args.stripes.count) c.restore_from.result
     (λ found restored. is_opened contents c.in_ok-file.file used c.in-Some.loaded c.args.stripes.count found checkpoint
     (subst (λ (x : Contents). IsRestored x (checkpoint_of c.in-Some.loaded) c.args.stripes.count found) same_contents restored))

@@ -1,9 +1,22 @@
-use Rattle.std.proofs.Common.{ap}
+use Rattle.std.proofs.Common.{sym, ap, subst, ◌∙◌}
+use Rattle.std.specs.FinMap as finite
+use Rattle.log_records.specs.Layout.{first_layout}
 use Rattle.recovery.specs.Counting.{entries_in}
-use Rattle.recovery.proofs.DividingLemmas.{all_added}
+use Rattle.recovery.specs.Dividing.{AreGroups, IsDivided, lists_of}
+use Rattle.recovery.proofs.GroupingLemmas.{distinct_entries}
 use Rattle.recovery.proofs.restoring.Restoring.new.Goals as goal
+
+pub of_sections-requires : goal.of_sections-requires
+of_sections-requires c = distinct_entries first_layout c.args.loaded.stripes.count 0 c.args.loaded.sections.items c.requires.fit c.requires.rising
+
+pub with_entries-requires : goal.with_entries-requires
+with_entries-requires c =
+    let m = finite.from_entries (entries_in c.args.loaded.sections.items) in
+    (m, subst (λ n. AreGroups n m (lists_of c.in_ok-groups.groups.lists)) (sym (ap (λ s. s.count) c.in_ok-groups.ensures.stripes)) c.in_ok-groups.ensures.ok)
 
 pub returns-clause-map : goal.returns-clause-map
 returns-clause-map c =
-    all_added c.args.stripes.count c.in_ok-divided.divided.stripes.count c.add_all.new.self.stripes.count (ap (λ s. s.count) c.in_ok-divided.ensures.stripes) (ap (λ s. s.count) c.in_ok-add_all.ensures.stripes)
-    c.in_ok-divided.divided.parts.items c.add_all.new.self.parts.items (entries_in c.args.loaded.sections.items) c.in_ok-divided.ensures.ok c.in_ok-add_all.ensures.ok
+    let m = finite.from_entries (entries_in c.args.loaded.sections.items) in
+    let same = ap (λ s. s.count) c.in_ok-groups.ensures.stripes in
+    subst (λ n. IsDivided n m c.in_ok-divided.divided.parts.items) (sym (ap (λ s. s.count) c.in_ok-divided.ensures.stripes))
+    (c.in_ok-divided.ensures.ok m (subst (λ n. AreGroups n m (lists_of c.in_ok-groups.groups.lists)) (sym same) c.in_ok-groups.ensures.ok))
