@@ -1,5 +1,10 @@
+pub mod Answering
+pub mod Beginning
 pub mod Connections
+pub mod MoveLists
 pub mod Parts
+pub mod Queues
 pub mod Rows
 pub mod Streams
+pub mod Turning
 pub mod Turns

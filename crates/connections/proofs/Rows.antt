@@ -1,5 +1,5 @@
 -- The answers to messages behind others, all of which were answered.
-use Rattle.std.proofs.Common.{◌≡◌, suc, List, [], ◌∷◌, ◌++◌, length, Ok, Err, refl, sym, ap, subst, ◌∙◌, append_assoc, inr}
+use Rattle.std.proofs.Common.{◌≡◌, suc, List, [], ◌∷◌, ◌++◌, length, Ok, Err, refl, sym, ap, ◌∙◌, append_assoc, inr}
 use Rattle.std.specs.List.{flat_map}
 use Rattle.std.proofs.lemmas.List.{append-nil}
 use Rattle.std.proofs.lemmas.List.Concat.{flat_map-append}
@@ -7,7 +7,7 @@ use Rattle.wire_frames.specs.declared.requests.Request.{Request}
 use Rattle.wire_frames.specs.Messages.{Message}
 use Rattle.wire_frames.specs.Replies.{reply_frame}
 use Rattle.connections.specs.Dialogue.{Answer, Call, row, replies, requests, asked, IsFront, IsEnded, Dialogue}
-use Rattle.connections.specs.Connection.{Runs, GoesOn}
+use Rattle.connections.specs.Connection.{GoesOn}
 use Rattle.connections.specs.Progress.{IsFull}
 
 row_more : (ms : List Message) (made : List Call) (ns : List Message) (more : List Call) → IsFull ms made → row (ms ++ ns) (made ++ more) ≡ row ms made ++ row ns more
@@ -77,7 +77,3 @@ replies_more ms made ns more f =
 pub ended_more : (ms : List Message) (made : List Call) (ns : List Message) (more : List Call) → IsFull ms made → IsEnded (row ns more) → IsEnded (row (ms ++ ns) (made ++ more))
 ended_more ms made ns more f e =
     (row ms made ++ e.0, e.1, row_more ms made ns more f ∙ ap (λ (x : List Answer). row ms made ++ x) e.2 ∙ sym (append_assoc (row ms made) e.0 (e.1 ∷ [])), e.3)
-
-pub runs_then : {S : Type 0} (took : S → Request → Answer → S → Type 0) (a b c : S) (made more : List Call) → Runs took a made b → Runs took b more c → Runs took a (made ++ more) c
-runs_then took a b c [] more p q = subst (λ (x : _). Runs took x more c) p q
-runs_then took a b c (k ∷ made) more p q = (p.0, p.1, p.2, p.3, runs_then took p.0 b c made more p.4 q)

@@ -1,3 +1,5 @@
 pub mod Connection
+pub mod Deferred
 pub mod Dialogue
+pub mod Moves
 pub mod Progress

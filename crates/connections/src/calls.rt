@@ -1,16 +1,41 @@
 //! What answers requests.
 
+ghost use Rattle.std.specs.Prelude.{Result};
+ghost use Rattle.map_types.specs.declared.refusals.Refusal.{Refusal};
 ghost use Rattle.wire_frames.specs.declared.requests.Request.{Request};
 ghost use Rattle.connections.specs.Dialogue.{Answer};
 
 use map_types::{Refusal, Reply};
 use wire_frames::Request;
 
-/// What answers the requests of a connection, one at a time.
+/// What answers the requests of a connection. Each call is begun, and then finished or given up;
+/// several may be begun before the first of them is finished.
 pub trait Calls {
-    // the state before a call, the request, the answer, the state after the call
-    ghost took: { Self → Request → Answer → Self → Type 0 };
+    /// What is held of a call that was begun.
+    type Held: Drop;
 
-    fn call(&mut self, request: Request) -> Result<Reply, Refusal>
-        ensures { took self.old request result self.new };
+    // the state before, the request, what is held or why it was refused, the state after
+    ghost began: { Self → Request → Result Self.Held Refusal → Self → Type 0 };
+
+    // the state before, what was held, the answer, the state after
+    ghost finished: { Self → Self.Held → Answer → Self → Type 0 };
+
+    // the state before, what was held, the state after
+    ghost gave_up: { Self → Self.Held → Self → Type 0 };
+
+    /// Begins a call, or refuses it.
+    fn begin(&mut self, request: Request) -> Result<Self::Held, Refusal>
+        ensures { began self.old request result self.new };
+
+    /// Whether `finish` will likely answer without a wait. It is a hint, and no clause speaks of
+    /// it.
+    fn may_finish(&self, held: &Self::Held) -> bool;
+
+    /// Answers a call that was begun.
+    fn finish(&mut self, held: Self::Held) -> Result<Reply, Refusal>
+        ensures { finished self.old held result self.new };
+
+    /// Lets go of a call that was begun and that gets no reply.
+    fn give_up(&mut self, held: Self::Held)
+        ensures { gave_up self.old held self.new };
 }

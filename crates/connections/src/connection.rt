@@ -1,18 +1,19 @@
 //! A connection.
 
-ghost use Rattle.std.specs.Prelude.{◌≡◌, ◌≤◌, false, length, vec_len, IfOk};
+ghost use Rattle.std.specs.Prelude.{◌≡◌, ◌≤◌, [], false, length, vec_len, IfOk, OnOk};
+ghost use Rattle.std.specs.VecDeque.{deque_capacity};
 ghost use Rattle.connections.specs.declared.connection.ConnectionError.TheVariants.{NoMemory};
-ghost use Rattle.connections.specs.Dialogue.{ends};
-ghost use Rattle.connections.specs.Progress.{Answers, Gave, Replied, Turned};
+ghost use Rattle.connections.specs.Progress.{Gave, Turned};
 ghost use Rattle.connections.specs.Connection.{Connection};
 
 use crate::calls::Calls;
-use map_types::{Refusal, Reply};
+use crate::row::{MOST_HELD, Place, answer_row, begin_row};
 use std::alloc::{AllocError, Global};
+use std::collections::VecDeque;
 use std::io;
 use std::io::{Read, Write};
 use thiserror::Error;
-use wire_frames::{Feeder, Request, write_reply};
+use wire_frames::Feeder;
 
 /// The most bytes that one read takes.
 const PIECE: usize = 65536;
@@ -44,53 +45,41 @@ enum Turn {
     Ended,
 }
 
-/// Whether the connection ends after this answer.
-fn ends(answer: &Result<Reply, Refusal>) -> bool
-    ensures { result ≡ ends answer.now }
-{
-    matches!(answer, Err(Refusal::BadFrame | Refusal::Failed))
-}
-
-/// The answer to a message.
-fn answer<C: Calls>(calls: &mut C, message: Result<Request, Refusal>) -> Result<Reply, Refusal>
-    ensures { Answers C.took calls.old calls.new message result }
-{
-    match message {
-        Ok(request) => calls.call(request),
-        Err(refusal) => Err(refusal),
-    }
-}
-
-/// Answers a message, and says whether the reply ends the connection.
-fn reply<W: Write, C: Calls>(
-    writer: &mut W,
-    calls: &mut C,
-    message: Result<Request, Refusal>,
-) -> Result<bool, ConnectionError>
-    ensures { Replied C.took (W.contents writer.old) (W.contents writer.new) calls.old calls.new message result }
-{
-    let answer = answer(calls, message);
-    match write_reply(writer, &answer) {
-        Ok(()) => Ok(ends(&answer)),
-        Err(error) => Err(ConnectionError::Writer(error)),
-    }
-}
-
-/// Answers each whole message in hand, and writes each reply before it takes the next message.
+/// Answers each whole message in hand, a row of up to 64 at a time.
 fn reply_all<W: Write, C: Calls>(
     feeder: &mut Feeder,
     writer: &mut W,
     calls: &mut C,
+    row: &mut VecDeque<Place<C::Held>>,
+    out: &mut Vec<u8>,
 ) -> Result<Turn, ConnectionError>
-    requires { feeder.old.ended ≡ false }
-    ensures { Turned C.took (W.contents writer.old) (W.contents writer.new) calls.old calls.new feeder.old feeder.new result }
+    // No refused length was met, nothing is held or left to be written, and the row has its room.
+    requires opened { feeder.old.ended ≡ false }
+    requires row_is_empty { row.old.items ≡ [] }
+    requires out_is_empty { out.old.items ≡ [] }
+    requires room { MOST_HELD ≤ deque_capacity row.old }
+
+    // What became of the messages in hand.
+    ensures turned { Turned C.began C.finished C.gave_up
+        (W.contents writer.old) (W.contents writer.new) calls.old calls.new
+        feeder.old feeder.new result }
+
+    // Again nothing is held or left to be written, and the row keeps its room.
+    ensures row_is_empty { row.new.items ≡ [] }
+    ensures out_is_empty { OnOk result (out.new.items ≡ []) }
+    ensures capacity { deque_capacity row.new ≡ deque_capacity row.old }
 {
-    'messages: while let Some(message) = feeder.next() {
-        if reply(writer, calls, message)? {
-            return Ok(Turn::Ended);
+    'rows: loop {
+        begin_row(feeder, calls, row);
+        if row.is_empty() {
+            return Ok(Turn::Partial);
+        }
+        match answer_row(writer, calls, row, out) {
+            Ok(false) => {}
+            Ok(true) => return Ok(Turn::Ended),
+            Err(error) => return Err(ConnectionError::Writer(error)),
         }
     }
-    Ok(Turn::Partial)
 }
 
 /// Room for so many bytes.
@@ -119,19 +108,30 @@ fn read_piece<R: Read>(reader: &mut R, room: &mut [u8]) -> Result<usize, Connect
 
 /// Answers the requests that the reader gives until its end, or until a reply of status 86 or 89.
 ///
-/// It reads in pieces and answers each whole message in hand before it reads again; where the
-/// reader or memory fails, each whole message before it has been answered. The bytes may come cut
-/// in any way. It ends by itself in no other way, so a reader that never ends is served for ever:
-/// after 2^64 - 1 reads, more than any run makes, it answers `Reader`.
+/// It reads in pieces, and answers each whole message in hand before it reads again. Up to 64 calls
+/// are begun, and then they are finished in order; their replies are gathered and written together.
+/// What was gathered is written before a `finish` that may wait. After a reply of status 86 or 89,
+/// or where the writer fails, what is held is given up. Behind a message refused with `BadFrame`
+/// no call is begun.
+///
+/// Where the reader or memory fails, each whole message before it has been answered. Memory for the
+/// row and for gathered replies is got before the first read. The bytes may come cut in any way. It
+/// ends by itself in no other way, so a reader that never ends is served for ever: after 2^64 - 1
+/// reads, more than any run makes, it answers `Reader`.
 pub fn serve_connection<R: Read, W: Write, C: Calls>(
     alloc: Global,
     reader: &mut R,
     writer: &mut W,
     calls: &mut C,
 ) -> Result<(), ConnectionError>
-    ensures { Connection C.took (R.remaining reader.old) (R.remaining reader.new) (W.contents writer.old) (W.contents writer.new) calls.old calls.new result }
+    ensures { Connection C.began C.finished C.gave_up
+        (R.remaining reader.old) (R.remaining reader.new)
+        (W.contents writer.old) (W.contents writer.new)
+        calls.old calls.new result }
 {
     let mut room = room_of(alloc, PIECE)?;
+    let mut row = VecDeque::with_capacity(alloc, MOST_HELD)?;
+    let mut out = Vec::with_capacity(alloc, PIECE)?;
     let mut feeder = Feeder::new(alloc);
     'reads: for _ in 0..u64::MAX {
         let len = read_piece(reader, &mut room)?;
@@ -140,7 +140,7 @@ pub fn serve_connection<R: Read, W: Write, C: Calls>(
         }
         let (piece, _) = room.split_at(len);
         feeder.feed(piece)?;
-        match reply_all(&mut feeder, writer, calls)? {
+        match reply_all(&mut feeder, writer, calls, &mut row, &mut out)? {
             Turn::Partial => {}
             Turn::Ended => return Ok(()),
         }

@@ -3,6 +3,8 @@
 
 pub mod calls;
 pub mod connection;
+mod outgoing;
+mod row;
 
 pub use calls::Calls;
 pub use connection::{ConnectionError, serve_connection};

@@ -13,9 +13,25 @@ struct OneValue {
 }
 
 impl Calls for OneValue {
-    ghost took = { λ _ _ _ _. Unit {0} };
+    type Held = Request;
 
-    fn call(&mut self, request: Request) -> Result<Reply, Refusal> {
+    ghost began = { λ _ _ _ _. Unit {0} };
+
+    ghost finished = { λ _ _ _ _. Unit {0} };
+
+    ghost gave_up = { λ _ _ _. Unit {0} };
+
+    fn begin(&mut self, request: Request) -> Result<Request, Refusal> {
+        Ok(request)
+    }
+
+    fn may_finish(&self, _request: &Request) -> bool {
+        true
+    }
+
+    fn give_up(&mut self, _request: Request) {}
+
+    fn finish(&mut self, request: Request) -> Result<Reply, Refusal> {
         match request {
             Request::Read(_) => Ok(Reply::Now(self.value.clone()?)),
             Request::Change(command) => {

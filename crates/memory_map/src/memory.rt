@@ -295,11 +295,28 @@ impl<'a, R: Wait> Memory<'a, MemDisk, R> {
 }
 
 impl<D: Disk + Drop, R: Wait> Calls for Memory<'_, D, R> {
+    ghost use Rattle.connections.specs.Deferred.{Defers, LetsGo};
     ghost use Rattle.memory_map.specs.Maps.{Answered};
 
-    ghost took = { Answered };
+    type Held = Request;
 
-    fn call(&mut self, request: Request) -> Result<Reply, Refusal> {
+    ghost began = { Defers };
+
+    ghost finished = { Answered };
+
+    ghost gave_up = { LetsGo };
+
+    // A call is made when it is finished.
+    fn begin(&mut self, request: Request) -> Result<Request, Refusal> {
+        Ok(request)
+    }
+
+    // A change waits for its commit, and a read may wait for that of a change which it saw.
+    fn may_finish(&self, _request: &Request) -> bool {
+        false
+    }
+
+    fn finish(&mut self, request: Request) -> Result<Reply, Refusal> {
         if self.has_failed {
             return Err(Refusal::Failed);
         }
@@ -308,4 +325,6 @@ impl<D: Disk + Drop, R: Wait> Calls for Memory<'_, D, R> {
         self.has_failed = matches!(answer, Err(Refusal::Failed));
         answer
     }
+
+    fn give_up(&mut self, _request: Request) {}
 }

@@ -53,7 +53,7 @@ fn status<T: Drop>(answer: Result<T, Refusal>) -> u8 {
 
 fn put_status<R: Wait>(memory: &mut Memory<MemDisk, R>, alloc: Global, number: i64) -> u8 {
     match put(alloc, number) {
-        Ok(request) => status(memory.call(request)),
+        Ok(request) => status(memory.finish(request)),
         Err(refusal) => refusal.number(),
     }
 }
@@ -123,7 +123,7 @@ fn value_of<R: Wait>(memory: &mut Memory<MemDisk, R>, alloc: Global) -> i64 {
         Ok(key) => key,
         Err(refusal) => return -1 - i64::from(refusal.number()),
     };
-    match memory.call(Request::Read(Read {
+    match memory.finish(Request::Read(Read {
         key,
         question: Question::Get,
     })) {

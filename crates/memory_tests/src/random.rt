@@ -20,7 +20,7 @@ fn reads_the_same<R: Wait>(
     read: Read,
 ) -> Result<bool, Refusal> {
     let wanted = reference.read(&read)?;
-    Ok(memory.call(Request::Read(read))? == wanted)
+    Ok(memory.finish(Request::Read(read))? == wanted)
 }
 
 /// Whether a change gives the same reply on both.
@@ -31,7 +31,7 @@ fn changes_the_same<R: Wait>(
     command: Command,
 ) -> Result<bool, Refusal> {
     let wanted = reference.change(alloc, &command)?;
-    Ok(memory.call(Request::Change(command))? == wanted)
+    Ok(memory.finish(Request::Change(command))? == wanted)
 }
 
 #[test]

@@ -3,6 +3,7 @@ ghost use Rattle.std.specs.Prelude.{◌≡◌, ℕ, false, IfOk, IfErr};
 ghost use Rattle.stripe_locks.specs.Plays.{joining};
 ghost use Rattle.durable_map.specs.Maps.{opening_of};
 ghost use Rattle.connections.specs.Connection.{Connection};
+ghost use Rattle.connections.specs.Deferred.{Defers, LetsGo};
 ghost use Rattle.store_server.specs.Serving.{Completed};
 
 use connections::{Calls, ConnectionError, serve_connection};
@@ -112,22 +113,40 @@ impl<'a, D: Disk + Drop, G: Gate, R: Wait> Worker<'a, D, G, R> {
         reader: &mut I,
         writer: &mut O,
     ) -> Result<(), ConnectionError>
-        ensures { Connection Completed (I.remaining reader.old) (I.remaining reader.new) (O.contents writer.old) (O.contents writer.new) self.old self.new result }
+        ensures { Connection Defers Completed LetsGo (I.remaining reader.old) (I.remaining reader.new) (O.contents writer.old) (O.contents writer.new) self.old self.new result }
     {
         serve_connection(alloc, reader, writer, self)
     }
 }
 
 impl<D: Disk + Drop, G: Gate, R: Wait> Calls for Worker<'_, D, G, R> {
-    ghost took = { Completed };
+    type Held = Request;
 
-    fn call(&mut self, request: Request) -> Result<Reply, Refusal> {
+    ghost began = { Defers };
+
+    ghost finished = { Completed };
+
+    ghost gave_up = { LetsGo };
+
+    // A call is made when it is finished.
+    fn begin(&mut self, request: Request) -> Result<Request, Refusal> {
+        Ok(request)
+    }
+
+    // A change waits for its commit, and a read may wait for that of a change which it saw.
+    fn may_finish(&self, _request: &Request) -> bool {
+        false
+    }
+
+    fn finish(&mut self, request: Request) -> Result<Reply, Refusal> {
         let n = self.taken_up.fetch_add(1, Ordering::SeqCst);
         self.gate.before(n);
         let answer = self.answer(request);
         self.gate.after(n);
         answer
     }
+
+    fn give_up(&mut self, _request: Request) {}
 }
 
 /// What the workers share.

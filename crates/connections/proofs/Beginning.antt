@@ -1,0 +1,110 @@
+-- A row whose messages take their places.
+use Rattle.std.proofs.Common.{◌≡◌, ◌≢◌, ◌<◌, ◌≤◌, Bool, true, false, List, [], ◌∷◌, ◌++◌, length, Result, Err, refl, sym, ap, subst, ◌∙◌, arith, inl, inr}
+use Rattle.std.specs.List.{AllByRecursion}
+use Rattle.std.proofs.lemmas.List.{map-append, length-append}
+use Rattle.map_types.specs.declared.refusals.Refusal.{Refusal}
+use Rattle.map_types.specs.declared.refusals.Refusal.TheVariants.{BadFrame}
+use Rattle.wire_frames.specs.declared.requests.Request.{Request}
+use Rattle.wire_frames.specs.Messages.{Message, Begins, FirstMessages}
+use Rattle.wire_frames.specs.Feed.{Takes}
+use Rattle.wire_frames.specs.Held.{Feed}
+use Rattle.connections.specs.declared.row.Place.{Place}
+use Rattle.connections.specs.Dialogue.{Answer}
+use Rattle.connections.specs.Moves.{Move, Starts, Stops, Makes, Leads}
+use Rattle.connections.specs.Progress.{BeginsNext, BeginsRow, begin_moves, messages_in, places_in}
+use Rattle.connections.proofs.Streams.{begins_none, begins_one, begins_then, first_then}
+use Rattle.connections.proofs.MoveLists.{leads_then}
+
+-- no message is refused with `BadFrame`
+abbrev pub NoneBad : List Message → Type 0
+NoneBad messages = AllByRecursion (λ m. m ≢ Err BadFrame) messages
+
+none_bad_more : (messages : List Message) (message : Message) → NoneBad messages → message ≢ Err BadFrame → NoneBad (messages ++ message ∷ [])
+none_bad_more [] message all one = (one, tt)
+none_bad_more (m ∷ messages) message all one = (all.0, none_bad_more messages message all.1 one)
+
+-- a message that is no bad frame is taken from an open feeder, which stays open
+open_takes : (old new : Feed) (message : Message) → Takes old new message → message ≢ Err BadFrame → (new.ended ≡ false) × Begins old.left (message ∷ []) new.left
+open_takes old new message (on, inl t) good = absurd (good t.1)
+open_takes old new message (on, inr t) good = (t.3, begins_one old.left new.left t.0 message t.1 t.2 t.4)
+
+takes_first : (old new : Feed) (message : Message) → Takes old new message → FirstMessages old.left (message ∷ [])
+takes_first old new message (on, inl t) = inr ([], old.left, begins_none old.left, t.0, ap (λ (x : Message). x ∷ []) t.1)
+takes_first old new message (on, inr t) = inl (new.left, begins_one old.left new.left t.0 message t.1 t.2 t.4)
+
+module _ {H : Type 0} where
+  stops_more : (begun : List (Message × Place H)) (message : Message) (place : Place H) → NoneBad (messages_in begun) → Stops (begin_moves (begun ++ (message, place) ∷ []))
+  stops_more [] message place all = (λ h. refl, tt)
+  stops_more (one ∷ begun) message place all = (λ h. absurd (all.0 h), stops_more begun message place all.1)
+
+  stops_good : (begun : List (Message × Place H)) → NoneBad (messages_in begun) → Stops (begin_moves begun)
+  stops_good [] all = tt
+  stops_good (one ∷ begun) all = (λ h. absurd (all.0 h), stops_good begun all.1)
+
+  none_taken : (begun : List (Message × Place H)) → messages_in begun ≡ [] → places_in begun ≡ []
+  none_taken [] e = refl
+  none_taken (one ∷ begun) e = let no : one.0 ∷ messages_in begun ≡ [] = e in cc
+
+module _ {S H : Type 0} (began : S → Request → Result H Refusal → S → Type 0) (finished : S → H → Answer → S → Type 0) (gave_up : S → H → S → Type 0) where
+  -- these messages took their places, and more may
+  pub record Beginning (s0 s1 : S) (old new : Feed) (row : List (Place H)) (begun : List (Message × Place H)) : Type 0 where
+    pub places : row ≡ places_in begun
+    pub few : length row ≤ 64
+    pub leads : Leads began finished gave_up s0 (begin_moves begun) s1
+    pub good : NoneBad (messages_in begun)
+    pub taken : Begins old.left (messages_in begun) new.left
+    pub opened : new.ended ≡ false
+
+  pub beginning_none : (s : S) (feed : Feed) (row : List (Place H)) → row ≡ [] → feed.ended ≡ false → Beginning s s feed feed row []
+  beginning_none s feed row e on = record { places = e; few = rw e (omega arith); leads = refl; good = tt; taken = begins_none feed.left; opened = on }
+
+  -- the row is full
+  pub begins_full : (s0 s1 : S) (old new : Feed) (row : List (Place H)) (begun : List (Message × Place H)) → 64 ≤ length row → Beginning s0 s1 old new row begun → BeginsRow began finished gave_up s0 s1 old new row
+  begins_full s0 s1 old new row begun full p =
+      (begun, p.places, p.few, p.leads, stops_good begun p.good, inl (p.opened, p.taken, λ h. let none = ap (λ (x : List (Place H)). length x) (p.places ∙ none_taken begun h) in absurd (omega arith)))
+
+  module _ (s0 s1 s2 : S) (old mid new : Feed) (row after : List (Place H)) (begun : List (Message × Place H)) (p : Beginning s0 s1 old mid row begun) where
+    begun_more : (message : Message) (place : Place H) → Makes began finished gave_up s1 (Starts message place) s2 → after ≡ row ++ place ∷ [] → Leads began finished gave_up s0 (begin_moves (begun ++ (message, place) ∷ [])) s2 × (after ≡ places_in (begun ++ (message, place) ∷ []))
+    begun_more message place m e =
+        let one : List (Message × Place H) = (message, place) ∷ [] in
+        let moves : begin_moves (begun ++ one) ≡ begin_moves begun ++ Starts message place ∷ [] = map-append _ begun one in
+        let places : places_in (begun ++ one) ≡ places_in begun ++ place ∷ [] = map-append _ begun one in
+        (subst (λ (x : List (Move H)). Leads began finished gave_up s0 x s2) (sym moves) (leads_then began finished gave_up s0 s1 s2 (begin_moves begun) (Starts message place ∷ []) p.leads (s2, m, refl)), e ∙ ap (λ (x : List (Place H)). x ++ place ∷ []) p.places ∙ sym places)
+
+    -- the next message took its place
+    pub begins_more : length row < 64 → (is_last : Bool) → is_last ≡ false → BeginsNext began finished gave_up s1 s2 mid new row after is_last → (all : List (Message × Place H)) × Beginning s0 s2 old new after all
+    begins_more room is_last e (inl q) = let no : true ≡ false = sym q.0 ∙ e in cc
+    begins_more room is_last e (inr q) =
+        let message = q.0 in
+        let place = q.1 in
+        let good = q.6 e in
+        let takes = open_takes mid new message q.2 good in
+        let both = begun_more message place q.3 q.4 in
+        let one : List (Message × Place H) = (message, place) ∷ [] in
+        let messages : messages_in (begun ++ one) ≡ messages_in begun ++ message ∷ [] = map-append _ begun one in
+        let count = length-append row (place ∷ []) in
+        let size = ap (λ (x : List (Place H)). length x) q.4 in (
+          begun ++ one,
+          record {
+            places = both.1;
+            few = omega arith;
+            leads = both.0;
+            good = subst (λ (x : List Message). NoneBad x) (sym messages) (none_bad_more (messages_in begun) message p.good good);
+            taken = subst (λ (x : List Message). Begins old.left x new.left) (sym messages) (begins_then old.left mid.left new.left (messages_in begun) (message ∷ []) p.taken takes.1);
+            opened = takes.0;
+          },
+        )
+
+    -- no more is to take its place
+    pub begins_last : length row < 64 → (is_last : Bool) → is_last ≡ true → BeginsNext began finished gave_up s1 s2 mid new row after is_last → BeginsRow began finished gave_up s0 s2 old new after
+    begins_last room is_last e (inl q) =
+        (begun, q.3 ∙ p.places, rw q.3 p.few, rw q.4 p.leads, stops_good begun p.good, inl (rw q.1 p.opened, rw q.1 p.taken, λ h. q.2))
+    begins_last room is_last e (inr q) =
+        let message = q.0 in
+        let place = q.1 in
+        let both = begun_more message place q.3 q.4 in
+        let one : List (Message × Place H) = (message, place) ∷ [] in
+        let messages : messages_in (begun ++ one) ≡ messages_in begun ++ message ∷ [] = map-append _ begun one in
+        let count = length-append row (place ∷ []) in
+        let size = ap (λ (x : List (Place H)). length x) q.4 in
+        (begun ++ one, both.1, omega arith, both.0, stops_more begun message place p.good, inr (subst (λ (x : List Message). FirstMessages old.left x) (sym messages) (first_then old.left mid.left (messages_in begun) (message ∷ []) p.taken (takes_first mid new message q.2)), (messages_in begun, messages ∙ ap (λ (x : Message). messages_in begun ++ x ∷ []) (q.5 e))))

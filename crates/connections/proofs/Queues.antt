@@ -1,0 +1,18 @@
+-- A queue with no elements.
+use Rattle.std.proofs.Common.{◌≡◌, ℕ, true, false, List, [], ◌∷◌, length, refl, sym, ap, ◌∙◌, arith}
+use Rattle.std.specs.Prelude.{◌==◌}
+use Rattle.std.proofs.lemmas.Bool.{eq-eqb}
+
+none_of_length : {X : Type 0} (items : List X) → length items ≡ 0 → items ≡ []
+none_of_length [] e = refl
+none_of_length (x ∷ items) e = absurd (omega arith)
+
+pub empty_queue : {X : Type 0} (items : List X) (len : ℕ) → len ≡ length items → len ≡ 0 → items ≡ []
+empty_queue items len count none = none_of_length items (omega arith)
+
+pub not_empty : {X : Type 0} (items : List X) (len : ℕ) → len ≡ length items → (len == 0) ≡ false → items ≡ [] → ⊥
+not_empty {X} items len count some none =
+    let size = ap (λ (x : List X). length x) none in
+    let zero : len ≡ 0 = omega arith in
+    let no : true ≡ false = sym (eq-eqb len 0 zero) ∙ some in
+    cc

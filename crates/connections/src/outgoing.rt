@@ -1,0 +1,57 @@
+//! Replies that are gathered, and written together.
+
+ghost use Rattle.std.specs.Prelude.{◌≡◌, ◌++◌, [], true, false};
+ghost use Rattle.wire_frames.specs.Replies.{Writes, reply_frame};
+ghost use Rattle.connections.specs.Progress.{Sends};
+
+use map_types::{Refusal, Reply};
+use std::io;
+use std::io::Write;
+use wire_frames::{write_reply, write_whole};
+
+/// Writes what was gathered, by one write where the writer takes all of it.
+pub(crate) fn write_out<W: Write>(writer: &mut W, out: &mut Vec<u8>) -> io::Result<()>
+    ensures written { Writes (W.contents writer.old) (W.contents writer.new)
+        result out.old.items }
+    ensures empty { out.new.items ≡ [] }
+{
+    let written = if out.is_empty() {
+        Ok(())
+    } else {
+        write_whole(writer, out)
+    };
+    out.clear();
+    written
+}
+
+/// Gathers a reply. Where no memory is found for it, what was gathered stays, and it says `false`.
+fn gather(out: &mut Vec<u8>, answer: &Result<Reply, Refusal>) -> bool
+    ensures gathered { result ≡ true → out.new.items ≡ out.old.items ++ reply_frame answer.now }
+    ensures refused { result ≡ false → out.new.items ≡ out.old.items }
+{
+    let gathered = out.len();
+    match write_reply(out, answer) {
+        Ok(()) => true,
+        Err(_) => {
+            out.truncate(gathered);
+            false
+        }
+    }
+}
+
+/// Gathers a reply. Where no memory is found for it, what was gathered is written, and then the
+/// reply.
+pub(crate) fn put_reply<W: Write>(
+    writer: &mut W,
+    out: &mut Vec<u8>,
+    answer: &Result<Reply, Refusal>,
+) -> io::Result<()>
+    ensures { Sends (W.contents writer.old) (W.contents writer.new)
+        (out.old.items ++ reply_frame answer.now) out.new.items result }
+{
+    if gather(out, answer) {
+        return Ok(());
+    }
+    write_out(writer, out)?;
+    write_reply(writer, answer)
+}
