@@ -1,0 +1,64 @@
+//! How the files stand once a life is over.
+use crate::gates::Gate;
+use crate::guesses::{Guess, checkpoint_file, log_file};
+use disk_model::Fill;
+use store_layout::CheckpointPhase;
+
+impl Guess {
+    // Whether the next gate that is to be opened in the file of the checkpoint is that of its seal.
+    fn seals(self) -> bool {
+        match self.checkpoint {
+            Some(written) => matches!(
+                written.phase,
+                CheckpointPhase::HeaderSynced | CheckpointPhase::Opened
+            ),
+            None => false,
+        }
+    }
+
+    // The files after a life, where the two gates are so.
+    fn with_gates(self, log_open: bool, other_open: bool) -> Guess {
+        let mut next = Guess::first();
+        next.committed = self.committed;
+        next.newest = self.newest;
+        next.sealed = self.sealed;
+        next.other_gate = Gate::at_rest(other_open);
+        if log_open && self.rotates {
+            next.newest = self.next_generation();
+        } else if log_open {
+            next.committed = self.committed.wrapping_add(self.staged);
+        }
+        if other_open && self.seals() {
+            next.sealed = self.sealed.wrapping_add(1);
+        }
+        next
+    }
+
+    /// The files after a stop, where the two gates may be left so.
+    pub(crate) fn left(self, log_open: bool, other_open: bool, fill: &Fill) -> Option<Guess> {
+        if self.log_gate.may_be_left(log_open, fill)
+            && self.other_gate.may_be_left(other_open, fill)
+        {
+            Some(self.with_gates(log_open, other_open))
+        } else {
+            None
+        }
+    }
+
+    /// The files after those with a number below this one were synced.
+    pub(crate) fn synced_below(self, file: u64) -> Guess {
+        let mut next = self;
+        if (log_file(self.newest) as u64) < file {
+            next.log_gate = self.log_gate.synced();
+        }
+        if (self.begun_file() as u64) < file {
+            next.other_gate = self.other_gate.synced();
+        }
+        next
+    }
+
+    /// The files as they are read.
+    pub(crate) fn as_read(self) -> Guess {
+        self.with_gates(self.log_gate.reads_open(), self.other_gate.reads_open())
+    }
+}

@@ -1,0 +1,115 @@
+//! Random fills, among them bytes that look like those of a store.
+use crate::random::Random;
+use disk_model::Fill;
+use std::alloc::{AllocError, Global};
+
+/// The record of a put of 5 under the key `a`.
+const RECORD: [u8; 12] = [0x10, 1, b'a', 1, 0, 0, 0, 0, 0, 0, 0, 5];
+
+/// An open gate.
+const OPEN: u8 = 0xA5;
+
+fn push_number(bytes: &mut Vec<u8>, number: u64) -> Result<(), AllocError> {
+    bytes.extend_from_slice(&number.to_be_bytes())
+}
+
+// A well-formed batch with this first ticket, and a gate behind it.
+fn push_batch(bytes: &mut Vec<u8>, random: &mut Random, first: u64) -> Result<(), AllocError> {
+    let count: u32 = if random.one_in(2) { 1 } else { 2 };
+    bytes.push(1)?;
+    bytes.extend_from_slice(&count.saturating_mul(12).saturating_add(12).to_be_bytes())?;
+    push_number(bytes, first)?;
+    bytes.extend_from_slice(&count.to_be_bytes())?;
+    for _record in 0..count {
+        bytes.extend_from_slice(&RECORD)?;
+    }
+    bytes.push(if random.one_in(2) { OPEN } else { 0 })?;
+    Ok(())
+}
+
+// An end frame that names this generation, and a gate.
+fn push_end(bytes: &mut Vec<u8>, next: u64) -> Result<(), AllocError> {
+    bytes.extend_from_slice(&[2, 0, 0, 0, 8])?;
+    push_number(bytes, next)?;
+    bytes.push(OPEN)?;
+    Ok(())
+}
+
+// The header of a log, and a gate.
+fn push_log(bytes: &mut Vec<u8>, generation: u64, low: u64) -> Result<(), AllocError> {
+    bytes.push(1)?;
+    push_number(bytes, generation)?;
+    push_number(bytes, low)?;
+    bytes.push(OPEN)?;
+    Ok(())
+}
+
+// The gate and the header of a checkpoint of one stripe, and its empty section.
+fn push_checkpoint(bytes: &mut Vec<u8>, generation: u64, mark: u64) -> Result<(), AllocError> {
+    bytes.push(OPEN)?;
+    bytes.push(1)?;
+    push_number(bytes, generation)?;
+    push_number(bytes, mark)?;
+    push_number(bytes, mark)?;
+    bytes.extend_from_slice(&[0, 1])?;
+    push_number(bytes, 12)?;
+    push_number(bytes, mark)?;
+    bytes.extend_from_slice(&[0; 4])
+}
+
+fn push_noise(bytes: &mut Vec<u8>, random: &mut Random) -> Result<(), AllocError> {
+    for _byte in 0..random.below(40) {
+        bytes.push(random.byte())?;
+    }
+    Ok(())
+}
+
+fn push_piece(bytes: &mut Vec<u8>, random: &mut Random, tickets: u64) -> Result<(), AllocError> {
+    let ticket = random.below(tickets.saturating_add(1));
+    let generation = random.below(6);
+    match random.below(7) {
+        0 => Ok(bytes.push(OPEN)?),
+        1 => Ok(bytes.push(0)?),
+        2 => push_batch(bytes, random, ticket),
+        3 => push_end(bytes, generation),
+        4 => push_log(bytes, generation, ticket),
+        5 => push_checkpoint(bytes, generation, ticket),
+        _ => push_noise(bytes, random),
+    }
+}
+
+fn length(random: &mut Random) -> usize {
+    match random.below(4) {
+        0 => 0,
+        1 => usize::MAX,
+        2 => random.place(120),
+        _ => random.place(4000),
+    }
+}
+
+fn chosen(alloc: Global, random: &mut Random, tickets: u64) -> Result<Fill, AllocError> {
+    let mut bytes = Vec::new(alloc);
+    for _piece in 0..random.below(5) {
+        push_piece(&mut bytes, random, tickets)?;
+    }
+    let lens = [
+        length(random),
+        length(random),
+        length(random),
+        length(random),
+    ];
+    Ok(Fill::Chosen { bytes, lens })
+}
+
+/// A fill, where about so many tickets were drawn.
+pub(crate) fn fill(alloc: Global, random: &mut Random, tickets: u64) -> Result<Fill, AllocError> {
+    match random.below(12) {
+        0 | 1 => Ok(Fill::Old),
+        2 | 3 => Ok(Fill::New),
+        4 => Ok(Fill::Byte(0)),
+        5 | 6 => Ok(Fill::Byte(OPEN)),
+        7 => Ok(Fill::Byte(0xFF)),
+        8 => Ok(Fill::Byte(random.byte())),
+        _ => chosen(alloc, random, tickets),
+    }
+}
