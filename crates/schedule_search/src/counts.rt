@@ -221,6 +221,17 @@ impl Counts {
         self.note_outcome(found);
     }
 
+    /// How many device calls failed or were stopped within.
+    pub(crate) fn cut_calls(&self) -> u64 {
+        let mut cut = 0u64;
+        for count in &self.calls {
+            cut = cut
+                .saturating_add(count.failed)
+                .saturating_add(count.stopped);
+        }
+        cut
+    }
+
     fn events_table(&self, alloc: Global) -> Result<String, AllocError> {
         let mut table = String::new(alloc);
         for (name, count) in EVENTS.iter().zip(&self.events) {

@@ -13,9 +13,8 @@ fn push_number(bytes: &mut Vec<u8>, number: u64) -> Result<(), AllocError> {
     bytes.extend_from_slice(&number.to_be_bytes())
 }
 
-// A well-formed batch with this first ticket, and a gate behind it.
-fn push_batch(bytes: &mut Vec<u8>, random: &mut Random, first: u64) -> Result<(), AllocError> {
-    let count: u32 = if random.one_in(2) { 1 } else { 2 };
+// A well-formed batch of so many records, with this first ticket.
+fn push_frame(bytes: &mut Vec<u8>, first: u64, count: u32) -> Result<(), AllocError> {
     bytes.push(1)?;
     bytes.extend_from_slice(&count.saturating_mul(12).saturating_add(12).to_be_bytes())?;
     push_number(bytes, first)?;
@@ -23,6 +22,13 @@ fn push_batch(bytes: &mut Vec<u8>, random: &mut Random, first: u64) -> Result<()
     for _record in 0..count {
         bytes.extend_from_slice(&RECORD)?;
     }
+    Ok(())
+}
+
+// A well-formed batch with this first ticket, and a gate behind it.
+fn push_batch(bytes: &mut Vec<u8>, random: &mut Random, first: u64) -> Result<(), AllocError> {
+    let count: u32 = if random.one_in(2) { 1 } else { 2 };
+    push_frame(bytes, first, count)?;
     bytes.push(if random.one_in(2) { OPEN } else { 0 })?;
     Ok(())
 }
@@ -112,4 +118,19 @@ pub(crate) fn fill(alloc: Global, random: &mut Random, tickets: u64) -> Result<F
         8 => Ok(Fill::Byte(random.byte())),
         _ => chosen(alloc, random, tickets),
     }
+}
+
+/// Chosen bytes that spell a batch of one record with this first ticket and an open gate, with or
+/// without an open gate before them, at the greatest lengths.
+pub(crate) fn spelled_batch(alloc: Global, first: u64, has_gate: bool) -> Result<Fill, AllocError> {
+    let mut bytes = Vec::new(alloc);
+    if has_gate {
+        bytes.push(OPEN)?;
+    }
+    push_frame(&mut bytes, first, 1)?;
+    bytes.push(OPEN)?;
+    Ok(Fill::Chosen {
+        bytes,
+        lens: [usize::MAX; 4],
+    })
 }

@@ -1,4 +1,4 @@
-//! One list: it is made, played and read.
+//! Events are played, and what came of them is read.
 use crate::counts::Counts;
 use crate::lists::make;
 use crate::outcomes::PlainOutcome;
@@ -47,15 +47,13 @@ fn first_wrong(
     Ok(None)
 }
 
-/// Makes the list, plays it and reads what came of each event. Gives the first that is wrong.
-pub(crate) fn search_list(
+/// Plays the events and reads what came of each. Gives the first outcome that is wrong.
+pub(crate) fn search_events(
     alloc: Global,
-    seed: u64,
-    list: u64,
+    events: &[Event],
     counts: &mut Counts,
 ) -> Result<Option<Wrong>, AllocError> {
-    let events = make(alloc, seed, list)?;
-    let trace = run(alloc, &events)?;
+    let trace = run(alloc, events)?;
     if trace.outcomes.len() != events.len() {
         return Ok(Some(Wrong {
             event: events.len(),
@@ -63,5 +61,16 @@ pub(crate) fn search_list(
             found: format!(in alloc; "{}", trace.outcomes.len())?,
         }));
     }
-    first_wrong(alloc, &events, &trace.outcomes, counts)
+    first_wrong(alloc, events, &trace.outcomes, counts)
+}
+
+/// Makes the list and plays it. Gives the first outcome that is wrong.
+pub(crate) fn search_list(
+    alloc: Global,
+    seed: u64,
+    list: u64,
+    counts: &mut Counts,
+) -> Result<Option<Wrong>, AllocError> {
+    let events = make(alloc, seed, list)?;
+    search_events(alloc, &events, counts)
 }
