@@ -6,9 +6,10 @@ ghost use Rattle.disk_model.specs.Events.{states_from, failures_of, AllAgree};
 ghost use Rattle.disk_model.specs.declared.fill.Fill.{Fill};
 ghost use Rattle.disk_model.specs.declared.fill.Fill.TheVariants.{New};
 
+use crate::first_error::FirstError;
 use crate::past::{Note, Past};
 use crate::{DeviceError, Disk};
-use std::alloc::Global;
+use std::alloc::{AllocError, Global};
 use std::fs::{File, OpenOptions};
 use std::io;
 use std::marker::PhantomData;
@@ -52,6 +53,7 @@ pub struct DirDisk<S: Start> {
     _lock: File,
     files: [Option<File>; 4],
     past: Past,
+    first_error: FirstError,
     start: PhantomData<S>,
     ghost coherent: { AllCoherent (states_from S.Start.files S.Start.left past.events) } by { AllCoherent-prop (states_from S.Start.files S.Start.left past.events) },
 }
@@ -88,6 +90,11 @@ impl<S: Start> DirDisk<S> {
         how.read(true).write(true).create(true);
         open_files(rt, alloc, directory, &how)
     }
+
+    /// What tells of the first call that fails, also after the disk was handed on.
+    pub fn first_error(&self) -> Result<FirstError, AllocError> {
+        self.first_error.again()
+    }
 }
 
 fn open_files<R: FileSystem<File = File>, S: Start>(
@@ -111,6 +118,7 @@ fn open_files<R: FileSystem<File = File>, S: Start>(
         _lock: lock,
         files,
         past: Past::new(),
+        first_error: FirstError::new(alloc)?,
         start: PhantomData,
     })
 }
@@ -200,7 +208,8 @@ impl<S: Start> Disk for DirDisk<S> {
                 self.past = self.past.with(&Note::Measured { file, len });
                 Ok(len)
             }
-            Err(_) => {
+            Err(error) => {
+                self.first_error.note(file, error);
                 self.past = self.past.with(&Note::Failed);
                 Err(DeviceError)
             }
@@ -219,7 +228,8 @@ impl<S: Start> Disk for DirDisk<S> {
                 });
                 Ok(count)
             }
-            Err(_) => {
+            Err(error) => {
+                self.first_error.note(file, error);
                 self.past = self.past.with(&Note::Failed);
                 Err(DeviceError)
             }
@@ -232,7 +242,8 @@ impl<S: Start> Disk for DirDisk<S> {
                 self.past = self.past.with(&Note::Wrote { file, at, bytes });
                 Ok(())
             }
-            Err(_) => {
+            Err(error) => {
+                self.first_error.note(file, error);
                 self.past = self.past.with(&Note::Broke { file, at, bytes });
                 Err(DeviceError)
             }
@@ -245,7 +256,8 @@ impl<S: Start> Disk for DirDisk<S> {
                 self.past = self.past.with(&Note::Synced { file });
                 Ok(())
             }
-            Err(_) => {
+            Err(error) => {
+                self.first_error.note(file, error);
                 self.past = self.past.with(&Note::Failed);
                 Err(DeviceError)
             }

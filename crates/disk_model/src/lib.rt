@@ -4,6 +4,7 @@
 mod dir;
 mod disk;
 mod fill;
+mod first_error;
 mod kept;
 mod memory;
 mod past;
@@ -12,5 +13,6 @@ mod plan;
 pub use dir::{DirDisk, Start, Unknown, fill_at};
 pub use disk::{DeviceError, Disk};
 pub use fill::Fill;
+pub use first_error::{FileError, FirstError};
 pub use memory::MemDisk;
 pub use plan::Failure;
