@@ -1,8 +1,8 @@
 //! How a directory is opened.
 ghost use Rattle.std.specs.Prelude.{◌≡◌, [], ℕ, List, IfOk};
 
-use disk_model::{DirDisk, Disk, Unknown};
-use std::alloc::Global;
+use disk_model::{DirDisk, Disk, FirstError, Unknown};
+use std::alloc::{AllocError, Global};
 use std::fs::File;
 use std::io;
 use std::rt::Files;
@@ -23,6 +23,9 @@ pub trait Directories {
     /// The same, but makes the files that are absent.
     fn create_files(&self, alloc: Global, directory: &str) -> io::Result<Self::Opened>
         ensures { IfOk result (λ disk. is_opened directory.now disk) };
+
+    /// What tells of the disk's first call that fails, also after the disk was handed on.
+    fn first_error(disk: &Self::Opened) -> Result<FirstError, AllocError>;
 }
 
 /// The directories of the system. Nothing has happened yet to what was opened; of which directory it is,
@@ -38,5 +41,9 @@ impl<F: Files<File = File>> Directories for F {
 
     fn create_files(&self, alloc: Global, directory: &str) -> io::Result<DirDisk<Unknown>> {
         DirDisk::create(self, alloc, directory, Unknown)
+    }
+
+    fn first_error(disk: &DirDisk<Unknown>) -> Result<FirstError, AllocError> {
+        disk.first_error()
     }
 }

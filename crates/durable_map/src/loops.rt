@@ -1,4 +1,5 @@
 //! The loops that commit, and that write checkpoints, each on a thread of its own.
+ghost use Rattle.std.specs.Prelude.{◌≡◌, ◌⊎◌, IsTrue, IfErr};
 
 use crate::desk::Turn;
 use crate::map::DurableMap;
@@ -20,7 +21,9 @@ pub trait Ends {
 }
 
 // Whether the store can't go on after this refusal: a device call failed, or a file is full.
-fn is_final(refusal: Refusal) -> bool {
+fn is_final(refusal: Refusal) -> bool
+    ensures { IsTrue result → (refusal ≡ Refusal.Failed) ⊎ (refusal ≡ Refusal.LogFull) }
+{
     matches!(refusal, Refusal::Failed | Refusal::LogFull)
 }
 
@@ -64,13 +67,20 @@ impl<D: Disk + Drop> DurableMap<D> {
 }
 
 /// Commits what the passes change, and publishes it, until `ends` says so. It holds the lock over one
-/// device call at most. Where a device call has failed, or the log is full, it makes a FAIL and ends:
-/// each later call is then refused with `Failed`. What it is refused for want of memory is tried again.
-pub fn flush_loop<D: Disk + Drop, E: Ends, R: Wait>(rt: &R, map: &DurableMap<D>, ends: &E) {
+/// device call at most. If a device call has failed, or the log is full, it makes a FAIL and returns
+/// `Failed` or `LogFull`: each later call is then refused with `Failed`. What it is refused for want of
+/// memory is tried again.
+pub fn flush_loop<D: Disk + Drop, E: Ends, R: Wait>(
+    rt: &R,
+    map: &DurableMap<D>,
+    ends: &E,
+) -> Result<(), Refusal>
+    ensures { IfErr result (λ refusal. (refusal ≡ Refusal.Failed) ⊎ (refusal ≡ Refusal.LogFull)) }
+{
     let backoff = Backoff::new();
     for _turn in rt.forever() {
         if ends.has_ended() {
-            return;
+            return Ok(());
         }
         match map.flush(rt) {
             (Ok(Turn::Worked), _) => backoff.reset(),
@@ -78,7 +88,7 @@ pub fn flush_loop<D: Disk + Drop, E: Ends, R: Wait>(rt: &R, map: &DurableMap<D>,
             (Err(refusal), committed) => {
                 if is_final(refusal) {
                     map.fail(rt);
-                    return;
+                    return Err(refusal);
                 }
                 map.rest(rt, &backoff, committed);
             }
@@ -89,19 +99,21 @@ pub fn flush_loop<D: Disk + Drop, E: Ends, R: Wait>(rt: &R, map: &DurableMap<D>,
 
 /// Writes a checkpoint whenever the newest log has at least so many bytes, until `ends` says so. It holds
 /// the lock over one device call at most, so that batches are committed between its calls. It needs
-/// `flush_loop` on another thread. Where a device call has failed, or a stripe has too many entries for a
-/// checkpoint, it makes a FAIL and ends. What it is refused for want of memory, because a stripe is held,
-/// or because it comes too early, is tried again.
+/// `flush_loop` on another thread. If a device call has failed, or a stripe has too many entries for a
+/// checkpoint, it makes a FAIL and returns `Failed` or `LogFull`. What it is refused for want of memory,
+/// because a stripe is held, or because it comes too early, is tried again.
 pub fn checkpoint_loop<D: Disk + Drop, E: Ends, R: Wait>(
     rt: &R,
     map: &DurableMap<D>,
     bytes: u64,
     ends: &E,
-) {
+) -> Result<(), Refusal>
+    ensures { IfErr result (λ refusal. (refusal ≡ Refusal.Failed) ⊎ (refusal ≡ Refusal.LogFull)) }
+{
     let backoff = Backoff::new();
     for _turn in rt.forever() {
         if ends.has_ended() {
-            return;
+            return Ok(());
         }
         match map.checkpoint(rt, bytes) {
             Ok(Turn::Worked) => backoff.reset(),
@@ -109,7 +121,7 @@ pub fn checkpoint_loop<D: Disk + Drop, E: Ends, R: Wait>(
             Err(refusal) => {
                 if is_final(refusal) {
                     map.fail(rt);
-                    return;
+                    return Err(refusal);
                 }
                 map.wait_a_moment(rt, &backoff);
             }

@@ -47,8 +47,9 @@ check_line = with_rule (new_app (codes "check")) directory_rule
 
 abbrev pub serve_line : App
 serve_line =
-    with_rule (with_rule (with_rule (with_rule (with_rule (new_app (codes "serve")) directory_rule) port_rule) (option_rule (codes "stripes")))
-    (option_rule (codes "workers"))) (option_rule (codes "checkpoint-bytes"))
+    with_rule (with_rule (with_rule (with_rule (with_rule (with_rule (new_app (codes "serve")) directory_rule) port_rule)
+    (option_rule (codes "stripes"))) (option_rule (codes "workers"))) (option_rule (codes "checkpoint-bytes")))
+    (option_rule (codes "idle-seconds"))
 
 abbrev pub call_line : App
 call_line = with_rule (with_rule (new_app (codes "call")) port_rule) words_rule
@@ -97,13 +98,14 @@ stripes_in rows = word_or (codes "16") (codes "stripes") rows
 abbrev pub call_in : List Row → List Text
 call_in rows = unwrap_or (all_of (codes "METHOD") rows) []
 
--- what `serve` is given; 4 workers and 67108864 bytes if left out
+-- what `serve` is given; 4 workers, 67108864 bytes and 0 seconds if left out
 pub record GivesServer (rows : List Row) (words : ServerWords) : Type 0 where
   pub directory : words.directory.now ≡ directory_in rows
   pub port : words.port.now ≡ port_in rows
   pub stripes : words.stripes.now ≡ stripes_in rows
   pub workers : words.workers.now ≡ word_or (codes "4") (codes "workers") rows
   pub bytes : words.bytes.now ≡ word_or (codes "67108864") (codes "checkpoint-bytes") rows
+  pub idle : words.idle.now ≡ word_or (codes "0") (codes "idle-seconds") rows
 
 -- this subcommand is named, and its arguments are given so
 abbrev pub Names : Option (Text × List Row) → Text → (List Row → Type 0) → Type 0

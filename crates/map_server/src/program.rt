@@ -58,6 +58,9 @@ const WORKERS: &str = "4";
 /// The length of the log that begins a checkpoint where no other is asked for.
 const BYTES: &str = "67108864";
 
+/// For how many seconds a client may be idle if no other number is asked for: for ever.
+const IDLE: &str = "0";
+
 /// The argument that names a directory.
 fn directory<'a>(alloc: Global) -> Arg<'a>
     ensures rule { rule_of result ≡ directory_rule }
@@ -179,7 +182,13 @@ fn serve_line<'a>(alloc: Global) -> Result<Command<'a>, AllocError>
         alloc,
         "checkpoint-bytes",
         "B",
-        "How long the log is where a checkpoint is begun: 67108864 if left out",
+        "How long the log is when a checkpoint is begun: 67108864 if left out",
+    );
+    let idle = option(
+        alloc,
+        "idle-seconds",
+        "N",
+        "For how long a client may send no request and take no reply: 0, for ever, if left out",
     );
     Command::new(alloc, "serve")
         .about("Opens a directory, and serves its map to this machine until it is ended")
@@ -187,7 +196,8 @@ fn serve_line<'a>(alloc: Global) -> Result<Command<'a>, AllocError>
         .arg(port(alloc))?
         .arg(stripes(alloc))?
         .arg(workers)?
-        .arg(bytes)
+        .arg(bytes)?
+        .arg(idle)
 }
 
 /// The command that makes one call of a server.
@@ -261,6 +271,7 @@ fn server_in<'a>(matches: &ArgMatches<'a>) -> ServerWords<'a>
         stripes: word_or(matches, "stripes", STRIPES),
         workers: word_or(matches, "workers", WORKERS),
         bytes: word_or(matches, "checkpoint-bytes", BYTES),
+        idle: word_or(matches, "idle-seconds", IDLE),
     }
 }
 

@@ -11,14 +11,35 @@ use Rattle.store_server.specs.contracts.server.Shop as Shop
 
 module _ (a : NamedLft) (D G : RattleType) (g : Ghosts D.Denot) where
   crew_fields : IsSend D → IsSync G → AllSync (shape (Crew.the_type a D G g)).fields
-  crew_fields s y = (search sendable, (shr_sync _ _ _ (map_sync D g s), (shr_sync _ _ _ y, (search (sendable, crosses), (search (sendable, crosses) depth 40, tt)))))
+  crew_fields s y = (
+    search sendable,
+    (
+      shr_sync _ _ _ (map_sync D g s),
+      (
+        shr_sync _ _ _ y,
+        (search (sendable, crosses), (search (sendable, crosses), (search (sendable, crosses) depth 40, tt))),
+      ),
+    ),
+  )
 
   pub crew_sync : IsSend D → IsSync G → IsSync (Crew.the_row a D G g)
   crew_sync s y = recorded_sync _ _ _ (Crew.the_type a D G g).to_one (struct_sync (shape (Crew.the_type a D G g)) (crew_fields s y))
 
 module _ (D : RattleType) (g : Ghosts D.Denot) where
   shop_fields : IsSend D → AllSync (shape (Shop.the_type D g)).fields
-  shop_fields s = (search sendable, (map_field_sync D g s, (search sendable, (search (sendable, crosses) depth 10, tt))))
+  shop_fields s = (
+    search sendable,
+    (
+      map_field_sync D g s,
+      (
+        search sendable,
+        (
+          search (sendable, crosses),
+          (search (sendable, crosses) depth 40, (search (sendable, crosses) depth 10, (search (sendable, crosses), tt))),
+        ),
+      ),
+    ),
+  )
 
   pub shop_sync : IsSend D → IsSync (Shop.the_row D g)
   shop_sync s = recorded_sync _ _ _ (Shop.the_type D g).to_one (struct_sync (shape (Shop.the_type D g)) (shop_fields s))

@@ -17,3 +17,5 @@ pub record AreNamed (words : ServerWords) (settings : Settings) : Type 0 where
   pub workers_allowed : IsWorkerCount settings.workers
   pub bytes : Spells words.bytes.now settings.bytes
   pub bytes_fit : settings.bytes < 2 ^ 64
+  pub idle : Spells words.idle.now settings.idle
+  pub idle_fits : settings.idle < 2 ^ 32

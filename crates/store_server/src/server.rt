@@ -8,10 +8,10 @@ ghost use Rattle.store_server.specs.Settings.{AreNamed, IsWorkerCount};
 use crate::worker::{Arrivals, Gate, NoGate, workers};
 use console::{MISUSED, break_off, cannot_open, port_named, refuse, say, stripes_named};
 use directories::Directories;
-use disk_model::Disk;
+use disk_model::{Disk, FirstError};
 use durable_map::{DurableMap, Ends, checkpoint_loop, flush_loop};
 use java_hash::StripeCount;
-use log::{Log, info, warn};
+use log::{Log, error, info, warn};
 use map_types::Refusal;
 use recovery::open_parts;
 use std::alloc::Global;
@@ -28,6 +28,10 @@ use wire_frames::write_whole;
 /// (as for want of descriptors) fails again at once.
 const ACCEPT_PAUSE: u64 = 20;
 
+/// What is to be done about a store that has failed.
+const WHAT_TO_DO: &str =
+    "each call is refused from now on; remedy the cause, end this process and start it again";
+
 /// The words of a server's command line.
 #[derive(Clone, Copy)]
 pub struct ServerWords<'a> {
@@ -36,6 +40,7 @@ pub struct ServerWords<'a> {
     pub stripes: &'a str,
     pub workers: &'a str,
     pub bytes: &'a str,
+    pub idle: &'a str,
 }
 
 /// What a server is to do.
@@ -48,6 +53,18 @@ pub(crate) struct Settings {
     pub workers: usize,
     /// The length of the log that begins a checkpoint.
     pub bytes: u64,
+    /// For how many seconds a client may be idle; 0 is for ever.
+    pub idle: u32,
+}
+
+impl Settings {
+    // For how long a client may be idle, if not for ever.
+    fn idle_limit(&self) -> Option<Duration> {
+        match self.idle {
+            0 => None,
+            seconds => Some(Duration::from_secs(u64::from(seconds))),
+        }
+    }
 }
 
 fn workers_named(word: &str) -> Option<usize>
@@ -76,11 +93,15 @@ fn settings_named(words: &ServerWords<'_>) -> Result<Settings, &'static str>
     let Ok(bytes) = words.bytes.parse::<u64>() else {
         return Err("B is a number from 0 to 18446744073709551615\n");
     };
+    let Ok(idle) = words.idle.parse::<u32>() else {
+        return Err("N is a number from 0 to 4294967295\n");
+    };
     Ok(Settings {
         port,
         stripes,
         workers,
         bytes,
+        idle,
     })
 }
 
@@ -102,18 +123,43 @@ pub(crate) struct Shop<D: Disk + Drop> {
     alloc: Global,
     map: DurableMap<D>,
     bytes: u64,
+    idle: Option<Duration>,
+    first_error: FirstError,
     ending: Ending,
+    has_told: AtomicBool,
 }
 
 impl<D: Disk + Drop> Shop<D> {
-    /// A server of the map, which begins a checkpoint where the log has so many bytes.
-    pub(crate) fn new(alloc: Global, map: DurableMap<D>, bytes: u64) -> Shop<D> {
+    /// A server of the map with these settings; `first_error` tells of its disk.
+    pub(crate) fn new(
+        alloc: Global,
+        map: DurableMap<D>,
+        settings: &Settings,
+        first_error: FirstError,
+    ) -> Shop<D> {
         let has_ended = AtomicBool::new(false);
         Shop {
             alloc,
             map,
-            bytes,
+            bytes: settings.bytes,
+            idle: settings.idle_limit(),
+            first_error,
             ending: Ending { has_ended },
+            has_told: AtomicBool::new(false),
+        }
+    }
+
+    // Writes a record of why a loop ended, if it is the first that says that the store has failed.
+    fn tell<L: Log>(&self, rt: &L, ended: Result<(), Refusal>) {
+        let Err(refusal) = ended else {
+            return;
+        };
+        if self.has_told.swap(true, Ordering::SeqCst) {
+            return;
+        }
+        match self.first_error.get() {
+            Some(cause) => error!(rt; "the store has failed, {cause}: {WHAT_TO_DO}"),
+            None => error!(rt; "the store has failed, {refusal}: {WHAT_TO_DO}"),
         }
     }
 
@@ -123,23 +169,25 @@ impl<D: Disk + Drop> Shop<D> {
     }
 }
 
-/// Runs the two loops of the map on threads of their own and serves the connections with so many
-/// workers, until no more come. Refused with `NoMemory` where a thread can't be started.
-pub(crate) fn run<D: Disk + Drop + Send, G: Gate + Sync, C: Arrivals, R: Threads + Wait + Sync>(
-    rt: &R,
-    shop: &Shop<D>,
-    gate: &G,
-    arrivals: &mut C,
-    count: usize,
-) -> Result<(), Refusal>
+/// Runs the two loops of the map on threads of their own and serves the connections with `count`
+/// workers, until no more come. If the store fails, one record says so. Refused with `NoMemory` if a
+/// thread can't be started.
+pub(crate) fn run<
+    D: Disk + Drop + Send,
+    G: Gate + Sync,
+    C: Arrivals,
+    R: Clock + Log + Threads + Wait + Sync,
+>(rt: &R, shop: &Shop<D>, gate: &G, arrivals: &mut C, count: usize) -> Result<(), Refusal>
     ensures { IfErr result (λ refusal. refusal ≡ Refusal.NoMemory) }
 {
     let has_started = thread::scope(thread::scope_env(), rt, |scope| {
-        let flusher = scope.spawn(move || flush_loop(rt, &shop.map, &shop.ending));
-        let keeper = scope.spawn(move || checkpoint_loop(rt, &shop.map, shop.bytes, &shop.ending));
+        let flusher = scope.spawn(move || shop.tell(rt, flush_loop(rt, &shop.map, &shop.ending)));
+        let keeper = scope.spawn(move || {
+            shop.tell(rt, checkpoint_loop(rt, &shop.map, shop.bytes, &shop.ending));
+        });
         let has_started = flusher.is_ok()
             && keeper.is_ok()
-            && workers(rt, shop.alloc, &shop.map, gate, arrivals, count).is_ok();
+            && workers(rt, shop.alloc, &shop.map, gate, arrivals, count, shop.idle).is_ok();
         shop.end();
         has_started
     });
@@ -196,7 +244,7 @@ fn host<
 >(
     rt: &R,
     alloc: Global,
-    map: DurableMap<D>,
+    shop: &Shop<D>,
     first: u64,
     settings: &Settings,
     output: &mut W,
@@ -208,38 +256,59 @@ fn host<
     let Ok(line) = format!(in alloc; "listening {port}\n") else {
         return refuse(alloc, Refusal::NoMemory, error);
     };
-    let Ok(listener) = TcpListener::bind(rt, ("127.0.0.1", port)) else {
-        return break_off(error);
+    let listener = match TcpListener::bind(rt, ("127.0.0.1", port)) {
+        Ok(listener) => listener,
+        Err(cause) => {
+            error!(rt; "port {port} can't be listened on: {cause}");
+            return break_off(error);
+        }
     };
-    if announce(rt, line.as_str(), first, output).is_err() {
+    if let Err(cause) = announce(rt, line.as_str(), first, output) {
+        error!(rt; "standard output failed: {cause}");
         return break_off(error);
     }
-    let shop = Shop::new(alloc, map, settings.bytes);
     let mut door = Door {
         rt,
         listener: &listener,
     };
-    match run(rt, &shop, &NoGate, &mut door, settings.workers) {
+    match run(rt, shop, &NoGate, &mut door, settings.workers) {
         Ok(()) => break_off(error),
         Err(refusal) => refuse(alloc, refusal, error),
     }
 }
 
-/// Opens the disk, and serves its map.
+/// Opens the disk, and serves its map. `first_error` tells of the disk.
 pub(crate) fn serve_disk<
     D: Disk + Drop + Send,
     W: Write,
     E: Write,
     R: Net<Listener = TcpListener, Stream = TcpStream> + Clock + Log + Threads + Wait + Sync,
->(rt: &R, alloc: Global, disk: D, settings: &Settings, output: &mut W, error: &mut E) -> u8
-    ensures { Hosts D.states D.failures D.honest settings.now.port disk (W.contents output.old) (W.contents output.new) result }
+>(
+    rt: &R,
+    alloc: Global,
+    disk: D,
+    first_error: FirstError,
+    settings: &Settings,
+    output: &mut W,
+    error: &mut E,
+) -> u8
+    ensures { Hosts D.states D.failures D.honest settings.now.port
+        disk (W.contents output.old) (W.contents output.new) result }
 {
     match open_parts(alloc, disk, settings.stripes) {
         Ok((keeper, parts, first)) => match DurableMap::new(alloc, keeper, parts, first) {
-            Ok(map) => host(rt, alloc, map, first, settings, output, error),
+            Ok(map) => {
+                let shop = Shop::new(alloc, map, settings, first_error);
+                host(rt, alloc, &shop, first, settings, output, error)
+            }
             Err((_disk, refusal)) => refuse(alloc, refusal, error),
         },
-        Err((_disk, refusal)) => refuse(alloc, refusal, error),
+        Err((_disk, refusal)) => {
+            if let Some(cause) = first_error.get() {
+                error!(rt; "the directory can't be opened, {cause}");
+            }
+            refuse(alloc, refusal, error)
+        }
     }
 }
 
@@ -247,10 +316,11 @@ pub(crate) fn serve_disk<
 /// only by being ended. Of its four files those that are absent are made: an empty one may have been left
 /// out of a copy.
 ///
-/// The status is 2 with a text on `error` where the words aren't allowed; 1 with `unreadable` on `error`
-/// where the directory's lock or files, the port or `output` fail; and 1 with `refused` and the refusal
-/// where the directory can't be opened or no memory is found. Once it listens it prints `listening` and
-/// the port, and writes a record of how many commands the map begins with.
+/// The status is 2 with a text on `error` if the words aren't allowed; 1 with `unreadable` on `error`
+/// if the directory's lock or files, the port or `output` fail; and 1 with `refused` and the refusal
+/// if the directory can't be opened or no memory is found. An Error record has the cause of what the
+/// system refused. Once it listens it prints `listening` and the port, and writes a record of how many
+/// commands the map begins with. If the store fails later, one Error record says why.
 pub fn serve<
     R: Net<Listener = TcpListener, Stream = TcpStream> + Clock + Log + Threads + Wait + Sync,
     M: Directories,
@@ -268,7 +338,14 @@ pub fn serve<
         }
     };
     match machine.create_files(alloc, words.directory) {
-        Ok(disk) => serve_disk(rt, alloc, disk, &settings, output, error),
-        Err(failure) => cannot_open(alloc, &failure, error),
+        Ok(disk) => match M::first_error(&disk) {
+            Ok(first_error) => serve_disk(rt, alloc, disk, first_error, &settings, output, error),
+            Err(_) => refuse(alloc, Refusal::NoMemory, error),
+        },
+        Err(cause) => {
+            let directory = words.directory;
+            error!(rt; "the directory {directory} can't be opened: {cause}");
+            cannot_open(alloc, &cause, error)
+        }
     }
 }

@@ -1,6 +1,6 @@
 use crate::server::{Settings, Shop, run, serve_disk};
 use crate::{Arrivals, Gate, NoGate};
-use disk_model::{Failure, Fill, MemDisk};
+use disk_model::{Failure, Fill, FirstError, MemDisk};
 use durable_map::DurableMap;
 use java_hash::StripeCount;
 use log::Log;
@@ -59,6 +59,17 @@ fn formatted(alloc: Global) -> Result<MemDisk, Fail> {
     Ok(disk)
 }
 
+/// The settings of a server at the port.
+fn settings(port: u16) -> Result<Settings, Fail> {
+    Ok(Settings {
+        port,
+        stripes: sixteen()?,
+        workers: 4,
+        bytes: NO_CHECKPOINT,
+        idle: 0,
+    })
+}
+
 /// A server of an empty map, whose disk fails as planned.
 fn shop_over(alloc: Global, failure: Option<Failure>) -> Result<Shop<MemDisk>, Fail> {
     let mut disk = formatted(alloc)?;
@@ -67,7 +78,7 @@ fn shop_over(alloc: Global, failure: Option<Failure>) -> Result<Shop<MemDisk>, F
         return Err(Fail::from("it is opened"));
     };
     match DurableMap::new(alloc, keeper, parts, first) {
-        Ok(map) => Ok(Shop::new(alloc, map, NO_CHECKPOINT)),
+        Ok(map) => Ok(Shop::new(alloc, map, &settings(1)?, FirstError::new(alloc)?)),
         Err(_) => Err(Fail::from("there is memory")),
     }
 }
@@ -127,7 +138,7 @@ fn received(alloc: Global, clients: &[TcpStream]) -> Vec<u8> {
 /// Serves clients that send these bytes, one each, and answers what they were sent.
 fn served<
     G: Gate + Sync,
-    R: Net<Listener = TcpListener, Stream = TcpStream> + Threads + Wait + Sync,
+    R: Net<Listener = TcpListener, Stream = TcpStream> + Clock + Log + Threads + Wait + Sync,
 >(
     rt: &R,
     alloc: Global,
@@ -265,11 +276,9 @@ impl Stalling {
 }
 
 /// Whether a put is answered beside a client that sends these bytes, and then neither reads nor ends.
-fn is_answered_beside<R: Net<Listener = TcpListener, Stream = TcpStream> + Threads + Wait + Sync>(
-    rt: &R,
-    alloc: Global,
-    bytes: &[u8],
-) -> Result<bool, Fail> {
+fn is_answered_beside<
+    R: Net<Listener = TcpListener, Stream = TcpStream> + Clock + Log + Threads + Wait + Sync,
+>(rt: &R, alloc: Global, bytes: &[u8]) -> Result<bool, Fail> {
     let shop = shop_over(alloc, None)?;
     let mut stalling = Stalling::new(rt, alloc, bytes)?;
     run(rt, &shop, &NoGate, &mut stalling, 2).map_err(|_| "threads start")?;
@@ -342,15 +351,19 @@ fn after_a_device_failure_each_call_fails(rt: HostRuntime) -> Result<(), Fail> {
 fn complaint<
     R: Net<Listener = TcpListener, Stream = TcpStream> + Clock + Log + Threads + Wait + Sync,
 >(rt: &R, alloc: Global, disk: MemDisk, port: u16) -> Result<Vec<u8>, Fail> {
-    let settings = Settings {
-        port,
-        stripes: sixteen()?,
-        workers: 4,
-        bytes: NO_CHECKPOINT,
-    };
+    let settings = settings(port)?;
+    let first_error = FirstError::new(alloc)?;
     let mut output = Vec::new(alloc);
     let mut error = Vec::new(alloc);
-    let status = serve_disk(rt, alloc, disk, &settings, &mut output, &mut error);
+    let status = serve_disk(
+        rt,
+        alloc,
+        disk,
+        first_error,
+        &settings,
+        &mut output,
+        &mut error,
+    );
     if status != 1 || !output.is_empty() {
         return Err(Fail::from("it ends with 1 and prints nothing"));
     }

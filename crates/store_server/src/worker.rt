@@ -6,6 +6,7 @@ ghost use Rattle.connections.specs.Connection.{Connection};
 ghost use Rattle.connections.specs.Deferred.{Defers, LetsGo};
 ghost use Rattle.store_server.specs.Serving.{Completed};
 
+use crate::idle::{Patience, Sent, Taken};
 use connections::{Calls, ConnectionError, serve_connection};
 use crossbeam_channel::{Receiver, Sender, bounded};
 use disk_model::Disk;
@@ -19,6 +20,7 @@ use std::sync::Wait;
 use std::sync::atomic::{AtomicU64, Ordering};
 use std::thread;
 use std::thread::Threads;
+use std::time::{Clock, Duration};
 use stripe_locks::Pass;
 use wire_frames::Request;
 
@@ -156,11 +158,36 @@ struct Crew<'a, D: Disk + Drop, G: Gate> {
     map: &'a DurableMap<D>,
     gate: &'a G,
     taken_up: AtomicU64,
+    // for how long a client may be idle, if not for ever
+    idle: Option<Duration>,
     streams: Receiver<TcpStream, Global>,
 }
 
+// Serves a connection to its end, or until its client was idle for too long.
+fn attend<D: Disk + Drop, G: Gate, R: Clock + Wait>(
+    rt: &R,
+    crew: &Crew<'_, D, G>,
+    worker: &mut Worker<'_, D, G, R>,
+    stream: &TcpStream,
+) {
+    let _ = stream.set_nodelay(true);
+    let Some(limit) = crew.idle else {
+        let _ = worker.serve(crew.alloc, &mut { stream }, &mut { stream });
+        return;
+    };
+    if let Ok(patience) = Patience::new(rt, stream, limit) {
+        let mut sent = Sent {
+            patience: &patience,
+        };
+        let mut taken = Taken {
+            patience: &patience,
+        };
+        let _ = worker.serve(crew.alloc, &mut sent, &mut taken);
+    }
+}
+
 // Serves connections until no more come. What befalls a connection ends that one alone.
-fn work<D: Disk + Drop, G: Gate, R: Wait>(rt: &R, crew: &Crew<'_, D, G>) {
+fn work<D: Disk + Drop, G: Gate, R: Clock + Wait>(rt: &R, crew: &Crew<'_, D, G>) {
     let Ok(mut worker) = Worker::new(rt, crew.map, crew.gate, &crew.taken_up) else {
         return;
     };
@@ -168,8 +195,7 @@ fn work<D: Disk + Drop, G: Gate, R: Wait>(rt: &R, crew: &Crew<'_, D, G>) {
         let Ok(stream) = crew.streams.recv(rt) else {
             return;
         };
-        let _ = stream.set_nodelay(true);
-        let _ = worker.serve(crew.alloc, &mut &stream, &mut &stream);
+        attend(rt, crew, &mut worker, &stream);
     }
     unreachable!()
 }
@@ -188,7 +214,7 @@ fn hand_out<C: Arrivals, R: Wait>(rt: &R, accepted: &Sender<TcpStream, Global>, 
 }
 
 // Starts the workers, and hands the connections out. The workers end once the sender is dropped.
-fn employ<D: Disk + Drop + Send, G: Gate + Sync, C: Arrivals, R: Threads + Wait + Sync>(
+fn employ<D: Disk + Drop + Send, G: Gate + Sync, C: Arrivals, R: Clock + Threads + Wait + Sync>(
     rt: &R,
     crew: &Crew<'_, D, G>,
     accepted: Sender<TcpStream, Global>,
@@ -215,16 +241,23 @@ fn employ<D: Disk + Drop + Send, G: Gate + Sync, C: Arrivals, R: Threads + Wait 
     }
 }
 
-/// Serves the connections with so many workers, and returns once no more come and each that came has
+/// Serves the connections with `count` workers, and returns once no more come and each that came has
 /// ended. Each worker takes one pass as it starts, and serves one connection after another with it; at
-/// most 64 more wait for a worker. Refused with `NoMemory` where a thread can't be started.
-pub fn workers<D: Disk + Drop + Send, G: Gate + Sync, C: Arrivals, R: Threads + Wait + Sync>(
+/// most 64 more wait for a worker. A connection whose client is idle for longer than `idle` ends: one
+/// that sends no whole request and takes no reply. Refused with `NoMemory` if a thread can't be started.
+pub fn workers<
+    D: Disk + Drop + Send,
+    G: Gate + Sync,
+    C: Arrivals,
+    R: Clock + Threads + Wait + Sync,
+>(
     rt: &R,
     alloc: Global,
     map: &DurableMap<D>,
     gate: &G,
     arrivals: &mut C,
     count: usize,
+    idle: Option<Duration>,
 ) -> Result<(), Refusal>
     ensures { IfErr result (λ refusal. refusal ≡ Refusal.NoMemory) }
 {
@@ -236,6 +269,7 @@ pub fn workers<D: Disk + Drop + Send, G: Gate + Sync, C: Arrivals, R: Threads + 
         map,
         gate,
         taken_up: AtomicU64::new(0),
+        idle,
         streams,
     };
     employ(rt, &crew, accepted, arrivals, count)

@@ -292,7 +292,7 @@ fn try_all<R: Wait>(rt: &R, map: &DurableMap<MemDisk>, alloc: Global) -> Result<
     let turns = Turns {
         left: AtomicU32::new(5),
     };
-    flush_loop(rt, map, &turns);
+    let _end = flush_loop(rt, map, &turns);
     let gave = gives(map, &mut pass, got, 8) && gives(map, &mut pass, default, 6);
     Ok(changed && computed && learned && gave)
 }

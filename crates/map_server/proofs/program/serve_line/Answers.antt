@@ -13,7 +13,8 @@ returns-clause-app c =
     let two = with_argument _ _ _ _ port_rule c.in_ok-arg-2.ensures c.port.ensures.local c.port.ensures.rule one in
     let three = with_argument _ _ _ _ (option_rule (codes "stripes")) c.in_ok-arg-3.ensures c.stripes.ensures.local c.stripes.ensures.rule two in
     let four = with_argument _ _ _ _ (option_rule (codes "workers")) c.in_ok-arg-4.ensures c.option-workers.ensures.local c.option-workers.ensures.rule three in
-    IfOk-weaker c.arg-5.result _ _ (λ command h. with_argument _ _ _ _ (option_rule (codes "checkpoint-bytes")) h c.option-bytes.ensures.local c.option-bytes.ensures.rule four) c.arg-5.ensures
+    let five = with_argument _ _ _ _ (option_rule (codes "checkpoint-bytes")) c.in_ok-arg-5.ensures c.option-bytes.ensures.local c.option-bytes.ensures.rule four in
+    IfOk-weaker c.arg-6.result _ _ (λ command h. with_argument _ _ _ _ (option_rule (codes "idle-seconds")) h c.option-idle.ensures.local c.option-idle.ensures.rule five) c.arg-6.ensures
 
 pub returns-clause-local : goal.returns-clause-local
 returns-clause-local c =
@@ -22,4 +23,5 @@ returns-clause-local c =
     let two = stays_local _ _ _ c.in_ok-arg-2.ensures c.port.ensures.local one in
     let three = stays_local _ _ _ c.in_ok-arg-3.ensures c.stripes.ensures.local two in
     let four = stays_local _ _ _ c.in_ok-arg-4.ensures c.option-workers.ensures.local three in
-    IfOk-weaker c.arg-5.result _ _ (λ command h. stays_local _ _ _ h c.option-bytes.ensures.local four) c.arg-5.ensures
+    let five = stays_local _ _ _ c.in_ok-arg-5.ensures c.option-bytes.ensures.local four in
+    IfOk-weaker c.arg-6.result _ _ (λ command h. stays_local _ _ _ h c.option-idle.ensures.local five) c.arg-6.ensures
