@@ -1,13 +1,19 @@
 -- The grammar of requests, behind the length of their frame.
-use Rattle.std.specs.Prelude.{◌≡◌, ℕ, List, [], ◌∷◌, ◌++◌, Some, Result, Ok, Err, ◌==◌, if◌then◌else◌}
+use Rattle.std.specs.Prelude.{◌≡◌, ◌<◌, ◌^◌, ℕ, Bool, true, false, List, [], ◌∷◌, ◌++◌, Some, Result, Ok, Err, ◌==◌, if◌then◌else◌}
+use Rattle.byteorder.specs.Endian.{big_bytes}
+use Rattle.map_types.specs.Numbers.{func_number}
 use Rattle.map_types.specs.declared.refusals.Refusal.{Refusal}
-use Rattle.map_types.specs.declared.refusals.Refusal.TheVariants.{BadFrame}
+use Rattle.map_types.specs.declared.refusals.Refusal.TheVariants.{BadFrame, UnknownFunction}
+use Rattle.map_types.specs.declared.commands.Func.{Func}
+use Rattle.map_types.specs.declared.commands.Func.TheVariants.{Sum, Max, Min}
 use Rattle.map_types.specs.declared.commands.Question.{Question}
 use Rattle.map_types.specs.declared.commands.Question.TheVariants.{Get, GetOrDefault, ContainsKey}
 use Rattle.log_records.specs.Agreement.{IsBytes}
 use Rattle.log_records.specs.Layout.{Layout, first_layout}
 use Rattle.log_records.specs.Spelling.{IsText, IsValue, IsCommand, key_bytes, value_bytes, record_bytes}
-use Rattle.log_records.specs.Reading.{◌>>=◌, key_at, some_value_at, record_at}
+use Rattle.log_records.specs.Reading.{◌>>=◌, key_at, number_at, some_value_at, func_at, record_at}
+use Rattle.wire_frames.specs.declared.requests.Bulk.{Bulk}
+use Rattle.wire_frames.specs.declared.requests.Bulk.TheVariants.{Count, Reduce, Search}
 use Rattle.wire_frames.specs.declared.requests.Request.{Request}
 use Rattle.wire_frames.specs.declared.requests.Request.TheVariants as requests
 
@@ -28,11 +34,27 @@ argument_bytes Get = []
 argument_bytes (GetOrDefault value) = value_bytes (Some value)
 argument_bytes ContainsKey = []
 
+abbrev pub bulk_number : Bulk → ℕ
+bulk_number Count = 32
+bulk_number (Reduce func threshold) = 33
+bulk_number (Search threshold value) = 34
+
+-- a threshold in eight bytes
+abbrev pub threshold_bytes : ℕ → List ℕ
+threshold_bytes threshold = big_bytes 8 threshold
+
+-- the arguments of a call of the whole map
+abbrev pub bulk_bytes : Bulk → List ℕ
+bulk_bytes Count = []
+bulk_bytes (Reduce func threshold) = func_number func ∷ threshold_bytes threshold
+bulk_bytes (Search threshold value) = threshold_bytes threshold ++ value_bytes (Some value)
+
 -- of a change its record
 abbrev pub request_bytes : Request → List ℕ
 request_bytes (requests.Read read) =
     question_number read.question ∷ (key_bytes wire_layout read.key ++ argument_bytes read.question)
 request_bytes (requests.Change command) = record_bytes wire_layout command
+request_bytes (requests.Bulk bulk) = bulk_number bulk ∷ bulk_bytes bulk
 
 -- ---- what has a spelling
 
@@ -41,9 +63,25 @@ IsQuestion Get = Unit {0}
 IsQuestion (GetOrDefault value) = IsValue value
 IsQuestion ContainsKey = Unit {0}
 
+-- the functions that a map is reduced by
+abbrev pub reduces : Func → Bool
+reduces Sum = true
+reduces Max = true
+reduces Min = true
+reduces _ = false
+
+abbrev pub IsThreshold : ℕ → Type 0
+IsThreshold threshold = threshold < 2 ^ 64
+
+abbrev pub IsBulk : Bulk → Type 0
+IsBulk Count = Unit {0}
+IsBulk (Reduce func threshold) = (reduces func ≡ true) × IsThreshold threshold
+IsBulk (Search threshold value) = IsThreshold threshold × IsValue value
+
 abbrev pub IsAsked : Request → Type 0
 IsAsked (requests.Read read) = IsText wire_layout.key_limit read.key × IsQuestion read.question
 IsAsked (requests.Change command) = IsCommand wire_layout command
+IsAsked (requests.Bulk bulk) = IsBulk bulk
 
 -- the bytes are this request, and nothing else
 pub record IsRequest (bytes : List ℕ) (request : Request) : Type 0 where
@@ -74,6 +112,29 @@ change_at bytes = do
   command ← record_at wire_layout bytes
   Ok (requests.Change command.0, command.1)
 
+-- a function that a map is reduced by, and what follows; each other is refused as soon as its byte is read
+unfoldable pub reducing_at : List ℕ → Result (Func × List ℕ) Refusal
+reducing_at bytes = do
+  func ← func_at bytes
+  if reduces func.0 then Ok func else Err UnknownFunction
+
+abbrev pub threshold_at : List ℕ → Result (ℕ × List ℕ) Refusal
+threshold_at bytes = number_at 8 bytes
+
+-- a function and a threshold, and what follows
+unfoldable pub reduce_at : List ℕ → Result (Request × List ℕ) Refusal
+reduce_at bytes = do
+  func ← reducing_at bytes
+  threshold ← threshold_at func.1
+  Ok (requests.Bulk (Reduce func.0 threshold.0), threshold.1)
+
+-- a threshold and a value, and what follows
+unfoldable pub search_at : List ℕ → Result (Request × List ℕ) Refusal
+search_at bytes = do
+  threshold ← threshold_at bytes
+  value ← some_value_at threshold.1
+  Ok (requests.Bulk (Search threshold.0 value.0), value.1)
+
 -- a method and its arguments, and what follows
 unfoldable pub request_at : List ℕ → Result (Request × List ℕ) Refusal
 request_at [] = Err BadFrame
@@ -81,6 +142,9 @@ request_at (method ∷ rest) =
     if method == 1 then question_at Get rest
     else if method == 2 then get_or_default_at rest
     else if method == 3 then question_at ContainsKey rest
+    else if method == 32 then Ok (requests.Bulk Count, rest)
+    else if method == 33 then reduce_at rest
+    else if method == 34 then search_at rest
     else change_at (method ∷ rest)
 
 -- nothing may follow the last argument

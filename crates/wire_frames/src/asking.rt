@@ -5,8 +5,8 @@ ghost use Rattle.map_types.specs.declared.refusals.Refusal.TheVariants.{NoMemory
 ghost use Rattle.wire_frames.specs.Messages.{frame};
 ghost use Rattle.wire_frames.specs.Requests.{argument_bytes, question_number, request_bytes};
 
-use crate::requests::Request;
-use log_records::{encode, put_key, put_value, record_len};
+use crate::requests::{Bulk, COUNT, REDUCE, Request, SEARCH, THRESHOLD_WIDTH};
+use log_records::{encode, put_key, put_number, put_value, record_len};
 use map_types::{Question, Read, Refusal};
 use std::alloc::Global;
 
@@ -44,6 +44,27 @@ fn put_read(read: &Read, out: &mut Vec<u8>) -> Result<(), Refusal>
     put_argument(&read.question, out)
 }
 
+/// Puts a call of the whole map at the end.
+fn put_bulk(bulk: &Bulk, out: &mut Vec<u8>) -> Result<(), Refusal>
+    ensures ok { OnOk result (out.new.items ≡ out.old.items ++ request_bytes (Request.Bulk bulk.now)) }
+    ensures bound { OnOk result (length (request_bytes (Request.Bulk bulk.now)) ≤ 4108) }
+    ensures err { IfErr result (λ refusal. refusal ≡ NoMemory) }
+{
+    match bulk {
+        Bulk::Count => Ok(out.push(COUNT)?),
+        Bulk::Reduce(func, threshold) => {
+            out.push(REDUCE)?;
+            out.push(func.number())?;
+            Ok(put_number(THRESHOLD_WIDTH, *threshold, out)?)
+        }
+        Bulk::Search(threshold, value) => {
+            out.push(SEARCH)?;
+            put_number(THRESHOLD_WIDTH, *threshold, out)?;
+            put_value(value, out)
+        }
+    }
+}
+
 /// Puts a request at the end.
 fn put_request(request: &Request, out: &mut Vec<u8>) -> Result<(), Refusal>
     ensures ok { OnOk result (out.new.items ≡ out.old.items ++ request_bytes request.now) }
@@ -56,6 +77,7 @@ fn put_request(request: &Request, out: &mut Vec<u8>) -> Result<(), Refusal>
             let _len = record_len(command);
             encode(command, out)
         }
+        Request::Bulk(bulk) => put_bulk(bulk, out),
     }
 }
 

@@ -14,4 +14,4 @@ pub use asking::request_frame;
 pub use feeder::{Feeder, every_division, one_division};
 pub use receiving::{ReplyError, read_reply};
 pub use replies::{write_reply, write_whole};
-pub use requests::{Request, read_request, requests_agree};
+pub use requests::{Bulk, Request, read_request, requests_agree};

@@ -1,17 +1,46 @@
 //! Requests out of the bytes of a frame.
 
-ghost use Rattle.log_records.specs.Reading.{Gives};
-ghost use Rattle.wire_frames.specs.Requests.{ReadIsSpelled, SpelledIsRead, change_at, get_or_default_at, question_at, request_at, request_of};
+ghost use Rattle.std.specs.Prelude.{◌≡◌};
+ghost use Rattle.log_records.specs.Reading.{Gives, Reads};
+ghost use Rattle.wire_frames.specs.Requests.{ReadIsSpelled, SpelledIsRead, change_at, get_or_default_at, question_at, reduce_at, reduces, reducing_at, request_at, request_of, search_at};
 
-use log_records::{fields_agree, key_at, record_agrees, record_at, some_value_at};
-use map_types::{Command, Question, Read, Refusal};
+use log_records::{
+    fields_agree, func_at, key_at, number_at, record_agrees, record_at, some_value_at,
+};
+use map_types::{Command, Func, Question, Read, Refusal, Value};
 use std::alloc::Global;
+
+/// How many bytes a threshold takes: it has 64 bits.
+pub(crate) const THRESHOLD_WIDTH: usize = 8;
+
+/// The method that counts. The methods of the whole map have numbers from 32 on, above those of a
+/// record.
+pub(crate) const COUNT: u8 = 32;
+
+/// The method that reduces.
+pub(crate) const REDUCE: u8 = 33;
+
+/// The method that searches.
+pub(crate) const SEARCH: u8 = 34;
+
+/// What a peer asks of the whole map. The number is a threshold: on a map with fewer entries one
+/// thread works. The threshold never changes the result.
+#[derive(Debug, Drop)]
+pub enum Bulk {
+    /// The count of the entries.
+    Count,
+    /// The values, folded by the function. A function that was read is `Sum`, `Max` or `Min`.
+    Reduce(Func, u64),
+    /// The least key with this value.
+    Search(u64, Value),
+}
 
 /// What a peer asks.
 #[derive(Debug, Drop)]
 pub enum Request {
     Change(Command),
     Read(Read),
+    Bulk(Bulk),
 }
 
 /// A key and a default value.
@@ -43,6 +72,45 @@ fn change_at(alloc: Global, bytes: &[u8]) -> Result<(Request, &[u8]), Refusal>
     Ok((Request::Change(command), rest))
 }
 
+/// Whether a map is reduced by the function.
+fn reduces(func: Func) -> bool
+    ensures { result ≡ reduces func }
+{
+    matches!(func, Func::Sum | Func::Max | Func::Min)
+}
+
+/// A function that a map is reduced by; `UnknownFunction` for each other.
+#[tactic(auto, unfolding(crate::specs::Requests::reducing_at))]
+fn reducing_at(bytes: &[u8]) -> Result<(Func, &[u8]), Refusal>
+    ensures { Reads (λ x. (x.0, x.1.now)) result (reducing_at bytes.now) }
+{
+    let (func, rest) = func_at(bytes)?;
+    if !reduces(func) {
+        return Err(Refusal::UnknownFunction);
+    }
+    Ok((func, rest))
+}
+
+/// A function and a threshold.
+#[tactic(auto, unfolding(crate::specs::Requests::reduce_at))]
+fn reduce_at(bytes: &[u8]) -> Result<(Request, &[u8]), Refusal>
+    ensures { Reads (λ x. (x.0, x.1.now)) result (reduce_at bytes.now) }
+{
+    let (func, rest) = reducing_at(bytes)?;
+    let (threshold, rest) = number_at(THRESHOLD_WIDTH, rest)?;
+    Ok((Request::Bulk(Bulk::Reduce(func, threshold)), rest))
+}
+
+/// A threshold and a value.
+#[tactic(auto, unfolding(crate::specs::Requests::search_at))]
+fn search_at(alloc: Global, bytes: &[u8]) -> Result<(Request, &[u8]), Refusal>
+    ensures { Gives (λ x. (x.0, x.1.now)) result (search_at bytes.now) }
+{
+    let (threshold, rest) = number_at(THRESHOLD_WIDTH, bytes)?;
+    let (value, rest) = some_value_at(alloc, rest)?;
+    Ok((Request::Bulk(Bulk::Search(threshold, value)), rest))
+}
+
 /// A method and its arguments.
 #[tactic(auto, unfolding(crate::specs::Requests::request_at))]
 fn request_at(alloc: Global, bytes: &[u8]) -> Result<(Request, &[u8]), Refusal>
@@ -57,6 +125,12 @@ fn request_at(alloc: Global, bytes: &[u8]) -> Result<(Request, &[u8]), Refusal>
         get_or_default_at(alloc, rest)
     } else if *method == 3 {
         question_at(alloc, Question::ContainsKey, rest)
+    } else if *method == COUNT {
+        Ok((Request::Bulk(Bulk::Count), rest))
+    } else if *method == REDUCE {
+        reduce_at(rest)
+    } else if *method == SEARCH {
+        search_at(alloc, rest)
     } else {
         change_at(alloc, bytes)
     }

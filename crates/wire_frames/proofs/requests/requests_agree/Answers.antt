@@ -6,9 +6,11 @@ use Rattle.wire_frames.proofs.requests.requests_agree.Goals as goal
 pub returns-clause-read : goal.returns-clause-read
 returns-clause-read c =
     let room : IsLayout first_layout = omega arith in
-    read_is_spelled (c.fields_agree.ensures.key first_layout room) c.fields_agree.ensures.some_value (c.record_agrees.ensures first_layout room)
+    let fields = c.fields_agree.ensures in
+    read_is_spelled (record { keys = fields.key first_layout room; values = fields.some_value; funcs = fields.func; thresholds = fields.number 8; records = c.record_agrees.ensures first_layout room })
 
 pub returns-clause-spelled : goal.returns-clause-spelled
 returns-clause-spelled c =
     let room : IsLayout first_layout = omega arith in
-    spelled_is_read (c.fields_agree.ensures.key first_layout room) c.fields_agree.ensures.some_value (c.record_agrees.ensures first_layout room)
+    let fields = c.fields_agree.ensures in
+    spelled_is_read (record { keys = fields.key first_layout room; values = fields.some_value; funcs = fields.func; thresholds = fields.number 8; records = c.record_agrees.ensures first_layout room })
