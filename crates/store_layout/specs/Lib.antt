@@ -6,6 +6,7 @@ pub mod Hands
 pub mod Laws
 pub mod Logs
 pub mod Opening
+pub mod Calls
 pub mod OpeningLaws
 pub mod Readings
 pub mod Standing
