@@ -33,7 +33,7 @@ printed None fits = refl
 printed (Some (Int number)) fits = ap (λ n. ok_or (option_map Int n) NoValue >>= λ found. Ok (Some found)) (printed_number number fits)
 printed (Some (IsText text)) fits = ap (λ t. t >>= λ found. Ok (Some found)) (choose_yes (nat_le (length text) 4096) _ _ (below _ _ fits))
 
-value_is_read : (value : Value) → IsValue value → value_of (value_word (Some value)) ≡ Ok value
+pub value_is_read : (value : Value) → IsValue value → value_of (value_word (Some value)) ≡ Ok value
 unfolding value_of
 value_is_read value fits = ap (λ a. a >>= λ found. ok_or found Absent) (printed (Some value) fits)
 

@@ -1,2 +1,4 @@
 pub mod ValueWords
 pub mod CallWords
+pub mod Thresholds
+pub mod WholeWords

@@ -18,17 +18,17 @@ abbrev read_on : ℕ → List ℕ → ℕ
 read_on n [] = n
 read_on n (c ∷ cs) = read_on (10 * n + (c - 48)) cs
 
-own : IsNumeralModel (λ ds. all_ascii_digits ds ≡ true) (read_on 0)
+pub own : IsNumeralModel (λ ds. all_ascii_digits ds ≡ true) (read_on 0)
 own = numerals_by_fold _ (search rules) read_on (search rules)
 
-both : (a b : Bool) → a ≡ true → b ≡ true → (a && b) ≡ true
+pub both : (a b : Bool) → a ≡ true → b ≡ true → (a && b) ≡ true
 both a b p q = search rules
 
-left_of : (a b : Bool) → (a && b) ≡ true → a ≡ true
+pub left_of : (a b : Bool) → (a && b) ≡ true → a ≡ true
 left_of true b h = refl
 left_of false b h = h
 
-right_of : (a b : Bool) → (a && b) ≡ true → b ≡ true
+pub right_of : (a b : Bool) → (a && b) ≡ true → b ≡ true
 right_of true b h = h
 right_of false b h = absurd (false≢true h)
 
@@ -53,7 +53,7 @@ pub choose_yes : {A : Type 0} (b : Bool) (x y : A) → b ≡ true → cond b x y
 choose_yes true x y h = refl
 choose_yes false x y h = absurd (false≢true h)
 
-choose_no : {A : Type 0} (b : Bool) (x y : A) → (b ≡ true → ⊥) → cond b x y ≡ y
+pub choose_no : {A : Type 0} (b : Bool) (x y : A) → (b ≡ true → ⊥) → cond b x y ≡ y
 choose_no true x y h = absurd (h refl)
 choose_no false x y h = refl
 
@@ -76,7 +76,7 @@ parses word e false h = λ p. false≢true (sym h ∙ both _ _ (decimal_is word 
 small : (number : ℤ) → FitsSigned w64 number → mag number < 2 ^ 63
 small number fits = fits.sfits
 
-ok_inner : {X E : Type 0} (o : Option X) (e : E) (x : X) → ok_or o e ≡ Ok x → o ≡ Some x
+pub ok_inner : {X E : Type 0} (o : Option X) (e : E) (x : X) → ok_or o e ≡ Ok x → o ≡ Some x
 ok_inner None e x h = cc
 ok_inner (Some y) e x h = ap result_ok h
 

@@ -1,5 +1,6 @@
 pub mod Names
 pub mod Values
 pub mod Calls
+pub mod Whole
 pub mod Answers
 pub mod Agreement

@@ -6,6 +6,8 @@ use Rattle.map_types.specs.declared.commands.Func.{Func}
 use Rattle.map_types.specs.declared.commands.Func.TheVariants as func
 use Rattle.call_text.specs.declared.names.ReadMethod.TheVariants.{Get, GetOrDefault, ContainsKey}
 use Rattle.call_text.specs.declared.names.ChangeMethod.TheVariants.{Put, PutIfAbsent, Remove, RemoveIf, Replace, ReplaceIf, Compute, ComputeIfAbsent, ComputeIfPresent, Merge}
+use Rattle.call_text.specs.declared.names.BulkMethod.{BulkMethod}
+use Rattle.call_text.specs.declared.names.BulkMethod.TheVariants.{Count, Reduce, Search}
 use Rattle.call_text.specs.declared.names.Method.{Method}
 use Rattle.call_text.specs.declared.names.Method.TheVariants.{Read, Change}
 
@@ -49,3 +51,14 @@ funcs =
 
 abbrev pub func_named : Text → Option Func
 func_named name = lookup (λ known. bytes_eq name known) funcs
+
+-- the methods of the whole map by their names
+abbrev pub bulk_methods : List (Text × BulkMethod)
+bulk_methods =
+    (codes "count", Count)
+    ∷ (codes "reduce", Reduce)
+    ∷ (codes "search", Search)
+    ∷ []
+
+abbrev pub bulk_named : Text → Option BulkMethod
+bulk_named name = lookup (λ known. bytes_eq name known) bulk_methods

@@ -28,7 +28,7 @@ fn key_of(alloc: Global, word: &str) -> Result<Key, CallError>
 }
 
 /// The function of a word.
-fn func_of(word: &str) -> Result<Func, CallError>
+pub(crate) fn func_of(word: &str) -> Result<Func, CallError>
     ensures { Gives (λ func. func) result (func_of word.now) }
 {
     match func_named(word) {
@@ -38,7 +38,7 @@ fn func_of(word: &str) -> Result<Func, CallError>
 }
 
 /// No more words.
-fn no_word(words: &[&str]) -> Result<(), CallError>
+pub(crate) fn no_word(words: &[&str]) -> Result<(), CallError>
     ensures { Gives (λ none. none) result (no_word (map (λ word. word.now) words.now)) }
 {
     if words.is_empty() {

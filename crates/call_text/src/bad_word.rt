@@ -24,6 +24,9 @@ pub enum BadWord {
     /// It is absent where a value is needed.
     #[error("a value is needed")]
     Absent,
+    /// It is no threshold.
+    #[error("a threshold is a number from 0 to 18446744073709551615")]
+    Threshold,
     /// It is a key above its limit.
     #[error("a key has at most 255 bytes")]
     KeyTooLong,

@@ -5,6 +5,7 @@ pub mod agreement;
 pub mod answers;
 pub mod asked;
 pub mod bad_word;
+pub mod called;
 mod names;
 pub mod values;
 
@@ -12,4 +13,5 @@ pub use agreement::words_agree;
 pub use answers::{refusal_text, reply_text};
 pub use asked::{Asked, parse_call};
 pub use bad_word::{BadWord, CallError};
+pub use called::{Called, parse_words};
 pub use values::{argument_of, value_of, value_word};

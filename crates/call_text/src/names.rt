@@ -1,6 +1,6 @@
 //! The names of the methods and of the functions.
 ghost use Rattle.std.specs.Prelude.{◌≡◌};
-ghost use Rattle.call_text.specs.Names.{func_named, method_named};
+ghost use Rattle.call_text.specs.Names.{bulk_named, func_named, method_named};
 
 use map_types::Func;
 
@@ -25,6 +25,28 @@ pub(crate) enum ChangeMethod {
     ComputeIfAbsent,
     ComputeIfPresent,
     Merge,
+}
+
+/// A method of the whole map.
+#[derive(Clone, Copy, Debug, PartialEq, Eq)]
+pub(crate) enum BulkMethod {
+    Count,
+    Reduce,
+    Search,
+}
+
+impl BulkMethod {
+    /// The method of the whole map that has this name.
+    pub(crate) fn named(name: &str) -> Option<BulkMethod>
+        ensures { result ≡ bulk_named name.now }
+    {
+        match name {
+            "count" => Some(BulkMethod::Count),
+            "reduce" => Some(BulkMethod::Reduce),
+            "search" => Some(BulkMethod::Search),
+            _ => None,
+        }
+    }
 }
 
 /// A method.
