@@ -5,7 +5,10 @@ use Rattle.map_types.specs.declared.commands.Reply.{Reply}
 use Rattle.call_text.specs.declared.asked.Asked.{Asked}
 use Rattle.call_text.specs.declared.asked.Asked.TheVariants as asked
 use Rattle.call_text.specs.declared.bad_word.BadWord.{BadWord}
+use Rattle.call_text.specs.declared.called.Called.{Called}
+use Rattle.call_text.specs.declared.called.Called.TheVariants as called
 use Rattle.call_text.specs.Answers.{IsReplyText}
+use Rattle.wire_frames.specs.declared.requests.Bulk.TheVariants as bulk
 use Rattle.wire_frames.specs.declared.requests.Request.{Request}
 use Rattle.wire_frames.specs.declared.requests.Request.TheVariants as request
 use Rattle.wire_frames.specs.declared.receiving.ReplyError.{ReplyError}
@@ -69,9 +72,15 @@ pub record AsksServer (r0 r1 w0 w1 o0 o1 : Known) (request : Request) (status : 
 
 -- ---- the words of a call
 
-abbrev pub request_of : Asked → Request
-request_of (asked.Read read) = request.Read read
-request_of (asked.Change command) = request.Change command
+abbrev pub keyed_request : Asked → Request
+keyed_request (asked.Read read) = request.Read read
+keyed_request (asked.Change command) = request.Change command
+
+abbrev pub request_of : Called → Request
+request_of (called.Keyed asked) = keyed_request asked
+request_of called.Count = request.Bulk bulk.Count
+request_of (called.Reduce func threshold) = request.Bulk (bulk.Reduce func threshold)
+request_of (called.Search threshold value) = request.Bulk (bulk.Search threshold value)
 
 -- nothing was printed, with status 2
 abbrev pub PrintsMisuse : Known → Known → ℕ → Type 0
@@ -93,9 +102,9 @@ module _ {R W : Type 0} (remaining : R → Known) (contents : W → Known) (IsCo
 
   -- For the words of a call, where the port is none, nothing is printed, with status 2; else a server is asked for what the words say, or nothing is
   -- printed, with status 1. Words that are no call print nothing, with status 2; or 1 where no memory was found to read them.
-  abbrev pub CallsServer : List ℕ → Result Asked BadWord → Known → Known → ℕ → Type 0
-  CallsServer word (Ok asked) o0 o1 status =
+  abbrev pub CallsServer : List ℕ → Result Called BadWord → Known → Known → ℕ → Type 0
+  CallsServer word (Ok called) o0 o1 status =
       (IsNoPort word × PrintsMisuse o0 o1 status)
-      ⊎ ((port : ℕ) × IsNamed IsPort word (Some port) × (AsksAtPort port (request_of asked) o0 o1 status ⊎ PrintsNothing o0 o1 status))
+      ⊎ ((port : ℕ) × IsNamed IsPort word (Some port) × (AsksAtPort port (request_of called) o0 o1 status ⊎ PrintsNothing o0 o1 status))
   CallsServer word (Err bad) o0 o1 status =
       PrintsMisuse o0 o1 status ⊎ ((port : ℕ) × IsNamed IsPort word (Some port) × PrintsNothing o0 o1 status)

@@ -1,15 +1,15 @@
 //! A call of a server: its request is sent, and its reply is printed.
 ghost use Rattle.std.specs.Prelude.{◌≡◌, IfNone, IfOk, IfSome, map, string_bytes};
-ghost use Rattle.call_text.specs.Calls.{parse_call};
-ghost use Rattle.map_client.specs.Client.{AsksServer, CallsServer, Exchanges, IsReplyLine, PrintsReply, request_of};
+ghost use Rattle.call_text.specs.Whole.{parse_words};
+ghost use Rattle.map_client.specs.Client.{AsksServer, CallsServer, Exchanges, IsReplyLine, PrintsReply, keyed_request, request_of};
 
 use crate::servers::Servers;
-use call_text::{Asked, BadWord, CallError, parse_call, reply_text};
+use call_text::{Asked, BadWord, CallError, Called, parse_words, reply_text};
 use console::{MISUSED, REFUSED, port_named, print, refuse, say};
 use map_types::{Refusal, Reply};
 use std::alloc::{AllocError, Global};
 use std::io::{Read, Write};
-use wire_frames::{ReplyError, Request, read_reply, request_frame, write_whole};
+use wire_frames::{Bulk, ReplyError, Request, read_reply, request_frame, write_whole};
 
 /// Why a request has no answer.
 #[derive(Clone, Copy)]
@@ -92,13 +92,25 @@ pub fn ask<R: Read, W: Write, O: Write, E: Write>(
     }
 }
 
-/// The request that the words ask for.
-fn request_of(asked: Asked) -> Request
-    ensures { result ≡ request_of asked }
+/// The request of a call of a key.
+fn keyed_request(asked: Asked) -> Request
+    ensures { result ≡ keyed_request asked }
 {
     match asked {
         Asked::Change(command) => Request::Change(command),
         Asked::Read(read) => Request::Read(read),
+    }
+}
+
+/// The request that the words ask for.
+fn request_of(called: Called) -> Request
+    ensures { result ≡ request_of called }
+{
+    match called {
+        Called::Keyed(asked) => keyed_request(asked),
+        Called::Count => Request::Bulk(Bulk::Count),
+        Called::Reduce(func, threshold) => Request::Bulk(Bulk::Reduce(func, threshold)),
+        Called::Search(threshold, value) => Request::Bulk(Bulk::Search(threshold, value)),
     }
 }
 
@@ -123,10 +135,10 @@ pub fn call<M: Servers, W: Write, E: Write>(
     error: &mut E,
 ) -> u8
     ensures { CallsServer M.Reader.remaining M.Writer.contents M.is_connected port.now
-        (parse_call (map (λ word. word.now) words.now)) (W.contents output.old) (W.contents output.new) result }
+        (parse_words (map (λ word. word.now) words.now)) (W.contents output.old) (W.contents output.new) result }
 {
-    let request = match parse_call(alloc, words) {
-        Ok(asked) => Some(request_of(asked)),
+    let request = match parse_words(alloc, words) {
+        Ok(called) => Some(request_of(called)),
         Err(CallError::Bad(word)) => return misuse(alloc, word, error),
         Err(CallError::NoMemory) => None,
     };
