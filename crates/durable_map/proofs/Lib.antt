@@ -6,4 +6,5 @@ mod Kept
 mod Sections
 mod Between
 mod Sealed
+pub mod Viewing
 pub mod Crosses

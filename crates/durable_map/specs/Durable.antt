@@ -12,6 +12,7 @@ use Rattle.ticket_order.specs.declared.record.StepMade.TheVariants.{FoundAlive, 
 use Rattle.ticket_order.specs.Records.{call, reach, ticket_limit}
 use Rattle.ticket_order.specs.Calls.{MakesCall, MakesRead, RefusesChange, RefusesRead}
 use Rattle.ticket_order.specs.Legality.{IsLegal, history_of}
+use Rattle.ticket_order.specs.Walks.{Kind, kind_of}
 use Rattle.one_history.specs.OneHistory.{Follows}
 use Rattle.stripe_locks.specs.Holding.{position_of, reply_of}
 use Rattle.stripe_locks.specs.declared.held.Held.{Held}
@@ -22,6 +23,12 @@ use Rattle.durable_map.specs.Maps.{IsHeldOf, stripe_count}
 -- the record grew by these steps
 abbrev pub GrewBy : Record → List StepMade → Record → Type 0
 GrewBy v made w = w.steps ≡ v.steps ++ made
+
+-- one step was made, of this kind
+pub record MakesStep (kind : Kind) (v w : Record) : Type 0 where
+  pub made : StepMade
+  pub steps : GrewBy v (made ∷ []) w
+  pub kind_is : kind_of made ≡ kind
 
 -- The pass made steps that add no call, and took no stripe.
 pub record MakesNoCall (v w : Record) : Type 0 where

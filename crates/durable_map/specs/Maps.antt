@@ -1,7 +1,11 @@
 -- What callers see of a running map.
-use Rattle.std.specs.Prelude.{◌≡◌, ℕ, None}
+use Rattle.std.specs.Prelude.{◌≡◌, ℕ, None, Result, Ok, Err}
 use Rattle.std.specs.Arc.{arc_value}
+use Rattle.map_types.specs.declared.refusals.Refusal.{Refusal}
 use Rattle.ticket_order.specs.declared.record.Opening.{Opening}
+use Rattle.view_walk.specs.declared.walk.Viewed.{Viewed}
+use Rattle.view_walk.specs.declared.walk.Viewed.TheVariants.{More, Done}
+use Rattle.view_walk.specs.Viewing.{HoldsNone, next_kind}
 use Rattle.stripe_locks.specs.Passes as shared
 use Rattle.stripe_locks.specs.Passes.{begun_with, recorded}
 use Rattle.stripe_locks.specs.Holding as holding
@@ -26,6 +30,12 @@ IsPassOf map pass = shared.IsPassOf (arc_value map.stripes) pass
 pub record IsReady {D : Type 0} (map : DurableMap D) (pass : Pass) : Type 0 where
   pub own : IsPassOf map pass
   pub free : (recorded pass).holding ≡ None
+
+-- The pass of a view comes from this map. It is ready once the view has ended, and between two steps if the view holds no stripe.
+abbrev pub LeavesReady : {D : Type 0} → DurableMap D → Result Viewed Refusal → Pass → Type 0
+LeavesReady map (Ok (More walk)) pass = IsPassOf map pass × (HoldsNone (next_kind walk) → IsReady map pass)
+LeavesReady map (Ok (Done captured)) pass = IsReady map pass
+LeavesReady map (Err refusal) pass = IsReady map pass
 
 -- a pass of this map made the call whose reply is held
 abbrev pub IsHeldOf : {D : Type 0} → DurableMap D → Held → Type 0

@@ -17,7 +17,7 @@ use ticket_order::Position;
 impl<D: Disk + Drop> DurableMap<D> {
     // Returns after a moment, or once the position may have become durable. A thread that waits long
     // sleeps.
-    fn pause<R: Wait>(&self, rt: &R, backoff: &Backoff, position: Position) {
+    pub(crate) fn pause<R: Wait>(&self, rt: &R, backoff: &Backoff, position: Position) {
         if backoff.is_completed() {
             self.stripes.sleep_until_durable(rt, position);
         } else {

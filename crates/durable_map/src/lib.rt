@@ -10,6 +10,8 @@ mod loops;
 mod map;
 mod reads;
 mod tries;
+mod views;
 
 pub use loops::{Ends, checkpoint_loop, flush_loop};
 pub use map::DurableMap;
+pub use view_walk::{ViewWalk, Viewed};

@@ -44,7 +44,7 @@ impl<D: Disk + Drop> DurableMap<D> {
     }
 
     // Returns after a moment, which grows with the number of turns in which nothing was done.
-    fn wait_a_moment<R: Wait>(&self, rt: &R, backoff: &Backoff) {
+    pub(crate) fn wait_a_moment<R: Wait>(&self, rt: &R, backoff: &Backoff) {
         if backoff.is_completed() {
             let moment = Duration::from_millis(SHORT_SLEEP);
             self.stripes.sleep_until_failed(rt, moment);

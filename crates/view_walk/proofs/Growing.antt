@@ -258,7 +258,7 @@ pub missed : (n : ℕ) (b p w : Record) (zs : List Captured) (d : ℕ) → Views
 missed n b p w zs d a s lt = record { between = p; all = a; since = record { durable = d; sees = s; missed = lt } }
 
 -- what was missed was seen since, and the walk goes on from there
-all_missed : (n : ℕ) (b p : Record) (zs : List Captured) (q : ℕ) → After n b zs (Misses q) p → ViewsAll n b zs p
+pub all_missed : (n : ℕ) (b p : Record) (zs : List Captured) (q : ℕ) → After n b zs (Misses q) p → ViewsAll n b zs p
 all_missed n b p zs q k = all_saw n b k.between p zs k.since.durable k.all k.since.sees
 
 pub goes_on : (n : ℕ) (b p w : Record) (zs : List Captured) → After n b zs (Misses (greatest_mark zs)) p → Lives p true w → ViewsAll n b zs w
@@ -268,7 +268,7 @@ pub found_failure : (n : ℕ) (b p w : Record) (zs : List Captured) → After n 
 found_failure n b p w zs k l = record { between = k.between; all = k.all; since = record { between = p; misses = k.since; lives = l } }
 
 -- SEE, and ALIVE that said no
-all_missed_dead : (n : ℕ) (b p : Record) (zs : List Captured) (q : ℕ) → After n b zs (MissesAlive q false) p → ViewsAll n b zs p
+pub all_missed_dead : (n : ℕ) (b p : Record) (zs : List Captured) (q : ℕ) → After n b zs (MissesAlive q false) p → ViewsAll n b zs p
 all_missed_dead n b p zs q k =
     let m = k.since in
     let before : ViewsAll n b zs m.between = all_saw n b k.between m.between zs m.misses.durable k.all m.misses.sees in

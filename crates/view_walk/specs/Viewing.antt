@@ -124,6 +124,13 @@ next_of_stage k (stage.Awaiting awaiting) = next_of_awaiting awaiting
 abbrev pub next_kind : ViewWalk → Kind
 next_kind walk = next_of_stage (length walk.captured.items) walk.stage
 
+-- a view whose next step is of this kind holds no stripe
+abbrev pub HoldsNone : Kind → Type 0
+HoldsNone (Take i) = Unit {0}
+HoldsNone See = Unit {0}
+HoldsNone Alive = Unit {0}
+HoldsNone kind = ⊥
+
 -- the stripe that a step of this kind takes
 abbrev pub stripe_of_take : Kind → Option ℕ
 stripe_of_take (Take i) = Some i

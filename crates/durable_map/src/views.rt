@@ -1,0 +1,49 @@
+//! The steps of a view of the whole map, and the wait between two of them.
+ghost use Rattle.ticket_order.specs.declared.record.Record.{Record};
+ghost use Rattle.view_walk.specs.Viewing.{Fits, Next, next_kind};
+ghost use Rattle.stripe_locks.specs.Passes.{recorded, IsSamePass};
+ghost use Rattle.durable_map.specs.Durable.{MakesStep};
+ghost use Rattle.durable_map.specs.Maps.{IsPassOf, LeavesReady, stripe_count};
+
+use crate::map::DurableMap;
+use crossbeam_utils::Backoff;
+use disk_model::Disk;
+use map_types::Refusal;
+use std::sync::Wait;
+use stripe_locks::Pass;
+use view_walk::{ViewWalk, Viewed};
+
+impl<D: Disk + Drop> DurableMap<D> {
+    /// Makes exactly one step of a view, by the pass that made its steps so far. A view begins as
+    /// `ViewWalk::new`, with a pass that holds no stripe. It waits for nothing: if a stripe is held, or
+    /// the greatest mark isn't durable yet, the view goes on where it was.
+    ///
+    /// `NoMemory` once the stripe that can't be copied is given back. `Failed` if the store has failed
+    /// before the greatest mark became durable.
+    pub fn view_step(&self, pass: &mut Pass, walk: ViewWalk) -> Result<Viewed, Refusal>
+        requires own { IsPassOf self.now pass.old }
+        requires fits { (b : Record) × Fits (stripe_count self.now) b walk (recorded pass.old) }
+
+        // One step is made, of the kind that is next, and the view stands as it says.
+        ensures one { MakesStep (next_kind walk) (recorded pass.old) (recorded pass.new) }
+        ensures next { (b : Record)
+            → Fits (stripe_count self.now) b walk (recorded pass.old)
+            → Next (stripe_count self.now) b result (recorded pass.new) }
+
+        // Once the view has ended the pass holds no stripe, and between two stripes it holds none.
+        ensures ready { LeavesReady self.now result pass.new }
+        ensures same { IsSamePass pass.old pass.new }
+    {
+        let mut board = self.stripes.at(pass);
+        walk.step(&mut board)
+    }
+
+    /// Returns after a moment, when the stripe that the view takes next may have become free, or the
+    /// mark that it awaits durable. A thread that waits long sleeps. It makes no step.
+    pub fn wait_for_view<R: Wait>(&self, rt: &R, backoff: &Backoff, walk: &ViewWalk) {
+        match walk.position_awaited() {
+            Some(position) => self.pause(rt, backoff, position),
+            None => self.wait_a_moment(rt, backoff),
+        }
+    }
+}
