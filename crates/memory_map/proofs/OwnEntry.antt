@@ -10,7 +10,7 @@ use Rattle.ticket_order.specs.Records.{entry}
 use Rattle.ticket_order.specs.Legality.{entries_from}
 use Rattle.ticket_order.specs.Calls.{MakesCall}
 use Rattle.wire_frames.specs.declared.requests.Request.{Request}
-use Rattle.wire_frames.specs.declared.requests.Request.TheVariants.{Change, Read as AskRead}
+use Rattle.wire_frames.specs.declared.requests.Request.TheVariants.{Change, Read as AskRead, Bulk as AskBulk}
 use Rattle.memory_map.specs.Served.{AreTaken, IsTaken, Makes}
 
 last_there : (t : ℕ) (xs : List Command) (c : Command) → Contains (entries_from t (xs ++ c ∷ [])) (entry (t + length xs) c)
@@ -31,3 +31,4 @@ own_call n v c position reply made w k all = λ ticket next.
 pub own_taken : (n : ℕ) (v : Record) (request : Request) (position : ℕ) (reply : Reply) (made w : Record) → Makes n v request position reply made → AreTaken position made w → IsTaken request position w
 own_taken n v (Change c) position reply made w k all = own_call n v c position reply made w k all
 own_taken n v (AskRead r) position reply made w k all = tt
+own_taken n v (AskBulk b) position reply made w k all = tt

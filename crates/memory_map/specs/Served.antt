@@ -18,7 +18,7 @@ use Rattle.flusher.specs.Fitting.{Fits, HasSeenMore, IsQuiet, IsTakenFront, Were
 use Rattle.store_layout.specs.Hands.{FitsBatch}
 use Rattle.flusher.specs.Keeping.{is_too_long, is_walking}
 use Rattle.wire_frames.specs.declared.requests.Request.{Request}
-use Rattle.wire_frames.specs.declared.requests.Request.TheVariants.{Change, Read}
+use Rattle.wire_frames.specs.declared.requests.Request.TheVariants.{Change, Read, Bulk}
 use Rattle.connections.specs.Dialogue.{Answer}
 
 -- the keeper and its pass over n stripes
@@ -33,15 +33,17 @@ pub record IsIdle {D : Type 0} (keeper : Keeper D) : Type 0 where
   pub alone : keeper.next ≡ None
   pub still : is_walking keeper.sweeper.walking ≡ false
 
--- no call was added
+-- No call was added. A request of the whole map is no method here: it is always refused so, and the pass makes no step.
 abbrev pub Refuses : ℕ → Record → Request → Refusal → Record → Type 0
 Refuses n v (Change command) refusal w = RefusesChange v (stripe_of n command.key) refusal w
 Refuses n v (Read read) refusal w = RefusesRead v (stripe_of n read.key) refusal w
+Refuses n v (Bulk bulk) refusal w = (refusal ≡ refusal_type.UnknownMethod) × (w ≡ v)
 
--- the call was made, with this reply: the record grew by it alone, behind all that the pass had seen, and it is legal there
+-- the call was made, with this reply: the record grew by it alone, behind all that the pass had seen, and it is legal there; none of the whole map is
 abbrev pub Makes : ℕ → Record → Request → ℕ → Reply → Record → Type 0
 Makes n v (Change command) position reply w = MakesCall n v command position reply w
 Makes n v (Read read) position reply w = MakesRead n v read position reply w
+Makes n v (Bulk bulk) position reply w = ⊥
 
 -- sweeps alone were made, by which the pass may have seen more
 pub record IsSwept (p w : Record) : Type 0 where
@@ -73,6 +75,7 @@ pub record IsGivenOut (position : ℕ) (made w : Record) (log : LogState) : Type
 abbrev pub IsTaken : Request → ℕ → Record → Type 0
 IsTaken (Change command) position w = (ticket : ℕ) → position ≡ ticket + 1 → Contains w.taken (entry ticket command)
 IsTaken (Read read) position w = Unit {0}
+IsTaken (Bulk bulk) position w = Unit {0}
 
 -- The call was made, and its reply was given out at its position, where its own entry is committed.
 pub record Serves (n : ℕ) (v : Record) (request : Request) (reply : Reply) (w : Record) (log : LogState) : Type 0 where

@@ -207,7 +207,7 @@ fn give_out<S: Steps, D: Disk, R: Wait>(
     }
 }
 
-/// Makes the call of a request.
+/// Makes the call of a request. A request of the whole map is refused as an unknown method.
 fn make<S: Steps>(steps: &mut S, alloc: Global, request: Request) -> Result<Held, Refusal>
     requires free { (S.recorded steps.old).holding ≡ None }
     ensures ok { IfOk result (λ held. Makes (S.stripe_count steps.old) (S.recorded steps.old) request held.position held.reply (S.recorded steps.new)) }
@@ -220,6 +220,7 @@ fn make<S: Steps>(steps: &mut S, alloc: Global, request: Request) -> Result<Held
     match request {
         Request::Change(command) => try_call(steps, alloc, command),
         Request::Read(read) => try_read(steps, read),
+        Request::Bulk(_) => Err(Refusal::UnknownMethod),
     }
 }
 
