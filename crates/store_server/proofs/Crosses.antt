@@ -5,6 +5,7 @@ use denote.Struct.Declared.{shape}
 use denote.Param.Send.{IsSend, IsSync, AllSync, sendable, shr_sync, struct_sync, recorded_sync}
 use Rattle.std.proofs.Crossing.{crosses}
 use Rattle.disk_model.specs.declared.disk.Disk.{Ghosts}
+use Rattle.disk_model.proofs.first_error.FirstError.TheSendSync as first_error
 use Rattle.durable_map.proofs.Crosses.{map_field_sync, map_sync}
 use Rattle.store_server.specs.contracts.worker.Crew as Crew
 use Rattle.store_server.specs.contracts.server.Shop as Shop
@@ -17,7 +18,7 @@ module _ (a : NamedLft) (D G : RattleType) (g : Ghosts D.Denot) where
       shr_sync _ _ _ (map_sync D g s),
       (
         shr_sync _ _ _ y,
-        (search (sendable, crosses), (search (sendable, crosses), (search (sendable, crosses) depth 40, tt))),
+        (search (sendable, crosses), (search sendable, (search (sendable, crosses) depth 40, tt))),
       ),
     ),
   )
@@ -34,8 +35,11 @@ module _ (D : RattleType) (g : Ghosts D.Denot) where
       (
         search sendable,
         (
-          search (sendable, crosses),
-          (search (sendable, crosses) depth 40, (search (sendable, crosses) depth 10, (search (sendable, crosses), tt))),
+          search sendable,
+          (
+            search (first_error.the_field_sync, sendable, crosses) depth 20,
+            (search (sendable, crosses) depth 10, (search (sendable, crosses), tt)),
+          ),
         ),
       ),
     ),

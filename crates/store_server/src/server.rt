@@ -57,16 +57,6 @@ pub(crate) struct Settings {
     pub idle: u32,
 }
 
-impl Settings {
-    // For how long a client may be idle, if not for ever.
-    fn idle_limit(&self) -> Option<Duration> {
-        match self.idle {
-            0 => None,
-            seconds => Some(Duration::from_secs(u64::from(seconds))),
-        }
-    }
-}
-
 fn workers_named(word: &str) -> Option<usize>
     ensures { IsNamed IsWorkerCount word.now result }
 {
@@ -123,7 +113,7 @@ pub(crate) struct Shop<D: Disk + Drop> {
     alloc: Global,
     map: DurableMap<D>,
     bytes: u64,
-    idle: Option<Duration>,
+    idle: u32,
     first_error: FirstError,
     ending: Ending,
     has_told: AtomicBool,
@@ -142,7 +132,7 @@ impl<D: Disk + Drop> Shop<D> {
             alloc,
             map,
             bytes: settings.bytes,
-            idle: settings.idle_limit(),
+            idle: settings.idle,
             first_error,
             ending: Ending { has_ended },
             has_told: AtomicBool::new(false),

@@ -158,8 +158,8 @@ struct Crew<'a, D: Disk + Drop, G: Gate> {
     map: &'a DurableMap<D>,
     gate: &'a G,
     taken_up: AtomicU64,
-    // for how long a client may be idle, if not for ever
-    idle: Option<Duration>,
+    // for how many seconds a client may be idle; 0 is for ever
+    idle: u32,
     streams: Receiver<TcpStream, Global>,
 }
 
@@ -171,10 +171,11 @@ fn attend<D: Disk + Drop, G: Gate, R: Clock + Wait>(
     stream: &TcpStream,
 ) {
     let _ = stream.set_nodelay(true);
-    let Some(limit) = crew.idle else {
+    if crew.idle == 0 {
         let _ = worker.serve(crew.alloc, &mut { stream }, &mut { stream });
         return;
-    };
+    }
+    let limit = Duration::from_secs(u64::from(crew.idle));
     if let Ok(patience) = Patience::new(rt, stream, limit) {
         let mut sent = Sent {
             patience: &patience,
@@ -243,8 +244,9 @@ fn employ<D: Disk + Drop + Send, G: Gate + Sync, C: Arrivals, R: Clock + Threads
 
 /// Serves the connections with `count` workers, and returns once no more come and each that came has
 /// ended. Each worker takes one pass as it starts, and serves one connection after another with it; at
-/// most 64 more wait for a worker. A connection whose client is idle for longer than `idle` ends: one
-/// that sends no whole request and takes no reply. Refused with `NoMemory` if a thread can't be started.
+/// most 64 more wait for a worker. A connection ends if its client is idle for `idle` seconds, that is,
+/// sends no whole request and takes no reply; 0 is for ever. Refused with `NoMemory` if a thread can't be
+/// started.
 pub fn workers<
     D: Disk + Drop + Send,
     G: Gate + Sync,
@@ -257,7 +259,7 @@ pub fn workers<
     gate: &G,
     arrivals: &mut C,
     count: usize,
-    idle: Option<Duration>,
+    idle: u32,
 ) -> Result<(), Refusal>
     ensures { IfErr result (λ refusal. refusal ≡ Refusal.NoMemory) }
 {
