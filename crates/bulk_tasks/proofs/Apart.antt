@@ -1,0 +1,97 @@
+-- No key stands in the parts of two stripes.
+use Rattle.std.proofs.Common.{◌≡◌, ℕ, ◌+◌, ◌<◌, Bool, true, false, cond, None, Some, List, [], ◌∷◌, ◌++◌, ◌&&◌, refl, sym, ap, subst, ◌∙◌, arith, Ordering, Less, Equal, Greater}
+use Rattle.std.specs.Prelude.{T}
+use Rattle.std.specs.List.{flat_map}
+use Rattle.std.specs.Ordering.{nat_cmp, eq_by_cmp, is_lt, is_eq}
+use Rattle.std.specs.Cmp.{tied_itself}
+use Rattle.std.specs.Cmp.Lexicographic.{slice_cmp, nat_list_cmp_total}
+use Rattle.std.specs.FinMap as finite
+use Rattle.std.specs.FinMap.Entries.{below_all}
+use Rattle.std.proofs.lemmas.Bool.{ne_eqb, eqb-true}
+use Rattle.java_hash.specs.Stripes.{stripe_of}
+use Rattle.map_types.specs.declared.texts.Value.{Value}
+use Rattle.map_model.specs.Maps.{Map}
+use Rattle.map_model.specs.Parts.{part_of, is_in_stripe}
+use Rattle.map_model.proofs.MapLaws.{get-part_of}
+use Rattle.bin_table.specs.Chains.{Entries, find_in, HasDistinctKeys}
+use Rattle.ticket_order.specs.declared.capture_walk.Captured.{Captured}
+use Rattle.bulk_tasks.specs.Parts.{entries_of, AreParts, parts_from}
+use Rattle.bulk_tasks.proofs.AnyOrder.{head_differs, none_behind}
+
+first : (a b : Bool) → T (a && b) → T a
+first true b p = tt
+first false b p = p
+
+second : (a b : Bool) → T (a && b) → T b
+second true b p = p
+second false b p = absurd p
+
+apart_from : (o : Ordering) → T (is_lt o) → is_eq o ≡ false
+apart_from Less l = refl
+apart_from Equal l = absurd l
+apart_from Greater l = refl
+
+not_below : (k : List ℕ) (es : Entries) → T (below_all (slice_cmp nat_cmp) k es) → find_in k es ≡ None
+not_below k [] below = refl
+not_below k (e ∷ es) below = ap (λ b. cond b (Some e.1) (find_in k es)) (apart_from (slice_cmp nat_cmp k e.0) (first _ _ below)) ∙ not_below k es (second _ _ below)
+
+sorted_distinct : (es : Entries) → T (finite.is_sorted (slice_cmp nat_cmp) es) → HasDistinctKeys es
+sorted_distinct [] sorted = tt
+sorted_distinct (e ∷ es) sorted = (not_below e.0 es (first _ _ sorted), sorted_distinct es (second _ _ sorted))
+
+-- a key of another stripe isn't found
+none_of_others : (n i : ℕ) (m : Map) (q : List ℕ) → is_in_stripe n i q ≡ false → find_in q (finite.entries (part_of n i m)) ≡ None
+none_of_others n i m q other = sym (finite.get-entries (part_of n i m) q) ∙ get-part_of n i m q ∙ ap (λ b. cond b (finite.get m q) None) other
+
+found_itself : (e : List ℕ × Value) (es : Entries) → find_in e.0 (e ∷ es) ≡ Some e.1
+found_itself e es = ap (λ o. cond (is_eq o) (Some e.1) (find_in e.0 es)) (tied_itself nat_list_cmp_total e.0)
+
+abbrev Outside : ℕ → ℕ → Entries → Type 0
+Outside n i es = (q : List ℕ) → is_in_stripe n i q ≡ false → find_in q es ≡ None
+
+outside_behind : (n i : ℕ) (e : List ℕ × Value) (es : Entries) → Outside n i (e ∷ es) → Outside n i es
+outside_behind n i e es out q other = none_behind (eq_by_cmp (slice_cmp nat_cmp) q e.0) e.1 (find_in q es) (out q other)
+
+is_within : (n i : ℕ) (e : List ℕ × Value) (es : Entries) (b : Bool) → is_in_stripe n i e.0 ≡ b → Outside n i (e ∷ es) → is_in_stripe n i e.0 ≡ true
+is_within n i e es true is out = is
+is_within n i e es false is out = let no : Some e.1 ≡ None = sym (found_itself e es) ∙ out e.0 is in cc
+
+none_both : (q : List ℕ) (es fs : Entries) → find_in q es ≡ None → find_in q fs ≡ None → find_in q (es ++ fs) ≡ None
+none_both q [] fs none rest = rest
+none_both q (e ∷ es) fs none rest =
+    ap (λ b. cond b (Some e.1) (find_in q (es ++ fs))) (head_differs (eq_by_cmp (slice_cmp nat_cmp) q e.0) e.1 (find_in q es) none)
+    ∙ none_both q es fs (none_behind (eq_by_cmp (slice_cmp nat_cmp) q e.0) e.1 (find_in q es) none) rest
+
+-- a key of stripe i isn't found in later stripes
+none_later : (n i j : ℕ) (zs : List Captured) (ms : List Map) (q : List ℕ) → i < j → is_in_stripe n i q ≡ true → AreParts n j zs ms → find_in q (entries_of zs) ≡ None
+none_later n i j [] [] q later own parts = refl
+none_later n i j [] (m ∷ ms) q later own parts = absurd parts
+none_later n i j (z ∷ zs) [] q later own parts = absurd parts
+none_later n i j (z ∷ zs) (m ∷ ms) q later own parts =
+    let at : stripe_of n q ≡ i = eqb-true _ _ own in
+    let other : is_in_stripe n j q ≡ false = ne_eqb (stripe_of n q) j (λ e. omega arith) in
+    none_both q z.entries.items (entries_of zs) (ap (find_in q) parts.0 ∙ none_of_others n j m q other) (none_later n i (j + 1) zs ms q (omega arith) own parts.1)
+
+distinct_both : (n i : ℕ) (es fs : Entries) → Outside n i es → ((q : List ℕ) → is_in_stripe n i q ≡ true → find_in q fs ≡ None) → HasDistinctKeys es → HasDistinctKeys fs → HasDistinctKeys (es ++ fs)
+distinct_both n i [] fs out apart one two = two
+distinct_both n i (e ∷ es) fs out apart one two = (
+  none_both e.0 es fs one.0 (apart e.0 (is_within n i e es (is_in_stripe n i e.0) refl out)),
+  distinct_both n i es fs (outside_behind n i e es out) apart one.1 two,
+)
+
+-- the entries of all stripes have distinct keys
+pub distinct : (n i : ℕ) (zs : List Captured) (ms : List Map) → AreParts n i zs ms → HasDistinctKeys (entries_of zs)
+distinct n i [] [] parts = tt
+distinct n i [] (m ∷ ms) parts = absurd parts
+distinct n i (z ∷ zs) [] parts = absurd parts
+distinct n i (z ∷ zs) (m ∷ ms) parts =
+    let own : Outside n i z.entries.items = λ q other. ap (find_in q) parts.0 ∙ none_of_others n i m q other in
+    let one : HasDistinctKeys z.entries.items = subst HasDistinctKeys (sym parts.0) (sorted_distinct (finite.entries (part_of n i m)) (finite.entries_sorted (part_of n i m))) in
+    distinct_both n i z.entries.items (entries_of zs) own (λ q at. none_later n i (i + 1) zs ms q (omega arith) at parts.1) one (distinct n (i + 1) zs ms parts.1)
+
+-- and they make the union of the parts
+pub united : (n i : ℕ) (zs : List Captured) (ms : List Map) → AreParts n i zs ms → entries_of zs ≡ flat_map finite.entries (parts_from n i ms)
+united n i [] [] parts = refl
+united n i [] (m ∷ ms) parts = absurd parts
+united n i (z ∷ zs) [] parts = absurd parts
+united n i (z ∷ zs) (m ∷ ms) parts = ap (λ l. l ++ entries_of zs) parts.0 ∙ ap (λ l. finite.entries (part_of n i m) ++ l) (united n (i + 1) zs ms parts.1)

@@ -1,0 +1,6 @@
+pub mod AnyOrder
+pub mod Joining
+pub mod Nearing
+pub mod Apart
+pub mod Walked
+mod Completing
