@@ -1,2 +1,3 @@
+pub mod WholeMap
 pub mod Serving
 pub mod Settings

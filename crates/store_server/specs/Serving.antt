@@ -3,32 +3,39 @@ use Rattle.std.specs.Prelude.{◌≡◌, ◌⊎◌, ℕ, List, ◌++◌, Option,
 use Rattle.map_types.specs.declared.refusals.Refusal.{Refusal}
 use Rattle.disk_model.specs.Files.{Files}
 use Rattle.ticket_order.specs.declared.record.Record.{Record}
-use Rattle.ticket_order.specs.declared.record.Asked.{Asked}
 use Rattle.ticket_order.specs.declared.record.Asked.TheVariants.{Changing, Reading}
 use Rattle.durable_map.specs.Durable.{Completes}
 use Rattle.store_layout.specs.Opening.{Opened, Holds}
 use Rattle.recovery.specs.LogReading.{contents_of}
 use Rattle.recovery.specs.Syncing.{SyncsAndLooks}
 use Rattle.wire_frames.specs.declared.requests.Request.{Request}
-use Rattle.wire_frames.specs.declared.requests.Request.TheVariants.{Change, Read}
+use Rattle.wire_frames.specs.declared.requests.Request.TheVariants.{Bulk, Change, Read}
 use Rattle.connections.specs.Dialogue.{Answer}
 use Rattle.console.specs.Printing.{PrintsAtMost, PrintsNothing}
 use Rattle.directories.specs.Directory.{IsNotOpened}
 use Rattle.store_server.specs.Settings.{AreNamed}
+use Rattle.store_server.specs.WholeMap.{CompletesBulk}
 use Rattle.store_server.specs.declared.server.ServerWords.{ServerWords}
 use Rattle.store_server.specs.declared.server.Settings.{Settings}
 
 -- ---- a worker
 
--- what a request asks of the map
-abbrev pub asked_of : Request → Asked
-asked_of (Change command) = Changing command
-asked_of (Read read) = Reading read
+-- a worker: the stripes of its map, and the record of its pass
+pub record WorkerState : Type 0 where
+  pub stripes : ℕ
+  pub pass : Record
 
--- A request was answered so, as the call of the durable map that it asks for: the answer completes it on the record of the worker's pass, which
--- it led from the one to the other.
-abbrev pub Completed : Record → Request → Answer → Record → Type 0
-Completed v request answer w = Completes v (asked_of request) answer w
+-- A request was answered so over n stripes, as the call of the durable map or the view that it asks for: the answer completes it on the record of
+-- the worker's pass, which it led from the one to the other.
+abbrev pub CompletesRequest : ℕ → Record → Request → Answer → Record → Type 0
+CompletesRequest n v (Change command) answer w = Completes v (Changing command) answer w
+CompletesRequest n v (Read read) answer w = Completes v (Reading read) answer w
+CompletesRequest n v (Bulk bulk) answer w = CompletesBulk n v bulk answer w
+
+-- a request was answered so, and led from one state of the worker to another
+pub record Completed (before : WorkerState) (request : Request) (answer : Answer) (after : WorkerState) : Type 0 where
+  pub stripes : after.stripes ≡ before.stripes
+  pub completes : CompletesRequest before.stripes before.pass request answer after.pass
 
 -- ---- what a server prints
 

@@ -1,12 +1,15 @@
 //! Workers: threads that serve connections over the running store, each with a pass of its own.
 ghost use Rattle.std.specs.Prelude.{◌≡◌, ℕ, false, IfOk, IfErr};
 ghost use Rattle.stripe_locks.specs.Plays.{joining};
-ghost use Rattle.durable_map.specs.Maps.{opening_of};
+ghost use Rattle.durable_map.specs.Maps.{opening_of, stripe_count};
 ghost use Rattle.connections.specs.Connection.{Connection};
 ghost use Rattle.connections.specs.Deferred.{Defers, LetsGo};
-ghost use Rattle.store_server.specs.Serving.{Completed};
+ghost use Rattle.store_server.specs.Serving.{Completed, CompletesRequest};
+ghost use Rattle.store_server.specs.WholeMap.{CompletesBulk};
 
+use crate::bulk::answer_of;
 use crate::idle::{Patience, Sent, Taken};
+use bulk_tasks::view;
 use connections::{Calls, ConnectionError, serve_connection};
 use crossbeam_channel::{Receiver, Sender, bounded};
 use disk_model::Disk;
@@ -22,7 +25,7 @@ use std::thread;
 use std::thread::Threads;
 use std::time::{Clock, Duration};
 use stripe_locks::Pass;
-use wire_frames::Request;
+use wire_frames::{Bulk, Request};
 
 /// How many connections wait for a worker at most.
 const MOST_WAITING: usize = 64;
@@ -53,44 +56,47 @@ pub trait Arrivals {
 
 /// A worker answers each request by a call of the running store, with its own pass.
 #[derive(Drop)]
-pub struct Worker<'a, D: Disk + Drop, G: Gate, R: Wait> {
+pub struct Worker<'a, D: Disk + Drop, G: Gate, R: Threads + Wait + Sync> {
     rt: &'a R,
+    alloc: Global,
     map: &'a DurableMap<D>,
     gate: &'a G,
     taken_up: &'a AtomicU64,
     pass: Pass,
 }
 
-impl<'a, D: Disk + Drop, G: Gate, R: Wait> Model for Worker<'a, D, G, R> {
+impl<'a, D: Disk + Drop, G: Gate, R: Threads + Wait + Sync> Model for Worker<'a, D, G, R> {
     ghost use Rattle.stripe_locks.specs.Passes.{recorded};
-    ghost use Rattle.durable_map.specs.Maps.{IsReady};
-    ghost use Rattle.ticket_order.specs.declared.record.Record.{Record};
-    ghost use Rattle.ticket_order.specs.contracts.record.Record as record_type;
+    ghost use Rattle.durable_map.specs.Maps.{IsReady, stripe_count};
+    ghost use Rattle.store_server.specs.Serving.{WorkerState};
 
-    ghost Value = { Record };
+    ghost Value = { WorkerState };
 
-    ghost coded = { record_type.the_row.coded };
-
-    ghost view = { λ worker. recorded worker.pass };
+    ghost view = { λ worker. record {
+        stripes = stripe_count worker.map.now; pass = recorded worker.pass } };
 
     ghost invariant = { λ worker. IsReady worker.map.now worker.pass };
 }
 
-impl<'a, D: Disk + Drop, G: Gate, R: Wait> Worker<'a, D, G, R> {
+impl<'a, D: Disk + Drop, G: Gate, R: Threads + Wait + Sync> Worker<'a, D, G, R> {
     /// A worker, which takes a new pass. The requests of all workers are counted in `taken_up`.
     pub fn new(
         rt: &'a R,
+        alloc: Global,
         map: &'a DurableMap<D>,
         gate: &'a G,
         taken_up: &'a AtomicU64,
     ) -> Result<Worker<'a, D, G, R>, Refusal>
-        ensures joins { IfOk result (λ worker. (found : ℕ) × (worker ≡ joining (opening_of map.now) found)) }
-        ensures worker { IfOk result (λ worker. worker.keeper ≡ false) }
+        ensures stripes { IfOk result (λ worker. worker.stripes ≡ stripe_count map.now) }
+        ensures joins { IfOk result (λ worker.
+            (found : ℕ) × (worker.pass ≡ joining (opening_of map.now) found)) }
+        ensures worker { IfOk result (λ worker. worker.pass.keeper ≡ false) }
         ensures err { IfErr result (λ refusal. refusal ≡ Refusal.SeatsSpent) }
     {
         let pass = map.pass()?;
         Ok(Worker {
             rt,
+            alloc,
             map,
             gate,
             taken_up,
@@ -98,13 +104,26 @@ impl<'a, D: Disk + Drop, G: Gate, R: Wait> Worker<'a, D, G, R> {
         })
     }
 
+    // Takes a view of the map, and answers by it.
+    fn answer_bulk(&mut self, bulk: &Bulk) -> Result<Reply, Refusal>
+        ensures stripes { self.new.stripes ≡ self.old.stripes }
+        ensures completes {
+            CompletesBulk self.old.stripes self.old.pass bulk.now result self.new.pass }
+    {
+        let view = view(self.rt, self.alloc, self.map, &mut self.pass)?;
+        answer_of(self.rt, self.alloc, &view, bulk)
+    }
+
     // Makes the call of a request.
     fn answer(&mut self, request: Request) -> Result<Reply, Refusal>
-        ensures { Completed self.old request result self.new }
+        ensures stripes { self.new.stripes ≡ self.old.stripes }
+        ensures completes {
+            CompletesRequest self.old.stripes self.old.pass request result self.new.pass }
     {
         match request {
             Request::Change(command) => self.map.change(self.rt, &mut self.pass, command),
             Request::Read(read) => self.map.read(self.rt, &mut self.pass, read),
+            Request::Bulk(bulk) => self.answer_bulk(&bulk),
         }
     }
 
@@ -115,13 +134,16 @@ impl<'a, D: Disk + Drop, G: Gate, R: Wait> Worker<'a, D, G, R> {
         reader: &mut I,
         writer: &mut O,
     ) -> Result<(), ConnectionError>
-        ensures { Connection Defers Completed LetsGo (I.remaining reader.old) (I.remaining reader.new) (O.contents writer.old) (O.contents writer.new) self.old self.new result }
+        ensures { Connection Defers Completed LetsGo
+            (I.remaining reader.old) (I.remaining reader.new)
+            (O.contents writer.old) (O.contents writer.new)
+            self.old self.new result }
     {
         serve_connection(alloc, reader, writer, self)
     }
 }
 
-impl<D: Disk + Drop, G: Gate, R: Wait> Calls for Worker<'_, D, G, R> {
+impl<D: Disk + Drop, G: Gate, R: Threads + Wait + Sync> Calls for Worker<'_, D, G, R> {
     type Held = Request;
 
     ghost began = { Defers };
@@ -164,7 +186,7 @@ struct Crew<'a, D: Disk + Drop, G: Gate> {
 }
 
 // Serves a connection to its end, or until its client was idle for too long.
-fn attend<D: Disk + Drop, G: Gate, R: Clock + Wait>(
+fn attend<D: Disk + Drop, G: Gate, R: Clock + Threads + Wait + Sync>(
     rt: &R,
     crew: &Crew<'_, D, G>,
     worker: &mut Worker<'_, D, G, R>,
@@ -188,8 +210,11 @@ fn attend<D: Disk + Drop, G: Gate, R: Clock + Wait>(
 }
 
 // Serves connections until no more come. What befalls a connection ends that one alone.
-fn work<D: Disk + Drop, G: Gate, R: Clock + Wait>(rt: &R, crew: &Crew<'_, D, G>) {
-    let Ok(mut worker) = Worker::new(rt, crew.map, crew.gate, &crew.taken_up) else {
+fn work<D: Disk + Drop, G: Gate, R: Clock + Threads + Wait + Sync>(
+    rt: &R,
+    crew: &Crew<'_, D, G>,
+) {
+    let Ok(mut worker) = Worker::new(rt, crew.alloc, crew.map, crew.gate, &crew.taken_up) else {
         return;
     };
     for _ in rt.forever() {
