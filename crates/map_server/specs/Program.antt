@@ -10,7 +10,7 @@ use Rattle.map_server.specs.CommandLine.{faults, named_by, Asks, FindsNoMemory, 
 use Rattle.map_server.specs.declared.program.Order.{Order}
 use Rattle.map_server.specs.declared.program.Order.TheVariants.{Mem, Init, Check, Serve, Call, Sim}
 use Rattle.directories.specs.Directory.{Inits, Inspects}
-use Rattle.call_text.specs.Calls.{parse_call}
+use Rattle.call_text.specs.Whole.{parse_words}
 use Rattle.map_client.specs.Client.{CallsServer}
 use Rattle.store_server.specs.Serving.{ServesOn}
 use Rattle.script_player.specs.Simulation.{Simulates}
@@ -39,7 +39,7 @@ module _ {D R W : Type 0} (states : D → List Files) (failures : D → ℕ) (ho
   Does (Check directory) r0 r1 w0 w1 status = (r1 ≡ r0) × Inspects states failures honest IsOpened directory.now w0 w1 status
   Does (Serve words) r0 r1 w0 w1 status = (r1 ≡ r0) × ServesOn states failures honest IsOpened words w0 w1 status
   Does (Call port words) r0 r1 w0 w1 status =
-      (r1 ≡ r0) × CallsServer remaining contents IsConnected port.now (parse_call (map (λ word. word.now) words.items)) w0 w1 status
+      (r1 ≡ r0) × CallsServer remaining contents IsConnected port.now (parse_words (map (λ word. word.now) words.items)) w0 w1 status
   Does (Sim file) r0 r1 w0 w1 status = (r1 ≡ r0) × Simulates w0 w1 status
 
   -- what the subcommand that is named asks for was done

@@ -73,7 +73,9 @@ impl<'a, D: Disk + Drop, G: Gate, R: Threads + Wait + Sync> Model for Worker<'a,
     ghost Value = { WorkerState };
 
     ghost view = { λ worker. record {
-        stripes = stripe_count worker.map.now; pass = recorded worker.pass } };
+      stripes = stripe_count worker.map.now;
+      pass = recorded worker.pass;
+    } };
 
     ghost invariant = { λ worker. IsReady worker.map.now worker.pass };
 }
@@ -107,8 +109,7 @@ impl<'a, D: Disk + Drop, G: Gate, R: Threads + Wait + Sync> Worker<'a, D, G, R> 
     // Takes a view of the map, and answers by it.
     fn answer_bulk(&mut self, bulk: &Bulk) -> Result<Reply, Refusal>
         ensures stripes { self.new.stripes ≡ self.old.stripes }
-        ensures completes {
-            CompletesBulk self.old.stripes self.old.pass bulk.now result self.new.pass }
+        ensures completes { CompletesBulk self.old.stripes self.old.pass bulk.now result self.new.pass }
     {
         let view = view(self.rt, self.alloc, self.map, &mut self.pass)?;
         answer_of(self.rt, self.alloc, &view, bulk)
@@ -117,8 +118,7 @@ impl<'a, D: Disk + Drop, G: Gate, R: Threads + Wait + Sync> Worker<'a, D, G, R> 
     // Makes the call of a request.
     fn answer(&mut self, request: Request) -> Result<Reply, Refusal>
         ensures stripes { self.new.stripes ≡ self.old.stripes }
-        ensures completes {
-            CompletesRequest self.old.stripes self.old.pass request result self.new.pass }
+        ensures completes { CompletesRequest self.old.stripes self.old.pass request result self.new.pass }
     {
         match request {
             Request::Change(command) => self.map.change(self.rt, &mut self.pass, command),
@@ -210,10 +210,7 @@ fn attend<D: Disk + Drop, G: Gate, R: Clock + Threads + Wait + Sync>(
 }
 
 // Serves connections until no more come. What befalls a connection ends that one alone.
-fn work<D: Disk + Drop, G: Gate, R: Clock + Threads + Wait + Sync>(
-    rt: &R,
-    crew: &Crew<'_, D, G>,
-) {
+fn work<D: Disk + Drop, G: Gate, R: Clock + Threads + Wait + Sync>(rt: &R, crew: &Crew<'_, D, G>) {
     let Ok(mut worker) = Worker::new(rt, crew.alloc, crew.map, crew.gate, &crew.taken_up) else {
         return;
     };
