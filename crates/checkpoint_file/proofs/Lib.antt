@@ -7,6 +7,7 @@ mod StagingLemmas
 mod LookLemmas
 mod HeadLemmas
 mod PlaceLemmas
+mod FrontLemmas
 mod EntryReading
 mod SectionReading
 mod WholeFiles

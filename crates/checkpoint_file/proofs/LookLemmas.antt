@@ -3,9 +3,8 @@ use Rattle.std.proofs.Common.{◌≡◌, ℕ, ◌+◌, List, ◌∷◌, refl, ap
 use Rattle.disk_model.specs.Calls.{Looks}
 use Rattle.disk_model.specs.Files.{Files, now}
 use Rattle.disk_model.proofs.MomentLemmas.{one_call, no_call, goes_on, in_the_end, weaker}
-use Rattle.checkpoint_file.specs.declared.window.Window.{Window}
+use Rattle.file_pieces.specs.Pieces.{ReaderState, Holds}
 use Rattle.checkpoint_file.specs.Loads.{seen_in}
-use Rattle.checkpoint_file.specs.Window.{Holds}
 
 module _ {D : Type 0} (states : D → List Files) (failures : D → ℕ) (honest : D → Type 0) where
   pub one_look : (failed : ℕ) (old new : D) → states new ≡ now (states old) ∷ states old → failures new ≡ failures old + failed → (honest new → honest old)
@@ -30,9 +29,9 @@ module _ {D : Type 0} (states : D → List Files) (failures : D → ℕ) (honest
   pub same_seen : (old new : D) (file number : ℕ) → number ≡ file → Looks states failures honest 0 old new → seen_in states new number ≡ seen_in states old file
   same_seen old new file number is look = ap₂ (λ (files : Files) (n : ℕ). (files n).seen) (same_now 0 old new look) is
 
-  -- a window holds what the file had
-  pub held_before : (old new : D) (file : ℕ) (window : Window) → Looks states failures honest 0 old new → Holds (seen_in states new file) window → Holds (seen_in states old file) window
-  held_before old new file window look held = subst (λ (content : List ℕ). Holds content window) (same_seen old new file file refl look) held
+  -- a reader holds what the file had
+  pub held_before : (old new : D) (file : ℕ) (reader : ReaderState) → Looks states failures honest 0 old new → Holds (seen_in states new file) reader → Holds (seen_in states old file) reader
+  held_before old new file reader look held = subst (λ (content : List ℕ). Holds content reader) (same_seen old new file file refl look) held
 
   pub looks_on : (failed : ℕ) (old mid new : D) → Looks states failures honest 0 old mid → Looks states failures honest failed mid new → Looks states failures honest failed old new
   looks_on failed old mid new one two = record {

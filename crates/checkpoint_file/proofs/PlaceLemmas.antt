@@ -23,20 +23,6 @@ module _ (content : List ℕ) (at : ℕ) (rest : List ℕ) (is : StandsAt conten
       let place = is.offset in
       omega (arith, whole, length-append is.front (rest ++ is.behind), length-append rest is.behind, place, few)
 
-  -- what a window that reaches over them has
-  pub window_take : (bytes : List ℕ) (from n : ℕ) → bytes ≡ take (length bytes) (drop from content) → from ≤ at → at + n ≤ from + length bytes → n ≤ length rest
-      → take n (drop (at - from) bytes) ≡ take n rest
-  window_take bytes from n held before within few =
-      let k : ℕ = at - from in
-      let j : ℕ = length bytes - k in
-      let parts : length bytes ≡ k + j = omega (arith, before, within) in
-      let place : from + k ≡ at = omega (arith, before) in
-      ap (λ (l : List ℕ). take n (drop k l)) (held ∙ ap (λ (m : ℕ). take m (drop from content)) parts)
-      ∙ ap (λ (l : List ℕ). take n l) (drop-take k j (drop from content))
-      ∙ take-take n j (drop k (drop from content)) (omega (arith, before, within))
-      ∙ ap (λ (l : List ℕ). take n l) (drop-drop k from content ∙ ap (λ (m : ℕ). drop m content) place)
-      ∙ read_take n few
-
   -- what is behind the first bytes
   pub stands_behind : (bytes others : List ℕ) (place : ℕ) → rest ≡ bytes ++ others → place ≡ at + length bytes → StandsAt content place others
   stands_behind bytes others place spelled place_is =

@@ -163,10 +163,12 @@ size_refused_by : (file : ℕ) (content : List ℕ) (head : Head) (H : Type 0) (
     → H → IsHead head file content → IsBadCheckpoint first_layout file content refusal
 size_refused_by file content head H refusal why honest is = bad_size (why honest is.fields)
 
-pub size_refused : (file : ℕ) (content : List ℕ) (head : Head) (H : Type 0) (refusal : Refusal) → (refusal ≡ Failed) ⊎ (H → HasFields head content → size_fault file content ≡ Some refusal)
+pub size_refused : (file : ℕ) (content : List ℕ) (head : Head) (H : Type 0) (refusal : Refusal)
+    → (refusal ≡ Failed) ⊎ ((refusal ≡ NoMemory) ⊎ (H → HasFields head content → size_fault file content ≡ Some refusal))
     → (refusal ≡ Failed) ⊎ ((refusal ≡ NoMemory) ⊎ (H → IsHead head file content → IsBadCheckpoint first_layout file content refusal))
 size_refused file content head H refusal (inl failed) = inl failed
-size_refused file content head H refusal (inr why) = inr (inr (size_refused_by file content head H refusal why))
+size_refused file content head H refusal (inr (inl memory)) = inr (inl memory)
+size_refused file content head H refusal (inr (inr why)) = inr (inr (size_refused_by file content head H refusal why))
 
 module _ {D : Type 0} (states : D → List Files) (failures : D → ℕ) (honest : D → Type 0) where
   -- what holds of the body's place holds of the body

@@ -3,4 +3,4 @@ pub mod Standing
 pub mod Advancing
 pub mod Heads
 pub mod Loads
-pub mod Window
+pub mod Front

@@ -2,6 +2,7 @@
 ghost use Rattle.std.specs.Prelude.{◌≡◌, ◌<◌, IfOk, IfErr, OnOk, OnErr};
 ghost use Rattle.disk_model.specs.Calls.{Looks};
 ghost use Rattle.disk_model.specs.Files.{now};
+ghost use Rattle.file_pieces.specs.Counting.{Made};
 ghost use Rattle.store_layout.specs.Checkpoints.{is_to_close};
 
 use disk_model::Disk;
@@ -15,6 +16,7 @@ pub fn must_close<D: Disk>(disk: &mut D, file: usize) -> Result<bool, Refusal>
     ensures value { D.honest disk.new → IfOk result (λ must. must ≡ is_to_close (now (D.states disk.old) file).seen) }
     ensures looks { OnOk result (Looks D.states D.failures D.honest 0 disk.old disk.new) }
     ensures failed { OnErr result (Looks D.states D.failures D.honest 1 disk.old disk.new) }
+    ensures called { Made D.states 1 disk.old disk.new }
     ensures err { IfErr result (λ refusal. refusal ≡ Refusal.Failed) }
 {
     let mut gate = [0; 1];

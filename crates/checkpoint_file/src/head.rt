@@ -2,6 +2,7 @@
 ghost use Rattle.std.specs.Prelude.{◌≡◌, ◌⊎◌, ◌<◌, Some, false, IfOk, IfErr, OnOk, IfSome, IfNone};
 ghost use Rattle.disk_model.specs.Calls.{Looks};
 ghost use Rattle.disk_model.specs.Files.{now};
+ghost use Rattle.file_pieces.specs.Counting.{Made};
 ghost use Rattle.store_layout.specs.Checkpoints.{is_sealed};
 ghost use Rattle.store_layout.specs.Faults.{head_fault};
 ghost use Rattle.checkpoint_file.specs.Heads.{HasFields, IsHead, failed_in};
@@ -40,6 +41,7 @@ fn fields_of(bytes: &[u8; BODY_OFFSET]) -> Head
 pub fn read_head<D: Disk>(disk: &mut D, file: usize) -> Result<Option<Head>, Refusal>
     requires { file < 2 }
     ensures looks { Looks D.states D.failures D.honest (failed_in result) disk.old disk.new }
+    ensures called { Made D.states 1 disk.old disk.new }
     ensures some { D.honest disk.new → IfOk result (λ found. IfSome found (λ head. IsHead head file (now (D.states disk.old) file).seen)) }
     ensures none { D.honest disk.new → IfOk result (λ found. IfNone found (is_sealed (now (D.states disk.old) file).seen ≡ false)) }
     ensures err { IfErr result (λ refusal. (refusal ≡ Refusal.Failed) ⊎ (D.honest disk.new → head_fault file (now (D.states disk.old) file).seen ≡ Some refusal)) }

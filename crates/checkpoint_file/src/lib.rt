@@ -2,6 +2,7 @@
 //! of its own once they are on the disk.
 #![tactic(auto)]
 
+mod front;
 mod gate;
 mod head;
 mod laws;
@@ -10,7 +11,6 @@ mod marks;
 mod pieces;
 mod sections;
 mod unread;
-mod window;
 mod writer;
 
 pub use gate::must_close;

@@ -1,22 +1,26 @@
-//! Reads a checkpoint out of its file. Every device call is a look, and the bytes of one window are held
-//! at a time.
-ghost use Rattle.std.specs.Prelude.{◌≡◌, ◌⊎◌, ℕ, ◌+◌, ◌*◌, ◌<◌, ◌≤◌, ◌^◌, ◌++◌, ◌∷◌, [], List, length, take, drop, min, false, None, Some, IfOk, IfErr, OnOk, IfSome, IfNone};
+//! Reads a checkpoint out of its file. Every device call is a look, and reads the next piece of the
+//! file.
+ghost use Rattle.std.specs.Prelude.{◌≡◌, ◌⊎◌, ℕ, ◌+◌, ◌*◌, ◌<◌, ◌≤◌, ◌^◌, ◌++◌, ◌∷◌, [], List, length, take, drop, min, false, None, Some, IfOk, IfErr, OnOk, OnErr, IfSome, IfNone};
 ghost use Rattle.byteorder.specs.Endian.{big_bytes};
 ghost use Rattle.disk_model.specs.Calls.{Looks};
 ghost use Rattle.disk_model.specs.Files.{now};
+ghost use Rattle.file_pieces.specs.Counting.{Made, MadeAtMost, ReadsPieces, ReadsAtMost};
+ghost use Rattle.file_pieces.specs.Pieces.{Holds, end_of, pieces_in};
 ghost use Rattle.log_records.specs.Layout.{first_layout};
 ghost use Rattle.store_layout.specs.Checkpoints.{IsCheckpoint, entries_bytes, section_bytes, sections_bytes, is_sealed};
-ghost use Rattle.store_layout.specs.Faults.{IsFault, HasFault, IsBadCheckpoint, size_fault};
+ghost use Rattle.store_layout.specs.Calls.{checkpoint_calls};
+ghost use Rattle.store_layout.specs.Faults.{IsFault, HasFault, IsBadCheckpoint, body_length_in, size_fault};
 ghost use Rattle.checkpoint_file.specs.Heads.{HasFields, IsHead, failed_in};
 ghost use Rattle.checkpoint_file.specs.Loads.{checkpoint_of, section_of, sections_of, AreRising, IsUnloadable, seen_in, ForRest, IsBehind, GoesOn, RefusesIn, HasNoNext, MayFollow, IsNext, HasFewer, AreSoMany, IsLoaded, AreLoaded, IsBodyOf, IsBodyAt};
-ghost use Rattle.checkpoint_file.specs.Window.{Holds};
+ghost use Rattle.checkpoint_file.specs.Front.{IsAt};
 
+use crate::front::{begin_file, fetch, front, reach_body};
 use crate::head::{Head, read_head};
 use crate::marks::{are_marked_from, greatest_mark};
 use crate::pieces::{Stripe, entry_at, mark_and_count, may_follow};
 use crate::unread::Unread;
-use crate::window::Window;
 use disk_model::Disk;
+use file_pieces::FileReader;
 use java_hash::StripeCount;
 use map_types::{Key, Refusal, Value};
 use std::alloc::Global;
@@ -41,16 +45,19 @@ pub struct LoadedCheckpoint {
 // The mark and the count of the section that begins here.
 fn section_head<D: Disk>(
     disk: &mut D,
-    window: &mut Window,
+    reader: &mut FileReader,
     unread: Unread,
 ) -> Result<(u64, usize), Refusal>
-    requires file { unread.file < 4 }
-    requires room { unread.at + unread.left < 2 ^ 64 }
+    requires at { IsAt reader.old unread }
     requires held { D.honest disk.old
-        → Holds (seen_in D.states disk.old unread.file) window.old }
+        → Holds (seen_in D.states disk.old unread.file) reader.old }
     ensures looks { Looks D.states D.failures D.honest (failed_in result) disk.old disk.new }
+    ensures at { OnOk result (IsAt reader.new unread) }
+    ensures reached { OnOk result (unread.at + 12 ≤ end_of reader.new) }
+    ensures called { OnOk result (ReadsPieces D.states disk.old disk.new reader.old reader.new) }
+    ensures tried { OnErr result (ReadsAtMost D.states disk.old disk.new reader.old (unread.at + unread.left)) }
     ensures held { D.honest disk.new
-        → OnOk result (Holds (seen_in D.states disk.new unread.file) window.new) }
+        → OnOk result (Holds (seen_in D.states disk.new unread.file) reader.new) }
     ensures fits { IfOk result (λ head. (head.0 < 2 ^ 64) × (head.1 < 2 ^ 32)) }
     ensures long { OnOk result (12 ≤ unread.left) }
     ensures ok { D.honest disk.new → ForRest D.states disk.old unread (λ rest. IfOk result (λ head. rest ≡ (big_bytes 8 head.0 ++ big_bytes 4 head.1) ++ drop 12 rest)) }
@@ -59,8 +66,8 @@ fn section_head<D: Disk>(
     if unread.left < SECTION_HEAD_BYTES {
         return Err(unread.damaged());
     }
-    window.fill(disk, unread)?;
-    let bytes = window.front(unread);
+    fetch(disk, reader, unread)?;
+    let bytes = front(reader, unread);
     Ok(mark_and_count(&bytes[..SECTION_HEAD_BYTES]))
 }
 
@@ -68,18 +75,21 @@ fn section_head<D: Disk>(
 fn next_entry<D: Disk>(
     alloc: Global,
     disk: &mut D,
-    window: &mut Window,
+    reader: &mut FileReader,
     unread: Unread,
     stripe: Stripe,
     before: &[(Key, Value)],
 ) -> Result<((Key, Value), usize), Refusal>
-    requires file { unread.file < 4 }
-    requires room { unread.at + unread.left < 2 ^ 64 }
+    requires at { IsAt reader.old unread }
     requires held { D.honest disk.old
-        → Holds (seen_in D.states disk.old unread.file) window.old }
+        → Holds (seen_in D.states disk.old unread.file) reader.old }
     ensures looks { Looks D.states D.failures D.honest (failed_in result) disk.old disk.new }
+    ensures at { OnOk result (IsAt reader.new unread) }
+    ensures reached { IfOk result (λ x. unread.at + x.1 ≤ end_of reader.new) }
+    ensures called { OnOk result (ReadsPieces D.states disk.old disk.new reader.old reader.new) }
+    ensures tried { OnErr result (ReadsAtMost D.states disk.old disk.new reader.old (unread.at + unread.left)) }
     ensures held { D.honest disk.new
-        → OnOk result (Holds (seen_in D.states disk.new unread.file) window.new) }
+        → OnOk result (Holds (seen_in D.states disk.new unread.file) reader.new) }
     ensures few { IfOk result (λ x. x.1 ≤ unread.left) }
     ensures follows { IfOk result (λ x.
         MayFollow stripe.of.count stripe.number before.now x.0) }
@@ -88,8 +98,8 @@ fn next_entry<D: Disk>(
     ensures err { IfErr result (RefusesIn unread.file (λ offset. D.honest disk.new → ForRest D.states disk.old unread (λ rest. (offset ≡ unread.at)
         × HasNoNext stripe.of.count stripe.number before.now rest))) }
 {
-    window.fill(disk, unread)?;
-    let bytes = window.front(unread);
+    fetch(disk, reader, unread)?;
+    let bytes = front(reader, unread);
     let Some((entry, others)) = entry_at(alloc, bytes)? else {
         return Err(unread.damaged());
     };
@@ -104,18 +114,20 @@ fn next_entry<D: Disk>(
 fn entries<D: Disk>(
     alloc: Global,
     disk: &mut D,
-    window: &mut Window,
+    reader: &mut FileReader,
     unread: Unread,
     stripe: Stripe,
     count: usize,
 ) -> Result<(Vec<(Key, Value)>, Unread), Refusal>
-    requires file { unread.file < 4 }
-    requires room { unread.at + unread.left < 2 ^ 64 }
+    requires at { IsAt reader.old unread }
     requires held { D.honest disk.old
-        → Holds (seen_in D.states disk.old unread.file) window.old }
+        → Holds (seen_in D.states disk.old unread.file) reader.old }
     ensures looks { Looks D.states D.failures D.honest (failed_in result) disk.old disk.new }
+    ensures at { IfOk result (λ x. IsAt reader.new x.1) }
+    ensures called { OnOk result (ReadsPieces D.states disk.old disk.new reader.old reader.new) }
+    ensures tried { OnErr result (ReadsAtMost D.states disk.old disk.new reader.old (unread.at + unread.left)) }
     ensures held { D.honest disk.new
-        → OnOk result (Holds (seen_in D.states disk.new unread.file) window.new) }
+        → OnOk result (Holds (seen_in D.states disk.new unread.file) reader.new) }
     ensures behind { IfOk result (λ x. IsBehind unread x.1) }
     ensures many { IfOk result (λ x. AreSoMany stripe.of.count stripe.number count x.0.items) }
     ensures ok { D.honest disk.new → ForRest D.states disk.old unread (λ rest. IfOk result (λ x.
@@ -127,7 +139,7 @@ fn entries<D: Disk>(
     let mut entries = Vec::new(alloc);
     let mut rest = unread;
     for _ in 0..count {
-        let (entry, used) = next_entry(alloc, disk, window, rest, stripe, &entries)?;
+        let (entry, used) = next_entry(alloc, disk, reader, rest, stripe, &entries)?;
         entries.push(entry)?;
         rest = rest.behind(used);
     }
@@ -138,18 +150,20 @@ fn entries<D: Disk>(
 fn section<D: Disk>(
     alloc: Global,
     disk: &mut D,
-    window: &mut Window,
+    reader: &mut FileReader,
     unread: Unread,
     stripe: Stripe,
 ) -> Result<(LoadedSection, Unread), Refusal>
-    requires file { unread.file < 4 }
-    requires room { unread.at + unread.left < 2 ^ 64 }
+    requires at { IsAt reader.old unread }
     requires some { stripe.number < stripe.of.count }
     requires held { D.honest disk.old
-        → Holds (seen_in D.states disk.old unread.file) window.old }
+        → Holds (seen_in D.states disk.old unread.file) reader.old }
     ensures looks { Looks D.states D.failures D.honest (failed_in result) disk.old disk.new }
+    ensures at { IfOk result (λ x. IsAt reader.new x.1) }
+    ensures called { OnOk result (ReadsPieces D.states disk.old disk.new reader.old reader.new) }
+    ensures tried { OnErr result (ReadsAtMost D.states disk.old disk.new reader.old (unread.at + unread.left)) }
     ensures held { D.honest disk.new
-        → OnOk result (Holds (seen_in D.states disk.new unread.file) window.new) }
+        → OnOk result (Holds (seen_in D.states disk.new unread.file) reader.new) }
     ensures behind { IfOk result (λ x. IsBehind unread x.1) }
     ensures loaded { IfOk result (λ x. IsLoaded stripe.of.count stripe.number x.0) }
     ensures ok { D.honest disk.new → ForRest D.states disk.old unread (λ rest. IfOk result (λ x.
@@ -158,9 +172,9 @@ fn section<D: Disk>(
     ensures err { IfErr result (RefusesIn unread.file (λ offset. D.honest disk.new → ForRest D.states disk.old unread (λ rest. (distance : ℕ) × (offset ≡ unread.at + distance)
         × IsFault first_layout stripe.of.count stripe.number rest distance))) }
 {
-    let (mark, count) = section_head(disk, window, unread)?;
+    let (mark, count) = section_head(disk, reader, unread)?;
     let behind = unread.behind(SECTION_HEAD_BYTES);
-    let (entries, rest) = entries(alloc, disk, window, behind, stripe, count)?;
+    let (entries, rest) = entries(alloc, disk, reader, behind, stripe, count)?;
     Ok((LoadedSection { mark, entries }, rest))
 }
 
@@ -168,15 +182,17 @@ fn section<D: Disk>(
 fn all_sections<D: Disk>(
     alloc: Global,
     disk: &mut D,
-    window: &mut Window,
+    reader: &mut FileReader,
     unread: Unread,
     stripes: StripeCount,
 ) -> Result<(Vec<LoadedSection>, Unread), Refusal>
-    requires file { unread.file < 4 }
-    requires room { unread.at + unread.left < 2 ^ 64 }
+    requires at { IsAt reader.old unread }
     requires held { D.honest disk.old
-        → Holds (seen_in D.states disk.old unread.file) window.old }
+        → Holds (seen_in D.states disk.old unread.file) reader.old }
     ensures looks { Looks D.states D.failures D.honest (failed_in result) disk.old disk.new }
+    ensures at { IfOk result (λ x. IsAt reader.new x.1) }
+    ensures called { OnOk result (ReadsPieces D.states disk.old disk.new reader.old reader.new) }
+    ensures tried { OnErr result (ReadsAtMost D.states disk.old disk.new reader.old (unread.at + unread.left)) }
     ensures behind { IfOk result (λ x. IsBehind unread x.1) }
     ensures many { IfOk result (λ x. length x.0.items ≡ stripes.count) }
     ensures loaded { IfOk result (λ x. AreLoaded stripes.count x.0.items) }
@@ -193,7 +209,7 @@ fn all_sections<D: Disk>(
             number,
             of: stripes,
         };
-        let (section, behind) = section(alloc, disk, window, rest, stripe)?;
+        let (section, behind) = section(alloc, disk, reader, rest, stripe)?;
         sections.push(section)?;
         rest = behind;
     }
@@ -204,43 +220,39 @@ fn all_sections<D: Disk>(
 fn whole_body<D: Disk>(
     alloc: Global,
     disk: &mut D,
+    reader: &mut FileReader,
     unread: Unread,
     stripes: StripeCount,
 ) -> Result<Vec<LoadedSection>, Refusal>
-    requires file { unread.file < 4 }
-    requires room { unread.at + unread.left < 2 ^ 64 }
+    requires at { IsAt reader.old unread }
+    requires held { D.honest disk.old
+        → Holds (seen_in D.states disk.old unread.file) reader.old }
     ensures looks { Looks D.states D.failures D.honest (failed_in result) disk.old disk.new }
+    ensures called { OnOk result (length (D.states disk.new) + pieces_in (end_of reader.old)
+        ≡ length (D.states disk.old) + pieces_in (unread.at + unread.left)) }
+    ensures tried { OnErr result (ReadsAtMost D.states disk.old disk.new reader.old (unread.at + unread.left)) }
     ensures loaded { IfOk result (λ sections. AreLoaded stripes.count sections.items) }
     ensures ok { D.honest disk.new → ForRest D.states disk.old unread (λ rest. IfOk result (λ sections. IsBodyOf stripes.count sections.items rest)) }
     ensures err { IfErr result (RefusesIn unread.file (λ offset. D.honest disk.new → ForRest D.states disk.old unread (λ rest. (distance : ℕ) × (offset ≡ unread.at + distance)
         × HasFault first_layout stripes.count rest distance))) }
 {
-    let mut window = Window::new(alloc, unread.left)?;
-    let (sections, behind) = all_sections(alloc, disk, &mut window, unread, stripes)?;
+    let (sections, behind) = all_sections(alloc, disk, reader, unread, stripes)?;
     if behind.left > 0 {
         return Err(behind.damaged());
     }
     Ok(sections)
 }
 
-// How many stripes there are, and where the body stands that the sections are to fill.
-fn sized_body<D: Disk>(
-    disk: &mut D,
-    file: u8,
-    head: &Head,
-) -> Result<(StripeCount, Unread), Refusal>
+// How many stripes there are, and where the body stands in a file of so many bytes.
+fn body_of(file: u8, head: &Head, len: usize) -> Result<(StripeCount, Unread), Refusal>
     requires { file < 4 }
-    ensures looks { Looks D.states D.failures D.honest (failed_in result) disk.old disk.new }
     ensures place { IfOk result (λ x. (x.0.count ≡ head.now.stripes) × IsBodyAt file head.now.body_len x.1) }
-    ensures inside { D.honest disk.new → OnOk result (36 + head.now.body_len ≤ length (seen_in D.states disk.old file)) }
-    ensures ok { D.honest disk.new → HasFields head.now (seen_in D.states disk.old file) → OnOk result (size_fault file (seen_in D.states disk.old file) ≡ None) }
-    ensures err { IfErr result (λ refusal. (refusal ≡ Refusal.Failed) ⊎ (D.honest disk.new → HasFields head.now (seen_in D.states disk.old file)
-        → size_fault file (seen_in D.states disk.old file) ≡ Some refusal)) }
+    ensures inside { OnOk result (36 + head.now.body_len ≤ len) }
+    ensures ok { (content : List ℕ) → len ≡ length content → HasFields head.now content → OnOk result (size_fault file content ≡ None) }
+    ensures err { IfErr result (λ refusal. (content : List ℕ) → len ≡ length content → HasFields head.now content
+        → size_fault file content ≡ Some refusal) }
+    ensures unfailed { failed_in result ≡ 0 }
 {
-    let len = match disk.len(file as usize) {
-        Ok(len) => len,
-        Err(_) => return Err(Refusal::Failed),
-    };
     let Some(stripes) = StripeCount::new(head.stripes) else {
         return Err(Refusal::Damaged { file, offset: 26 });
     };
@@ -255,6 +267,32 @@ fn sized_body<D: Disk>(
     Ok((stripes, body))
 }
 
+// How many stripes there are, where the body stands that the sections are to fill, and a reader that has
+// come to it.
+fn sized_body<D: Disk>(
+    alloc: Global,
+    disk: &mut D,
+    file: u8,
+    head: &Head,
+) -> Result<(StripeCount, Unread, FileReader), Refusal>
+    requires { file < 4 }
+    ensures looks { Looks D.states D.failures D.honest (failed_in result) disk.old disk.new }
+    ensures called { IfOk result (λ x. Made D.states (1 + pieces_in (end_of x.2)) disk.old disk.new) }
+    ensures tried { OnErr result (MadeAtMost D.states (1 + pieces_in (36 + head.now.body_len)) disk.old disk.new) }
+    ensures place { IfOk result (λ x. (x.0.count ≡ head.now.stripes) × IsBodyAt file head.now.body_len x.1) }
+    ensures at { IfOk result (λ x. IsAt x.2 x.1) }
+    ensures held { D.honest disk.new → IfOk result (λ x. Holds (seen_in D.states disk.new x.1.file) x.2) }
+    ensures inside { D.honest disk.new → OnOk result (36 + head.now.body_len ≤ length (seen_in D.states disk.old file)) }
+    ensures ok { D.honest disk.new → HasFields head.now (seen_in D.states disk.old file) → OnOk result (size_fault file (seen_in D.states disk.old file) ≡ None) }
+    ensures err { IfErr result (λ refusal. (refusal ≡ Refusal.Failed) ⊎ ((refusal ≡ Refusal.NoMemory) ⊎ (D.honest disk.new → HasFields head.now (seen_in D.states disk.old file)
+        → size_fault file (seen_in D.states disk.old file) ≡ Some refusal))) }
+{
+    let mut reader = begin_file(alloc, disk, file)?;
+    let (stripes, body) = body_of(file, head, reader.len())?;
+    reach_body(disk, &mut reader, body)?;
+    Ok((stripes, body, reader))
+}
+
 // The checkpoint of which the file has this head.
 fn load_body<D: Disk>(
     alloc: Global,
@@ -264,6 +302,8 @@ fn load_body<D: Disk>(
 ) -> Result<LoadedCheckpoint, Refusal>
     requires { file < 2 }
     ensures looks { Looks D.states D.failures D.honest (failed_in result) disk.old disk.new }
+    ensures called { OnOk result (Made D.states (1 + pieces_in (36 + head.now.body_len)) disk.old disk.new) }
+    ensures tried { OnErr result (MadeAtMost D.states (1 + pieces_in (36 + head.now.body_len)) disk.old disk.new) }
     ensures ok { D.honest disk.new → IsHead head.now file (seen_in D.states disk.old file)
         → IfOk result (λ loaded.
         IsCheckpoint first_layout (checkpoint_of loaded) (seen_in D.states disk.old file)) }
@@ -272,8 +312,8 @@ fn load_body<D: Disk>(
     ensures err { IfErr result (λ refusal. (refusal ≡ Refusal.Failed) ⊎ ((refusal ≡ Refusal.NoMemory) ⊎ (D.honest disk.new → IsHead head.now file (seen_in D.states disk.old file)
         → IsBadCheckpoint first_layout file (seen_in D.states disk.old file) refusal))) }
 {
-    let (stripes, body) = sized_body(disk, file, head)?;
-    let sections = whole_body(alloc, disk, body, stripes)?;
+    let (stripes, body, mut reader) = sized_body(alloc, disk, file, head)?;
+    let sections = whole_body(alloc, disk, &mut reader, body, stripes)?;
     let greatest = greatest_mark(&sections);
     let is_marked = are_marked_from(head.low, &sections);
     if greatest != head.greatest_mark || !is_marked {
@@ -288,7 +328,7 @@ fn load_body<D: Disk>(
 }
 
 /// Reads the checkpoint that is sealed in the file; `None` where none is. Besides the entries that it
-/// hands on it holds the bytes of one window, and memory may be wanting before a fault behind it is met.
+/// hands on it holds a piece of the file, and memory may be wanting before a fault behind it is met.
 pub fn load<D: Disk>(
     alloc: Global,
     disk: &mut D,
@@ -296,6 +336,11 @@ pub fn load<D: Disk>(
 ) -> Result<Option<LoadedCheckpoint>, Refusal>
     requires { file < 2 }
     ensures looks { Looks D.states D.failures D.honest (failed_in result) disk.old disk.new }
+    ensures called { D.honest disk.new → IfOk result (λ found. IfSome found (λ loaded.
+        Made D.states (checkpoint_calls (body_length_in (now (D.states disk.old) file).seen)) disk.old disk.new)) }
+    ensures called_once { IfOk result (λ found. IfNone found (Made D.states 1 disk.old disk.new)) }
+    ensures tried { D.honest disk.new → OnErr result
+        (MadeAtMost D.states (checkpoint_calls (body_length_in (now (D.states disk.old) file).seen)) disk.old disk.new) }
     ensures some { D.honest disk.new → IfOk result (λ found. IfSome found (λ loaded. IsCheckpoint first_layout (checkpoint_of loaded) (now (D.states disk.old) file).seen)) }
     ensures loaded { IfOk result (λ found. IfSome found (λ loaded.
         AreLoaded loaded.stripes.count loaded.sections.items)) }

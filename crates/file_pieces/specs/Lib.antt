@@ -1,3 +1,4 @@
 pub mod Faults
 pub mod Buffer
 pub mod Pieces
+pub mod Counting

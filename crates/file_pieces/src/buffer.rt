@@ -2,6 +2,7 @@
 ghost use Rattle.std.specs.Prelude.{◌≡◌, ◌≢◌, ◌+◌, ◌<◌, ◌≤◌, ◌^◌, ◌++◌, [], length, take, drop, IfErr, OnOk, OnErr};
 ghost use Rattle.disk_model.specs.Calls.{Looks};
 ghost use Rattle.disk_model.specs.Files.{now};
+ghost use Rattle.file_pieces.specs.Counting.{Made};
 ghost use Rattle.file_pieces.specs.Faults.{failed_in};
 
 use crate::fault::ReadFault;
@@ -94,7 +95,7 @@ impl Buffer {
         requires file { file < 4 }
         requires room { count ≤ room_in self.old }
         ensures looks { Looks D.states D.failures D.honest (failed_in result) disk.old disk.new }
-        ensures called { length (D.states disk.new) ≡ length (D.states disk.old) + 1 }
+        ensures called { Made D.states 1 disk.old disk.new }
         ensures size { OnOk result (length (held_in self.new) ≡ length (held_in self.old) + count) }
         ensures held { D.honest disk.new → OnOk result (held_in self.new
             ≡ held_in self.old ++ take count (drop at (now (D.states disk.old) file).seen)) }

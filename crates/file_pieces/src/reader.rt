@@ -3,6 +3,7 @@ ghost use Rattle.std.specs.Prelude.{◌≡◌, ◌≢◌, ℕ, ◌+◌, ◌-◌,
 ghost use Rattle.disk_model.specs.Calls.{Looks};
 ghost use Rattle.disk_model.specs.Files.{now};
 ghost use Rattle.file_pieces.specs.Faults.{failed_in};
+ghost use Rattle.file_pieces.specs.Counting.{Made, MadeAtMost, ReadsPieces, ReadsAtMost};
 ghost use Rattle.file_pieces.specs.Pieces.{ReaderState, Holds, IsSameFile, end_of, pieces_in};
 
 use crate::buffer::Buffer;
@@ -44,7 +45,7 @@ impl FileReader {
     pub fn begin<D: Disk>(alloc: Global, disk: &mut D, file: usize) -> Result<FileReader, ReadFault>
         requires { file < 4 }
         ensures looks { Looks D.states D.failures D.honest (failed_in result) disk.old disk.new }
-        ensures called { length (D.states disk.new) ≡ length (D.states disk.old) + 1 }
+        ensures called { Made D.states 1 disk.old disk.new }
         ensures file { IfOk result (λ reader. reader.file ≡ file) }
         ensures none_held { IfOk result (λ reader. (reader.from ≡ 0) × (reader.held ≡ [])) }
         ensures holds { D.honest disk.new → IfOk result (Holds (now (D.states disk.old) file).seen) }
@@ -96,8 +97,8 @@ impl FileReader {
         ensures file { IsSameFile self.old self.new }
         ensures from { self.new.from ≡ self.old.from }
         ensures end { OnOk result (end_of self.new ≡ min self.old.len (end_of self.old + 65536)) }
-        ensures called { OnOk result (length (D.states disk.new) ≡ length (D.states disk.old) + 1) }
-        ensures tried { OnErr result (length (D.states disk.new) ≤ length (D.states disk.old) + 1) }
+        ensures called { OnOk result (Made D.states 1 disk.old disk.new) }
+        ensures tried { OnErr result (MadeAtMost D.states 1 disk.old disk.new) }
         ensures same { OnErr result (self.new ≡ self.old) }
         ensures holds { D.honest disk.new → Holds (now (D.states disk.old) self.old.file).seen self.old
             → OnOk result (Holds (now (D.states disk.old) self.old.file).seen self.new) }
@@ -116,12 +117,11 @@ impl FileReader {
         ensures looks { Looks D.states D.failures D.honest (failed_in result) disk.old disk.new }
         ensures file { IsSameFile self.old self.new }
         ensures from { self.new.from ≡ self.old.from }
+        ensures forward { end_of self.old ≤ end_of self.new }
         ensures reaches { OnOk result (end ≤ end_of self.new) }
         ensures pieces { OnOk result (pieces_in (end_of self.new) ≡ max (pieces_in (end_of self.old)) (pieces_in end)) }
-        ensures called { OnOk result (length (D.states disk.new) + pieces_in (end_of self.old)
-            ≡ length (D.states disk.old) + pieces_in (end_of self.new)) }
-        ensures tried { OnErr result (length (D.states disk.new) + pieces_in (end_of self.old)
-            ≤ length (D.states disk.old) + pieces_in end) }
+        ensures called { OnOk result (ReadsPieces D.states disk.old disk.new self.old self.new) }
+        ensures tried { OnErr result (ReadsAtMost D.states disk.old disk.new self.old end) }
         ensures holds { D.honest disk.new → Holds (now (D.states disk.old) self.old.file).seen self.old
             → Holds (now (D.states disk.old) self.old.file).seen self.new }
         ensures short { D.honest disk.new → Holds (now (D.states disk.old) self.old.file).seen self.old

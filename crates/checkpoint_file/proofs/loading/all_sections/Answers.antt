@@ -5,7 +5,7 @@ use Rattle.log_records.specs.Layout.{first_layout}
 use Rattle.store_layout.specs.Checkpoints.{sections_bytes}
 use Rattle.checkpoint_file.specs.declared.loading.LoadedSection.{LoadedSection}
 use Rattle.checkpoint_file.specs.Loads.{sections_of, seen_in}
-use Rattle.checkpoint_file.specs.Window.{Holds}
+use Rattle.file_pieces.specs.Pieces.{Holds}
 use Rattle.checkpoint_file.proofs.LookLemmas.{no_look, looks_on, same_seen}
 use Rattle.checkpoint_file.proofs.PlaceLemmas.{at_rest_of, refuses_more}
 use Rattle.checkpoint_file.proofs.SectionReading.{no_sections, no_section_bytes, sections_step, section_bytes_more, sections_fault}
@@ -17,6 +17,8 @@ loop-number-init g c = record {
   behind = record { file = refl; end = refl };
   so_many = let none = ap (λ (l : List LoadedSection). length l) c.new-sections.ensures.items in omega (arith, none);
   loaded = no_sections c.args.stripes.count c.new-sections.result.items c.new-sections.ensures.items;
+  at = c.requires.at;
+  called = refl;
   held = c.requires.held;
   read = λ honest rest is size. no_section_bytes c.new-sections.result.items c.new-sections.ensures.items _ rest c.args.unread is size;
 }
@@ -60,7 +62,9 @@ loop-number-preserved g c =
       behind = record { file = c.in_ok-section.ensures.behind.file ∙ inv.behind.file; end = omega (arith, end_before, end_after) };
       so_many = omega (arith, counted, length-append reads (read ∷ []), ap (λ (l : List LoadedSection). length l) items);
       loaded = sections_step c.args.stripes.count reads read c.loop-number.number counted inv.loaded c.in_ok-section.ensures.loaded c.push.new.self.items items;
-      held = λ honest. subst (λ (n : ℕ). Holds (seen_in g.D.Disk.states c.section.new.disk n) c.section.new.window) (sym c.in_ok-section.ensures.behind.file) (c.in_ok-section.ensures.held honest);
+      at = c.in_ok-section.ensures.at;
+      called = let so_far = inv.called in let more = c.in_ok-section.ensures.called in omega (arith, so_far, more);
+      held = λ honest. subst (λ (n : ℕ). Holds (seen_in g.D.Disk.states c.section.new.disk n) c.section.new.reader) (sym c.in_ok-section.ensures.behind.file) (c.in_ok-section.ensures.held honest);
       read = λ honest rest is size.
           let so_far = inv.read (c.in_ok-section.ensures.looks.was_honest honest) rest is size in
           section_bytes_more reads read _ (seen_in g.D.Disk.states c.loop-number.disk c.loop-number.rest.file) rest c.loop-number.rest c.in_ok-section.behind

@@ -3,7 +3,9 @@ use Rattle.log_records.specs.Layout.{first_layout}
 use Rattle.disk_model.specs.Calls.{Looks}
 use Rattle.store_layout.specs.Checkpoints.{sections_bytes}
 use Rattle.checkpoint_file.specs.Loads.{sections_of, seen_in, ForRest, IsBehind, GoesOn, AreLoaded}
-use Rattle.checkpoint_file.specs.Window.{Holds}
+use Rattle.file_pieces.specs.Counting.{ReadsPieces}
+use Rattle.file_pieces.specs.Pieces.{Holds}
+use Rattle.checkpoint_file.specs.Front.{IsAt}
 use Rattle.checkpoint_file.proofs.loading.all_sections.Given as goal
 
 -- the sections of so many stripes were read with looks alone, and the rest stands behind them
@@ -13,7 +15,9 @@ invariant-loop-number g l = record {
   behind : IsBehind l.fn.unread l.rest;
   so_many : l.number ≡ length l.sections.items;
   loaded : AreLoaded l.stripes.count l.sections.items;
-  held : g.D.Disk.honest l.disk → Holds (seen_in g.D.Disk.states l.disk l.rest.file) l.window;
+  at : IsAt l.reader l.rest;
+  called : ReadsPieces g.D.Disk.states l.fn.disk l.disk l.fn.reader l.reader;
+  held : g.D.Disk.honest l.disk → Holds (seen_in g.D.Disk.states l.disk l.rest.file) l.reader;
   read : g.D.Disk.honest l.disk → ForRest g.D.Disk.states l.fn.disk l.fn.unread (λ rest.
       GoesOn (seen_in g.D.Disk.states l.fn.disk l.fn.unread.file) (sections_bytes first_layout (sections_of l.sections.items)) rest l.rest);
 }

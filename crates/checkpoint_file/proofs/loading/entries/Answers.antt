@@ -5,8 +5,9 @@ use Rattle.map_types.specs.declared.texts.Value.{Value}
 use Rattle.log_records.specs.Layout.{first_layout}
 use Rattle.store_layout.specs.Checkpoints.{entries_bytes}
 use Rattle.checkpoint_file.specs.Loads.{seen_in, HasNoNext, MayFollow}
-use Rattle.checkpoint_file.specs.Window.{Holds}
+use Rattle.file_pieces.specs.Pieces.{Holds}
 use Rattle.checkpoint_file.proofs.LookLemmas.{no_look, looks_on}
+use Rattle.checkpoint_file.proofs.FrontLemmas.{goes_to}
 use Rattle.checkpoint_file.proofs.PlaceLemmas.{at_rest_of, refuses_more}
 use Rattle.checkpoint_file.proofs.SectionReading.{no_entries, no_entry_bytes, entries_push_one, entry_bytes_more, fewer_entries}
 use Rattle.checkpoint_file.proofs.loading.entries.Goals as goal
@@ -17,6 +18,8 @@ loop-init g c = record {
   behind = record { file = refl; end = refl };
   so_many = let none = ap (λ (l : List (List ℕ × Value)). length l) c.new-entries.ensures.items in omega (arith, none);
   are = no_entries c.args.stripe.of.count c.args.stripe.number c.new-entries.result.items c.new-entries.ensures.items;
+  at = c.requires.at;
+  called = refl;
   held = c.requires.held;
   read = λ honest rest is size. no_entry_bytes c.new-entries.result.items c.new-entries.ensures.items _ rest c.args.unread is size;
 }
@@ -63,7 +66,9 @@ loop-preserved g c =
       so_many = omega (arith, counted, length-append es (entry ∷ []), ap (λ (l : List (List ℕ × Value)). length l) items);
       are = entries_push_one c.args.stripe.of.count c.args.stripe.number es entry c.push.new.self.items items inv.are
           (subst (λ (l : List (List ℕ × Value)). MayFollow c.args.stripe.of.count c.args.stripe.number l entry) c.deref.ensures.value c.in_ok-entry.ensures.follows);
-      held = λ honest. subst (λ (n : ℕ). Holds (seen_in g.D.Disk.states c.next_entry.new.disk n) c.next_entry.new.window) (sym c.behind-rest.ensures.same.file) (c.in_ok-entry.ensures.held honest);
+      at = goes_to c.next_entry.new.reader c.loop.rest c.behind-rest.result c.in_ok-entry.ensures.at c.behind-rest.ensures.same (omega (arith, c.behind-rest.ensures.place)) (omega (arith, c.behind-rest.ensures.place, c.in_ok-entry.ensures.reached));
+      called = let so_far = inv.called in let more = c.in_ok-entry.ensures.called in omega (arith, so_far, more);
+      held = λ honest. subst (λ (n : ℕ). Holds (seen_in g.D.Disk.states c.next_entry.new.disk n) c.next_entry.new.reader) (sym c.behind-rest.ensures.same.file) (c.in_ok-entry.ensures.held honest);
       read = λ honest rest is size.
           let so_far = inv.read (c.in_ok-entry.ensures.looks.was_honest honest) rest is size in
           entry_bytes_more es entry c.in_ok-entry.used _ rest c.loop.rest c.behind-rest.result so_far

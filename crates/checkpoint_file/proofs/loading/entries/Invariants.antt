@@ -4,7 +4,9 @@ use Rattle.disk_model.specs.Calls.{Looks}
 use Rattle.store_layout.specs.Checkpoints.{entries_bytes}
 use Rattle.store_layout.specs.Faults.{AreEntries}
 use Rattle.checkpoint_file.specs.Loads.{seen_in, ForRest, IsBehind, GoesOn}
-use Rattle.checkpoint_file.specs.Window.{Holds}
+use Rattle.file_pieces.specs.Counting.{ReadsPieces}
+use Rattle.file_pieces.specs.Pieces.{Holds}
+use Rattle.checkpoint_file.specs.Front.{IsAt}
 use Rattle.checkpoint_file.proofs.loading.entries.Given as goal
 
 -- so many entries were read with looks alone, and the rest stands behind them
@@ -14,7 +16,9 @@ invariant-loop g l = record {
   behind : IsBehind l.fn.unread l.rest;
   so_many : l.counter ≡ length l.entries.items;
   are : AreEntries first_layout l.stripe.of.count l.stripe.number l.entries.items;
-  held : g.D.Disk.honest l.disk → Holds (seen_in g.D.Disk.states l.disk l.rest.file) l.window;
+  at : IsAt l.reader l.rest;
+  called : ReadsPieces g.D.Disk.states l.fn.disk l.disk l.fn.reader l.reader;
+  held : g.D.Disk.honest l.disk → Holds (seen_in g.D.Disk.states l.disk l.rest.file) l.reader;
   read : g.D.Disk.honest l.disk → ForRest g.D.Disk.states l.fn.disk l.fn.unread (λ rest.
       GoesOn (seen_in g.D.Disk.states l.fn.disk l.fn.unread.file) (entries_bytes first_layout l.entries.items) rest l.rest);
 }

@@ -1,4 +1,4 @@
-use Rattle.std.proofs.Common.{ℕ, List, refl, sym, subst}
+use Rattle.std.proofs.Common.{ℕ, List, refl, sym, subst, arith}
 use Rattle.std.proofs.lemmas.Result.{err_from_is_err_and}
 use Rattle.log_records.specs.Layout.{first_layout}
 use Rattle.store_layout.specs.Checkpoints.{IsCheckpoint}
@@ -36,3 +36,20 @@ returns-in_ok-load_body-in-Some-clause-some g c = λ honest.
     let is = rw c.in-Some.is at (c.in_ok-head.ensures.some (c.in_ok-load_body-in-Some.ensures.looks.was_honest honest)) in
     let found = c.in_ok-load_body-in-Some.ensures.ok honest (subst (λ (content : List ℕ). IsHead c.in-Some.head file content) (sym same) is) in
     subst (λ (content : List ℕ). IsCheckpoint first_layout (checkpoint_of c.in_ok-load_body-in-Some.field-0) content) same found
+
+pub returns-in_ok-load_body-in-Some-clause-called : goal.returns-in_ok-load_body-in-Some-clause-called
+returns-in_ok-load_body-in-Some-clause-called g c = λ honest.
+    let is = rw c.in-Some.is at (c.in_ok-head.ensures.some (c.in_ok-load_body-in-Some.ensures.looks.was_honest honest)) in
+    let body = is.fields.body in
+    let first = c.in_ok-head.ensures.called in
+    let more = c.in_ok-load_body-in-Some.ensures.called in
+    omega (arith, first, more, body)
+
+pub returns-in_err-load_body-in-Some-clause-tried : goal.returns-in_err-load_body-in-Some-clause-tried
+returns-in_err-load_body-in-Some-clause-tried g c = λ honest.
+    let q = err_from_is_err_and c.from_residual-in_err-load_body-in-Some.result c.from_residual-in_err-load_body-in-Some.ensures.1 in
+    let is = rw c.in-Some.is at (c.in_ok-head.ensures.some (c.in_err-load_body-in-Some.ensures.looks.was_honest honest)) in
+    let body = is.fields.body in
+    let first = c.in_ok-head.ensures.called in
+    let more = c.in_err-load_body-in-Some.ensures.tried in
+    rw q.1 (omega (arith, first, more, body))

@@ -10,10 +10,10 @@ use Rattle.checkpoint_file.proofs.LookLemmas.{held_before}
 use Rattle.checkpoint_file.proofs.PlaceLemmas.{refuses_more}
 use Rattle.checkpoint_file.proofs.loading.next_entry.Goals as goal
 
-pub returns-in_err-fill-clause-err : goal.returns-in_err-fill-clause-err
-returns-in_err-fill-clause-err g c =
+pub returns-in_err-fetch-clause-err : goal.returns-in_err-fetch-clause-err
+returns-in_err-fetch-clause-err g c =
     let q = err_from_is_err_and c.from_residual.result c.from_residual.ensures.1 in
-    rw (q.1, q.2) (refuses_more c.args.unread.file c.args.unread.file _ _ _ refl (λ offset never honest rest is size. absurd (never honest rest is size)) c.in_err-fill.ensures.err)
+    rw (q.1, q.2) (refuses_more c.args.unread.file c.args.unread.file _ _ _ refl (λ offset never honest rest is size. absurd (never honest rest is size)) c.in_err-fetch.ensures.err)
 
 pub returns-in_default-clause-err : goal.returns-in_default-clause-err
 returns-in_default-clause-err g c =
@@ -24,7 +24,7 @@ returns-in_default-clause-err g c =
       c.damaged.ensures,
       λ honest rest is size. (
         refl,
-        (let held = held_before g.D.Disk.states g.D.Disk.failures g.D.Disk.honest c.args.disk.now c.fill.new.disk c.args.unread.file c.fill.new.self c.in_ok-fill.ensures.looks (c.in_ok-fill.ensures.held honest) in
+        (let held = held_before g.D.Disk.states g.D.Disk.failures g.D.Disk.honest c.args.disk.now c.fetch.new.disk c.args.unread.file c.fetch.new.reader c.in_ok-fetch.ensures.looks (c.in_ok-fetch.ensures.held honest) in
             none_in_window c.args.stripe.of.count c.args.stripe.number c.args.before.now bytes rest
             (c.front-bytes.ensures.same (seen_in g.D.Disk.states c.args.disk.now c.args.unread.file) rest held is size)
             (c.front-bytes.ensures.size ∙ ap (λ n. min n 4355) (sym size))
@@ -42,7 +42,7 @@ returns-then-not-may_follow-clause-err g c =
       c.damaged-then-not-may_follow.ensures,
       λ honest rest is size. (
         refl,
-        (let held = held_before g.D.Disk.states g.D.Disk.failures g.D.Disk.honest c.args.disk.now c.fill.new.disk c.args.unread.file c.fill.new.self c.in_ok-fill.ensures.looks (c.in_ok-fill.ensures.held honest) in
+        (let held = held_before g.D.Disk.states g.D.Disk.failures g.D.Disk.honest c.args.disk.now c.fetch.new.disk c.args.unread.file c.fetch.new.reader c.in_ok-fetch.ensures.looks (c.in_ok-fetch.ensures.held honest) in
             none_follows c.args.stripe.of.count c.args.stripe.number c.args.before.now found _ rest some.0 some.1
             (behind_front bytes rest (entry_bytes first_layout found) c.in-Some.others.now
             (c.front-bytes.ensures.same (seen_in g.D.Disk.states c.args.disk.now c.args.unread.file) rest held is size) some.2)
@@ -61,7 +61,7 @@ returns-clause-ok g c = λ honest rest is size.
     let bytes : List ℕ = c.front-bytes.result.now in
     let some = rw c.in-Some.is at c.in_ok-entry.ensures.some in
     let found : List ℕ × Value = c.in-Some.entry in
-    let held = held_before g.D.Disk.states g.D.Disk.failures g.D.Disk.honest c.args.disk.now c.fill.new.disk c.args.unread.file c.fill.new.self c.in_ok-fill.ensures.looks (c.in_ok-fill.ensures.held honest) in
+    let held = held_before g.D.Disk.states g.D.Disk.failures g.D.Disk.honest c.args.disk.now c.fetch.new.disk c.args.unread.file c.fetch.new.reader c.in_ok-fetch.ensures.looks (c.in_ok-fetch.ensures.held honest) in
     let same = c.front-bytes.ensures.same (seen_in g.D.Disk.states c.args.disk.now c.args.unread.file) rest held is size in
     record {
       others = _;
