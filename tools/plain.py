@@ -11,6 +11,9 @@ NULL_VALUE, KEY_TOO_LONG, VALUE_TOO_LONG, UNKNOWN_METHOD, UNKNOWN_FUNCTION, BAD_
 NOT_FORMATTED, DAMAGED, WRONG_VERSION, NOT_TEXT = 11, 12, 13, 18
 WAS, NOW, DID, FAULT = 0, 1, 2, 3
 WRONG_KIND, TOO_LONG = 1, 2
+COUNT, REDUCE, SEARCH = 32, 33, 34
+# The functions that reduce: SUM, MAX, MIN.
+REDUCING = (4, 5, 6)
 
 
 class Refused(Exception):
@@ -108,12 +111,27 @@ def record_at(read):
     return method, key, arguments_at(read, method)
 
 
+def whole_map_at(read):
+    """A request of the whole map: its method, no key, its arguments."""
+    method = read.number(1)
+    if method == COUNT:
+        return method, None, ()
+    if method == SEARCH:
+        return method, None, (read.number(8), read.value())
+    function = read.number(1)
+    if function not in REDUCING:
+        raise Refused(UNKNOWN_FUNCTION)
+    return method, None, (function, read.number(8))
+
+
 def request_of(body):
     """The request of a frame's body."""
     read = Bytes(body)
     if body[0] in (1, 2, 3):
         method, key = read.number(1), read.key()
         request = method, key, (read.value(),) if method == 2 else ()
+    elif body[0] in (COUNT, REDUCE, SEARCH):
+        request = whole_map_at(read)
     else:
         request = record_at(read)
     if read.rest():
@@ -193,6 +211,9 @@ class Map:
 
     def call(self, request):
         method, key, arguments = request
+        if key is None:
+            # A map in memory has no views.
+            raise Refused(UNKNOWN_METHOD)
         old = self.entries.get(key)
         if method < 16:
             return answered(old, method, arguments)
