@@ -38,6 +38,11 @@ class Dchm:
         return len(body).to_bytes(2, "big") + body
 
     @staticmethod
+    def now(number):
+        """The reply that says that a number is there now."""
+        return b"\x00\x0a\x01\x01" + number.to_bytes(8, "big", signed=True)
+
+    @staticmethod
     def is_whole(reply):
         return len(reply) >= 2 and len(reply) >= 2 + int.from_bytes(reply[:2], "big")
 
