@@ -7,12 +7,12 @@ use Rattle.std.proofs.Crossing.{crosses}
 use Rattle.disk_model.specs.declared.disk.Disk.{Ghosts}
 use Rattle.disk_model.proofs.first_error.FirstError.TheSendSync as first_error
 use Rattle.durable_map.proofs.Crosses.{map_field_sync, map_sync}
-use Rattle.store_server.specs.contracts.worker.Crew as Crew
-use Rattle.store_server.specs.contracts.server.Shop as Shop
+use Rattle.store_server.specs.contracts.worker.Pool as Pool
+use Rattle.store_server.specs.contracts.server.Server as Server
 
 module _ (a : NamedLft) (D G : RattleType) (g : Ghosts D.Denot) where
-  crew_fields : IsSend D → IsSync G → AllSync (shape (Crew.the_type a D G g)).fields
-  crew_fields s y = (
+  pool_fields : IsSend D → IsSync G → AllSync (shape (Pool.the_type a D G g)).fields
+  pool_fields s y = (
     search sendable,
     (
       shr_sync _ _ _ (map_sync D g s),
@@ -23,12 +23,12 @@ module _ (a : NamedLft) (D G : RattleType) (g : Ghosts D.Denot) where
     ),
   )
 
-  pub crew_sync : IsSend D → IsSync G → IsSync (Crew.the_row a D G g)
-  crew_sync s y = recorded_sync _ _ _ (Crew.the_type a D G g).to_one (struct_sync (shape (Crew.the_type a D G g)) (crew_fields s y))
+  pub pool_sync : IsSend D → IsSync G → IsSync (Pool.the_row a D G g)
+  pool_sync s y = recorded_sync _ _ _ (Pool.the_type a D G g).to_one (struct_sync (shape (Pool.the_type a D G g)) (pool_fields s y))
 
 module _ (D : RattleType) (g : Ghosts D.Denot) where
-  shop_fields : IsSend D → AllSync (shape (Shop.the_type D g)).fields
-  shop_fields s = (
+  server_fields : IsSend D → AllSync (shape (Server.the_type D g)).fields
+  server_fields s = (
     search sendable,
     (
       map_field_sync D g s,
@@ -45,5 +45,5 @@ module _ (D : RattleType) (g : Ghosts D.Denot) where
     ),
   )
 
-  pub shop_sync : IsSend D → IsSync (Shop.the_row D g)
-  shop_sync s = recorded_sync _ _ _ (Shop.the_type D g).to_one (struct_sync (shape (Shop.the_type D g)) (shop_fields s))
+  pub server_sync : IsSend D → IsSync (Server.the_row D g)
+  server_sync s = recorded_sync _ _ _ (Server.the_type D g).to_one (struct_sync (shape (Server.the_type D g)) (server_fields s))

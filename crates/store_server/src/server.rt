@@ -109,7 +109,7 @@ impl Ends for Ending {
 
 /// What the threads of a server share.
 #[derive(Drop)]
-pub(crate) struct Shop<D: Disk + Drop> {
+pub(crate) struct Server<D: Disk + Drop> {
     alloc: Global,
     map: DurableMap<D>,
     bytes: u64,
@@ -119,16 +119,16 @@ pub(crate) struct Shop<D: Disk + Drop> {
     has_told: AtomicBool,
 }
 
-impl<D: Disk + Drop> Shop<D> {
+impl<D: Disk + Drop> Server<D> {
     /// A server of the map with these settings; `first_error` tells of its disk.
     pub(crate) fn new(
         alloc: Global,
         map: DurableMap<D>,
         settings: &Settings,
         first_error: FirstError,
-    ) -> Shop<D> {
+    ) -> Server<D> {
         let has_ended = AtomicBool::new(false);
-        Shop {
+        Server {
             alloc,
             map,
             bytes: settings.bytes,
@@ -167,18 +167,33 @@ pub(crate) fn run<
     G: Gate + Sync,
     C: Arrivals,
     R: Clock + Log + Threads + Wait + Sync,
->(rt: &R, shop: &Shop<D>, gate: &G, arrivals: &mut C, count: usize) -> Result<(), Refusal>
+>(rt: &R, server: &Server<D>, gate: &G, arrivals: &mut C, count: usize) -> Result<(), Refusal>
     ensures { IfErr result (λ refusal. refusal ≡ Refusal.NoMemory) }
 {
     let has_started = thread::scope(thread::scope_env(), rt, |scope| {
-        let flusher = scope.spawn(move || shop.tell(rt, flush_loop(rt, &shop.map, &shop.ending)));
+        let flusher = scope.spawn(move || server.tell(
+            rt,
+            flush_loop(rt, &server.map, &server.ending),
+        ));
         let keeper = scope.spawn(move || {
-            shop.tell(rt, checkpoint_loop(rt, &shop.map, shop.bytes, &shop.ending));
+            server.tell(
+                rt,
+                checkpoint_loop(rt, &server.map, server.bytes, &server.ending),
+            );
         });
         let has_started = flusher.is_ok()
             && keeper.is_ok()
-            && workers(rt, shop.alloc, &shop.map, gate, arrivals, count, shop.idle).is_ok();
-        shop.end();
+            && workers(
+                rt,
+                server.alloc,
+                &server.map,
+                gate,
+                arrivals,
+                count,
+                server.idle,
+            )
+            .is_ok();
+        server.end();
         has_started
     });
     if has_started {
@@ -190,12 +205,12 @@ pub(crate) fn run<
 
 /// The connections that a listener accepts.
 #[derive(Drop)]
-struct Door<'a, R: Clock + Log> {
+struct Acceptor<'a, R: Clock + Log> {
     rt: &'a R,
     listener: &'a TcpListener,
 }
 
-impl<R: Clock + Log> Arrivals for Door<'_, R> {
+impl<R: Clock + Log> Arrivals for Acceptor<'_, R> {
     // Where none can be accepted it tries again after a pause, and the log has one record of it.
     fn next(&mut self) -> Option<TcpStream> {
         let mut has_said = false;
@@ -234,7 +249,7 @@ fn host<
 >(
     rt: &R,
     alloc: Global,
-    shop: &Shop<D>,
+    server: &Server<D>,
     first: u64,
     settings: &Settings,
     output: &mut W,
@@ -257,11 +272,11 @@ fn host<
         error!(rt; "standard output failed: {cause}");
         return break_off(error);
     }
-    let mut door = Door {
+    let mut acceptor = Acceptor {
         rt,
         listener: &listener,
     };
-    match run(rt, shop, &NoGate, &mut door, settings.workers) {
+    match run(rt, server, &NoGate, &mut acceptor, settings.workers) {
         Ok(()) => break_off(error),
         Err(refusal) => refuse(alloc, refusal, error),
     }
@@ -288,8 +303,8 @@ pub(crate) fn serve_disk<
     match open_parts(alloc, disk, settings.stripes) {
         Ok((keeper, parts, first)) => match DurableMap::new(alloc, keeper, parts, first) {
             Ok(map) => {
-                let shop = Shop::new(alloc, map, settings, first_error);
-                host(rt, alloc, &shop, first, settings, output, error)
+                let server = Server::new(alloc, map, settings, first_error);
+                host(rt, alloc, &server, first, settings, output, error)
             }
             Err((_disk, refusal)) => refuse(alloc, refusal, error),
         },

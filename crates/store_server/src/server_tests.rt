@@ -1,4 +1,4 @@
-use crate::server::{Settings, Shop, run, serve_disk};
+use crate::server::{Server, Settings, run, serve_disk};
 use crate::{Arrivals, Gate, NoGate};
 use disk_model::{Failure, Fill, FirstError, MemDisk};
 use durable_map::DurableMap;
@@ -71,14 +71,14 @@ fn settings(port: u16) -> Result<Settings, Fail> {
 }
 
 /// A server of an empty map, whose disk fails as planned.
-fn shop_over(alloc: Global, failure: Option<Failure>) -> Result<Shop<MemDisk>, Fail> {
+fn server_over(alloc: Global, failure: Option<Failure>) -> Result<Server<MemDisk>, Fail> {
     let mut disk = formatted(alloc)?;
     disk.plan(failure);
     let Ok((keeper, parts, first)) = open_parts(alloc, disk, sixteen()?) else {
         return Err(Fail::from("it is opened"));
     };
     match DurableMap::new(alloc, keeper, parts, first) {
-        Ok(map) => Ok(Shop::new(alloc, map, &settings(1)?, FirstError::new(alloc)?)),
+        Ok(map) => Ok(Server::new(alloc, map, &settings(1)?, FirstError::new(alloc)?)),
         Err(_) => Err(Fail::from("there is memory")),
     }
 }
@@ -142,14 +142,14 @@ fn served<
 >(
     rt: &R,
     alloc: Global,
-    shop: &Shop<MemDisk>,
+    server: &Server<MemDisk>,
     gate: &G,
     requests: &[&[u8]],
     workers: usize,
 ) -> Result<Vec<u8>, Fail> {
     let (clients, mut listed) = connected(rt, alloc, requests.len())?;
     send_each(clients.as_slice(), requests)?;
-    run(rt, shop, gate, &mut listed, workers).map_err(|_| "threads start")?;
+    run(rt, server, gate, &mut listed, workers).map_err(|_| "threads start")?;
     Ok(received(alloc, clients.as_slice()))
 }
 
@@ -193,13 +193,13 @@ impl<R: Clock> Gate for HoldsFirst<'_, R> {
 
 #[test]
 fn a_request_that_is_held_holds_up_no_other(rt: HostRuntime) -> Result<(), Fail> {
-    let shop = shop_over(rt.alloc(), None)?;
+    let server = server_over(rt.alloc(), None)?;
     let gate = HoldsFirst {
         rt: &rt,
         has_answered: AtomicBool::new(false),
         was_in_time: AtomicBool::new(false),
     };
-    let sent = served(&rt, rt.alloc(), &shop, &gate, &[PUT, PUT], 2)?;
+    let sent = served(&rt, rt.alloc(), &server, &gate, &[PUT, PUT], 2)?;
     assert!(rt; gate.was_in_time.load(Ordering::SeqCst));
     assert!(rt; [ABSENT_AND_5, FIVE_AND_ABSENT].contains(&sent.as_slice()));
     Ok(())
@@ -217,12 +217,12 @@ fn leave_before_last(clients: &mut Vec<TcpStream>) -> Result<(), Fail> {
 
 #[test]
 fn a_connection_breaks_off_alone(rt: HostRuntime) -> Result<(), Fail> {
-    let shop = shop_over(rt.alloc(), None)?;
+    let server = server_over(rt.alloc(), None)?;
     let (mut clients, mut listed) = connected(&rt, rt.alloc(), 5)?;
     leave_before_last(&mut clients)?;
     let long = b"\x00\x00\x00\x03\x01\x01a";
     send_each(clients.as_slice(), &[b"", &PUT[..9], long, PUT])?;
-    run(&rt, &shop, &NoGate, &mut listed, 1).map_err(|_| "threads start")?;
+    run(&rt, &server, &NoGate, &mut listed, 1).map_err(|_| "threads start")?;
     let sent = received(rt.alloc(), clients.as_slice());
     assert_eq!(rt; sent.as_slice(), BAD_FRAME_AND_5);
     Ok(())
@@ -279,9 +279,9 @@ impl Stalling {
 fn is_answered_beside<
     R: Net<Listener = TcpListener, Stream = TcpStream> + Clock + Log + Threads + Wait + Sync,
 >(rt: &R, alloc: Global, bytes: &[u8]) -> Result<bool, Fail> {
-    let shop = shop_over(alloc, None)?;
+    let server = server_over(alloc, None)?;
     let mut stalling = Stalling::new(rt, alloc, bytes)?;
-    run(rt, &shop, &NoGate, &mut stalling, 2).map_err(|_| "threads start")?;
+    run(rt, &server, &NoGate, &mut stalling, 2).map_err(|_| "threads start")?;
     Ok(stalling.was_answered && stalling.reply.as_slice() == WAS_ABSENT)
 }
 
@@ -313,11 +313,18 @@ fn a_client_that_never_reads_holds_up_no_other(rt: HostRuntime) -> Result<(), Fa
 /// Eight clients add 1 to two counters, a hundred times each, and then another one asks for both.
 #[test]
 fn eight_clients_share_two_counters(rt: HostRuntime) -> Result<(), Fail> {
-    let shop = shop_over(rt.alloc(), None)?;
+    let server = server_over(rt.alloc(), None)?;
     let merges = repeated(rt.alloc(), ADD_TO_A_AND_B, 100)?;
-    let sent = served(&rt, rt.alloc(), &shop, &NoGate, &[merges.as_slice(); 8], 8)?;
+    let sent = served(
+        &rt,
+        rt.alloc(),
+        &server,
+        &NoGate,
+        &[merges.as_slice(); 8],
+        8,
+    )?;
     assert_eq!(rt; sent.len(), 8 * 200 * 12);
-    let counts = served(&rt, rt.alloc(), &shop, &NoGate, &[GET_A_AND_B], 1)?;
+    let counts = served(&rt, rt.alloc(), &server, &NoGate, &[GET_A_AND_B], 1)?;
     assert_eq!(rt; counts.as_slice(), BOTH_ARE_800);
     Ok(())
 }
@@ -340,9 +347,9 @@ fn fail_at_last(replies: &[u8]) -> bool {
 #[test]
 fn after_a_device_failure_each_call_fails(rt: HostRuntime) -> Result<(), Fail> {
     let fill = Fill::Old;
-    let shop = shop_over(rt.alloc(), Some(Failure { after: 60, fill }))?;
+    let server = server_over(rt.alloc(), Some(Failure { after: 60, fill }))?;
     let puts = repeated(rt.alloc(), PUT, 30)?;
-    let sent = served(&rt, rt.alloc(), &shop, &NoGate, &[puts.as_slice(); 3], 1)?;
+    let sent = served(&rt, rt.alloc(), &server, &NoGate, &[puts.as_slice(); 3], 1)?;
     assert!(rt; fail_at_last(sent.as_slice()), "{sent:?}");
     Ok(())
 }

@@ -175,7 +175,7 @@ impl<D: Disk + Drop, G: Gate, R: Threads + Wait + Sync> Calls for Worker<'_, D, 
 
 /// What the workers share.
 #[derive(Drop)]
-struct Crew<'a, D: Disk + Drop, G: Gate> {
+struct Pool<'a, D: Disk + Drop, G: Gate> {
     alloc: Global,
     map: &'a DurableMap<D>,
     gate: &'a G,
@@ -188,16 +188,16 @@ struct Crew<'a, D: Disk + Drop, G: Gate> {
 // Serves a connection to its end, or until its client was idle for too long.
 fn attend<D: Disk + Drop, G: Gate, R: Clock + Threads + Wait + Sync>(
     rt: &R,
-    crew: &Crew<'_, D, G>,
+    pool: &Pool<'_, D, G>,
     worker: &mut Worker<'_, D, G, R>,
     stream: &TcpStream,
 ) {
     let _ = stream.set_nodelay(true);
-    if crew.idle == 0 {
-        let _ = worker.serve(crew.alloc, &mut { stream }, &mut { stream });
+    if pool.idle == 0 {
+        let _ = worker.serve(pool.alloc, &mut { stream }, &mut { stream });
         return;
     }
-    let limit = Duration::from_secs(u64::from(crew.idle));
+    let limit = Duration::from_secs(u64::from(pool.idle));
     if let Ok(patience) = Patience::new(rt, stream, limit) {
         let mut sent = Sent {
             patience: &patience,
@@ -205,20 +205,20 @@ fn attend<D: Disk + Drop, G: Gate, R: Clock + Threads + Wait + Sync>(
         let mut taken = Taken {
             patience: &patience,
         };
-        let _ = worker.serve(crew.alloc, &mut sent, &mut taken);
+        let _ = worker.serve(pool.alloc, &mut sent, &mut taken);
     }
 }
 
 // Serves connections until no more come. What befalls a connection ends that one alone.
-fn work<D: Disk + Drop, G: Gate, R: Clock + Threads + Wait + Sync>(rt: &R, crew: &Crew<'_, D, G>) {
-    let Ok(mut worker) = Worker::new(rt, crew.alloc, crew.map, crew.gate, &crew.taken_up) else {
+fn work<D: Disk + Drop, G: Gate, R: Clock + Threads + Wait + Sync>(rt: &R, pool: &Pool<'_, D, G>) {
+    let Ok(mut worker) = Worker::new(rt, pool.alloc, pool.map, pool.gate, &pool.taken_up) else {
         return;
     };
     for _ in rt.forever() {
-        let Ok(stream) = crew.streams.recv(rt) else {
+        let Ok(stream) = pool.streams.recv(rt) else {
             return;
         };
-        attend(rt, crew, &mut worker, &stream);
+        attend(rt, pool, &mut worker, &stream);
     }
     unreachable!()
 }
@@ -239,7 +239,7 @@ fn hand_out<C: Arrivals, R: Wait>(rt: &R, accepted: &Sender<TcpStream, Global>, 
 // Starts the workers, and hands the connections out. The workers end once the sender is dropped.
 fn employ<D: Disk + Drop + Send, G: Gate + Sync, C: Arrivals, R: Clock + Threads + Wait + Sync>(
     rt: &R,
-    crew: &Crew<'_, D, G>,
+    pool: &Pool<'_, D, G>,
     accepted: Sender<TcpStream, Global>,
     arrivals: &mut C,
     count: usize,
@@ -248,7 +248,7 @@ fn employ<D: Disk + Drop + Send, G: Gate + Sync, C: Arrivals, R: Clock + Threads
 {
     let has_started = thread::scope(thread::scope_env(), rt, |scope| {
         for _ in 0..count {
-            if scope.spawn(move || work(rt, crew)).is_err() {
+            if scope.spawn(move || work(rt, pool)).is_err() {
                 drop(accepted);
                 return false;
             }
@@ -288,7 +288,7 @@ pub fn workers<
     let Ok((accepted, streams)) = bounded(alloc, MOST_WAITING) else {
         return Err(Refusal::NoMemory);
     };
-    let crew = Crew {
+    let pool = Pool {
         alloc,
         map,
         gate,
@@ -296,5 +296,5 @@ pub fn workers<
         idle,
         streams,
     };
-    employ(rt, &crew, accepted, arrivals, count)
+    employ(rt, &pool, accepted, arrivals, count)
 }
