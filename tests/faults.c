@@ -1,4 +1,5 @@
-/* Lets calls of the C library fail. `tests/faults` compiles it, and puts it before the C library by LD_PRELOAD.
+/* Lets calls of the C library fail. `tests/faults` and `tests/memory` compile it, and put it before the C library by
+ * LD_PRELOAD.
  *
  * It is told by the environment:
  *   FAULT_PAGE       a file of the bytes of `struct page`, which the test reads while the program runs, and after it
@@ -11,6 +12,8 @@
  *                    half of the bytes are moved (a sync is made) and it fails with EIO
  *   FAULT_MEMORY     one allocation in so many is refused, once `begun` isn't 0
  *   FAULT_SEED       which ones
+ *   FAULT_NUMBER     the number of the one allocation that is refused, from 1; those count that are made between the
+ *                    lines `begin` and `end` that the program writes to standard output, each in one call
  */
 #define _GNU_SOURCE
 #include <dlfcn.h>
@@ -26,23 +29,26 @@
 #include <sys/types.h>
 #include <unistd.h>
 
+enum { SIZES = 512 };
+
 enum call { SYNC, WRITE, READ, OPEN, LOOK, OTHER };
 
 struct page {
     uint64_t calls;  /* those that counted */
     uint64_t faults; /* those that went wrong */
     uint64_t after;  /* syncs and writes of the directory's files behind the first that went wrong */
-    uint64_t begun;  /* set by the test: memory is refused from now on */
+    uint64_t begun;  /* set by the test, or by the program's lines: memory is refused from now on */
     uint64_t asked;  /* allocations since then */
     uint64_t refused;
     char file[32]; /* the file at whose call it first went wrong */
+    uint64_t sizes[SIZES]; /* the bytes of the first allocations that counted by FAULT_NUMBER */
 };
 
 static struct page none, *page = &none;
 static const char *directory, *file;
 static size_t directory_length;
 static enum call counted = OTHER;
-static uint64_t from, to, memory, seed;
+static uint64_t from, to, memory, seed, refused_one;
 static int error;    /* what a call that goes wrong fails with; 0 if it doesn't fail */
 static int is_half;  /* whether it moves half of the bytes, in place of none */
 
@@ -86,6 +92,7 @@ __attribute__((constructor)) static void begin(void) {
     to = number_of("FAULT_TO");
     memory = number_of("FAULT_MEMORY");
     seed = number_of("FAULT_SEED");
+    refused_one = number_of("FAULT_NUMBER");
     if (getenv("FAULT_HOW"))
         read_how(getenv("FAULT_HOW"));
     page = found;
@@ -166,8 +173,22 @@ ssize_t pwrite64(int fd, const void *bytes, size_t length, off64_t at) {
     MOVES(WRITE, REAL(pwrite64)(fd, bytes, length, at));
 }
 
-ssize_t write(int fd, const void *bytes, size_t length) {
+static ssize_t move_out(int fd, const void *bytes, size_t length) {
     MOVES(WRITE, REAL(write)(fd, bytes, length));
+}
+
+/* Whether allocations count by lines of the program, and this is that line. */
+static int is_line(const char *line, int fd, const void *bytes, size_t length) {
+    return refused_one && fd == STDOUT_FILENO && length == strlen(line) && !memcmp(bytes, line, length);
+}
+
+ssize_t write(int fd, const void *bytes, size_t length) {
+    if (is_line("end\n", fd, bytes, length))
+        __atomic_store_n(&page->begun, 0, __ATOMIC_SEQ_CST);
+    ssize_t done = move_out(fd, bytes, length);
+    if (is_line("begin\n", fd, bytes, length))
+        __atomic_store_n(&page->begun, 1, __ATOMIC_SEQ_CST);
+    return done;
 }
 
 ssize_t pread(int fd, void *bytes, size_t length, off_t at) {
@@ -236,14 +257,22 @@ extern void *__libc_calloc(size_t count, size_t size);
 extern void *__libc_realloc(void *old, size_t size);
 extern void *__libc_memalign(size_t align, size_t size);
 
-/* Whether this allocation is refused: one in `memory`, told by the seed and its number. */
-static int is_refused(void) {
-    if (!memory || !__atomic_load_n(&page->begun, __ATOMIC_SEQ_CST))
-        return 0;
-    uint64_t mixed = seed * 0x9E3779B97F4A7C15u + add_to(&page->asked);
+/* Whether the allocation of this number is refused: one in `memory`, told by the seed and the number. */
+static int is_one_in(uint64_t number) {
+    uint64_t mixed = seed * 0x9E3779B97F4A7C15u + number;
     mixed = (mixed ^ (mixed >> 30)) * 0xBF58476D1CE4E5B9u;
     mixed = (mixed ^ (mixed >> 27)) * 0x94D049BB133111EBu;
-    if ((mixed ^ (mixed >> 31)) % memory)
+    return (mixed ^ (mixed >> 31)) % memory == 0;
+}
+
+/* Whether this allocation is refused; it is counted. */
+static int is_refused(size_t size) {
+    if (!(memory || refused_one) || !__atomic_load_n(&page->begun, __ATOMIC_SEQ_CST))
+        return 0;
+    uint64_t number = add_to(&page->asked);
+    if (refused_one && number <= SIZES)
+        page->sizes[number - 1] = size;
+    if (refused_one ? number != refused_one : !is_one_in(number))
         return 0;
     add_to(&page->refused);
     errno = ENOMEM;
@@ -251,23 +280,23 @@ static int is_refused(void) {
 }
 
 void *malloc(size_t size) {
-    return is_refused() ? NULL : __libc_malloc(size);
+    return is_refused(size) ? NULL : __libc_malloc(size);
 }
 
 void *calloc(size_t count, size_t size) {
-    return is_refused() ? NULL : __libc_calloc(count, size);
+    return is_refused(count * size) ? NULL : __libc_calloc(count, size);
 }
 
 void *realloc(void *old, size_t size) {
-    return is_refused() ? NULL : __libc_realloc(old, size);
+    return is_refused(size) ? NULL : __libc_realloc(old, size);
 }
 
 void *aligned_alloc(size_t align, size_t size) {
-    return is_refused() ? NULL : __libc_memalign(align, size);
+    return is_refused(size) ? NULL : __libc_memalign(align, size);
 }
 
 int posix_memalign(void **place, size_t align, size_t size) {
-    if (is_refused())
+    if (is_refused(size))
         return ENOMEM;
     void *found = __libc_memalign(align, size);
     if (!found)

@@ -1,0 +1,77 @@
+//! What a keeper does for a checkpoint, each with what holds of the keeper before and after it.
+ghost use Rattle.std.specs.Prelude.{◌≡◌, List};
+ghost use Rattle.map_types.specs.declared.commands.Command.{Command};
+ghost use Rattle.flusher.specs.Fitting.{Fits};
+
+use crate::keepers::advance_times;
+use disk_model::Disk;
+use flusher::Keeper;
+use map_types::Refusal;
+use std::sync::Wait;
+use ticket_order::Steps;
+
+/// The new log's header and gate, and the end frame of the old one, have so many device calls.
+const ROTATION_CALLS: u32 = 6;
+
+/// A checkpoint has so many device calls before its first section.
+const HEAD_CALLS: u32 = 3;
+
+/// Makes the next device call of the checkpoint.
+fn write<D: Disk, S: Steps>(keeper: &mut Keeper<D>, _steps: &S)
+    requires kept { (done : List Command) × Fits D.states D.honest (S.stripe_count _steps.now) done keeper.old (S.recorded _steps.now) }
+    ensures kept { (done : List Command) × Fits D.states D.honest (S.stripe_count _steps.now) done keeper.new (S.recorded _steps.now) }
+{
+    let _phase = checkpoint_walk::advance(keeper);
+}
+
+/// Makes so many device calls of the checkpoint.
+fn write_times<D: Disk, S: Steps>(keeper: &mut Keeper<D>, steps: &S, times: u32)
+    requires kept { (done : List Command) × Fits D.states D.honest (S.stripe_count steps.now) done keeper.old (S.recorded steps.now) }
+    ensures kept { (done : List Command) × Fits D.states D.honest (S.stripe_count steps.now) done keeper.new (S.recorded steps.now) }
+{
+    for _ in 0..times {
+        write(keeper, steps);
+    }
+}
+
+fn begin_one<D: Disk, S: Steps>(keeper: &mut Keeper<D>, _steps: &S) -> Result<(), Refusal>
+    requires kept { (done : List Command) × Fits D.states D.honest (S.stripe_count _steps.now) done keeper.old (S.recorded _steps.now) }
+    ensures kept { (done : List Command) × Fits D.states D.honest (S.stripe_count _steps.now) done keeper.new (S.recorded _steps.now) }
+{
+    checkpoint_walk::begin(keeper)
+}
+
+/// Begins a checkpoint with its log, and makes its device calls up to the first section.
+pub(crate) fn begin_checkpoint<D: Disk, S: Steps>(
+    keeper: &mut Keeper<D>,
+    steps: &S,
+) -> Result<(), Refusal>
+    requires kept { (done : List Command) × Fits D.states D.honest (S.stripe_count steps.now) done keeper.old (S.recorded steps.now) }
+    ensures kept { (done : List Command) × Fits D.states D.honest (S.stripe_count steps.now) done keeper.new (S.recorded steps.now) }
+{
+    begin_one(keeper, steps)?;
+    advance_times(keeper, steps, ROTATION_CALLS);
+    write_times(keeper, steps, HEAD_CALLS);
+    Ok(())
+}
+
+/// Captures the stripe; it waits for it where it is held, if it is to wait.
+pub(crate) fn capture<D: Disk, R: Wait, S: Steps>(
+    rt: &R,
+    keeper: &mut Keeper<D>,
+    steps: &mut S,
+    stripe: usize,
+    is_to_wait: bool,
+) -> Result<u64, Refusal>
+    requires kept { (done : List Command) × Fits D.states D.honest (S.stripe_count steps.old) done keeper.old (S.recorded steps.old) }
+    ensures kept { (done : List Command) × Fits D.states D.honest (S.stripe_count steps.new) done keeper.new (S.recorded steps.new) }
+    ensures stripes { S.stripe_count steps.new ≡ S.stripe_count steps.old }
+{
+    if keeper.is_walking() {
+        return Err(Refusal::WrongPhase);
+    }
+    if is_to_wait {
+        return checkpoint_walk::capture(keeper, rt, stripe, steps);
+    }
+    checkpoint_walk::try_capture(keeper, stripe, steps)
+}

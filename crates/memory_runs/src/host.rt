@@ -1,0 +1,10 @@
+//! What the program takes of the system.
+use std::fs::File;
+use std::rt::Files;
+use std::sync::Wait;
+use std::thread::Threads;
+
+/// Files, memory, printing, threads, and leave to wait.
+pub trait Host: Files<File = File> + AllocGlobal + Print + Threads + Wait + Sync {}
+
+impl<T: Files<File = File> + AllocGlobal + Print + Threads + Wait + Sync> Host for T {}

@@ -1,0 +1,111 @@
+//! What stands: the tickets, each stripe with its entries, and the keeper.
+ghost use Rattle.std.specs.Prelude.{◌≡◌, ◌<◌, None};
+ghost use Rattle.stripe_locks.specs.Passes.{recorded, IsPassOf};
+
+use anyhow::Result;
+use atomic_methods::Part;
+use call_text::value_word;
+use disk_model::Disk;
+use flusher::Keeper;
+use map_types::Refusal;
+use std::io;
+use stripe_locks::{Pass, Stripes};
+use ticket_order::{Purpose, Steps, Stripe};
+
+/// More than a batch may have.
+pub(crate) const MOST: u32 = 100_000;
+
+/// What was answered: this word and number, or the refusal.
+pub(crate) fn show_answer<R: Print>(
+    rt: &R,
+    word: &str,
+    answer: &Result<u64, Refusal>,
+) -> io::Result<()> {
+    match answer {
+        Ok(number) => println!(rt; "{word} {number}"),
+        Err(refusal) => println!(rt; "refused {refusal}"),
+    }
+}
+
+/// The entries of a part, at the end of a line.
+pub(crate) fn show_part<R: AllocGlobal + Print>(rt: &R, part: &Part) -> Result<()> {
+    let alloc = rt.alloc();
+    for (key, value) in part.entries_sorted(alloc)? {
+        let word = value_word(alloc, &Some(value))?;
+        let key = key.as_str();
+        print!(rt; " {key}={word}")?;
+    }
+    println!(rt; "")?;
+    Ok(())
+}
+
+/// How many entries wait in the stripe's outbox, and its part of the map.
+fn show_content<R: AllocGlobal + Print>(rt: &R, stripe: usize, content: &Stripe) -> Result<()> {
+    let waiting = content.outbox.len();
+    print!(rt; "  stripe {stripe} waiting {waiting}:")?;
+    show_part(rt, &content.part)
+}
+
+/// What lies in a stripe, or that it isn't free.
+fn show_stripe<R: AllocGlobal + Print, S: Steps>(rt: &R, steps: &mut S, stripe: usize) -> Result<()>
+    requires idle { (S.recorded steps.old).holding ≡ None }
+    requires within { stripe < S.stripe_count steps.old }
+    ensures idle { (S.recorded steps.new).holding ≡ None }
+    ensures place { S.place steps.new ≡ S.place steps.old }
+    ensures stripes { S.stripe_count steps.new ≡ S.stripe_count steps.old }
+{
+    let Some(content) = steps.take(stripe) else {
+        println!(rt; "  stripe {stripe} held")?;
+        return Ok(());
+    };
+    let shown = show_content(rt, stripe, &content);
+    steps.give(stripe, content, Purpose::Nothing);
+    shown
+}
+
+/// What lies in each stripe.
+fn show_all<R: AllocGlobal + Print, S: Steps>(rt: &R, steps: &mut S) -> Result<()>
+    requires idle { (S.recorded steps.old).holding ≡ None }
+    ensures idle { (S.recorded steps.new).holding ≡ None }
+    ensures place { S.place steps.new ≡ S.place steps.old }
+{
+    for stripe in 0..steps.stripes().get() {
+        show_stripe(rt, steps, stripe)?;
+    }
+    Ok(())
+}
+
+/// How many tickets are drawn, and what lies in each stripe.
+pub(crate) fn show_stripes<R: AllocGlobal + Print>(
+    rt: &R,
+    stripes: &Stripes,
+    pass: &mut Pass,
+) -> Result<()>
+    requires own { IsPassOf stripes.now pass.old }
+    requires idle { (recorded pass.old).holding ≡ None }
+    ensures own { IsPassOf stripes.now pass.new }
+    ensures idle { (recorded pass.new).holding ≡ None }
+{
+    let mut board = stripes.at(pass);
+    let tickets = board.look();
+    println!(rt; "  tickets {tickets}")?;
+    show_all(rt, &mut board)
+}
+
+/// How many commands are in hand in a row, staged and committed, and the phases of the log and of the
+/// checkpoint with how many sections it was given.
+pub(crate) fn show_keeper<R: Print, D: Disk>(rt: &R, keeper: &Keeper<D>) -> io::Result<()> {
+    let run = keeper.sweeper.in_hand.longest_run(MOST).count;
+    let staged = keeper.staged.len();
+    let committed = keeper.committed();
+    let phase = keeper.log.phase();
+    println!(rt; "  in hand {run}, staged {staged}, committed {committed}, log {phase:?}")?;
+    match &keeper.checkpoint {
+        Some(writer) => {
+            let phase = writer.phase();
+            let count = writer.count();
+            println!(rt; "  checkpoint {phase:?}, sections {count}")
+        }
+        None => Ok(()),
+    }
+}

@@ -1,0 +1,43 @@
+"""The library of tests/faults.c, which lets system calls and allocations of a program fail, and what it tells."""
+import collections
+import mmap
+import os
+import shutil
+import struct
+import subprocess
+
+SOURCE = os.path.join(os.path.dirname(os.path.abspath(__file__)), "..", "tests", "faults.c")
+Counts = collections.namedtuple("Counts", "calls faults after begun asked refused file")
+
+
+class Page:
+    """The counters that the library shares with the test: `struct page` of `tests/faults.c`."""
+    FORM = struct.Struct("<6Q32s")
+    SIZES = struct.Struct("<512Q")
+    BEGUN = 3 * 8
+
+    def __init__(self, path):
+        self.path = path
+        with open(path, "w+b") as file:
+            file.write(bytes(self.FORM.size + self.SIZES.size))
+            file.flush()
+            self.bytes = mmap.mmap(file.fileno(), self.FORM.size + self.SIZES.size)
+
+    def counts(self):
+        return Counts(*self.FORM.unpack(self.bytes[:self.FORM.size]))
+
+    def sizes(self):
+        """How many bytes each of the first allocations asked for that counted."""
+        return self.SIZES.unpack(self.bytes[self.FORM.size:])[:self.counts().asked]
+
+    def refuse_memory(self, begins=True):
+        self.bytes[self.BEGUN] = begins
+
+
+def library(place):
+    """Compiles the library; returns its path, or nothing if there is no compiler."""
+    path = os.path.join(place, "faults.so")
+    if not shutil.which("cc"):
+        return None
+    subprocess.run(["cc", "-shared", "-fPIC", "-o", path, SOURCE], check=True)
+    return path
