@@ -40,7 +40,7 @@ fn is_asked(alloc: Global, answer: &[u8], expected: Printed) -> Result<bool, Ref
 }
 
 /// Answers, and what is printed of them.
-const ANSWERS: [(&[u8], Printed); 4] = [
+const ANSWERS: [(&[u8], Printed); 5] = [
     (
         b"\x00\x0A\x01\x01\x00\x00\x00\x00\x00\x00\x00\x05",
         Printed {
@@ -54,6 +54,14 @@ const ANSWERS: [(&[u8], Printed); 4] = [
         Printed {
             status: 0,
             output: b"did yes\n",
+            error: b"",
+        },
+    ),
+    (
+        b"\x00\x0A\x03\x01\x00\x00\x00\x00\x00\x00\x00\x01",
+        Printed {
+            status: 0,
+            output: b"fault 1 WrongKind\n",
             error: b"",
         },
     ),
@@ -100,10 +108,42 @@ fn is_called<M: Servers>(
     is_printed(status, &output, &error, expected)
 }
 
+/// What is said of a word that is no threshold.
+const NO_THRESHOLD: &[u8] = b"a threshold is a number from 0 to 18446744073709551615\n";
+
 /// Ports and words, and what is said.
-const CALLS: [(&str, &[&str], u8, &[u8]); 4] = [
+const CALLS: [(&str, &[&str], u8, &[u8]); 13] = [
     ("7000", &["get"], 2, b"too few words, or too many\n"),
-    ("7000", &["count", "a"], 2, b"no such method\n"),
+    ("7000", &["size"], 2, b"no such method\n"),
+    ("7000", &["count", "a"], 2, b"too few words, or too many\n"),
+    (
+        "7000",
+        &["reduce", "SUM"],
+        2,
+        b"too few words, or too many\n",
+    ),
+    (
+        "7000",
+        &["reduce", "CONCAT", "-1"],
+        2,
+        b"no such function\n",
+    ),
+    ("7000", &["reduce", "sum", "1"], 2, b"no such function\n"),
+    ("7000", &["reduce", "MIN", "-1"], 2, NO_THRESHOLD),
+    (
+        "7000",
+        &["search", "18446744073709551616", "_"],
+        2,
+        NO_THRESHOLD,
+    ),
+    ("7000", &["search", "1", "_"], 2, b"a value is needed\n"),
+    ("7000", &["search", "1", "5"], 2, b"no such value\n"),
+    (
+        "1",
+        &["search", "18446744073709551615", "i5"],
+        1,
+        b"no reply\n",
+    ),
     (
         "0",
         &["get", "a"],

@@ -4,9 +4,9 @@ use map_types::{Change, Command, Refusal, Reply, Value};
 use std::alloc::Global;
 use std::io;
 use std::io::{Read, Write};
-use wire_frames::Request;
+use wire_frames::{Bulk, Request};
 
-/// A map of one key that fails at every change but `Put`.
+/// A map of one key that fails at every change but `Put`, and at every search.
 #[derive(Drop)]
 struct OneValue {
     value: Option<Value>,
@@ -33,7 +33,14 @@ impl Calls for OneValue {
 
     fn finish(&mut self, request: Request) -> Result<Reply, Refusal> {
         match request {
-            Request::Read(_) => Ok(Reply::Now(self.value.clone()?)),
+            Request::Read(_) | Request::Bulk(Bulk::Reduce(..)) => {
+                Ok(Reply::Now(self.value.clone()?))
+            }
+            Request::Bulk(Bulk::Count) => {
+                let count = i64::from(self.value.is_some());
+                Ok(Reply::Now(Some(Value::Int(count))))
+            }
+            Request::Bulk(Bulk::Search(..)) => Err(Refusal::Failed),
             Request::Change(command) => {
                 let Command { change, .. } = command;
                 match change {
@@ -129,8 +136,17 @@ const FAILED: &[u8] = b"\x00\x03\x01\x01a\x00\x03\x12\x01a\x00\x03\x01\x01a";
 
 const FAILED_REPLIES: &[u8] = b"\x00\x02\x01\x00\x00\x02\x89\x00";
 
-const DIALOGUES: [(&[u8], &[u8]); 4] = [
+/// A put of `a`, a count, a sum, a reduction by a function that is none of its three, and a search
+/// that fails.
+const WHOLE_MAP: &[u8] =
+    b"\x00\x0C\x10\x01a\x01\x00\x00\x00\x00\x00\x00\x00\x05\x00\x01\x20\x00\x0A\x21\x04\x00\x00\x00\x00\x00\x00\x00\x01\x00\x0A\x21\x07\x00\x00\x00\x00\x00\x00\x00\x01\x00\x12\x22\x00\x00\x00\x00\x00\x00\x00\x01\x01\x00\x00\x00\x00\x00\x00\x00\x05";
+
+const WHOLE_MAP_REPLIES: &[u8] =
+    b"\x00\x02\x00\x00\x00\x0A\x01\x01\x00\x00\x00\x00\x00\x00\x00\x01\x00\x0A\x01\x01\x00\x00\x00\x00\x00\x00\x00\x05\x00\x02\x85\x00\x00\x02\x89\x00";
+
+const DIALOGUES: [(&[u8], &[u8]); 5] = [
     (PUT_GET, PUT_GET_REPLIES),
+    (WHOLE_MAP, WHOLE_MAP_REPLIES),
     (REFUSED, REFUSED_REPLIES),
     (FAILED, FAILED_REPLIES),
     (b"", b""),
