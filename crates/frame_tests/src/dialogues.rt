@@ -10,6 +10,17 @@ use wire_frames::{Bulk, Request};
 #[derive(Drop)]
 struct OneValue {
     value: Option<Value>,
+    // how many calls were begun, and neither finished nor given up
+    held: u64,
+}
+
+impl OneValue {
+    fn new() -> OneValue {
+        OneValue {
+            value: None,
+            held: 0,
+        }
+    }
 }
 
 impl Calls for OneValue {
@@ -22,6 +33,7 @@ impl Calls for OneValue {
     ghost gave_up = { λ _ _ _. Unit {0} };
 
     fn begin(&mut self, request: Request) -> Result<Request, Refusal> {
+        self.held = self.held.wrapping_add(1);
         Ok(request)
     }
 
@@ -29,9 +41,12 @@ impl Calls for OneValue {
         true
     }
 
-    fn give_up(&mut self, _request: Request) {}
+    fn give_up(&mut self, _request: Request) {
+        self.held = self.held.wrapping_sub(1);
+    }
 
     fn finish(&mut self, request: Request) -> Result<Reply, Refusal> {
+        self.held = self.held.wrapping_sub(1);
         match request {
             Request::Read(_) | Request::Bulk(Bulk::Reduce(..)) => {
                 Ok(Reply::Now(self.value.clone()?))
@@ -155,9 +170,9 @@ const DIALOGUES: [(&[u8], &[u8]); 5] = [
 // Whether the reader's requests are answered with these replies.
 fn is_answered<R: Read>(alloc: Global, reader: &mut R, replies: &[u8]) -> bool {
     let mut writer = Vec::new(alloc);
-    let mut calls = OneValue { value: None };
+    let mut calls = OneValue::new();
     let served = serve_connection(alloc, reader, &mut writer, &mut calls);
-    served.is_ok() && writer.as_slice() == replies
+    served.is_ok() && writer.as_slice() == replies && calls.held == 0
 }
 
 // The same where they come in pieces of at most so many bytes.
@@ -195,7 +210,8 @@ fn dialogues_in_every_cutting(rt: HostRuntime) {
     }
 }
 
-// Whether a reader that fails behind so many bytes is told, and this front of the replies was written.
+// Whether a reader that fails behind so many bytes is told, this front of the replies was written, and
+// nothing is held any more.
 fn fails_behind(alloc: Global, len: usize, replies: &[u8]) -> bool {
     let mut reader = Pieces {
         left: PUT_GET.get(..len).unwrap_or(PUT_GET),
@@ -204,9 +220,11 @@ fn fails_behind(alloc: Global, len: usize, replies: &[u8]) -> bool {
         fails: true,
     };
     let mut writer = Room::of(64);
-    let mut calls = OneValue { value: None };
+    let mut calls = OneValue::new();
     let served = serve_connection(alloc, &mut reader, &mut writer, &mut calls);
-    matches!(served, Err(ConnectionError::Reader(_))) && writer.written() == replies
+    matches!(served, Err(ConnectionError::Reader(_)))
+        && writer.written() == replies
+        && calls.held == 0
 }
 
 #[test]
@@ -224,13 +242,16 @@ fn a_reader_that_fails(rt: HostRuntime) {
     }
 }
 
-// Whether a writer that has room for this front of the replies alone is told, and has got it.
+// Whether a writer that has room for this front of the replies alone is told, and has got it, and
+// nothing is held any more.
 fn fails_with_room_for(alloc: Global, replies: &[u8]) -> bool {
     let mut reader = PUT_GET;
     let mut writer = Room::of(replies.len());
-    let mut calls = OneValue { value: None };
+    let mut calls = OneValue::new();
     let served = serve_connection(alloc, &mut reader, &mut writer, &mut calls);
-    matches!(served, Err(ConnectionError::Writer(_))) && writer.written() == replies
+    matches!(served, Err(ConnectionError::Writer(_)))
+        && writer.written() == replies
+        && calls.held == 0
 }
 
 #[test]
@@ -246,7 +267,7 @@ fn a_writer_that_fails(rt: HostRuntime) {
 fn memory_that_is_refused(rt: HostRuntime) {
     let mut reader = PUT_GET;
     let mut writer = Room::of(64);
-    let mut calls = OneValue { value: None };
+    let mut calls = OneValue::new();
     let served = serve_connection(rt.alloc(), &mut reader, &mut writer, &mut calls);
     let written = writer.written();
     let is_allowed = match served {
