@@ -136,17 +136,25 @@ fn running<R: Host>(rt: &R, case: &Case<'_>) -> Result<DurableMap<DirDisk<Unknow
     }
 }
 
-/// Serves the connections of a case over the running store, beside the loop that commits.
-pub(crate) fn play_worker<R: Host>(rt: &R, case: &Case<'_>) -> Result<()> {
-    let map = running(rt, case)?;
-    let flag = Flag::new();
-    let texts = case.called.as_slice();
+/// Serves connections over the running store, beside the loop that commits.
+fn work_beside<D: Disk + Drop + Send, R: Host>(
+    rt: &R,
+    map: &DurableMap<D>,
+    texts: &[&str],
+    flag: &Flag,
+) -> bool {
     let (_, is_served) = join(
         rt,
-        || flush_loop(rt, &map, &flag),
-        || work(rt, &map, texts, &flag),
+        || flush_loop(rt, map, flag),
+        || work(rt, map, texts, flag),
     );
-    if is_served {
+    is_served
+}
+
+/// Serves the connections of a case over the running store of its directory.
+pub(crate) fn play_worker<R: Host>(rt: &R, case: &Case<'_>) -> Result<()> {
+    let map = running(rt, case)?;
+    if work_beside(rt, &map, case.called.as_slice(), &Flag::new()) {
         return Ok(());
     }
     Err(anyhow!("not served"))

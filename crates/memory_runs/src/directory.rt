@@ -4,7 +4,7 @@ use crate::host::Host;
 use crate::keepers::commit_all;
 use crate::marks::{begin, end};
 use crate::showing::{show_part, show_stripes};
-use crate::stores::{join, make_each};
+use crate::stores::{Joined, join, make_each};
 use anyhow::Result;
 use atomic_methods::Part;
 use disk_model::{DirDisk, Disk, MemDisk, Unknown};
@@ -33,16 +33,16 @@ pub(crate) fn made<D: Disk + Drop, R: AllocGlobal + Wait>(
     case: &Case<'_>,
 ) -> Result<D> {
     let alloc = rt.alloc();
-    let mut joined = join(alloc, disk, case.stripes)?;
-    make_each(
-        &joined.stripes,
-        &mut joined.worker,
-        alloc,
-        case.state.as_slice(),
-    )?;
-    let mut steps = joined.stripes.at(&mut joined.pass);
-    commit_all(rt, &mut joined.keeper, &mut steps)?;
-    Ok(joined.keeper.into_disk())
+    let Joined {
+        mut keeper,
+        stripes,
+        mut pass,
+        mut worker,
+    } = join(alloc, disk, case.stripes)?;
+    make_each(&stripes, &mut worker, alloc, case.state.as_slice())?;
+    let mut steps = stripes.at(&mut pass);
+    commit_all(rt, &mut keeper, &mut steps)?;
+    Ok(keeper.into_disk())
 }
 
 /// Leaves the directory of a case with its state.
