@@ -1,12 +1,13 @@
 -- The header that was read is the file's.
-use Rattle.std.proofs.Common.{◌≡◌, ℕ, List, [], ◌∷◌, ◌++◌, length, take, drop, sym, ap, ◌∙◌, append_assoc, arith}
-use Rattle.std.proofs.lemmas.List.{length-append, length-take, take-append-drop, append-nil}
+use Rattle.std.proofs.Common.{◌≡◌, ℕ, ◌-◌, min, List, [], ◌∷◌, ◌++◌, length, take, drop, sym, ap, ◌∙◌, append_assoc, arith}
+use Rattle.std.proofs.lemmas.List.{take_min, length-append, length-take, take-append-drop, append-nil}
 use Rattle.byteorder.specs.Endian.{big_bytes}
 use Rattle.byteorder.specs.Numbers.{length-bytes_high_first}
 use Rattle.map_types.specs.declared.refusals.Refusal.{Refusal}
 use Rattle.log_records.specs.Layout.{first_layout}
 use Rattle.store_layout.specs.Logs.{header}
 use Rattle.store_layout.specs.Readings.{HasHeader, IsBadHeader, too_short, wrong_version, wrong_generation, wrong_low}
+use Rattle.file_pieces.specs.Pieces.{ReaderState, Holds}
 use Rattle.gate_log.specs.Scan.{HasRead, ScanState}
 
 header_more : (version generation low : ℕ) (content : List ℕ) → HasHeader version generation low (take 18 content) → HasHeader version generation low content
@@ -26,13 +27,14 @@ bad_header generation low content refusal (wrong_version v g l h other is) = wro
 bad_header generation low content refusal (wrong_generation g l h other is) = wrong_generation g l (header_more 1 g l content h) other is
 bad_header generation low content refusal (wrong_low l h other is) = wrong_low l (header_more 1 generation l content h) other is
 
-abbrev at_first : ℕ → ℕ → ScanState
-at_first generation low = record { generation = generation; gate = 17; expected = low }
+abbrev at_first : ℕ → ℕ → ReaderState → ScanState
+at_first generation low reader = record { generation = generation; gate = 17; expected = low; reader = reader }
 
 -- behind the header that was asked for stands the first gate
-pub header_read : (generation low : ℕ) (content : List ℕ) → HasHeader 1 generation low (take 18 content) → HasRead first_layout low [] (at_first generation low) content
+pub header_read : (generation low : ℕ) (content : List ℕ) (reader : ReaderState) → HasHeader 1 generation low (take 18 content) → Holds content reader
+    → HasRead first_layout low [] (at_first generation low reader) content
 unfolding header
-header_read generation low content first =
+header_read generation low content reader first held =
     let h = header_more 1 generation low content first in
     let head : List ℕ = 1 ∷ (big_bytes 8 generation ++ big_bytes 8 low) in
     let whole : head ++ [] ≡ head = append-nil head in
@@ -47,4 +49,17 @@ header_read generation low content first =
       place = size ∙ ap (λ (l : List ℕ). length l) (sym whole);
       tickets = omega arith;
       log = record { generation_fits = h.generation_fits; low_fits = h.low_fits; in_order = tt };
+      held = held;
     }
+
+-- the first 18 bytes of a content, or all that it has
+pub first_bytes : (content : List ℕ) (len : ℕ) → len ≡ length content → take (min len 18) content ≡ take 18 content
+first_bytes content len is =
+    let same : min len 18 ≡ min 18 (length content) = omega (arith, is) in
+    ap (λ (n : ℕ). take n content) same ∙ take_min 18 content
+
+-- what is read of the header
+pub header_bytes : (content bytes : List ℕ) (len end : ℕ) → len ≡ length content → end ≡ min len 18 → bytes ≡ take (end - 0) (drop 0 content) → bytes ≡ take 18 content
+header_bytes content bytes len end whole is read =
+    let count : end - 0 ≡ min len 18 = omega (arith, is) in
+    read ∙ ap (λ (n : ℕ). take n content) count ∙ first_bytes content len whole

@@ -10,8 +10,8 @@ use Rattle.ticket_order.specs.declared.stripe.Entry.{Entry}
 use Rattle.gate_log.specs.States.{batch_of}
 use Rattle.store_layout.specs.Readings.{HasNoFrame}
 use Rattle.gate_log.specs.ScanParts.{HasFrame, IsBody, ComesAhead, IsAheadOf, IsAtBatch, IsAtEnd}
-use Rattle.gate_log.specs.declared.scan.Ahead.{Ahead}
-use Rattle.gate_log.specs.declared.scan.Ahead.TheVariants.{Batch, Closed, End}
+use Rattle.gate_log.specs.declared.parts.Ahead.{Ahead}
+use Rattle.gate_log.specs.declared.parts.Ahead.TheVariants.{Batch, Closed, End}
 use Rattle.store_layout.proofs.FrameLemmas.{same_rest, same_number, same_parts, frame_length, end_parts}
 use Rattle.gate_log.proofs.Bodies.{frame_whole, body_of}
 

@@ -9,3 +9,4 @@ pub mod Bodies
 pub mod Heads
 pub mod Headers
 pub mod Steps
+mod Finding

@@ -1,5 +1,5 @@
 -- What the parts of a scan rest on.
-use Rattle.std.proofs.Common.{◌≡◌, ◌≤◌, ◌<◌, ℕ, ◌+◌, ◌-◌, ◌^◌, List, ◌∷◌, ◌++◌, length, take, drop, refl, sym, ap, ◌∙◌, append_assoc, arith, inl, inr, get_or, Option, Some, None, IfNone}
+use Rattle.std.proofs.Common.{◌≡◌, ◌⊎◌, ◌≤◌, ◌<◌, ℕ, ◌+◌, ◌-◌, ◌^◌, max, List, ◌∷◌, ◌++◌, length, take, drop, refl, sym, ap, ap₂, ◌∙◌, append_assoc, arith, inl, inr, get_or, Option, Some, None, IfNone}
 use Rattle.std.proofs.lemmas.List.{take_all, drop_all, append-nil, length-append, length-drop, take-append-drop, drop-drop}
 use Rattle.std.proofs.Math.Seq.{drop-cons, take-append_seam}
 use Rattle.byteorder.specs.Endian.{big_number, big_bytes}
@@ -8,12 +8,14 @@ use Rattle.log_records.proofs.Digits.{IsBytes-drop, IsBytes-take, big_bytes-big_
 use Rattle.byteorder.specs.Numbers.{big_from-lt}
 use Rattle.disk_model.specs.Calls.{Looks}
 use Rattle.disk_model.specs.Files.{Files, now}
+use Rattle.file_pieces.specs.Pieces.{ReaderState, IsSameFile, pieces_in}
 use Rattle.disk_model.proofs.MomentLemmas.{one_call, goes_on, in_the_end, weaker}
 use Rattle.store_layout.specs.Readings.{HasHeader}
-use Rattle.gate_log.specs.Scan.{ScanState, RefusesFor, log_bytes}
+use Rattle.gate_log.specs.Scan.{RefusesAt, log_bytes}
 use Rattle.store_layout.specs.Logs.{log_file}
-use Rattle.gate_log.specs.ScanParts.{HasFrame}
+use Rattle.gate_log.specs.ScanParts.{HasFrame, bytes_of}
 use Rattle.map_types.specs.declared.refusals.Refusal.{Refusal}
+use Rattle.map_types.specs.declared.refusals.Refusal.TheVariants.{Failed, NoMemory}
 
 -- ---- looks
 
@@ -31,6 +33,10 @@ module _ {D : Type 0} (states : D → List Files) (failures : D → ℕ) (honest
 
   pub same_bytes : (failed : ℕ) (old new : D) (generation : ℕ) → Looks states failures honest failed old new → log_bytes states new generation ≡ log_bytes states old generation
   same_bytes failed old new generation look = ap (λ (files : Files). (files (log_file generation)).seen) (same_now failed old new look)
+
+  -- the reader's file reads as it did
+  pub same_read : (failed : ℕ) (old new : D) (a b : ReaderState) → Looks states failures honest failed old new → IsSameFile a b → bytes_of states new b ≡ bytes_of states old a
+  same_read failed old new a b look same = ap₂ (λ (files : Files) (n : ℕ). (files n).seen) (same_now failed old new look) same.file
 
   pub looks_on : (failed : ℕ) (old mid new : D) → Looks states failures honest 0 old mid → Looks states failures honest failed mid new → Looks states failures honest failed old new
   looks_on failed old mid new one two = record {
@@ -90,10 +96,20 @@ pub if_none : {X : Type 0} (o : Option X) (P Q : Type 0) → (P → Q) → IfNon
 if_none (Some x) P Q f h = tt
 if_none None P Q f h = f h
 
-pub refuses_more : (scan : ScanState) (P Q : Type 0) (refusal : Refusal) → (P → Q) → RefusesFor scan P refusal → RefusesFor scan Q refusal
-refuses_more scan P Q refusal f (inl h) = inl h
-refuses_more scan P Q refusal f (inr (inl h)) = inr (inl h)
-refuses_more scan P Q refusal f (inr (inr h)) = inr (inr (h.0, f h.1))
+pub refuses_more : (generation gate : ℕ) (P Q : Type 0) (refusal : Refusal) → (P → Q) → RefusesAt generation gate P refusal → RefusesAt generation gate Q refusal
+refuses_more generation gate P Q refusal f (inl h) = inl h
+refuses_more generation gate P Q refusal f (inr (inl h)) = inr (inl h)
+refuses_more generation gate P Q refusal f (inr (inr h)) = inr (inr (h.0, f h.1))
+
+-- what reading on further takes
+pub max_pieces : (p a b : ℕ) → a ≤ b → max (max p (pieces_in a)) (pieces_in b) ≡ max p (pieces_in b)
+max_pieces p a b below = omega arith
+
+-- the device gave fewer bytes than it has, which an honest one does not
+pub never_damaged : (generation gate : ℕ) (P Q : Type 0) (refusal : Refusal) → (P → ⊥) → RefusesAt generation gate P refusal → (refusal ≡ Failed) ⊎ ((refusal ≡ NoMemory) ⊎ Q)
+never_damaged generation gate P Q refusal f (inl h) = inl h
+never_damaged generation gate P Q refusal f (inr (inl h)) = inr (inl h)
+never_damaged generation gate P Q refusal f (inr (inr h)) = absurd (f h.1)
 
 -- ---- what stands behind a frame's length
 
@@ -101,13 +117,7 @@ pub behind_length : (content : List ℕ) (gate kind len : ℕ) (rest : List ℕ)
 behind_length content gate kind len rest is h =
     sym (drop-drop 5 (gate + 1) content) ∙ ap (drop 5) (is ∙ h.bytes)
 
--- the file has as many bytes there
-pub has_body : (content : List ℕ) (gate kind len : ℕ) (rest : List ℕ) → drop (gate + 1) content ≡ rest → HasFrame kind len rest → length (drop (gate + 1 + 5) content) < len → ⊥
-has_body content gate kind len rest is h short =
-    let size = h.size in
-    omega (arith, ap (λ (l : List ℕ). length l) (behind_length content gate kind len rest is h), length-append h.body (h.after ∷ h.behind))
-
--- and a read gives them
+-- a read gives as many bytes
 pub body_read : (content : List ℕ) (gate kind len : ℕ) (rest : List ℕ) → drop (gate + 1) content ≡ rest → (h : HasFrame kind len rest) → take len (drop (gate + 1 + 5) content) ≡ h.body
 body_read content gate kind len rest is h =
     ap (take len) (behind_length content gate kind len rest is h) ∙ ap (λ (n : ℕ). take n (h.body ++ h.after ∷ h.behind)) (sym h.size) ∙ take-append_seam h.body (h.after ∷ h.behind)

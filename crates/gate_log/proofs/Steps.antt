@@ -8,6 +8,7 @@ use Rattle.ticket_order.specs.declared.stripe.Entry.{Entry}
 use Rattle.store_layout.specs.Logs.{Batch, IsBatch, IsClosed, IsEnded, IsRun, commands_in, frame, header, log_front, opened}
 use Rattle.gate_log.specs.States.{batch_of}
 use Rattle.store_layout.specs.Readings.{HasNoFrame, IsBroken}
+use Rattle.file_pieces.specs.Pieces.{ReaderState, Holds}
 use Rattle.gate_log.specs.Scan.{HasRead, IsNextBatch, ScanState}
 use Rattle.gate_log.specs.ScanParts.{FitsBatch, IsAtBatch, IsAtEnd}
 use Rattle.gate_log.proofs.Entries.{commands_length}
@@ -40,8 +41,8 @@ front_more generation low batches batch t =
     ∙ append_assoc (head ++ so_far) last t
 
 -- the scan behind a frame with so many bytes behind its length
-abbrev pub moved_on : ScanState → ℕ → ℕ → ScanState
-moved_on scan len count = record { generation = scan.generation; gate = scan.gate + (6 + len); expected = scan.expected + count }
+abbrev pub moved_on : ScanState → ℕ → ℕ → ReaderState → ScanState
+moved_on scan len count reader = record { generation = scan.generation; gate = scan.gate + (6 + len); expected = scan.expected + count; reader = reader }
 
 module _ (low : ℕ) (batches : List Batch) (scan : ScanState) (content : List ℕ) (read : HasRead first_layout low batches scan content) where
   pub at_gate : drop scan.gate content ≡ read.byte ∷ read.rest
@@ -71,8 +72,8 @@ module _ (low : ℕ) (batches : List Batch) (scan : ScanState) (content : List �
   }
 
   pub next_here : (entries : List Entry) (len : ℕ) → read.byte ≡ 165 → IsAtBatch (batch_of scan.expected entries) read.rest → FitsBatch scan.expected len entries
-      → IsNextBatch first_layout low batches entries scan (moved_on scan len (length entries)) content
-  next_here entries len is_open at_batch fits =
+      → (reader : ReaderState) → Holds content reader → IsNextBatch first_layout low batches entries scan (moved_on scan len (length entries) reader) content
+  next_here entries len is_open at_batch fits reader held =
       let batch : Batch = batch_of scan.expected entries in
       let whole = front_more scan.generation low batches batch (at_batch.after ∷ at_batch.behind) in
       let bytes : content ≡ log_front first_layout scan.generation low (batches ++ batch ∷ []) ++ at_batch.after ∷ at_batch.behind =
@@ -99,5 +100,6 @@ module _ (low : ℕ) (batches : List Batch) (scan : ScanState) (content : List �
           place = omega arith;
           tickets = omega arith;
           log = record { generation_fits = read.log.generation_fits; low_fits = read.log.low_fits; in_order = run_more low batches batch read.log.in_order fits.fits read.tickets };
+          held = held;
         };
       }

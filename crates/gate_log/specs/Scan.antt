@@ -1,6 +1,7 @@
 -- What a scan of a log file finds. The relations speak of the file's content, and of the batches before the gate that the scan is at.
 use Rattle.std.specs.Prelude.{◌≡◌, ◌⊎◌, ℕ, ◌+◌, List, [], ◌∷◌, ◌++◌, length, Result, Err}
 use Rattle.disk_model.specs.Files.{Files, now}
+use Rattle.file_pieces.specs.Pieces.{ReaderState, Holds}
 use Rattle.map_types.specs.declared.refusals.Refusal.{Refusal}
 use Rattle.map_types.specs.declared.refusals.Refusal.TheVariants.{Failed, NoMemory, Damaged}
 use Rattle.log_records.specs.Layout.{Layout}
@@ -19,8 +20,10 @@ pub record ScanState : Type 0 where
   pub gate : ℕ
   -- the ticket that the next batch must begin with
   pub expected : ℕ
+  -- what it has read of the file
+  pub reader : ReaderState
 
--- the scan has read the header and these batches, and behind them the content has a gate
+-- The scan has read the header and these batches, and behind them the content has a gate. It holds bytes of this content.
 pub record HasRead (layout : Layout) (low : ℕ) (batches : List Batch) (scan : ScanState) (content : List ℕ) : Type 0 where
   pub byte : ℕ
   pub rest : List ℕ
@@ -28,6 +31,7 @@ pub record HasRead (layout : Layout) (low : ℕ) (batches : List Batch) (scan : 
   pub place : scan.gate ≡ length (log_front layout scan.generation low batches)
   pub tickets : scan.expected ≡ low + length (commands_in batches)
   pub log : IsLog layout scan.generation low batches
+  pub held : Holds content scan.reader
 
 -- The entries are the next batch, and the scan goes on behind it.
 pub record IsNextBatch (layout : Layout) (low : ℕ) (batches : List Batch) (entries : List Entry) (old new : ScanState) (content : List ℕ) : Type 0 where
@@ -41,19 +45,31 @@ IsFound layout low batches old new content (found_batch entries) = IsNextBatch l
 IsFound layout low batches old new content Ended = IsEnded layout old.generation low batches (old.generation + 1) content
 IsFound layout low batches old new content Closed = IsClosed layout old.generation low batches content
 
+-- the scan is at the gate that it was at
+pub record IsStill (old new : ScanState) : Type 0 where
+  pub generation : new.generation ≡ old.generation
+  pub gate : new.gate ≡ old.gate
+  pub expected : new.expected ≡ old.expected
+
+-- the last gate that was read: behind a frame the next one, else the one that the scan is at
+abbrev pub last_gate : ScanState → ScanState → Found → ℕ
+last_gate old new (found_batch entries) = new.gate
+last_gate old new Ended = old.gate + 14
+last_gate old new Closed = old.gate
+
 -- how the scan goes on
 abbrev pub GoesOn : ScanState → ScanState → Found → Type 0
 GoesOn old new (found_batch entries) = (new.generation ≡ old.generation) × (new.expected ≡ old.expected + length entries.items)
-GoesOn old new Ended = new ≡ old
-GoesOn old new Closed = new ≡ old
+GoesOn old new Ended = IsStill old new
+GoesOn old new Closed = IsStill old new
 
--- the refusal of what stands at the gate
-abbrev pub damage_of : ScanState → Refusal
-damage_of scan = Damaged (log_file scan.generation) scan.gate
+-- A device call failed, or memory was wanting, or the log of this generation is damaged at this gate, for which there is this reason.
+abbrev pub RefusesAt : ℕ → ℕ → Type 0 → Refusal → Type 0
+RefusesAt generation gate Reason refusal = (refusal ≡ Failed) ⊎ ((refusal ≡ NoMemory) ⊎ ((refusal ≡ Damaged (log_file generation) gate) × Reason))
 
--- A device call failed, or memory was wanting, or the file is damaged at the gate, for which there is this reason.
+-- the same of the gate that the scan is at
 abbrev pub RefusesFor : ScanState → Type 0 → Refusal → Type 0
-RefusesFor scan Reason refusal = (refusal ≡ Failed) ⊎ ((refusal ≡ NoMemory) ⊎ ((refusal ≡ damage_of scan) × Reason))
+RefusesFor scan Reason refusal = RefusesAt scan.generation scan.gate Reason refusal
 
 -- ---- device calls
 

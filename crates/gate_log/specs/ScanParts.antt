@@ -2,14 +2,16 @@
 use Rattle.std.specs.Prelude.{◌≡◌, ◌≢◌, ℕ, ◌+◌, ◌<◌, ◌≤◌, ◌^◌, List, ◌∷◌, ◌++◌, length, map, Option, None, Some}
 use Rattle.std.specs.List.{AllByRecursion}
 use Rattle.byteorder.specs.Endian.{big_bytes}
+use Rattle.disk_model.specs.Files.{Files, now}
+use Rattle.file_pieces.specs.Pieces.{ReaderState}
 use Rattle.map_types.specs.declared.commands.Command.{Command}
 use Rattle.log_records.specs.Layout.{first_layout}
 use Rattle.log_records.specs.Spelling.{IsCommand}
 use Rattle.ticket_order.specs.declared.stripe.Entry.{Entry}
 use Rattle.store_layout.specs.Logs.{Batch, IsBatch, end_frame, frame, records_bytes}
 use Rattle.gate_log.specs.States.{AreFrom, batch_of}
-use Rattle.gate_log.specs.declared.scan.Ahead.{Ahead}
-use Rattle.gate_log.specs.declared.scan.Ahead.TheVariants as ahead
+use Rattle.gate_log.specs.declared.parts.Ahead.{Ahead}
+use Rattle.gate_log.specs.declared.parts.Ahead.TheVariants as ahead
 
 abbrev pub commands_of : List Entry → List Command
 commands_of entries = map (λ entry. entry.command) entries
@@ -72,3 +74,13 @@ abbrev pub ComesAhead : ℕ → List ℕ → Ahead → Type 0
 ComesAhead byte rest ahead.Closed = byte ≢ 165
 ComesAhead byte rest (ahead.Batch len) = (byte ≡ 165) × HasFrame 1 len rest
 ComesAhead byte rest ahead.End = (byte ≡ 165) × HasFrame 2 8 rest
+
+-- where the gate behind this frame stands
+abbrev pub behind_frame : ℕ → Ahead → ℕ
+behind_frame gate ahead.Closed = gate
+behind_frame gate (ahead.Batch len) = gate + 6 + len
+behind_frame gate ahead.End = gate + 14
+
+-- what a read gives of the reader's file
+abbrev pub bytes_of : {D : Type 0} → (D → List Files) → D → ReaderState → List ℕ
+bytes_of states disk reader = (now (states disk) reader.file).seen

@@ -5,6 +5,8 @@ mod commit;
 mod frames;
 mod laws;
 mod log;
+mod parts;
+mod place;
 mod scan;
 
 pub use commit::commit_staged;

@@ -1,9 +1,0 @@
-use Rattle.gate_log.proofs.Scanning.{one_look}
-use Rattle.std.proofs.Common.{arith}
-use Rattle.gate_log.proofs.scan.fill.Goals as goal
-
-pub returns-in-Ok-clause-looks : goal.returns-in-Ok-clause-looks
-returns-in-Ok-clause-looks g c = one_look g.D.Disk.states g.D.Disk.failures g.D.Disk.honest 0 c.args.disk.now c.read.new.self c.in-Ok.ensures.state (omega (arith, c.in-Ok.ensures.ok)) c.in-Ok.ensures.was_honest
-
-pub returns-in-Err-clause-looks : goal.returns-in-Err-clause-looks
-returns-in-Err-clause-looks g c = one_look g.D.Disk.states g.D.Disk.failures g.D.Disk.honest 1 c.args.disk.now c.read.new.self c.in-Err.ensures.state c.in-Err.ensures.err c.in-Err.ensures.was_honest

@@ -1,0 +1,176 @@
+//! What the bytes of a log file say: its header, and the parts of its frames.
+ghost use Rattle.std.specs.Prelude.{◌≡◌, ◌≢◌, ℕ, ◌+◌, ◌<◌, ◌≤◌, ◌^◌, ◌++◌, ◌∷◌, List, length, drop, IfOk, IfErr, OnOk, IfSome, IfNone};
+ghost use Rattle.std.specs.List.{AllByRecursion};
+ghost use Rattle.byteorder.specs.Endian.{big_bytes};
+ghost use Rattle.log_records.specs.Layout.{first_layout};
+ghost use Rattle.log_records.specs.Spelling.{IsCommand, record_bytes};
+ghost use Rattle.map_types.specs.declared.commands.Command.{Command};
+ghost use Rattle.store_layout.specs.Logs.{Batch, IsBatch, frame, log_file, records_bytes};
+ghost use Rattle.store_layout.specs.Readings.{HasHeader, IsBadHeader};
+ghost use Rattle.gate_log.specs.Scan.{failed_in};
+ghost use Rattle.gate_log.specs.ScanParts.{AreEntries, IsBody, IsAheadOf};
+
+use byteorder::{BigEndian, ByteOrder};
+use log_records::decode;
+use map_types::{Command, Refusal};
+use std::alloc::Global;
+use store_layout::{BATCH_KIND, END_KIND, HEADER_BYTES, MOST_FRAME_BYTES, MOST_RECORDS, VERSION};
+use ticket_order::{Entry, Ticket};
+
+/// Kind and length stand at the front of a frame.
+pub(crate) const HEAD_BYTES: usize = 5;
+
+/// First ticket and count stand before the records of a batch.
+const NUMBERS_BYTES: usize = 12;
+
+/// The number of a generation stands behind the length of an end frame.
+pub(crate) const END_BYTES: usize = 8;
+
+/// What the gate, and the kind and the length behind it, say.
+#[derive(Drop)]
+pub(crate) enum Ahead {
+    Closed,
+    /// A batch's frame, with so many bytes behind its length.
+    Batch { len: usize },
+    End,
+}
+
+/// Looks at the header of a log that is to have this generation and this low ticket. The bytes are the
+/// first 18 of the file, or all where it has fewer.
+pub(crate) fn check_header(generation: u64, low: u64, bytes: &[u8]) -> Result<(), Refusal>
+    ensures unfailed { failed_in result ≡ 0 }
+    ensures ok { OnOk result (HasHeader 1 generation low bytes.now) }
+    ensures err { IfErr result (λ refusal. IsBadHeader generation low bytes.now refusal) }
+{
+    let file = file_number(generation);
+    if bytes.len() <= HEADER_BYTES {
+        return Err(Refusal::Damaged { file, offset: 0 });
+    }
+    if bytes[0] != VERSION {
+        return Err(Refusal::WrongVersion);
+    }
+    if BigEndian::read_u64(&bytes[1..]) != generation {
+        return Err(Refusal::Damaged { file, offset: 1 });
+    }
+    if BigEndian::read_u64(&bytes[9..]) != low {
+        return Err(Refusal::Damaged { file, offset: 9 });
+    }
+    Ok(())
+}
+
+/// The number of the file that has the log of this generation.
+pub(crate) fn file_number(generation: u64) -> u8
+    ensures { result ≡ log_file generation }
+{
+    2 + (generation % 2) as u8
+}
+
+/// The kind and the length that stand before a frame's other bytes.
+pub(crate) fn kind_and_len(bytes: &[u8]) -> (u8, usize)
+    requires { length bytes.now ≡ 5 }
+    ensures spelled { bytes.now ≡ result.0 ∷ big_bytes 4 result.1 }
+    ensures fits { result.1 < 2 ^ 32 }
+{
+    (bytes[0], BigEndian::read_u32(&bytes[1..]) as usize)
+}
+
+/// The generation that an end frame names.
+pub(crate) fn next_generation(body: &[u8]) -> u64
+    requires { length body.now ≡ 8 }
+    ensures { body.now ≡ big_bytes 8 result }
+{
+    BigEndian::read_u64(body)
+}
+
+/// The first ticket and the count that stand before a batch's records.
+fn first_and_count(body: &[u8]) -> (u64, usize)
+    requires { 12 ≤ length body.now }
+    ensures spelled { body.now ≡ big_bytes 8 result.0 ++ (big_bytes 4 result.1 ++ drop 12 body.now) }
+    ensures fits { result.1 < 2 ^ 32 }
+{
+    let first = BigEndian::read_u64(body);
+    let count = BigEndian::read_u32(&body[8..]);
+    (first, count as usize)
+}
+
+/// The record at the front and the bytes behind it; `None` where no record stands there.
+fn command_at(alloc: Global, bytes: &[u8]) -> Result<Option<(Command, &[u8])>, Refusal>
+    ensures some { IfOk result (λ found. IfSome found (λ x. IsCommand first_layout x.0 × (bytes.now ≡ record_bytes first_layout x.0 ++ x.1.now))) }
+    ensures none { IfOk result (λ found. IfNone found ((command : Command) (rest : List ℕ) → IsCommand first_layout command → bytes.now ≢ record_bytes first_layout command ++ rest)) }
+    ensures err { IfErr result (λ refusal. refusal ≡ Refusal.NoMemory) }
+{
+    match decode(alloc, bytes) {
+        Ok((command, used)) => Ok(Some((command, &bytes[used..]))),
+        Err(refusal) => match refusal {
+            Refusal::NoMemory => Err(refusal),
+            _ => Ok(None),
+        },
+    }
+}
+
+/// So many changes with the tickets from `first` on, whose records are the bytes; `None` where they
+/// aren't so many records.
+fn entries_at(
+    alloc: Global,
+    first: u64,
+    count: usize,
+    bytes: &[u8],
+) -> Result<Option<Vec<Entry>>, Refusal>
+    requires { first + count < 2 ^ 64 }
+    ensures some { IfOk result (λ found. IfSome found (λ entries. AreEntries first count entries.items bytes.now)) }
+    ensures none { IfOk result (λ found. IfNone found ((commands : List Command) → length commands ≡ count → AllByRecursion (IsCommand first_layout) commands
+        → bytes.now ≢ records_bytes first_layout commands)) }
+    ensures err { IfErr result (λ refusal. refusal ≡ Refusal.NoMemory) }
+{
+    let mut entries = Vec::new(alloc);
+    let mut rest = bytes;
+    for ticket in first..first + count as u64 {
+        let Some((command, behind)) = command_at(alloc, rest)? else {
+            return Ok(None);
+        };
+        let ticket = Ticket::new(ticket);
+        entries.push(Entry { ticket, command })?;
+        rest = behind;
+    }
+    if !rest.is_empty() {
+        return Ok(None);
+    }
+    Ok(Some(entries))
+}
+
+/// The changes of a batch whose frame has these bytes behind its length, with their tickets; `None`
+/// where they aren't those of a batch that may come next.
+pub(crate) fn batch_at(
+    alloc: Global,
+    expected: u64,
+    body: &[u8],
+) -> Result<Option<Vec<Entry>>, Refusal>
+    requires low { 12 ≤ length body.now }
+    requires high { length body.now ≤ 1048571 }
+    ensures some { IfOk result (λ found. IfSome found (λ entries. IsBody expected entries.items body.now)) }
+    ensures none { IfOk result (λ found. IfNone found ((batch : Batch) → IsBatch first_layout batch → batch.first ≡ expected
+        → frame first_layout batch ≢ 1 ∷ (big_bytes 4 (length body.now) ++ body.now))) }
+    ensures err { IfErr result (λ refusal. refusal ≡ Refusal.NoMemory) }
+{
+    let (first, count) = first_and_count(body);
+    if first != expected || count == 0 || count > MOST_RECORDS {
+        return Ok(None);
+    }
+    if expected > u64::MAX - count as u64 {
+        return Ok(None);
+    }
+    entries_at(alloc, expected, count, &body[NUMBERS_BYTES..])
+}
+
+/// What this kind and this length say of a frame; `None` where no frame has them.
+pub(crate) fn ahead_of(kind: u8, len: usize) -> Option<Ahead>
+    ensures { IsAheadOf kind len result }
+{
+    match kind {
+        BATCH_KIND if len >= NUMBERS_BYTES && len <= MOST_FRAME_BYTES - HEAD_BYTES => Some(
+            Ahead::Batch { len },
+        ),
+        END_KIND if len == END_BYTES => Some(Ahead::End),
+        _ => None,
+    }
+}

@@ -1,0 +1,244 @@
+//! A gate of a log file, and what stands at it.
+ghost use Rattle.std.specs.Prelude.{◌≡◌, ℕ, ◌+◌, ◌<◌, ◌≤◌, ◌^◌, ◌∷◌, List, length, max, drop, IfOk, IfErr, OnOk, OnErr};
+ghost use Rattle.disk_model.specs.Calls.{Looks};
+ghost use Rattle.file_pieces.specs.Counting.{ReadsPieces, ReadsAtMost};
+ghost use Rattle.file_pieces.specs.Pieces.{Holds, IsSameFile, end_of, pieces_in};
+ghost use Rattle.log_records.specs.Layout.{first_layout};
+ghost use Rattle.store_layout.specs.Logs.{log_file};
+ghost use Rattle.store_layout.specs.Readings.{HasNoFrame};
+ghost use Rattle.gate_log.specs.States.{batch_of};
+ghost use Rattle.gate_log.specs.Scan.{RefusesAt, failed_in};
+ghost use Rattle.gate_log.specs.ScanParts.{HasFrame, FitsAhead, ComesAhead, FitsBatch, IsAtBatch, IsAtEnd, behind_frame, bytes_of};
+
+use crate::parts::{
+    Ahead, END_BYTES, HEAD_BYTES, ahead_of, batch_at, file_number, kind_and_len, next_generation,
+};
+use disk_model::Disk;
+use file_pieces::{FileReader, ReadFault};
+use map_types::Refusal;
+use std::alloc::Global;
+use store_layout::OPEN_GATE;
+use ticket_order::Entry;
+
+/// A gate of the log of one generation.
+#[derive(Clone, Copy)]
+pub(crate) struct Place {
+    pub generation: u64,
+    /// Where the gate stands.
+    pub gate: usize,
+    /// The ticket that the batch behind it is to begin with.
+    pub expected: u64,
+}
+
+impl Place {
+    pub(crate) fn damaged(self) -> Refusal
+        ensures { result ≡ Refusal.Damaged (log_file self.generation) self.gate }
+    {
+        Refusal::Damaged {
+            file: file_number(self.generation),
+            offset: self.gate as u64,
+        }
+    }
+
+    /// Reads on, as far as this place of the file. A device that gives fewer bytes than its own length
+    /// says is reported as damage.
+    pub(crate) fn reach<D: Disk>(
+        self,
+        disk: &mut D,
+        reader: &mut FileReader,
+        end: usize,
+    ) -> Result<(), Refusal>
+        requires inside { end ≤ reader.old.len }
+        ensures looks { Looks D.states D.failures D.honest (failed_in result) disk.old disk.new }
+        ensures file { IsSameFile reader.old reader.new }
+        ensures from { reader.new.from ≡ reader.old.from }
+        ensures forward { end_of reader.old ≤ end_of reader.new }
+        ensures reaches { OnOk result (end ≤ end_of reader.new) }
+        ensures pieces { OnOk result (pieces_in (end_of reader.new)
+            ≡ max (pieces_in (end_of reader.old)) (pieces_in end)) }
+        ensures called { OnOk result (ReadsPieces D.states disk.old disk.new reader.old reader.new) }
+        ensures tried { OnErr result (ReadsAtMost D.states disk.old disk.new reader.old end) }
+        ensures holds { D.honest disk.new
+            → Holds (bytes_of D.states disk.old reader.old) reader.old
+            → Holds (bytes_of D.states disk.old reader.old) reader.new }
+        ensures err { IfErr result (RefusesAt self.generation self.gate (D.honest disk.new
+            → Holds (bytes_of D.states disk.old reader.old) reader.old → ⊥)) }
+    {
+        match reader.reach(disk, end) {
+            Ok(()) => Ok(()),
+            Err(ReadFault::Failed) => Err(Refusal::Failed),
+            Err(ReadFault::NoMemory) => Err(Refusal::NoMemory),
+            Err(ReadFault::Short) => Err(self.damaged()),
+        }
+    }
+
+    // The kind and the length behind an open gate, behind which the file has `behind` bytes.
+    fn head(self, reader: &FileReader, behind: usize) -> Result<Ahead, Refusal>
+        requires room { self.gate + 1 + behind < 2 ^ 64 }
+        requires long { 5 < behind }
+        requires held { reader.now.from ≤ self.gate }
+        requires reached { self.gate + 6 ≤ end_of reader.now }
+        ensures fits { IfOk result (FitsAhead self.gate) }
+        ensures inside { IfOk result (λ ahead. behind_frame self.gate ahead ≤ self.gate + behind) }
+        ensures some { IfOk result (λ ahead. self.gate + 6 ≤ behind_frame self.gate ahead) }
+        ensures ahead { (content rest : List ℕ) → Holds content reader.now
+            → drop (self.gate + 1) content ≡ rest → length rest ≡ behind
+            → IfOk result (ComesAhead 165 rest) }
+        ensures err { IfErr result (RefusesAt self.generation self.gate ((content rest : List ℕ)
+            → Holds content reader.now → drop (self.gate + 1) content ≡ rest → length rest ≡ behind
+            → HasNoFrame first_layout self.expected (self.generation + 1) rest)) }
+        ensures unfailed { failed_in result ≡ 0 }
+    {
+        let at = self.gate + 1;
+        let (kind, len) = kind_and_len(reader.bytes(at, at + HEAD_BYTES));
+        if len >= behind - HEAD_BYTES {
+            return Err(self.damaged());
+        }
+        match ahead_of(kind, len) {
+            Some(ahead) => Ok(ahead),
+            None => Err(self.damaged()),
+        }
+    }
+
+    // Where the gate behind this frame stands.
+    fn next_gate(self, ahead: &Ahead) -> usize
+        requires { FitsAhead self.gate ahead.now }
+        ensures { result ≡ behind_frame self.gate ahead.now }
+    {
+        match ahead {
+            Ahead::Closed => self.gate,
+            Ahead::Batch { len } => self.gate + 1 + HEAD_BYTES + *len,
+            Ahead::End => self.gate + 1 + HEAD_BYTES + END_BYTES,
+        }
+    }
+
+    // Reads the frame behind an open gate, with the gate behind it.
+    fn read_frame<D: Disk>(self, disk: &mut D, reader: &mut FileReader) -> Result<Ahead, Refusal>
+        requires held { reader.old.from ≤ self.gate }
+        requires inside { self.gate < reader.old.len }
+        requires room { reader.old.len < 2 ^ 64 }
+        ensures looks { Looks D.states D.failures D.honest (failed_in result) disk.old disk.new }
+        ensures file { IsSameFile reader.old reader.new }
+        ensures from { reader.new.from ≡ reader.old.from }
+        ensures forward { end_of reader.old ≤ end_of reader.new }
+        ensures fits { IfOk result (FitsAhead self.gate) }
+        ensures reaches { IfOk result (λ ahead. behind_frame self.gate ahead + 1 ≤ end_of reader.new) }
+        ensures inside { IfOk result (λ ahead. behind_frame self.gate ahead < reader.old.len) }
+        ensures pieces { IfOk result (λ ahead. pieces_in (end_of reader.new)
+            ≡ max (pieces_in (end_of reader.old)) (pieces_in (behind_frame self.gate ahead + 1))) }
+        ensures called { OnOk result (ReadsPieces D.states disk.old disk.new reader.old reader.new) }
+        ensures tried { OnErr result (ReadsAtMost D.states disk.old disk.new reader.old
+            (max (end_of reader.old) reader.old.len)) }
+        ensures holds { D.honest disk.new
+            → Holds (bytes_of D.states disk.old reader.old) reader.old
+            → Holds (bytes_of D.states disk.old reader.old) reader.new }
+        ensures ahead { D.honest disk.new → (rest : List ℕ)
+            → Holds (bytes_of D.states disk.old reader.old) reader.old
+            → drop (self.gate + 1) (bytes_of D.states disk.old reader.old) ≡ rest
+            → IfOk result (ComesAhead 165 rest) }
+        ensures err { IfErr result (RefusesAt self.generation self.gate (D.honest disk.new → (rest : List ℕ)
+            → Holds (bytes_of D.states disk.old reader.old) reader.old
+            → drop (self.gate + 1) (bytes_of D.states disk.old reader.old) ≡ rest
+            → HasNoFrame first_layout self.expected (self.generation + 1) rest)) }
+    {
+        let behind = reader.len() - self.gate - 1;
+        if behind <= HEAD_BYTES {
+            return Err(self.damaged());
+        }
+        self.reach(disk, reader, self.gate + 1 + HEAD_BYTES)?;
+        let ahead = self.head(reader, behind)?;
+        self.reach(disk, reader, self.next_gate(&ahead) + 1)?;
+        Ok(ahead)
+    }
+
+    /// Looks at the gate. If it is open, the frame behind it is read, with the gate behind that.
+    pub(crate) fn look_ahead<D: Disk>(
+        self,
+        disk: &mut D,
+        reader: &mut FileReader,
+    ) -> Result<Ahead, Refusal>
+        requires held { reader.old.from ≤ self.gate }
+        requires reached { self.gate + 1 ≤ end_of reader.old }
+        requires inside { self.gate < reader.old.len }
+        requires room { reader.old.len < 2 ^ 64 }
+        ensures looks { Looks D.states D.failures D.honest (failed_in result) disk.old disk.new }
+        ensures file { IsSameFile reader.old reader.new }
+        ensures from { reader.new.from ≡ reader.old.from }
+        ensures forward { end_of reader.old ≤ end_of reader.new }
+        ensures fits { IfOk result (FitsAhead self.gate) }
+        ensures reaches { IfOk result (λ ahead. behind_frame self.gate ahead + 1 ≤ end_of reader.new) }
+        ensures inside { IfOk result (λ ahead. behind_frame self.gate ahead < reader.old.len) }
+        ensures pieces { IfOk result (λ ahead. pieces_in (end_of reader.new)
+            ≡ max (pieces_in (end_of reader.old)) (pieces_in (behind_frame self.gate ahead + 1))) }
+        ensures called { OnOk result (ReadsPieces D.states disk.old disk.new reader.old reader.new) }
+        ensures tried { OnErr result (ReadsAtMost D.states disk.old disk.new reader.old
+            (max (end_of reader.old) reader.old.len)) }
+        ensures holds { D.honest disk.new
+            → Holds (bytes_of D.states disk.old reader.old) reader.old
+            → Holds (bytes_of D.states disk.old reader.old) reader.new }
+        ensures ahead { D.honest disk.new → (byte : ℕ) (rest : List ℕ)
+            → Holds (bytes_of D.states disk.old reader.old) reader.old
+            → drop self.gate (bytes_of D.states disk.old reader.old) ≡ byte ∷ rest
+            → IfOk result (ComesAhead byte rest) }
+        ensures err { IfErr result (RefusesAt self.generation self.gate (D.honest disk.new
+            → (byte : ℕ) (rest : List ℕ) → Holds (bytes_of D.states disk.old reader.old) reader.old
+            → drop self.gate (bytes_of D.states disk.old reader.old) ≡ byte ∷ rest
+            → (byte ≡ 165) × HasNoFrame first_layout self.expected (self.generation + 1) rest)) }
+    {
+        let gate = reader.bytes(self.gate, self.gate + 1);
+        if gate[0] != OPEN_GATE {
+            return Ok(Ahead::Closed);
+        }
+        self.read_frame(disk, reader)
+    }
+
+    /// Whether the end frame at the gate, which was read, names the next generation.
+    pub(crate) fn check_end(self, reader: &FileReader) -> Result<(), Refusal>
+        requires held { reader.now.from ≤ self.gate }
+        requires reached { self.gate + 14 ≤ end_of reader.now }
+        requires room { self.gate + 15 < 2 ^ 64 }
+        ensures ok { (content rest : List ℕ) → Holds content reader.now
+            → drop (self.gate + 1) content ≡ rest → HasFrame 2 8 rest
+            → OnOk result (IsAtEnd (self.generation + 1) rest) }
+        ensures err { IfErr result (RefusesAt self.generation self.gate ((content rest : List ℕ)
+            → Holds content reader.now → drop (self.gate + 1) content ≡ rest → HasFrame 2 8 rest
+            → HasNoFrame first_layout self.expected (self.generation + 1) rest)) }
+        ensures unfailed { failed_in result ≡ 0 }
+    {
+        let at = self.gate + 1 + HEAD_BYTES;
+        let body = reader.bytes(at, at + END_BYTES);
+        if self.generation == u64::MAX || next_generation(body) != self.generation + 1 {
+            return Err(self.damaged());
+        }
+        Ok(())
+    }
+
+    /// The changes of the batch at the gate, whose frame was read and has so many bytes behind its
+    /// length.
+    pub(crate) fn batch(
+        self,
+        alloc: Global,
+        reader: &FileReader,
+        len: usize,
+    ) -> Result<Vec<Entry>, Refusal>
+        requires low { 12 ≤ len }
+        requires high { len ≤ 1048571 }
+        requires held { reader.now.from ≤ self.gate }
+        requires reached { self.gate + 6 + len ≤ end_of reader.now }
+        requires room { self.gate + 7 + len < 2 ^ 64 }
+        ensures fits { IfOk result (λ entries. FitsBatch self.expected len entries.items) }
+        ensures ok { (content rest : List ℕ) → Holds content reader.now
+            → drop (self.gate + 1) content ≡ rest → HasFrame 1 len rest
+            → IfOk result (λ entries. IsAtBatch (batch_of self.expected entries.items) rest) }
+        ensures err { IfErr result (RefusesAt self.generation self.gate ((content rest : List ℕ)
+            → Holds content reader.now → drop (self.gate + 1) content ≡ rest → HasFrame 1 len rest
+            → HasNoFrame first_layout self.expected (self.generation + 1) rest)) }
+        ensures unfailed { failed_in result ≡ 0 }
+    {
+        let at = self.gate + 1 + HEAD_BYTES;
+        match batch_at(alloc, self.expected, reader.bytes(at, at + len))? {
+            Some(entries) => Ok(entries),
+            None => Err(self.damaged()),
+        }
+    }
+}
