@@ -1,9 +1,9 @@
 //! The frames of requests, and the messages of a stream of them.
-use call_text::{Asked, parse_call, refusal_text};
+use call_text::{Asked, Called, parse_words, refusal_text};
 use case_lines::{Names, hexadecimal};
 use map_types::Refusal;
 use std::alloc::Global;
-use wire_frames::{Feeder, Request, request_frame};
+use wire_frames::{Bulk, Feeder, Request, request_frame};
 
 /// How many messages are taken of one piece, at most.
 const MOST_MESSAGES: u32 = 100;
@@ -73,9 +73,12 @@ fn comes_however_cut(alloc: Global, frame: &[u8]) -> Result<bool, Refusal> {
 }
 
 fn request_of(alloc: Global, words: &[&str]) -> Result<Request, Refusal> {
-    match parse_call(alloc, words) {
-        Ok(Asked::Change(command)) => Ok(Request::Change(command)),
-        Ok(Asked::Read(read)) => Ok(Request::Read(read)),
+    match parse_words(alloc, words) {
+        Ok(Called::Keyed(Asked::Change(command))) => Ok(Request::Change(command)),
+        Ok(Called::Keyed(Asked::Read(read))) => Ok(Request::Read(read)),
+        Ok(Called::Count) => Ok(Request::Bulk(Bulk::Count)),
+        Ok(Called::Reduce(func, threshold)) => Ok(Request::Bulk(Bulk::Reduce(func, threshold))),
+        Ok(Called::Search(threshold, value)) => Ok(Request::Bulk(Bulk::Search(threshold, value))),
         Err(_) => Err(Refusal::WrongPhase),
     }
 }
