@@ -1,4 +1,4 @@
-use Rattle.std.proofs.Common.{◌≡◌, None, false, ap, refl}
+use Rattle.std.proofs.Common.{None, false, ap, refl}
 use Rattle.ticket_order.specs.declared.record.Holding.{Holding}
 use Rattle.ticket_order.specs.declared.record.Record.{Record}
 use Rattle.memory_runs.proofs.showing.show_stripe.Goals as goal
