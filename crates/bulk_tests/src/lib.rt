@@ -1,0 +1,9 @@
+//! Tests of views and of bulk answers, over a running map in memory.
+#![tactic(auto)]
+
+#[cfg(test)]
+mod answers;
+#[cfg(test)]
+mod maps;
+#[cfg(test)]
+mod steps;

@@ -1,0 +1,66 @@
+//! A running map in memory, whose changes are committed when a test says so.
+ghost use Rattle.durable_map.specs.Maps.{IsReady};
+
+use disk_model::MemDisk;
+use durable_map::{DurableMap, Ends, flush_loop};
+use java_hash::StripeCount;
+use map_types::{Key, Refusal, Value};
+use recovery::{format, open_parts};
+use std::alloc::Global;
+use std::sync::Wait;
+use std::sync::atomic::{AtomicU32, Ordering};
+use stripe_locks::Pass;
+
+/// A batch has four device calls, and a turn before them takes up what was changed.
+const TURNS_OF_A_BATCH: u32 = 5;
+
+/// Ends a loop after this many turns.
+#[derive(Drop)]
+struct Turns {
+    left: AtomicU32,
+}
+
+impl Ends for Turns {
+    fn has_ended(&self) -> bool {
+        let left = self.left.load(Ordering::SeqCst);
+        self.left.store(left.saturating_sub(1), Ordering::SeqCst);
+        left == 0
+    }
+}
+
+/// A map with no entries.
+pub(crate) fn open(alloc: Global, stripes: u16) -> Result<DurableMap<MemDisk>, Refusal> {
+    let count = StripeCount::new(stripes).ok_or(Refusal::WrongPhase)?;
+    let mut disk = MemDisk::new(alloc);
+    format(alloc, &mut disk, count)?;
+    let Ok((keeper, parts, first)) = open_parts(alloc, disk, count) else {
+        return Err(Refusal::Failed);
+    };
+    match DurableMap::new(alloc, keeper, parts, first) {
+        Ok(map) => Ok(map),
+        Err((_disk, refusal)) => Err(refusal),
+    }
+}
+
+/// Commits what was changed so far.
+pub(crate) fn commit<R: Wait>(rt: &R, map: &DurableMap<MemDisk>) {
+    let turns = Turns {
+        left: AtomicU32::new(TURNS_OF_A_BATCH),
+    };
+    flush_loop(rt, map, &turns);
+}
+
+/// A put, which isn't committed yet.
+pub(crate) fn put(
+    map: &DurableMap<MemDisk>,
+    pass: &mut Pass,
+    alloc: Global,
+    key: &str,
+    value: Value,
+) -> Result<(), Refusal>
+    requires { IsReady map.now pass.old }
+    ensures { IsReady map.now pass.new }
+{
+    let _held = map.try_put(pass, Key::new(alloc, key)?, value)?;
+    Ok(())
+}
