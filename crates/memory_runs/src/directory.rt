@@ -133,6 +133,12 @@ pub(crate) fn play_opening<R: Host>(rt: &R, case: &Case<'_>) -> Result<()> {
     open_parts_shown(rt, disk, case.stripes)
 }
 
+/// Opens the directory that is there.
+pub(crate) fn play_found<R: Host>(rt: &R, case: &Case<'_>) -> Result<()> {
+    let disk = DirDisk::create(rt, rt.alloc(), DIRECTORY, Unknown)?;
+    open_shown(rt, disk, case.stripes)
+}
+
 /// How long the files are.
 fn show_lengths<D: Disk, R: Print>(rt: &R, disk: &mut D) -> Result<()> {
     print!(rt; "  lengths")?;

@@ -20,7 +20,7 @@ use crate::calls::play_calls;
 use crate::captures::play_captures;
 use crate::cases::{Case, case_of};
 use crate::connection::{play_memory, play_worker};
-use crate::directory::{play_formats, play_leaving, play_opening};
+use crate::directory::{play_formats, play_found, play_leaving, play_opening};
 use crate::growing::play_growing;
 use crate::host::Host;
 use crate::sweeps::play_sweeps;
@@ -35,6 +35,7 @@ fn play<R: Host>(rt: &R, case: &Case<'_>) -> Result<()> {
         "capture" | "try_capture" => play_captures(rt, case),
         "leave" => play_leaving(rt, case),
         "open" | "open_parts" => play_opening(rt, case),
+        "open_found" => play_found(rt, case),
         "format" | "format_memory" => play_formats(rt, case),
         "worker" => play_worker(rt, case),
         "memory" => play_memory(rt, case),
