@@ -87,8 +87,8 @@ fn show<R: AllocGlobal + Print>(
     show_stripes(rt, stripes, pass)
 }
 
-/// Makes the call between the marks, and again without them where it was refused. It prints what was
-/// answered each time, and what stands after it.
+/// Makes the call between the marks, and again without them where it was refused. It prints what
+/// was answered each time, and what stands after it.
 fn make_in_time<R: AllocGlobal + Print + Wait>(
     rt: &R,
     stripes: &Stripes,
@@ -145,10 +145,14 @@ fn play_one<D: Disk, R: AllocGlobal + Print + Wait, S: Steps>(
     text: &str,
     is_to_wait: bool,
 ) -> Result<()>
-    requires kept { (done : List Command) × Fits D.states D.honest (S.stripe_count steps.old) done keeper.old (S.recorded steps.old) }
+    requires kept { (done : List Command)
+        × Fits D.states D.honest (S.stripe_count steps.old) done keeper.old
+        (S.recorded steps.old) }
     requires own { IsPassOf stripes.now worker.old }
     requires idle { (recorded worker.old).holding ≡ None }
-    ensures kept { (done : List Command) × Fits D.states D.honest (S.stripe_count steps.new) done keeper.new (S.recorded steps.new) }
+    ensures kept { (done : List Command)
+        × Fits D.states D.honest (S.stripe_count steps.new) done keeper.new
+        (S.recorded steps.new) }
     ensures own { IsPassOf stripes.now worker.new }
     ensures idle { (recorded worker.new).holding ≡ None }
 {
@@ -166,7 +170,9 @@ fn play_each<D: Disk, R: AllocGlobal + Print + Wait, S: Steps>(
     worker: &mut Pass,
     case: &Case<'_>,
 ) -> Result<()>
-    requires kept { (done : List Command) × Fits D.states D.honest (S.stripe_count steps.old) done keeper.old (S.recorded steps.old) }
+    requires kept { (done : List Command)
+        × Fits D.states D.honest (S.stripe_count steps.old) done keeper.old
+        (S.recorded steps.old) }
     requires own { IsPassOf stripes.now worker.old }
     requires idle { (recorded worker.old).holding ≡ None }
 {

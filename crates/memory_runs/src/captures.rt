@@ -29,8 +29,12 @@ fn capture_marked<D: Disk, R: Print + Wait, S: Steps>(
     steps: &mut S,
     is_to_wait: bool,
 ) -> io::Result<Result<u64, Refusal>>
-    requires kept { (done : List Command) × Fits D.states D.honest (S.stripe_count steps.old) done keeper.old (S.recorded steps.old) }
-    ensures kept { (done : List Command) × Fits D.states D.honest (S.stripe_count steps.new) done keeper.new (S.recorded steps.new) }
+    requires kept { (done : List Command)
+        × Fits D.states D.honest (S.stripe_count steps.old) done keeper.old
+        (S.recorded steps.old) }
+    ensures kept { (done : List Command)
+        × Fits D.states D.honest (S.stripe_count steps.new) done keeper.new
+        (S.recorded steps.new) }
 {
     begin(rt)?;
     let answer = capture(rt, keeper, steps, FIRST, is_to_wait);
@@ -66,7 +70,9 @@ fn play<D: Disk, R: AllocGlobal + Print + Wait, S: Steps>(
     worker: &mut Pass,
     is_to_wait: bool,
 ) -> Result<()>
-    requires kept { (done : List Command) × Fits D.states D.honest (S.stripe_count steps.old) done keeper.old (S.recorded steps.old) }
+    requires kept { (done : List Command)
+        × Fits D.states D.honest (S.stripe_count steps.old) done keeper.old
+        (S.recorded steps.old) }
     requires own { IsPassOf stripes.now worker.old }
     requires idle { (recorded worker.old).holding ≡ None }
 {

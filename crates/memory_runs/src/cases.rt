@@ -1,5 +1,5 @@
-//! The line of a case: `CALL STRIPES | CHANGE | CHANGE > CALLED > CALLED`. The changes make the state;
-//! each text behind a `>` is what is called on it, between the marks.
+//! The line of a case: `CALL STRIPES | CHANGE | CHANGE > CALLED > CALLED`. The changes make the
+//! state; each text behind a `>` is what is called on it, between the marks.
 use anyhow::{Context, Result, bail};
 use call_text::{Asked, parse_call};
 use java_hash::StripeCount;
@@ -19,7 +19,7 @@ pub(crate) struct Case<'a> {
     pub called: Vec<&'a str>,
 }
 
-/// The text before the first sign, and the texts between the others, without the spaces around them.
+/// The text before the first sign, and those between the others, without the spaces around them.
 fn texts_behind<'a>(alloc: Global, text: &'a str, sign: char) -> Result<(&'a str, Vec<&'a str>)> {
     let mut texts = Vec::new(alloc);
     let Some((front, rest)) = text.split_once(sign) else {

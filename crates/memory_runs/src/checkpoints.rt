@@ -18,16 +18,24 @@ const HEAD_CALLS: u32 = 3;
 
 /// Makes the next device call of the checkpoint.
 fn write<D: Disk, S: Steps>(keeper: &mut Keeper<D>, _steps: &S)
-    requires kept { (done : List Command) × Fits D.states D.honest (S.stripe_count _steps.now) done keeper.old (S.recorded _steps.now) }
-    ensures kept { (done : List Command) × Fits D.states D.honest (S.stripe_count _steps.now) done keeper.new (S.recorded _steps.now) }
+    requires kept { (done : List Command)
+        × Fits D.states D.honest (S.stripe_count _steps.now) done keeper.old
+        (S.recorded _steps.now) }
+    ensures kept { (done : List Command)
+        × Fits D.states D.honest (S.stripe_count _steps.now) done keeper.new
+        (S.recorded _steps.now) }
 {
     let _phase = checkpoint_walk::advance(keeper);
 }
 
 /// Makes so many device calls of the checkpoint.
 fn write_times<D: Disk, S: Steps>(keeper: &mut Keeper<D>, steps: &S, times: u32)
-    requires kept { (done : List Command) × Fits D.states D.honest (S.stripe_count steps.now) done keeper.old (S.recorded steps.now) }
-    ensures kept { (done : List Command) × Fits D.states D.honest (S.stripe_count steps.now) done keeper.new (S.recorded steps.now) }
+    requires kept { (done : List Command)
+        × Fits D.states D.honest (S.stripe_count steps.now) done keeper.old
+        (S.recorded steps.now) }
+    ensures kept { (done : List Command)
+        × Fits D.states D.honest (S.stripe_count steps.now) done keeper.new
+        (S.recorded steps.now) }
 {
     for _ in 0..times {
         write(keeper, steps);
@@ -35,8 +43,12 @@ fn write_times<D: Disk, S: Steps>(keeper: &mut Keeper<D>, steps: &S, times: u32)
 }
 
 fn begin_one<D: Disk, S: Steps>(keeper: &mut Keeper<D>, _steps: &S) -> Result<(), Refusal>
-    requires kept { (done : List Command) × Fits D.states D.honest (S.stripe_count _steps.now) done keeper.old (S.recorded _steps.now) }
-    ensures kept { (done : List Command) × Fits D.states D.honest (S.stripe_count _steps.now) done keeper.new (S.recorded _steps.now) }
+    requires kept { (done : List Command)
+        × Fits D.states D.honest (S.stripe_count _steps.now) done keeper.old
+        (S.recorded _steps.now) }
+    ensures kept { (done : List Command)
+        × Fits D.states D.honest (S.stripe_count _steps.now) done keeper.new
+        (S.recorded _steps.now) }
 {
     checkpoint_walk::begin(keeper)
 }
@@ -46,8 +58,12 @@ pub(crate) fn begin_checkpoint<D: Disk, S: Steps>(
     keeper: &mut Keeper<D>,
     steps: &S,
 ) -> Result<(), Refusal>
-    requires kept { (done : List Command) × Fits D.states D.honest (S.stripe_count steps.now) done keeper.old (S.recorded steps.now) }
-    ensures kept { (done : List Command) × Fits D.states D.honest (S.stripe_count steps.now) done keeper.new (S.recorded steps.now) }
+    requires kept { (done : List Command)
+        × Fits D.states D.honest (S.stripe_count steps.now) done keeper.old
+        (S.recorded steps.now) }
+    ensures kept { (done : List Command)
+        × Fits D.states D.honest (S.stripe_count steps.now) done keeper.new
+        (S.recorded steps.now) }
 {
     begin_one(keeper, steps)?;
     advance_times(keeper, steps, ROTATION_CALLS);
@@ -63,8 +79,12 @@ pub(crate) fn capture<D: Disk, R: Wait, S: Steps>(
     stripe: usize,
     is_to_wait: bool,
 ) -> Result<u64, Refusal>
-    requires kept { (done : List Command) × Fits D.states D.honest (S.stripe_count steps.old) done keeper.old (S.recorded steps.old) }
-    ensures kept { (done : List Command) × Fits D.states D.honest (S.stripe_count steps.new) done keeper.new (S.recorded steps.new) }
+    requires kept { (done : List Command)
+        × Fits D.states D.honest (S.stripe_count steps.old) done keeper.old
+        (S.recorded steps.old) }
+    ensures kept { (done : List Command)
+        × Fits D.states D.honest (S.stripe_count steps.new) done keeper.new
+        (S.recorded steps.new) }
     ensures stripes { S.stripe_count steps.new ≡ S.stripe_count steps.old }
 {
     if keeper.is_walking() {

@@ -1,5 +1,5 @@
 //! What a keeper does beside its stripes, each with what holds of the keeper before and after it.
-ghost use Rattle.std.specs.Prelude.{◌≡◌, ◌<◌, ℕ, List};
+ghost use Rattle.std.specs.Prelude.{◌≡◌, List};
 ghost use Rattle.map_types.specs.declared.commands.Command.{Command};
 ghost use Rattle.flusher.specs.Fitting.{Fits};
 
@@ -16,8 +16,12 @@ pub(crate) fn sweep<D: Disk, R: Wait, S: Steps>(
     keeper: &mut Keeper<D>,
     steps: &mut S,
 ) -> Result<u64, Refusal>
-    requires kept { (done : List Command) × Fits D.states D.honest (S.stripe_count steps.old) done keeper.old (S.recorded steps.old) }
-    ensures kept { (done : List Command) × Fits D.states D.honest (S.stripe_count steps.new) done keeper.new (S.recorded steps.new) }
+    requires kept { (done : List Command)
+        × Fits D.states D.honest (S.stripe_count steps.old) done keeper.old
+        (S.recorded steps.old) }
+    ensures kept { (done : List Command)
+        × Fits D.states D.honest (S.stripe_count steps.new) done keeper.new
+        (S.recorded steps.new) }
     ensures stripes { S.stripe_count steps.new ≡ S.stripe_count steps.old }
 {
     keeper.sweep(rt, steps)
@@ -29,8 +33,12 @@ pub(crate) fn try_sweep<D: Disk, S: Steps>(
     steps: &mut S,
     stripe: usize,
 ) -> Result<u64, Refusal>
-    requires kept { (done : List Command) × Fits D.states D.honest (S.stripe_count steps.old) done keeper.old (S.recorded steps.old) }
-    ensures kept { (done : List Command) × Fits D.states D.honest (S.stripe_count steps.new) done keeper.new (S.recorded steps.new) }
+    requires kept { (done : List Command)
+        × Fits D.states D.honest (S.stripe_count steps.old) done keeper.old
+        (S.recorded steps.old) }
+    ensures kept { (done : List Command)
+        × Fits D.states D.honest (S.stripe_count steps.new) done keeper.new
+        (S.recorded steps.new) }
     ensures stripes { S.stripe_count steps.new ≡ S.stripe_count steps.old }
 {
     if keeper.is_walking() || stripe >= steps.stripes().get() {
@@ -42,8 +50,12 @@ pub(crate) fn try_sweep<D: Disk, S: Steps>(
 
 /// Stages what is in hand.
 pub(crate) fn stage<D: Disk, S: Steps>(keeper: &mut Keeper<D>, _steps: &S) -> Result<u64, Refusal>
-    requires kept { (done : List Command) × Fits D.states D.honest (S.stripe_count _steps.now) done keeper.old (S.recorded _steps.now) }
-    ensures kept { (done : List Command) × Fits D.states D.honest (S.stripe_count _steps.now) done keeper.new (S.recorded _steps.now) }
+    requires kept { (done : List Command)
+        × Fits D.states D.honest (S.stripe_count _steps.now) done keeper.old
+        (S.recorded _steps.now) }
+    ensures kept { (done : List Command)
+        × Fits D.states D.honest (S.stripe_count _steps.now) done keeper.new
+        (S.recorded _steps.now) }
 {
     let staged = keeper.stage_batch(MOST)?;
     Ok(u64::from(staged))
@@ -51,16 +63,24 @@ pub(crate) fn stage<D: Disk, S: Steps>(keeper: &mut Keeper<D>, _steps: &S) -> Re
 
 /// Makes the next device call of the log.
 fn advance<D: Disk, S: Steps>(keeper: &mut Keeper<D>, _steps: &S)
-    requires kept { (done : List Command) × Fits D.states D.honest (S.stripe_count _steps.now) done keeper.old (S.recorded _steps.now) }
-    ensures kept { (done : List Command) × Fits D.states D.honest (S.stripe_count _steps.now) done keeper.new (S.recorded _steps.now) }
+    requires kept { (done : List Command)
+        × Fits D.states D.honest (S.stripe_count _steps.now) done keeper.old
+        (S.recorded _steps.now) }
+    ensures kept { (done : List Command)
+        × Fits D.states D.honest (S.stripe_count _steps.now) done keeper.new
+        (S.recorded _steps.now) }
 {
     let _phase = keeper.advance();
 }
 
 /// Makes so many device calls of the log.
 pub(crate) fn advance_times<D: Disk, S: Steps>(keeper: &mut Keeper<D>, steps: &S, times: u32)
-    requires kept { (done : List Command) × Fits D.states D.honest (S.stripe_count steps.now) done keeper.old (S.recorded steps.now) }
-    ensures kept { (done : List Command) × Fits D.states D.honest (S.stripe_count steps.now) done keeper.new (S.recorded steps.now) }
+    requires kept { (done : List Command)
+        × Fits D.states D.honest (S.stripe_count steps.now) done keeper.old
+        (S.recorded steps.now) }
+    ensures kept { (done : List Command)
+        × Fits D.states D.honest (S.stripe_count steps.now) done keeper.new
+        (S.recorded steps.now) }
 {
     for _ in 0..times {
         advance(keeper, steps);
@@ -75,8 +95,12 @@ pub(crate) fn commit<D: Disk, S: Steps>(
     keeper: &mut Keeper<D>,
     steps: &mut S,
 ) -> Result<u64, Refusal>
-    requires kept { (done : List Command) × Fits D.states D.honest (S.stripe_count steps.old) done keeper.old (S.recorded steps.old) }
-    ensures kept { (done : List Command) × Fits D.states D.honest (S.stripe_count steps.new) done keeper.new (S.recorded steps.new) }
+    requires kept { (done : List Command)
+        × Fits D.states D.honest (S.stripe_count steps.old) done keeper.old
+        (S.recorded steps.old) }
+    ensures kept { (done : List Command)
+        × Fits D.states D.honest (S.stripe_count steps.new) done keeper.new
+        (S.recorded steps.new) }
     ensures stripes { S.stripe_count steps.new ≡ S.stripe_count steps.old }
 {
     let staged = stage(keeper, steps);
@@ -94,8 +118,12 @@ pub(crate) fn commit_all<D: Disk, R: Wait, S: Steps>(
     keeper: &mut Keeper<D>,
     steps: &mut S,
 ) -> Result<u64, Refusal>
-    requires kept { (done : List Command) × Fits D.states D.honest (S.stripe_count steps.old) done keeper.old (S.recorded steps.old) }
-    ensures kept { (done : List Command) × Fits D.states D.honest (S.stripe_count steps.new) done keeper.new (S.recorded steps.new) }
+    requires kept { (done : List Command)
+        × Fits D.states D.honest (S.stripe_count steps.old) done keeper.old
+        (S.recorded steps.old) }
+    ensures kept { (done : List Command)
+        × Fits D.states D.honest (S.stripe_count steps.new) done keeper.new
+        (S.recorded steps.new) }
     ensures stripes { S.stripe_count steps.new ≡ S.stripe_count steps.old }
 {
     sweep(rt, keeper, steps)?;

@@ -1,4 +1,4 @@
-//! Makes the calls of the cases in the files that its words name, each between two marks, and prints
+//! Makes the calls of the cases in the files that its words name, each between two marks. It prints
 //! what stands before and after it. `tests/memory` refuses memory between the marks.
 #![tactic(auto)]
 

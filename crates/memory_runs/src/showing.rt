@@ -92,8 +92,8 @@ pub(crate) fn show_stripes<R: AllocGlobal + Print>(
     show_all(rt, &mut board)
 }
 
-/// How many commands are in hand in a row, staged and committed, and the phases of the log and of the
-/// checkpoint with how many sections it was given.
+/// How many commands are in hand in a row, staged and committed, the phase of the log, and that of
+/// the checkpoint with how many sections it was given.
 pub(crate) fn show_keeper<R: Print, D: Disk>(rt: &R, keeper: &Keeper<D>) -> io::Result<()> {
     let run = keeper.sweeper.in_hand.longest_run(MOST).count;
     let staged = keeper.staged.len();

@@ -1,7 +1,5 @@
 //! A keeper over shared stripes, and what it does to make a state.
-ghost use Rattle.std.specs.Prelude.{◌≡◌, ℕ, List, None, [], IfOk};
-ghost use Rattle.map_types.specs.declared.commands.Command.{Command};
-ghost use Rattle.ticket_order.specs.declared.record.Record.{Record};
+ghost use Rattle.std.specs.Prelude.{◌≡◌, None, [], IfOk};
 ghost use Rattle.stripe_locks.specs.Passes.{begun_with, recorded, stripe_count, IsPassOf};
 ghost use Rattle.flusher.specs.Fitting.{Fits, IsUnused};
 
@@ -44,8 +42,10 @@ pub(crate) fn rejoin<D: Disk + Drop>(
     count: StripeCount,
 ) -> Result<Joined<D>, Refusal>
     ensures count { IfOk result (λ joined. stripe_count joined.stripes ≡ count.count) }
-    ensures own { IfOk result (λ joined. IsPassOf joined.stripes joined.pass × IsPassOf joined.stripes joined.worker) }
-    ensures fits { IfOk result (λ joined. Fits D.states D.honest (stripe_count joined.stripes) [] joined.keeper (recorded joined.pass)) }
+    ensures own { IfOk result (λ joined. IsPassOf joined.stripes joined.pass
+        × IsPassOf joined.stripes joined.worker) }
+    ensures fits { IfOk result (λ joined. Fits D.states D.honest (stripe_count joined.stripes) []
+        joined.keeper (recorded joined.pass)) }
     ensures free { IfOk result (λ joined. (recorded joined.worker).holding ≡ None) }
 {
     let (keeper, stripes) = match open(alloc, disk, count) {
@@ -69,8 +69,10 @@ pub(crate) fn join<D: Disk + Drop>(
     count: StripeCount,
 ) -> Result<Joined<D>, Refusal>
     ensures count { IfOk result (λ joined. stripe_count joined.stripes ≡ count.count) }
-    ensures own { IfOk result (λ joined. IsPassOf joined.stripes joined.pass × IsPassOf joined.stripes joined.worker) }
-    ensures fits { IfOk result (λ joined. Fits D.states D.honest (stripe_count joined.stripes) [] joined.keeper (recorded joined.pass)) }
+    ensures own { IfOk result (λ joined. IsPassOf joined.stripes joined.pass
+        × IsPassOf joined.stripes joined.worker) }
+    ensures fits { IfOk result (λ joined. Fits D.states D.honest (stripe_count joined.stripes) []
+        joined.keeper (recorded joined.pass)) }
     ensures free { IfOk result (λ joined. (recorded joined.worker).holding ≡ None) }
 {
     let mut disk = disk;

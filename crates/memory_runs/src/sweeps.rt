@@ -28,8 +28,12 @@ fn make<D: Disk, R: Wait, S: Steps>(
     steps: &mut S,
     word: &str,
 ) -> Result<u64, Refusal>
-    requires kept { (done : List Command) × Fits D.states D.honest (S.stripe_count steps.old) done keeper.old (S.recorded steps.old) }
-    ensures kept { (done : List Command) × Fits D.states D.honest (S.stripe_count steps.new) done keeper.new (S.recorded steps.new) }
+    requires kept { (done : List Command)
+        × Fits D.states D.honest (S.stripe_count steps.old) done keeper.old
+        (S.recorded steps.old) }
+    ensures kept { (done : List Command)
+        × Fits D.states D.honest (S.stripe_count steps.new) done keeper.new
+        (S.recorded steps.new) }
 {
     match word {
         "sweep" => sweep(rt, keeper, steps),
@@ -45,8 +49,12 @@ fn make_marked<D: Disk, R: Print + Wait, S: Steps>(
     steps: &mut S,
     word: &str,
 ) -> io::Result<Result<u64, Refusal>>
-    requires kept { (done : List Command) × Fits D.states D.honest (S.stripe_count steps.old) done keeper.old (S.recorded steps.old) }
-    ensures kept { (done : List Command) × Fits D.states D.honest (S.stripe_count steps.new) done keeper.new (S.recorded steps.new) }
+    requires kept { (done : List Command)
+        × Fits D.states D.honest (S.stripe_count steps.old) done keeper.old
+        (S.recorded steps.old) }
+    ensures kept { (done : List Command)
+        × Fits D.states D.honest (S.stripe_count steps.new) done keeper.new
+        (S.recorded steps.new) }
 {
     begin(rt)?;
     let answer = make(rt, keeper, steps, word);
@@ -77,7 +85,9 @@ fn finish<D: Disk, R: Print + Wait, S: Steps>(
     keeper: &mut Keeper<D>,
     steps: &mut S,
 ) -> io::Result<()>
-    requires kept { (done : List Command) × Fits D.states D.honest (S.stripe_count steps.old) done keeper.old (S.recorded steps.old) }
+    requires kept { (done : List Command)
+        × Fits D.states D.honest (S.stripe_count steps.old) done keeper.old
+        (S.recorded steps.old) }
 {
     let swept = sweep(rt, keeper, steps);
     show_answer(rt, "swept", &swept)?;
@@ -96,10 +106,14 @@ fn make_again<D: Disk, R: AllocGlobal + Print + Wait, S: Steps>(
     worker: &mut Pass,
     word: &str,
 ) -> Result<()>
-    requires kept { (done : List Command) × Fits D.states D.honest (S.stripe_count steps.old) done keeper.old (S.recorded steps.old) }
+    requires kept { (done : List Command)
+        × Fits D.states D.honest (S.stripe_count steps.old) done keeper.old
+        (S.recorded steps.old) }
     requires own { IsPassOf stripes.now worker.old }
     requires idle { (recorded worker.old).holding ≡ None }
-    ensures kept { (done : List Command) × Fits D.states D.honest (S.stripe_count steps.new) done keeper.new (S.recorded steps.new) }
+    ensures kept { (done : List Command)
+        × Fits D.states D.honest (S.stripe_count steps.new) done keeper.new
+        (S.recorded steps.new) }
 {
     println!(rt; "again")?;
     let answer = make(rt, keeper, steps, word);
@@ -116,10 +130,14 @@ fn make_in_time<D: Disk, R: AllocGlobal + Print + Wait, S: Steps>(
     worker: &mut Pass,
     word: &str,
 ) -> Result<()>
-    requires kept { (done : List Command) × Fits D.states D.honest (S.stripe_count steps.old) done keeper.old (S.recorded steps.old) }
+    requires kept { (done : List Command)
+        × Fits D.states D.honest (S.stripe_count steps.old) done keeper.old
+        (S.recorded steps.old) }
     requires own { IsPassOf stripes.now worker.old }
     requires idle { (recorded worker.old).holding ≡ None }
-    ensures kept { (done : List Command) × Fits D.states D.honest (S.stripe_count steps.new) done keeper.new (S.recorded steps.new) }
+    ensures kept { (done : List Command)
+        × Fits D.states D.honest (S.stripe_count steps.new) done keeper.new
+        (S.recorded steps.new) }
 {
     show(rt, keeper, stripes, worker)?;
     let answer = make_marked(rt, keeper, steps, word)?;
@@ -131,8 +149,8 @@ fn make_in_time<D: Disk, R: AllocGlobal + Print + Wait, S: Steps>(
     make_again(rt, keeper, steps, stripes, worker, word)
 }
 
-/// Makes the call, before which all entries are brought in hand if it is to stage them, and commits the
-/// rest.
+/// Makes the call, and commits the rest. If the call is to stage entries, they are brought in hand
+/// first.
 fn play<D: Disk, R: AllocGlobal + Print + Wait, S: Steps>(
     rt: &R,
     keeper: &mut Keeper<D>,
@@ -141,7 +159,9 @@ fn play<D: Disk, R: AllocGlobal + Print + Wait, S: Steps>(
     worker: &mut Pass,
     word: &str,
 ) -> Result<()>
-    requires kept { (done : List Command) × Fits D.states D.honest (S.stripe_count steps.old) done keeper.old (S.recorded steps.old) }
+    requires kept { (done : List Command)
+        × Fits D.states D.honest (S.stripe_count steps.old) done keeper.old
+        (S.recorded steps.old) }
     requires own { IsPassOf stripes.now worker.old }
     requires idle { (recorded worker.old).holding ≡ None }
 {
