@@ -148,7 +148,7 @@ fn write_log<D: Disk>(
 
 // How many changes the log holds, as it is read.
 fn count_read(alloc: Global, disk: &mut MemDisk) -> Result<u64, Refusal> {
-    let mut scan = Scan::begin(disk, 0, 0)?;
+    let mut scan = Scan::begin(alloc, disk, 0, 0)?;
     for _frame in 0..MOST_FRAMES {
         if let Found::Closed = scan.next_frame(alloc, disk)? {
             return Ok(scan.expected());

@@ -81,6 +81,6 @@ pub(crate) fn scanned(alloc: Global, names: &Names, words: &[&str]) -> Result<St
     };
     let mut disk = disk_with(alloc, names, 2, word)?;
     plan(&mut disk, words)?;
-    let mut scan = Scan::begin(&mut disk, 0, 0)?;
+    let mut scan = Scan::begin(alloc, &mut disk, 0, 0)?;
     read_frames(alloc, &mut scan, &mut disk)
 }

@@ -1,5 +1,5 @@
 -- What a scan of a log file finds. The relations speak of the file's content, and of the batches before the gate that the scan is at.
-use Rattle.std.specs.Prelude.{◌≡◌, ◌⊎◌, ℕ, ◌+◌, List, [], ◌∷◌, ◌++◌, length, Result, Err}
+use Rattle.std.specs.Prelude.{◌≡◌, ◌⊎◌, ◌≤◌, ℕ, ◌+◌, List, [], ◌∷◌, ◌++◌, length, Result, Err}
 use Rattle.disk_model.specs.Files.{Files, now}
 use Rattle.file_pieces.specs.Pieces.{ReaderState, Holds}
 use Rattle.map_types.specs.declared.refusals.Refusal.{Refusal}
@@ -59,7 +59,8 @@ last_gate old new Closed = old.gate
 
 -- how the scan goes on
 abbrev pub GoesOn : ScanState → ScanState → Found → Type 0
-GoesOn old new (found_batch entries) = (new.generation ≡ old.generation) × (new.expected ≡ old.expected + length entries.items)
+GoesOn old new (found_batch entries) =
+    (new.generation ≡ old.generation) × (new.expected ≡ old.expected + length entries.items) × (old.gate ≤ new.gate)
 GoesOn old new Ended = IsStill old new
 GoesOn old new Closed = IsStill old new
 

@@ -5,6 +5,7 @@ mod ReplayLemmas
 mod LogReadingLemmas
 mod HeadsLemmas
 mod OpeningLemmas
+mod CallLemmas
 mod SyncingLemmas
 mod FirstBytes
 mod OneFileLemmas

@@ -2,7 +2,7 @@
 use Rattle.std.proofs.Common.{◌≡◌, ◌⊎◌, inl, inr, ℕ, ◌+◌, ◌<◌, ◌^◌, List, [], ◌++◌, length, None, Some, refl, sym, ap, ap₂, subst, ◌∙◌}
 use Rattle.map_types.specs.declared.commands.Command.{Command}
 use Rattle.map_types.specs.declared.refusals.Refusal.{Refusal}
-use Rattle.map_types.specs.declared.refusals.Refusal.TheVariants.{Damaged, Failed}
+use Rattle.map_types.specs.declared.refusals.Refusal.TheVariants.{Damaged, Failed, NoMemory}
 use Rattle.map_model.specs.Maps.{Map}
 use Rattle.map_model.specs.Steps.{map_after}
 use Rattle.map_model.proofs.FoldLaws.{map_after-append}
@@ -30,12 +30,17 @@ pub two_ends : (end : End) → (end ≡ Closed → ⊥) → end ≡ Ended
 two_ends Closed no_more = absurd (no_more refl)
 two_ends Ended no_more = refl
 
+pub first_end : (end : End) → (end ≡ Ended → ⊥) → end ≡ Closed
+first_end Closed never = refl
+first_end Ended never = absurd (never refl)
+
 -- ---- one log
 
-pub header_refused : (generation low : ℕ) (content : List ℕ) (refusal : Refusal) → (refusal ≡ Failed) ⊎ IsBadHeader generation low content refusal
-    → RefusesFor (IsBadLog generation low content refusal) refusal
+pub header_refused : (generation low : ℕ) (content : List ℕ) (refusal : Refusal)
+    → (refusal ≡ Failed) ⊎ ((refusal ≡ NoMemory) ⊎ IsBadHeader generation low content refusal) → RefusesFor (IsBadLog generation low content refusal) refusal
 header_refused generation low content refusal (inl e) = inl e
-header_refused generation low content refusal (inr bad) = inr (inr (inl bad))
+header_refused generation low content refusal (inr (inl e)) = inr (inl e)
+header_refused generation low content refusal (inr (inr bad)) = inr (inr (inl bad))
 
 module _ (generation low : ℕ) (content later : List ℕ) (same : later ≡ content) (scan : ScanState) (begun : HasRead first_layout low [] scan content) where
   abbrev Broken : List ℕ → Refusal → Type 0

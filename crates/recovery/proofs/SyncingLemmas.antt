@@ -5,6 +5,7 @@ use Rattle.std.proofs.lemmas.Bool.{eqb-true}
 use Rattle.std.proofs.lemmas.Bool.Decides.{nat_tests}
 use mathlib.Core.Path.{fun_ext}
 use Rattle.disk_model.specs.Files.{AllCoherent, File, Files, Leaves, MayLeave, at_rest, now, synced, with_file}
+use Rattle.file_pieces.specs.Counting.{Made}
 use Rattle.store_layout.specs.Opening.{Contents}
 use Rattle.gate_log.proofs.Scanning.{same_now}
 use Rattle.recovery.specs.LogReading.{contents_of}
@@ -59,6 +60,10 @@ module _ {D : Type 0} (states : D → List Files) (failures : D → ℕ) where
   same_contents old new is =
       let one : contents_of states new ≡ seen_now (states_synced 4 (states old)) = ap {B = Contents} seen_now is.states_are in
       one ∙ seen_synced 4 (states old)
+
+  -- four device calls were made
+  pub four_synced : (old new : D) → AfterSyncs states failures 4 old new → Made states 4 old new
+  four_synced old new is = ap (λ (past : List Files). length past) is.states_are ∙ omega arith
 
   -- nothing is pending, and the files hold what was read
   pub settled : (honest : D → Type 0) (failed : ℕ) (old new : D) → SyncsAndLooks states failures honest 4 failed old new → (number : ℕ) → number < 4

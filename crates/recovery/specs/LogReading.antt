@@ -28,6 +28,11 @@ abbrev pub IsEnd : End → ℕ → ℕ → List Batch → List ℕ → Type 0
 IsEnd Closed generation low batches content = IsClosed first_layout generation low batches content
 IsEnd Ended generation low batches content = IsEnded first_layout generation low batches (generation + 1) content
 
+-- the last gate of a log whose batches end at this one: behind an end frame another gate stands
+abbrev pub end_gate : End → ℕ → ℕ
+end_gate Closed gate = gate
+end_gate Ended gate = gate + 14
+
 -- so many batches were read, and their changes were made
 pub record IsReading (low : ℕ) (content : List ℕ) (before : Restoring) (scan : ScanState) (count : ℕ) (after : Restoring) : Type 0 where
   pub batches : List Batch

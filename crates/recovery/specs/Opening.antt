@@ -4,13 +4,20 @@ use Rattle.java_hash.specs.declared.stripe_count.StripeCount.{StripeCount}
 use Rattle.atomic_methods.specs.PartState.{PartState}
 use Rattle.flusher.specs.declared.keeper.Keeper.{Keeper}
 use Rattle.flusher.specs.declared.sweeper.Walking.TheVariants.{Rests}
-use Rattle.store_layout.specs.Checkpoints.{Checkpoint, greatest_mark}
+use Rattle.log_records.specs.Layout.{first_layout}
+use Rattle.store_layout.specs.Calls.{checkpoint_calls, logs_calls}
+use Rattle.store_layout.specs.Checkpoints.{Checkpoint, greatest_mark, sections_bytes}
 use Rattle.store_layout.specs.Logs.{Batch}
 use Rattle.store_layout.specs.Standing.{restored}
 use Rattle.store_layout.specs.Opening.{Contents, Opened, Holds, AreLogs, logged_by, map_of, newest_by, newest_of, prefix_of}
 use Rattle.recovery.specs.declared.opening.Restored.{Restored}
 use Rattle.recovery.specs.Dividing.{IsDivided}
 use Rattle.recovery.specs.LogReading.{GoesOnFrom, IsResumed}
+
+-- the calls that read the heads of both checkpoints, the checkpoint that is used, and its logs
+abbrev pub files_calls : Opened → ℕ
+files_calls found =
+    2 + checkpoint_calls (length (sections_bytes first_layout found.checkpoint.sections)) + logs_calls found.checkpoint found.first found.second
 
 -- the map of this checkpoint and its logs, divided for so many stripes
 pub record IsRestored (contents : Contents) (k : Checkpoint) (stripes : ℕ) (found : Restored) : Type 0 where

@@ -1,12 +1,14 @@
 //! The logs of a checkpoint.
-ghost use Rattle.std.specs.Prelude.{◌≡◌, ℕ, List, IfOk, IfErr};
+ghost use Rattle.std.specs.Prelude.{◌≡◌, ℕ, List, Option, IfOk, IfErr, OnOk};
 ghost use Rattle.disk_model.specs.Calls.{Looks};
+ghost use Rattle.file_pieces.specs.Counting.{Made};
+ghost use Rattle.store_layout.specs.Calls.{log_calls, logs_calls};
 ghost use Rattle.store_layout.specs.Checkpoints.{Section};
-ghost use Rattle.store_layout.specs.Logs.{log_file};
-ghost use Rattle.store_layout.specs.Opening.{AreBadLogs};
+ghost use Rattle.store_layout.specs.Logs.{Batch, log_file};
+ghost use Rattle.store_layout.specs.Opening.{AreBadLogs, AreLogs};
 ghost use Rattle.gate_log.specs.Scan.{failed_in, log_bytes};
 ghost use Rattle.recovery.specs.Restoring.{IsSameFrame};
-ghost use Rattle.recovery.specs.LogReading.{contents_of, checkpoint_with, AreReplayed, IsBadLog, IsLogRead, IsResumed, RefusesFor};
+ghost use Rattle.recovery.specs.LogReading.{contents_of, checkpoint_with, AreReplayed, IsBadLog, IsLogRead, IsResumed, RefusesFor, end_gate};
 
 use crate::replay::{End, replay};
 use crate::restoring::Restoring;
@@ -35,12 +37,13 @@ fn read_log<D: Disk>(
     restoring: &mut Restoring,
 ) -> Result<(End, GateLog), Refusal>
     ensures looks { Looks D.states D.failures D.honest (failed_in result) disk.old disk.new }
+    ensures called { IfOk result (λ x. Made D.states (log_calls (end_gate x.0 x.1.gate)) disk.old disk.new) }
     ensures same { IsSameFrame restoring.old restoring.new }
     ensures resumed { IfOk result (λ x. IsResumed x.1) }
     ensures ok { D.honest disk.new → IfOk result (λ x. IsLogRead generation low (log_bytes D.states disk.old generation) restoring.old x.0 x.1 restoring.new) }
     ensures err { D.honest disk.new → IfErr result (λ refusal. RefusesFor (IsBadLog generation low (log_bytes D.states disk.old generation) refusal) refusal) }
 {
-    let mut scan = Scan::begin(disk, generation, low)?;
+    let mut scan = Scan::begin(alloc, disk, generation, low)?;
     let end = replay(alloc, disk, generation, &mut scan, restoring)?;
     let log = GateLog::resume(alloc, generation, low, scan.gate(), scan.expected());
     Ok((end, log))
@@ -56,6 +59,9 @@ pub(crate) fn read_logs<D: Disk>(
     restoring: &mut Restoring,
 ) -> Result<GateLog, Refusal>
     ensures looks { Looks D.states D.failures D.honest (failed_in result) disk.old disk.new }
+    ensures called { D.honest disk.new → (stripes : ℕ) (sections : List Section) (first : List Batch) (second : Option (List Batch))
+        → AreLogs (contents_of D.states disk.old) (checkpoint_with generation low stripes sections) first second
+        → OnOk result (Made D.states (logs_calls (checkpoint_with generation low stripes sections) first second) disk.old disk.new) }
     ensures same { IsSameFrame restoring.old restoring.new }
     ensures resumed { IfOk result IsResumed }
     ensures ok { D.honest disk.new → (stripes : ℕ) (sections : List Section)

@@ -1,18 +1,21 @@
 //! The map that a directory stands for.
-ghost use Rattle.std.specs.Prelude.{◌≡◌, ◌+◌, [], IfOk, IfErr, OnOk};
+ghost use Rattle.std.specs.Prelude.{◌≡◌, ◌+◌, [], List, Option, IfOk, IfErr, OnOk};
 ghost use Rattle.disk_model.specs.Calls.{Looks};
 ghost use Rattle.disk_model.specs.Files.{now};
+ghost use Rattle.file_pieces.specs.Counting.{Made};
+ghost use Rattle.store_layout.specs.Calls.{logs_calls, opening_calls, reading_calls};
+ghost use Rattle.store_layout.specs.Logs.{Batch};
 ghost use Rattle.store_layout.specs.Checkpoints.{checkpoint_file, is_to_close};
 ghost use Rattle.ticket_order.specs.declared.record.Record.{Record};
 ghost use Rattle.one_history.specs.Turns.{opening_of};
 ghost use Rattle.stripe_locks.specs.Passes.{begun_with, stripe_count};
-ghost use Rattle.store_layout.specs.Opening.{AreBadLogs, Refuses, StandsFor};
+ghost use Rattle.store_layout.specs.Opening.{AreBadLogs, AreLogs, Holds, Opened, Refuses, StandsFor};
 ghost use Rattle.checkpoint_file.specs.Loads.{checkpoint_of, AreLoaded, AreRising};
 ghost use Rattle.gate_log.specs.Scan.{failed_in};
 ghost use Rattle.recovery.specs.Dividing.{ArePartsOf};
 ghost use Rattle.recovery.specs.LogReading.{contents_of, IsResumed, RefusesFor};
 ghost use Rattle.flusher.specs.Fitting.{Fits, IsUnused};
-ghost use Rattle.recovery.specs.Opening.{IsAtStart, IsOpened, IsOpenedAs, IsRestored};
+ghost use Rattle.recovery.specs.Opening.{IsAtStart, IsOpened, IsOpenedAs, IsRestored, files_calls};
 ghost use Rattle.recovery.specs.Syncing.{LeavesOnly, Stopped, SyncsAndLooks};
 
 use crate::heads::newest_file;
@@ -51,6 +54,9 @@ fn restore_from<D: Disk>(
 ) -> Result<Restored, Refusal>
     requires { AreLoaded loaded.stripes.count loaded.sections.items }
     ensures looks { Looks D.states D.failures D.honest (failed_in result) disk.old disk.new }
+    ensures called { D.honest disk.new → (first : List Batch) (second : Option (List Batch))
+        → AreLogs (contents_of D.states disk.old) (checkpoint_of loaded) first second
+        → OnOk result (Made D.states (logs_calls (checkpoint_of loaded) first second) disk.old disk.new) }
     ensures resumed { IfOk result (λ found. IsResumed found.log) }
     ensures parts { IfOk result (λ found. ArePartsOf stripes.count found.parts.items) }
     ensures ok { D.honest disk.new → AreRising loaded.sections.items → IfOk result (IsRestored (contents_of D.states disk.old) (checkpoint_of loaded) stripes.count) }
@@ -74,6 +80,8 @@ fn restore_from<D: Disk>(
 // alone.
 fn restore<D: Disk>(alloc: Global, disk: &mut D, stripes: StripeCount) -> Result<Restored, Refusal>
     ensures looks { Looks D.states D.failures D.honest (failed_in result) disk.old disk.new }
+    ensures called { D.honest disk.new → (found : Opened) → Holds (contents_of D.states disk.old) found
+        → OnOk result (Made D.states (files_calls found) disk.old disk.new) }
     ensures resumed { IfOk result (λ found. IsResumed found.log) }
     ensures parts { IfOk result (λ found. ArePartsOf stripes.count found.parts.items) }
     ensures ok { D.honest disk.new → IfOk result (IsOpened (contents_of D.states disk.old) stripes.count) }
@@ -94,6 +102,8 @@ fn read_files<D: Disk>(
     stripes: StripeCount,
 ) -> Result<(Restored, bool), Refusal>
     ensures looks { Looks D.states D.failures D.honest (failed_in result) disk.old disk.new }
+    ensures called { D.honest disk.new → (found : Opened) → Holds (contents_of D.states disk.old) found
+        → OnOk result (Made D.states (reading_calls found) disk.old disk.new) }
     ensures resumed { IfOk result (λ x. IsResumed x.0.log) }
     ensures parts { IfOk result (λ x. ArePartsOf stripes.count x.0.parts.items) }
     ensures ok { D.honest disk.new → IfOk result (λ x. IsOpened (contents_of D.states disk.old) stripes.count x.0) }
@@ -113,6 +123,8 @@ fn open_files<D: Disk>(
 ) -> Result<(Restored, bool), Refusal>
     ensures calls { OnOk result (SyncsAndLooks D.states D.failures D.honest 4 0 disk.old disk.new) }
     ensures stopped { IfErr result (Stopped D.states D.failures D.honest 4 disk.old disk.new) }
+    ensures made { D.honest disk.new → (found : Opened) → Holds (contents_of D.states disk.old) found
+        → OnOk result (Made D.states (opening_calls found) disk.old disk.new) }
     ensures was_honest { D.honest disk.new → D.honest disk.old }
     ensures resumed { IfOk result (λ x. IsResumed x.0.log) }
     ensures parts { IfOk result (λ x. ArePartsOf stripes.count x.0.parts.items) }
@@ -135,6 +147,8 @@ pub fn open_parts<D: Disk>(
 ) -> Result<(Keeper<D>, Vec<Part>, u64), (D, Refusal)>
     ensures calls { IfOk result (λ x. SyncsAndLooks D.states D.failures D.honest 4 0 disk x.0.disk) }
     ensures stopped { IfErr result (λ x. Stopped D.states D.failures D.honest 4 disk x.0 x.1) }
+    ensures made { IfOk result (λ x. D.honest x.0.disk → (found : Opened) → Holds (contents_of D.states disk) found
+        → Made D.states (opening_calls found) disk x.0.disk) }
     ensures start { IfOk result (λ x. IsAtStart stripes x.2 x.0) }
     ensures parts { IfOk result (λ x. ArePartsOf stripes.count x.1.items) }
     ensures ok { IfOk result (λ x. D.honest x.0.disk → D.honest disk × IsOpenedAs (contents_of D.states disk) stripes.count x.0 x.1.items x.2) }

@@ -1,7 +1,8 @@
-use Rattle.std.proofs.Common.{ℕ, List, ap₂, ◌∙◌}
+use Rattle.std.proofs.Common.{◌≡◌, ℕ, List, ap, ap₂, ◌∙◌, arith}
 use Rattle.std.proofs.lemmas.Result.{err_from_is_err_and}
 use Rattle.gate_log.specs.Scan.{log_bytes}
-use Rattle.gate_log.specs.States.{resumed}
+use Rattle.gate_log.specs.States.{LogState, resumed}
+use Rattle.recovery.specs.LogReading.{end_gate}
 use Rattle.gate_log.proofs.Scanning.{looks_on, same_bytes}
 use Rattle.recovery.proofs.LogReadingLemmas.{frames_refused, header_refused, log_read}
 use Rattle.recovery.proofs.logs.read_log.Goals as goal
@@ -36,3 +37,13 @@ returns-clause-ok g c = λ honest.
     let same = same_bytes g.D.Disk.states g.D.Disk.failures g.D.Disk.honest 0 c.args.disk.now c.begin.new.disk c.args.generation c.in_ok-scan.ensures.looks in
     log_read c.args.generation c.args.low content _ same c.in_ok-scan.scan (c.in_ok-scan.ensures.read (c.in_ok-end.ensures.looks.was_honest honest)) c.args.restoring.now c.replay.new.restoring c.in_ok-end.end
     c.replay.new.scan c.resume-log.result (c.resume-log.ensures.state ∙ ap₂ (λ i j. resumed c.args.generation c.args.low i j) c.gate.ensures.place c.expected.ensures) (c.in_ok-end.ensures.ok honest)
+
+pub returns-clause-called : goal.returns-clause-called
+returns-clause-called g c =
+    let first = c.in_ok-scan.ensures.called in
+    let one = c.in_ok-scan.ensures.pieces in
+    let more = c.in_ok-end.ensures.called in
+    let pieces = c.in_ok-end.ensures.pieces in
+    let gate : c.resume-log.result.gate ≡ c.replay.new.scan.gate = ap (λ (l : LogState). l.gate) c.resume-log.ensures.state ∙ c.gate.ensures.place in
+    let last = ap (λ (n : ℕ). end_gate c.in_ok-end.end n) gate in
+    omega (arith, first, one, more, pieces, last)

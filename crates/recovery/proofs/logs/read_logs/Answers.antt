@@ -4,9 +4,13 @@ use Rattle.store_layout.specs.Opening.{Contents}
 use Rattle.store_layout.specs.Logs.{log_file}
 use Rattle.gate_log.proofs.Scanning.{looks_on, same_bytes}
 use Rattle.gate_log.specs.States.{begun}
-use Rattle.recovery.specs.declared.replay.End.TheVariants.{Ended}
-use Rattle.recovery.specs.LogReading.{IsBadLog, IsLogRead, checkpoint_with, contents_of}
-use Rattle.recovery.proofs.LogReadingLemmas.{ended_twice, first_bad, next_bad, refuses_more, two_ends, two_logs}
+use Rattle.file_pieces.specs.Counting.{Made}
+use Rattle.store_layout.specs.Calls.{log_calls, logs_calls}
+use Rattle.recovery.specs.declared.replay.End.{End}
+use Rattle.recovery.specs.declared.replay.End.TheVariants.{Closed, Ended}
+use Rattle.recovery.specs.LogReading.{IsBadLog, IsLogRead, checkpoint_with, contents_of, end_gate}
+use Rattle.recovery.proofs.CallLemmas.{one_log_calls, two_logs_calls}
+use Rattle.recovery.proofs.LogReadingLemmas.{ended_twice, first_bad, first_end, next_bad, refuses_more, two_ends, two_logs}
 use Rattle.recovery.proofs.logs.read_logs.Goals as goal
 
 pub returns-in_err-end-clause-err : goal.returns-in_err-end-clause-err
@@ -68,3 +72,28 @@ returns-clause-err g c = λ honest stripes sections.
     (subst (λ content. IsLogRead c.in-Some.next c.in_ok-end.first.committed content c.read_log.new.restoring c.in_ok-end-2.end c.in_ok-end-2.second c.read_log-2.new.restoring) same (rw c.committed.ensures at (c.in_ok-end-2.ensures.ok honest))) in
     inr (inr (ended_twice contents k c.args.restoring.now c.read_log.new.restoring c.read_log-2.new.restoring c.in_ok-end.first read c.in-Some.next next c.in_ok-end-2.second c.in_ok-end.ensures.same c.damaged-in-Ended.result
     c.damaged-in-Ended.ensures other))
+
+pub returns-then-eq-clause-called : goal.returns-then-eq-clause-called
+returns-then-eq-clause-called g c = λ honest stripes sections first second logs.
+    let contents : Contents = contents_of g.D.Disk.states c.args.disk.now in
+    let k = checkpoint_with c.args.generation c.args.low stripes sections in
+    let end : c.in_ok-end.end ≡ Closed = first_end c.in_ok-end.end (λ is. absurd (let same = rw is at c.if-eq.ensures in cc)) in
+    let read = subst (λ x. IsLogRead c.args.generation c.args.low (contents (log_file c.args.generation)) c.args.restoring.now x c.in_ok-end.first c.read_log.new.restoring) end (c.in_ok-end.ensures.ok honest) in
+    let one = subst (λ (x : End). Made g.D.Disk.states (log_calls (end_gate x c.in_ok-end.first.gate)) c.args.disk.now c.read_log.new.disk) end c.in_ok-end.ensures.called in
+    let calls = one_log_calls contents k read.batches c.in_ok-end.first.gate read.goes_on.gate read.ends first second logs in
+    omega (arith, one, calls)
+
+pub returns-in-Closed-clause-called : goal.returns-in-Closed-clause-called
+returns-in-Closed-clause-called g c = λ honest stripes sections first second logs.
+    let contents : Contents = contents_of g.D.Disk.states c.args.disk.now in
+    let k = checkpoint_with c.args.generation c.args.low stripes sections in
+    let end : c.in_ok-end.end ≡ Ended = two_ends c.in_ok-end.end (λ is. absurd (let same = rw is at c.if-eq.ensures in cc)) in
+    let next : c.in-Some.next ≡ c.args.generation + 1 = (let more = c.in-Some.ensures in omega (arith, more)) in
+    let read = subst (λ x. IsLogRead c.args.generation c.args.low (contents (log_file c.args.generation)) c.args.restoring.now x c.in_ok-end.first c.read_log.new.restoring) end (c.in_ok-end.ensures.ok (c.in_ok-end-2.ensures.looks.was_honest honest)) in
+    let same = same_bytes g.D.Disk.states g.D.Disk.failures g.D.Disk.honest 0 c.args.disk.now c.read_log.new.disk c.in-Some.next c.in_ok-end.ensures.looks in
+    let other = subst (λ x. IsLogRead c.in-Some.next c.in_ok-end.first.committed (contents (log_file c.in-Some.next)) c.read_log.new.restoring x c.in_ok-end-2.second c.read_log-2.new.restoring) c.in-Closed.is
+    (subst (λ content. IsLogRead c.in-Some.next c.in_ok-end.first.committed content c.read_log.new.restoring c.in_ok-end-2.end c.in_ok-end-2.second c.read_log-2.new.restoring) same (rw c.committed.ensures at (c.in_ok-end-2.ensures.ok honest))) in
+    let one = subst (λ (x : End). Made g.D.Disk.states (log_calls (end_gate x c.in_ok-end.first.gate)) c.args.disk.now c.read_log.new.disk) end c.in_ok-end.ensures.called in
+    let two = subst (λ (x : End). Made g.D.Disk.states (log_calls (end_gate x c.in_ok-end-2.second.gate)) c.read_log.new.disk c.read_log-2.new.disk) c.in-Closed.is c.in_ok-end-2.ensures.called in
+    let calls = two_logs_calls contents k read.batches c.in_ok-end.first.gate read.goes_on.gate read.ends c.in-Some.next c.in_ok-end.first.committed c.in_ok-end-2.second.gate other.batches next read.goes_on.committed other.goes_on.gate other.ends first second logs in
+    omega (arith, one, two, calls)

@@ -1,11 +1,14 @@
-use Rattle.std.proofs.Common.{◌≡◌, ◌+◌, subst}
+use Rattle.std.proofs.Common.{◌≡◌, ◌+◌, sym, subst, arith}
+use Rattle.std.proofs.lemmas.Result.{on_ok_weaker}
+use Rattle.file_pieces.specs.Counting.{Made}
+use Rattle.store_layout.specs.Calls.{reading_calls}
 use Rattle.store_layout.specs.Checkpoints.{is_to_close, checkpoint_file}
-use Rattle.store_layout.specs.Opening.{Contents, Refuses}
+use Rattle.store_layout.specs.Opening.{Contents, Holds, Refuses}
 use Rattle.recovery.specs.LogReading.{RefusesFor, contents_of}
 use Rattle.recovery.specs.Opening.{IsOpened}
 use Rattle.recovery.proofs.LogReadingLemmas.{refuses_more}
 use Rattle.recovery.proofs.OpeningLemmas.{if_err, if_ok}
-use Rattle.recovery.proofs.SyncingLemmas.{same_contents}
+use Rattle.recovery.proofs.SyncingLemmas.{four_synced, same_contents}
 use Rattle.recovery.proofs.opening.open_files.Goals as goal
 
 pub returns-clause-ok : goal.returns-clause-ok
@@ -26,3 +29,10 @@ returns-clause-gate g c = λ honest.
     let same = same_contents g.D.Disk.states g.D.Disk.failures c.args.disk.now c.sync_files.new.disk c.in_ok-sync_files.ensures.ok in
     if_ok _ (λ found. found.1 ≡ is_to_close (contents (checkpoint_file (found.0.sealed + 1)))) c.read_files.result
     (λ found is. subst (λ (x : Contents). found.1 ≡ is_to_close (x (checkpoint_file (found.0.sealed + 1)))) same is) (c.read_files.ensures.gate honest)
+
+pub returns-clause-made : goal.returns-clause-made
+returns-clause-made g c = λ honest found holds.
+    let same = same_contents g.D.Disk.states g.D.Disk.failures c.args.disk.now c.sync_files.new.disk c.in_ok-sync_files.ensures.ok in
+    let synced = four_synced g.D.Disk.states g.D.Disk.failures c.args.disk.now c.sync_files.new.disk c.in_ok-sync_files.ensures.ok in
+    on_ok_weaker c.read_files.result (λ (read : Made g.D.Disk.states (reading_calls found) c.sync_files.new.disk c.read_files.new.disk). omega (arith, synced, read))
+    (c.read_files.ensures.called honest found (subst (λ (x : Contents). Holds x found) (sym same) holds))

@@ -44,3 +44,6 @@ returns-in-Ok-clause-fits g c = λ p opening unused.
     (now (g.D.Disk.states c.open_files.new.disk)) c.in-Ok.must_close
     (settled g.D.Disk.states g.D.Disk.failures g.D.Disk.honest 0 c.args.disk c.open_files.new.disk c.in-Ok.ensures.calls)
     (c.in-Ok.ensures.gate honest) c.in-Ok.ensures.resumed (rw c.committed-first.ensures at opening))
+
+pub returns-in-Ok-clause-made : goal.returns-in-Ok-clause-made
+returns-in-Ok-clause-made g c = rw c.opened-keeper.ensures.disk c.in-Ok.ensures.made

@@ -23,3 +23,9 @@ returns-clause-gate g c = λ honest.
     let other : 1 - checkpoint_file c.in_ok-restored.restored.sealed ≡ checkpoint_file (c.in_ok-restored.restored.sealed + 1) = omega arith in
     let value = rw c.checkpoint_file.ensures at (c.in_ok-must_close.ensures.value honest) in
     value ∙ ap is_to_close same ∙ ap (λ n. is_to_close (contents_of g.D.Disk.states c.args.disk.now n)) other
+
+pub returns-clause-called : goal.returns-clause-called
+returns-clause-called g c = λ honest found holds.
+    let one = c.in_ok-restored.ensures.called (c.in_ok-must_close.ensures.looks.was_honest honest) found holds in
+    let two = c.in_ok-must_close.ensures.called in
+    omega (arith, one, two)

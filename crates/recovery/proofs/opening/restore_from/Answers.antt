@@ -29,3 +29,6 @@ returns-clause-ok g c = λ honest rising.
     let more = c.if-committed-greatest_of.false in
     is_restored contents c.args.loaded c.in_ok-restoring.restoring c.read_logs.new.restoring c.in_ok-log.log c.in_ok-restoring.ensures.marks replayed c.in_ok-log.ensures.same c.args.stripes.count c.in_ok-restoring.ensures.of
     (ap (λ s. s.count) c.in_ok-restoring.ensures.stripes) rising c.in_ok-restoring.ensures.map (omega (arith, most, more, c.committed.ensures)) _ refl
+
+pub returns-clause-called : goal.returns-clause-called
+returns-clause-called g c = λ honest first second logs. c.in_ok-log.ensures.called honest c.args.loaded.stripes.count (sections_of c.args.loaded.sections.items) first second logs

@@ -1,9 +1,10 @@
-use Rattle.std.proofs.Common.{◌+◌, length, sym, ap, subst, ◌∙◌, inr, arith}
+use Rattle.std.proofs.Common.{◌≡◌, ℕ, ◌+◌, max, length, sym, ap, subst, ◌∙◌, inr, arith}
 use Rattle.std.proofs.lemmas.Result.{err_from_is_err_and}
 use Rattle.log_records.specs.Layout.{first_layout}
 use Rattle.store_layout.specs.Logs.{IsClosed, IsEnded, log_front}
-use Rattle.gate_log.specs.Scan.{HasRead, IsNextBatch, ScanState, log_bytes}
-use Rattle.gate_log.proofs.Scanning.{looks_on}
+use Rattle.gate_log.specs.Scan.{HasRead, IsNextBatch, log_bytes}
+use Rattle.gate_log.proofs.Scanning.{looks_on, max_pieces}
+use Rattle.file_pieces.specs.Pieces.{end_of, pieces_in}
 use Rattle.recovery.proofs.ReplayLemmas.{batch_more, broken_for, few_batches, frame_on, same_log}
 use Rattle.recovery.proofs.replay.replay.Goals as goal
 
@@ -42,8 +43,8 @@ returns-in-Ended-clause-ok g c = λ honest low begun.
       batches = so_far.batches;
       ends = subst (λ n. IsEnded first_layout n low so_far.batches (n + 1) (log_bytes g.D.Disk.states c.args.disk.now c.args.generation)) inv.generation
           (subst (λ content. IsEnded first_layout c.loop.scan.generation low so_far.batches (c.loop.scan.generation + 1) content) same found);
-      gate = ap (λ (s : ScanState). s.gate) stays ∙ so_far.read.place ∙ ap (λ n. length (log_front first_layout n low so_far.batches)) inv.generation;
-      committed = ap (λ (s : ScanState). s.expected) stays ∙ so_far.read.tickets;
+      gate = stays.gate ∙ so_far.read.place ∙ ap (λ n. length (log_front first_layout n low so_far.batches)) inv.generation;
+      committed = stays.expected ∙ so_far.read.tickets;
       applied = so_far.applied;
     }
 
@@ -62,8 +63,8 @@ returns-in-Closed-clause-ok g c = λ honest low begun.
       batches = so_far.batches;
       ends = subst (λ n. IsClosed first_layout n low so_far.batches (log_bytes g.D.Disk.states c.args.disk.now c.args.generation)) inv.generation
           (subst (λ content. IsClosed first_layout c.loop.scan.generation low so_far.batches content) same found);
-      gate = ap (λ (s : ScanState). s.gate) stays ∙ so_far.read.place ∙ ap (λ n. length (log_front first_layout n low so_far.batches)) inv.generation;
-      committed = ap (λ (s : ScanState). s.expected) stays ∙ so_far.read.tickets;
+      gate = stays.gate ∙ so_far.read.place ∙ ap (λ n. length (log_front first_layout n low so_far.batches)) inv.generation;
+      committed = stays.expected ∙ so_far.read.tickets;
       applied = so_far.applied;
     }
 
@@ -75,6 +76,10 @@ loop-preserved g c =
       looks = looks_on g.D.Disk.states g.D.Disk.failures g.D.Disk.honest 0 c.args.disk.now c.loop.disk c.next_frame.new.disk inv.looks c.in_ok-entries.ensures.looks;
       same = frame_on c.args.restoring.now c.loop.restoring c.apply.new.self inv.same c.in_ok-apply-in-Batch.ensures.same;
       generation = goes_on.0 ∙ inv.generation;
+      called = let so_far = inv.called in let more = c.in_ok-entries.ensures.called in omega (arith, so_far, more);
+      pieces = let next : pieces_in (end_of c.next_frame.new.self.reader) ≡ max (pieces_in (end_of c.loop.scan.reader)) (pieces_in (c.next_frame.new.self.gate + 1)) = rw c.in-Batch.is at c.in_ok-entries.ensures.pieces in
+          next ∙ ap (λ (n : ℕ). max n (pieces_in (c.next_frame.new.self.gate + 1))) inv.pieces
+          ∙ max_pieces (pieces_in (end_of c.args.scan.now.reader)) (c.loop.scan.gate + 1) (c.next_frame.new.self.gate + 1) (let forward = goes_on.2 in omega (arith, forward));
       read = λ honest low begun.
           let so_far = inv.read (c.in_ok-entries.ensures.looks.was_honest honest) low begun in
           let same = same_log g.D.Disk.states g.D.Disk.failures g.D.Disk.honest c.args.disk.now c.loop.disk inv.looks c.loop.scan c.args.generation inv.generation in
@@ -93,3 +98,27 @@ returns-clause-err g c = inr (inr (λ honest low begun.
     let over = c.loop-test.false in
     let fits = c.damaged.ensures.fits in
     absurd (omega (arith, many, few, over, fits))))
+
+pub returns-in-Ended-clause-called : goal.returns-in-Ended-clause-called
+returns-in-Ended-clause-called g c = let so_far = c.loop.invariant.called in let more = c.in_ok-entries.ensures.called in omega (arith, so_far, more)
+
+pub returns-in-Closed-clause-called : goal.returns-in-Closed-clause-called
+returns-in-Closed-clause-called g c = let so_far = c.loop.invariant.called in let more = c.in_ok-entries.ensures.called in omega (arith, so_far, more)
+
+pub returns-in-Ended-clause-pieces : goal.returns-in-Ended-clause-pieces
+returns-in-Ended-clause-pieces g c =
+    let gate : ℕ = c.loop.scan.gate in
+    let stays = rw c.in-Ended.is at c.in_ok-entries.ensures.goes_on in
+    let next : pieces_in (end_of c.next_frame.new.self.reader) ≡ max (pieces_in (end_of c.loop.scan.reader)) (pieces_in (gate + 14 + 1)) = rw c.in-Ended.is at c.in_ok-entries.ensures.pieces in
+    next ∙ ap (λ (n : ℕ). max n (pieces_in (gate + 14 + 1))) c.loop.invariant.pieces
+    ∙ max_pieces (pieces_in (end_of c.args.scan.now.reader)) (gate + 1) (gate + 14 + 1) (omega arith)
+    ∙ ap (λ (n : ℕ). max (pieces_in (end_of c.args.scan.now.reader)) (pieces_in (n + 14 + 1))) (sym stays.gate)
+
+pub returns-in-Closed-clause-pieces : goal.returns-in-Closed-clause-pieces
+returns-in-Closed-clause-pieces g c =
+    let gate : ℕ = c.loop.scan.gate in
+    let stays = rw c.in-Closed.is at c.in_ok-entries.ensures.goes_on in
+    let next : pieces_in (end_of c.next_frame.new.self.reader) ≡ max (pieces_in (end_of c.loop.scan.reader)) (pieces_in (gate + 1)) = rw c.in-Closed.is at c.in_ok-entries.ensures.pieces in
+    next ∙ ap (λ (n : ℕ). max n (pieces_in (gate + 1))) c.loop.invariant.pieces
+    ∙ max_pieces (pieces_in (end_of c.args.scan.now.reader)) (gate + 1) (gate + 1) (omega arith)
+    ∙ ap (λ (n : ℕ). max (pieces_in (end_of c.args.scan.now.reader)) (pieces_in (n + 1))) (sym stays.gate)

@@ -1,0 +1,57 @@
+-- How many device calls the logs took.
+use Rattle.std.proofs.Common.{◌≡◌, ℕ, ◌+◌, List, length, Option, None, Some, refl, sym, ap, ap₂, subst, ◌∙◌, arith}
+use Rattle.log_records.specs.Layout.{first_layout}
+use Rattle.store_layout.specs.Calls.{checkpoint_calls, log_calls, logs_calls}
+use Rattle.store_layout.specs.Checkpoints.{Checkpoint, IsCheckpoint, checkpoint_file, sections_bytes}
+use Rattle.store_layout.specs.Faults.{body_length_in}
+use Rattle.store_layout.specs.Logs.{Batch, IsClosed, IsEnded, commands_in, log_file}
+use Rattle.store_layout.specs.Opening.{Contents, AreLogs, Holds, Opened}
+use Rattle.store_layout.specs.Readings.{gate_behind}
+use Rattle.store_layout.proofs.CheckpointFields.{has_body_length, one_checkpoint}
+use Rattle.store_layout.proofs.LogOutcomes.{first_room}
+use Rattle.store_layout.proofs.Openings.{used}
+use Rattle.store_layout.proofs.ReadingLemmas.{one_closed, one_end, never_both}
+use Rattle.recovery.specs.Heads.{IsUsed}
+
+module _ (contents : Contents) (k : Checkpoint) (batches : List Batch) (gate : ℕ) (is : gate ≡ gate_behind first_layout k.generation k.low batches) where
+  -- the first log is closed
+  pub one_log_calls : IsClosed first_layout k.generation k.low batches (contents (log_file k.generation)) → (first : List Batch) (second : Option (List Batch)) → AreLogs contents k first second
+      → log_calls gate ≡ logs_calls k first second
+  one_log_calls closed first None logs =
+      ap log_calls (is ∙ ap (λ (bs : List Batch). gate_behind first_layout k.generation k.low bs) (one_closed first_layout first_room k.generation k.low (contents (log_file k.generation)) batches first closed logs))
+  one_log_calls closed first (Some second) logs =
+      absurd (never_both first_layout first_room k.generation k.low (k.generation + 1) (contents (log_file k.generation)) batches first closed logs.0)
+
+  module _ (ended : IsEnded first_layout k.generation k.low batches (k.generation + 1) (contents (log_file k.generation))) (next low later : ℕ) (others : List Batch) (next_is : next ≡ k.generation + 1)
+      (low_is : low ≡ k.low + length (commands_in batches)) (later_is : later ≡ gate_behind first_layout next low others)
+      (closed : IsClosed first_layout next low others (contents (log_file next))) where
+    -- the first has ended, and the next is closed
+    pub two_logs_calls : (first : List Batch) (second : Option (List Batch)) → AreLogs contents k first second → log_calls (gate + 14) + log_calls later ≡ logs_calls k first second
+    two_logs_calls first None logs = absurd (never_both first_layout first_room k.generation k.low (k.generation + 1) (contents (log_file k.generation)) first batches logs ended)
+    two_logs_calls first (Some second) logs =
+        let same : batches ≡ first = (one_end first_layout first_room k.generation k.low (k.generation + 1) (k.generation + 1) (contents (log_file k.generation)) batches first ended logs.0).0 in
+        let low_same : low ≡ k.low + length (commands_in first) = low_is ∙ ap (λ (bs : List Batch). k.low + length (commands_in bs)) same in
+        let there = subst (λ (n : ℕ). IsClosed first_layout (k.generation + 1) n others (contents (log_file (k.generation + 1)))) low_same (subst (λ (n : ℕ). IsClosed first_layout n low others (contents (log_file n))) next_is closed) in
+        let others_same : others ≡ second = one_closed first_layout first_room (k.generation + 1) (k.low + length (commands_in first)) (contents (log_file (k.generation + 1))) others second there logs.1 in
+        let gate_same : gate ≡ gate_behind first_layout k.generation k.low first = is ∙ ap (λ (bs : List Batch). gate_behind first_layout k.generation k.low bs) same in
+        let later_same : later ≡ gate_behind first_layout (k.generation + 1) (k.low + length (commands_in first)) second =
+        later_is ∙ ap₂ (λ (n l : ℕ). gate_behind first_layout n l others) next_is low_same ∙ ap (λ (bs : List Batch). gate_behind first_layout (k.generation + 1) (k.low + length (commands_in first)) bs) others_same in
+        ap₂ (λ (a b : ℕ). log_calls (a + 14) + log_calls b) gate_same later_same
+
+-- the checkpoint that was read is the one that is found
+pub record IsTheSame (contents : Contents) (file : ℕ) (found : Opened) (k : Checkpoint) : Type 0 where
+  pub logs : AreLogs contents k found.first found.second
+  pub body : checkpoint_calls (body_length_in (contents file)) ≡ checkpoint_calls (length (sections_bytes first_layout found.checkpoint.sections))
+  pub calls : logs_calls k found.first found.second ≡ logs_calls found.checkpoint found.first found.second
+
+pub checkpoint_found : (contents : Contents) (file : ℕ) → IsUsed contents file → (found : Opened) → Holds contents found → (k : Checkpoint) → IsCheckpoint first_layout k (contents file) → IsTheSame contents file found k
+checkpoint_found contents file is found holds k checkpoint =
+    let heads = used contents found.checkpoint holds.checkpoint holds.other in
+    let number : file ≡ checkpoint_file found.checkpoint.generation = is.newest ∙ heads.1 in
+    let here = subst (λ (n : ℕ). IsCheckpoint first_layout found.checkpoint (contents n)) (sym number) holds.checkpoint in
+    let same : found.checkpoint ≡ k = one_checkpoint first_layout first_room found.checkpoint k (contents file) here checkpoint in
+    record {
+      logs = subst (λ (j : Checkpoint). AreLogs contents j found.first found.second) same holds.logs;
+      body = ap checkpoint_calls (has_body_length first_layout found.checkpoint (contents file) here);
+      calls = ap (λ (j : Checkpoint). logs_calls j found.first found.second) (sym same);
+    }
