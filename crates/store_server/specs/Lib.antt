@@ -1,3 +1,4 @@
 pub mod WholeMap
+pub mod Responding
 pub mod Serving
 pub mod Settings

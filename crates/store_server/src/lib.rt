@@ -1,7 +1,7 @@
 //! The server: the map of a directory is served on a port, by workers on threads of their own.
 #![tactic(auto)]
 
-mod bulk;
+pub mod bulk;
 mod idle;
 pub mod server;
 #[cfg(test)]

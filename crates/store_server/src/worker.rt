@@ -5,9 +5,10 @@ ghost use Rattle.durable_map.specs.Maps.{opening_of, stripe_count};
 ghost use Rattle.connections.specs.Connection.{Connection};
 ghost use Rattle.connections.specs.Deferred.{Defers, LetsGo};
 ghost use Rattle.store_server.specs.Serving.{Completed, CompletesRequest};
-ghost use Rattle.store_server.specs.WholeMap.{CompletesBulk};
+ghost use Rattle.store_server.specs.Responding.{RespondsRightly};
+ghost use Rattle.store_server.specs.WholeMap.{AnswersOf, CompletesBulk};
 
-use crate::bulk::answer_of;
+use crate::bulk::{Responds, Task, answer_of, respond_by};
 use crate::idle::{Patience, Sent, Taken};
 use bulk_tasks::view;
 use connections::{Calls, ConnectionError, serve_connection};
@@ -54,41 +55,57 @@ pub trait Arrivals {
     fn next(&mut self) -> Option<TcpStream>;
 }
 
-/// A worker answers each request by a call of the running store, with its own pass.
+/// A worker answers each request by a call of the running store, with its own pass. Of the whole map it
+/// takes a view, and `responds` finds the reply by it.
 #[derive(Drop)]
-pub struct Worker<'a, D: Disk + Drop, G: Gate, R: Threads + Wait + Sync> {
+pub struct Worker<'a, D: Disk + Drop, G: Gate, R: Wait, A: Responds> {
     rt: &'a R,
     alloc: Global,
+    responds: A,
     map: &'a DurableMap<D>,
     gate: &'a G,
     taken_up: &'a AtomicU64,
     pass: Pass,
 }
 
-impl<'a, D: Disk + Drop, G: Gate, R: Threads + Wait + Sync> Model for Worker<'a, D, G, R> {
+impl<'a, D: Disk + Drop, G: Gate, R: Wait, A: Responds> Model for Worker<'a, D, G, R, A> {
     ghost use Rattle.stripe_locks.specs.Passes.{recorded};
     ghost use Rattle.durable_map.specs.Maps.{IsReady, stripe_count};
+    ghost use Rattle.std.specs.Coded.{coded_ℕ, coded×, code_by};
+    ghost use Rattle.std.specs.Prelude.{refl};
+    ghost use Rattle.ticket_order.specs.contracts.record.Record as record_type;
     ghost use Rattle.store_server.specs.Serving.{WorkerState};
+    ghost use Rattle.store_server.specs.Responding.{RespondsRightly};
 
     ghost Value = { WorkerState };
+
+    ghost coded = { code_by _ (coded× coded_ℕ record_type.the_row.coded)
+        (λ s. (s.stripes, s.pass)) (λ p. record { stripes = p.0; pass = p.1 }) (λ _. refl) };
 
     ghost view = { λ worker. record {
       stripes = stripe_count worker.map.now;
       pass = recorded worker.pass;
     } };
 
-    ghost invariant = { λ worker. IsReady worker.map.now worker.pass };
+    ghost invariant = { λ worker. IsReady worker.map.now worker.pass
+        × RespondsRightly A.is_ready A.replies worker.responds };
 }
 
-impl<'a, D: Disk + Drop, G: Gate, R: Threads + Wait + Sync> Worker<'a, D, G, R> {
+impl<'a, D: Disk + Drop, G: Gate, R: Wait, A: Responds> Worker<'a, D, G, R, A> {
     /// A worker, which takes a new pass. The requests of all workers are counted in `taken_up`.
+    /// `responds` finds the replies to requests of the whole map.
     pub fn new(
         rt: &'a R,
         alloc: Global,
+        responds: A,
         map: &'a DurableMap<D>,
         gate: &'a G,
         taken_up: &'a AtomicU64,
-    ) -> Result<Worker<'a, D, G, R>, Refusal>
+    ) -> Result<Worker<'a, D, G, R, A>, Refusal>
+        // Each reply that it finds is that of the view.
+        requires { RespondsRightly A.is_ready A.replies responds }
+
+        // It has the stripes of the map, and a new pass that isn't the keeper's.
         ensures stripes { IfOk result (λ worker. worker.stripes ≡ stripe_count map.now) }
         ensures joins { IfOk result (λ worker.
             (found : ℕ) × (worker.pass ≡ joining (opening_of map.now) found)) }
@@ -99,6 +116,7 @@ impl<'a, D: Disk + Drop, G: Gate, R: Threads + Wait + Sync> Worker<'a, D, G, R> 
         Ok(Worker {
             rt,
             alloc,
+            responds,
             map,
             gate,
             taken_up,
@@ -107,12 +125,12 @@ impl<'a, D: Disk + Drop, G: Gate, R: Threads + Wait + Sync> Worker<'a, D, G, R> 
     }
 
     // Takes a view of the map, and answers by it.
-    fn answer_bulk(&mut self, bulk: &Bulk) -> Result<Reply, Refusal>
+    fn answer_bulk(&mut self, bulk: Bulk) -> Result<Reply, Refusal>
         ensures stripes { self.new.stripes ≡ self.old.stripes }
-        ensures completes { CompletesBulk self.old.stripes self.old.pass bulk.now result self.new.pass }
+        ensures completes { CompletesBulk self.old.stripes self.old.pass bulk result self.new.pass }
     {
         let view = view(self.rt, self.alloc, self.map, &mut self.pass)?;
-        answer_of(self.rt, self.alloc, &view, bulk)
+        self.responds.respond(Task { view, bulk })
     }
 
     // Makes the call of a request.
@@ -123,7 +141,7 @@ impl<'a, D: Disk + Drop, G: Gate, R: Threads + Wait + Sync> Worker<'a, D, G, R> 
         match request {
             Request::Change(command) => self.map.change(self.rt, &mut self.pass, command),
             Request::Read(read) => self.map.read(self.rt, &mut self.pass, read),
-            Request::Bulk(bulk) => self.answer_bulk(&bulk),
+            Request::Bulk(bulk) => self.answer_bulk(bulk),
         }
     }
 
@@ -143,7 +161,7 @@ impl<'a, D: Disk + Drop, G: Gate, R: Threads + Wait + Sync> Worker<'a, D, G, R> 
     }
 }
 
-impl<D: Disk + Drop, G: Gate, R: Threads + Wait + Sync> Calls for Worker<'_, D, G, R> {
+impl<D: Disk + Drop, G: Gate, R: Wait, A: Responds> Calls for Worker<'_, D, G, R, A> {
     type Held = Request;
 
     ghost began = { Defers };
@@ -186,10 +204,10 @@ struct Pool<'a, D: Disk + Drop, G: Gate> {
 }
 
 // Serves a connection to its end, or until its client was idle for too long.
-fn attend<D: Disk + Drop, G: Gate, R: Clock + Threads + Wait + Sync>(
+fn attend<D: Disk + Drop, G: Gate, R: Clock + Wait, A: Responds>(
     rt: &R,
     pool: &Pool<'_, D, G>,
-    worker: &mut Worker<'_, D, G, R>,
+    worker: &mut Worker<'_, D, G, R, A>,
     stream: &TcpStream,
 ) {
     let _ = stream.set_nodelay(true);
@@ -210,8 +228,22 @@ fn attend<D: Disk + Drop, G: Gate, R: Clock + Threads + Wait + Sync>(
 }
 
 // Serves connections until no more come. What befalls a connection ends that one alone.
-fn work<D: Disk + Drop, G: Gate, R: Clock + Threads + Wait + Sync>(rt: &R, pool: &Pool<'_, D, G>) {
-    let Ok(mut worker) = Worker::new(rt, pool.alloc, pool.map, pool.gate, &pool.taken_up) else {
+fn serve_each<D: Disk + Drop, G: Gate, R: Clock + Wait, A: Responds>(
+    rt: &R,
+    pool: &Pool<'_, D, G>,
+    responds: A,
+)
+    requires { RespondsRightly A.is_ready A.replies responds }
+{
+    let made = Worker::new(
+        rt,
+        pool.alloc,
+        responds,
+        pool.map,
+        pool.gate,
+        &pool.taken_up,
+    );
+    let Ok(mut worker) = made else {
         return;
     };
     for _ in rt.forever() {
@@ -221,6 +253,32 @@ fn work<D: Disk + Drop, G: Gate, R: Clock + Threads + Wait + Sync>(rt: &R, pool:
         attend(rt, pool, &mut worker, &stream);
     }
     unreachable!()
+}
+
+// The same, with what finds the replies to requests of the whole map.
+fn serve_each_by<
+    D: Disk + Drop,
+    G: Gate,
+    R: Clock + Wait,
+    F: Fn(Task) -> Result<Reply, Refusal> + Drop,
+>(rt: &R, pool: &Pool<'_, D, G>, by: F)
+    requires callable { F.IsAlwaysCallable by }
+    requires right { (task : _) (answer : _) → F.post by task answer
+        → AnswersOf task.view.map task.bulk answer }
+{
+    serve_each(rt, pool, respond_by(by));
+}
+
+// A worker's thread.
+fn work<D: Disk + Drop, G: Gate, R: Clock + Threads + Wait + Sync>(rt: &R, pool: &Pool<'_, D, G>) {
+    let alloc = pool.alloc;
+    serve_each_by(
+        rt,
+        pool,
+        move |task: Task| -> Result<Reply, Refusal>
+            ensures { AnswersOf task.view.map task.bulk result }
+        { answer_of(rt, alloc, &task) },
+    );
 }
 
 // Hands each connection to the workers.
