@@ -4,3 +4,4 @@ pub mod Nearing
 pub mod Apart
 pub mod Walked
 mod Completing
+mod InTurn

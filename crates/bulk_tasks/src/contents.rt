@@ -32,7 +32,11 @@ impl Model for View {
 
     ghost Value = { ViewState };
 
-    ghost coded = { code_by _ (coded× (coded_list coded_ℕ) (finite.code (coded_list coded_ℕ) value_type.the_row.coded)) (λ s. (s.marks, s.map)) (λ p. record { marks = p.0; map = p.1 }) (λ _. refl) };
+    ghost coded = { code_by _
+        (coded× (coded_list coded_ℕ) (finite.code (coded_list coded_ℕ) value_type.the_row.coded))
+        (λ s. (s.marks, s.map))
+        (λ p. record { marks = p.0; map = p.1 })
+        (λ _. refl) };
 
     ghost view = { λ v. record { marks = v.marks.items; map = finite.from_entries v.entries.items } };
 

@@ -41,7 +41,8 @@ pub fn view<D: Disk + Drop, R: Wait>(
     pass: &mut Pass,
 ) -> Result<View, Refusal>
     requires { IsReady map.now pass.old }
-    ensures completes { CompletesView (stripe_count map.now) (recorded pass.old) result (recorded pass.new) }
+    ensures completes { CompletesView
+        (stripe_count map.now) (recorded pass.old) result (recorded pass.new) }
     ensures ready { IsReady map.now pass.new }
     ensures same { IsSamePass pass.old pass.new }
 {

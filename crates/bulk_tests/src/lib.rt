@@ -7,3 +7,5 @@ mod answers;
 mod maps;
 #[cfg(test)]
 mod steps;
+#[cfg(test)]
+mod waiting;

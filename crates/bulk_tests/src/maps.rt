@@ -8,7 +8,7 @@ use map_types::{Key, Refusal, Value};
 use recovery::{format, open_parts};
 use std::alloc::Global;
 use std::sync::Wait;
-use std::sync::atomic::{AtomicU32, Ordering};
+use std::sync::atomic::{AtomicBool, AtomicU32, Ordering};
 use stripe_locks::Pass;
 
 /// A batch has four device calls, and a turn before them takes up what was changed.
@@ -25,6 +25,30 @@ impl Ends for Turns {
         let left = self.left.load(Ordering::SeqCst);
         self.left.store(left.saturating_sub(1), Ordering::SeqCst);
         left == 0
+    }
+}
+
+/// Ends a loop once a test has made its calls.
+#[derive(Drop)]
+pub(crate) struct Flag {
+    is_up: AtomicBool,
+}
+
+impl Flag {
+    pub(crate) fn new() -> Flag {
+        Flag {
+            is_up: AtomicBool::new(false),
+        }
+    }
+
+    pub(crate) fn raise(&self) {
+        self.is_up.store(true, Ordering::SeqCst);
+    }
+}
+
+impl Ends for Flag {
+    fn has_ended(&self) -> bool {
+        self.is_up.load(Ordering::SeqCst)
     }
 }
 

@@ -32,7 +32,8 @@ pub(crate) fn greatest_mark(captured: &[Captured]) -> u64
 }
 
 fn more(alloc: Global, captured: Vec<Captured>, awaiting: Awaiting) -> Result<Viewed, Refusal>
-    ensures { result ≡ Ok (Viewed.More (record { alloc = alloc; captured = captured; stage = Stage.Awaiting awaiting })) }
+    ensures { result ≡ Ok (Viewed.More
+        (record { alloc = alloc; captured = captured; stage = Stage.Awaiting awaiting })) }
 {
     Ok(Viewed::More(ViewWalk {
         alloc,

@@ -58,7 +58,8 @@ fn capture(
 }
 
 fn more(alloc: Global, captured: Vec<Captured>, stage: Stage) -> Result<Viewed, Refusal>
-    ensures { result ≡ Ok (Viewed.More (record { alloc = alloc; captured = captured; stage = stage })) }
+    ensures { result ≡ Ok (Viewed.More
+        (record { alloc = alloc; captured = captured; stage = stage })) }
 {
     Ok(Viewed::More(ViewWalk {
         alloc,

@@ -1,0 +1,51 @@
+//! A view beside the loop that commits.
+
+use crate::answers::gives;
+use crate::maps::{Flag, open, put};
+use bulk_tasks::view;
+use disk_model::MemDisk;
+use durable_map::{DurableMap, flush_loop};
+use map_types::{Func, Refusal, Value};
+use std::alloc::Global;
+use std::sync::Wait;
+use std::thread::{Threads, join};
+
+// Whether a view, which waits until it is durable, has the one entry of the map.
+fn has_the_entry<R: Threads + Wait + Sync>(
+    rt: &R,
+    map: &DurableMap<MemDisk>,
+    alloc: Global,
+) -> Result<bool, Refusal> {
+    let mut pass = map.pass()?;
+    let view = view(rt, alloc, map, &mut pass)?;
+    Ok(view.mark(1) == Some(1) && gives(rt, &view, Func::Sum, 0, 5))
+}
+
+// The same, and then the loop ends.
+fn view_at_last<R: Threads + Wait + Sync>(
+    rt: &R,
+    map: &DurableMap<MemDisk>,
+    alloc: Global,
+    flag: &Flag,
+) -> Result<bool, Refusal> {
+    let has = has_the_entry(rt, map, alloc);
+    flag.raise();
+    has
+}
+
+// Nothing is committed before both begin.
+#[test]
+fn a_view_waits_until_it_is_durable(rt: HostRuntime) -> Result<(), Refusal> {
+    let alloc = rt.alloc();
+    let map = open(alloc, 16)?;
+    let mut pass = map.pass()?;
+    put(&map, &mut pass, alloc, "a", Value::Int(5))?;
+    let flag = Flag::new();
+    let (_, has) = join(
+        &rt,
+        || flush_loop(&rt, &map, &flag),
+        || view_at_last(&rt, &map, alloc, &flag),
+    );
+    assert!(rt; has?);
+    Ok(())
+}
