@@ -19,7 +19,7 @@ use Rattle.view_walk.specs.Viewing.{greatest_mark, IsDone, IsFailed, IsStarved, 
 use Rattle.bulk_tasks.specs.ViewState.{ViewState}
 use Rattle.bulk_tasks.specs.Parts.{AreParts, marks_of, parts_from}
 use Rattle.bulk_tasks.specs.Laws.{maps_of}
-use Rattle.bulk_tasks.specs.Completing.{AddsView, AnswersView, AreInTurn, Captures, CompletesView, EndsFailed, FindsFailure, greatest_of, LacksMemory, Rising, view_of}
+use Rattle.bulk_tasks.specs.Completing.{AddsView, AnswersView, AreInTurn, Captures, CompletesView, EndsFailed, greatest_of, LacksMemory, Rising, view_of}
 use Rattle.bulk_tasks.proofs.Walked.{views_are_parts}
 
 -- ---- the marks of what was captured
