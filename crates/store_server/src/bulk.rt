@@ -57,11 +57,7 @@ pub struct Task {
 
 /// The reply to a request of the whole map by its view. `UnknownFunction` for a function that reduces
 /// nothing, which no frame names. `NoMemory`, for a key that was found.
-pub(crate) fn answer_of<R: Threads + Sync>(
-    rt: &R,
-    alloc: Global,
-    task: &Task,
-) -> Result<Reply, Refusal>
+pub fn answer_of<R: Threads + Sync>(rt: &R, alloc: Global, task: &Task) -> Result<Reply, Refusal>
     ensures { AnswersOf task.now.view.map task.now.bulk result }
 {
     let view = &task.view;
@@ -89,12 +85,12 @@ pub trait Responds: Drop {
 
 /// Finds replies by a function.
 #[derive(Drop)]
-pub(crate) struct RespondBy<F> {
+pub struct RespondBy<F> {
     by: F,
 }
 
 /// What finds replies by this function.
-pub(crate) fn respond_by<F: Fn(Task) -> Result<Reply, Refusal> + Drop>(by: F) -> RespondBy<F>
+pub fn respond_by<F: Fn(Task) -> Result<Reply, Refusal> + Drop>(by: F) -> RespondBy<F>
     ensures { result.by ≡ by }
 {
     RespondBy { by }

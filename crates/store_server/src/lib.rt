@@ -8,5 +8,6 @@ pub mod server;
 mod server_tests;
 pub mod worker;
 
+pub use bulk::{RespondBy, Responds, Task, answer_of, respond_by};
 pub use server::{ServerWords, serve};
 pub use worker::{Arrivals, Gate, NoGate, Worker, workers};
