@@ -1,4 +1,7 @@
 //! Connections of the running store and of the map in memory.
+ghost use Rattle.store_server.specs.Responding.{RespondsRightly};
+ghost use Rattle.store_server.specs.WholeMap.{AnswersOf};
+
 use crate::cases::Case;
 use crate::directory::{made, new_directory};
 use crate::host::Host;
@@ -8,13 +11,14 @@ use case_lines::{bytes_spelled, hexadecimal};
 use connections::{Calls, ConnectionError, serve_connection};
 use disk_model::{DirDisk, Disk, MemDisk, Unknown};
 use durable_map::{DurableMap, Ends, flush_loop};
+use map_types::{Refusal, Reply};
 use memory_map::Memory;
 use recovery::open_parts;
 use std::alloc::Global;
 use std::sync::Wait;
 use std::sync::atomic::{AtomicBool, AtomicU64, Ordering};
 use std::thread::join;
-use store_server::{NoGate, Worker};
+use store_server::{NoGate, Responds, Task, Worker, answer_of, respond_by};
 
 /// Room for all replies of a case, so that what is written takes no memory.
 const ROOM: usize = 65536;
@@ -107,20 +111,49 @@ pub(crate) fn play_memory<R: AllocGlobal + Print + Wait>(rt: &R, case: &Case<'_>
     }
 }
 
-/// Serves the connections of a case by a worker of the running store, and ends its loop.
-fn work<D: Disk + Drop, R: AllocGlobal + Print + Wait>(
+/// Serves the connections of a case by a worker of the running store.
+fn serve_by<D: Disk + Drop, R: Host, A: Responds>(
     rt: &R,
     map: &DurableMap<D>,
     texts: &[&str],
-    flag: &Flag,
-) -> bool {
+    responds: A,
+) -> bool
+    requires { RespondsRightly A.is_ready A.replies responds }
+{
     let taken_up = AtomicU64::new(0);
-    let served = match Worker::new(rt, map, &NoGate, &taken_up) {
+    match Worker::new(rt, rt.alloc(), responds, map, &NoGate, &taken_up) {
         Ok(mut worker) => serve_each(rt, &mut worker, texts).is_ok(),
         Err(_refusal) => false,
-    };
+    }
+}
+
+/// The same, with what finds the replies to requests of the whole map.
+fn serve_with<D: Disk + Drop, R: Host, F: Fn(Task) -> Result<Reply, Refusal> + Drop>(
+    rt: &R,
+    map: &DurableMap<D>,
+    texts: &[&str],
+    by: F,
+) -> bool
+    requires callable { F.IsAlwaysCallable by }
+    requires right { (task : _) (answer : _) → F.post by task answer
+        → AnswersOf task.view.map task.bulk answer }
+{
+    serve_by(rt, map, texts, respond_by(by))
+}
+
+/// Serves the connections of a case, and ends the loop of the store.
+fn work<D: Disk + Drop, R: Host>(rt: &R, map: &DurableMap<D>, texts: &[&str], flag: &Flag) -> bool {
+    let alloc = rt.alloc();
+    let is_served = serve_with(
+        rt,
+        map,
+        texts,
+        move |task: Task| -> Result<Reply, Refusal>
+            ensures { AnswersOf task.view.map task.bulk result }
+        { answer_of(rt, alloc, &task) },
+    );
     flag.raise();
-    served
+    is_served
 }
 
 /// The running store of a directory with the state of a case.
