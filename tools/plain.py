@@ -225,6 +225,36 @@ class Map:
         return reply
 
 
+def reduced(entries, function):
+    """The values, folded by the function in rising byte order of their keys."""
+    found = None
+    try:
+        for key in sorted(entries, key=str.encode):
+            found = applied(function, found, entries[key])
+    except Fault as fault:
+        return FAULT, fault.args[0]
+    return NOW, found
+
+
+def viewed(entries, method, arguments):
+    """What a view answers of its entries. A threshold changes nothing."""
+    if method == COUNT:
+        return NOW, len(entries)
+    if method == REDUCE:
+        return reduced(entries, arguments[0])
+    _, sought = arguments
+    keys = [key for key, value in entries.items() if type(value) is type(sought) and value == sought]
+    return NOW, min(keys, key=str.encode, default=None)
+
+
+class Running(Map):
+    """A map of one thread that has views."""
+
+    def call(self, request):
+        method, key, arguments = request
+        return super().call(request) if key is not None else viewed(self.entries, method, arguments)
+
+
 def reply_bytes(status, value):
     body = bytes([status]) + value_bytes(value)
     return len(body).to_bytes(2, "big") + body

@@ -8,16 +8,16 @@ ghost use Rattle.flusher.specs.Fitting.{Fits};
 use crate::cases::{Case, asked_in};
 use crate::keepers::commit_all;
 use crate::marks::{begin, end};
-use crate::showing::show_stripes;
+use crate::showing::{show_released, show_stripes};
 use crate::stores::{join, make_each};
 use anyhow::{Result, anyhow};
-use call_text::{Asked, reply_text};
+use call_text::Asked;
 use disk_model::{Disk, MemDisk};
 use flusher::Keeper;
 use map_types::Refusal;
 use std::io;
 use std::sync::Wait;
-use stripe_locks::{Held, Pass, Released, Stripes};
+use stripe_locks::{Held, Pass, Stripes};
 use ticket_order::Steps;
 
 /// Makes the call; it waits for a held stripe, if it is to wait.
@@ -123,16 +123,7 @@ fn release<R: AllocGlobal + Print>(rt: &R, stripes: &Stripes, held: Held) -> Res
     requires held { IsHeldOf stripes.now held }
 {
     let mut pass = stripes.pass()?;
-    match stripes.release(&mut pass, held) {
-        Released::Reply(position, reply) => {
-            let position = position.number();
-            let text = reply_text(rt.alloc(), &reply)?;
-            println!(rt; "reply {position} {text}")?;
-        }
-        Released::NotYet(_) => println!(rt; "not yet")?,
-        Released::Failed => println!(rt; "failed")?,
-    }
-    Ok(())
+    show_released(rt, stripes.release(&mut pass, held))
 }
 
 /// Makes one call, and prints its reply once it is durable.

@@ -1,7 +1,8 @@
 //! The line of a case: `CALL STRIPES | CHANGE | CHANGE > CALLED > CALLED`. The changes make the
-//! state; each text behind a `>` is what is called on it, between the marks.
+//! state; each text behind a `>` is what is called on it, between the marks. Those of a `view` are
+//! reads, which are made behind it.
 use anyhow::{Context, Result, bail};
-use call_text::{Asked, parse_call};
+use call_text::{Asked, Called, parse_call, parse_words};
 use java_hash::StripeCount;
 use map_types::Command;
 use std::alloc::Global;
@@ -45,13 +46,25 @@ pub(crate) fn case_of<'a>(alloc: Global, line: &'a str) -> Result<Case<'a>> {
     })
 }
 
-/// What a text asks of the map.
-pub(crate) fn asked_in(alloc: Global, text: &str) -> Result<Asked> {
+/// The words of a text.
+fn words_in(alloc: Global, text: &str) -> Result<Vec<&str>> {
     let mut words = Vec::new(alloc);
     for word in text.split(' ') {
         words.push(word)?;
     }
+    Ok(words)
+}
+
+/// What a text asks of a key.
+pub(crate) fn asked_in(alloc: Global, text: &str) -> Result<Asked> {
+    let words = words_in(alloc, text)?;
     Ok(parse_call(alloc, words.as_slice())?)
+}
+
+/// What a text asks of a key or of the whole map.
+pub(crate) fn called_in(alloc: Global, text: &str) -> Result<Called> {
+    let words = words_in(alloc, text)?;
+    Ok(parse_words(alloc, words.as_slice())?)
 }
 
 /// The change that a text asks for.

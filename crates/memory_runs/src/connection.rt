@@ -3,17 +3,16 @@ ghost use Rattle.store_server.specs.Responding.{RespondsRightly};
 ghost use Rattle.store_server.specs.WholeMap.{AnswersOf};
 
 use crate::cases::Case;
-use crate::directory::{made, new_directory};
+use crate::directory::running;
 use crate::host::Host;
 use crate::marks::{begin, end};
 use anyhow::{Context, Result, anyhow};
 use case_lines::{bytes_spelled, hexadecimal};
 use connections::{Calls, ConnectionError, serve_connection};
-use disk_model::{DirDisk, Disk, MemDisk, Unknown};
+use disk_model::{Disk, MemDisk};
 use durable_map::{DurableMap, Ends, flush_loop};
 use map_types::{Refusal, Reply};
 use memory_map::Memory;
-use recovery::open_parts;
 use std::alloc::Global;
 use std::sync::Wait;
 use std::sync::atomic::{AtomicBool, AtomicU64, Ordering};
@@ -154,19 +153,6 @@ fn work<D: Disk + Drop, R: Host>(rt: &R, map: &DurableMap<D>, texts: &[&str], fl
     );
     flag.raise();
     is_served
-}
-
-/// The running store of a directory with the state of a case.
-fn running<R: Host>(rt: &R, case: &Case<'_>) -> Result<DurableMap<DirDisk<Unknown>>> {
-    let alloc = rt.alloc();
-    let disk = made(rt, new_directory(rt)?, case)?;
-    let Ok((keeper, parts, first)) = open_parts(alloc, disk, case.stripes) else {
-        return Err(anyhow!("the directory is not opened"));
-    };
-    match DurableMap::new(alloc, keeper, parts, first) {
-        Ok(map) => Ok(map),
-        Err((_disk, refusal)) => Err(anyhow!("refused {refusal}")),
-    }
 }
 
 /// Serves connections over the running store, beside the loop that commits.

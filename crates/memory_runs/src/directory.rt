@@ -5,9 +5,10 @@ use crate::keepers::commit_all;
 use crate::marks::{begin, end};
 use crate::showing::{show_part, show_stripes};
 use crate::stores::{Joined, join, make_each};
-use anyhow::Result;
+use anyhow::{Result, anyhow};
 use atomic_methods::Part;
 use disk_model::{DirDisk, Disk, MemDisk, Unknown};
+use durable_map::DurableMap;
 use flusher::Keeper;
 use java_hash::StripeCount;
 use map_types::Refusal;
@@ -43,6 +44,19 @@ pub(crate) fn made<D: Disk + Drop, R: AllocGlobal + Wait>(
     let mut steps = stripes.at(&mut pass);
     commit_all(rt, &mut keeper, &mut steps)?;
     Ok(keeper.into_disk())
+}
+
+/// The running store of a directory with the state of a case.
+pub(crate) fn running<R: Host>(rt: &R, case: &Case<'_>) -> Result<DurableMap<DirDisk<Unknown>>> {
+    let alloc = rt.alloc();
+    let disk = made(rt, new_directory(rt)?, case)?;
+    let Ok((keeper, parts, first)) = open_parts(alloc, disk, case.stripes) else {
+        return Err(anyhow!("the directory is not opened"));
+    };
+    match DurableMap::new(alloc, keeper, parts, first) {
+        Ok(map) => Ok(map),
+        Err((_disk, refusal)) => Err(anyhow!("refused {refusal}")),
+    }
 }
 
 /// Leaves the directory of a case with its state.

@@ -15,6 +15,7 @@ mod marks;
 mod showing;
 mod stores;
 mod sweeps;
+mod views;
 
 use crate::calls::play_calls;
 use crate::captures::play_captures;
@@ -24,6 +25,7 @@ use crate::directory::{play_formats, play_found, play_leaving, play_opening};
 use crate::growing::play_growing;
 use crate::host::Host;
 use crate::sweeps::play_sweeps;
+use crate::views::{play_questions, play_views};
 use anyhow::{Result, bail};
 use std::{env, fs};
 
@@ -40,6 +42,8 @@ fn play<R: Host>(rt: &R, case: &Case<'_>) -> Result<()> {
         "worker" => play_worker(rt, case),
         "memory" => play_memory(rt, case),
         "growing" => play_growing(rt, case),
+        "view" => play_views(rt, case),
+        "asked_of_view" => play_questions(rt, case),
         _ => bail!("no such call"),
     }
 }

@@ -4,12 +4,12 @@ ghost use Rattle.stripe_locks.specs.Passes.{recorded, IsPassOf};
 
 use anyhow::Result;
 use atomic_methods::Part;
-use call_text::value_word;
+use call_text::{reply_text, value_word};
 use disk_model::Disk;
 use flusher::Keeper;
 use map_types::Refusal;
 use std::io;
-use stripe_locks::{Pass, Stripes};
+use stripe_locks::{Pass, Released, Stripes};
 use ticket_order::{Purpose, Steps, Stripe};
 
 /// More than a batch may have.
@@ -25,6 +25,20 @@ pub(crate) fn show_answer<R: Print>(
         Ok(number) => println!(rt; "{word} {number}"),
         Err(refusal) => println!(rt; "refused {refusal}"),
     }
+}
+
+/// The reply of a call with its position, if it was given out.
+pub(crate) fn show_released<R: AllocGlobal + Print>(rt: &R, released: Released) -> Result<()> {
+    match released {
+        Released::Reply(position, reply) => {
+            let position = position.number();
+            let text = reply_text(rt.alloc(), &reply)?;
+            println!(rt; "reply {position} {text}")?;
+        }
+        Released::NotYet(_) => println!(rt; "not yet")?,
+        Released::Failed => println!(rt; "failed")?,
+    }
+    Ok(())
 }
 
 /// The entries of a part, at the end of a line.
