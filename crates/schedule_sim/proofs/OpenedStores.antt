@@ -13,6 +13,8 @@ use Rattle.atomic_methods.specs.PartState.{PartState}
 use Rattle.one_history.specs.Turns.{maps_of}
 use Rattle.disk_model.specs.Files.{AllCoherent, AreCoherent, Contents, File, Files, IsCoherent, Leaves, MayLeave, at_rest, empty_coherent, now, synced}
 use Rattle.disk_model.specs.Memory.{memory_failures}
+use Rattle.file_pieces.specs.Counting.{Made}
+use Rattle.store_layout.specs.Calls.{opening_calls}
 use Rattle.store_layout.specs.Opening.{Holds, Opened, Refuses, StandsForFront, map_of, prefix_of}
 use Rattle.flusher.specs.declared.keeper.Keeper.{Keeper}
 use Rattle.recovery.specs.LogReading.{RefusesFor, contents_of}
@@ -163,11 +165,12 @@ pub record AreLaws : Type 0 where
 
 pub opened_did : AreLaws → (w : World) (least : ℕ) (stripes : StripeCount) (fails_at : Option ℕ) (calls : ℕ) (old : Traced) (keeper : Keeper Traced) (parts : List PartState) (first : ℕ)
     (entries : Vec MapEntry Global) (life : sim.Life) → IsClosed w least old → names_within fails_at calls ≡ false → length (traced_states old) + calls ≡ length (traced_states keeper.disk)
+    → ((found : Opened) → Holds (contents_of traced_states old) found → Made traced_states (opening_calls found) old keeper.disk)
     → SyncsAndLooks traced_states (λ (traced : Traced). memory_failures traced.disk) traced_honest 4 0 old keeper.disk
     → IsOpenedAs (contents_of traced_states old) stripes.count keeper parts first → map entry_of entries.items ≡ finite.entries (union_of (maps_of parts))
     → ((w' : World) (found : Opened) → IsOpening w' stripes.count found keeper parts → IsLife w' life)
     → DidStore w least (event.Open stripes fails_at) (outcome.Opened calls first entries) (Open life)
-opened_did laws w least stripes fails_at calls old keeper parts first entries life closed none made syncs opened entries_are begins =
+opened_did laws w least stripes fails_at calls old keeper parts first entries life closed none made exact syncs opened entries_are begins =
     let found = opened.found in
     let holds = subst (λ files. Holds (seen_of files) found) (sym closed.files) opened.holds in
     let front : IsFront w least found = laws.front w least (length w.history) found holds (seen_stands w least old closed) in
@@ -187,7 +190,7 @@ opened_did laws w least stripes fails_at calls old keeper parts first entries li
     record {
       found = found;
       meets = meets_open w found stripes fails_at (outcome.Opened calls first entries) closed.life
-          (omega (arith, made, at_least (traced_states old) (traced_states keeper.disk) synced), none, finds);
+          (omega (arith, made, exact found opened.holds), none, finds);
       answers = tt;
       front = front;
       opens = tt;

@@ -6,7 +6,9 @@ ghost use Rattle.one_history.specs.Turns.{opening_of};
 ghost use Rattle.disk_model.specs.Files.{Files};
 ghost use Rattle.disk_model.specs.Fills.{after_stop};
 ghost use Rattle.disk_model.specs.Memory.{memory_failures};
-ghost use Rattle.store_layout.specs.Opening.{Refuses};
+ghost use Rattle.file_pieces.specs.Counting.{Made};
+ghost use Rattle.store_layout.specs.Calls.{opening_calls};
+ghost use Rattle.store_layout.specs.Opening.{Holds, Opened, Refuses};
 ghost use Rattle.flusher.specs.Fitting.{Fits, IsUnused};
 ghost use Rattle.recovery.specs.Dividing.{ArePartsOf};
 ghost use Rattle.recovery.specs.LogReading.{contents_of, RefusesFor};
@@ -126,6 +128,8 @@ fn begun(
     requires start { IsAtStart stripes first keeper }
     ensures did { IfOk result (λ x. (w : World) (least : ℕ) (fails_at : Option ℕ) (old : Traced) → cases.names_within fails_at calls ≡ false
         → length (traced_states old) + calls ≡ length (traced_states keeper.disk)
+        → ((found : Opened) → Holds (contents_of traced_states old) found
+        → Made traced_states (opening_calls found) old keeper.disk)
         → SyncsAndLooks traced_states (λ traced. memory_failures traced.disk) traced_honest 4 0 old keeper.disk
         → IsOpenedAs (contents_of traced_states old) stripes.count keeper parts.items first
         → IsClosed w least old → DidStore w least (event.Open stripes fails_at) x.1 x.0) }

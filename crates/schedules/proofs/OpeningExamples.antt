@@ -1,11 +1,17 @@
 -- A new store is opened.
-use Rattle.std.proofs.Common.{◌≡◌, ℕ, inl, Some, List, [], ◌∷◌, length, map, refl, sym, ap, ◌∙◌, arith}
+use Rattle.std.proofs.Common.{◌≡◌, ℕ, zero, suc, ◌+◌, ◌*◌, inl, None, Some, List, [], ◌∷◌, length, map, refl, sym, ap, ◌∙◌, arith}
+use Rattle.std.proofs.lemmas.List.{length-append}
+use Rattle.std.specs.List.{range_with_len}
 use Rattle.std.specs.FinMap as finite
 use Rattle.std.specs.Ordering.{nat_cmp}
 use Rattle.std.specs.Cmp.Lexicographic.{slice_cmp}
 use Rattle.map_types.specs.declared.texts.Value.{Value}
 use Rattle.map_model.specs.Maps.{Map}
-use Rattle.store_layout.specs.Opening.{Holds, StandsFor, map_of}
+use Rattle.log_records.specs.Layout.{first_layout}
+use Rattle.store_layout.specs.Calls.{checkpoint_calls, logs_calls, opening_calls}
+use Rattle.store_layout.specs.Checkpoints.{entries_bytes, marked_bytes, section_bytes, sections_bytes}
+use Rattle.store_layout.specs.Logs.{header}
+use Rattle.store_layout.specs.Opening.{Holds, StandsFor, empty_section, first_checkpoint, map_of}
 use Rattle.store_layout.specs.OpeningLaws.{FirstIsWhole, FirstStands, OneStanding}
 use Rattle.schedules.specs.declared.outcome.MapEntry.{MapEntry}
 use Rattle.schedules.specs.World.{begun_by, seen_of, start}
@@ -33,11 +39,28 @@ new_map whole stands one =
     let found : StandsFor (seen_of start.files) 0 (map_of new_store) = record { found = new_store; holds = new_holds whole; prefix = refl; map = refl } in
     (one (seen_of start.files) 0 0 (map_of new_store) nothing found (begins_empty whole stands)).1
 
+section_size : length (section_bytes first_layout empty_section) ≡ 12
+unfolding marked_bytes
+section_size =
+    let size : length (entries_bytes first_layout (finite.entries nothing)) ≡ 0 = ap (λ (es : List (List ℕ × Value)). length (entries_bytes first_layout es)) no_entries in
+    omega (arith, size)
+
+body_size : (from count : ℕ) → length (sections_bytes first_layout (map (λ stripe. empty_section) (range_with_len from count))) ≡ 12 * count
+body_size from zero = refl
+body_size from (suc count) =
+    let rest = body_size (from + 1) count in
+    let both = length-append (section_bytes first_layout empty_section) (sections_bytes first_layout (map (λ stripe. empty_section) (range_with_len (from + 1) count))) in
+    omega (arith, rest, both, section_size)
+
+new_store_calls : opening_calls new_store ≡ 12
+unfolding header
+new_store_calls = ap (λ (size : ℕ). 4 + (2 + checkpoint_calls size + logs_calls (first_checkpoint 16) [] None + 1)) (body_size 0 16)
+
 pub new_store_opens : FirstIsWhole → FirstStands → OneStanding → NewStoreOpens
 unfolding start after
-new_store_opens whole stands one stripes entries calls count none most = (
+new_store_opens whole stands one stripes entries calls count none exact = (
   (
-    most,
+    exact ∙ sym new_store_calls,
     refl,
     record {
       holds = new_holds whole;

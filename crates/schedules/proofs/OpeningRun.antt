@@ -59,9 +59,9 @@ module _ (whole : FirstIsWhole) (stands : FirstStands) where
 
   pub opening_is_run : OneStanding → OpeningIsRun
   unfolding start begun_by rows_onto
-  opening_is_run one stripes entries calls count none most =
+  opening_is_run one stripes entries calls count none exact =
       let row : Row = (event.Open stripes None, outcome.Opened calls 0 entries) in
-      let opening = new_store_opens whole stands one stripes entries calls count none most in
+      let opening = new_store_opens whole stands one stripes entries calls count none exact in
       let stays : Stays start 0 row opened 0 = record { within = at_start; left = once_opened; read = read_then } in
       let sound : IsSound (row ∷ []) opened 0 [] =
       next_life_begins [] start [] 0 row.0 row.1 opened refl sound_at_start (record { found = new_store; meets = opening.0; world = sym opening.1 }) stays

@@ -148,13 +148,13 @@ last_row = (event.Step 0, outcome.Stepped (made.Saw 1) (ends.Replied 1 (Was None
 module _ (whole : FirstIsWhole) (stands : FirstStands) (one : OneStanding) (stripes : StripeCount) (entries : Vec MapEntry) (bytes gate : Vec ℕ) (count_is : stripes.count ≡ 16) (none : entries.items ≡ [])
     (is : bytes.items ≡ frame_bytes) (opens : gate.items ≡ 165 ∷ []) where
   open_row : Row
-  open_row = (event.Open stripes None, outcome.Opened 20 0 entries)
+  open_row = (event.Open stripes None, outcome.Opened 12 0 entries)
 
   opened_sound : IsSound (open_row ∷ []) opened 0 []
   unfolding open_row start begun_by
   opened_sound =
-      let opening = new_store_opens whole stands one stripes entries 20 count_is none (omega arith) in
-      next_life_begins [] start [] 0 (event.Open stripes None) (outcome.Opened 20 0 entries) opened refl sound_at_start
+      let opening = new_store_opens whole stands one stripes entries 12 count_is none refl in
+      next_life_begins [] start [] 0 (event.Open stripes None) (outcome.Opened 12 0 entries) opened refl sound_at_start
       (record { found = new_store; meets = opening.0; world = sym opening.1 })
       (record { within = at_start whole stands; left = once_opened whole stands; read = read_then whole stands })
       (record { from_least = omega arith; within = omega arith; map = new_map whole stands one })

@@ -9,6 +9,7 @@ use Rattle.ticket_order.specs.declared.record.Asked.TheVariants.{Changing, Readi
 use Rattle.ticket_order.specs.Records.{ticket_limit}
 use Rattle.disk_model.specs.Files.{AreBytes, Files}
 use Rattle.disk_model.specs.Gates.{IsPlaced}
+use Rattle.store_layout.specs.Calls.{opening_calls}
 use Rattle.store_layout.specs.Checkpoints.{greatest_mark}
 use Rattle.store_layout.specs.Opening.{Opened, Holds, Refuses, map_of, prefix_of}
 use Rattle.store_layout.specs.declared.log_phase.Phase.{Phase}
@@ -352,10 +353,12 @@ pub record Finds (w : World) (found : Opened) (prefix : ℕ) (entries : List Map
   pub prefix_is : prefix ≡ prefix_of found
   pub entries_are : map entry_of entries ≡ finite.entries (map_of found)
 
--- An opening is refused with 9 exactly where the device call that its event names was made, as the last. Else it makes its four syncs and never comes
--- to that call: it finds what the files hold, which the syncs leave as they read; or it is refused as they are, or for want of memory.
+-- An opening is refused with 9 exactly where the device call that its event names was made, as the last. Else it never comes to that call: it finds
+-- what the files hold, which the syncs leave as they read, by the device calls that this takes; or it makes its four syncs, and is refused as the files
+-- are, or for want of memory.
 abbrev pub OpensFiles : World → Opened → Option ℕ → Outcome → Type 0
-OpensFiles w found fails_at (outcome.Opened calls prefix entries) = (4 ≤ calls) × (names_within fails_at calls ≡ false) × Finds w found prefix entries.items
+OpensFiles w found fails_at (outcome.Opened calls prefix entries) =
+    (calls ≡ opening_calls found) × (names_within fails_at calls ≡ false) × Finds w found prefix entries.items
 OpensFiles w found fails_at (outcome.NotOpened calls refusal.Failed) = (1 ≤ calls) × (fails_at ≡ Some calls)
 OpensFiles w found fails_at (outcome.NotOpened calls reason) =
     (4 ≤ calls) × (names_within fails_at calls ≡ false) × ((reason ≡ refusal.NoMemory) ⊎ Refuses (seen_of w.files) reason)

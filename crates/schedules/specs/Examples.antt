@@ -51,14 +51,16 @@ new_store = record { checkpoint = first_checkpoint 16; first = []; second = None
 abbrev pub opened : World
 opened = record { files = synced_below 4 start.files; history = []; life = Some (begun_by 16 new_store) }
 
+-- It takes 12 device calls: four syncs, two heads and the head of the checkpoint that is used, the length and the bytes of its file and of its log,
+-- and the gate of the other checkpoint's file.
 abbrev pub NewStoreOpens : Type 0
-NewStoreOpens = (stripes : StripeCount) (entries : Vec MapEntry) (calls : ℕ) → stripes.count ≡ 16 → entries.items ≡ [] → 4 ≤ calls →
+NewStoreOpens = (stripes : StripeCount) (entries : Vec MapEntry) (calls : ℕ) → stripes.count ≡ 16 → entries.items ≡ [] → calls ≡ 12 →
     Meets start new_store (event.Open stripes None) (outcome.Opened calls 0 entries)
     × (after start new_store (event.Open stripes None) (outcome.Opened calls 0 entries) ≡ opened)
 
 -- This alone is a run.
 abbrev pub OpeningIsRun : Type 0
-OpeningIsRun = (stripes : StripeCount) (entries : Vec MapEntry) (calls : ℕ) → stripes.count ≡ 16 → entries.items ≡ [] → 4 ≤ calls →
+OpeningIsRun = (stripes : StripeCount) (entries : Vec MapEntry) (calls : ℕ) → stripes.count ≡ 16 → entries.items ≡ [] → calls ≡ 12 →
     IsRun (event.Open stripes None ∷ []) (outcome.Opened calls 0 entries ∷ [])
 
 -- ---- a becomes 5
@@ -148,7 +150,7 @@ ChangeIsReleased = (bytes gate : Vec ℕ) → bytes.items ≡ frame_bytes → ga
 -- All of it, from the opening on, is a run.
 abbrev pub schedule_rows : StripeCount → Vec MapEntry → Vec ℕ → Vec ℕ → List Row
 schedule_rows stripes entries bytes gate =
-    (event.Open stripes None, outcome.Opened 20 0 entries) ∷ (staged_rows ++ (written_rows bytes ++ (withheld_rows ++ released_rows gate)))
+    (event.Open stripes None, outcome.Opened 12 0 entries) ∷ (staged_rows ++ (written_rows bytes ++ (withheld_rows ++ released_rows gate)))
 
 abbrev pub ScheduleIsRun : Type 0
 ScheduleIsRun = (stripes : StripeCount) (entries : Vec MapEntry) (bytes gate : Vec ℕ) → stripes.count ≡ 16 → entries.items ≡ [] → bytes.items ≡ frame_bytes

@@ -16,7 +16,7 @@ planned w least old new same closed = record { life = closed.life; files = close
 
 pub returns-else-names_within-clause-did : goal.returns-else-names_within-clause-did
 returns-else-names_within-clause-did c = if_ok c.begun.result _ _ (λ x did w least closed. did w least c.args.fails_at c.plan_opening.new.disk
-    (sym c.names_within.ensures ∙ c.if-names_within.false) (c.in_ok-calls-in-Ok.ensures (traced_states c.plan_opening.new.disk) c.calls-before.ensures) c.in-Ok.ensures.calls (c.in-Ok.ensures.ok tt).1
+    (sym c.names_within.ensures ∙ c.if-names_within.false) (c.in_ok-calls-in-Ok.ensures (traced_states c.plan_opening.new.disk) c.calls-before.ensures) (c.in-Ok.ensures.made tt) c.in-Ok.ensures.calls (c.in-Ok.ensures.ok tt).1
     (planned w least c.args.disk c.plan_opening.new.disk c.plan_opening.ensures closed)) c.begun.ensures.did
 
 pub returns-in_ok-calls-in-Err-clause-did : goal.returns-in_ok-calls-in-Err-clause-did
