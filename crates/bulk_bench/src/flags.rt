@@ -1,0 +1,57 @@
+//! When a loop is to end.
+
+use durable_map::Ends;
+use std::sync::atomic::{AtomicBool, AtomicU32, Ordering};
+
+/// A batch has four device calls, and a turn before them takes up what was changed.
+const TURNS_OF_A_BATCH: u32 = 5;
+
+/// Ends a loop after as many turns as one batch takes.
+#[derive(Drop)]
+pub(crate) struct Turns {
+    left: AtomicU32,
+}
+
+impl Turns {
+    pub(crate) fn of_a_batch() -> Turns {
+        Turns {
+            left: AtomicU32::new(TURNS_OF_A_BATCH),
+        }
+    }
+}
+
+impl Ends for Turns {
+    fn has_ended(&self) -> bool {
+        let left = self.left.load(Ordering::SeqCst);
+        self.left.store(left.saturating_sub(1), Ordering::SeqCst);
+        left == 0
+    }
+}
+
+/// Something that one thread tells the others, once.
+#[derive(Drop)]
+pub(crate) struct Flag {
+    is_up: AtomicBool,
+}
+
+impl Flag {
+    pub(crate) fn new() -> Flag {
+        Flag {
+            is_up: AtomicBool::new(false),
+        }
+    }
+
+    pub(crate) fn raise(&self) {
+        self.is_up.store(true, Ordering::SeqCst);
+    }
+
+    pub(crate) fn is_up(&self) -> bool {
+        self.is_up.load(Ordering::SeqCst)
+    }
+}
+
+impl Ends for Flag {
+    fn has_ended(&self) -> bool {
+        self.is_up()
+    }
+}

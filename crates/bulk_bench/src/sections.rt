@@ -1,0 +1,58 @@
+//! A view step by step, of which the sections are kept.
+ghost use Rattle.std.specs.Prelude.{ℕ, List, IfOk};
+ghost use Rattle.map_model.specs.Maps.{Map};
+ghost use Rattle.durable_map.specs.Maps.{IsReady};
+ghost use Rattle.bulk_tasks.specs.Parts.{AreParts};
+
+use crossbeam_utils::Backoff;
+use disk_model::MemDisk;
+use durable_map::{DurableMap, ViewWalk, Viewed};
+use map_types::Refusal;
+use std::alloc::Global;
+use std::sync::Wait;
+use stripe_locks::Pass;
+use ticket_order::Captured;
+
+// Waits a moment if the step before found this stripe held, or the greatest mark not durable yet.
+fn pause<R: Wait>(
+    rt: &R,
+    map: &DurableMap<MemDisk>,
+    backoff: &Backoff,
+    stripe: Option<usize>,
+    walk: &ViewWalk,
+) {
+    let was_held = stripe.is_some() && walk.stripe_to_take() == stripe;
+    if was_held || walk.position_awaited().is_some() {
+        map.wait_for_view(rt, backoff, walk);
+    } else {
+        backoff.reset();
+    }
+}
+
+/// The sections of a view of the map, once its greatest mark is durable.
+pub(crate) fn sections<R: Wait>(
+    rt: &R,
+    alloc: Global,
+    map: &DurableMap<MemDisk>,
+    pass: &mut Pass,
+) -> Result<Vec<Captured>, Refusal>
+    requires { IsReady map.now pass.old }
+    ensures parts { IfOk result (λ captured.
+        (n : ℕ) × (maps : List Map) × AreParts n 0 captured.items maps) }
+    ensures ready { IsReady map.now pass.new }
+{
+    let backoff = Backoff::new();
+    let mut walk = ViewWalk::new(alloc);
+    for _step in rt.forever() {
+        let stripe = walk.stripe_to_take();
+        match map.view_step(pass, walk) {
+            Ok(Viewed::More(next)) => {
+                pause(rt, map, &backoff, stripe, &next);
+                walk = next;
+            }
+            Ok(Viewed::Done(captured)) => return Ok(captured),
+            Err(refusal) => return Err(refusal),
+        }
+    }
+    unreachable!()
+}
