@@ -71,7 +71,7 @@ pub(crate) fn commit<R: Wait>(rt: &R, map: &DurableMap<MemDisk>) {
     let turns = Turns {
         left: AtomicU32::new(TURNS_OF_A_BATCH),
     };
-    flush_loop(rt, map, &turns);
+    let _end = flush_loop(rt, map, &turns);
 }
 
 /// A put, which isn't committed yet.
