@@ -1,4 +1,4 @@
-use Rattle.stripe_locks.specs.Passes.{recorded, IsSamePass}
+use Rattle.stripe_locks.specs.Passes.{recorded}
 use Rattle.view_walk.specs.Viewing.{Fits}
 use Rattle.durable_map.specs.Maps.{IsPassOf, stripe_count}
 use Rattle.bulk_bench.proofs.sections.sections.Given as goal
