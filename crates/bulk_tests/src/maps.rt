@@ -1,7 +1,7 @@
 //! A running map in memory, whose changes are committed when a test says so.
 ghost use Rattle.durable_map.specs.Maps.{IsReady};
 
-use disk_model::MemDisk;
+use disk_model::{Failure, MemDisk};
 use durable_map::{DurableMap, Ends, flush_loop};
 use java_hash::StripeCount;
 use map_types::{Key, Refusal, Value};
@@ -54,9 +54,25 @@ impl Ends for Flag {
 
 /// A map with no entries.
 pub(crate) fn open(alloc: Global, stripes: u16) -> Result<DurableMap<MemDisk>, Refusal> {
-    let count = StripeCount::new(stripes).ok_or(Refusal::WrongPhase)?;
+    open_over(alloc, stripes, None)
+}
+
+/// A disk that was made that of an empty map.
+fn formatted(alloc: Global, count: StripeCount) -> Result<MemDisk, Refusal> {
     let mut disk = MemDisk::new(alloc);
     format(alloc, &mut disk, count)?;
+    Ok(disk)
+}
+
+/// A map with no entries, over a disk that fails as planned from the opening on.
+pub(crate) fn open_over(
+    alloc: Global,
+    stripes: u16,
+    failure: Option<Failure>,
+) -> Result<DurableMap<MemDisk>, Refusal> {
+    let count = StripeCount::new(stripes).ok_or(Refusal::WrongPhase)?;
+    let mut disk = formatted(alloc, count)?;
+    disk.plan(failure);
     let Ok((keeper, parts, first)) = open_parts(alloc, disk, count) else {
         return Err(Refusal::Failed);
     };

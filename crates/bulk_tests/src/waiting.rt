@@ -1,14 +1,17 @@
-//! A view beside the loop that commits.
+//! Views beside the loop that commits, and after it has failed.
 
 use crate::answers::gives;
-use crate::maps::{Flag, open, put};
+use crate::maps::{Flag, commit, open, open_over, put};
 use bulk_tasks::view;
-use disk_model::MemDisk;
+use disk_model::{Failure, Fill, MemDisk};
 use durable_map::{DurableMap, flush_loop};
 use map_types::{Func, Refusal, Value};
 use std::alloc::Global;
 use std::sync::Wait;
 use std::thread::{Threads, join};
+
+/// The device calls of opening a new directory. The next one writes the first batch.
+const OPENING_CALLS: u64 = 12;
 
 // Whether a view, which waits until it is durable, has the one entry of the map.
 fn has_the_entry<R: Threads + Wait + Sync>(
@@ -47,5 +50,22 @@ fn a_view_waits_until_it_is_durable(rt: HostRuntime) -> Result<(), Refusal> {
         || view_at_last(&rt, &map, alloc, &flag),
     );
     assert!(rt; has?);
+    Ok(())
+}
+
+// It saw a change that can't be committed any more, so it is refused, and doesn't wait.
+#[test]
+fn a_view_of_a_failed_store(rt: HostRuntime) -> Result<(), Refusal> {
+    let alloc = rt.alloc();
+    let failure = Failure {
+        after: OPENING_CALLS,
+        fill: Fill::Old,
+    };
+    let map = open_over(alloc, 16, Some(failure))?;
+    let mut pass = map.pass()?;
+    put(&map, &mut pass, alloc, "a", Value::Int(5))?;
+    commit(&rt, &map);
+    let viewed = view(&rt, alloc, &map, &mut pass);
+    assert!(rt; matches!(viewed, Err(Refusal::Failed)));
     Ok(())
 }
