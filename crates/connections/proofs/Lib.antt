@@ -2,6 +2,7 @@ pub mod Answering
 pub mod Beginning
 pub mod Connections
 pub mod MoveLists
+pub mod Owning
 pub mod Parts
 pub mod Queues
 pub mod Rows

@@ -2,4 +2,5 @@ pub mod Connection
 pub mod Deferred
 pub mod Dialogue
 pub mod Moves
+pub mod Owning
 pub mod Progress

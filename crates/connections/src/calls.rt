@@ -1,6 +1,6 @@
 //! What answers requests.
 
-ghost use Rattle.std.specs.Prelude.{Result};
+ghost use Rattle.std.specs.Prelude.{IfOk, Result};
 ghost use Rattle.map_types.specs.declared.refusals.Refusal.{Refusal};
 ghost use Rattle.wire_frames.specs.declared.requests.Request.{Request};
 ghost use Rattle.connections.specs.Dialogue.{Answer};
@@ -9,7 +9,8 @@ use map_types::{Refusal, Reply};
 use wire_frames::Request;
 
 /// What answers the requests of a connection. Each call is begun, and then finished or given up;
-/// several may be begun before the first of them is finished.
+/// several may be begun before the first of them is finished. What is held of a call is owned by
+/// the state from its `begin` on, whatever is done with other calls.
 pub trait Calls {
     /// What is held of a call that was begun.
     type Held: Drop;
@@ -23,9 +24,14 @@ pub trait Calls {
     // the state before, what was held, the state after
     ghost gave_up: { Self → Self.Held → Self → Type 0 };
 
+    // what is held is of a call that was begun here, and may be finished or given up
+    ghost owns: { Self → Self.Held → Type 0 };
+
     /// Begins a call, or refuses it.
     fn begin(&mut self, request: Request) -> Result<Self::Held, Refusal>
-        ensures { began self.old request result self.new };
+        ensures began { began self.old request result self.new }
+        ensures owned { IfOk result (owns self.new) }
+        ensures others { (other : Self.Held) → owns self.old other → owns self.new other };
 
     /// Whether `finish` will likely answer without a wait. It is a hint, and no clause speaks of
     /// it.
@@ -33,9 +39,13 @@ pub trait Calls {
 
     /// Answers a call that was begun.
     fn finish(&mut self, held: Self::Held) -> Result<Reply, Refusal>
-        ensures { finished self.old held result self.new };
+        requires owned { owns self.old held }
+        ensures finished { finished self.old held result self.new }
+        ensures others { (other : Self.Held) → owns self.old other → owns self.new other };
 
     /// Lets go of a call that was begun and that gets no reply.
     fn give_up(&mut self, held: Self::Held)
-        ensures { gave_up self.old held self.new };
+        requires owned { owns self.old held }
+        ensures gave_up { gave_up self.old held self.new }
+        ensures others { (other : Self.Held) → owns self.old other → owns self.new other };
 }

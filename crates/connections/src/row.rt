@@ -4,6 +4,7 @@ ghost use Rattle.std.specs.Prelude.{◌≡◌, ◌<◌, ◌≤◌, ◌↔◌, []
 ghost use Rattle.std.specs.VecDeque.{deque_len, deque_capacity};
 ghost use Rattle.connections.specs.Dialogue.{ends};
 ghost use Rattle.connections.specs.Moves.{Starts, GivesUp, Makes, Leads};
+ghost use Rattle.connections.specs.Owning.{OwnsPlace, OwnsRow, StillOwns};
 ghost use Rattle.connections.specs.Progress.{BeginsNext, BeginsRow, Finishes, Replied, FinishesRow, AnswersRow};
 
 use crate::calls::Calls;
@@ -42,7 +43,10 @@ fn is_bad_frame(message: &Result<Request, Refusal>) -> bool
 
 /// Begins the call of a message.
 fn place_of<C: Calls>(calls: &mut C, message: Result<Request, Refusal>) -> Place<C::Held>
-    ensures { Makes C.began C.finished C.gave_up calls.old (Starts message result) calls.new }
+    ensures started { Makes C.began C.finished C.gave_up calls.old (Starts message result)
+        calls.new }
+    ensures owned { OwnsPlace C.owns calls.new result }
+    ensures others { StillOwns C.owns calls.old calls.new }
 {
     match message {
         Ok(request) => match calls.begin(request) {
@@ -62,10 +66,12 @@ fn begin_next<C: Calls>(
     // No refused length was met, and the row has room for one more.
     requires opened { feeder.old.ended ≡ false }
     requires room { deque_len row.old < deque_capacity row.old }
+    requires owned { OwnsRow C.owns calls.old row.old.items }
 
     // The message takes its place behind the others, and the row needs no memory.
     ensures begun { BeginsNext C.began C.finished C.gave_up calls.old calls.new
         feeder.old feeder.new row.old.items row.new.items result }
+    ensures owned { OwnsRow C.owns calls.new row.new.items }
     ensures capacity { deque_capacity row.new ≡ deque_capacity row.old }
 {
     match feeder.next() {
@@ -92,6 +98,7 @@ pub(crate) fn begin_row<C: Calls>(
     // The messages take their places in order, and the row needs no memory.
     ensures begun { BeginsRow C.began C.finished C.gave_up calls.old calls.new
         feeder.old feeder.new row.new.items }
+    ensures owned { OwnsRow C.owns calls.new row.new.items }
     ensures capacity { deque_capacity row.new ≡ deque_capacity row.old }
 {
     'messages: while row.len() < MOST_HELD {
@@ -108,8 +115,11 @@ fn finish<W: Write, C: Calls>(
     out: &mut Vec<u8>,
     place: Place<C::Held>,
 ) -> io::Result<Result<Reply, Refusal>>
-    ensures { Finishes C.began C.finished C.gave_up (W.contents writer.old) (W.contents writer.new)
+    requires owned { OwnsPlace C.owns calls.old place }
+    ensures finished { Finishes C.began C.finished C.gave_up
+        (W.contents writer.old) (W.contents writer.new)
         calls.old calls.new place out.old.items out.new.items result }
+    ensures others { StillOwns C.owns calls.old calls.new }
 {
     match place {
         Place::Refused(refusal) => Ok(Err(refusal)),
@@ -132,8 +142,11 @@ fn reply<W: Write, C: Calls>(
     out: &mut Vec<u8>,
     place: Place<C::Held>,
 ) -> io::Result<bool>
-    ensures { Replied C.began C.finished C.gave_up (W.contents writer.old) (W.contents writer.new)
+    requires owned { OwnsPlace C.owns calls.old place }
+    ensures replied { Replied C.began C.finished C.gave_up
+        (W.contents writer.old) (W.contents writer.new)
         calls.old calls.new place out.old.items out.new.items result }
+    ensures others { StillOwns C.owns calls.old calls.new }
 {
     let answer = finish(writer, calls, out, place)?;
     put_reply(writer, out, &answer)?;
@@ -147,10 +160,13 @@ fn finish_row<W: Write, C: Calls>(
     row: &mut VecDeque<Place<C::Held>>,
     out: &mut Vec<u8>,
 ) -> io::Result<bool>
+    requires owned { OwnsRow C.owns calls.old row.old.items }
+
     // The first places are answered, and the others are left in the row.
     ensures finished { FinishesRow C.began C.finished C.gave_up
         (W.contents writer.old) (W.contents writer.new) calls.old calls.new
         row.old.items row.new.items out.old.items out.new.items result }
+    ensures owned { OwnsRow C.owns calls.new row.new.items }
     ensures capacity { deque_capacity row.new ≡ deque_capacity row.old }
 {
     'answers: while let Some(place) = row.pop_front() {
@@ -163,7 +179,9 @@ fn finish_row<W: Write, C: Calls>(
 
 /// Gives up what is in a place.
 fn give_up<C: Calls>(calls: &mut C, place: Place<C::Held>)
-    ensures { Makes C.began C.finished C.gave_up calls.old (GivesUp place) calls.new }
+    requires owned { OwnsPlace C.owns calls.old place }
+    ensures gave_up { Makes C.began C.finished C.gave_up calls.old (GivesUp place) calls.new }
+    ensures others { StillOwns C.owns calls.old calls.new }
 {
     match place {
         Place::Held(held) => calls.give_up(held),
@@ -173,6 +191,8 @@ fn give_up<C: Calls>(calls: &mut C, place: Place<C::Held>)
 
 /// Gives up what is left of the row, in order.
 fn give_up_row<C: Calls>(calls: &mut C, row: &mut VecDeque<Place<C::Held>>)
+    requires owned { OwnsRow C.owns calls.old row.old.items }
+
     // Each place is given up, and the row is empty and keeps its room.
     ensures given { Leads C.began C.finished C.gave_up
         calls.old (map GivesUp row.old.items) calls.new }
@@ -192,7 +212,8 @@ pub(crate) fn answer_row<W: Write, C: Calls>(
     row: &mut VecDeque<Place<C::Held>>,
     out: &mut Vec<u8>,
 ) -> io::Result<bool>
-    requires { out.old.items ≡ [] }
+    requires out_is_empty { out.old.items ≡ [] }
+    requires owned { OwnsRow C.owns calls.old row.old.items }
 
     // The first places are answered and written, and the others are given up.
     ensures answered { AnswersRow C.began C.finished C.gave_up

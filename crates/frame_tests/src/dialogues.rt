@@ -32,6 +32,8 @@ impl Calls for OneValue {
 
     ghost gave_up = { λ _ _ _. Unit {0} };
 
+    ghost owns = { λ _ _. Unit {0} };
+
     fn begin(&mut self, request: Request) -> Result<Request, Refusal> {
         self.held = self.held.wrapping_add(1);
         Ok(request)

@@ -307,6 +307,8 @@ impl<D: Disk + Drop, R: Wait> Calls for Memory<'_, D, R> {
 
     ghost gave_up = { LetsGo };
 
+    ghost owns = { λ _ _. Unit {0} };
+
     // A call is made when it is finished.
     fn begin(&mut self, request: Request) -> Result<Request, Refusal> {
         Ok(request)

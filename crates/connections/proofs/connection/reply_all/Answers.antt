@@ -12,7 +12,7 @@ pub begin_row-requires : goal.begin_row-requires
 begin_row-requires g c = record { opened = c.rows.invariant.1; empty = c.rows.invariant.2; room = c.rows.invariant.4 }
 
 pub answer_row-requires : goal.answer_row-requires
-answer_row-requires g c = c.rows.invariant.3
+answer_row-requires g c = record { out_is_empty = c.rows.invariant.3; owned = c.begin_row.ensures.owned }
 
 pub returns-then-is_empty-clause-turned : goal.returns-then-is_empty-clause-turned
 returns-then-is_empty-clause-turned g c =

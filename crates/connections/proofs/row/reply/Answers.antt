@@ -3,11 +3,11 @@ use Rattle.std.proofs.lemmas.Result.{err_from_is_err_and}
 use Rattle.connections.proofs.Answering.{sent_then, cut_then}
 use Rattle.connections.proofs.row.reply.Goals as goal
 
-pub returns-in_err-put_reply : goal.returns-in_err-put_reply
-returns-in_err-put_reply g c =
+pub returns-in_err-put_reply-clause-replied : goal.returns-in_err-put_reply-clause-replied
+returns-in_err-put_reply-clause-replied g c =
     let from = err_from_is_err_and c.from_residual-in_err-put_reply.result c.from_residual-in_err-put_reply.ensures.1 in
-    rw from.1 (inr (c.in_ok-answer.answer, c.in_ok-answer.ensures.0, cut_then _ _ _ _ _ _ c.in_ok-answer.ensures.1 c.in_err-put_reply.ensures))
+    rw from.1 (inr (c.in_ok-answer.answer, c.in_ok-answer.ensures.finished.0, cut_then _ _ _ _ _ _ c.in_ok-answer.ensures.finished.1 c.in_err-put_reply.ensures))
 
-pub returns : goal.returns
-returns g c =
-    (c.in_ok-answer.answer, c.in_ok-answer.ensures.0, c.ends.ensures, sent_then _ _ _ _ _ _ _ c.in_ok-answer.ensures.1 c.in_ok-put_reply.ensures)
+pub returns-clause-replied : goal.returns-clause-replied
+returns-clause-replied g c =
+    (c.in_ok-answer.answer, c.in_ok-answer.ensures.finished.0, c.ends.ensures, sent_then _ _ _ _ _ _ _ c.in_ok-answer.ensures.finished.1 c.in_ok-put_reply.ensures)
