@@ -2,6 +2,7 @@ pub mod Sent
 pub mod Division
 pub mod Feeding
 pub mod Fronts
+pub mod BulkFrames
 pub mod WholeMap
 pub mod Asked
 pub mod Answered

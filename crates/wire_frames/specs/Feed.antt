@@ -3,7 +3,8 @@ use Rattle.std.specs.Prelude.{◌≡◌, ◌⊎◌, ℕ, true, false, List, ◌+
 use Rattle.map_types.specs.declared.refusals.Refusal.TheVariants.{BadFrame}
 use Rattle.wire_frames.specs.declared.feeder.First.{First}
 use Rattle.wire_frames.specs.declared.feeder.First.TheVariants.{Partial, Refused, Whole}
-use Rattle.wire_frames.specs.Messages.{frame, Message, IsBody, IsPartial, IsRefusedLength, Says}
+use Rattle.wire_frames.specs.Messages.{frame, Message, AsksWholeMap, IsBody, IsPartial, IsRefusedLength, Says}
+use Rattle.wire_frames.specs.Requests.{HasBulkMethod}
 use Rattle.wire_frames.specs.Held.{Feed}
 
 -- what stands at the front of the bytes
@@ -18,3 +19,16 @@ Takes old new message =
     (old.ended ≡ false)
     × ((IsRefusedLength old.left × (message ≡ Err BadFrame) × (new ≡ record { left = old.left; ended = true }))
     ⊎ ((body : List ℕ) × IsBody body × (old.left ≡ frame body ++ new.left) × (new.ended ≡ false) × Says body message))
+
+-- the next whole frame begins with the method of a call of the whole map
+pub record BeginsBulk (feed : Feed) : Type 0 where
+  pub opened : feed.ended ≡ false
+  pub body : List ℕ
+  pub rest : List ℕ
+  pub is_body : IsBody body
+  pub parts : feed.left ≡ frame body ++ rest
+  pub method : HasBulkMethod body
+
+-- a message that asks something of the whole map comes out of such a frame
+abbrev pub WholeMapBeginsBulk : Type 0
+WholeMapBeginsBulk = (old new : Feed) (message : Message) → Takes old new message → AsksWholeMap message → BeginsBulk old

@@ -1,10 +1,12 @@
 -- The division of a stream into request frames, and what each says.
-use Rattle.std.specs.Prelude.{◌≡◌, ◌⊎◌, ℕ, ◌+◌, ◌*◌, ◌<◌, ◌≤◌, List, [], ◌∷◌, ◌++◌, length, Result, Err}
+use Rattle.std.specs.Prelude.{◌≡◌, ◌⊎◌, ℕ, ◌+◌, ◌*◌, ◌<◌, ◌≤◌, List, [], ◌∷◌, ◌++◌, length, Result, Ok, Err}
 use Rattle.std.specs.Int.{w16, to_be_bytes}
 use Rattle.std.specs.List.{flat_map, AllByRecursion, AllZip}
 use Rattle.map_types.specs.declared.refusals.Refusal.{Refusal}
 use Rattle.map_types.specs.declared.refusals.Refusal.TheVariants.{BadFrame, NoMemory}
+use Rattle.wire_frames.specs.declared.requests.Bulk.{Bulk as WholeMap}
 use Rattle.wire_frames.specs.declared.requests.Request.{Request}
+use Rattle.wire_frames.specs.declared.requests.Request.TheVariants.{Bulk}
 use Rattle.wire_frames.specs.Requests.{request_of}
 
 -- a length of two bytes, and that many bytes
@@ -52,6 +54,10 @@ EveryDivision = (stream : List ℕ) → AreBytes stream → (bodies : List (List
 -- a request, or the refusal that stands in its place
 abbrev pub Message : Type 0
 Message = Result Request Refusal
+
+-- the message asks something of the whole map
+abbrev pub AsksWholeMap : Message → Type 0
+AsksWholeMap message = (bulk : WholeMap) × (message ≡ Ok (Bulk bulk))
 
 -- what a frame says: what its bytes say, or that no memory was found to read it
 abbrev pub Says : List ℕ → Message → Type 0

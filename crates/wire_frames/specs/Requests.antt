@@ -49,6 +49,15 @@ bulk_bytes Count = []
 bulk_bytes (Reduce func threshold) = func_number func ∷ threshold_bytes threshold
 bulk_bytes (Search threshold value) = threshold_bytes threshold ++ value_bytes (Some value)
 
+-- a call of the whole map has this method
+abbrev pub IsBulkMethod : ℕ → Type 0
+IsBulkMethod method = (bulk : Bulk) × (method ≡ bulk_number bulk)
+
+-- the bytes begin with the method of a call of the whole map
+abbrev pub HasBulkMethod : List ℕ → Type 0
+HasBulkMethod [] = ⊥
+HasBulkMethod (method ∷ arguments) = IsBulkMethod method
+
 -- of a change its record
 abbrev pub request_bytes : Request → List ℕ
 request_bytes (requests.Read read) =

@@ -1,11 +1,11 @@
 //! Messages out of a stream that comes in pieces.
 
-ghost use Rattle.std.specs.Prelude.{◌≡◌, ◌⊎◌, true, false, [], IfNone, IfSome, OnOk, OnErr};
+ghost use Rattle.std.specs.Prelude.{◌≡◌, ◌⊎◌, ◌↔◌, true, false, [], IfNone, IfSome, IsTrue, OnOk, OnErr};
 ghost use Rattle.wire_frames.specs.Messages.{IsPartial, OneDivision, EveryDivision};
 ghost use Rattle.wire_frames.specs.Held.{fed};
-ghost use Rattle.wire_frames.specs.Feed.{IsFirst, Takes};
+ghost use Rattle.wire_frames.specs.Feed.{BeginsBulk, IsFirst, Takes, WholeMapBeginsBulk};
 
-use crate::requests::{Request, read_request};
+use crate::requests::{Request, has_bulk_method, read_request};
 use map_types::Refusal;
 use std::alloc::{AllocError, Global};
 use std::marker::Model;
@@ -95,6 +95,20 @@ impl Feeder {
         self.held.extend_from_slice(piece)
     }
 
+    /// Whether the next whole frame begins with the method of a request of the whole map. It takes
+    /// nothing.
+    pub fn begins_bulk(&self) -> bool
+        ensures { IsTrue result ↔ BeginsBulk self.now }
+    {
+        if self.ended {
+            return false;
+        }
+        match first_of(&self.held[self.start..]) {
+            First::Partial | First::Refused => false,
+            First::Whole(body, _) => has_bulk_method(body),
+        }
+    }
+
     /// The next message, once a whole frame is there or a length is refused: a frame's request, or
     /// the refusal in its place. A refused length gives `BadFrame`, and then nothing more comes.
     pub fn next(&mut self) -> Option<Result<Request, Refusal>>
@@ -118,6 +132,11 @@ impl Feeder {
         }
     }
 }
+
+/// A request of the whole map is the message of a frame that begins with its method.
+pub fn whole_map_begins_bulk()
+    ensures { WholeMapBeginsBulk }
+{}
 
 /// A stream has one division into request frames and what stands behind them.
 pub fn one_division()

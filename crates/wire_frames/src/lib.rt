@@ -11,7 +11,7 @@ pub mod requests;
 
 pub use answers::{AnswerError, read_answer};
 pub use asking::request_frame;
-pub use feeder::{Feeder, every_division, one_division};
+pub use feeder::{Feeder, every_division, one_division, whole_map_begins_bulk};
 pub use receiving::{ReplyError, read_reply};
 pub use replies::{write_reply, write_whole};
 pub use requests::{Bulk, Request, read_request, requests_agree};

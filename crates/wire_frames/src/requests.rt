@@ -1,8 +1,8 @@
 //! Requests out of the bytes of a frame.
 
-ghost use Rattle.std.specs.Prelude.{◌≡◌};
+ghost use Rattle.std.specs.Prelude.{◌≡◌, ◌↔◌, IsTrue};
 ghost use Rattle.log_records.specs.Reading.{Gives, Reads};
-ghost use Rattle.wire_frames.specs.Requests.{ReadIsSpelled, SpelledIsRead, change_at, get_or_default_at, question_at, reduce_at, reduces, reducing_at, request_at, request_of, search_at};
+ghost use Rattle.wire_frames.specs.Requests.{HasBulkMethod, IsBulkMethod, ReadIsSpelled, SpelledIsRead, change_at, get_or_default_at, question_at, reduce_at, reduces, reducing_at, request_at, request_of, search_at};
 
 use log_records::{
     fields_agree, func_at, key_at, number_at, record_agrees, record_at, some_value_at,
@@ -134,6 +134,31 @@ fn request_at(alloc: Global, bytes: &[u8]) -> Result<(Request, &[u8]), Refusal>
     } else {
         change_at(alloc, bytes)
     }
+}
+
+/// Whether it is the method of a request of the whole map.
+#[tactic(auto, using(crate::proofs::BulkFrames::bulk_methods, crate::proofs::BulkFrames::is_count, crate::proofs::BulkFrames::is_reduce, crate::proofs::BulkFrames::is_search))]
+fn is_bulk_method(method: u8) -> bool
+    ensures { IsTrue result ↔ IsBulkMethod method }
+{
+    if method == COUNT {
+        return true;
+    }
+    if method == REDUCE {
+        return true;
+    }
+    method == SEARCH
+}
+
+/// Whether the bytes of a frame behind its length begin with the method of a request of the whole
+/// map.
+pub(crate) fn has_bulk_method(body: &[u8]) -> bool
+    ensures { IsTrue result ↔ HasBulkMethod body.now }
+{
+    let Some((method, _)) = body.split_first() else {
+        return false;
+    };
+    is_bulk_method(*method)
 }
 
 /// The request that the bytes of a frame behind its length say, or the first refusal that is met
