@@ -10,3 +10,4 @@ pub mod Heads
 pub mod Headers
 pub mod Steps
 mod Finding
+mod GateReads

@@ -1,6 +1,6 @@
 -- What the parts of a scan rest on.
 use Rattle.std.proofs.Common.{◌≡◌, ◌⊎◌, ◌≤◌, ◌<◌, ℕ, ◌+◌, ◌-◌, ◌^◌, max, List, ◌∷◌, ◌++◌, length, take, drop, refl, sym, ap, ap₂, ◌∙◌, append_assoc, arith, inl, inr, get_or, Option, Some, None, IfNone}
-use Rattle.std.proofs.lemmas.List.{take_all, drop_all, append-nil, length-append, length-drop, take-append-drop, drop-drop}
+use Rattle.std.proofs.lemmas.List.{take_all, drop_all, append-nil, length-drop, take-append-drop, drop-drop}
 use Rattle.std.proofs.Math.Seq.{drop-cons, take-append_seam}
 use Rattle.byteorder.specs.Endian.{big_number, big_bytes}
 use Rattle.log_records.specs.Agreement.{IsBytes}

@@ -7,7 +7,7 @@ ghost use Rattle.log_records.specs.Layout.{first_layout};
 ghost use Rattle.store_layout.specs.Logs.{log_file};
 ghost use Rattle.store_layout.specs.Readings.{HasNoFrame};
 ghost use Rattle.gate_log.specs.States.{batch_of};
-ghost use Rattle.gate_log.specs.Scan.{RefusesAt, failed_in};
+ghost use Rattle.gate_log.specs.Scan.{ReadsAtGate, RefusesAt, failed_in};
 ghost use Rattle.gate_log.specs.ScanParts.{HasFrame, FitsAhead, ComesAhead, FitsBatch, IsAtBatch, IsAtEnd, behind_frame, bytes_of};
 
 use crate::parts::{
@@ -129,6 +129,12 @@ impl Place {
         ensures called { OnOk result (ReadsPieces D.states disk.old disk.new reader.old reader.new) }
         ensures tried { OnErr result (ReadsAtMost D.states disk.old disk.new reader.old
             (max (end_of reader.old) reader.old.len)) }
+        ensures within { D.honest disk.new → (size : ℕ) (rest : List ℕ)
+            → Holds (bytes_of D.states disk.old reader.old) reader.old
+            → drop (self.gate + 1) (bytes_of D.states disk.old reader.old) ≡ rest
+            → ReadsAtGate first_layout (165 ∷ rest) size
+            → OnErr result (ReadsAtMost D.states disk.old disk.new reader.old
+            (max (end_of reader.old) (self.gate + size))) }
         ensures holds { D.honest disk.new
             → Holds (bytes_of D.states disk.old reader.old) reader.old
             → Holds (bytes_of D.states disk.old reader.old) reader.new }
@@ -173,6 +179,12 @@ impl Place {
         ensures called { OnOk result (ReadsPieces D.states disk.old disk.new reader.old reader.new) }
         ensures tried { OnErr result (ReadsAtMost D.states disk.old disk.new reader.old
             (max (end_of reader.old) reader.old.len)) }
+        ensures within { D.honest disk.new → (size byte : ℕ) (rest : List ℕ)
+            → Holds (bytes_of D.states disk.old reader.old) reader.old
+            → drop self.gate (bytes_of D.states disk.old reader.old) ≡ byte ∷ rest
+            → ReadsAtGate first_layout (byte ∷ rest) size
+            → OnErr result (ReadsAtMost D.states disk.old disk.new reader.old
+            (max (end_of reader.old) (self.gate + size))) }
         ensures holds { D.honest disk.new
             → Holds (bytes_of D.states disk.old reader.old) reader.old
             → Holds (bytes_of D.states disk.old reader.old) reader.new }

@@ -1,6 +1,6 @@
 //! Reads a log file gate by gate. Every device call is a look, and reads the next piece of the file; one
 //! frame is held at a time.
-ghost use Rattle.std.specs.Prelude.{◌≡◌, ◌⊎◌, ℕ, ◌+◌, ◌<◌, ◌≤◌, ◌^◌, [], List, max, IfOk, IfErr, OnOk, OnErr};
+ghost use Rattle.std.specs.Prelude.{◌≡◌, ◌⊎◌, ℕ, ◌+◌, ◌<◌, ◌≤◌, ◌^◌, [], List, drop, max, IfOk, IfErr, OnOk, OnErr};
 ghost use Rattle.disk_model.specs.Calls.{Looks};
 ghost use Rattle.disk_model.specs.Files.{now};
 ghost use Rattle.file_pieces.specs.Counting.{Made, MadeAtMost, ReadsPieces, ReadsAtMost};
@@ -8,7 +8,7 @@ ghost use Rattle.file_pieces.specs.Pieces.{Holds, end_of, pieces_in};
 ghost use Rattle.log_records.specs.Layout.{Layout, IsLayout, first_layout};
 ghost use Rattle.store_layout.specs.Logs.{Batch, IsClosed, IsEnded, log_file};
 ghost use Rattle.store_layout.specs.Readings.{IsBadHeader, IsBroken, Reading, Reads};
-ghost use Rattle.gate_log.specs.Scan.{ScanState, HasRead, IsFound, IsStill, GoesOn, failed_in, last_gate, log_bytes, RefusesFor};
+ghost use Rattle.gate_log.specs.Scan.{ScanState, HasRead, IsFound, IsStill, GoesOn, ReadsAtGate, failed_in, last_gate, log_bytes, RefusesFor};
 
 use crate::parts::{Ahead, HEAD_BYTES, check_header, file_number};
 use crate::place::Place;
@@ -118,12 +118,17 @@ impl Scan {
         ensures called { OnOk result (ReadsPieces D.states disk.old disk.new self.old.reader self.new.reader) }
         ensures tried { OnErr result (ReadsAtMost D.states disk.old disk.new self.old.reader
             (max (end_of self.old.reader) self.old.reader.len)) }
+        ensures within { D.honest disk.new → (low size : ℕ) (batches : List Batch) → HasRead first_layout low batches self.old (log_bytes D.states disk.old self.old.generation)
+            → ReadsAtGate first_layout (drop self.old.gate (log_bytes D.states disk.old self.old.generation)) size
+            → OnErr result (ReadsAtMost D.states disk.old disk.new self.old.reader (max (end_of self.old.reader) (self.old.gate + size))) }
         ensures found { D.honest disk.new → (low : ℕ) (batches : List Batch) → HasRead first_layout low batches self.old (log_bytes D.states disk.old self.old.generation)
             → IfOk result (IsFound first_layout low batches self.old self.new (log_bytes D.states disk.old self.old.generation)) }
         ensures err { IfErr result (RefusesFor self.old (D.honest disk.new → (low : ℕ) (batches : List Batch)
             → HasRead first_layout low batches self.old (log_bytes D.states disk.old self.old.generation)
             → IsBroken first_layout self.old.generation low batches (log_bytes D.states disk.old self.old.generation))) }
         ensures same { OnErr result (IsStill self.old self.new) }
+        ensures held { D.honest disk.new → (low : ℕ) (batches : List Batch) → HasRead first_layout low batches self.old (log_bytes D.states disk.old self.old.generation)
+            → OnErr result (HasRead first_layout low batches self.new (log_bytes D.states disk.old self.old.generation)) }
     {
         let place = self.place;
         match place.look_ahead(disk, &mut self.reader)? {

@@ -1,4 +1,4 @@
-use Rattle.std.proofs.Common.{◌≡◌, ◌+◌, ◌-◌, ◌<◌, ◌^◌, ℕ, List, drop, take, arith, sym, ap, ◌∙◌, inr}
+use Rattle.std.proofs.Common.{◌≡◌, ◌+◌, ◌-◌, ◌<◌, ◌^◌, ℕ, drop, take, arith, sym, ap, ◌∙◌, inr}
 use Rattle.byteorder.specs.Endian.{big_bytes}
 use Rattle.gate_log.proofs.Heads.{none_end, is_end, number_is}
 use Rattle.gate_log.proofs.Scanning.{body_read}

@@ -1,4 +1,4 @@
-use Rattle.std.proofs.Common.{◌≡◌, ◌+◌, ◌-◌, ◌≤◌, ℕ, List, drop, take, arith, ap, ◌∙◌, inr}
+use Rattle.std.proofs.Common.{◌≡◌, ◌+◌, ◌-◌, ℕ, drop, take, arith, ap, ◌∙◌, inr}
 use Rattle.std.proofs.lemmas.List.{length-drop}
 use Rattle.gate_log.proofs.Heads.{none_cut, none_ahead, has_frame, head_read, comes_ahead}
 use Rattle.gate_log.proofs.place.Place.head.Goals as goal

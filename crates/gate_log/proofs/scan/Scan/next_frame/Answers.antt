@@ -1,15 +1,17 @@
-use Rattle.std.proofs.Common.{◌≡◌, ◌+◌, ℕ, List, length, drop, sym, ap, subst, ◌∙◌, rules}
+use Rattle.std.proofs.Common.{◌≡◌, ◌+◌, ℕ, List, max, length, drop, subst, arith, rules}
 use Rattle.std.proofs.lemmas.Result.{err_from_is_err_and}
 use Rattle.log_records.specs.Layout.{first_layout}
-use Rattle.file_pieces.specs.Pieces.{Holds}
+use Rattle.file_pieces.specs.Counting.{ReadsAtMost}
+use Rattle.file_pieces.specs.Pieces.{Holds, end_of}
 use Rattle.store_layout.specs.Logs.{Batch, IsEnded}
 use Rattle.store_layout.specs.Readings.{IsBroken}
 use Rattle.ticket_order.specs.declared.stripe.Entry.{Entry}
-use Rattle.gate_log.specs.Scan.{HasRead, IsNextBatch, RefusesFor, ScanState, log_bytes}
+use Rattle.gate_log.specs.Scan.{HasRead, IsNextBatch, ReadsAtGate, RefusesFor, ScanState, log_bytes}
 use Rattle.gate_log.specs.ScanParts.{ComesAhead, bytes_of}
 use Rattle.gate_log.proofs.Finding.{same_file, held_there, gate_there, rest_there}
+use Rattle.gate_log.proofs.GateReads.{ends_there}
 use Rattle.gate_log.proofs.Scanning.{refuses_more}
-use Rattle.gate_log.proofs.Steps.{broken_here, ended_here, next_here, moved_on}
+use Rattle.gate_log.proofs.Steps.{at_gate, broken_here, ended_here, next_here, moved_on}
 use Rattle.gate_log.proofs.scan.Scan.next_frame.Goals as goal
 
 pub returns-in_err-look_ahead-clause-err : goal.returns-in_err-look_ahead-clause-err
@@ -102,3 +104,60 @@ returns-in_ok-entries-in-Batch-clause-found g c = λ honest low batches.
     let behind = c.let_go.ensures.holds content (subst (λ (l : List ℕ). Holds l c.look_ahead.new.reader) (same_file states old s file) there) in
     subst (λ (n : ℕ). IsNextBatch first_layout low batches entries s (moved_on s c.in-Batch.len n new) content) count
     (next_here low batches s content read entries c.in-Batch.len ahead.0 at_batch c.in_ok-entries-in-Batch.ensures.fits new behind))
+
+pub returns-in_err-look_ahead-clause-within : goal.returns-in_err-look_ahead-clause-within
+returns-in_err-look_ahead-clause-within g c = λ honest low size batches.
+    let q = err_from_is_err_and c.from_residual.result c.from_residual.ensures.1 in
+    let states = g.D.Disk.states in
+    let old = c.args.disk.now in
+    let s : ScanState = record { generation = c.self.inside.place.generation; gate = c.self.inside.place.gate; expected = c.self.inside.place.expected; reader = c.self.inside.reader } in
+    let file = c.self.invariant.0 in
+    rw q.1
+    (subst (λ (t : ScanState). HasRead first_layout low batches t (log_bytes states old t.generation) → ReadsAtGate first_layout (drop t.gate (log_bytes states old t.generation)) size
+    → ReadsAtMost states old c.look_ahead.new.disk t.reader (max (end_of t.reader) (t.gate + size)))
+    c.self.view_is
+    (λ read reads.
+    let held = held_there states old s file low batches read in
+    let there = gate_there states old s file low batches read in
+    let tail = subst (λ (l : List ℕ). ReadsAtGate first_layout l size) (at_gate low batches s (log_bytes states old s.generation) read) reads in
+    c.in_err-look_ahead.ensures.within honest size read.byte read.rest held there tail))
+
+pub returns-in_err-check_end-in-End-clause-within : goal.returns-in_err-check_end-in-End-clause-within
+returns-in_err-check_end-in-End-clause-within g c = λ honest low size batches.
+    let q = err_from_is_err_and c.from_residual-in_err-check_end-in-End.result c.from_residual-in_err-check_end-in-End.ensures.1 in
+    let states = g.D.Disk.states in
+    let old = c.args.disk.now in
+    let s : ScanState = record { generation = c.self.inside.place.generation; gate = c.self.inside.place.gate; expected = c.self.inside.place.expected; reader = c.self.inside.reader } in
+    let file = c.self.invariant.0 in
+    rw q.1
+    (subst (λ (t : ScanState). HasRead first_layout low batches t (log_bytes states old t.generation) → ReadsAtGate first_layout (drop t.gate (log_bytes states old t.generation)) size
+    → ReadsAtMost states old c.look_ahead.new.disk t.reader (max (end_of t.reader) (t.gate + size)))
+    c.self.view_is
+    (λ read reads.
+    let held = held_there states old s file low batches read in
+    let there = gate_there states old s file low batches read in
+    let tail = subst (λ (l : List ℕ). ReadsAtGate first_layout l size) (at_gate low batches s (log_bytes states old s.generation) read) reads in
+    let ends = ends_there s.gate read.byte read.rest size _ c.in_ok-look_ahead.ensures.fits (c.in_ok-look_ahead.ensures.ahead honest read.byte read.rest held there) tail in
+    let called = c.in_ok-look_ahead.ensures.called in
+    let pieces = c.in_ok-look_ahead.ensures.pieces in
+    omega (arith, ends, called, pieces)))
+
+pub returns-in_err-entries-in-Batch-clause-within : goal.returns-in_err-entries-in-Batch-clause-within
+returns-in_err-entries-in-Batch-clause-within g c = λ honest low size batches.
+    let q = err_from_is_err_and c.from_residual-in_err-entries-in-Batch.result c.from_residual-in_err-entries-in-Batch.ensures.1 in
+    let states = g.D.Disk.states in
+    let old = c.args.disk.now in
+    let s : ScanState = record { generation = c.self.inside.place.generation; gate = c.self.inside.place.gate; expected = c.self.inside.place.expected; reader = c.self.inside.reader } in
+    let file = c.self.invariant.0 in
+    rw q.1
+    (subst (λ (t : ScanState). HasRead first_layout low batches t (log_bytes states old t.generation) → ReadsAtGate first_layout (drop t.gate (log_bytes states old t.generation)) size
+    → ReadsAtMost states old c.look_ahead.new.disk t.reader (max (end_of t.reader) (t.gate + size)))
+    c.self.view_is
+    (λ read reads.
+    let held = held_there states old s file low batches read in
+    let there = gate_there states old s file low batches read in
+    let tail = subst (λ (l : List ℕ). ReadsAtGate first_layout l size) (at_gate low batches s (log_bytes states old s.generation) read) reads in
+    let ends = ends_there s.gate read.byte read.rest size _ c.in_ok-look_ahead.ensures.fits (c.in_ok-look_ahead.ensures.ahead honest read.byte read.rest held there) tail in
+    let called = c.in_ok-look_ahead.ensures.called in
+    let pieces = c.in_ok-look_ahead.ensures.pieces in
+    omega (arith, ends, called, pieces)))
