@@ -48,7 +48,7 @@ module _ {D : Type 0} (states : D → List Files) (failures : D → ℕ) (honest
   }
 
   -- the device call left the log's file so
-  moved : (file : File) → states next ≡ with_file number file start ∷ states disk → (batches staged : List Batch) → Stands log batches staged (start number)
+  pub moved : (file : File) → states next ≡ with_file number file start ∷ states disk → (batches staged : List Batch) → Stands log batches staged (start number)
       → (IsReady log.phase → (content : List ℕ) → MayLeave file content → MayRead log.phase log.ending log batches staged content)
       → AtEachMoment states disk next (IsKept log batches staged start)
   moved file is batches staged stands reads =
@@ -57,7 +57,7 @@ module _ {D : Type 0} (states : D → List Files) (failures : D → ℕ) (honest
         reads = λ ready content left. reads ready content (subst (λ f. MayLeave f content) (with_same number file start) left);
       })
 
-  file_after : (file : File) → states next ≡ with_file number file start ∷ states disk → now (states next) number ≡ file
+  pub file_after : (file : File) → states next ≡ with_file number file start ∷ states disk → now (states next) number ≡ file
   file_after file is = ap (λ (all : List Files). now all number) is ∙ with_same number file start
 
   module _ (call : Call) (due : call_in log.phase log ≡ Some call) (was_honest : honest next → honest disk) where

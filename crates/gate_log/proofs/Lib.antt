@@ -1,6 +1,7 @@
 pub mod RecordLemmas
 pub mod StandingLemmas
 pub mod AdvanceLemmas
+pub mod AheadLemmas
 pub mod CallLemmas
 pub mod CommitLemmas
 pub mod Scanning

@@ -3,3 +3,4 @@ pub mod Standing
 pub mod Advancing
 pub mod Scan
 pub mod ScanParts
+pub mod Ahead
