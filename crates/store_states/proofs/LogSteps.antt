@@ -17,7 +17,7 @@ use Rattle.gate_log.specs.Standing as log
 use Rattle.store_layout.specs.declared.log_phase.Phase.{Phase}
 use Rattle.store_layout.specs.declared.log_phase.Phase.TheVariants.{Idle, Header, HeaderWritten, Staged, Written, Synced, Opened as log_opened}
 use Rattle.gate_log.specs.States.{LogState, log_after}
-use Rattle.store_states.specs.Laws.{EndStepsOn, LogEnds, LogStepsOn, NextIsReady, NextStepsOn, stepped}
+use Rattle.store_states.specs.Laws.{EndStepsOn, LogEnds, LogStays, LogStepsOn, NextIsReady, NextStepsOn, stepped}
 use Rattle.store_states.specs.States.{StoreState, Held, low_after, newest_batches, with_batches}
 use Rattle.store_states.specs.Standing.{Follows, HasEnded, HasNextLog, IsReached, IsSealedIn, IsTurn, IsUnderWay, LogsStand, MayCapture, NextLogIsOf, NextStands, Stands, WriterStands}
 use Rattle.store_states.proofs.Contents.{commands_append}
@@ -153,6 +153,9 @@ is_not_idle phase from is other idle = other (sym is ∙ idle)
 
 not_ready : (phase from : Phase) → phase ≡ from → log.IsReady phase → log.IsReady from
 not_ready phase from is ready = subst log.IsReady is ready
+
+pub log_stays : LogStays
+log_stays h store held start file stands stand = log_moved h store held start file stands store.log refl refl refl refl stands.kept.ready (λ phase turn. turn) stand
 
 pub end_steps_on : EndStepsOn
 end_steps_on h store held next start file stands follows idle other is = by_phase store.log.phase refl is

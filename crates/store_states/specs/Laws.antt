@@ -99,6 +99,12 @@ LogStepsOn = (h : History) (store : StoreState) (held : Held) (start : Files) (f
     (staged_after store.log.phase held.staged) file
     → Stands h (record store { log = log_after store.log.phase store.log }) (stepped store.log.phase held) (with_file (log_file store.log.generation) file start)
 
+-- the newest log's file changes where the log doesn't rest on it
+abbrev pub LogStays : Type 0
+LogStays = (h : History) (store : StoreState) (held : Held) (start : Files) (file : File) → Stands h store held start
+    → log.Stands store.log (newest_batches held.found.first held.found.second) held.staged file
+    → Stands h store held (with_file (log_file store.log.generation) file start)
+
 -- the header of the log that follows is written
 abbrev pub NextStepsOn : Type 0
 NextStepsOn = (h : History) (store : StoreState) (held : Held) (next : LogState) (start : Files) (file : File) → Stands h store held start

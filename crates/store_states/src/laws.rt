@@ -1,5 +1,5 @@
 //! Laws of stores, each as the contract of a function.
-ghost use Rattle.store_states.specs.Laws.{BatchIsStaged, CheckpointBegins, CheckpointIsSealed, CommittedAreFound, EndStepsOn, LogEnds, LogStepsOn, LogStepsStop, NextIsReady, NextStepsOn, NextStepsStop, OpenedStands, RotationBegins, SealBegins, SectionIsGiven, StandingStays, StopsUseCheckpoint, StoresStop, WriterStepsOn, WriterStepsStop};
+ghost use Rattle.store_states.specs.Laws.{BatchIsStaged, CheckpointBegins, CheckpointIsSealed, CommittedAreFound, EndStepsOn, LogEnds, LogStays, LogStepsOn, LogStepsStop, NextIsReady, NextStepsOn, NextStepsStop, OpenedStands, RotationBegins, SealBegins, SectionIsGiven, StandingStays, StopsUseCheckpoint, StoresStop, WriterStepsOn, WriterStepsStop};
 
 use checkpoint_file::stops_of_a_checkpoint;
 use gate_log::stops_of_a_log;
@@ -39,6 +39,7 @@ pub fn beginnings_of_stores()
 pub fn steps_of_logs()
     ensures staged { BatchIsStaged }
     ensures log { LogStepsOn }
+    ensures stays { LogStays }
     ensures next { NextStepsOn }
     ensures ready { NextIsReady }
     ensures end { EndStepsOn }
