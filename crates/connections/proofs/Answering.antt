@@ -41,6 +41,22 @@ cut_nil w0 w1 bytes p = subst (λ (x : List ℕ). Cut w0 w1 x) (sym (append-nil 
 pub cut_of_nil : (w0 w1 : Option (List ℕ)) (bytes : List ℕ) → Cut w0 w1 (bytes ++ []) → Cut w0 w1 bytes
 cut_of_nil w0 w1 bytes p = subst (λ (x : List ℕ). Cut w0 w1 x) (append-nil bytes) p
 
+-- what was left is written in its turn, whole or in part
+pub sent_on : (w0 w1 w2 : Option (List ℕ)) (bytes left after : List ℕ) → Sent w0 w1 bytes left → Sent w1 w2 left after → Sent w0 w2 bytes after
+sent_on w0 w1 w2 bytes left after p q =
+    (p.0 ++ q.0, Appends-then w0 w1 w2 p.0 q.0 p.1 q.1, p.2 ∙ ap (λ (x : List ℕ). p.0 ++ x) q.2 ∙ sym (append_assoc p.0 q.0 after))
+
+pub cut_on : (w0 w1 w2 : Option (List ℕ)) (bytes left : List ℕ) → Sent w0 w1 bytes left → Cut w1 w2 left → Cut w0 w2 bytes
+cut_on w0 w1 w2 bytes left p q = cut_of_nil w0 w2 bytes (cut_then w0 w1 w2 bytes left [] p (cut_nil w1 w2 left q))
+
+-- all bytes are left, or all are written
+pub sends_none : (w : Option (List ℕ)) (bytes : List ℕ) → Sent w w bytes bytes
+sends_none w bytes = ([], Appends-nil w, refl)
+
+pub sends_all : {X E : Type 0} (w0 w1 : Option (List ℕ)) (bytes left : List ℕ) (result : Result X E) → Writes w0 w1 result bytes → left ≡ [] → Sends w0 w1 bytes left result
+sends_all w0 w1 bytes left (Ok x) p none = (bytes, p, sym (append-nil bytes) ∙ ap (λ (x : List ℕ). bytes ++ x) (sym none))
+sends_all w0 w1 bytes left (Err e) p none = p
+
 -- what is cut is cut before more bytes too
 pub cut_more : (w0 w1 : Option (List ℕ)) (bytes more : List ℕ) → Cut w0 w1 bytes → Cut w0 w1 (bytes ++ more)
 cut_more w0 w1 bytes more p =

@@ -1,23 +1,35 @@
 -- A row whose messages take their places.
-use Rattle.std.proofs.Common.{◌≡◌, ◌≢◌, ◌<◌, ◌≤◌, Bool, true, false, List, [], ◌∷◌, ◌++◌, length, Result, Err, refl, sym, ap, subst, ◌∙◌, arith, inl, inr}
+use Rattle.std.proofs.Common.{◌≡◌, ◌≢◌, ◌⊎◌, ◌<◌, ◌≤◌, ◌+◌, suc, Bool, true, false, List, [], ◌∷◌, ◌++◌, length, Result, Err, refl, sym, ap, subst, ◌∙◌, append_assoc, arith, inl, inr}
 use Rattle.std.specs.List.{AllByRecursion}
-use Rattle.std.proofs.lemmas.List.{map-append, length-append}
+use Rattle.std.proofs.lemmas.List.{append-nil, map-append, length-append}
 use Rattle.map_types.specs.declared.refusals.Refusal.{Refusal}
 use Rattle.map_types.specs.declared.refusals.Refusal.TheVariants.{BadFrame}
 use Rattle.wire_frames.specs.declared.requests.Request.{Request}
-use Rattle.wire_frames.specs.Messages.{Message, Begins, FirstMessages}
-use Rattle.wire_frames.specs.Feed.{Takes}
+use Rattle.wire_frames.specs.Messages.{Message, AsksWholeMap, Begins, FirstMessages, IsPartial}
+use Rattle.wire_frames.specs.Feed.{BeginsBulk, Takes}
 use Rattle.wire_frames.specs.Held.{Feed}
 use Rattle.connections.specs.declared.row.Place.{Place}
 use Rattle.connections.specs.Dialogue.{Answer}
-use Rattle.connections.specs.Moves.{Move, Starts, Stops, Makes, Leads}
-use Rattle.connections.specs.Progress.{BeginsNext, BeginsRow, begin_moves, messages_in, places_in}
+use Rattle.connections.specs.Moves.{Move, Starts, IsRow, Stops, Makes, Leads}
+use Rattle.connections.specs.Progress.{BeginsNext, BeginsRow, Gives, begin_moves, messages_in, places_in}
 use Rattle.connections.proofs.Streams.{begins_none, begins_one, begins_then, first_then}
 use Rattle.connections.proofs.MoveLists.{leads_then}
 
 -- no message is refused with `BadFrame`
 abbrev pub NoneBad : List Message → Type 0
 NoneBad messages = AllByRecursion (λ m. m ≢ Err BadFrame) messages
+
+-- no message asks something of the whole map
+abbrev pub NoneWhole : List Message → Type 0
+NoneWhole messages = AllByRecursion (λ m. AsksWholeMap m → ⊥) messages
+
+none_whole_more : (messages : List Message) (message : Message) → NoneWhole messages → (AsksWholeMap message → ⊥) → NoneWhole (messages ++ message ∷ [])
+none_whole_more [] message all one = (one, tt)
+none_whole_more (m ∷ messages) message all one = (all.0, none_whole_more messages message all.1 one)
+
+some_messages : (messages : List Message) (message : Message) → messages ++ message ∷ [] ≡ [] → ⊥
+some_messages [] message e = cc
+some_messages (m ∷ messages) message e = cc
 
 none_bad_more : (messages : List Message) (message : Message) → NoneBad messages → message ≢ Err BadFrame → NoneBad (messages ++ message ∷ [])
 none_bad_more [] message all one = (one, tt)
@@ -32,6 +44,14 @@ takes_first : (old new : Feed) (message : Message) → Takes old new message →
 takes_first old new message (on, inl t) = inr ([], old.left, begins_none old.left, t.0, ap (λ (x : Message). x ∷ []) t.1)
 takes_first old new message (on, inr t) = inl (new.left, begins_one old.left new.left t.0 message t.1 t.2 t.4)
 
+-- whether another message may follow, as the frame says
+pub ends_so : (message : Message) (is_bulk : Bool) (feed : Feed) → (is_bulk ≡ true → BeginsBulk feed) → (message ≡ Err BadFrame) ⊎ ((message ≢ Err BadFrame) × (is_bulk ≡ true)) → (message ≡ Err BadFrame) ⊎ ((message ≢ Err BadFrame) × BeginsBulk feed)
+ends_so message is_bulk feed says (inl bad) = inl bad
+ends_so message is_bulk feed says (inr bulk) = inr (bulk.0, says bulk.1)
+
+pub goes_so : (message : Message) (is_bulk : Bool) → (AsksWholeMap message → is_bulk ≡ true) → (message ≢ Err BadFrame) × (is_bulk ≡ false) → (message ≢ Err BadFrame) × (AsksWholeMap message → ⊥)
+goes_so message is_bulk says on = (on.0, λ asks. let no : true ≡ false = sym (says asks) ∙ on.1 in cc)
+
 module _ {H : Type 0} where
   stops_more : (begun : List (Message × Place H)) (message : Message) (place : Place H) → NoneBad (messages_in begun) → Stops (begin_moves (begun ++ (message, place) ∷ []))
   stops_more [] message place all = (λ h. refl, tt)
@@ -40,6 +60,25 @@ module _ {H : Type 0} where
   stops_good : (begun : List (Message × Place H)) → NoneBad (messages_in begun) → Stops (begin_moves begun)
   stops_good [] all = tt
   stops_good (one ∷ begun) all = (λ h. absurd (all.0 h), stops_good begun all.1)
+
+  length-places : (begun : List (Message × Place H)) → length (places_in begun) ≡ length begun
+  length-places [] = refl
+  length-places (one ∷ begun) = ap suc (length-places begun)
+
+  -- messages that ask nothing of the whole map take their places, and then another does; one of the whole map is alone
+  begins_row : (before : List (Place H)) (begun : List (Message × Place H)) → length before + length begun ≤ 64 → NoneWhole (messages_in begun) → IsRow before (begin_moves begun) (before ++ places_in begun)
+  begins_row before [] few none = append-nil before
+  begins_row before (one ∷ begun) few none =
+      let more = length-append before (one.1 ∷ []) in
+      let rest = begins_row (before ++ one.1 ∷ []) begun (omega arith) none.1 in
+      (omega arith, λ asks. absurd (none.0 asks), subst (λ (x : List (Place H)). IsRow (before ++ one.1 ∷ []) (begin_moves begun) x) (append_assoc before (one.1 ∷ []) (places_in begun)) rest)
+
+  begins_row_more : (before : List (Place H)) (begun : List (Message × Place H)) (last : Message × Place H) → length before + length begun < 64 → NoneWhole (messages_in begun) → (AsksWholeMap last.0 → before ++ places_in begun ≡ []) → IsRow before (begin_moves (begun ++ last ∷ [])) (before ++ places_in (begun ++ last ∷ []))
+  begins_row_more before [] last few none alone = (omega arith, λ asks. (sym (append-nil before) ∙ alone asks, tt), refl)
+  begins_row_more before (one ∷ begun) last few none alone =
+      let more = length-append before (one.1 ∷ []) in
+      let rest = begins_row_more (before ++ one.1 ∷ []) begun last (omega arith) none.1 (λ asks. append_assoc before (one.1 ∷ []) (places_in begun) ∙ alone asks) in
+      (omega arith, λ asks. absurd (none.0 asks), subst (λ (x : List (Place H)). IsRow (before ++ one.1 ∷ []) (begin_moves (begun ++ last ∷ [])) x) (append_assoc before (one.1 ∷ []) (places_in (begun ++ last ∷ []))) rest)
 
   none_taken : (begun : List (Message × Place H)) → messages_in begun ≡ [] → places_in begun ≡ []
   none_taken [] e = refl
@@ -52,16 +91,24 @@ module _ {S H : Type 0} (began : S → Request → Result H Refusal → S → Ty
     pub few : length row ≤ 64
     pub leads : Leads began finished gave_up s0 (begin_moves begun) s1
     pub good : NoneBad (messages_in begun)
+    pub single : NoneWhole (messages_in begun)
     pub taken : Begins old.left (messages_in begun) new.left
     pub opened : new.ended ≡ false
 
   pub beginning_none : (s : S) (feed : Feed) (row : List (Place H)) → row ≡ [] → feed.ended ≡ false → Beginning s s feed feed row []
-  beginning_none s feed row e on = record { places = e; few = rw e (omega arith); leads = refl; good = tt; taken = begins_none feed.left; opened = on }
+  beginning_none s feed row e on = record { places = e; few = rw e (omega arith); leads = refl; good = tt; single = tt; taken = begins_none feed.left; opened = on }
+
+  in_row_of : (s0 s1 : S) (old new : Feed) (row : List (Place H)) (begun : List (Message × Place H)) → Beginning s0 s1 old new row begun → IsRow [] (begin_moves begun) row
+  in_row_of s0 s1 old new row begun p =
+      let few = p.few in
+      let count = length-places begun in
+      let size = ap (λ (x : List (Place H)). length x) p.places in
+      subst (λ (x : List (Place H)). IsRow [] (begin_moves begun) x) (sym p.places) (begins_row [] begun (omega arith) p.single)
 
   -- the row is full
   pub begins_full : (s0 s1 : S) (old new : Feed) (row : List (Place H)) (begun : List (Message × Place H)) → 64 ≤ length row → Beginning s0 s1 old new row begun → BeginsRow began finished gave_up s0 s1 old new row
   begins_full s0 s1 old new row begun full p =
-      (begun, p.places, p.few, p.leads, stops_good begun p.good, inl (p.opened, p.taken, λ h. let none = ap (λ (x : List (Place H)). length x) (p.places ∙ none_taken begun h) in absurd (omega arith)))
+      (begun, p.places, in_row_of s0 s1 old new row begun p, p.leads, stops_good begun p.good, inl (p.opened, p.taken, λ h. let none = ap (λ (x : List (Place H)). length x) (p.places ∙ none_taken begun h) in absurd (omega arith)))
 
   module _ (s0 s1 s2 : S) (old mid new : Feed) (row after : List (Place H)) (begun : List (Message × Place H)) (p : Beginning s0 s1 old mid row begun) where
     begun_more : (message : Message) (place : Place H) → Makes began finished gave_up s1 (Starts message place) s2 → after ≡ row ++ place ∷ [] → Leads began finished gave_up s0 (begin_moves (begun ++ (message, place) ∷ [])) s2 × (after ≡ places_in (begun ++ (message, place) ∷ []))
@@ -77,7 +124,7 @@ module _ {S H : Type 0} (began : S → Request → Result H Refusal → S → Ty
     begins_more room is_last e (inr q) =
         let message = q.0 in
         let place = q.1 in
-        let good = q.6 e in
+        let good = (q.7 e).0 in
         let takes = open_takes mid new message q.2 good in
         let both = begun_more message place q.3 q.4 in
         let one : List (Message × Place H) = (message, place) ∷ [] in
@@ -90,6 +137,7 @@ module _ {S H : Type 0} (began : S → Request → Result H Refusal → S → Ty
             few = omega arith;
             leads = both.0;
             good = subst (λ (x : List Message). NoneBad x) (sym messages) (none_bad_more (messages_in begun) message p.good good);
+            single = subst (λ (x : List Message). NoneWhole x) (sym messages) (none_whole_more (messages_in begun) message p.single (q.7 e).1);
             taken = subst (λ (x : List Message). Begins old.left x new.left) (sym messages) (begins_then old.left mid.left new.left (messages_in begun) (message ∷ []) p.taken takes.1);
             opened = takes.0;
           },
@@ -98,13 +146,26 @@ module _ {S H : Type 0} (began : S → Request → Result H Refusal → S → Ty
     -- no more is to take its place
     pub begins_last : length row < 64 → (is_last : Bool) → is_last ≡ true → BeginsNext began finished gave_up s1 s2 mid new row after is_last → BeginsRow began finished gave_up s0 s2 old new after
     begins_last room is_last e (inl q) =
-        (begun, q.3 ∙ p.places, rw q.3 p.few, rw q.4 p.leads, stops_good begun p.good, inl (rw q.1 p.opened, rw q.1 p.taken, λ h. q.2))
+        (begun, q.3 ∙ p.places, rw q.3 (in_row_of s0 s1 old mid row begun p), rw q.4 p.leads, stops_good begun p.good, inl (rw q.1 p.opened, rw q.1 p.taken, λ h. partial (p.places ∙ none_taken begun h) q.2))
+      where
+        partial : row ≡ [] → IsPartial new.left ⊎ ((row ≢ []) × BeginsBulk mid) → IsPartial new.left
+        partial none (inl is) = is
+        partial none (inr some) = absurd (some.0 none)
     begins_last room is_last e (inr q) =
         let message = q.0 in
         let place = q.1 in
         let both = begun_more message place q.3 q.4 in
         let one : List (Message × Place H) = (message, place) ∷ [] in
         let messages : messages_in (begun ++ one) ≡ messages_in begun ++ message ∷ [] = map-append _ begun one in
-        let count = length-append row (place ∷ []) in
-        let size = ap (λ (x : List (Place H)). length x) q.4 in
-        (begun ++ one, both.1, omega arith, both.0, stops_more begun message place p.good, inr (subst (λ (x : List Message). FirstMessages old.left x) (sym messages) (first_then old.left mid.left (messages_in begun) (message ∷ []) p.taken (takes_first mid new message q.2)), (messages_in begun, messages ∙ ap (λ (x : Message). messages_in begun ++ x ∷ []) (q.5 e))))
+        let count = length-places begun in
+        let size = ap (λ (x : List (Place H)). length x) p.places in
+        let in_row = begins_row_more [] begun (message, place) (omega (arith, room)) p.single (λ asks. sym p.places ∙ q.5 asks) in
+        (begun ++ one, both.1, subst (λ (x : List (Place H)). IsRow [] (begin_moves (begun ++ one)) x) (sym both.1) in_row, both.0, stops_more begun message place p.good, ended messages (q.6 e))
+      where
+        -- a bad frame is the last message; behind one of the whole map the feeder goes on
+        ended : messages_in (begun ++ (q.0, q.1) ∷ []) ≡ messages_in begun ++ q.0 ∷ [] → (q.0 ≡ Err BadFrame) ⊎ ((q.0 ≢ Err BadFrame) × BeginsBulk mid) → Gives old new (messages_in (begun ++ (q.0, q.1) ∷ []))
+        ended messages (inl bad) =
+            inr (subst (λ (x : List Message). FirstMessages old.left x) (sym messages) (first_then old.left mid.left (messages_in begun) (q.0 ∷ []) p.taken (takes_first mid new q.0 q.2)), (messages_in begun, messages ∙ ap (λ (x : Message). messages_in begun ++ x ∷ []) bad))
+        ended messages (inr bulk) =
+            let takes = open_takes mid new q.0 q.2 bulk.0 in
+            inl (takes.0, subst (λ (x : List Message). Begins old.left x new.left) (sym messages) (begins_then old.left mid.left new.left (messages_in begun) (q.0 ∷ []) p.taken takes.1), λ h. absurd (some_messages (messages_in begun) q.0 (sym messages ∙ h)))

@@ -1,20 +1,37 @@
 -- Moves behind moves.
-use Rattle.std.proofs.Common.{◌≡◌, ◌+◌, true, false, List, [], ◌∷◌, ◌++◌, length, Option, Some, Result, Ok, Err, refl, sym, ap, subst, ◌∙◌, arith}
+use Rattle.std.proofs.Common.{◌≡◌, ◌⊎◌, ◌+◌, true, false, List, [], ◌∷◌, ◌++◌, length, Option, Some, Result, Ok, Err, refl, sym, ap, subst, ◌∙◌, arith, inl, inr}
 use Rattle.std.proofs.lemmas.List.{length-append}
 use Rattle.map_types.specs.declared.refusals.Refusal.{Refusal}
 use Rattle.wire_frames.specs.declared.requests.Request.{Request}
 use Rattle.wire_frames.specs.Messages.{Message}
 use Rattle.connections.specs.declared.row.Place.{Place}
 use Rattle.connections.specs.Dialogue.{Answer, Call}
-use Rattle.connections.specs.Moves.{Move, Starts, Answers, GivesUp, IsRow, Stops, messages_of, outcomes, left_answer, calls_of, Leads, Runs}
+use Rattle.connections.specs.Moves.{Move, Starts, Answers, GivesUp, StartsNone, IsRow, Stops, messages_of, outcomes, left_answer, calls_of, Leads, Runs}
 use Rattle.connections.specs.Progress.{IsSteady}
 
 module _ {H : Type 0} where
-  pub row_then : (a b c : List (Place H)) (ms ns : List (Move H)) → IsRow a ms b → IsRow b ns c → IsRow a (ms ++ ns) c
-  row_then a b c [] ns p q = subst (λ (x : List (Place H)). IsRow x ns c) p q
-  row_then a b c (Starts m place ∷ ms) ns p q = (p.0, row_then (a ++ place ∷ []) b c ms ns p.1 q)
-  row_then a b c (Answers place answer ∷ ms) ns p q = (p.0, p.1, row_then p.0 b c ms ns p.2 q)
-  row_then a b c (GivesUp place ∷ ms) ns p q = (p.0, p.1, row_then p.0 b c ms ns p.2 q)
+  starts_none_then : (ms ns : List (Move H)) → StartsNone ms → (ms ≡ [] → StartsNone ns) → StartsNone (ms ++ ns)
+  starts_none_then [] ns p q = q refl
+  starts_none_then (Starts m place ∷ ms) ns p q = absurd p
+  starts_none_then (Answers place answer ∷ ms) ns p q = tt
+  starts_none_then (GivesUp place ∷ ms) ns p q = tt
+
+  -- where a place was taken last the row isn't empty
+  taken_last : (a b : List (Place H)) (place : Place H) (ms ns : List (Move H)) → (b ≡ []) ⊎ StartsNone ns → IsRow (a ++ place ∷ []) ms b → ms ≡ [] → StartsNone ns
+  taken_last a b place ms ns (inr none) p e = none
+  taken_last a b place ms ns (inl left) p e =
+      let is : b ≡ a ++ place ∷ [] = subst (λ (x : List (Move H)). IsRow (a ++ place ∷ []) x b) e p in
+      let size = ap (λ (x : List (Place H)). length x) (sym left ∙ is) in
+      let more = length-append a (place ∷ []) in
+      absurd (omega arith)
+
+  -- moves behind others: these leave the row empty, or the next takes no place
+  pub row_then : (a b c : List (Place H)) (ms ns : List (Move H)) → (b ≡ []) ⊎ StartsNone ns → IsRow a ms b → IsRow b ns c → IsRow a (ms ++ ns) c
+  row_then a b c [] ns f p q = subst (λ (x : List (Place H)). IsRow x ns c) p q
+  row_then a b c (Starts m place ∷ ms) ns f p q =
+      (p.0, λ asks. ((p.1 asks).0, starts_none_then ms ns (p.1 asks).1 (taken_last a b place ms ns f p.2)), row_then (a ++ place ∷ []) b c ms ns f p.2 q)
+  row_then a b c (Answers place answer ∷ ms) ns f p q = (p.0, p.1, row_then p.0 b c ms ns f p.2 q)
+  row_then a b c (GivesUp place ∷ ms) ns f p q = (p.0, p.1, row_then p.0 b c ms ns f p.2 q)
 
   pub outcomes-append : (ms ns : List (Move H)) → outcomes (ms ++ ns) ≡ outcomes ms ++ outcomes ns
   outcomes-append [] ns = refl
@@ -32,7 +49,7 @@ module _ {H : Type 0} where
   pub row_counts : (a b : List (Place H)) (ms : List (Move H)) → IsRow a ms b → length a + length (messages_of ms) ≡ length (outcomes ms) + length b
   row_counts a b [] p = rw p (omega arith)
   row_counts a b (Starts m place ∷ ms) p =
-      let rest = row_counts (a ++ place ∷ []) b ms p.1 in
+      let rest = row_counts (a ++ place ∷ []) b ms p.2 in
       let more = length-append a (place ∷ []) in
       omega arith
   row_counts a b (Answers place answer ∷ ms) p =
@@ -87,7 +104,7 @@ module _ {S H : Type 0} (began : S → Request → Result H Refusal → S → Ty
   runs_then a b c ms ns made more p on q = record {
     moves = p.moves ++ q.moves;
     leads = leads_then a b c p.moves q.moves p.leads q.leads;
-    in_row = row_then [] [] [] p.moves q.moves p.in_row q.in_row;
+    in_row = row_then [] [] [] p.moves q.moves (inl refl) p.in_row q.in_row;
     stops = stops_then p.moves q.moves on q.stops;
     taken = runs_taken a b c ms ns made more p q;
     calls = runs_calls a b c ms ns made more p q;

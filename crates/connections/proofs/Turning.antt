@@ -1,5 +1,5 @@
 -- Rows behind rows.
-use Rattle.std.proofs.Common.{◌≡◌, ◌≢◌, ◌<◌, ◌≤◌, ℕ, Bool, true, false, List, [], ◌∷◌, ◌++◌, length, map, Option, Result, Ok, Err, refl, sym, ap, subst, ◌∙◌, arith, inl, inr}
+use Rattle.std.proofs.Common.{◌≡◌, ◌≢◌, ◌<◌, ℕ, Bool, true, false, List, [], ◌∷◌, ◌++◌, length, map, Option, Result, Ok, Err, refl, sym, ap, subst, ◌∙◌, arith, inl, inr}
 use Rattle.std.specs.List.{AllByRecursion, AllZip, flat_map}
 use Rattle.std.specs.Int.{w16, to_be_bytes}
 use Rattle.std.proofs.lemmas.List.{length-append}
@@ -14,8 +14,8 @@ use Rattle.wire_frames.specs.Held.{Feed}
 use Rattle.connections.specs.declared.row.Place.{Place}
 use Rattle.connections.specs.Dialogue.{Answer, row, replies, IsEnded}
 use Rattle.connections.specs.Connection.{GoesOn}
-use Rattle.connections.specs.Moves.{Leads, calls_of, left_answer}
-use Rattle.connections.specs.Progress.{BeginsRow, AnswersRow, EndsAt, Gives, Progress, Last, Stopped, answer_moves, give_up_moves, messages_in, places_in, answered_in, answers_in, replies_in}
+use Rattle.connections.specs.Moves.{IsRow, Leads, calls_of, left_answer}
+use Rattle.connections.specs.Progress.{BeginsRow, AnswersRow, EndsAt, Gives, Progress, Last, Stopped, begin_moves, answer_moves, give_up_moves, messages_in, places_in, answered_in, answers_in, replies_in}
 use Rattle.connections.proofs.Streams.{Appends-nil}
 use Rattle.connections.proofs.MoveLists.{runs_none}
 use Rattle.connections.proofs.Turns.{Fits, came_of, row_fits, row_runs, row_full, row_goes, row_last, last_is_ended, full_of, front_of, none_bad, steady_row}
@@ -63,8 +63,8 @@ module _ {S H : Type 0} (began : S → Request → Result H Refusal → S → Ty
   begun_shorter a b places (one ∷ begun) e p some = shorter a b one.0 (messages_in begun) p
 
   module _ (w0 w1 : Option (List ℕ)) (s0 s1 s2 : S) (old new : Feed) (places : List (Place H)) (b : BeginsRow began finished gave_up s0 s1 old new places) where
-    few_begun : length (places_in b.0) ≤ 64
-    few_begun = subst (λ (x : List (Place H)). length x ≤ 64) b.1 b.2
+    row_begun : IsRow [] (begin_moves b.0) (places_in b.0)
+    row_begun = subst (λ (x : List (Place H)). IsRow [] (begin_moves b.0) x) b.1 b.2
 
     going : Gives old new (messages_in b.0) → (answered : List (Place H × Answer)) → places ≡ answered_in answered ++ [] → Leads began finished gave_up s1 (answer_moves answered ++ give_up_moves []) s2 → GoesOn (answers_in answered) → Appends w0 w1 (replies_in answered) → Progress began finished gave_up w0 w1 s0 s2 old.left new.left × (new.ended ≡ false) × ((places ≡ [] → ⊥) → length new.left < length old.left)
     going (inr g) answered parts leads on wrote =
@@ -82,7 +82,7 @@ module _ {S H : Type 0} (began : S → Request → Result H Refusal → S → Ty
             made = calls_of (messages_in b.0) (came_of answered []);
             begins = g.1;
             full = full;
-            ran = row_runs began finished gave_up s0 s1 s2 b.0 answered [] false few_begun (sym b.1 ∙ parts) b.3 b.4 leads on;
+            ran = row_runs began finished gave_up s0 s1 s2 b.0 answered [] false row_begun (sym b.1 ∙ parts) b.3 b.4 leads on;
             steady = steady_row b.0 answered good on;
             wrote = subst (λ (x : List Answer). Appends w0 w1 (flat_map reply_frame x)) (sym said) wrote;
           },
@@ -104,7 +104,7 @@ module _ {S H : Type 0} (began : S → Request → Result H Refusal → S → Ty
           made = calls_of (messages_in b.0) (came_of a.0 a.1);
           first = open_first old new (messages_in b.0) b.5;
           calls = front_of (messages_in b.0) (came_of a.0 a.1) fits;
-          ran = row_runs began finished gave_up s0 s1 s2 b.0 a.0 a.1 true few_begun (sym b.1 ∙ a.2) b.3 b.4 a.3 a.4;
+          ran = row_runs began finished gave_up s0 s1 s2 b.0 a.0 a.1 true row_begun (sym b.1 ∙ a.2) b.3 b.4 a.3 a.4;
           ended = subst (λ (x : List Answer). IsEnded x) (sym said) (last_is_ended (answers_in a.0) a.4);
           wrote = subst (λ (x : List Answer). Appends w0 w1 (flat_map reply_frame x)) (sym said) a.6;
         }
@@ -128,7 +128,7 @@ module _ {S H : Type 0} (began : S → Request → Result H Refusal → S → Ty
           bytes = cut.0;
           first = open_first old new (messages_in b.0) b.5;
           calls = front_of (messages_in b.0) (came_of a.0 a.1) fits;
-          ran = row_runs began finished gave_up s0 s1 s2 b.0 a.0 a.1 a.4.0 few_begun (sym b.1 ∙ a.2) b.3 b.4 a.3 a.4.1;
+          ran = row_runs began finished gave_up s0 s1 s2 b.0 a.0 a.1 a.4.0 row_begun (sym b.1 ∙ a.2) b.3 b.4 a.3 a.4.1;
           beginning = cut.1;
           wrote = cut.2;
         }

@@ -1,7 +1,7 @@
 -- One row: the messages that took its places, and what came of them.
-use Rattle.std.proofs.Common.{◌≡◌, ◌≢◌, ◌≤◌, ◌+◌, suc, Bool, true, false, List, [], ◌∷◌, ◌++◌, length, map, Option, Some, Result, Ok, Err, refl, sym, ap, subst, ◌∙◌, append_assoc, arith, inl, inr}
+use Rattle.std.proofs.Common.{◌≡◌, ◌≢◌, Bool, true, false, List, [], ◌∷◌, ◌++◌, map, Option, Some, Result, Ok, Err, refl, sym, ap, subst, ◌∙◌, inl, inr}
 use Rattle.std.specs.List.{AllByRecursion}
-use Rattle.std.proofs.lemmas.List.{append-nil, length-append}
+use Rattle.std.proofs.lemmas.List.{append-nil}
 use Rattle.map_types.specs.declared.refusals.Refusal.{Refusal}
 use Rattle.map_types.specs.declared.refusals.Refusal.TheVariants.{BadFrame}
 use Rattle.wire_frames.specs.declared.requests.Request.{Request}
@@ -10,23 +10,24 @@ use Rattle.connections.specs.declared.row.Place.{Place}
 use Rattle.connections.specs.declared.row.Place.TheVariants.{Held, Refused}
 use Rattle.connections.specs.Dialogue.{Answer, Call, ends, row, requests, asked, IsFront, IsEnded}
 use Rattle.connections.specs.Connection.{GoesOn}
-use Rattle.connections.specs.Moves.{Move, Starts, Answers, IsRow, AllGiveUp, Stops, messages_of, outcomes, left_answer, calls_of, Makes, Leads, Runs}
+use Rattle.connections.specs.Moves.{Move, Starts, Answers, StartsNone, IsRow, AllGiveUp, Stops, messages_of, outcomes, left_answer, calls_of, Makes, Leads, Runs}
 use Rattle.connections.specs.Progress.{IsFull, IsSteady, EndsAt, LastEnds, begin_moves, answer_moves, give_up_moves, messages_in, places_in, answered_in, answers_in}
 use Rattle.connections.proofs.MoveLists.{row_then, leads_then}
 
 -- ---- the moves of a row
 
 module _ {H : Type 0} where
-  begins_row : (before : List (Place H)) (begun : List (Message × Place H)) → length before + length begun ≤ 64 → IsRow before (begin_moves begun) (before ++ places_in begun)
-  begins_row before [] few = append-nil before
-  begins_row before (one ∷ begun) few =
-      let more = length-append before (one.1 ∷ []) in
-      let rest = begins_row (before ++ one.1 ∷ []) begun (omega arith) in
-      (omega arith, subst (λ (x : List (Place H)). IsRow (before ++ one.1 ∷ []) (begin_moves begun) x) (append_assoc before (one.1 ∷ []) (places_in begun)) rest)
-
   answers_row : (answered : List (Place H × Answer)) (rest : List (Place H)) → IsRow (answered_in answered ++ rest) (answer_moves answered) rest
   answers_row [] rest = refl
   answers_row (one ∷ answered) rest = (answered_in answered ++ rest, refl, answers_row answered rest)
+
+  gives_none : (given : List (Place H)) → StartsNone (give_up_moves given)
+  gives_none [] = tt
+  gives_none (place ∷ given) = tt
+
+  answers_none : (answered : List (Place H × Answer)) (given : List (Place H)) → StartsNone (answer_moves answered ++ give_up_moves given)
+  answers_none [] given = gives_none given
+  answers_none (one ∷ answered) given = tt
 
   gives_row : (given : List (Place H)) → IsRow given (give_up_moves given) []
   gives_row [] = refl
@@ -88,10 +89,6 @@ module _ {H : Type 0} where
   begun_outcomes : (begun : List (Message × Place H)) (moves : List (Move H)) → outcomes (begin_moves begun ++ moves) ≡ outcomes moves
   begun_outcomes [] moves = refl
   begun_outcomes (one ∷ begun) moves = begun_outcomes begun moves
-
-  length-places : (begun : List (Message × Place H)) → length (places_in begun) ≡ length begun
-  length-places [] = refl
-  length-places (one ∷ begun) = ap suc (length-places begun)
 
   steady_answers : (answered : List (Place H × Answer)) → GoesOn (answers_in answered) → IsSteady (answer_moves answered ++ give_up_moves [])
   steady_answers [] on = tt
@@ -249,24 +246,22 @@ module _ {S H : Type 0} (began : S → Request → Result H Refusal → S → Ty
     row_fits same p q =
         fits_of begun (came_of answered given) (are_refused s0 s1 begun p) (subst (λ (x : List (Place H)). Came x (came_of answered given)) (sym same) (came_answered s1 s2 answered given (give_up_moves given) q))
 
-    pub row_is_left : length (places_in begun) ≤ 64 → places_in begun ≡ answered_in answered ++ given → IsRow [] (begin_moves begun ++ (answer_moves answered ++ give_up_moves given)) []
-    row_is_left few same =
-        let count = length-places begun in
-        let first : IsRow [] (begin_moves begun) (places_in begun) = begins_row [] begun (omega arith) in
+    pub row_is_left : IsRow [] (begin_moves begun) (places_in begun) → places_in begun ≡ answered_in answered ++ given → IsRow [] (begin_moves begun ++ (answer_moves answered ++ give_up_moves given)) []
+    row_is_left first same =
         let middle = subst (λ (x : List (Place H)). IsRow x (answer_moves answered) given) (sym same) (answers_row answered given) in
-        let second = row_then (places_in begun) given [] (answer_moves answered) (give_up_moves given) middle (gives_row given) in
-        row_then [] (places_in begun) [] (begin_moves begun) (answer_moves answered ++ give_up_moves given) first second
+        let second = row_then (places_in begun) given [] (answer_moves answered) (give_up_moves given) (inr (gives_none given)) middle (gives_row given) in
+        row_then [] (places_in begun) [] (begin_moves begun) (answer_moves answered ++ give_up_moves given) (inr (answers_none answered given)) first second
 
     pub row_calls : calls_of (messages_in begun) (came_of answered given) ≡ calls_of (messages_in begun) (outcomes (begin_moves begun ++ (answer_moves answered ++ give_up_moves given)))
     row_calls =
         ap (λ (x : List (Option Answer)). calls_of (messages_in begun) x) (sym (answered_outcomes answered given) ∙ sym (begun_outcomes begun (answer_moves answered ++ give_up_moves given)))
 
     -- a whole row
-    abbrev pub row_runs : (last : Bool) → length (places_in begun) ≤ 64 → places_in begun ≡ answered_in answered ++ given → Leads began finished gave_up s0 (begin_moves begun) s1 → Stops (begin_moves begun) → Leads began finished gave_up s1 (answer_moves answered ++ give_up_moves given) s2 → EndsAt last (answers_in answered) → Runs began finished gave_up s0 (messages_in begun) (calls_of (messages_in begun) (came_of answered given)) s2
-    row_runs last few same p stops q end = record {
+    abbrev pub row_runs : (last : Bool) → IsRow [] (begin_moves begun) (places_in begun) → places_in begun ≡ answered_in answered ++ given → Leads began finished gave_up s0 (begin_moves begun) s1 → Stops (begin_moves begun) → Leads began finished gave_up s1 (answer_moves answered ++ give_up_moves given) s2 → EndsAt last (answers_in answered) → Runs began finished gave_up s0 (messages_in begun) (calls_of (messages_in begun) (came_of answered given)) s2
+    row_runs last first same p stops q end = record {
       moves = begin_moves begun ++ (answer_moves answered ++ give_up_moves given);
       leads = leads_then began finished gave_up s0 s1 s2 (begin_moves begun) (answer_moves answered ++ give_up_moves given) p q;
-      in_row = row_is_left few same;
+      in_row = row_is_left first same;
       stops = stops_begun begun (answer_moves answered ++ give_up_moves given) (answered_messages answered given) stops (stops_answered last answered given end);
       taken = sym (begun_messages begun (answer_moves answered ++ give_up_moves given) (answered_messages answered given));
       calls = row_calls;

@@ -3,7 +3,7 @@ use Rattle.std.specs.Prelude.{◌≡◌, ◌<◌, true, List, [], ◌∷◌, ◌
 use Rattle.map_types.specs.declared.refusals.Refusal.{Refusal}
 use Rattle.map_types.specs.declared.refusals.Refusal.TheVariants.{BadFrame}
 use Rattle.wire_frames.specs.declared.requests.Request.{Request}
-use Rattle.wire_frames.specs.Messages.{Message}
+use Rattle.wire_frames.specs.Messages.{Message, AsksWholeMap}
 use Rattle.connections.specs.declared.row.Place.{Place}
 use Rattle.connections.specs.declared.row.Place.TheVariants.{Held, Refused}
 use Rattle.connections.specs.Dialogue.{Answer, Call, ends}
@@ -20,11 +20,23 @@ pub data Move (H : Type 0) : Type 0 where
 module _ {H : Type 0} where
   -- ---- the row
 
-  -- the places before and after the moves, the first begun first: a message takes its place at the end, and only where fewer than 64
-  -- are taken; only the first place is answered or given up, and then it is left
+  -- the first of the moves takes no place
+  abbrev pub StartsNone : List (Move H) → Type 0
+  StartsNone [] = Unit {0}
+  StartsNone (Starts message place ∷ moves) = ⊥
+  StartsNone (Answers place answer ∷ moves) = Unit {0}
+  StartsNone (GivesUp place ∷ moves) = Unit {0}
+
+  -- a request of the whole map takes its place in an empty row, and no other is taken before that one is left
+  abbrev pub IsAlone : List (Place H) → Message → List (Move H) → Type 0
+  IsAlone before message moves = AsksWholeMap message → (before ≡ []) × StartsNone moves
+
+  -- the places before and after the moves, the first begun first: a message takes its place at the end, and only if fewer than 64 are
+  -- taken; a request of the whole map is alone in the row; only the first place is answered or given up, and then it is left
   abbrev pub IsRow : List (Place H) → List (Move H) → List (Place H) → Type 0
   IsRow before [] after = after ≡ before
-  IsRow before (Starts message place ∷ moves) after = (length before < 64) × IsRow (before ++ place ∷ []) moves after
+  IsRow before (Starts message place ∷ moves) after =
+      (length before < 64) × IsAlone before message moves × IsRow (before ++ place ∷ []) moves after
   IsRow before (Answers place answer ∷ moves) after = (others : List (Place H)) × (before ≡ place ∷ others) × IsRow others moves after
   IsRow before (GivesUp place ∷ moves) after = (others : List (Place H)) × (before ≡ place ∷ others) × IsRow others moves after
 
@@ -91,7 +103,8 @@ module _ {S H : Type 0} (began : S → Request → Result H Refusal → S → Ty
   Leads before (move ∷ moves) after = (between : S) × Makes before move between × Leads between moves after
 
   -- the messages took their places in order, and the calls made are theirs, each begun once. What was held of each was finished or
-  -- given up once, in the order in which they were begun; at most 64 were held at any moment, and none is held at the end
+  -- given up once, in the order in which they were begun; at most 64 were held at any moment, and none is held at the end. While a
+  -- request of the whole map was held no other call was
   pub record Runs (before : S) (messages : List Message) (made : List Call) (after : S) : Type 0 where
     pub moves : List (Move H)
     pub leads : Leads before moves after

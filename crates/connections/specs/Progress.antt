@@ -1,5 +1,5 @@
 -- What a part of a connection did.
-use Rattle.std.specs.Prelude.{◌≡◌, ◌≢◌, ◌⊎◌, ◌<◌, ◌≤◌, ℕ, Bool, true, false, List, [], ◌∷◌, ◌++◌, length, map, take, Option, Some, Result, Ok, Err}
+use Rattle.std.specs.Prelude.{◌≡◌, ◌≢◌, ◌⊎◌, ◌<◌, ℕ, Bool, true, false, List, [], ◌∷◌, ◌++◌, length, map, take, Option, Some, Result, Ok, Err}
 use Rattle.std.specs.List.{flat_map}
 use Rattle.std.specs.Io.KnownBytes.{Appends, Consumes, Keeps, IsAtEnd}
 use Rattle.std.specs.IoError.{error_kind}
@@ -7,9 +7,9 @@ use Rattle.std.specs.declared.io.ErrorKind.TheVariants.{Interrupted}
 use Rattle.map_types.specs.declared.refusals.Refusal.{Refusal}
 use Rattle.map_types.specs.declared.refusals.Refusal.TheVariants.{BadFrame}
 use Rattle.wire_frames.specs.declared.requests.Request.{Request}
-use Rattle.wire_frames.specs.Messages.{Message, Begins, FirstMessages, IsPartial}
+use Rattle.wire_frames.specs.Messages.{Message, AsksWholeMap, Begins, FirstMessages, IsPartial}
 use Rattle.wire_frames.specs.Replies.{IsCut, reply_frame}
-use Rattle.wire_frames.specs.Feed.{Takes}
+use Rattle.wire_frames.specs.Feed.{BeginsBulk, Takes}
 use Rattle.wire_frames.specs.Held.{Feed}
 use Rattle.connections.specs.declared.connection.ConnectionError.{ConnectionError}
 use Rattle.connections.specs.declared.connection.ConnectionError.TheVariants.{Reader, Writer, NoMemory}
@@ -17,7 +17,7 @@ use Rattle.connections.specs.declared.connection.Turn.{Turn}
 use Rattle.connections.specs.declared.connection.Turn.TheVariants.{Partial, Ended}
 use Rattle.connections.specs.Dialogue.{Answer, Call, ends, row, replies, IsFront, IsEnded}
 use Rattle.connections.specs.declared.row.Place.{Place}
-use Rattle.connections.specs.Moves.{Move, Starts, Answers, GivesUp, Stops, Makes, Leads, Runs}
+use Rattle.connections.specs.Moves.{Move, Starts, Answers, GivesUp, IsRow, Stops, Makes, Leads, Runs}
 use Rattle.connections.specs.Connection.{GoesOn}
 
 -- the reader gave the first bytes of the room, none only at its end; or it failed, and gave none
@@ -95,23 +95,29 @@ module _ {H : Type 0} where
   replies_in answered = flat_map reply_frame (answers_in answered)
 
 module _ {S H : Type 0} (began : S → Request → Result H Refusal → S → Type 0) (finished : S → H → Answer → S → Type 0) (gave_up : S → H → S → Type 0) where
-  -- no whole message was left; or the next took a place, and was refused with `BadFrame` where no more is to be begun
+  -- no whole message was left, or the next is to be alone in the row; or it took a place. No other is to follow one that is refused
+  -- with `BadFrame`, or that came out of a frame of the whole map
   abbrev pub BeginsNext : S → S → Feed → Feed → List (Place H) → List (Place H) → Bool → Type 0
   BeginsNext s0 s1 old new before after is_last =
-      ((is_last ≡ true) × (new ≡ old) × IsPartial new.left × (after ≡ before) × (s1 ≡ s0))
+      ((is_last ≡ true)
+      × (new ≡ old)
+      × (IsPartial new.left ⊎ ((before ≢ []) × BeginsBulk old))
+      × (after ≡ before)
+      × (s1 ≡ s0))
       ⊎ ((message : Message) × (place : Place H)
       × Takes old new message
       × Makes began finished gave_up s0 (Starts message place) s1
       × (after ≡ before ++ place ∷ [])
-      × (is_last ≡ true → message ≡ Err BadFrame)
-      × (is_last ≡ false → message ≢ Err BadFrame))
+      × (AsksWholeMap message → before ≡ [])
+      × (is_last ≡ true → (message ≡ Err BadFrame) ⊎ ((message ≢ Err BadFrame) × BeginsBulk old))
+      × (is_last ≡ false → (message ≢ Err BadFrame) × (AsksWholeMap message → ⊥)))
 
   -- messages took their places in the row, in order, and no call was made but theirs
   abbrev pub BeginsRow : S → S → Feed → Feed → List (Place H) → Type 0
   BeginsRow s0 s1 old new row =
       (begun : List (Message × Place H))
       × (row ≡ places_in begun)
-      × (length row ≤ 64)
+      × IsRow [] (begin_moves begun) row
       × Leads began finished gave_up s0 (begin_moves begun) s1
       × Stops (begin_moves begun)
       × Gives old new (messages_in begun)

@@ -7,6 +7,7 @@ ghost use Rattle.connections.specs.Progress.{Gave, Turned};
 ghost use Rattle.connections.specs.Connection.{Connection};
 
 use crate::calls::Calls;
+use crate::outgoing::ROOM;
 use crate::row::{MOST_HELD, Place, answer_row, begin_row};
 use std::alloc::{AllocError, Global};
 use std::collections::VecDeque;
@@ -110,9 +111,11 @@ fn read_piece<R: Read>(reader: &mut R, room: &mut [u8]) -> Result<usize, Connect
 ///
 /// It reads in pieces, and answers each whole message in hand before it reads again. Up to 64 calls
 /// are begun, and then they are finished in order; their replies are gathered and written together.
-/// What was gathered is written before a `finish` that may wait. After a reply of status 86 or 89,
-/// or where the writer fails, what is held is given up. Behind a message refused with `BadFrame`
-/// no call is begun.
+/// What was gathered is written before a `finish` that may wait, and once the longest reply has no
+/// room beside it in 64 KiB. After a reply of status 86 or 89, or if the writer fails, what is held
+/// is given up. Behind a message refused with `BadFrame` no call is begun. A request of the whole
+/// map is begun once all replies before it are written, and no other call before it is answered or
+/// given up.
 ///
 /// Where the reader or memory fails, each whole message before it has been answered. Memory for the
 /// row and for gathered replies is got before the first read. The bytes may come cut in any way. It
@@ -131,7 +134,7 @@ pub fn serve_connection<R: Read, W: Write, C: Calls>(
 {
     let mut room = room_of(alloc, PIECE)?;
     let mut row = VecDeque::with_capacity(alloc, MOST_HELD)?;
-    let mut out = Vec::with_capacity(alloc, PIECE)?;
+    let mut out = Vec::with_capacity(alloc, ROOM)?;
     let mut feeder = Feeder::new(alloc);
     'reads: for _ in 0..u64::MAX {
         let len = read_piece(reader, &mut room)?;

@@ -1,6 +1,6 @@
 //! A row of calls that are begun, and then answered in order.
 
-ghost use Rattle.std.specs.Prelude.{◌≡◌, ◌<◌, ◌≤◌, ◌↔◌, [], map, IsTrue, OnOk, false};
+ghost use Rattle.std.specs.Prelude.{◌≡◌, ◌≢◌, ◌⊎◌, ◌<◌, ◌≤◌, ◌↔◌, [], map, vec_len, IsTrue, OnOk, true, false};
 ghost use Rattle.std.specs.VecDeque.{deque_len, deque_capacity};
 ghost use Rattle.connections.specs.Dialogue.{ends};
 ghost use Rattle.connections.specs.Moves.{Starts, GivesUp, Makes, Leads};
@@ -8,12 +8,12 @@ ghost use Rattle.connections.specs.Owning.{OwnsPlace, OwnsRow, StillOwns};
 ghost use Rattle.connections.specs.Progress.{BeginsNext, BeginsRow, Finishes, Replied, FinishesRow, AnswersRow};
 
 use crate::calls::Calls;
-use crate::outgoing::{put_reply, write_out};
+use crate::outgoing::{MOST_LEFT, make_room, put_reply, write_out};
 use map_types::{Refusal, Reply};
 use std::collections::VecDeque;
 use std::io;
 use std::io::Write;
-use wire_frames::{Feeder, Request};
+use wire_frames::{Feeder, Request, whole_map_begins_bulk};
 
 /// The most places of a row.
 pub(crate) const MOST_HELD: usize = 64;
@@ -57,7 +57,27 @@ fn place_of<C: Calls>(calls: &mut C, message: Result<Request, Refusal>) -> Place
     }
 }
 
-/// Puts the next whole message in hand into the row. It says whether no other may follow.
+/// Whether the next message waits until the row is empty.
+fn is_to_wait<H>(is_bulk: bool, row: &VecDeque<Place<H>>) -> bool
+    ensures waits { result ≡ true → (is_bulk ≡ true) × (row.now.items ≢ []) }
+    ensures goes_on { result ≡ false → is_bulk ≡ true → row.now.items ≡ [] }
+{
+    is_bulk && !row.is_empty()
+}
+
+/// Whether no other message may follow this one in the row.
+fn is_last(is_bulk: bool, message: &Result<Request, Refusal>) -> bool
+    ensures last { result ≡ true →
+        (message.now ≡ Err Refusal.BadFrame)
+        ⊎ ((message.now ≢ Err Refusal.BadFrame) × (is_bulk ≡ true)) }
+    ensures goes_on { result ≡ false →
+        (message.now ≢ Err Refusal.BadFrame) × (is_bulk ≡ false) }
+{
+    is_bad_frame(message) || is_bulk
+}
+
+/// Puts the next whole message in hand into the row, unless it asks something of the whole map and
+/// the row isn't empty. It says whether no other may follow.
 fn begin_next<C: Calls>(
     feeder: &mut Feeder,
     calls: &mut C,
@@ -74,17 +94,23 @@ fn begin_next<C: Calls>(
     ensures owned { OwnsRow C.owns calls.new row.new.items }
     ensures capacity { deque_capacity row.new ≡ deque_capacity row.old }
 {
+    whole_map_begins_bulk();
+    let is_bulk = feeder.begins_bulk();
+    if is_to_wait(is_bulk, row) {
+        return true;
+    }
     match feeder.next() {
         None => true,
         Some(message) => {
-            let is_last = is_bad_frame(&message);
+            let is_last = is_last(is_bulk, &message);
             row.push_back_reserved(place_of(calls, message));
             is_last
         }
     }
 }
 
-/// Begins the whole messages in hand, at most 64, and none behind a bad frame.
+/// Begins the whole messages in hand, at most 64, and none behind a bad frame. A request of the
+/// whole map is begun alone.
 pub(crate) fn begin_row<C: Calls>(
     feeder: &mut Feeder,
     calls: &mut C,
@@ -135,7 +161,8 @@ fn finish<W: Write, C: Calls>(
     }
 }
 
-/// Answers what is in a place, and says whether the reply ends the connection.
+/// Answers what is in a place, and says whether the reply ends the connection. The longest reply has
+/// room beside what is to be written then.
 fn reply<W: Write, C: Calls>(
     writer: &mut W,
     calls: &mut C,
@@ -146,10 +173,12 @@ fn reply<W: Write, C: Calls>(
     ensures replied { Replied C.began C.finished C.gave_up
         (W.contents writer.old) (W.contents writer.new)
         calls.old calls.new place out.old.items out.new.items result }
+    ensures room { OnOk result (vec_len out.new ≤ MOST_LEFT) }
     ensures others { StillOwns C.owns calls.old calls.new }
 {
     let answer = finish(writer, calls, out, place)?;
     put_reply(writer, out, &answer)?;
+    make_room(writer, out)?;
     Ok(ends(&answer))
 }
 
