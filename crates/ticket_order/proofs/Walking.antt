@@ -15,13 +15,19 @@ use Rattle.ticket_order.specs.declared.record.Record.{Record}
 use Rattle.ticket_order.specs.Records.{ticket_limit, entry, call, reach, taking, living, looking, drawing, giving, part_held, calls_for}
 use Rattle.ticket_order.specs.Legality.{history_of}
 use Rattle.ticket_order.specs.StepRules.{Looks, Draws, Gives, Lives, MayDraw, MayGive, AllLegalCalls}
-use Rattle.ticket_order.specs.Calls.{walked, FindsFailure, LooksAround, GivesBack, MakesRead}
+use Rattle.ticket_order.specs.Calls.{walked, HasFound, FindsFailure, LooksAround, GivesBack, MakesCall, MakesRead}
 use Rattle.ticket_order.specs.Walks.{Task, ToChange, ToRead, Refuses, HasContent, TookContent, TookAlive, TookLooked, OfTask, HasChanged, HasMade, HasAnswer, IsRefusing}
 use Rattle.ticket_order.proofs.Apart.{not_full_by_memory, not_full_by_failure, not_full_by_tickets}
 
 -- what is held may be given back
 pub may_give_back : (n : ℕ) (p : Record) (t : Taken) → HasContent p t → MayGive n p t.stripe t.content Nothing
 may_give_back n p t h = record { held = h.held; holding = h.holding; stripe_is = h.stripe_is; part_is = h.part_is; outbox_is = h.outbox_is; suits = tt }
+
+pub found_content : (b p : Record) (t : Taken) → HasFound b t.stripe t.content p → TookContent b t p
+found_content b p t f = record { taken = f.between; is = f.is }
+
+pub took_alive : (b p w : Record) (t : Taken) → HasFound b t.stripe t.content p → Lives p true w → TookAlive b t w
+took_alive b p w t f l = record { taken = f.between; is = l.is ∙ ap (λ (y : Record). living y true) f.is }
 
 -- since b: TAKE, and ALIVE that said no
 found_failure : (b p w : Record) (t : Taken) (k : TookContent b t p) → Lives p false w → w ≡ living (taking b t.stripe t.content.part.map t.content.outbox.items k.taken) false
@@ -57,6 +63,14 @@ content_looked b p t u k stripe part outbox = record {
 
 pub took_looked : (b p w : Record) (q : ℕ) (t : Taken) → TookAlive b t p → Looks p q w → TookLooked b t w
 took_looked b p w q t k l = record { taken = k.taken; looked = l.between; is = l.is ∙ ap (λ (y : Record). looking y l.between) k.is }
+
+-- what was taken stays, in another shape
+pub same_looked : (b w : Record) (t u : Taken) → TookLooked b t w → u.stripe ≡ t.stripe → u.content.part.map ≡ t.content.part.map → u.content.outbox.items ≡ t.content.outbox.items → TookLooked b u w
+same_looked b w t u k stripe part outbox = record {
+  taken = k.taken;
+  looked = k.looked;
+  is = k.is ∙ sym (λ i. walked b (stripe i) (part i) (outbox i) k.taken k.looked);
+}
 
 looked_around : (b w : Record) (t : Taken) (j : ℕ) → TookLooked b t w → t.stripe ≡ j → GivesBack b (LooksAround b j) (giving Nothing w)
 looked_around b w t j k e =
@@ -107,40 +121,55 @@ may_draw n b p c t key k small =
       fresh = ap (λ (y : Record). y.fresh) k.is ∙ lt-ltb q ticket_limit below;
     }
 
-pub drawn : (n : ℕ) (b p w : Record) (task : Task) (c : Command) (ticket : ℕ) (t u : Taken) (h : Held) → OfTask n task (ToChange c) t.stripe (stripe_of n c.key) → TookLooked b t p → reach p < ticket_limit → Draws p c ticket w
-    → HasChanged c t ticket u h → HasMade n b task u h w
-drawn n b p w task c ticket t u h o k small d m =
+-- the ticket was drawn, and the history has the change
+all_drawn : (b p w : Record) (c : Command) (ticket : ℕ) (t : Taken) (k : TookLooked b t p) (d : Draws p c ticket w) → w ≡ drawing (walked b t.stripe t.content.part.map t.content.outbox.items k.taken k.looked) d.between c
+all_drawn b p w c ticket t k d = d.is ∙ ap (λ (z : Record). drawing z d.between c) k.is
+
+number_drawn : (b p w : Record) (c : Command) (ticket : ℕ) (t : Taken) (k : TookLooked b t p) (d : Draws p c ticket w) → ticket ≡ b.opening.first + length (((b.seen ++ k.taken) ++ k.looked) ++ d.between)
+number_drawn b p w c ticket t k d = d.ticket_is ∙ ap (λ (z : Record). z.opening.first + length (z.seen ++ d.between)) k.is
+
+pub content_drawn : (b p w : Record) (c : Command) (ticket : ℕ) (t u : Taken) (h : Held) → TookLooked b t p → Draws p c ticket w → HasChanged c t ticket u h → HasContent w u
+content_drawn b p w c ticket t u h k d m =
+    let number : ℕ = b.opening.first + length (((b.seen ++ k.taken) ++ k.looked) ++ d.between) in
+    record {
+      held = record { stripe = t.stripe; part = (step t.content.part.map c).map; outbox = t.content.outbox.items ++ entry number c ∷ []; has_drawn = true; looked = None };
+      holding = ap (λ (z : Record). z.holding) (all_drawn b p w c ticket t k d);
+      stripe_is = sym m.stripe;
+      part_is = m.part;
+      outbox_is = m.outbox ∙ ap (λ z. t.content.outbox.items ++ entry z c ∷ []) (number_drawn b p w c ticket t k d);
+    }
+
+pub made_change : (n : ℕ) (b p w : Record) (c : Command) (ticket : ℕ) (t u : Taken) (h : Held) → t.stripe ≡ stripe_of n c.key → TookLooked b t p → reach p < ticket_limit → Draws p c ticket w
+    → HasChanged c t ticket u h → MakesCall n b c h.position h.reply (giving Nothing w)
+made_change n b p w c ticket t u h key k small d m =
     let before : List Command = ((b.seen ++ k.taken) ++ k.looked) ++ d.between in
     let number : ℕ = b.opening.first + length before in
-    let all : w ≡ drawing (walked b t.stripe t.content.part.map t.content.outbox.items k.taken k.looked) d.between c = d.is ∙ ap (λ (z : Record). drawing z d.between c) k.is in
-    let same : ticket ≡ number = d.ticket_is ∙ ap (λ (z : Record). z.opening.first + length (z.seen ++ d.between)) k.is in
+    let all = all_drawn b p w c ticket t k d in
     let own : (step (part_held p.holding) c).reply ≡ h.reply = ap (λ (z : Record). (step (part_held z.holding) c).reply) k.is ∙ sym m.reply in
     let rose : reach w ≡ b.opening.first + length (before ++ c ∷ []) = ap reach all in
-    let at : h.position ≡ number + 1 = m.position ∙ ap (λ z. z + 1) same in
+    let at : h.position ≡ number + 1 = m.position ∙ ap (λ z. z + 1) (number_drawn b p w c ticket t k d) in
     record {
-      command = c;
-      task_is = o.task_is;
-      content = record {
-        held = record { stripe = t.stripe; part = (step t.content.part.map c).map; outbox = t.content.outbox.items ++ entry number c ∷ []; has_drawn = true; looked = None };
-        holding = ap (λ (z : Record). z.holding) all;
-        stripe_is = sym m.stripe;
-        part_is = m.part;
-        outbox_is = m.outbox ∙ ap (λ z. t.content.outbox.items ++ entry z c ∷ []) same;
-      };
-      made = record {
-        part = t.content.part.map;
-        outbox = t.content.outbox.items;
-        taken = k.taken;
-        looked = k.looked;
-        drawn = d.between;
-        below = subst (λ z. z < ticket_limit) (ap reach k.is) small;
-        is = ap (giving Nothing) (all ∙ ap (λ j. drawing (walked b j t.content.part.map t.content.outbox.items k.taken k.looked) d.between c) o.stripe_is);
-        position_is = omega (arith, length-append before (c ∷ []));
-        grew = append-nil w.calls ∙ (ap (λ (z : Record). z.calls) all ∙ (λ k. b.calls ++ call (sym at k) (Changing c) (sym m.reply k) ∷ []));
-        later = omega (arith, length-append (b.seen ++ k.taken ++ k.looked) d.between, length-append (b.seen ++ k.taken) k.looked, length-append b.seen k.taken);
-        legal = subst (λ z. IsLegalChange (history_of w) z c h.reply) (sym m.position) (subst (λ r. IsLegalChange (history_of w) (ticket + 1) c r) own d.legal);
-      };
+      part = t.content.part.map;
+      outbox = t.content.outbox.items;
+      taken = k.taken;
+      looked = k.looked;
+      drawn = d.between;
+      below = subst (λ z. z < ticket_limit) (ap reach k.is) small;
+      is = ap (giving Nothing) (all ∙ ap (λ j. drawing (walked b j t.content.part.map t.content.outbox.items k.taken k.looked) d.between c) key);
+      position_is = omega (arith, length-append before (c ∷ []));
+      grew = append-nil w.calls ∙ (ap (λ (z : Record). z.calls) all ∙ (λ k. b.calls ++ call (sym at k) (Changing c) (sym m.reply k) ∷ []));
+      later = omega (arith, length-append (b.seen ++ k.taken ++ k.looked) d.between, length-append (b.seen ++ k.taken) k.looked, length-append b.seen k.taken);
+      legal = subst (λ z. IsLegalChange (history_of w) z c h.reply) (sym m.position) (subst (λ r. IsLegalChange (history_of w) (ticket + 1) c r) own d.legal);
     }
+
+pub drawn : (n : ℕ) (b p w : Record) (task : Task) (c : Command) (ticket : ℕ) (t u : Taken) (h : Held) → OfTask n task (ToChange c) t.stripe (stripe_of n c.key) → TookLooked b t p → reach p < ticket_limit → Draws p c ticket w
+    → HasChanged c t ticket u h → HasMade n b task u h w
+drawn n b p w task c ticket t u h o k small d m = record {
+  command = c;
+  task_is = o.task_is;
+  content = content_drawn b p w c ticket t u h k d m;
+  made = made_change n b p w c ticket t u h o.stripe_is k small d m;
+}
 
 pub read_failed : (n : ℕ) (b p w : Record) (task : Task) (r : read_type.Read) (t : Taken) → OfTask n task (ToRead r) t.stripe (stripe_of n r.key) → TookContent b t p → Lives p false w → IsRefusing n b task t refusal.Failed w
 read_failed n b p w task r t o k l = record {

@@ -353,11 +353,6 @@ Next n b (ToSweep i) (stepped.Swept entries) w = SweepsStripe n b i entries.item
 Next n b (ToCapture i) (stepped.Captured z) w = CapturesStripe n b i z.mark z.entries.items w
 Next n b task end w = ⊥
 
--- how the task ends
-abbrev pub Ends : ℕ → Record → Task → Stepped → Record → Type 0
-Ends n b task (stepped.More walk) w = ⊥
-Ends n b task end w = Next n b task end w
-
 -- exactly one step was made, of this kind
 pub record MakesOne {T : Type 0} (recorded : T → Record) (moves : T → StepMade → T → Type 0) (kind : Kind) (old new : T) : Type 0 where
   pub made : StepMade

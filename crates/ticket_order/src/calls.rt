@@ -1,14 +1,18 @@
-//! Whole calls of one pass, which make the steps of their walks to the end and don't wait.
+//! Whole calls of one pass, which don't wait. They make the steps that their walks make.
 ghost use Rattle.std.specs.Prelude.{◌≡◌, None, IfOk, IfErr};
 ghost use Rattle.java_hash.specs.Stripes.{stripe_of};
 ghost use Rattle.ticket_order.specs.declared.record.Record.{Record};
 ghost use Rattle.ticket_order.specs.Calls.{HasFound, IsNotBusy, MakesCall, MakesRead, RefusesChange, RefusesRead, Releases};
-ghost use Rattle.ticket_order.specs.Walks.{Task, Fits, IsUnderWay, Ends};
+ghost use Rattle.ticket_order.specs.Walks.{ToChange, FitsChange};
 
+use crate::change_walk::{ChangeStage, NewChange, TICKET_LIMIT};
 use crate::held::{Held, Released};
+use crate::numbers::Position;
+use crate::record::Purpose;
 use crate::steps::Steps;
 use crate::stripe::Stripe;
-use crate::walk::{Stepped, Walk};
+use crate::walk::Taken;
+use atomic_methods::Prepared;
 use java_hash::stripe_of;
 use map_types::{Command, Read, Refusal};
 use std::alloc::Global;
@@ -24,11 +28,10 @@ pub fn try_call<S: Steps>(steps: &mut S, alloc: Global, command: Command) -> Res
     ensures place { S.place steps.new ≡ S.place steps.old }
     ensures stripes { S.stripe_count steps.new ≡ S.stripe_count steps.old }
 {
-    match walked_to_end(steps, Walk::change(alloc, command)) {
-        Stepped::Held(held) => Ok(held),
-        Stepped::Refused(refusal) => Err(refusal),
-        Stepped::More(_) | Stepped::Released(_) | Stepped::Swept(_) | Stepped::Captured(_) =>
-            unreachable!(),
+    let stripe = stripe_of(command.key.as_str(), steps.stripes());
+    match steps.take(stripe) {
+        Some(content) => change_on(steps, alloc, command, Taken { stripe, content }),
+        None => Err(Refusal::Busy { stripe }),
     }
 }
 
@@ -40,11 +43,10 @@ pub fn try_read<S: Steps>(steps: &mut S, read: Read) -> Result<Held, Refusal>
     ensures place { S.place steps.new ≡ S.place steps.old }
     ensures stripes { S.stripe_count steps.new ≡ S.stripe_count steps.old }
 {
-    match walked_to_end(steps, Walk::read(read)) {
-        Stepped::Held(held) => Ok(held),
-        Stepped::Refused(refusal) => Err(refusal),
-        Stepped::More(_) | Stepped::Released(_) | Stepped::Swept(_) | Stepped::Captured(_) =>
-            unreachable!(),
+    let stripe = stripe_of(read.key.as_str(), steps.stripes());
+    match steps.take(stripe) {
+        Some(content) => read_from(steps, read, Taken { stripe, content }),
+        None => Err(Refusal::Busy { stripe }),
     }
 }
 
@@ -55,14 +57,16 @@ pub fn release<S: Steps>(steps: &mut S, held: Held) -> Released
     ensures place { S.place steps.new ≡ S.place steps.old }
     ensures stripes { S.stripe_count steps.new ≡ S.stripe_count steps.old }
 {
-    match walked_to_end(steps, Walk::release(held)) {
-        Stepped::Released(released) => released,
-        Stepped::More(_)
-        | Stepped::Held(_)
-        | Stepped::Swept(_)
-        | Stepped::Captured(_)
-        | Stepped::Refused(_) => unreachable!(),
+    if held.position.number() <= steps.see() {
+        return Released::Reply(held.position, held.reply);
     }
+    if steps.alive() {
+        return Released::NotYet(held);
+    }
+    if held.position.number() <= steps.see() {
+        return Released::Reply(held.position, held.reply);
+    }
+    Released::Failed
 }
 
 /// Makes a change on the stripe of its key, which the pass has just taken and found with this
@@ -81,12 +85,7 @@ pub fn call_on<S: Steps>(
     ensures stripes { S.stripe_count steps.new ≡ S.stripe_count steps.old }
 {
     let stripe = stripe_of(command.key.as_str(), steps.stripes());
-    match walked_to_end(steps, Walk::change_on(alloc, command, stripe, content)) {
-        Stepped::Held(held) => Ok(held),
-        Stepped::Refused(refusal) => Err(refusal),
-        Stepped::More(_) | Stepped::Released(_) | Stepped::Swept(_) | Stepped::Captured(_) =>
-            unreachable!(),
-    }
+    change_on(steps, alloc, command, Taken { stripe, content })
 }
 
 /// Makes a read of the stripe of its key, which the pass has just taken and found with this
@@ -100,26 +99,68 @@ pub fn read_on<S: Steps>(steps: &mut S, read: Read, content: Stripe) -> Result<H
     ensures stripes { S.stripe_count steps.new ≡ S.stripe_count steps.old }
 {
     let stripe = stripe_of(read.key.as_str(), steps.stripes());
-    match walked_to_end(steps, Walk::read_on(read, stripe, content)) {
-        Stepped::Held(held) => Ok(held),
-        Stepped::Refused(refusal) => Err(refusal),
-        Stepped::More(_) | Stepped::Released(_) | Stepped::Swept(_) | Stepped::Captured(_) =>
-            unreachable!(),
-    }
+    read_from(steps, read, Taken { stripe, content })
 }
 
-// Makes the steps of a walk until it ends.
-fn walked_to_end<S: Steps>(steps: &mut S, walk: Walk) -> Stepped
-    requires { IsUnderWay (S.stripe_count steps.old) walk (S.recorded steps.old) }
-    ensures end { (b : Record) (task : Task) → Fits (S.stripe_count steps.old) b task walk (S.recorded steps.old) → Ends (S.stripe_count steps.old) b task result (S.recorded steps.new) }
+// Makes a change on its stripe, of which the TAKE was made: ALIVE, LOOK, TICKET, GIVE.
+fn change_on<S: Steps>(
+    steps: &mut S,
+    alloc: Global,
+    command: Command,
+    mut taken: Taken,
+) -> Result<Held, Refusal>
+    requires stripe { taken.stripe ≡ stripe_of (S.stripe_count steps.old) command.key }
+    requires found { (b : Record) × HasFound b taken.stripe taken.content (S.recorded steps.old) }
+    ensures made { (b : Record) → HasFound b taken.stripe taken.content (S.recorded steps.old) → IfOk result (λ held. MakesCall (S.stripe_count steps.old) b command held.position held.reply (S.recorded steps.new)) }
+    ensures refused { (b : Record) → HasFound b taken.stripe taken.content (S.recorded steps.old) → IfErr result (λ refusal. RefusesChange b (stripe_of (S.stripe_count steps.old) command.key) refusal (S.recorded steps.new)) }
+    ensures not_busy { IfErr result IsNotBusy }
     ensures place { S.place steps.new ≡ S.place steps.old }
     ensures stripes { S.stripe_count steps.new ≡ S.stripe_count steps.old }
 {
-    let mut walk = walk;
-    loop {
-        match walk.step(steps) {
-            Stepped::More(next) => walk = next,
-            end => return end,
+    if !steps.alive() {
+        return Err(taken.give_back(Refusal::Failed, steps));
+    }
+    if steps.look() >= TICKET_LIMIT {
+        return Err(taken.give_back(Refusal::TicketsSpent, steps));
+    }
+    match taken.content.prepare(alloc, &command) {
+        Ok(prepared) => Ok(change_ready(steps, NewChange { alloc, command }, taken, prepared)),
+        Err(refusal) => Err(taken.give_back(refusal, steps)),
+    }
+}
+
+// Makes a change that has all its memory: TICKET, GIVE.
+fn change_ready<S: Steps>(steps: &mut S, new: NewChange, taken: Taken, prepared: Prepared) -> Held
+    requires { (b : Record) × FitsChange (S.stripe_count steps.old) b (ToChange new.command) (ChangeStage.IsReady new taken prepared) (S.recorded steps.old) }
+    ensures made { (b : Record) → FitsChange (S.stripe_count steps.old) b (ToChange new.command) (ChangeStage.IsReady new taken prepared) (S.recorded steps.old) → MakesCall (S.stripe_count steps.old) b new.command result.position result.reply (S.recorded steps.new) }
+    ensures place { S.place steps.new ≡ S.place steps.old }
+    ensures stripes { S.stripe_count steps.new ≡ S.stripe_count steps.old }
+{
+    let ticket = steps.ticket(&new.command);
+    let (taken, held) = new.drawn(taken, prepared, ticket);
+    steps.give(taken.stripe, taken.content, Purpose::Nothing);
+    held
+}
+
+// Makes a read of its stripe, of which the TAKE was made: ALIVE, LOOK, GIVE.
+fn read_from<S: Steps>(steps: &mut S, read: Read, taken: Taken) -> Result<Held, Refusal>
+    requires stripe { taken.stripe ≡ stripe_of (S.stripe_count steps.old) read.key }
+    requires found { (b : Record) × HasFound b taken.stripe taken.content (S.recorded steps.old) }
+    ensures made { (b : Record) → HasFound b taken.stripe taken.content (S.recorded steps.old) → IfOk result (λ held. MakesRead (S.stripe_count steps.old) b read held.position held.reply (S.recorded steps.new)) }
+    ensures refused { (b : Record) → HasFound b taken.stripe taken.content (S.recorded steps.old) → IfErr result (λ refusal. RefusesRead b (stripe_of (S.stripe_count steps.old) read.key) refusal (S.recorded steps.new)) }
+    ensures not_busy { IfErr result IsNotBusy }
+    ensures place { S.place steps.new ≡ S.place steps.old }
+    ensures stripes { S.stripe_count steps.new ≡ S.stripe_count steps.old }
+{
+    if !steps.alive() {
+        return Err(taken.give_back(Refusal::Failed, steps));
+    }
+    let position = Position::new(steps.look());
+    match taken.content.part.read(&read) {
+        Ok(reply) => {
+            steps.give(taken.stripe, taken.content, Purpose::Answer(read));
+            Ok(Held { position, reply })
         }
+        Err(refusal) => Err(taken.give_back(refusal, steps)),
     }
 }

@@ -15,7 +15,7 @@ use map_types::{Command, Refusal};
 use std::alloc::Global;
 
 /// From this count of tickets on no change is made.
-const TICKET_LIMIT: u64 = 1 << 62;
+pub(crate) const TICKET_LIMIT: u64 = 1 << 62;
 
 /// A change, and where its memory is got.
 #[derive(Drop)]
@@ -37,7 +37,7 @@ pub(crate) enum ChangeStage {
 
 impl NewChange {
     // Makes the change that drew this ticket, which takes no memory.
-    fn drawn(self, taken: Taken, prepared: Prepared, ticket: Ticket) -> (Taken, Held)
+    pub(crate) fn drawn(self, taken: Taken, prepared: Prepared, ticket: Ticket) -> (Taken, Held)
         requires memory { HasMemory self.command taken.content prepared }
         requires small { ticket < 2 ^ 63 }
         ensures { HasChanged self.command taken ticket result.0 result.1 }

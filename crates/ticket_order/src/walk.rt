@@ -2,9 +2,7 @@
 ghost use Rattle.std.specs.Prelude.{◌≡◌, ◌<◌, ℕ, Some, None, true, false, length};
 ghost use Rattle.std.specs.Option.{option_copied};
 ghost use Rattle.ticket_order.specs.declared.record.Record.{Record};
-ghost use Rattle.java_hash.specs.Stripes.{stripe_of};
-ghost use Rattle.ticket_order.specs.Calls.{HasFound};
-ghost use Rattle.ticket_order.specs.Walks.{Task, ToChange, ToRead, ToRelease, ToSweep, ToCapture, Fits, IsUnderWay, Next, MakesOne, next_kind, Take, Give, IsRefusing, HasFewerLeft, steps_left, entries_of_walk, KeepsEntries, captured_of_walk, KeepsCaptured, refusal_of_walk, KeepsRefusal, is_holding};
+ghost use Rattle.ticket_order.specs.Walks.{Task, ToChange, ToRead, ToRelease, ToSweep, ToCapture, Fits, IsUnderWay, Next, MakesOne, next_kind, Take, Give, IsRefusing, Refuses, HasFewerLeft, steps_left, entries_of_walk, KeepsEntries, captured_of_walk, KeepsCaptured, refusal_of_walk, KeepsRefusal, is_holding};
 
 use crate::capture_walk::{CaptureStage, Captured};
 use crate::change_walk::{ChangeStage, NewChange};
@@ -66,16 +64,17 @@ impl Taken {
         })
     }
 
-    fn give_back<S: Steps>(self, refusal: Refusal, steps: &mut S) -> Stepped
+    // Gives the stripe back as it was taken, since the call is refused.
+    pub(crate) fn give_back<S: Steps>(self, refusal: Refusal, steps: &mut S) -> Refusal
         requires { (b : Record) × (task : Task) × IsRefusing (S.stripe_count steps.old) b task self refusal (S.recorded steps.old) }
         ensures one { MakesOne S.recorded S.moves (Give self.stripe) steps.old steps.new }
-        ensures next { (b : Record) (task : Task) → IsRefusing (S.stripe_count steps.old) b task self refusal (S.recorded steps.old) → Next (S.stripe_count steps.old) b task result (S.recorded steps.new) }
-        ensures refused { result ≡ Stepped.Refused refusal }
+        ensures refused { (b : Record) (task : Task) → IsRefusing (S.stripe_count steps.old) b task self refusal (S.recorded steps.old) → Refuses (S.stripe_count steps.old) b task refusal (S.recorded steps.new) }
+        ensures same { result ≡ refusal }
         ensures place { S.place steps.new ≡ S.place steps.old }
         ensures stripes { S.stripe_count steps.new ≡ S.stripe_count steps.old }
     {
         steps.give(self.stripe, self.content, Purpose::Nothing);
-        Stepped::Refused(refusal)
+        refusal
     }
 }
 
@@ -87,26 +86,6 @@ impl Walk {
     {
         Walk {
             stage: Stage::Change(ChangeStage::Begins(NewChange { alloc, command })),
-        }
-    }
-
-    // A change on the stripe of its key, of which the TAKE was made.
-    pub(crate) fn change_on(alloc: Global, command: Command, stripe: usize, content: Stripe) -> Walk
-        ensures { (n : ℕ) (b p : Record) → stripe ≡ stripe_of n command.key → HasFound b stripe content p → Fits n b (ToChange command) result p }
-    {
-        let taken = Taken { stripe, content };
-        Walk {
-            stage: Stage::Change(ChangeStage::HasTaken(NewChange { alloc, command }, taken)),
-        }
-    }
-
-    // A read of the stripe of its key, of which the TAKE was made.
-    pub(crate) fn read_on(read: Read, stripe: usize, content: Stripe) -> Walk
-        ensures { (n : ℕ) (b p : Record) → stripe ≡ stripe_of n read.key → HasFound b stripe content p → Fits n b (ToRead read) result p }
-    {
-        let taken = Taken { stripe, content };
-        Walk {
-            stage: Stage::Read(ReadStage::HasTaken(read, taken)),
         }
     }
 
@@ -227,7 +206,9 @@ impl Walk {
             Stage::Release(stage) => stage.step(steps),
             Stage::Sweep(stage) => stage.step(steps),
             Stage::Capture(stage) => stage.step(steps),
-            Stage::GivingBack(taken, refusal) => taken.give_back(refusal, steps),
+            Stage::GivingBack(taken, refusal) => {
+                Stepped::Refused(taken.give_back(refusal, steps))
+            }
         }
     }
 }

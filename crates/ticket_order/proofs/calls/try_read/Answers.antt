@@ -1,17 +1,10 @@
-use Rattle.std.proofs.Common.{inl, inr}
-use Rattle.ticket_order.specs.Walks.{ToRead}
 use Rattle.ticket_order.proofs.calls.try_read.Goals as goal
 
-pub walked_to_end-requires : goal.walked_to_end-requires
-walked_to_end-requires g c = (g.S.Steps.recorded c.args.steps.now, ToRead c.args.read, c.read.ensures _ _ c.requires)
+pub read_from-requires-clause-found : goal.read_from-requires-clause-found
+read_from-requires-clause-found g c = (g.S.Steps.recorded c.args.steps.now, record { between = c.in-Some.ensures.step.between; is = c.in-Some.ensures.step.is })
 
-pub unreachable-requires : goal.unreachable-requires
-unreachable-requires g c =
-    let end = c.walked_to_end.ensures.end _ (ToRead c.args.read) (c.read.ensures _ _ c.requires) in
-    elim c.in-More.is as (λ _. ⊥) [ inl e ↦ rw e.1 at end | inr d ↦ elim d as (λ _. ⊥) [ inl e ↦ rw e.1 at end | inr f ↦ elim f as (λ _. ⊥) [ inl e ↦ rw e.1 at end | inr e ↦ rw e.1 at end ] ] ]
+pub returns-in-Some-clause-made : goal.returns-in-Some-clause-made
+returns-in-Some-clause-made g c = rw (← c.in-Some.ensures.stripes) (c.read_from.ensures.made _ (record { between = c.in-Some.ensures.step.between; is = c.in-Some.ensures.step.is }))
 
-pub returns-in-Held-clause-made : goal.returns-in-Held-clause-made
-returns-in-Held-clause-made g c = c.in-Held.ensures.end _ (ToRead c.args.read) (c.read.ensures _ _ c.requires)
-
-pub returns-in-Refused-clause-refused : goal.returns-in-Refused-clause-refused
-returns-in-Refused-clause-refused g c = c.in-Refused.ensures.end _ (ToRead c.args.read) (c.read.ensures _ _ c.requires)
+pub returns-in-Some-clause-refused : goal.returns-in-Some-clause-refused
+returns-in-Some-clause-refused g c = rw (← c.in-Some.ensures.stripes) (c.read_from.ensures.refused _ (record { between = c.in-Some.ensures.step.between; is = c.in-Some.ensures.step.is }))
