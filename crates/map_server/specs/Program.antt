@@ -3,8 +3,7 @@ use Rattle.std.specs.Prelude.{◌≡◌, ◌≢◌, ◌⊎◌, ℕ, List, [], �
 use Rattle.clap.specs.Words.{Row, Text}
 use Rattle.connections.specs.declared.connection.ConnectionError.{ConnectionError}
 use Rattle.connections.specs.Connection.{Connection}
-use Rattle.connections.specs.Deferred.{Defers, LetsGo}
-use Rattle.memory_map.specs.Maps.{Answered, IsEmpty, MapState}
+use Rattle.memory_map.specs.Maps.{Began, Finished, GaveUp, IsEmpty, MapState}
 use Rattle.disk_model.specs.Files.{Files}
 use Rattle.map_server.specs.CommandLine.{faults, named_by, Asks, FindsNoMemory, Misuses}
 use Rattle.map_server.specs.declared.program.Order.{Order}
@@ -21,7 +20,7 @@ pub record Dialogues (r0 r1 w0 w1 : Option (List ℕ)) (status : ℕ) : Type 0 w
   pub after : MapState
   pub empty : IsEmpty before
   pub result : Result (Unit {0}) ConnectionError
-  pub connection : Connection Defers Answered LetsGo r0 r1 w0 w1 before after result
+  pub connection : Connection Began Finished GaveUp r0 r1 w0 w1 before after result
   pub status_is : MatchResult result (λ done. status ≡ 0) (λ error. status ≡ 1)
 
 -- the map was served, or it could not be begun and nothing was read or written

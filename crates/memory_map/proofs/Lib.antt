@@ -1,3 +1,4 @@
 pub mod OwnEntry
 pub mod NewMaps
 pub mod Releasing
+pub mod Serving

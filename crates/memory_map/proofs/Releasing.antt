@@ -1,5 +1,5 @@
 -- What the release of a reply leaves of a record, and what the answers then say.
-use Rattle.std.proofs.Common.{◌≡◌, ◌<◌, ◌≤◌, ◌⊎◌, ℕ, List, length, Ok, Err, IfOk, IfErr, ap, subst, sym, inl, inr, true, false, arith}
+use Rattle.std.proofs.Common.{◌≡◌, ◌<◌, ◌≤◌, ◌⊎◌, ℕ, List, length, Ok, Err, IfOk, IfErr, Result, ap, subst, sym, inl, inr, true, false, arith}
 use Rattle.std.specs.List.{Contains}
 use Rattle.map_types.specs.declared.commands.Command.{Command}
 use Rattle.map_types.specs.declared.commands.Reply.{Reply}
@@ -7,6 +7,7 @@ use Rattle.map_types.specs.declared.refusals.Refusal.{Refusal}
 use Rattle.map_types.specs.declared.refusals.Refusal.TheVariants as refusal_type
 use Rattle.ticket_order.specs.declared.stripe.Entry.{Entry}
 use Rattle.ticket_order.specs.declared.record.Opening.{Opening}
+use Rattle.ticket_order.specs.declared.held.Held.{Held}
 use Rattle.ticket_order.specs.declared.record.Record.{Record}
 use Rattle.ticket_order.specs.Records.{publishing}
 use Rattle.ticket_order.specs.Legality.{entries_from}
@@ -18,9 +19,8 @@ use Rattle.store_layout.specs.Hands.{FitsBatch, Hand, IsLongest}
 use Rattle.flusher.specs.Keeping.{is_too_long}
 use Rattle.wire_frames.specs.declared.requests.Request.{Request}
 use Rattle.connections.specs.Dialogue.{Answer}
-use Rattle.memory_map.specs.Served.{AreTaken, CannotCommit, IsCommitted, IsGivenOut, IsIdle, IsSwept, IsWithheld, Makes, Took, fails}
+use Rattle.memory_map.specs.Served.{AreTaken, Begins, CannotCommit, Ends, IsCommitted, IsGivenOut, IsIdle, IsSwept, IsWithheld, Makes, Refuses, fails}
 use Rattle.ticket_order.proofs.Entries.{grown}
-use Rattle.memory_map.proofs.OwnEntry.{own_taken}
 
 -- what is committed was published
 reached_published : (position : ℕ) (made w : Record) (log : LogState) → IsCommitted position made w log → position ≤ w.published
@@ -43,27 +43,25 @@ were_taken position count made after w s reached each same = λ e has low.
     (each e (subst (λ (o : Opening). Contains (entries_from o.first after.seen) e) (sym s.quiet.opening) (subst (λ (xs : List Command). Contains (entries_from made.opening.first xs) e) (sym s.seen.is) (grown made.opening.first made.seen s.seen.more e has)))
     (omega (arith, low, reached)))
 
--- a call that was made is answered as its reply was given out or withheld
-pub took : (P : Type 0) (n : ℕ) (v : Record) (request : Request) (old : LogState) (result : Answer) (position : ℕ) (reply : Reply) (made w : Record) (new : LogState) → Makes n v request position reply made
-    → IfOk result (λ answer. (answer ≡ reply) × P × IsGivenOut position made w new)
-    → IfErr result (λ refusal. (refusal ≡ refusal_type.Failed) × IsWithheld made w new)
-    → Took n v request result old w new
-took P n v request old (Ok answer) position reply made w new makes ok err =
-    let out = ok.2 in
-    record {
-      position = position;
-      made = made;
-      makes = subst (λ (x : Reply). Makes n v request position x made) (sym ok.0) makes;
-      given_out = out;
-      own = own_taken n v request position reply made w makes (λ e has low. subst (λ (r : Record). Contains r.taken e) (sym out.reaches.sees.is) (out.taken e has low));
-    }
-took P n v request old (Err refusal) position reply made w new makes ok err =
-    inr (err.0, record { position = position; reply = reply; made = made; makes = makes; withheld = err.1 })
+-- what was begun, and how what was begun was finished
+pub begins : (n : ℕ) (v : Record) (request : Request) (result : Result Held Refusal) (w : Record)
+    → IfOk result (λ held. Makes n v request held.position held.reply w)
+    → IfErr result (λ refusal. Refuses n v request refusal w)
+    → Begins n v request result w
+begins n v request (Ok held) w ok err = ok
+begins n v request (Err refusal) w ok err = err
+
+pub ends : (P : Type 0) (v : Record) (held : Held) (answer : Answer) (w : Record) (log : LogState)
+    → IfOk answer (λ reply. (reply ≡ held.reply) × P × IsGivenOut held.position v w log)
+    → IfErr answer (λ refusal. (refusal ≡ refusal_type.Failed) × IsWithheld v w log)
+    → Ends v held answer w log
+ends P v held (Ok reply) w log ok err = (ok.0, ok.2)
+ends P v held (Err refusal) w log ok err = err
 
 -- where the map has not failed after an answer, the reply was given out
 pub holds_still : (A B : Reply → Type 0) (C : Refusal → Type 0) (P : Type 0) (result : Answer) → IfOk result (λ reply. A reply × P × B reply) → IfErr result (λ refusal. (refusal ≡ refusal_type.Failed) × C refusal) → fails result ≡ false → P
 holds_still A B C P (Ok reply) ok err still = ok.1
-holds_still A B C P (Err refusal) ok err still = both (subst (λ (r : Refusal). fails (Err r) ≡ false) err.0 still)
+holds_still A B C P (Err refusal) ok err still = both (subst (λ (r : Refusal). fails {X = Reply} (Err r) ≡ false) err.0 still)
   where
     both : true ≡ false → P
     both e = absurd (cc)

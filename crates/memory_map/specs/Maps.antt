@@ -1,8 +1,9 @@
--- A map in memory: how it begins, and what a request leaves of it.
-use Rattle.std.specs.Prelude.{◌≡◌, ◌⊎◌, ℕ, ◌+◌, Bool, true, false, List, Err}
+-- A map in memory: how it begins, and what a call leaves of it.
+use Rattle.std.specs.Prelude.{◌≡◌, ◌⊎◌, ℕ, ◌+◌, Bool, true, false, List, Result, Err}
 use Rattle.std.specs.FinMap as finite
 use Rattle.map_types.specs.declared.refusals.Refusal.{Refusal}
 use Rattle.map_types.specs.declared.refusals.Refusal.TheVariants as refusal_type
+use Rattle.ticket_order.specs.declared.held.Held.{Held}
 use Rattle.ticket_order.specs.declared.record.Record.{Record}
 use Rattle.ticket_order.specs.declared.record.Opening.{Opening}
 use Rattle.stripe_locks.specs.Plays.{joining}
@@ -12,7 +13,7 @@ use Rattle.recovery.specs.Formatting.{IsFormatted}
 use Rattle.recovery.specs.LogReading.{IsResumed, contents_of}
 use Rattle.wire_frames.specs.declared.requests.Request.{Request}
 use Rattle.connections.specs.Dialogue.{Answer}
-use Rattle.memory_map.specs.Served.{Took, fails}
+use Rattle.memory_map.specs.Served.{Begins, Ends, fails}
 
 -- a map in memory: the count of stripes, the record of its pass, its log, and whether it has failed
 pub record MapState : Type 0 where
@@ -45,19 +46,35 @@ abbrev pub CannotBegin : {D : Type 0} → (D → List Files) → (D → ℕ) →
 CannotBegin states failures disk refusal left =
     CannotOpen states failures disk refusal left ⊎ ((refusal ≡ refusal_type.SeatsSpent) × (failures left ≡ failures disk))
 
--- a map that has not failed answered a request so
-pub record Works (before : MapState) (request : Request) (answer : Answer) (after : MapState) : Type 0 where
+-- a map that has not failed began a call so, or refused it; it left the log
+pub record Begun (before : MapState) (request : Request) (begun : Result Held Refusal) (after : MapState) : Type 0 where
   pub working : before.has_failed ≡ false
   pub stripes : after.stripes ≡ before.stripes
-  pub took : Took before.stripes before.pass request answer before.log after.pass after.log
+  pub begins : Begins before.stripes before.pass request begun after.pass
+  pub log : after.log ≡ before.log
+  pub failed : after.has_failed ≡ fails begun
+
+-- a map that has not failed finished a call so
+pub record Ended (before : MapState) (held : Held) (answer : Answer) (after : MapState) : Type 0 where
+  pub working : before.has_failed ≡ false
+  pub stripes : after.stripes ≡ before.stripes
+  pub ends : Ends before.pass held answer after.pass after.log
   pub failed : after.has_failed ≡ fails answer
 
 -- a map that has failed refuses, and does nothing
-pub record IsOver (before : MapState) (answer : Answer) (after : MapState) : Type 0 where
+pub record IsOver {X : Type 0} (before : MapState) (result : Result X Refusal) (after : MapState) : Type 0 where
   pub failed : before.has_failed ≡ true
-  pub refused : answer ≡ Err refusal_type.Failed
+  pub refused : result ≡ Err refusal_type.Failed
   pub same : after ≡ before
 
--- a request was answered so, and led from one state of the map to another
-abbrev pub Answered : MapState → Request → Answer → MapState → Type 0
-Answered before request answer after = Works before request answer after ⊎ IsOver before answer after
+-- a call was begun so, and led from one state of the map to another
+abbrev pub Began : MapState → Request → Result Held Refusal → MapState → Type 0
+Began before request begun after = Begun before request begun after ⊎ IsOver before begun after
+
+-- a call that was begun was finished so
+abbrev pub Finished : MapState → Held → Answer → MapState → Type 0
+Finished before held answer after = Ended before held answer after ⊎ IsOver before answer after
+
+-- a call that was begun was given up: its reply is let go, and nothing else is done
+abbrev pub GaveUp : MapState → Held → MapState → Type 0
+GaveUp before held after = after ≡ before

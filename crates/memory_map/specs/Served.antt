@@ -1,5 +1,5 @@
--- What a request that is served leaves of the record of the keeper's pass, which also makes the calls, and of the log.
-use Rattle.std.specs.Prelude.{◌≡◌, ◌⊎◌, ℕ, ◌+◌, ◌<◌, ◌≤◌, Bool, true, false, None, Ok, Err, List, length}
+-- What a call that is begun and then finished leaves of the record of the keeper's pass, which also makes the calls, and of the log.
+use Rattle.std.specs.Prelude.{◌≡◌, ◌⊎◌, ℕ, ◌+◌, ◌<◌, ◌≤◌, Bool, true, false, None, Result, Ok, Err, List, length}
 use Rattle.std.specs.List.{Contains}
 use Rattle.disk_model.specs.Files.{Files}
 use Rattle.java_hash.specs.Stripes.{stripe_of}
@@ -7,6 +7,7 @@ use Rattle.map_types.specs.declared.refusals.Refusal.{Refusal}
 use Rattle.map_types.specs.declared.refusals.Refusal.TheVariants as refusal_type
 use Rattle.map_types.specs.declared.commands.Command.{Command}
 use Rattle.map_types.specs.declared.commands.Reply.{Reply}
+use Rattle.ticket_order.specs.declared.held.Held.{Held}
 use Rattle.ticket_order.specs.declared.record.Record.{Record}
 use Rattle.ticket_order.specs.declared.stripe.Entry.{Entry}
 use Rattle.ticket_order.specs.Records.{entry, failing, publishing}
@@ -45,6 +46,11 @@ Makes n v (Change command) position reply w = MakesCall n v command position rep
 Makes n v (Read read) position reply w = MakesRead n v read position reply w
 Makes n v (Bulk bulk) position reply w = ⊥
 
+-- a call was begun so: it was made, and its reply is held at its position; or it was refused, and no call was added
+abbrev pub Begins : ℕ → Record → Request → Result Held Refusal → Record → Type 0
+Begins n v request (Ok held) w = Makes n v request held.position held.reply w
+Begins n v request (Err refusal) w = Refuses n v request refusal w
+
 -- sweeps alone were made, by which the pass may have seen more
 pub record IsSwept (p w : Record) : Type 0 where
   pub quiet : IsQuiet p w
@@ -77,14 +83,6 @@ IsTaken (Change command) position w = (ticket : ℕ) → position ≡ ticket + 1
 IsTaken (Read read) position w = Unit {0}
 IsTaken (Bulk bulk) position w = Unit {0}
 
--- The call was made, and its reply was given out at its position, where its own entry is committed.
-pub record Serves (n : ℕ) (v : Record) (request : Request) (reply : Reply) (w : Record) (log : LogState) : Type 0 where
-  pub position : ℕ
-  pub made : Record
-  pub makes : Makes n v request position reply made
-  pub given_out : IsGivenOut position made w log
-  pub own : IsTaken request position w
-
 -- the next commands that the pass took are a batch, and it would carry the log past its greatest length
 pub record HasNoRoom (log : LogState) (p : Record) : Type 0 where
   pub commands : List Command
@@ -97,27 +95,49 @@ pub record HasNoRoom (log : LogState) (p : Record) : Type 0 where
 abbrev pub CannotCommit : LogState → Record → Type 0
 CannotCommit log p = (log.is_broken ≡ true) ⊎ HasNoRoom log p
 
--- Why a call that was made has no reply: after sweeps its position can't be committed, and the pass made a FAIL.
+-- Why a call that was begun has no reply: after sweeps its position can't be committed, and the pass made a FAIL.
 pub record IsWithheld (made w : Record) (log : LogState) : Type 0 where
   pub after : Record
   pub swept : IsSwept made after
   pub cannot : CannotCommit log after
   pub fails : w ≡ failing after
 
--- The call was made, but its reply is withheld: its outcome is open.
-pub record Loses (n : ℕ) (v : Record) (request : Request) (w : Record) (log : LogState) : Type 0 where
+-- a call that was begun was finished so: the reply that was held was given out at its position; or it is withheld, and its outcome is open
+abbrev pub Ends : Record → Held → Answer → Record → LogState → Type 0
+Ends v held (Ok reply) w log = (reply ≡ held.reply) × IsGivenOut held.position v w log
+Ends v held (Err refusal) w log = (refusal ≡ refusal_type.Failed) × IsWithheld v w log
+
+-- with this result the map has failed
+abbrev pub fails : {X : Type 0} → Result X Refusal → Bool
+fails (Err refusal_type.Failed) = true
+fails result = false
+
+-- ---- from its beginning to its end
+
+-- the pass goes on from where it was: it saw what it had seen, and perhaps more
+pub record GoesOn (v w : Record) : Type 0 where
+  pub opening : w.opening ≡ v.opening
+  pub seen : HasSeenMore v w
+
+-- The call was made, others were begun or finished behind it, and its reply was given out at its position, where its own entry is committed.
+pub record Serves (n : ℕ) (v : Record) (request : Request) (reply : Reply) (w : Record) (log : LogState) : Type 0 where
   pub position : ℕ
-  pub reply : Reply
   pub made : Record
   pub makes : Makes n v request position reply made
-  pub withheld : IsWithheld made w log
+  pub before : Record
+  pub goes_on : GoesOn made before
+  pub given_out : IsGivenOut position before w log
+  pub own : IsTaken request position w
 
--- the request was answered so
-abbrev pub Took : ℕ → Record → Request → Answer → LogState → Record → LogState → Type 0
-Took n v request (Ok reply) old w new = Serves n v request reply w new
-Took n v request (Err refusal) old w new = (Refuses n v request refusal w × (new ≡ old)) ⊎ ((refusal ≡ refusal_type.Failed) × Loses n v request w new)
+-- a call that was begun, and then finished with a reply, was served
+abbrev pub BegunIsServed : Type 0
+BegunIsServed =
+    (n : ℕ) (v : Record) (request : Request) (held : Held) (made before : Record) (reply : Reply) (w : Record) (log : LogState)
+    → Begins n v request (Ok held) made → GoesOn made before → Ends before held (Ok reply) w log → Serves n v request reply w log
 
--- after this answer the map has failed
-abbrev pub fails : Answer → Bool
-fails (Err refusal_type.Failed) = true
-fails answer = false
+-- the pass goes on whatever is begun, finished or given up, one behind the other
+pub record PassGoesOn : Type 0 where
+  pub begun : (n : ℕ) (v : Record) (request : Request) (result : Result Held Refusal) (w : Record) → Begins n v request result w → GoesOn v w
+  pub ended : (v : Record) (held : Held) (answer : Answer) (w : Record) (log : LogState) → Ends v held answer w log → GoesOn v w
+  pub same : (v : Record) → GoesOn v v
+  pub then : (v between w : Record) → GoesOn v between → GoesOn between w → GoesOn v w

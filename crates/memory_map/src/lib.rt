@@ -3,4 +3,4 @@
 
 pub mod memory;
 
-pub use memory::Memory;
+pub use memory::{Memory, begun_are_served};

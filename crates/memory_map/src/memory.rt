@@ -8,7 +8,7 @@ ghost use Rattle.recovery.specs.LogReading.{IsResumed};
 ghost use Rattle.stripe_locks.specs.Passes.{begun_with, recorded, stripe_count, IsPassOf};
 ghost use Rattle.stripe_locks.specs.Plays.{joining};
 ghost use Rattle.memory_map.specs.Maps.{CannotBegin, CannotOpen, IsEmpty, nothing_yet};
-ghost use Rattle.memory_map.specs.Served.{AreTaken, CannotCommit, IsCommitted, IsGivenOut, IsIdle, IsKept, IsWithheld, Makes, Refuses, Took, fails};
+ghost use Rattle.memory_map.specs.Served.{AreTaken, BegunIsServed, Begins, CannotCommit, Ends, IsCommitted, IsGivenOut, IsIdle, IsKept, IsWithheld, Makes, PassGoesOn, Refuses, fails};
 
 use connections::Calls;
 use disk_model::{Disk, MemDisk};
@@ -29,10 +29,11 @@ use wire_frames::Request;
 const MOST_COMMANDS: u32 = 65_536;
 
 /// A map of 16 stripes in memory, with a keeper whose log lies on a disk. The keeper's pass makes the
-/// calls; the keeper sweeps the stripes, commits and publishes before a reply is given out. What it is
-/// refused for want of memory is tried again until memory is found. Where a device call fails, or the
-/// log is full, a call can't be committed: the map has failed, and each later call is refused with
-/// `Failed`.
+/// calls when they are begun. The keeper sweeps the stripes, commits and publishes before a reply is
+/// given out, so that one batch commits all calls that were begun. What it is refused for want of
+/// memory is tried again until memory is found. If a device call fails, or the log is full, a call
+/// can't be committed: the map has failed, and from then on each call is refused with `Failed`, one
+/// that was begun before too.
 #[derive(Drop)]
 pub struct Memory<'a, D: Disk + Drop, R: Wait> {
     rt: &'a R,
@@ -224,26 +225,50 @@ fn make<S: Steps>(steps: &mut S, alloc: Global, request: Request) -> Result<Held
     }
 }
 
-/// The answer to a request of a map that has not failed.
-fn answer<S: Steps, D: Disk, R: Wait>(
-    rt: &R,
+/// Begins the call of a request beside the keeper.
+fn begin_beside<S: Steps, D: Disk>(
+    steps: &mut S,
     alloc: Global,
+    keeper: &Keeper<D>,
+    request: Request,
+) -> Result<Held, Refusal>
+    requires idle { IsIdle keeper.now }
+    requires kept { IsKept D.states D.honest (S.stripe_count steps.old) keeper.now (S.recorded steps.old) }
+
+    ensures begins { Begins (S.stripe_count steps.old) (S.recorded steps.old) request result (S.recorded steps.new) }
+    ensures kept { IsKept D.states D.honest (S.stripe_count steps.new) keeper.now (S.recorded steps.new) }
+    ensures place { S.place steps.new ≡ S.place steps.old }
+    ensures stripes { S.stripe_count steps.new ≡ S.stripe_count steps.old }
+{
+    pass_goes_on(keeper);
+    make(steps, alloc, request)
+}
+
+/// Finishes a call that was begun, over a map that has not failed.
+fn end_beside<S: Steps, D: Disk, R: Wait>(
+    rt: &R,
     steps: &mut S,
     keeper: &mut Keeper<D>,
-    request: Request,
+    held: Held,
 ) -> Result<Reply, Refusal>
     requires idle { IsIdle keeper.old }
     requires kept { IsKept D.states D.honest (S.stripe_count steps.old) keeper.old (S.recorded steps.old) }
-    ensures took { Took (S.stripe_count steps.old) (S.recorded steps.old) request result keeper.old.log (S.recorded steps.new) keeper.new.log }
+
+    ensures ends { Ends (S.recorded steps.old) held result (S.recorded steps.new) keeper.new.log }
     ensures works { fails result ≡ false → IsIdle keeper.new }
     ensures kept { IsKept D.states D.honest (S.stripe_count steps.new) keeper.new (S.recorded steps.new) }
     ensures place { S.place steps.new ≡ S.place steps.old }
     ensures stripes { S.stripe_count steps.new ≡ S.stripe_count steps.old }
 {
-    pass_goes_on(keeper);
-    let held = make(steps, alloc, request)?;
     give_out(rt, steps, keeper, held)
 }
+
+/// A call that was begun and then finished with a reply was made, and its own entry is committed,
+/// whatever was begun and finished in between.
+pub fn begun_are_served()
+    ensures served { BegunIsServed }
+    ensures goes_on { PassGoesOn }
+{}
 
 /// Makes the disk that of an empty map of 16 stripes, and opens it.
 fn open_new<D: Disk + Drop>(alloc: Global, disk: D) -> Result<(Keeper<D>, Stripes), (D, Refusal)>
@@ -296,38 +321,45 @@ impl<'a, R: Wait> Memory<'a, MemDisk, R> {
 }
 
 impl<D: Disk + Drop, R: Wait> Calls for Memory<'_, D, R> {
-    ghost use Rattle.connections.specs.Deferred.{Defers, LetsGo};
-    ghost use Rattle.memory_map.specs.Maps.{Answered};
+    ghost use Rattle.memory_map.specs.Maps.{Began, Finished, GaveUp};
 
-    type Held = Request;
+    type Held = Held;
 
-    ghost began = { Defers };
+    ghost began = { Began };
 
-    ghost finished = { Answered };
+    ghost finished = { Finished };
 
-    ghost gave_up = { LetsGo };
+    ghost gave_up = { GaveUp };
 
     ghost owns = { λ _ _. Unit {0} };
 
-    // A call is made when it is finished.
-    fn begin(&mut self, request: Request) -> Result<Request, Refusal> {
-        Ok(request)
-    }
-
-    // A change waits for its commit, and a read may wait for that of a change which it saw.
-    fn may_finish(&self, _request: &Request) -> bool {
-        false
-    }
-
-    fn finish(&mut self, request: Request) -> Result<Reply, Refusal> {
+    // The call is made, and its reply is held until its position is committed.
+    fn begin(&mut self, request: Request) -> Result<Held, Refusal> {
         if self.has_failed {
             return Err(Refusal::Failed);
         }
         let mut steps = self.stripes.at(&mut self.pass);
-        let answer = answer(self.rt, self.alloc, &mut steps, &mut self.keeper, request);
+        let begun = begin_beside(&mut steps, self.alloc, &self.keeper, request);
+        self.has_failed = matches!(begun, Err(Refusal::Failed));
+        begun
+    }
+
+    // The first call of a row that is finished commits all that were begun.
+    fn may_finish(&self, held: &Held) -> bool {
+        held.position().number() <= self.keeper.committed()
+    }
+
+    fn finish(&mut self, held: Held) -> Result<Reply, Refusal> {
+        if self.has_failed {
+            return Err(Refusal::Failed);
+        }
+        let mut steps = self.stripes.at(&mut self.pass);
+        let answer = end_beside(self.rt, &mut steps, &mut self.keeper, held);
         self.has_failed = matches!(answer, Err(Refusal::Failed));
         answer
     }
 
-    fn give_up(&mut self, _request: Request) {}
+    fn give_up(&mut self, held: Held) {
+        held.give_up();
+    }
 }
