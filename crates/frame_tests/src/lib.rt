@@ -7,3 +7,5 @@ mod client;
 mod complaints;
 #[cfg(test)]
 mod dialogues;
+#[cfg(test)]
+mod rows;

@@ -13,7 +13,7 @@ use Rattle.recovery.specs.Formatting.{IsFormatted}
 use Rattle.recovery.specs.LogReading.{IsResumed, contents_of}
 use Rattle.wire_frames.specs.declared.requests.Request.{Request}
 use Rattle.connections.specs.Dialogue.{Answer}
-use Rattle.memory_map.specs.Served.{Begins, Ends, fails}
+use Rattle.memory_map.specs.Served.{Begins, Ends, IsCallOf, fails}
 
 -- a map in memory: the count of stripes, the record of its pass, its log, and whether it has failed
 pub record MapState : Type 0 where
@@ -74,6 +74,10 @@ Began before request begun after = Begun before request begun after ⊎ IsOver b
 -- a call that was begun was finished so
 abbrev pub Finished : MapState → Held → Answer → MapState → Type 0
 Finished before held answer after = Ended before held answer after ⊎ IsOver before answer after
+
+-- the map made the call whose reply is held
+abbrev pub Owns : MapState → Held → Type 0
+Owns map held = IsCallOf map.pass held
 
 -- a call that was begun was given up: its reply is let go, and nothing else is done
 abbrev pub GaveUp : MapState → Held → MapState → Type 0

@@ -8,9 +8,10 @@ use Rattle.map_types.specs.declared.refusals.Refusal.TheVariants as refusal_type
 use Rattle.map_types.specs.declared.commands.Command.{Command}
 use Rattle.map_types.specs.declared.commands.Reply.{Reply}
 use Rattle.ticket_order.specs.declared.held.Held.{Held}
+use Rattle.ticket_order.specs.declared.record.Asked.{Asked}
 use Rattle.ticket_order.specs.declared.record.Record.{Record}
 use Rattle.ticket_order.specs.declared.stripe.Entry.{Entry}
-use Rattle.ticket_order.specs.Records.{entry, failing, publishing}
+use Rattle.ticket_order.specs.Records.{call, entry, failing, publishing}
 use Rattle.ticket_order.specs.Legality.{entries_from}
 use Rattle.ticket_order.specs.Calls.{MakesCall, MakesRead, RefusesChange, RefusesRead, Reaches}
 use Rattle.gate_log.specs.States.{LogState, IsResting}
@@ -50,6 +51,14 @@ Makes n v (Bulk bulk) position reply w = ⊥
 abbrev pub Begins : ℕ → Record → Request → Result Held Refusal → Record → Type 0
 Begins n v request (Ok held) w = Makes n v request held.position held.reply w
 Begins n v request (Err refusal) w = Refuses n v request refusal w
+
+-- the pass made the call whose reply is held
+abbrev pub IsCallOf : Record → Held → Type 0
+IsCallOf v held = (asked : Asked) × Contains v.calls (call held.position asked held.reply)
+
+-- each call that the pass had made is one that it has made
+abbrev pub StillMade : Record → Record → Type 0
+StillMade v w = (held : Held) → IsCallOf v held → IsCallOf w held
 
 -- sweeps alone were made, by which the pass may have seen more
 pub record IsSwept (p w : Record) : Type 0 where

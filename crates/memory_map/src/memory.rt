@@ -8,7 +8,7 @@ ghost use Rattle.recovery.specs.LogReading.{IsResumed};
 ghost use Rattle.stripe_locks.specs.Passes.{begun_with, recorded, stripe_count, IsPassOf};
 ghost use Rattle.stripe_locks.specs.Plays.{joining};
 ghost use Rattle.memory_map.specs.Maps.{CannotBegin, CannotOpen, IsEmpty, nothing_yet};
-ghost use Rattle.memory_map.specs.Served.{AreTaken, BegunIsServed, Begins, CannotCommit, Ends, IsCommitted, IsGivenOut, IsIdle, IsKept, IsWithheld, Makes, PassGoesOn, Refuses, fails};
+ghost use Rattle.memory_map.specs.Served.{AreTaken, BegunIsServed, Begins, CannotCommit, Ends, IsCallOf, IsCommitted, IsGivenOut, IsIdle, IsKept, IsWithheld, Makes, PassGoesOn, Refuses, StillMade, fails};
 
 use connections::Calls;
 use disk_model::{Disk, MemDisk};
@@ -236,6 +236,8 @@ fn begin_beside<S: Steps, D: Disk>(
     requires kept { IsKept D.states D.honest (S.stripe_count steps.old) keeper.now (S.recorded steps.old) }
 
     ensures begins { Begins (S.stripe_count steps.old) (S.recorded steps.old) request result (S.recorded steps.new) }
+    ensures made { IfOk result (IsCallOf (S.recorded steps.new)) }
+    ensures others { StillMade (S.recorded steps.old) (S.recorded steps.new) }
     ensures kept { IsKept D.states D.honest (S.stripe_count steps.new) keeper.now (S.recorded steps.new) }
     ensures place { S.place steps.new ≡ S.place steps.old }
     ensures stripes { S.stripe_count steps.new ≡ S.stripe_count steps.old }
@@ -255,6 +257,7 @@ fn end_beside<S: Steps, D: Disk, R: Wait>(
     requires kept { IsKept D.states D.honest (S.stripe_count steps.old) keeper.old (S.recorded steps.old) }
 
     ensures ends { Ends (S.recorded steps.old) held result (S.recorded steps.new) keeper.new.log }
+    ensures others { StillMade (S.recorded steps.old) (S.recorded steps.new) }
     ensures works { fails result ≡ false → IsIdle keeper.new }
     ensures kept { IsKept D.states D.honest (S.stripe_count steps.new) keeper.new (S.recorded steps.new) }
     ensures place { S.place steps.new ≡ S.place steps.old }
@@ -321,7 +324,7 @@ impl<'a, R: Wait> Memory<'a, MemDisk, R> {
 }
 
 impl<D: Disk + Drop, R: Wait> Calls for Memory<'_, D, R> {
-    ghost use Rattle.memory_map.specs.Maps.{Began, Finished, GaveUp};
+    ghost use Rattle.memory_map.specs.Maps.{Began, Finished, GaveUp, Owns};
 
     type Held = Held;
 
@@ -331,7 +334,7 @@ impl<D: Disk + Drop, R: Wait> Calls for Memory<'_, D, R> {
 
     ghost gave_up = { GaveUp };
 
-    ghost owns = { λ _ _. Unit {0} };
+    ghost owns = { Owns };
 
     // The call is made, and its reply is held until its position is committed.
     fn begin(&mut self, request: Request) -> Result<Held, Refusal> {

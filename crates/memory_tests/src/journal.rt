@@ -11,11 +11,11 @@ use wire_frames::Request;
 /// More device calls than are made before the first change.
 const MANY: u64 = 100;
 
-/// A change's frame is written and synced, and so is its gate.
-const CHANGE_CALLS: u64 = 4;
+/// A batch's frame is written and synced, and so is its gate.
+pub(crate) const BATCH_CALLS: u64 = 4;
 
 /// A disk whose call after so many fails.
-fn failing_disk(alloc: Global, after: u64) -> MemDisk {
+pub(crate) fn failing_disk(alloc: Global, after: u64) -> MemDisk {
     let mut disk = MemDisk::new(alloc);
     disk.plan(Some(Failure {
         after,
@@ -43,6 +43,15 @@ fn put(alloc: Global, number: i64) -> Result<Request, Refusal> {
     }))
 }
 
+/// Begins a call and finishes it.
+pub(crate) fn called<R: Wait>(
+    memory: &mut Memory<MemDisk, R>,
+    request: Request,
+) -> Result<Reply, Refusal> {
+    let held = memory.begin(request)?;
+    memory.finish(held)
+}
+
 /// The number of the refusal, or 0.
 fn status<T: Drop>(answer: Result<T, Refusal>) -> u8 {
     match answer {
@@ -53,14 +62,14 @@ fn status<T: Drop>(answer: Result<T, Refusal>) -> u8 {
 
 fn put_status<R: Wait>(memory: &mut Memory<MemDisk, R>, alloc: Global, number: i64) -> u8 {
     match put(alloc, number) {
-        Ok(request) => status(memory.finish(request)),
+        Ok(request) => status(called(memory, request)),
         Err(refusal) => refusal.number(),
     }
 }
 
 // How many device calls are made before the first change. Where one of them fails the map is not begun,
 // and the refusal is 9: else the answer is `MANY`.
-fn first_calls<R: Wait>(rt: &R, alloc: Global) -> u64 {
+pub(crate) fn first_calls<R: Wait>(rt: &R, alloc: Global) -> u64 {
     for after in 0..MANY {
         match status(begun(rt, alloc, failing_disk(alloc, after))) {
             0 => return after,
@@ -90,30 +99,31 @@ fn fails_behind_one<R: Wait>(memory: &mut Memory<MemDisk, R>, alloc: Global) -> 
 fn a_failure_at_each_device_call(rt: HostRuntime) -> Result<(), Refusal> {
     let alloc = rt.alloc();
     let calls = first_calls(&rt, alloc);
-    for call in 0..CHANGE_CALLS {
-        let disk = failing_disk(alloc, calls.saturating_add(CHANGE_CALLS + call));
+    for call in 0..BATCH_CALLS {
+        let disk = failing_disk(alloc, calls.saturating_add(BATCH_CALLS + call));
         let mut memory = begun(&rt, alloc, disk)?;
         assert!(rt; fails_behind_one(&mut memory, alloc), "{call}");
     }
     Ok(())
 }
 
-/// Two puts of `a`; the second finds a disk that fails.
+/// Two puts of `a`, which share a batch.
 const PUT_TWICE: &[u8] =
     b"\x00\x0C\x10\x01a\x01\x00\x00\x00\x00\x00\x00\x00\x05\x00\x0C\x10\x01a\x01\x00\x00\x00\x00\x00\x00\x00\x06";
 
-const WAS_ABSENT_THEN_FAILED: &[u8] = b"\x00\x02\x00\x00\x00\x02\x89\x00";
+const FAILED: &[u8] = b"\x00\x02\x89\x00";
 
+/// The first put has no reply but this one, and the second is given up.
 #[test]
 fn a_failure_ends_the_connection(rt: HostRuntime) -> Result<(), Fail> {
     let alloc = rt.alloc();
     let calls = first_calls(&rt, alloc);
-    let disk = failing_disk(alloc, calls.saturating_add(CHANGE_CALLS));
+    let disk = failing_disk(alloc, calls);
     let mut memory = begun(&rt, alloc, disk)?;
     let mut reader = PUT_TWICE;
     let mut writer = Vec::new(alloc);
     serve_connection(alloc, &mut reader, &mut writer, &mut memory)?;
-    assert_eq!(rt; writer.as_slice(), WAS_ABSENT_THEN_FAILED);
+    assert_eq!(rt; writer.as_slice(), FAILED);
     Ok(())
 }
 
@@ -123,10 +133,11 @@ fn value_of<R: Wait>(memory: &mut Memory<MemDisk, R>, alloc: Global) -> i64 {
         Ok(key) => key,
         Err(refusal) => return -1 - i64::from(refusal.number()),
     };
-    match memory.finish(Request::Read(Read {
+    let request = Request::Read(Read {
         key,
         question: Question::Get,
-    })) {
+    });
+    match called(memory, request) {
         Ok(Reply::Now(Some(Value::Int(number)))) => number,
         Ok(_) => -1,
         Err(refusal) => -1 - i64::from(refusal.number()),

@@ -1,5 +1,5 @@
-//! Tests of the map in memory: its journal on a disk that fails, requests of the whole map, and random
-//! calls of it and of a part beside the plain program of the model.
+//! Tests of the map in memory: its journal on a disk that fails, rows of calls that share a batch,
+//! requests of the whole map, and random calls of it and of a part beside the plain program of the model.
 #![tactic(auto)]
 
 #[cfg(test)]
@@ -8,5 +8,7 @@ mod dice;
 mod journal;
 #[cfg(test)]
 mod random;
+#[cfg(test)]
+mod rows;
 #[cfg(test)]
 mod whole_map;

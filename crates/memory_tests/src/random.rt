@@ -1,9 +1,8 @@
 //! Random changes and reads, to the map in memory and to a part, beside the plain program of the
 //! model.
 use crate::dice::Dice;
-use crate::journal::begun;
+use crate::journal::{begun, called};
 use atomic_methods::Part;
-use connections::Calls;
 use disk_model::MemDisk;
 use java_hash::StripeCount;
 use map_model::reference::ReferenceMap;
@@ -20,7 +19,7 @@ fn reads_the_same<R: Wait>(
     read: Read,
 ) -> Result<bool, Refusal> {
     let wanted = reference.read(&read)?;
-    Ok(memory.finish(Request::Read(read))? == wanted)
+    Ok(called(memory, Request::Read(read))? == wanted)
 }
 
 /// Whether a change gives the same reply on both.
@@ -31,7 +30,7 @@ fn changes_the_same<R: Wait>(
     command: Command,
 ) -> Result<bool, Refusal> {
     let wanted = reference.change(alloc, &command)?;
-    Ok(memory.finish(Request::Change(command))? == wanted)
+    Ok(called(memory, Request::Change(command))? == wanted)
 }
 
 #[test]
