@@ -85,7 +85,7 @@ none_done (Ok x) Opened done es h = ap (λ (xs : List Entry). done ++ commands_o
 
 -- ---- the stores after a step
 
-stores_on : {D : Type 0} (states : D → List Files) (honest : D → Type 0) (new : Keeper D) (p : Record) → new.is_broken ≡ false → IsUnbroken (store_of new) → (honest new.disk → HoldsFor (history_of p) new (now (states new.disk)))
+pub stores_on : {D : Type 0} (states : D → List Files) (honest : D → Type 0) (new : Keeper D) (p : Record) → new.is_broken ≡ false → IsUnbroken (store_of new) → (honest new.disk → HoldsFor (history_of p) new (now (states new.disk)))
     → Stores states honest new p
 stores_on {D} states honest new p works unbroken holds = record {
   unbroken = λ _. unbroken;
@@ -240,7 +240,7 @@ ok_not_err : (x : Phase) (e : Refusal) → Ok x ≡ Err e → ⊥
 ok_not_err x e h = cc
 
 -- a device call of the newest log failed
-log_fails : {D : Type 0} (states : D → List Files) (failures : D → ℕ) (honest : D → Type 0) (n : ℕ) (done : List Command) (old new : Keeper D) (p : Record) (e : Refusal) → LogStepsStop → Fits states honest n done old p
+pub log_fails : {D : Type 0} (states : D → List Files) (failures : D → ℕ) (honest : D → Type 0) (n : ℕ) (done : List Command) (old new : Keeper D) (p : Record) (e : Refusal) → LogStepsStop → Fits states honest n done old p
     → IsSame old new → old.is_broken ≡ false → new.is_broken ≡ true → new.sweeper ≡ old.sweeper → new.staged ≡ old.staged → new.log ≡ record old.log { is_broken = true } → MayRotate new.next (record old.log { is_broken = true }) old.staged.items
     → (honest new.disk → honest old.disk) → (honest old.disk → AtEachMoment states old.disk new.disk (StopsFit (history_of p) old)) → Fits states honest n done new p
 log_fails {D} states failures honest n done old new p e law f same works failed sweeper staged log rotation was moments =
@@ -430,6 +430,16 @@ fits_over {D} states failures honest n done old new p next phase law f s last =
           ));
     })
 
+-- whose turn it is doesn't rest on whether the newest log has failed
+pub turn_same : (ph : Phase) (log : LogState) → store.IsTurn ph log → store.IsTurn ph (record log { is_broken = true })
+turn_same Idle log t = t
+turn_same Header log t = t
+turn_same HeaderWritten log t = t
+turn_same Staged log t = t
+turn_same Written log t = t
+turn_same Synced log t = t
+turn_same Opened log t = t
+
 pub fits_ended : {D : Type 0} (states : D → List Files) (failures : D → ℕ) (honest : D → Type 0) (n : ℕ) (done : List Command) (old new : Keeper D) (p : Record) (next : LogState) (result : Result Phase Refusal) → EndStepsOn → LogEnds → LogStepsStop
     → Fits states honest n done old p → StepsEnd states failures honest old new next result → Fits states honest n (done_after result old.log.phase done old.staged.items) new p
 fits_ended {D} states failures honest n done old new p next (Ok phase) on over stop f s =
@@ -443,15 +453,6 @@ fits_ended {D} states failures honest n done old new p next (Err e) on over stop
     log_fails states failures honest n done old new p e stop f s.same s.works s.err.1 s.sweeper s.staged (ap (λ (x : Logs). x.newest) s.err.0)
     (subst (λ (o : Option LogState). MayRotate o (record old.log { is_broken = true }) old.staged.items) (sym (ap (λ (x : Logs). x.next) s.err.0)) failed) s.advances.was_honest
     (λ h. log_at_moments states failures honest n done old s.log new.disk p (Err e) stop f s.works h s.advances)
-  where
-    turn_same : (ph : Phase) (log : LogState) → store.IsTurn ph log → store.IsTurn ph (record log { is_broken = true })
-    turn_same Idle log t = t
-    turn_same Header log t = t
-    turn_same HeaderWritten log t = t
-    turn_same Staged log t = t
-    turn_same Written log t = t
-    turn_same Synced log t = t
-    turn_same Opened log t = t
 
 -- its header is to be written, or to be synced
 header_cases : (ph : Phase) (newest : LogState) → store.IsTurn ph newest → ph ≢ Idle → (ph ≡ Header) ⊎ (ph ≡ HeaderWritten)

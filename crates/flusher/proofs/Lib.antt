@@ -13,6 +13,7 @@ pub mod Moments
 pub mod StoreSteps
 pub mod Committing
 pub mod Advancing
+pub mod WrittenAhead
 pub mod Trying
 pub mod Seeing
 pub mod Beside

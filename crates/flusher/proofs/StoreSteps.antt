@@ -1,10 +1,10 @@
 -- What a step of the logs leaves of the store.
-use Rattle.std.proofs.Common.{◌≡◌, ◌≢◌, ℕ, ◌+◌, List, [], ◌∷◌, length, Bool, Option, Some, None, Result, Ok, append-nil, refl, sym, ◌∙◌, ap, subst, arith}
+use Rattle.std.proofs.Common.{◌≡◌, ◌≢◌, ℕ, ◌+◌, List, [], ◌∷◌, length, replicate, Bool, Option, Some, None, Result, Ok, append-nil, refl, sym, ◌∙◌, ap, subst, arith}
 use Rattle.std.proofs.lemmas.Bool.Decides.{nat_tests}
 use Rattle.std.proofs.lemmas.List.{length-map}
 use Rattle.disk_model.specs.Calls.{Makes}
 use Rattle.disk_model.specs.Files.{File, Files, now, with_file}
-use Rattle.disk_model.specs.Gates.{Call, called}
+use Rattle.disk_model.specs.Gates.{Call, called, writes}
 use Rattle.disk_model.specs.Moments.{AtEachMoment}
 use Rattle.map_types.specs.declared.commands.Command.{Command}
 use Rattle.map_types.specs.declared.refusals.Refusal.{Refusal}
@@ -17,9 +17,10 @@ use Rattle.store_layout.specs.declared.log_phase.Phase.TheVariants.{Idle, Header
 use Rattle.gate_log.specs.States.{LogState, commands_of, log_after}
 use Rattle.gate_log.specs.Standing as gate_log
 use Rattle.gate_log.specs.Advancing.{Advances, committed_after, staged_after}
+use Rattle.gate_log.specs.Ahead.{WritesAhead}
 use Rattle.store_states.specs.States.{Held, StoreState, newest_batches}
 use Rattle.store_states.specs.Standing as store
-use Rattle.store_states.specs.Laws.{EndStepsOn, LogEnds, LogStepsOn, LogStepsStop, NextIsReady, NextStepsOn, NextStepsStop, StoresStop, stepped}
+use Rattle.store_states.specs.Laws.{EndStepsOn, LogEnds, LogStays, LogStepsOn, LogStepsStop, NextIsReady, NextStepsOn, NextStepsStop, StoresStop, stepped}
 use Rattle.flusher.specs.Fitting.{HoldsFront, batches_of}
 use Rattle.flusher.proofs.Moments.{moments_so}
 
@@ -62,14 +63,20 @@ pub stops_now : (h : History) (state : StoreState) (es : List Entry) (must_close
     → store.StopsStand h state.log.committed (state.log.committed + length es) files
 stops_now h state es must_close files law k = counted h state es k.held files k.staged_is (law h state k.held files k.stands)
 
-pub log_moments : {D : Type 0} (states : D → List Files) (failures : D → ℕ) (honest : D → Type 0) (h : History) (state : StoreState) (es : List Entry) (must_close : Bool) (log : LogState) (old new : D) (result : Result Phase Refusal) → LogStepsStop
-    → HoldsFront h state es must_close (now (states old)) → Advances states failures honest state.log log old new result
+-- of a device call during which the newest log keeps its batches
+pub kept_moments : {D : Type 0} (states : D → List Files) (h : History) (state : StoreState) (es : List Entry) (must_close : Bool) (old new : D) → LogStepsStop → HoldsFront h state es must_close (now (states old))
+    → ((batches staged : List Batch) → gate_log.Stands state.log batches staged (now (states old) (log_file state.log.generation)) → AtEachMoment states old new (gate_log.IsKept state.log batches staged (now (states old))))
     → AtEachMoment states old new (store.StopsStand h state.log.committed (state.log.committed + length es))
-log_moments {D} states failures honest h state es must_close log old new result law k a =
+kept_moments {D} states h state es must_close old new law k keeps =
     let batches : List Batch = newest_batches k.held.found.first k.held.found.second in
     let start : Files = now (states old) in
     moments_so states old new (gate_log.IsKept state.log batches k.held.staged start) (store.StopsStand h state.log.committed (state.log.committed + length es))
-    (λ files kept. counted h state es k.held files k.staged_is (law h state k.held start files k.stands kept)) (a.any_moment batches k.held.staged (log_in h state k.held start k.stands))
+    (λ files kept. counted h state es k.held files k.staged_is (law h state k.held start files k.stands kept)) (keeps batches k.held.staged (log_in h state k.held start k.stands))
+
+pub log_moments : {D : Type 0} (states : D → List Files) (failures : D → ℕ) (honest : D → Type 0) (h : History) (state : StoreState) (es : List Entry) (must_close : Bool) (log : LogState) (old new : D) (result : Result Phase Refusal) → LogStepsStop
+    → HoldsFront h state es must_close (now (states old)) → Advances states failures honest state.log log old new result
+    → AtEachMoment states old new (store.StopsStand h state.log.committed (state.log.committed + length es))
+log_moments {D} states failures honest h state es must_close log old new result law k a = kept_moments states h state es must_close old new law k a.any_moment
 
 pub next_moments : {D : Type 0} (states : D → List Files) (failures : D → ℕ) (honest : D → Type 0) (h : History) (state : StoreState) (es : List Entry) (must_close : Bool) (next log : LogState) (old new : D) (result : Result Phase Refusal) → NextStepsStop
     → HoldsFront h state es must_close (now (states old)) → state.next ≡ Some next → next.phase ≢ Idle → Advances states failures honest next log old new result
@@ -137,6 +144,25 @@ pub log_goes : {D : Type 0} (states : D → List Files) (failures : D → ℕ) (
     → HoldsFront h (record state { log = log_after state.log.phase state.log }) (left_after state.log.phase es) must_close (now (states new))
 log_goes {D} states failures honest h state es must_close log old new phase law goes k a =
     holds_in state.log.phase h state k.held es must_close (now (states new)) k.staged_is k.must_close_is (log_stands states failures honest h state k.held log old new phase law goes k.stands a)
+
+-- ---- zeros are written ahead
+
+pub ahead_goes : {D : Type 0} (states : D → List Files) (failures : D → ℕ) (honest : D → Type 0) (h : History) (state : StoreState) (es : List Entry) (must_close : Bool) (count : ℕ) (log : LogState) (old new : D) → LogStays
+    → HoldsFront h state es must_close (now (states old)) → WritesAhead states failures honest count state.log log old new (Ok tt) → HoldsFront h state es must_close (now (states new))
+ahead_goes {D} states failures honest h state es must_close count log old new law k a =
+    let batches : List Batch = newest_batches k.held.found.first k.held.found.second in
+    let start : Files = now (states old) in
+    let number : ℕ = log_file state.log.generation in
+    let call : Call = writes (state.log.gate + 1) (replicate count 0) in
+    let there : gate_log.Stands state.log batches k.held.staged (now (states new) number) =
+    subst (λ (x : LogState). gate_log.Stands x batches k.held.staged (now (states new) number)) a.ok.0 (a.stands batches k.held.staged (log_in h state k.held start k.stands)) in
+    record {
+      held = k.held;
+      stands = subst (λ (fs : Files). store.Stands h state k.held fs) (sym (files_are states failures number call old new a.ok.1))
+          (law h state k.held start (called call (start number)) k.stands (subst (λ (f : File). gate_log.Stands state.log batches k.held.staged f) (file_is states failures number call old new a.ok.1) there));
+      staged_is = k.staged_is;
+      must_close_is = k.must_close_is;
+    }
 
 -- ---- a step of its end
 

@@ -22,7 +22,7 @@ ghost use Rattle.flusher.specs.Fitting.{Fits, HasSeenMore, IsFoundFor, IsQuiet, 
 use crate::sweeper::{Sweeper, Swept, Walking};
 use checkpoint_file::CheckpointWriter;
 use disk_model::Disk;
-use gate_log::{GateLog, Phase};
+use gate_log::{GateLog, Phase, Zeros};
 use java_hash::StripeCount;
 use map_types::Refusal;
 use std::alloc::Global;
@@ -44,6 +44,8 @@ pub struct Keeper<D: Disk> {
     /// The log that is to follow the newest one, until that has ended.
     pub next: Option<GateLog>,
     pub sweeper: Sweeper,
+    /// What is written ahead in the newest log.
+    pub zeros: Zeros,
     /// The entries of the staged batch, which are in hand until they are committed.
     pub staged: Vec<Entry>,
     pub alloc: Global,
@@ -80,6 +82,7 @@ impl<D: Disk> Keeper<D> {
         ensures hand { result.sweeper.in_hand ≡ record { next = log.committed; slots = [] } }
         ensures sweep { (result.sweeper.sweep ≡ None) × (result.sweeper.walking ≡ Walking.Rests) }
         ensures staged { result.staged.items ≡ [] }
+        ensures zeros { result.zeros ≡ 0 }
         ensures works { (result.is_broken ≡ false) × (result.has_failed ≡ false) }
         ensures published { result.published ≡ log.committed }
         ensures fits { (p : Record) → log ≡ resumed log.generation log.low log.gate log.committed → IsUnused log.committed p
@@ -92,6 +95,7 @@ impl<D: Disk> Keeper<D> {
             sealed,
             log,
             next: None,
+            zeros: Zeros::none(alloc),
             sweeper: Sweeper::new(alloc, first),
             staged: Vec::new(alloc),
             alloc,
@@ -448,6 +452,7 @@ impl<D: Disk> Keeper<D> {
             sealed: _,
             log: _log,
             next: _next,
+            zeros: _zeros,
             sweeper: _sweeper,
             staged: _staged,
             alloc: _,

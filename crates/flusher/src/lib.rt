@@ -2,6 +2,7 @@
 //! entries in hand, and commits them batch by batch in the order of their tickets.
 #![tactic(auto)]
 
+mod ahead;
 mod in_hand;
 mod keeper;
 mod laws;

@@ -1,0 +1,71 @@
+//! What a keeper writes ahead of its batches.
+ghost use Rattle.std.specs.Prelude.{◌≡◌, ◌⊎◌, ℕ, List, true, false, Ok, IfErr, OnOk, OnErr};
+ghost use Rattle.disk_model.specs.Moments.{AtEachMoment};
+ghost use Rattle.map_types.specs.declared.commands.Command.{Command};
+ghost use Rattle.ticket_order.specs.declared.record.Record.{Record};
+ghost use Rattle.ticket_order.specs.Legality.{history_of};
+ghost use Rattle.gate_log.specs.Advancing.{MayAdvance};
+ghost use Rattle.gate_log.specs.Ahead.{WritesAhead};
+ghost use Rattle.flusher.specs.Fitting.{Fits, StopsFit};
+
+use crate::keeper::Keeper;
+use disk_model::Disk;
+use gate_log::Zeros;
+use map_types::Refusal;
+use store_states::laws::{steps_of_logs, stops_of_a_store};
+
+impl<D: Disk> Keeper<D> {
+    /// From now on this many zeros are written ahead at a time; with 0, as at first, none are. Their
+    /// memory is got here. Refused with `NoMemory`.
+    pub fn set_ahead(&mut self, count: usize) -> Result<(), Refusal>
+        ensures ok { OnOk result (self.new ≡ record self.old { zeros = count }) }
+        ensures no_other { IfErr result (λ refusal. refusal ≡ Refusal.NoMemory) }
+        ensures err { OnErr result (self.new ≡ self.old) }
+        ensures fits { (n : ℕ) (done : List Command) (p : Record) → Fits D.states D.honest n done self.old p → Fits D.states D.honest n done self.new p }
+    {
+        self.zeros = Zeros::new(self.alloc, count)?;
+        Ok(())
+    }
+
+    // Has the newest log write the zeros, and notes whether the device call failed.
+    fn write_zeros(&mut self) -> Result<(), Refusal>
+        requires stands { MayAdvance D.states D.honest self.old.log self.old.disk }
+        requires works { (self.old.is_broken ≡ false) × (self.old.log.is_broken ≡ false) }
+        ensures ahead { ((result ≡ Ok tt) × (self.new ≡ self.old))
+            ⊎ WritesAhead D.states D.failures D.honest self.old.zeros self.old.log self.new.log self.old.disk self.new.disk result }
+        ensures ok { OnOk result (self.new.is_broken ≡ false) }
+        ensures err { IfErr result (λ refusal. (refusal ≡ Refusal.Failed) × (self.new.is_broken ≡ true)) }
+        ensures same { self.new ≡ record self.old { disk = self.new.disk; log = self.new.log; is_broken = self.new.is_broken } }
+    {
+        match self.log.write_ahead(&self.zeros, &mut self.disk) {
+            Ok(()) => Ok(()),
+            Err(refusal) => {
+                self.is_broken = true;
+                Err(refusal)
+            }
+        }
+    }
+
+    /// Writes the zeros behind the closed gate of the newest log, ahead of the batch that is staged, so
+    /// that its frame doesn't lengthen the file. Where that isn't due it makes no device call. After a
+    /// device failure no call is made. It takes no memory.
+    pub fn write_ahead(&mut self) -> Result<(), Refusal>
+        requires { (n : ℕ) × (done : List Command) × (p : Record) × Fits D.states D.honest n done self.old p }
+        ensures failed { self.old.is_broken ≡ true → (result ≡ Err Refusal.Failed) × (self.new ≡ self.old) }
+        ensures ahead { self.old.is_broken ≡ false → ((result ≡ Ok tt) × (self.new ≡ self.old))
+            ⊎ WritesAhead D.states D.failures D.honest self.old.zeros self.old.log self.new.log self.old.disk self.new.disk result }
+        ensures works { OnOk result (self.new.is_broken ≡ false) }
+        ensures err { IfErr result (λ refusal. (refusal ≡ Refusal.Failed) × (self.new.is_broken ≡ true)) }
+        ensures any_moment { (n : ℕ) (done : List Command) (p : Record) → Fits D.states D.honest n done self.old p → D.honest self.old.disk
+            → AtEachMoment D.states self.old.disk self.new.disk (StopsFit (history_of p) self.old) }
+        ensures fits { (n : ℕ) (done : List Command) (p : Record) → Fits D.states D.honest n done self.old p → Fits D.states D.honest n done self.new p }
+        ensures same { self.new ≡ record self.old { disk = self.new.disk; log = self.new.log; is_broken = self.new.is_broken } }
+    {
+        steps_of_logs();
+        stops_of_a_store();
+        if self.is_broken {
+            return Err(Refusal::Failed);
+        }
+        self.write_zeros()
+    }
+}
