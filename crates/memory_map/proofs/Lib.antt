@@ -1,4 +1,5 @@
 pub mod OwnEntry
+pub mod Leaving
 pub mod NewMaps
 pub mod Releasing
 pub mod Serving

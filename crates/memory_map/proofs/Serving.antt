@@ -1,5 +1,5 @@
 -- From the beginning of a call to its end.
-use Rattle.std.proofs.Common.{◌≡◌, ◌<◌, ℕ, List, [], ◌∷◌, ◌++◌, IfOk, Result, Ok, Err, refl, sym, ap, subst, ◌∙◌, arith}
+use Rattle.std.proofs.Common.{◌≡◌, ℕ, List, [], ◌∷◌, ◌++◌, IfOk, Result, Ok, Err, refl, sym, ap, subst, ◌∙◌, arith}
 use Rattle.std.proofs.lemmas.List.Elements.{Contains-append_left, Contains-append_right}
 use Rattle.std.specs.List.{Contains}
 use Rattle.map_types.specs.declared.commands.Command.{Command}
@@ -21,7 +21,7 @@ use Rattle.flusher.specs.Fitting.{IsBeside}
 use Rattle.wire_frames.specs.declared.requests.Request.{Request}
 use Rattle.wire_frames.specs.declared.requests.Request.TheVariants.{Change, Read as AskRead, Bulk as AskBulk}
 use Rattle.connections.specs.Dialogue.{Answer}
-use Rattle.memory_map.specs.Served.{AreTaken, Begins, BegunIsServed, Ends, GoesOn, IsCallOf, IsGivenOut, IsWithheld, PassGoesOn, Serves, StillMade}
+use Rattle.memory_map.specs.Served.{AreTaken, Begins, BegunIsServed, Ends, GoesOn, IsCallOf, IsGivenOut, IsWithheld, PassGoesOn, StillMade}
 use Rattle.ticket_order.proofs.Entries.{grown}
 use Rattle.flusher.proofs.OwnCalls.{call_goes_on, read_goes_on, refused_change_goes_on, refused_read_goes_on, sees}
 use Rattle.flusher.proofs.Seeing.{sees_none, sees_then}

@@ -7,8 +7,11 @@ use Rattle.ticket_order.specs.declared.held.Held.{Held}
 use Rattle.ticket_order.specs.declared.record.Record.{Record}
 use Rattle.ticket_order.specs.declared.record.Opening.{Opening}
 use Rattle.stripe_locks.specs.Plays.{joining}
-use Rattle.disk_model.specs.Files.{Files}
+use Rattle.disk_model.specs.Files.{Files, now}
+use Rattle.ticket_order.specs.Legality.{history_of}
 use Rattle.gate_log.specs.States.{LogState}
+use Rattle.flusher.specs.declared.keeper.Keeper.{Keeper}
+use Rattle.flusher.specs.Fitting.{StopsFit}
 use Rattle.recovery.specs.Formatting.{IsFormatted}
 use Rattle.recovery.specs.LogReading.{IsResumed, contents_of}
 use Rattle.wire_frames.specs.declared.requests.Request.{Request}
@@ -45,6 +48,14 @@ pub data CannotOpen {D : Type 0} (states : D → List Files) (failures : D → �
 abbrev pub CannotBegin : {D : Type 0} → (D → List Files) → (D → ℕ) → D → Refusal → D → Type 0
 CannotBegin states failures disk refusal left =
     CannotOpen states failures disk refusal left ⊎ ((refusal ≡ refusal_type.SeatsSpent) × (failures left ≡ failures disk))
+
+-- A keeper of the map's log had this disk: whatever a stop leaves of its files stands for a front of the map's history, with the committed
+-- commands and no more than the staged ones besides.
+pub record Leaves {D : Type 0} (states : D → List Files) (map : MapState) (disk : D) : Type 0 where
+  pub keeper : Keeper D
+  pub own : keeper.disk ≡ disk
+  pub log : keeper.log ≡ map.log
+  pub stops : StopsFit (history_of map.pass) keeper (now (states disk))
 
 -- a map that has not failed began a call so, or refused it; it left the log
 pub record Begun (before : MapState) (request : Request) (begun : Result Held Refusal) (after : MapState) : Type 0 where

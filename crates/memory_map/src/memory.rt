@@ -7,12 +7,12 @@ ghost use Rattle.flusher.specs.Keeping.{is_walking};
 ghost use Rattle.recovery.specs.LogReading.{IsResumed};
 ghost use Rattle.stripe_locks.specs.Passes.{begun_with, recorded, stripe_count, IsPassOf};
 ghost use Rattle.stripe_locks.specs.Plays.{joining};
-ghost use Rattle.memory_map.specs.Maps.{CannotBegin, CannotOpen, IsEmpty, nothing_yet};
+ghost use Rattle.memory_map.specs.Maps.{CannotBegin, CannotOpen, IsEmpty, Leaves, nothing_yet};
 ghost use Rattle.memory_map.specs.Served.{AreTaken, BegunIsServed, Begins, CannotCommit, Ends, IsCallOf, IsCommitted, IsGivenOut, IsIdle, IsKept, IsWithheld, Makes, PassGoesOn, Refuses, StillMade, fails};
 
 use connections::Calls;
 use disk_model::{Disk, MemDisk};
-use flusher::{Keeper, committed_were_taken, pass_goes_on, runs_were_taken};
+use flusher::{Keeper, committed_were_taken, pass_goes_on, runs_were_taken, stops_of_a_keeper};
 use gate_log::Phase;
 use java_hash::StripeCount;
 use map_types::{Refusal, Reply};
@@ -320,6 +320,24 @@ impl<'a, R: Wait> Memory<'a, MemDisk, R> {
             keeper,
             has_failed: false,
         })
+    }
+}
+
+impl<D: Disk + Drop, R: Wait> Memory<'_, D, R> {
+    /// The disk, which the map no longer needs. What is committed is on it.
+    pub fn into_disk(self) -> D
+        ensures { D.honest result → Leaves D.states self.entry result }
+    {
+        stops_of_a_keeper(&self.keeper);
+        let Memory {
+            rt: _,
+            alloc: _,
+            stripes: _stripes,
+            pass: _pass,
+            keeper,
+            has_failed: _,
+        } = self;
+        keeper.into_disk()
     }
 }
 

@@ -1,9 +1,13 @@
 //! Rows of calls that share a batch.
 use crate::journal::{BATCH_CALLS, begun, failing_disk, first_calls};
 use connections::serve_connection;
+use disk_model::Disk;
 use std::alloc::Global;
 use std::sync::Wait;
 use std::test::Fail;
+
+/// The first log of a store.
+const LOG_A: usize = 2;
 
 /// A frame of `Put "a" Int n`: its length, the method, the key with its length, and the number.
 const PUT_FRONT: &[u8] = b"\x00\x0C\x10\x01a\x01\x00\x00\x00\x00\x00\x00\x00";
@@ -38,8 +42,14 @@ fn replies(alloc: Global, count: u8) -> Result<Vec<u8>, Fail> {
     Ok(replies)
 }
 
-/// What is replied to puts in one piece, over a new map whose disk fails behind so many batches.
-fn answered<R: Wait>(rt: &R, alloc: Global, count: u8, batches: u64) -> Result<Vec<u8>, Fail> {
+/// What is replied to puts in one piece, over a new map whose disk fails behind so many batches; and
+/// the length of its log then.
+fn answered<R: Wait>(
+    rt: &R,
+    alloc: Global,
+    count: u8,
+    batches: u64,
+) -> Result<(Vec<u8>, usize), Fail> {
     let calls = first_calls(rt, alloc);
     let disk = failing_disk(
         alloc,
@@ -50,28 +60,39 @@ fn answered<R: Wait>(rt: &R, alloc: Global, count: u8, batches: u64) -> Result<V
     let mut reader = frames.as_slice();
     let mut writer = Vec::new(alloc);
     serve_connection(alloc, &mut reader, &mut writer, &mut memory)?;
-    Ok(writer)
+    let mut disk = memory.into_disk();
+    let len = disk.len(LOG_A)?;
+    Ok((writer, len))
 }
 
-/// A row of 64 puts, of which each writes 4 device calls if it is committed alone.
+/// A log has a header of 17 bytes and a gate. A batch has 17 bytes, its records, and a gate behind
+/// it. A record of a put has 12 bytes.
 #[test]
 fn a_row_is_one_batch(rt: HostRuntime) -> Result<(), Fail> {
     let alloc = rt.alloc();
-    let written = answered(&rt, alloc, 64, 1)?;
+    let (written, len) = answered(&rt, alloc, 64, 2)?;
     assert_eq!(rt; written.len(), 760);
     assert_eq!(rt; written.as_slice(), replies(alloc, 64)?.as_slice());
+    assert_eq!(rt; len, 804);
     Ok(())
 }
 
 #[test]
 fn a_longer_row_is_two_batches(rt: HostRuntime) -> Result<(), Fail> {
     let alloc = rt.alloc();
-    assert_eq!(rt;
-        answered(&rt, alloc, 65, 2)?.as_slice(),
-        replies(alloc, 65)?.as_slice()
-    );
-    let mut front = replies(alloc, 64)?;
-    front.extend_from_slice(FAILED)?;
-    assert_eq!(rt; answered(&rt, alloc, 65, 1)?.as_slice(), front.as_slice());
+    let (written, len) = answered(&rt, alloc, 65, 3)?;
+    assert_eq!(rt; written.as_slice(), replies(alloc, 65)?.as_slice());
+    assert_eq!(rt; len, 834);
+    Ok(())
+}
+
+/// The first 64 puts are committed, and the last finds a disk that fails.
+#[test]
+fn a_failure_between_two_rows(rt: HostRuntime) -> Result<(), Fail> {
+    let alloc = rt.alloc();
+    let mut wanted = replies(alloc, 64)?;
+    wanted.extend_from_slice(FAILED)?;
+    let (written, _len) = answered(&rt, alloc, 65, 1)?;
+    assert_eq!(rt; written.as_slice(), wanted.as_slice());
     Ok(())
 }
