@@ -1,1 +1,5 @@
 pub mod Client
+pub mod Lines
+pub mod Rounds
+pub mod Inputs
+pub mod Calling

@@ -11,6 +11,9 @@ use std::alloc::{AllocError, Global};
 use std::io::{Read, Write};
 use wire_frames::{Bulk, ReplyError, Request, read_reply, request_frame, write_whole};
 
+/// What is said of a word that names no port.
+pub(crate) const NO_PORT: &str = "a port is a number from 1 to 65535\n";
+
 /// Why a request has no answer.
 #[derive(Clone, Copy)]
 enum Unanswered {
@@ -103,7 +106,7 @@ fn keyed_request(asked: Asked) -> Request
 }
 
 /// The request that the words ask for.
-fn request_of(called: Called) -> Request
+pub(crate) fn request_of(called: Called) -> Request
     ensures { result ≡ request_of called }
 {
     match called {
@@ -143,7 +146,7 @@ pub fn call<M: Servers, W: Write, E: Write>(
         Err(CallError::NoMemory) => None,
     };
     let Some(port) = port_named(port) else {
-        say(error, "a port is a number from 1 to 65535\n");
+        say(error, NO_PORT);
         return MISUSED;
     };
     let Some(request) = request else {

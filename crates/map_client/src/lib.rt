@@ -1,8 +1,14 @@
-//! The client of a server: one call, and the line that is printed of its reply.
+//! The client of a server: one call, or one for each line of an input, and what is printed of the replies.
 #![tactic(auto)]
 
+pub mod calling;
 pub mod client;
+mod input;
+pub mod lines;
+pub mod outcomes;
+pub mod rounds;
 pub mod servers;
 
+pub use calling::{call_lines, make_calls};
 pub use client::{ask, call};
 pub use servers::Servers;

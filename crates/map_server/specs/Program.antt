@@ -9,8 +9,7 @@ use Rattle.map_server.specs.CommandLine.{faults, named_by, Asks, FindsNoMemory, 
 use Rattle.map_server.specs.declared.program.Order.{Order}
 use Rattle.map_server.specs.declared.program.Order.TheVariants.{Mem, Init, Check, Serve, Call, Sim}
 use Rattle.directories.specs.Directory.{Inits, Inspects}
-use Rattle.call_text.specs.Whole.{parse_words}
-use Rattle.map_client.specs.Client.{CallsServer}
+use Rattle.map_client.specs.Calling.{MakesCalls}
 use Rattle.store_server.specs.Serving.{ServesOn}
 use Rattle.script_player.specs.Simulation.{Simulates}
 
@@ -31,14 +30,13 @@ Serves r0 r1 w0 w1 status = Dialogues r0 r1 w0 w1 status ⊎ ((r1 ≡ r0) × (w1
 -- directory, as they were when it was opened; IsConnected says that a reader and a writer are the ends of a new connection to a port.
 module _ {D R W : Type 0} (states : D → List Files) (failures : D → ℕ) (honest : D → Type 0) (IsOpened : Text → D → Type 0)
     (remaining : R → Option (List ℕ)) (contents : W → Option (List ℕ)) (IsConnected : ℕ → R → W → Type 0) where
-  -- what was asked for was done; but for `mem` nothing was read
+  -- what was asked for was done; but for `mem`, and the lines of calls, nothing was read
   abbrev pub Does : Order → Option (List ℕ) → Option (List ℕ) → Option (List ℕ) → Option (List ℕ) → ℕ → Type 0
   Does Mem r0 r1 w0 w1 status = Serves r0 r1 w0 w1 status
   Does (Init directory stripes) r0 r1 w0 w1 status = (r1 ≡ r0) × Inits states failures honest IsOpened directory.now stripes.now w0 w1 status
   Does (Check directory) r0 r1 w0 w1 status = (r1 ≡ r0) × Inspects states failures honest IsOpened directory.now w0 w1 status
   Does (Serve words) r0 r1 w0 w1 status = (r1 ≡ r0) × ServesOn states failures honest IsOpened words w0 w1 status
-  Does (Call port words) r0 r1 w0 w1 status =
-      (r1 ≡ r0) × CallsServer remaining contents IsConnected port.now (parse_words (map (λ word. word.now) words.items)) w0 w1 status
+  Does (Call port words) r0 r1 w0 w1 status = MakesCalls remaining contents IsConnected port.now (map (λ word. word.now) words.items) r0 r1 w0 w1 status
   Does (Sim file) r0 r1 w0 w1 status = (r1 ≡ r0) × Simulates w0 w1 status
 
   -- what the subcommand that is named asks for was done

@@ -13,7 +13,7 @@ use connections::{ConnectionError, serve_connection};
 use console::{DONE, MISUSED, break_off, refuse, say};
 use directories::{Directories, check, init};
 use disk_model::MemDisk;
-use map_client::{Servers, call};
+use map_client::{Servers, make_calls};
 use map_types::Refusal;
 use memory_map::Memory;
 use script_player::sim;
@@ -38,7 +38,7 @@ enum Order<'a> {
     },
     /// Serve the map of a directory.
     Serve(ServerWords<'a>),
-    /// Make the call of these words.
+    /// Make the call of these words, or those of the input.
     Call {
         port: &'a str,
         words: Vec<&'a str>,
@@ -133,7 +133,7 @@ fn call_words<'a>(alloc: Global) -> Arg<'a>
         .num_args(1..)
         .value_names(&["METHOD", "ARGS"])
         .trailing_var_arg(true)
-        .help("The method, and behind it the key, the function and the values that it takes")
+        .help("The method, and behind it the key, the function and the values that it takes; or - for one call on each line of standard input")
 }
 
 /// The command that serves the map in memory.
@@ -206,7 +206,7 @@ fn call_line<'a>(alloc: Global) -> Result<Command<'a>, AllocError>
     ensures local { IfOk result (λ command. (fields_of command).has_globals ≡ false) }
 {
     Command::new(alloc, "call")
-        .about("Makes one call of a server, and prints its reply")
+        .about("Makes one call of a server, or one for each line of standard input, and prints the replies")
         .arg(port(alloc))?
         .arg(call_words(alloc))
 }
@@ -369,7 +369,8 @@ fn mem<T: Wait, R: Read, W: Write, E: Write>(
 /// listens it prints `listening` and the port on `output`. The status is 2 with a text on `error` where one
 /// of its words isn't allowed, and 1 where it can't open the directory, listen, or start its threads.
 ///
-/// `call` makes one call of a server, and prints its reply on `output`.
+/// `call` makes one call of a server, and prints its reply on `output`. With `-` in place of a method
+/// it makes one for each line of `input`, and prints a line for each.
 ///
 /// `sim` plays the script of a file, and prints on `output` a line for each of its lines. The status is
 /// 1 with `unreadable` on `error` where the file can't be read, and 2 with what is wrong on `error` where
@@ -395,7 +396,15 @@ pub fn dchm<T: Host, M: Directories + Servers, R: Read, W: Write, E: Write>(
         Ok(Order::Check { directory }) => check(machine, alloc, directory, output, error),
         Ok(Order::Serve(words)) => serve(rt, machine, alloc, &words, output, error),
         Ok(Order::Call { port, words }) => {
-            call(machine, alloc, port, words.as_slice(), output, error)
+            make_calls(
+                machine,
+                alloc,
+                port,
+                words.as_slice(),
+                input,
+                output,
+                error,
+            )
         }
         Ok(Order::Sim { file }) => sim(rt, alloc, file, output, error),
         Err(advice) => advise(alloc, &advice, output, error),

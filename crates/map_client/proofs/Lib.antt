@@ -1,0 +1,4 @@
+pub mod Appending
+pub mod Exchanging
+pub mod Telling
+pub mod Reading
