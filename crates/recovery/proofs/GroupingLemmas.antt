@@ -1,13 +1,11 @@
 -- Entries in lists by the stripes of their keys.
-use Rattle.std.proofs.Common.{◌≡◌, ◌≢◌, ◌≤◌, ◌<◌, ◌&&◌, ℕ, zero, suc, ◌+◌, Bool, true, false, cond, is_some, Option, None, Some, List, [], ◌∷◌, ◌++◌, length, map, get_or, set, refl, sym, ap, ap₂, subst, ◌∙◌, arith}
-use Rattle.std.proofs.lemmas.Bool.{ne_eqb}
+use Rattle.std.proofs.Common.{◌≡◌, ◌≢◌, ◌≤◌, ◌<◌, ℕ, zero, suc, ◌+◌, Bool, true, false, cond, is_some, Option, None, Some, List, [], ◌∷◌, ◌++◌, length, map, get_or, set, refl, sym, ap, ap₂, subst, ◌∙◌, arith}
 use Rattle.std.proofs.lemmas.Bool.Decides.{nat_tests}
 use Rattle.std.proofs.lemmas.List.{map-set, map-append, get_or-map, get_or-set_same, get_or-set_other, length-map, length-set}
 use Rattle.std.proofs.lemmas.List.FromFn.{length-map-range_with_len}
 use Rattle.std.proofs.lemmas.Simd.{map-map}
 use Rattle.std.specs.List.{AllByRecursion, range_with_len}
-use Rattle.std.specs.Ordering.{nat_cmp}
-use Rattle.std.specs.Cmp.Lexicographic.{slice_cmp, nat_list_cmp_total}
+use Rattle.std.specs.Cmp.Lexicographic.{nat_list_cmp_total}
 use Rattle.std.specs.FinMap as finite
 use Rattle.java_hash.specs.Stripes.{stripe_of}
 use Rattle.map_types.specs.declared.texts.Value.{Value}
@@ -15,7 +13,6 @@ use Rattle.map_model.specs.Maps.{Map}
 use Rattle.map_model.specs.Parts.{part_of, parts_of, is_in_stripe}
 use Rattle.map_model.proofs.MapLaws.{ties, same_from_ties, get-part_of, assign-part_of, part_of-assign_other}
 use Rattle.bin_table.specs.Chains.{Entries, HasDistinctKeys, find_in}
-use Rattle.bin_table.proofs.DetachLaws.{IsApart}
 use Rattle.bin_table.proofs.SortLaws.{distinct_sorted}
 use Rattle.bin_table.proofs.TableLaws.{distinct-append}
 use Rattle.log_records.specs.Layout.{Layout}
@@ -24,7 +21,7 @@ use Rattle.checkpoint_file.specs.declared.loading.LoadedSection.{LoadedSection}
 use Rattle.checkpoint_file.specs.Loads.{AreRising, IsRising, section_of, sections_of}
 use Rattle.atomic_methods.specs.PartState.{PartState}
 use Rattle.recovery.specs.Counting.{entries_in}
-use Rattle.recovery.specs.Dividing.{AreGroups, IsGroup, IsDivided}
+use Rattle.recovery.specs.Dividing.{AreGroups, IsGroup}
 use Rattle.recovery.proofs.DividingLemmas.{no_part, nothing}
 
 -- ---- keys that are found

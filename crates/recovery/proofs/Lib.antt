@@ -1,6 +1,7 @@
 mod DividingLemmas
 mod GroupingLemmas
 mod CountingLemmas
+mod PrefixLemmas
 mod ReplayLemmas
 mod LogReadingLemmas
 mod HeadsLemmas

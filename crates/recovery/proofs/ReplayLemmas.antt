@@ -1,8 +1,9 @@
 -- A log that is read frame by frame.
-use Rattle.std.proofs.Common.{◌≡◌, ◌⊎◌, inl, inr, ℕ, suc, ◌+◌, ◌≤◌, ◌<◌, ◌^◌, List, [], ◌∷◌, ◌++◌, length, map, refl, sym, ap, ap₂, subst, ◌∙◌, arith, length-append}
+use Rattle.std.proofs.Common.{◌≡◌, ◌⊎◌, inl, inr, ℕ, suc, ◌+◌, ◌≤◌, ◌<◌, ◌^◌, List, [], ◌∷◌, ◌++◌, length, map, max, refl, sym, ap, ap₂, subst, ◌∙◌, arith, length-append}
 use Rattle.std.proofs.lemmas.List.{append-nil}
 use Rattle.disk_model.specs.Calls.{Looks}
 use Rattle.disk_model.specs.Files.{Files}
+use Rattle.file_pieces.specs.Pieces.{pieces_in}
 use Rattle.map_types.specs.declared.commands.Command.{Command}
 use Rattle.map_types.specs.declared.refusals.Refusal.{Refusal}
 use Rattle.map_types.specs.declared.refusals.Refusal.TheVariants.{Damaged}
@@ -83,6 +84,35 @@ batch_more low content before mid after scan new count entries given e same read
       subst (λ (x : Map). HasMap after x) (sym (ap (map_after m) all ∙ map_after-append m done (counted_of mid.of.count mid.marks.items given)))
       (made (map_after m done) (reading.applied sections m marks has));
 }
+
+-- ---- device calls
+
+pieces_max : (a b : ℕ) → pieces_in (max a b) ≡ max (pieces_in a) (pieces_in b)
+pieces_max a b = omega arith
+
+pieces_up : (a b : ℕ) → a ≤ b → pieces_in a ≤ pieces_in b
+pieces_up a b below = omega (arith, below)
+
+-- reading on from the gate of the scan takes no piece behind the last gate
+pub pieces_further : (start mid new first here gate size last : ℕ) → mid + pieces_in first ≡ start + pieces_in here → pieces_in here ≡ max (pieces_in first) (pieces_in (gate + 1)) → 1 ≤ size
+    → gate + size ≤ last + 1 → new + pieces_in here ≤ mid + pieces_in (max here (gate + size)) → new + pieces_in first ≤ start + pieces_in (max first (last + 1))
+pieces_further start mid new first here gate size last called pieces some inside tried =
+    sum start mid new (pieces_in first) (pieces_in here) (pieces_in (gate + 1)) (pieces_in (gate + size)) (pieces_in (last + 1)) (pieces_in (max here (gate + size))) (pieces_in (max first (last + 1)))
+    called pieces (pieces_up (gate + 1) (last + 1) (omega (arith, some, inside))) (pieces_up (gate + size) (last + 1) inside) (pieces_max here (gate + size)) (pieces_max first (last + 1)) tried
+  where
+    sum : (start mid new p q a b z m n : ℕ) → mid + p ≡ start + q → q ≡ max p a → a ≤ z → b ≤ z → m ≡ max q b → n ≡ max p z → new + q ≤ mid + m → new + p ≤ start + n
+    sum start mid new p q a b z m n called pieces low high is more tried = omega (arith, called, pieces, low, high, is, more, tried)
+
+-- nor does a batch that was read
+pub pieces_upto : (start mid new first here next gate later size last : ℕ) → mid + pieces_in first ≡ start + pieces_in here → pieces_in here ≡ max (pieces_in first) (pieces_in (gate + 1))
+    → new + pieces_in here ≡ mid + pieces_in next → pieces_in next ≡ max (pieces_in here) (pieces_in (later + 1)) → gate ≤ later → 1 ≤ size → later + size ≤ last + 1
+    → new + pieces_in first ≤ start + pieces_in (max first (last + 1))
+pieces_upto start mid new first here next gate later size last called pieces more next_pieces forward some inside =
+    sum start mid new (pieces_in first) (pieces_in here) (pieces_in next) (pieces_in (gate + 1)) (pieces_in (later + 1)) (pieces_in (last + 1)) (pieces_in (max first (last + 1)))
+    called pieces more next_pieces (pieces_up (gate + 1) (later + 1) (omega (arith, forward))) (pieces_up (later + 1) (last + 1) (omega (arith, some, inside))) (pieces_max first (last + 1))
+  where
+    sum : (start mid new p q r a b z n : ℕ) → mid + p ≡ start + q → q ≡ max p a → new + q ≡ mid + r → r ≡ max q b → a ≤ b → b ≤ z → n ≡ max p z → new + p ≤ start + n
+    sum start mid new p q r a b z n called pieces more next low high is = omega (arith, called, pieces, more, next, low, high, is)
 
 -- ---- refusals
 

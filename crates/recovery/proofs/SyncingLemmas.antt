@@ -1,15 +1,15 @@
 -- Files that are synced one after the other.
-use Rattle.std.proofs.Common.{◌≡◌, ℕ, zero, suc, ◌==◌, ◌<◌, true, false, cond, List, [], ◌∷◌, length, refl, sym, ap, subst, arith, ◌∙◌}
+use Rattle.std.proofs.Common.{◌≡◌, ℕ, zero, suc, ◌+◌, ◌==◌, ◌<◌, true, false, cond, List, [], ◌∷◌, length, refl, sym, ap, subst, arith, ◌∙◌}
 use Rattle.std.proofs.lemmas.List.{ext_get_or}
 use Rattle.std.proofs.lemmas.Bool.{eqb-true}
 use Rattle.std.proofs.lemmas.Bool.Decides.{nat_tests}
 use mathlib.Core.Path.{fun_ext}
 use Rattle.disk_model.specs.Files.{AllCoherent, File, Files, Leaves, MayLeave, at_rest, now, synced, with_file}
-use Rattle.file_pieces.specs.Counting.{Made}
+use Rattle.file_pieces.specs.Counting.{Made, MadeAtMost}
 use Rattle.store_layout.specs.Opening.{Contents}
 use Rattle.gate_log.proofs.Scanning.{same_now}
 use Rattle.recovery.specs.LogReading.{contents_of}
-use Rattle.recovery.specs.Syncing.{AfterSyncs, LeavesOnly, SyncsAndLooks, states_synced}
+use Rattle.recovery.specs.Syncing.{AfterSyncs, LeavesOnly, StoppedSyncing, SyncsAndLooks, states_synced}
 
 -- a file at rest leaves its content
 pub rest_leaves : (old content : List ℕ) → MayLeave (at_rest old) content → content ≡ old
@@ -55,6 +55,12 @@ rests (suc n) past number less =
       | false ↦ λ e. rests n past number (below_last number n less e)
     ] refl
 
+synced_length : (count : ℕ) (past : List Files) → length (states_synced count past) ≡ count + length past
+synced_length zero past = omega arith
+synced_length (suc n) past =
+    let rest = synced_length n past in
+    omega (arith, rest)
+
 module _ {D : Type 0} (states : D → List Files) (failures : D → ℕ) where
   pub same_contents : (old new : D) → AfterSyncs states failures 4 old new → contents_of states new ≡ contents_of states old
   same_contents old new is =
@@ -64,6 +70,14 @@ module _ {D : Type 0} (states : D → List Files) (failures : D → ℕ) where
   -- four device calls were made
   pub four_synced : (old new : D) → AfterSyncs states failures 4 old new → Made states 4 old new
   four_synced old new is = ap (λ (past : List Files). length past) is.states_are ∙ omega arith
+
+  -- not more were made where one of them failed
+  pub few_synced : (old new : D) → StoppedSyncing states failures 4 old new → MadeAtMost states 4 old new
+  few_synced old new is =
+      let long = ap (λ (past : List Files). length past) is.states_are in
+      let before = synced_length is.count (states old) in
+      let few = is.few in
+      omega (arith, long, before, few)
 
   -- nothing is pending, and the files hold what was read
   pub settled : (honest : D → Type 0) (failed : ℕ) (old new : D) → SyncsAndLooks states failures honest 4 failed old new → (number : ℕ) → number < 4

@@ -33,6 +33,13 @@ abbrev pub end_gate : End → ℕ → ℕ
 end_gate Closed gate = gate
 end_gate Ended gate = gate + 14
 
+-- the last gate of a log that is read to its end
+pub record EndsAt (generation low : ℕ) (content : List ℕ) (last : ℕ) : Type 0 where
+  pub end : End
+  pub batches : List Batch
+  pub ends : IsEnd end generation low batches content
+  pub gate : last ≡ end_gate end (gate_behind first_layout generation low batches)
+
 -- so many batches were read, and their changes were made
 pub record IsReading (low : ℕ) (content : List ℕ) (before : Restoring) (scan : ScanState) (count : ℕ) (after : Restoring) : Type 0 where
   pub batches : List Batch

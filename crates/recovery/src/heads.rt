@@ -1,7 +1,7 @@
 //! Which of the two checkpoints is used.
-ghost use Rattle.std.specs.Prelude.{◌≡◌, ◌⊎◌, ◌<◌, Some, IfOk, IfErr, OnOk};
+ghost use Rattle.std.specs.Prelude.{◌≡◌, ◌⊎◌, ◌<◌, Some, IfOk, IfErr, OnOk, OnErr};
 ghost use Rattle.disk_model.specs.Calls.{Looks};
-ghost use Rattle.file_pieces.specs.Counting.{Made};
+ghost use Rattle.file_pieces.specs.Counting.{Made, MadeAtMost};
 ghost use Rattle.store_layout.specs.Opening.{heads_fault};
 ghost use Rattle.checkpoint_file.specs.Heads.{failed_in};
 ghost use Rattle.recovery.specs.Heads.{IsUsed};
@@ -16,6 +16,7 @@ use map_types::Refusal;
 pub(crate) fn newest_file<D: Disk>(disk: &mut D) -> Result<usize, Refusal>
     ensures looks { Looks D.states D.failures D.honest (failed_in result) disk.old disk.new }
     ensures called { OnOk result (Made D.states 2 disk.old disk.new) }
+    ensures tried { OnErr result (MadeAtMost D.states 2 disk.old disk.new) }
     ensures file { IfOk result (λ file. file < 2) }
     ensures ok { D.honest disk.new → IfOk result (IsUsed (contents_of D.states disk.old)) }
     ensures err { IfErr result (λ refusal. (refusal ≡ Refusal.Failed) ⊎ (D.honest disk.new → heads_fault (contents_of D.states disk.old) ≡ Some refusal)) }

@@ -1,14 +1,14 @@
 //! The logs of a checkpoint.
-ghost use Rattle.std.specs.Prelude.{◌≡◌, ℕ, List, Option, IfOk, IfErr, OnOk};
+ghost use Rattle.std.specs.Prelude.{◌≡◌, ℕ, List, Option, IfOk, IfErr, OnOk, OnErr};
 ghost use Rattle.disk_model.specs.Calls.{Looks};
-ghost use Rattle.file_pieces.specs.Counting.{Made};
+ghost use Rattle.file_pieces.specs.Counting.{Made, MadeAtMost};
 ghost use Rattle.store_layout.specs.Calls.{log_calls, logs_calls};
 ghost use Rattle.store_layout.specs.Checkpoints.{Section};
 ghost use Rattle.store_layout.specs.Logs.{Batch, log_file};
 ghost use Rattle.store_layout.specs.Opening.{AreBadLogs, AreLogs};
 ghost use Rattle.gate_log.specs.Scan.{failed_in, log_bytes};
 ghost use Rattle.recovery.specs.Restoring.{IsSameFrame};
-ghost use Rattle.recovery.specs.LogReading.{contents_of, checkpoint_with, AreReplayed, IsBadLog, IsLogRead, IsResumed, RefusesFor, end_gate};
+ghost use Rattle.recovery.specs.LogReading.{contents_of, checkpoint_with, AreReplayed, EndsAt, IsBadLog, IsLogRead, IsResumed, RefusesFor, end_gate};
 
 use crate::replay::{End, replay};
 use crate::restoring::Restoring;
@@ -38,6 +38,8 @@ fn read_log<D: Disk>(
 ) -> Result<(End, GateLog), Refusal>
     ensures looks { Looks D.states D.failures D.honest (failed_in result) disk.old disk.new }
     ensures called { IfOk result (λ x. Made D.states (log_calls (end_gate x.0 x.1.gate)) disk.old disk.new) }
+    ensures tried { D.honest disk.new → (last : ℕ) → EndsAt generation low (log_bytes D.states disk.old generation) last
+        → OnErr result (MadeAtMost D.states (log_calls last) disk.old disk.new) }
     ensures same { IsSameFrame restoring.old restoring.new }
     ensures resumed { IfOk result (λ x. IsResumed x.1) }
     ensures ok { D.honest disk.new → IfOk result (λ x. IsLogRead generation low (log_bytes D.states disk.old generation) restoring.old x.0 x.1 restoring.new) }
@@ -62,6 +64,9 @@ pub(crate) fn read_logs<D: Disk>(
     ensures called { D.honest disk.new → (stripes : ℕ) (sections : List Section) (first : List Batch) (second : Option (List Batch))
         → AreLogs (contents_of D.states disk.old) (checkpoint_with generation low stripes sections) first second
         → OnOk result (Made D.states (logs_calls (checkpoint_with generation low stripes sections) first second) disk.old disk.new) }
+    ensures tried { D.honest disk.new → (stripes : ℕ) (sections : List Section) (first : List Batch) (second : Option (List Batch))
+        → AreLogs (contents_of D.states disk.old) (checkpoint_with generation low stripes sections) first second
+        → OnErr result (MadeAtMost D.states (logs_calls (checkpoint_with generation low stripes sections) first second) disk.old disk.new) }
     ensures same { IsSameFrame restoring.old restoring.new }
     ensures resumed { IfOk result IsResumed }
     ensures ok { D.honest disk.new → (stripes : ℕ) (sections : List Section)

@@ -1,8 +1,8 @@
 //! The map that a directory stands for.
-ghost use Rattle.std.specs.Prelude.{◌≡◌, ◌+◌, [], List, Option, IfOk, IfErr, OnOk};
+ghost use Rattle.std.specs.Prelude.{◌≡◌, ◌+◌, [], List, Option, IfOk, IfErr, OnOk, OnErr};
 ghost use Rattle.disk_model.specs.Calls.{Looks};
 ghost use Rattle.disk_model.specs.Files.{now};
-ghost use Rattle.file_pieces.specs.Counting.{Made};
+ghost use Rattle.file_pieces.specs.Counting.{Made, MadeAtMost};
 ghost use Rattle.store_layout.specs.Calls.{logs_calls, opening_calls, reading_calls};
 ghost use Rattle.store_layout.specs.Logs.{Batch};
 ghost use Rattle.store_layout.specs.Checkpoints.{checkpoint_file, is_to_close};
@@ -57,6 +57,9 @@ fn restore_from<D: Disk>(
     ensures called { D.honest disk.new → (first : List Batch) (second : Option (List Batch))
         → AreLogs (contents_of D.states disk.old) (checkpoint_of loaded) first second
         → OnOk result (Made D.states (logs_calls (checkpoint_of loaded) first second) disk.old disk.new) }
+    ensures tried { D.honest disk.new → (first : List Batch) (second : Option (List Batch))
+        → AreLogs (contents_of D.states disk.old) (checkpoint_of loaded) first second
+        → OnErr result (MadeAtMost D.states (logs_calls (checkpoint_of loaded) first second) disk.old disk.new) }
     ensures resumed { IfOk result (λ found. IsResumed found.log) }
     ensures parts { IfOk result (λ found. ArePartsOf stripes.count found.parts.items) }
     ensures ok { D.honest disk.new → AreRising loaded.sections.items → IfOk result (IsRestored (contents_of D.states disk.old) (checkpoint_of loaded) stripes.count) }
@@ -82,6 +85,8 @@ fn restore<D: Disk>(alloc: Global, disk: &mut D, stripes: StripeCount) -> Result
     ensures looks { Looks D.states D.failures D.honest (failed_in result) disk.old disk.new }
     ensures called { D.honest disk.new → (found : Opened) → Holds (contents_of D.states disk.old) found
         → OnOk result (Made D.states (files_calls found) disk.old disk.new) }
+    ensures tried { D.honest disk.new → (found : Opened) → Holds (contents_of D.states disk.old) found
+        → OnErr result (MadeAtMost D.states (files_calls found) disk.old disk.new) }
     ensures resumed { IfOk result (λ found. IsResumed found.log) }
     ensures parts { IfOk result (λ found. ArePartsOf stripes.count found.parts.items) }
     ensures ok { D.honest disk.new → IfOk result (IsOpened (contents_of D.states disk.old) stripes.count) }
@@ -104,6 +109,8 @@ fn read_files<D: Disk>(
     ensures looks { Looks D.states D.failures D.honest (failed_in result) disk.old disk.new }
     ensures called { D.honest disk.new → (found : Opened) → Holds (contents_of D.states disk.old) found
         → OnOk result (Made D.states (reading_calls found) disk.old disk.new) }
+    ensures tried { D.honest disk.new → (found : Opened) → Holds (contents_of D.states disk.old) found
+        → OnErr result (MadeAtMost D.states (reading_calls found) disk.old disk.new) }
     ensures resumed { IfOk result (λ x. IsResumed x.0.log) }
     ensures parts { IfOk result (λ x. ArePartsOf stripes.count x.0.parts.items) }
     ensures ok { D.honest disk.new → IfOk result (λ x. IsOpened (contents_of D.states disk.old) stripes.count x.0) }
@@ -125,6 +132,8 @@ fn open_files<D: Disk>(
     ensures stopped { IfErr result (Stopped D.states D.failures D.honest 4 disk.old disk.new) }
     ensures made { D.honest disk.new → (found : Opened) → Holds (contents_of D.states disk.old) found
         → OnOk result (Made D.states (opening_calls found) disk.old disk.new) }
+    ensures tried { D.honest disk.new → (found : Opened) → Holds (contents_of D.states disk.old) found
+        → OnErr result (MadeAtMost D.states (opening_calls found) disk.old disk.new) }
     ensures was_honest { D.honest disk.new → D.honest disk.old }
     ensures resumed { IfOk result (λ x. IsResumed x.0.log) }
     ensures parts { IfOk result (λ x. ArePartsOf stripes.count x.0.parts.items) }
@@ -149,6 +158,8 @@ pub fn open_parts<D: Disk>(
     ensures stopped { IfErr result (λ x. Stopped D.states D.failures D.honest 4 disk x.0 x.1) }
     ensures made { IfOk result (λ x. D.honest x.0.disk → (found : Opened) → Holds (contents_of D.states disk) found
         → Made D.states (opening_calls found) disk x.0.disk) }
+    ensures tried { IfErr result (λ x. D.honest x.0 → (found : Opened) → Holds (contents_of D.states disk) found
+        → MadeAtMost D.states (opening_calls found) disk x.0) }
     ensures start { IfOk result (λ x. IsAtStart stripes x.2 x.0) }
     ensures parts { IfOk result (λ x. ArePartsOf stripes.count x.1.items) }
     ensures ok { IfOk result (λ x. D.honest x.0.disk → D.honest disk × IsOpenedAs (contents_of D.states disk) stripes.count x.0 x.1.items x.2) }
@@ -177,6 +188,10 @@ pub fn open<D: Disk>(
 ) -> Result<(Keeper<D>, Stripes), (D, Refusal)>
     ensures calls { IfOk result (λ x. SyncsAndLooks D.states D.failures D.honest 4 0 disk x.0.disk) }
     ensures stopped { IfErr result (λ x. Stopped D.states D.failures D.honest 4 disk x.0 x.1) }
+    ensures made { IfOk result (λ x. D.honest x.0.disk → (found : Opened) → Holds (contents_of D.states disk) found
+        → Made D.states (opening_calls found) disk x.0.disk) }
+    ensures tried { IfErr result (λ x. D.honest x.0 → (found : Opened) → Holds (contents_of D.states disk) found
+        → MadeAtMost D.states (opening_calls found) disk x.0) }
     ensures start { IfOk result (λ x. IsAtStart stripes (begun_with x.1).first x.0) }
     ensures stripes { IfOk result (λ x. stripe_count x.1 ≡ stripes.count) }
     ensures ok { IfOk result (λ x. D.honest x.0.disk → D.honest disk × StandsFor (contents_of D.states disk) (begun_with x.1).first (begun_with x.1).map) }

@@ -1,13 +1,13 @@
 //! A log is read frame by frame, and its changes are made.
-ghost use Rattle.std.specs.Prelude.{◌≡◌, ℕ, ◌+◌, ◌<◌, ◌≤◌, ◌^◌, max, [], IfOk, IfErr, OnOk};
+ghost use Rattle.std.specs.Prelude.{◌≡◌, ℕ, ◌+◌, ◌<◌, ◌≤◌, ◌^◌, max, [], IfOk, IfErr, OnOk, OnErr};
 ghost use Rattle.disk_model.specs.Calls.{Looks};
-ghost use Rattle.file_pieces.specs.Counting.{ReadsPieces};
+ghost use Rattle.file_pieces.specs.Counting.{ReadsPieces, ReadsAtMost};
 ghost use Rattle.file_pieces.specs.Pieces.{end_of, pieces_in};
 ghost use Rattle.log_records.specs.Layout.{first_layout};
 ghost use Rattle.store_layout.specs.Logs.{Batch, log_file};
 ghost use Rattle.gate_log.specs.Scan.{HasRead, failed_in, log_bytes};
 ghost use Rattle.recovery.specs.Restoring.{IsSameFrame};
-ghost use Rattle.recovery.specs.LogReading.{IsBrokenFor, IsReplayed, RefusesFor, end_gate};
+ghost use Rattle.recovery.specs.LogReading.{EndsAt, IsBrokenFor, IsReplayed, RefusesFor, end_gate};
 
 use crate::restoring::Restoring;
 use disk_model::Disk;
@@ -47,6 +47,9 @@ pub(crate) fn replay<D: Disk>(
     requires reached { pieces_in (scan.old.gate + 1) ≤ pieces_in (end_of scan.old.reader) }
     ensures looks { Looks D.states D.failures D.honest (failed_in result) disk.old disk.new }
     ensures called { OnOk result (ReadsPieces D.states disk.old disk.new scan.old.reader scan.new.reader) }
+    ensures tried { D.honest disk.new → (low last : ℕ) → HasRead first_layout low [] scan.old (log_bytes D.states disk.old generation)
+        → EndsAt generation low (log_bytes D.states disk.old generation) last
+        → OnErr result (ReadsAtMost D.states disk.old disk.new scan.old.reader (max (end_of scan.old.reader) (last + 1))) }
     ensures pieces { IfOk result (λ end. pieces_in (end_of scan.new.reader)
         ≡ max (pieces_in (end_of scan.old.reader)) (pieces_in (end_gate end scan.new.gate + 1))) }
     ensures same { IsSameFrame restoring.old restoring.new }

@@ -1,8 +1,9 @@
-use Rattle.std.proofs.Common.{◌≡◌, ℕ, List, ap, ap₂, ◌∙◌, arith}
+use Rattle.std.proofs.Common.{◌≡◌, ℕ, List, [], sym, ap, ap₂, subst, ◌∙◌, arith}
 use Rattle.std.proofs.lemmas.Result.{err_from_is_err_and}
-use Rattle.gate_log.specs.Scan.{log_bytes}
+use Rattle.log_records.specs.Layout.{first_layout}
+use Rattle.gate_log.specs.Scan.{HasRead, log_bytes}
 use Rattle.gate_log.specs.States.{LogState, resumed}
-use Rattle.recovery.specs.LogReading.{end_gate}
+use Rattle.recovery.specs.LogReading.{EndsAt, end_gate}
 use Rattle.gate_log.proofs.Scanning.{looks_on, same_bytes}
 use Rattle.recovery.proofs.LogReadingLemmas.{frames_refused, header_refused, log_read}
 use Rattle.recovery.proofs.logs.read_log.Goals as goal
@@ -47,3 +48,20 @@ returns-clause-called g c =
     let gate : c.resume-log.result.gate ≡ c.replay.new.scan.gate = ap (λ (l : LogState). l.gate) c.resume-log.ensures.state ∙ c.gate.ensures.place in
     let last = ap (λ (n : ℕ). end_gate c.in_ok-end.end n) gate in
     omega (arith, first, one, more, pieces, last)
+
+pub returns-in_err-scan-clause-tried : goal.returns-in_err-scan-clause-tried
+returns-in_err-scan-clause-tried g c = λ honest last ends.
+    let q = err_from_is_err_and c.from_residual.result c.from_residual.ensures.1 in
+    let tried = c.in_err-scan.ensures.tried in
+    rw q.1 (omega (arith, tried))
+
+pub returns-in_err-end-clause-tried : goal.returns-in_err-end-clause-tried
+returns-in_err-end-clause-tried g c = λ honest last ends.
+    let q = err_from_is_err_and c.from_residual-in_err-end.result c.from_residual-in_err-end.ensures.1 in
+    let same = same_bytes g.D.Disk.states g.D.Disk.failures g.D.Disk.honest 0 c.args.disk.now c.begin.new.disk c.args.generation c.in_ok-scan.ensures.looks in
+    let read = subst (λ (l : List ℕ). HasRead first_layout c.args.low [] c.in_ok-scan.scan l) (sym same) (c.in_ok-scan.ensures.read (c.in_err-end.ensures.looks.was_honest honest)) in
+    let there = subst (λ (l : List ℕ). EndsAt c.args.generation c.args.low l last) (sym same) ends in
+    let tried = c.in_err-end.ensures.tried honest c.args.low last read there in
+    let first = c.in_ok-scan.ensures.called in
+    let one = c.in_ok-scan.ensures.pieces in
+    rw q.1 (omega (arith, tried, first, one))

@@ -1,15 +1,15 @@
-use Rattle.std.proofs.Common.{◌≡◌, ◌+◌, inr, subst, arith}
+use Rattle.std.proofs.Common.{◌≡◌, ◌+◌, ℕ, List, inr, sym, subst, arith}
 use Rattle.std.proofs.lemmas.Result.{err_from_is_err_and}
 use Rattle.store_layout.specs.Opening.{Contents}
 use Rattle.store_layout.specs.Logs.{log_file}
 use Rattle.gate_log.proofs.Scanning.{looks_on, same_bytes}
 use Rattle.gate_log.specs.States.{begun}
 use Rattle.file_pieces.specs.Counting.{Made}
-use Rattle.store_layout.specs.Calls.{log_calls, logs_calls}
+use Rattle.store_layout.specs.Calls.{log_calls}
 use Rattle.recovery.specs.declared.replay.End.{End}
 use Rattle.recovery.specs.declared.replay.End.TheVariants.{Closed, Ended}
-use Rattle.recovery.specs.LogReading.{IsBadLog, IsLogRead, checkpoint_with, contents_of, end_gate}
-use Rattle.recovery.proofs.CallLemmas.{one_log_calls, two_logs_calls}
+use Rattle.recovery.specs.LogReading.{EndsAt, IsBadLog, IsLogRead, checkpoint_with, contents_of, end_gate}
+use Rattle.recovery.proofs.CallLemmas.{first_ends, never_twice, next_ends, one_log_calls, two_logs_calls}
 use Rattle.recovery.proofs.LogReadingLemmas.{ended_twice, first_bad, first_end, next_bad, refuses_more, two_ends, two_logs}
 use Rattle.recovery.proofs.logs.read_logs.Goals as goal
 
@@ -97,3 +97,43 @@ returns-in-Closed-clause-called g c = λ honest stripes sections first second lo
     let two = subst (λ (x : End). Made g.D.Disk.states (log_calls (end_gate x c.in_ok-end-2.second.gate)) c.read_log.new.disk c.read_log-2.new.disk) c.in-Closed.is c.in_ok-end-2.ensures.called in
     let calls = two_logs_calls contents k read.batches c.in_ok-end.first.gate read.goes_on.gate read.ends c.in-Some.next c.in_ok-end.first.committed c.in_ok-end-2.second.gate other.batches next read.goes_on.committed other.goes_on.gate other.ends first second logs in
     omega (arith, one, two, calls)
+
+pub returns-in_err-end-clause-tried : goal.returns-in_err-end-clause-tried
+returns-in_err-end-clause-tried g c = λ honest stripes sections first second logs.
+    let q = err_from_is_err_and c.from_residual.result c.from_residual.ensures.1 in
+    let contents : Contents = contents_of g.D.Disk.states c.args.disk.now in
+    let k = checkpoint_with c.args.generation c.args.low stripes sections in
+    let ends = first_ends contents k first second logs in
+    let tried = c.in_err-end.ensures.tried honest ends.last ends.ends in
+    let fewer = ends.fewer in
+    rw q.1 (omega (arith, tried, fewer))
+
+pub returns-in_err-end-2-clause-tried : goal.returns-in_err-end-2-clause-tried
+returns-in_err-end-2-clause-tried g c = λ honest stripes sections first second logs.
+    let q = err_from_is_err_and c.from_residual-in_err-end-2.result c.from_residual-in_err-end-2.ensures.1 in
+    let contents : Contents = contents_of g.D.Disk.states c.args.disk.now in
+    let k = checkpoint_with c.args.generation c.args.low stripes sections in
+    let end : c.in_ok-end.end ≡ Ended = two_ends c.in_ok-end.end (λ is. absurd (let same = rw is at c.if-eq.ensures in cc)) in
+    let next : c.in-Some.next ≡ c.args.generation + 1 = (let more = c.in-Some.ensures in omega (arith, more)) in
+    let read = subst (λ x. IsLogRead c.args.generation c.args.low (contents (log_file c.args.generation)) c.args.restoring.now x c.in_ok-end.first c.read_log.new.restoring) end (c.in_ok-end.ensures.ok (c.in_err-end-2.ensures.looks.was_honest honest)) in
+    let same = same_bytes g.D.Disk.states g.D.Disk.failures g.D.Disk.honest 0 c.args.disk.now c.read_log.new.disk c.in-Some.next c.in_ok-end.ensures.looks in
+    let ends = next_ends contents k read.batches c.in_ok-end.first.gate c.in-Some.next c.in_ok-end.first.committed read.goes_on.gate read.ends next read.goes_on.committed first second logs in
+    let one = subst (λ (x : End). Made g.D.Disk.states (log_calls (end_gate x c.in_ok-end.first.gate)) c.args.disk.now c.read_log.new.disk) end c.in_ok-end.ensures.called in
+    let there = subst (λ (l : List ℕ). EndsAt c.in-Some.next c.in_ok-end.first.committed l ends.last) (sym same) ends.ends in
+    let tried = rw c.committed.ensures at c.in_err-end-2.ensures.tried in
+    let two = tried honest ends.last there in
+    let both = ends.both in
+    rw q.1 (omega (arith, one, two, both))
+
+pub returns-clause-tried : goal.returns-clause-tried
+returns-clause-tried g c = λ honest stripes sections first second logs.
+    let contents : Contents = contents_of g.D.Disk.states c.args.disk.now in
+    let k = checkpoint_with c.args.generation c.args.low stripes sections in
+    let end : c.in_ok-end.end ≡ Ended = two_ends c.in_ok-end.end (λ is. absurd (let same = rw is at c.if-eq.ensures in cc)) in
+    let next : c.in-Some.next ≡ c.args.generation + 1 = (let more = c.in-Some.ensures in omega (arith, more)) in
+    let read = subst (λ x. IsLogRead c.args.generation c.args.low (contents (log_file c.args.generation)) c.args.restoring.now x c.in_ok-end.first c.read_log.new.restoring) end (c.in_ok-end.ensures.ok (c.in_ok-end-2.ensures.looks.was_honest honest)) in
+    let same = same_bytes g.D.Disk.states g.D.Disk.failures g.D.Disk.honest 0 c.args.disk.now c.read_log.new.disk c.in-Some.next c.in_ok-end.ensures.looks in
+    let ends = next_ends contents k read.batches c.in_ok-end.first.gate c.in-Some.next c.in_ok-end.first.committed read.goes_on.gate read.ends next read.goes_on.committed first second logs in
+    let other = subst (λ x. IsLogRead c.in-Some.next c.in_ok-end.first.committed (contents (log_file c.in-Some.next)) c.read_log.new.restoring x c.in_ok-end-2.second c.read_log-2.new.restoring) c.in-Ended.is
+    (subst (λ content. IsLogRead c.in-Some.next c.in_ok-end.first.committed content c.read_log.new.restoring c.in_ok-end-2.end c.in_ok-end-2.second c.read_log-2.new.restoring) same (rw c.committed.ensures at (c.in_ok-end-2.ensures.ok honest))) in
+    absurd (never_twice contents c.in-Some.next c.in_ok-end.first.committed c.in_ok-end.first.gate _ other.batches ends other.ends)

@@ -1,6 +1,6 @@
 use Rattle.std.proofs.Common.{◌≡◌, ◌+◌, sym, subst, arith}
-use Rattle.std.proofs.lemmas.Result.{on_ok_weaker}
-use Rattle.file_pieces.specs.Counting.{Made}
+use Rattle.std.proofs.lemmas.Result.{err_from_is_err_and, on_err_weaker, on_ok_weaker}
+use Rattle.file_pieces.specs.Counting.{Made, MadeAtMost}
 use Rattle.store_layout.specs.Calls.{reading_calls}
 use Rattle.store_layout.specs.Checkpoints.{is_to_close, checkpoint_file}
 use Rattle.store_layout.specs.Opening.{Contents, Holds, Refuses}
@@ -8,7 +8,7 @@ use Rattle.recovery.specs.LogReading.{RefusesFor, contents_of}
 use Rattle.recovery.specs.Opening.{IsOpened}
 use Rattle.recovery.proofs.LogReadingLemmas.{refuses_more}
 use Rattle.recovery.proofs.OpeningLemmas.{if_err, if_ok}
-use Rattle.recovery.proofs.SyncingLemmas.{four_synced, same_contents}
+use Rattle.recovery.proofs.SyncingLemmas.{few_synced, four_synced, same_contents}
 use Rattle.recovery.proofs.opening.open_files.Goals as goal
 
 pub returns-clause-ok : goal.returns-clause-ok
@@ -36,3 +36,16 @@ returns-clause-made g c = λ honest found holds.
     let synced = four_synced g.D.Disk.states g.D.Disk.failures c.args.disk.now c.sync_files.new.disk c.in_ok-sync_files.ensures.ok in
     on_ok_weaker c.read_files.result (λ (read : Made g.D.Disk.states (reading_calls found) c.sync_files.new.disk c.read_files.new.disk). omega (arith, synced, read))
     (c.read_files.ensures.called honest found (subst (λ (x : Contents). Holds x found) (sym same) holds))
+
+pub returns-in_err-sync_files-clause-tried : goal.returns-in_err-sync_files-clause-tried
+returns-in_err-sync_files-clause-tried g c = λ honest found holds.
+    let q = err_from_is_err_and c.from_residual.result c.from_residual.ensures.1 in
+    let few = few_synced g.D.Disk.states g.D.Disk.failures c.args.disk.now c.sync_files.new.disk c.in_err-sync_files.ensures.err in
+    rw q.1 (omega (arith, few))
+
+pub returns-clause-tried : goal.returns-clause-tried
+returns-clause-tried g c = λ honest found holds.
+    let same = same_contents g.D.Disk.states g.D.Disk.failures c.args.disk.now c.sync_files.new.disk c.in_ok-sync_files.ensures.ok in
+    let synced = four_synced g.D.Disk.states g.D.Disk.failures c.args.disk.now c.sync_files.new.disk c.in_ok-sync_files.ensures.ok in
+    on_err_weaker c.read_files.result (λ (read : MadeAtMost g.D.Disk.states (reading_calls found) c.sync_files.new.disk c.read_files.new.disk). omega (arith, synced, read))
+    (c.read_files.ensures.tried honest found (subst (λ (x : Contents). Holds x found) (sym same) holds))

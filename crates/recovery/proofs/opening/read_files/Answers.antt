@@ -29,3 +29,16 @@ returns-clause-called g c = λ honest found holds.
     let one = c.in_ok-restored.ensures.called (c.in_ok-must_close.ensures.looks.was_honest honest) found holds in
     let two = c.in_ok-must_close.ensures.called in
     omega (arith, one, two)
+
+pub returns-in_err-restored-clause-tried : goal.returns-in_err-restored-clause-tried
+returns-in_err-restored-clause-tried g c = λ honest found holds.
+    let q = err_from_is_err_and c.from_residual.result c.from_residual.ensures.1 in
+    let tried = c.in_err-restored.ensures.tried honest found holds in
+    rw q.1 (omega (arith, tried))
+
+pub returns-in_err-must_close-clause-tried : goal.returns-in_err-must_close-clause-tried
+returns-in_err-must_close-clause-tried g c = λ honest found holds.
+    let q = err_from_is_err_and c.from_residual-in_err-must_close.result c.from_residual-in_err-must_close.ensures.1 in
+    let one = c.in_ok-restored.ensures.called (c.in_err-must_close.ensures.failed.was_honest honest) found holds in
+    let two = c.in_err-must_close.ensures.called in
+    rw q.1 (omega (arith, one, two))

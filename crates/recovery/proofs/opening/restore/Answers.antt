@@ -1,6 +1,6 @@
-use Rattle.std.proofs.Common.{◌≡◌, ◌+◌, ℕ, List, Option, false, sym, ap, subst, arith}
-use Rattle.std.proofs.lemmas.Result.{err_from_is_err_and, on_ok_weaker}
-use Rattle.file_pieces.specs.Counting.{Made}
+use Rattle.std.proofs.Common.{◌≡◌, ℕ, List, Option, false, sym, ap, subst, arith}
+use Rattle.std.proofs.lemmas.Result.{err_from_is_err_and, on_err_weaker, on_ok_weaker}
+use Rattle.file_pieces.specs.Counting.{Made, MadeAtMost}
 use Rattle.store_layout.specs.Calls.{checkpoint_calls, logs_calls}
 use Rattle.store_layout.specs.Faults.{body_length_in}
 use Rattle.disk_model.specs.Calls.{Looks}
@@ -8,7 +8,7 @@ use Rattle.disk_model.specs.Files.{Files}
 use Rattle.log_records.specs.Layout.{first_layout}
 use Rattle.store_layout.specs.Checkpoints.{IsCheckpoint, is_sealed}
 use Rattle.store_layout.specs.Opening.{Contents, AreBadLogs, AreLogs, Refuses}
-use Rattle.recovery.proofs.CallLemmas.{checkpoint_found}
+use Rattle.recovery.proofs.CallLemmas.{body_found, checkpoint_found}
 use Rattle.checkpoint_file.specs.declared.loading.LoadedCheckpoint.{LoadedCheckpoint}
 use Rattle.checkpoint_file.specs.Loads.{IsUnloadable, checkpoint_of}
 use Rattle.gate_log.proofs.Scanning.{looks_on, same_now}
@@ -99,3 +99,35 @@ returns-clause-called g c = λ honest found holds.
     on_ok_weaker c.restore_from.result
     (λ (three : Made g.D.Disk.states (logs_calls k found.first found.second) c.load.new.disk c.restore_from.new.disk). omega (arith, one, two, body, of_found.body, of_found.calls, three))
     (c.restore_from.ensures.called honest found.first found.second logs)
+
+pub returns-in_err-loaded-clause-tried : goal.returns-in_err-loaded-clause-tried
+returns-in_err-loaded-clause-tried g c = λ honest found holds.
+    let q = err_from_is_err_and c.from_residual-in_err-loaded.result c.from_residual-in_err-loaded.ensures.1 in
+    let contents : Contents = contents_of g.D.Disk.states c.args.disk.now in
+    let used = c.in_ok-file.ensures.ok (c.in_err-loaded.ensures.looks.was_honest honest) in
+    let same = ap (λ (files : Files). (files c.in_ok-file.file).seen) (same_now g.D.Disk.states g.D.Disk.failures g.D.Disk.honest 0 c.args.disk.now c.newest_file.new.disk c.in_ok-file.ensures.looks) in
+    let body = ap (λ (content : List ℕ). checkpoint_calls (body_length_in content)) same in
+    let found_body = body_found contents c.in_ok-file.file used found holds in
+    let one = c.in_ok-file.ensures.called in
+    let two = c.in_err-loaded.ensures.tried honest in
+    rw q.1 (omega (arith, one, two, body, found_body))
+
+pub returns-clause-tried : goal.returns-clause-tried
+returns-clause-tried g c = λ honest found holds.
+    let later = c.restore_from.ensures.looks.was_honest honest in
+    let contents : Contents = contents_of g.D.Disk.states c.args.disk.now in
+    let file = c.in_ok-file.file in
+    let used = c.in_ok-file.ensures.ok (c.in_ok-loaded.ensures.looks.was_honest later) in
+    let looks = looks_on g.D.Disk.states g.D.Disk.failures g.D.Disk.honest 0 c.args.disk.now c.newest_file.new.disk c.load.new.disk c.in_ok-file.ensures.looks c.in_ok-loaded.ensures.looks in
+    let same_contents = ap {B = Contents} (λ (files : Files) (n : ℕ). (files n).seen) (same_now g.D.Disk.states g.D.Disk.failures g.D.Disk.honest 0 c.args.disk.now c.load.new.disk looks) in
+    let same = ap (λ (files : Files). (files file).seen) (same_now g.D.Disk.states g.D.Disk.failures g.D.Disk.honest 0 c.args.disk.now c.newest_file.new.disk c.in_ok-file.ensures.looks) in
+    let k = checkpoint_of c.in-Some.loaded in
+    let checkpoint = subst (λ (content : List ℕ). IsCheckpoint first_layout k content) same (rw c.in-Some.is at (c.in_ok-loaded.ensures.some later)) in
+    let of_found = checkpoint_found contents file used found holds k checkpoint in
+    let logs = subst (λ (x : Contents). AreLogs x k found.first found.second) (sym same_contents) of_found.logs in
+    let one = c.in_ok-file.ensures.called in
+    let two = rw c.in-Some.is at (c.in_ok-loaded.ensures.called later) in
+    let body = ap (λ (content : List ℕ). checkpoint_calls (body_length_in content)) same in
+    on_err_weaker c.restore_from.result
+    (λ (three : MadeAtMost g.D.Disk.states (logs_calls k found.first found.second) c.load.new.disk c.restore_from.new.disk). omega (arith, one, two, body, of_found.body, of_found.calls, three))
+    (c.restore_from.ensures.tried honest found.first found.second logs)

@@ -32,3 +32,13 @@ returns-clause-ok g c = λ honest rising.
 
 pub returns-clause-called : goal.returns-clause-called
 returns-clause-called g c = λ honest first second logs. c.in_ok-log.ensures.called honest c.args.loaded.stripes.count (sections_of c.args.loaded.sections.items) first second logs
+
+pub returns-in_err-log-clause-tried : goal.returns-in_err-log-clause-tried
+returns-in_err-log-clause-tried g c = λ honest first second logs.
+    let q = err_from_is_err_and c.from_residual-in_err-log.result c.from_residual-in_err-log.ensures.1 in
+    rw q.1 (c.in_err-log.ensures.tried honest c.args.loaded.stripes.count (sections_of c.args.loaded.sections.items) first second logs)
+
+pub returns-then-committed-greatest_of-clause-tried : goal.returns-then-committed-greatest_of-clause-tried
+returns-then-committed-greatest_of-clause-tried g c = λ honest first second logs.
+    let called = c.in_ok-log.ensures.called honest c.args.loaded.stripes.count (sections_of c.args.loaded.sections.items) first second logs in
+    omega (arith, called)

@@ -1,11 +1,13 @@
-use Rattle.std.proofs.Common.{◌≡◌, ℕ, ◌+◌, max, length, sym, ap, subst, ◌∙◌, inr, arith}
+use Rattle.std.proofs.Common.{◌≡◌, ℕ, ◌+◌, List, [], ◌∷◌, ◌++◌, max, length, drop, sym, ap, subst, ◌∙◌, inr, arith}
 use Rattle.std.proofs.lemmas.Result.{err_from_is_err_and}
 use Rattle.log_records.specs.Layout.{first_layout}
 use Rattle.store_layout.specs.Logs.{IsClosed, IsEnded, log_front}
-use Rattle.gate_log.specs.Scan.{HasRead, IsNextBatch, log_bytes}
+use Rattle.gate_log.specs.Scan.{HasRead, IsNextBatch, ReadsAtGate, log_bytes}
+use Rattle.gate_log.specs.States.{batch_of}
 use Rattle.gate_log.proofs.Scanning.{looks_on, max_pieces}
 use Rattle.file_pieces.specs.Pieces.{end_of, pieces_in}
-use Rattle.recovery.proofs.ReplayLemmas.{batch_more, broken_for, few_batches, frame_on, same_log}
+use Rattle.recovery.proofs.PrefixLemmas.{reads_inside}
+use Rattle.recovery.proofs.ReplayLemmas.{batch_more, broken_for, few_batches, frame_on, pieces_further, pieces_upto, same_log}
 use Rattle.recovery.proofs.replay.replay.Goals as goal
 
 pub returns-in_err-entries-clause-looks : goal.returns-in_err-entries-clause-looks
@@ -122,3 +124,42 @@ returns-in-Closed-clause-pieces g c =
     next ∙ ap (λ (n : ℕ). max n (pieces_in (gate + 1))) c.loop.invariant.pieces
     ∙ max_pieces (pieces_in (end_of c.args.scan.now.reader)) (gate + 1) (gate + 1) (omega arith)
     ∙ ap (λ (n : ℕ). max (pieces_in (end_of c.args.scan.now.reader)) (pieces_in (n + 1))) (sym stays.gate)
+
+pub returns-in_err-entries-clause-tried : goal.returns-in_err-entries-clause-tried
+returns-in_err-entries-clause-tried g c = λ honest low last begun ends.
+    let q = err_from_is_err_and c.from_residual.result c.from_residual.ensures.1 in
+    let inv = c.loop.invariant in
+    let content : List ℕ = log_bytes g.D.Disk.states c.args.disk.now c.args.generation in
+    let so_far = inv.read (c.in_err-entries.ensures.looks.was_honest honest) low begun in
+    let same = same_log g.D.Disk.states g.D.Disk.failures g.D.Disk.honest c.args.disk.now c.loop.disk inv.looks c.loop.scan c.args.generation inv.generation in
+    let read = subst (λ (l : List ℕ). HasRead first_layout low so_far.batches c.loop.scan l) (sym same) so_far.read in
+    let here = reads_inside c.args.generation low so_far.batches c.loop.scan content last inv.generation so_far.read ends in
+    let reads = subst (λ (l : List ℕ). ReadsAtGate first_layout (drop c.loop.scan.gate l) here.size) (sym same) here.reads in
+    let tried = c.in_err-entries.ensures.within honest low here.size so_far.batches read reads in
+    rw q.1 (pieces_further (length (g.D.Disk.states c.args.disk.now)) (length (g.D.Disk.states c.loop.disk)) (length (g.D.Disk.states c.next_frame.new.disk))
+    (end_of c.args.scan.now.reader) (end_of c.loop.scan.reader) c.loop.scan.gate here.size last inv.called inv.pieces here.some here.inside tried)
+
+pub returns-in_err-apply-in-Batch-clause-tried : goal.returns-in_err-apply-in-Batch-clause-tried
+returns-in_err-apply-in-Batch-clause-tried g c = λ honest low last begun ends.
+    let q = err_from_is_err_and c.from_residual-in_err-apply-in-Batch.result c.from_residual-in_err-apply-in-Batch.ensures.1 in
+    let inv = c.loop.invariant in
+    let content : List ℕ = log_bytes g.D.Disk.states c.args.disk.now c.args.generation in
+    let so_far = inv.read (c.in_ok-entries.ensures.looks.was_honest honest) low begun in
+    let same = same_log g.D.Disk.states g.D.Disk.failures g.D.Disk.honest c.args.disk.now c.loop.disk inv.looks c.loop.scan c.args.generation inv.generation in
+    let found = rw c.in-Batch.is at (c.in_ok-entries.ensures.found honest low so_far.batches (subst (λ (l : List ℕ). HasRead first_layout low so_far.batches c.loop.scan l) (sym same) so_far.read)) in
+    let goes_on = rw c.in-Batch.is at c.in_ok-entries.ensures.goes_on in
+    let next : pieces_in (end_of c.next_frame.new.self.reader) ≡ max (pieces_in (end_of c.loop.scan.reader)) (pieces_in (c.next_frame.new.self.gate + 1)) = rw c.in-Batch.is at c.in_ok-entries.ensures.pieces in
+    let read = subst (λ (l : List ℕ). IsNextBatch first_layout low so_far.batches c.in-Batch.entries.items c.loop.scan c.next_frame.new.self l) same found in
+    let here = reads_inside c.args.generation low (so_far.batches ++ batch_of c.loop.scan.expected c.in-Batch.entries.items ∷ []) c.next_frame.new.self content last (goes_on.0 ∙ inv.generation) read.read ends in
+    rw q.1 (pieces_upto (length (g.D.Disk.states c.args.disk.now)) (length (g.D.Disk.states c.loop.disk)) (length (g.D.Disk.states c.next_frame.new.disk))
+    (end_of c.args.scan.now.reader) (end_of c.loop.scan.reader) (end_of c.next_frame.new.self.reader) c.loop.scan.gate c.next_frame.new.self.gate here.size last
+    inv.called inv.pieces c.in_ok-entries.ensures.called next goes_on.2 here.some here.inside)
+
+pub returns-clause-tried : goal.returns-clause-tried
+returns-clause-tried g c = λ honest low last begun ends.
+    let so_far = c.loop.invariant.read honest low begun in
+    let many = so_far.many in
+    let few = few_batches low so_far.batches c.loop.scan (log_bytes g.D.Disk.states c.args.disk.now c.args.generation) so_far.read in
+    let over = c.loop-test.false in
+    let fits = c.damaged.ensures.fits in
+    absurd (omega (arith, many, few, over, fits))

@@ -1,10 +1,9 @@
-use Rattle.std.proofs.Common.{rules, ◌≡◌, ◌<◌, ℕ, List, [], ◌∷◌, ◌++◌, length, map, ap, sym, subst, ◌∙◌, append_assoc, arith}
+use Rattle.std.proofs.Common.{rules, ◌≡◌, ◌<◌, ℕ, List, [], ◌∷◌, ◌++◌, map, ap, sym, subst, ◌∙◌, append_assoc, arith}
 use Rattle.std.proofs.lemmas.Grind.{common_steps}
 use Rattle.std.specs.Global.{Vec}
 use Rattle.std.specs.List.{AllByRecursion}
 use Rattle.std.specs.Vec.Iter.{into_iter_items}
 use Rattle.map_types.specs.declared.texts.Value.{Value}
-use Rattle.map_model.specs.Parts.{parts_of}
 use Rattle.atomic_methods.specs.PartState.{PartState}
 use Rattle.bin_table.specs.Chains.{Entries, HasDistinctKeys}
 use Rattle.recovery.specs.Dividing.{AreGroups}

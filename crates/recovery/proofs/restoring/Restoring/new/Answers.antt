@@ -1,4 +1,4 @@
-use Rattle.std.proofs.Common.{sym, ap, subst, ◌∙◌}
+use Rattle.std.proofs.Common.{sym, ap, subst}
 use Rattle.std.specs.FinMap as finite
 use Rattle.log_records.specs.Layout.{first_layout}
 use Rattle.recovery.specs.Counting.{entries_in}
