@@ -17,7 +17,7 @@ use Rattle.schedules.specs.declared.outcome.MapEntry.{MapEntry}
 use Rattle.schedules.specs.World.{begun_by, seen_of, start}
 use Rattle.schedules.specs.After.{after, synced_below}
 use Rattle.schedules.specs.Cases.{entry_of}
-use Rattle.schedules.specs.Examples.{NewStoreOpens, new_store}
+use Rattle.schedules.specs.Examples.{FailsAmongThem, NewStoreOpens, new_store}
 use Rattle.schedules.proofs.FileLaws.{begins_empty, first_closed, first_sealed}
 
 abbrev nothing : Map
@@ -70,3 +70,9 @@ new_store_opens whole stands one stripes entries calls count none exact = (
   ),
   ap (λ (n : ℕ). record { files = synced_below 4 start.files; history = []; life = Some (begun_by n new_store) }) count,
 )
+
+pub fails_among_them : FirstIsWhole → FailsAmongThem
+unfolding start
+fails_among_them whole found stripes fails_at calls meets =
+    let most = meets.2 new_store (new_holds whole) in
+    omega (arith, most, new_store_calls)

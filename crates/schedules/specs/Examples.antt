@@ -1,5 +1,5 @@
 -- One change on a store of 16 stripes, row by row; and the phases of a commit, a rotation and a checkpoint.
-use Rattle.std.specs.Prelude.{◌≡◌, ℕ, ◌+◌, ◌≤◌, List, [], ◌∷◌, ◌++◌, map, None, Some, true, false}
+use Rattle.std.specs.Prelude.{◌≡◌, ℕ, ◌+◌, ◌≤◌, List, [], ◌∷◌, ◌++◌, map, Option, None, Some, true, false}
 use Rattle.std.specs.FinMap as finite
 use Rattle.std.specs.Global.{Vec}
 use Rattle.std.specs.List.{flat_map, range_with_len}
@@ -57,6 +57,11 @@ abbrev pub NewStoreOpens : Type 0
 NewStoreOpens = (stripes : StripeCount) (entries : Vec MapEntry) (calls : ℕ) → stripes.count ≡ 16 → entries.items ≡ [] → calls ≡ 12 →
     Meets start new_store (event.Open stripes None) (outcome.Opened calls 0 entries)
     × (after start new_store (event.Open stripes None) (outcome.Opened calls 0 entries) ≡ opened)
+
+-- So a call fails by which it is refused only among these 12, whatever the event names.
+abbrev pub FailsAmongThem : Type 0
+FailsAmongThem = (found : Opened) (stripes : StripeCount) (fails_at : Option ℕ) (calls : ℕ) →
+    Meets start found (event.Open stripes fails_at) (outcome.NotOpened calls refusal.Failed) → calls ≤ 12
 
 -- This alone is a run.
 abbrev pub OpeningIsRun : Type 0

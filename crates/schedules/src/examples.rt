@@ -1,11 +1,12 @@
 //! One change on a new store, row by row, each as the contract of a function.
-ghost use Rattle.schedules.specs.Examples.{BatchIsCommitted, ChangeIsReleased, ChangeIsStaged, CheckpointGoesOn, NewStoreOpens, NotYetInHand, OpeningIsRun, OtherIsRefused, RotationGoesOn, ScheduleIsRun, StoppedBefore, StoppedOpen, StoppedShut, UnwrittenIsNoRun};
+ghost use Rattle.schedules.specs.Examples.{BatchIsCommitted, ChangeIsReleased, ChangeIsStaged, CheckpointGoesOn, FailsAmongThem, NewStoreOpens, NotYetInHand, OpeningIsRun, OtherIsRefused, RotationGoesOn, ScheduleIsRun, StoppedBefore, StoppedOpen, StoppedShut, UnwrittenIsNoRun};
 
 use store_layout::laws::{laws_of_new_stores, laws_of_opening};
 
 /// The store is opened, a change is made, swept and staged.
 pub fn one_change()
     ensures opened { NewStoreOpens }
+    ensures fails { FailsAmongThem }
     ensures run { OpeningIsRun }
     ensures refused { OtherIsRefused }
     ensures not_yet { NotYetInHand }

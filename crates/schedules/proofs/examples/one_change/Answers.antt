@@ -1,10 +1,13 @@
-use Rattle.schedules.proofs.OpeningExamples.{new_store_opens}
+use Rattle.schedules.proofs.OpeningExamples.{fails_among_them, new_store_opens}
 use Rattle.schedules.proofs.OpeningRun.{opening_is_run}
 use Rattle.schedules.proofs.RowExamples.{change_is_staged, not_yet_in_hand, other_is_refused}
 use Rattle.schedules.proofs.examples.one_change.Goals as goal
 
 pub returns-clause-opened : goal.returns-clause-opened
 returns-clause-opened c = new_store_opens c.laws_of_new_stores.ensures.whole c.laws_of_new_stores.ensures.stands c.laws_of_opening.ensures.one
+
+pub returns-clause-fails : goal.returns-clause-fails
+returns-clause-fails c = fails_among_them c.laws_of_new_stores.ensures.whole
 
 pub returns-clause-run : goal.returns-clause-run
 returns-clause-run c = opening_is_run c.laws_of_new_stores.ensures.whole c.laws_of_new_stores.ensures.stands c.laws_of_opening.ensures.one
