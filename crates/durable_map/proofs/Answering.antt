@@ -1,16 +1,16 @@
 -- A call that was made, and whose position was found durable, is answered.
-use Rattle.std.proofs.Common.{◌≡◌, inr, ℕ, ◌-◌, ◌≤◌, List, [], ◌∷◌, ◌++◌, append-nil, replicate, Result, Ok, Err, IfOk, IfErr, refl, sym, ap, subst, ◌∙◌, arith}
+use Rattle.std.proofs.Common.{◌≡◌, inr, ℕ, ◌-◌, ◌≤◌, List, [], ◌∷◌, ◌++◌, append-nil, append_assoc, replicate, Result, Ok, Err, refl, sym, ap, subst, ◌∙◌, arith}
 use Rattle.std.proofs.lemmas.Option.{slice_get_within}
 use Rattle.map_types.specs.declared.commands.Command.{Command}
 use Rattle.map_types.specs.declared.commands.Read.{Read}
 use Rattle.map_types.specs.declared.commands.Reply.{Reply}
 use Rattle.map_types.specs.declared.refusals.Refusal.{Refusal}
-use Rattle.map_types.specs.declared.refusals.Refusal.TheVariants.{Failed}
 use Rattle.ticket_order.specs.declared.record.Asked.{Asked}
 use Rattle.ticket_order.specs.declared.record.Call.{Call}
 use Rattle.ticket_order.specs.declared.record.Asked.TheVariants.{Changing, Reading}
 use Rattle.ticket_order.specs.declared.record.Opening.{Opening}
 use Rattle.ticket_order.specs.declared.record.Record.{Record}
+use Rattle.ticket_order.specs.declared.record.StepMade.{StepMade}
 use Rattle.ticket_order.specs.declared.record.StepMade.TheVariants.{FoundHeld}
 use Rattle.ticket_order.specs.Records.{call, reach}
 use Rattle.ticket_order.specs.Legality.{IsLegal, history_from, history_of}
@@ -18,27 +18,28 @@ use Rattle.one_history.specs.OneHistory.{Follows}
 use Rattle.one_history.proofs.Legal.{legal_longer}
 use Rattle.flusher.specs.Fitting.{GoesOnByCalls, IsBeside}
 use Rattle.flusher.proofs.OwnCalls.{call_goes_on, read_goes_on, then}
+use Rattle.stripe_locks.specs.Holding.{position_of, reply_of}
+use Rattle.stripe_locks.specs.declared.held.Held.{Held}
 use Rattle.stripe_locks.specs.Waits.{MakesCallInTime, MakesReadInTime, Waits}
-use Rattle.durable_map.specs.Durable.{Adds, AnswersCall, Completes, EndsDurable, FollowEachOther, FoundFailure, GrewAtMost, GrewByCall, MakesNoCall, RefusesCall}
-use Rattle.durable_map.proofs.Growing.{ends_after, fails_after}
+use Rattle.durable_map.specs.Durable.{Adds, AnswersCall, Begins, Completes, CompletesAmong, EndsWith, Finishes, FollowEachOther, GoesOnWith, GrewBy, GrewByCall, RefusesCall}
+use Rattle.durable_map.proofs.Growing.{ends_after, fails_after, grew_on}
 
 pub waited : (i : ℕ) (v w : Record) → Waits i v w → GoesOnByCalls v w
 waited i v w k =
     subst (GoesOnByCalls v) (sym k.is)
     (record { beside = record { opening = refl; keeper = refl; taken = refl; published = refl; failed = refl; seen = record { more = []; is = sym (append-nil v.seen) }; made = replicate k.misses (FoundHeld i); steps = refl }; sections = refl })
 
--- what was made, by steps of the pass
-pub record Made (v : Record) (asked : Asked) (position : ℕ) (reply : Reply) (u : Record) : Type 0 where
-  pub goes_on : GoesOnByCalls v u
-  pub grew : GrewByCall v position asked reply u
-  pub later : Follows (reach v) asked position
-  pub legal : IsLegal (history_of u) position asked reply
+pub change_begun : (n : ℕ) (v : Record) (c : Command) (held : Held) (u : Record) → MakesCallInTime n v c (position_of held) (reply_of held) u → Begins v (Changing c) (Ok held) u
+change_begun n v c held u k = record {
+  goes_on = then v k.waited u (waited _ v k.waited k.waits) (call_goes_on n k.waited c (position_of held) (reply_of held) u k.made);
+  adds = record { grew = k.grew; later = k.later; legal = k.made.legal };
+}
 
-pub change_made : (n : ℕ) (v : Record) (c : Command) (position : ℕ) (reply : Reply) (u : Record) → MakesCallInTime n v c position reply u → Made v (Changing c) position reply u
-change_made n v c position reply u k = record { goes_on = then v k.waited u (waited _ v k.waited k.waits) (call_goes_on n k.waited c position reply u k.made); grew = k.grew; later = k.later; legal = k.made.legal }
-
-pub read_made : (n : ℕ) (v : Record) (r : Read) (position : ℕ) (reply : Reply) (u : Record) → MakesReadInTime n v r position reply u → Made v (Reading r) position reply u
-read_made n v r position reply u k = record { goes_on = then v k.waited u (waited _ v k.waited k.waits) (read_goes_on n k.waited r position reply u k.made); grew = k.grew; later = k.later; legal = k.made.legal }
+pub read_begun : (n : ℕ) (v : Record) (r : Read) (held : Held) (u : Record) → MakesReadInTime n v r (position_of held) (reply_of held) u → Begins v (Reading r) (Ok held) u
+read_begun n v r held u k = record {
+  goes_on = then v k.waited u (waited _ v k.waited k.waits) (read_goes_on n k.waited r (position_of held) (reply_of held) u k.made);
+  adds = record { grew = k.grew; later = k.later; legal = k.made.legal };
+}
 
 -- what is legal stays so while the pass sees more
 legal_on : (u w : Record) (asked : Asked) (position : ℕ) (reply : Reply) → IsBeside u w → IsLegal (history_of u) position asked reply → IsLegal (history_of w) position asked reply
@@ -46,28 +47,45 @@ legal_on u w asked position reply k legal =
     subst (λ (o : Opening). IsLegal (history_from o w.seen) position asked reply) (sym k.opening)
     (subst (λ (xs : List Command). IsLegal (history_from u.opening xs) position asked reply) (sym k.seen.is) (legal_longer u.opening u.seen k.seen.more position asked reply legal))
 
-pub answered : (v : Record) (asked : Asked) (position : ℕ) (reply : Reply) (u w : Record) → Made v asked position reply u → MakesNoCall u w → EndsDurable u position w → AnswersCall v asked reply w
-answered v asked position reply u w made beside ends = record {
-  position = position;
-  grew = beside.calls ∙ made.grew;
-  later = made.later;
-  legal = legal_on u w asked position reply beside.goes_on.beside made.legal;
-  durable = ends_after v u w position made.goes_on.beside.made made.goes_on.beside.steps ends;
-}
+-- ---- a call that is finished
 
--- a call that was made, and whose position can't become durable
-pub withheld : (v : Record) (asked : Asked) (position : ℕ) (reply : Reply) (u w : Record) → Made v asked position reply u → MakesNoCall u w → FoundFailure u w → FoundFailure v w × GrewAtMost v asked w
-withheld v asked position reply u w made beside dead = (fails_after v u w made.goes_on.beside.made made.goes_on.beside.steps dead, inr (position, reply, beside.calls ∙ made.grew))
+-- how a call ends, seen from before the steps that led there
+ends_on : (v u w : Record) (position : ℕ) (reply : Reply) (answer : Result Reply Refusal) (a : List StepMade) → GrewBy v a u → EndsWith u position reply answer w → EndsWith v position reply answer w
+ends_on v u w position reply (Ok given) a grew ends = (ends.0, ends_after v u w position a grew ends.1)
+ends_on v u w position reply (Err refusal) a grew ends = (ends.0, fails_after v u w a grew ends.1)
 
--- a call that was made is answered as its release ended
-added : (v : Record) (asked : Asked) (position : ℕ) (reply : Reply) (u w : Record) (result : Result Reply Refusal) → Made v asked position reply u → MakesNoCall u w
-    → IfOk result (λ x. (x ≡ reply) × EndsDurable u position w) → IfErr result (λ e. (e ≡ Failed) × FoundFailure u w) → Adds v asked result w
-added v asked position reply u w (Ok x) made beside ok err = subst (λ (r : Reply). AnswersCall v asked r w) (sym ok.0) (answered v asked position reply u w made beside ok.1)
-added v asked position reply u w (Err e) made beside ok err = subst (λ (r : Refusal). RefusesCall v asked r w) (sym err.0) (withheld v asked position reply u w made beside err.1)
+-- what a whole call adds, by how it ended
+added : (v : Record) (asked : Asked) (position : ℕ) (reply : Reply) (w : Record) (answer : Result Reply Refusal) → GrewByCall v position asked reply w → Follows (reach v) asked position
+    → IsLegal (history_of w) position asked reply → EndsWith v position reply answer w → Adds v asked answer w
+added v asked position reply w (Ok given) grew later legal ends = subst (λ (r : Reply). AnswersCall v asked r w) (sym ends.0) (record { position = position; grew = grew; later = later; legal = legal; durable = ends.1 })
+added v asked position reply w (Err refusal) grew later legal ends = subst (λ (r : Refusal). RefusesCall v asked r w) (sym ends.0) (ends.1, inr (position, reply, grew))
 
-pub completes : (v : Record) (asked : Asked) (position : ℕ) (reply : Reply) (u w : Record) (result : Result Reply Refusal) → Made v asked position reply u → MakesNoCall u w
-    → IfOk result (λ x. (x ≡ reply) × EndsDurable u position w) → IfErr result (λ e. (e ≡ Failed) × FoundFailure u w) → Completes v asked result w
-completes v asked position reply u w result made beside ok err = record { goes_on = then v u w made.goes_on beside.goes_on; adds = added v asked position reply u w result made beside ok err }
+-- a call that was begun, and then finished, is a whole call
+pub completes : (v u w : Record) (asked : Asked) (held : Held) (answer : Result Reply Refusal) → Begins v asked (Ok held) u → Finishes u held answer w → Completes v asked answer w
+completes v u w asked held answer begun ended =
+    let made = begun.goes_on.beside in
+    let legal = legal_on u w asked (position_of held) (reply_of held) ended.beside.goes_on.beside begun.adds.legal in
+    let ends = ends_on v u w (position_of held) (reply_of held) answer made.made made.steps ended.ends in
+    record { goes_on = then v u w begun.goes_on ended.beside.goes_on; adds = added v asked (position_of held) (reply_of held) w answer (ended.beside.calls ∙ begun.adds.grew) begun.adds.later legal ends }
+
+-- a call that was refused when it was begun is a whole call that was refused
+pub refused : (v w : Record) (asked : Asked) (refusal : Refusal) → Begins v asked (Err refusal) w → Completes v asked (Err refusal) w
+refused v w asked refusal begun = record { goes_on = begun.goes_on; adds = begun.adds.0 }
+
+-- a call that was begun, and then finished with others between
+pub among : (v u x w : Record) (asked : Asked) (held : Held) (others : List Call) (answer : Result Reply Refusal) → Begins v asked (Ok held) u → GoesOnWith u others x → Finishes x held answer w → CompletesAmong v asked answer w
+among v u x w asked held others answer begun between ended =
+    let made = begun.goes_on.beside in
+    let here = legal_on u x asked (position_of held) (reply_of held) between.beside begun.adds.legal in
+    record {
+      position = position_of held;
+      reply = reply_of held;
+      others = others;
+      grew = ended.beside.calls ∙ (between.calls ∙ (ap (λ (calls : List Call). calls ++ others) begun.adds.grew ∙ append_assoc v.calls (call (position_of held) asked (reply_of held) ∷ []) others));
+      later = begun.adds.later;
+      legal = legal_on x w asked (position_of held) (reply_of held) ended.beside.goes_on.beside here;
+      ends = ends_on v x w (position_of held) (reply_of held) answer (made.made ++ between.beside.made) (grew_on v u x made.made between.beside.made made.steps between.beside.steps) ended.ends;
+    }
 
 -- ---- two calls, one after the other
 

@@ -12,7 +12,7 @@ use Rattle.ticket_order.specs.Records.{reach, stripe_held, ticket_limit}
 use Rattle.ticket_order.specs.Calls.{FindsFailure, GivesBack, LooksAround, walked}
 use Rattle.stripe_locks.specs.Waits.{RefusesChangeInTime, RefusesReadInTime, Waits}
 use Rattle.flusher.proofs.OwnCalls.{refused_change_goes_on, refused_read_goes_on, then}
-use Rattle.durable_map.specs.Durable.{Completes, FoundFailure, FoundSpent, RefusesCall}
+use Rattle.durable_map.specs.Durable.{AddsBegun, Begins, FoundFailure, FoundSpent}
 use Rattle.durable_map.proofs.Answering.{waited}
 
 -- a list that has grown to m, and grows by two more
@@ -49,18 +49,21 @@ finds_spent i v b w waits k spent =
       spent = subst (λ (r : Record). ticket_limit ≤ reach r) k.before.is (subst (λ (r : Record). ticket_limit ≤ reach r) k.is spent);
     }
 
+twice : {A : Type 0} → A → A × A
+twice a = (a, a)
+
 -- a change that waited for its stripe, and was refused
-refuses_change : (n : ℕ) (v : Record) (c : Command) (w : Record) (e : Refusal) → RefusesChangeInTime v (stripe_of n c.key) e w → RefusesCall v (Changing c) e w
+refuses_change : (n : ℕ) (v : Record) (c : Command) (w : Record) (e : Refusal) → RefusesChangeInTime v (stripe_of n c.key) e w → AddsBegun v (Changing c) (Err e) w
 refuses_change n v c w refusal.NullValue k = absurd k.refused
 refuses_change n v c w refusal.KeyTooLong k = absurd k.refused
 refuses_change n v c w refusal.ValueTooLong k = absurd k.refused
 refuses_change n v c w refusal.UnknownMethod k = absurd k.refused
 refuses_change n v c w refusal.UnknownFunction k = absurd k.refused
 refuses_change n v c w refusal.BadFrame k = absurd k.refused
-refuses_change n v c w refusal.NoMemory k = k.refused.0.same_calls ∙ ap (λ (r : Record). r.calls) k.waits.is
+refuses_change n v c w refusal.NoMemory k = twice (k.refused.0.same_calls ∙ ap (λ (r : Record). r.calls) k.waits.is)
 refuses_change n v c w (refusal.Busy x0) k = absurd (k.not_busy x0 refl)
-refuses_change n v c w refusal.Failed k = (finds_failure _ v k.waited w k.waits k.refused, inl (k.refused.same_calls ∙ ap (λ (r : Record). r.calls) k.waits.is))
-refuses_change n v c w refusal.TicketsSpent k = (tt, finds_spent _ v k.waited w k.waits k.refused.0 k.refused.1, k.refused.0.same_calls ∙ ap (λ (r : Record). r.calls) k.waits.is)
+refuses_change n v c w refusal.Failed k = let same = k.refused.same_calls ∙ ap (λ (r : Record). r.calls) k.waits.is in ((finds_failure _ v k.waited w k.waits k.refused, inl same), same)
+refuses_change n v c w refusal.TicketsSpent k = let same = k.refused.0.same_calls ∙ ap (λ (r : Record). r.calls) k.waits.is in ((tt, finds_spent _ v k.waited w k.waits k.refused.0 k.refused.1, same), same)
 refuses_change n v c w refusal.NotFormatted k = absurd k.refused
 refuses_change n v c w (refusal.Damaged x0 x1) k = absurd k.refused
 refuses_change n v c w refusal.WrongVersion k = absurd k.refused
@@ -72,16 +75,16 @@ refuses_change n v c w refusal.NotText k = absurd k.refused
 refuses_change n v c w refusal.SeatsSpent k = absurd k.refused
 
 -- a read that waited for its stripe, and was refused
-refuses_read : (n : ℕ) (v : Record) (c : Read) (w : Record) (e : Refusal) → RefusesReadInTime v (stripe_of n c.key) e w → RefusesCall v (Reading c) e w
+refuses_read : (n : ℕ) (v : Record) (c : Read) (w : Record) (e : Refusal) → RefusesReadInTime v (stripe_of n c.key) e w → AddsBegun v (Reading c) (Err e) w
 refuses_read n v c w refusal.NullValue k = absurd k.refused
 refuses_read n v c w refusal.KeyTooLong k = absurd k.refused
 refuses_read n v c w refusal.ValueTooLong k = absurd k.refused
 refuses_read n v c w refusal.UnknownMethod k = absurd k.refused
 refuses_read n v c w refusal.UnknownFunction k = absurd k.refused
 refuses_read n v c w refusal.BadFrame k = absurd k.refused
-refuses_read n v c w refusal.NoMemory k = k.refused.same_calls ∙ ap (λ (r : Record). r.calls) k.waits.is
+refuses_read n v c w refusal.NoMemory k = twice (k.refused.same_calls ∙ ap (λ (r : Record). r.calls) k.waits.is)
 refuses_read n v c w (refusal.Busy x0) k = absurd (k.not_busy x0 refl)
-refuses_read n v c w refusal.Failed k = (finds_failure _ v k.waited w k.waits k.refused, inl (k.refused.same_calls ∙ ap (λ (r : Record). r.calls) k.waits.is))
+refuses_read n v c w refusal.Failed k = let same = k.refused.same_calls ∙ ap (λ (r : Record). r.calls) k.waits.is in ((finds_failure _ v k.waited w k.waits k.refused, inl same), same)
 refuses_read n v c w refusal.TicketsSpent k = absurd k.refused
 refuses_read n v c w refusal.NotFormatted k = absurd k.refused
 refuses_read n v c w (refusal.Damaged x0 x1) k = absurd k.refused
@@ -93,8 +96,8 @@ refuses_read n v c w refusal.TooEarly k = absurd k.refused
 refuses_read n v c w refusal.NotText k = absurd k.refused
 refuses_read n v c w refusal.SeatsSpent k = absurd k.refused
 
-pub change_refused : (n : ℕ) (v : Record) (c : Command) (w : Record) (e : Refusal) → RefusesChangeInTime v (stripe_of n c.key) e w → Completes v (Changing c) (Err e) w
+pub change_refused : (n : ℕ) (v : Record) (c : Command) (w : Record) (e : Refusal) → RefusesChangeInTime v (stripe_of n c.key) e w → Begins v (Changing c) (Err e) w
 change_refused n v c w e k = record { goes_on = then v k.waited w (waited _ v k.waited k.waits) (refused_change_goes_on k.waited _ e w k.refused); adds = refuses_change n v c w e k }
 
-pub read_refused : (n : ℕ) (v : Record) (r : Read) (w : Record) (e : Refusal) → RefusesReadInTime v (stripe_of n r.key) e w → Completes v (Reading r) (Err e) w
+pub read_refused : (n : ℕ) (v : Record) (r : Read) (w : Record) (e : Refusal) → RefusesReadInTime v (stripe_of n r.key) e w → Begins v (Reading r) (Err e) w
 read_refused n v r w e k = record { goes_on = then v k.waited w (waited _ v k.waited k.waits) (refused_read_goes_on k.waited _ e w k.refused); adds = refuses_read n v r w e k }

@@ -5,6 +5,7 @@ use Rattle.map_types.specs.declared.refusals.Refusal.{Refusal}
 use Rattle.map_types.specs.declared.refusals.Refusal.TheVariants.{Failed, NoMemory, TicketsSpent}
 use Rattle.java_hash.specs.Stripes.{stripe_of}
 use Rattle.ticket_order.specs.declared.record.Asked.{Asked}
+use Rattle.ticket_order.specs.declared.record.Call.{Call}
 use Rattle.ticket_order.specs.declared.record.Asked.TheVariants.{Changing, Reading}
 use Rattle.ticket_order.specs.declared.record.Record.{Record}
 use Rattle.ticket_order.specs.declared.record.StepMade.{StepMade}
@@ -16,7 +17,7 @@ use Rattle.ticket_order.specs.Walks.{Kind, kind_of}
 use Rattle.one_history.specs.OneHistory.{Follows}
 use Rattle.stripe_locks.specs.Holding.{position_of, reply_of}
 use Rattle.stripe_locks.specs.declared.held.Held.{Held}
-use Rattle.flusher.specs.Fitting.{GoesOnByCalls}
+use Rattle.flusher.specs.Fitting.{GoesOnByCalls, IsBeside}
 use Rattle.durable_map.specs.declared.map.DurableMap.{DurableMap}
 use Rattle.durable_map.specs.Maps.{IsHeldOf, stripe_count}
 
@@ -86,6 +87,53 @@ RefusesCall v asked NoMemory w = w.calls ≡ v.calls
 RefusesCall v asked TicketsSpent w = DrawsTicket asked × FoundSpent v w × (w.calls ≡ v.calls)
 RefusesCall v asked Failed w = FoundFailure v w × GrewAtMost v asked w
 RefusesCall v asked other w = ⊥
+
+-- ---- calls that are begun, and finished later
+
+-- A call was made, and its reply is held. The record grew by this call alone: a change's position is past all that the pass had seen, and a read's
+-- is no less; the reply is legal there.
+pub record HoldsCall (v : Record) (asked : Asked) (held : Held) (w : Record) : Type 0 where
+  pub grew : GrewByCall v (position_of held) asked (reply_of held) w
+  pub later : Follows (reach v) asked (position_of held)
+  pub legal : IsLegal (history_of w) (position_of held) asked (reply_of held)
+
+-- what a call adds to the record when it is begun; none is added if it is refused
+abbrev pub AddsBegun : Record → Asked → Result Held Refusal → Record → Type 0
+AddsBegun v asked (Ok held) w = HoldsCall v asked held w
+AddsBegun v asked (Err refusal) w = RefusesCall v asked refusal w × (w.calls ≡ v.calls)
+
+-- What the beginning of a call leaves. Whatever it answers, the pass goes on from what it was.
+pub record Begins (v : Record) (asked : Asked) (result : Result Held Refusal) (w : Record) : Type 0 where
+  pub goes_on : GoesOnByCalls v w
+  pub adds : AddsBegun v asked result w
+
+-- How a call ends that was made with this reply: it is given out once its position was found durable; or the answer is `Failed`, and an ALIVE said no.
+abbrev pub EndsWith : Record → ℕ → Reply → Result Reply Refusal → Record → Type 0
+EndsWith v position reply (Ok given) w = (given ≡ reply) × EndsDurable v position w
+EndsWith v position reply (Err refusal) w = (refusal ≡ Failed) × FoundFailure v w
+
+-- what the end of a call that was begun leaves
+pub record Finishes (v : Record) (held : Held) (answer : Result Reply Refusal) (w : Record) : Type 0 where
+  pub beside : MakesNoCall v w
+  pub ends : EndsWith v (position_of held) (reply_of held) answer w
+
+-- the pass went on from what it was, and may have added calls
+pub record GoesOnWith (v : Record) (others : List Call) (w : Record) : Type 0 where
+  pub beside : IsBeside v w
+  pub calls : w.calls ≡ v.calls ++ others
+
+-- A call was begun, and finished with other calls of its pass between: it was made, its reply is legal at its position in all that the pass has
+-- seen, and it ended with this answer.
+pub record CompletesAmong (v : Record) (asked : Asked) (answer : Result Reply Refusal) (w : Record) : Type 0 where
+  pub position : ℕ
+  pub reply : Reply
+  pub others : List Call
+  pub grew : w.calls ≡ v.calls ++ call position asked reply ∷ others
+  pub later : Follows (reach v) asked position
+  pub legal : IsLegal (history_of w) position asked reply
+  pub ends : EndsWith v position reply answer w
+
+-- ---- whole calls
 
 -- what a call adds to the record, by its answer
 abbrev pub Adds : Record → Asked → Result Reply Refusal → Record → Type 0

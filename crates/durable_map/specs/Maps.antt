@@ -1,5 +1,5 @@
 -- What callers see of a running map.
-use Rattle.std.specs.Prelude.{◌≡◌, ℕ, None, Result, Ok, Err}
+use Rattle.std.specs.Prelude.{◌≡◌, ℕ, List, None, Result, Ok, Err}
 use Rattle.std.specs.Arc.{arc_value}
 use Rattle.map_types.specs.declared.refusals.Refusal.{Refusal}
 use Rattle.ticket_order.specs.declared.record.Opening.{Opening}
@@ -40,6 +40,10 @@ LeavesReady map (Err refusal) pass = IsReady map pass
 -- a pass of this map made the call whose reply is held
 abbrev pub IsHeldOf : {D : Type 0} → DurableMap D → Held → Type 0
 IsHeldOf map held = holding.IsHeldOf (arc_value map.stripes) held
+
+-- the numbers that tell this map's shared words from those of all others
+abbrev pub name_of_words : {D : Type 0} → DurableMap D → List ℕ
+name_of_words map = holding.name_of_words (arc_value map.stripes)
 
 -- a reply that is still held is one of this map
 abbrev pub StaysHeldOf : {D : Type 0} → DurableMap D → Released → Type 0

@@ -1,47 +1,85 @@
-//! Whole calls: each answers once its position is durable.
-ghost use Rattle.std.specs.Prelude.{◌≡◌, IfOk, IfErr};
+//! Whole calls: each answers once its position is durable. And calls that are begun, and finished later.
+ghost use Rattle.std.specs.Prelude.{IfOk};
 ghost use Rattle.ticket_order.specs.declared.record.Asked.TheVariants.{Changing, Reading};
-ghost use Rattle.stripe_locks.specs.Holding.{position_of, reply_of};
 ghost use Rattle.stripe_locks.specs.Passes.{recorded, IsSamePass};
-ghost use Rattle.durable_map.specs.Durable.{Completes, EndsDurable, FoundFailure, MakesNoCall};
-ghost use Rattle.durable_map.specs.Maps.{IsHeldOf, IsPassOf, IsReady};
+ghost use Rattle.durable_map.specs.Durable.{Begins, Completes, Finishes};
+ghost use Rattle.durable_map.specs.Maps.{IsHeldOf, IsReady};
 
 use crate::map::DurableMap;
-use crossbeam_utils::Backoff;
 use disk_model::Disk;
 use map_types::{Command, Read, Refusal, Reply};
 use std::sync::Wait;
 use stripe_locks::{Held, Pass, Released};
-use ticket_order::Position;
 
 impl<D: Disk + Drop> DurableMap<D> {
-    // Returns after a moment, or once the position may have become durable. A thread that waits long
-    // sleeps.
-    pub(crate) fn pause<R: Wait>(&self, rt: &R, backoff: &Backoff, position: Position) {
-        if backoff.is_completed() {
-            self.stripes.sleep_until_durable(rt, position);
-        } else {
-            backoff.snooze();
+    /// Makes a change, whose reply is held until `finish` gives it out. It waits for the stripe of its
+    /// key, and not until the change is durable: a pass may begin other calls before it finishes this
+    /// one.
+    ///
+    /// `Failed` if the store has failed, `TicketsSpent` if 2^62 changes were made, and `NoMemory`: then
+    /// nothing was changed.
+    pub fn begin_change<R: Wait>(
+        &self,
+        rt: &R,
+        pass: &mut Pass,
+        command: Command,
+    ) -> Result<Held, Refusal>
+        requires { IsReady self.now pass.old }
+        ensures begins { Begins (recorded pass.old) (Changing command) result (recorded pass.new) }
+        ensures held { IfOk result (IsHeldOf self.now) }
+        ensures ready { IsReady self.now pass.new }
+        ensures same { IsSamePass pass.old pass.new }
+    {
+        match self.stripes.call(rt, pass, command) {
+            Ok(held) => {
+                self.stripes.wake_keeper();
+                Ok(held)
+            }
+            Err(refusal) => Err(refusal),
         }
     }
 
-    // Waits until the position of a call is durable, and gives its reply out.
-    fn finish<R: Wait>(&self, rt: &R, pass: &mut Pass, held: Held) -> Result<Reply, Refusal>
-        requires own { IsPassOf self.now pass.old }
+    /// Makes a read, whose reply is held until `finish` gives it out. It waits for the stripe of its
+    /// key, and not until what it has seen is durable.
+    ///
+    /// `Failed` if the store has failed, and `NoMemory`.
+    pub fn begin_read<R: Wait>(&self, rt: &R, pass: &mut Pass, read: Read) -> Result<Held, Refusal>
+        requires { IsReady self.now pass.old }
+        ensures begins { Begins (recorded pass.old) (Reading read) result (recorded pass.new) }
+        ensures held { IfOk result (IsHeldOf self.now) }
+        ensures ready { IsReady self.now pass.new }
+        ensures same { IsSamePass pass.old pass.new }
+    {
+        match self.stripes.read(rt, pass, read) {
+            Ok(held) => Ok(held),
+            Err(refusal) => Err(refusal),
+        }
+    }
+
+    /// Whether `finish` will likely return without a wait. It is a hint, and makes no step.
+    pub fn may_finish(&self, held: &Held) -> bool {
+        self.stripes.may_release(held.position())
+    }
+
+    /// Waits until the position of a call that was begun is durable, and gives its reply out. Any pass
+    /// of the map may finish it.
+    ///
+    /// `Failed` if the store has failed before: the change, if it was one, was made, and may be found
+    /// again or not once the directory is opened anew.
+    pub fn finish<R: Wait>(&self, rt: &R, pass: &mut Pass, held: Held) -> Result<Reply, Refusal>
+        requires ready { IsReady self.now pass.old }
         requires held { IsHeldOf self.now held }
-        ensures ok { IfOk result (λ reply. (reply ≡ reply_of held) × EndsDurable (recorded pass.old) (position_of held) (recorded pass.new)) }
-        ensures err { IfErr result (λ refusal. (refusal ≡ Refusal.Failed) × FoundFailure (recorded pass.old) (recorded pass.new)) }
-        ensures beside { MakesNoCall (recorded pass.old) (recorded pass.new) }
+        ensures finishes { Finishes (recorded pass.old) held result (recorded pass.new) }
+        ensures ready { IsReady self.now pass.new }
         ensures same { IsSamePass pass.old pass.new }
     {
         let position = held.position();
-        let backoff = Backoff::new();
         let mut waiting = held;
         for _turn in rt.forever() {
             match self.stripes.release(pass, waiting) {
                 Released::Reply(_, reply) => return Ok(reply),
                 Released::NotYet(held) => {
-                    self.pause(rt, &backoff, position);
+                    self.stripes.sleep_until_durable(rt, position);
                     waiting = held;
                 }
                 Released::Failed => return Err(Refusal::Failed),
@@ -65,11 +103,8 @@ impl<D: Disk + Drop> DurableMap<D> {
         ensures ready { IsReady self.now pass.new }
         ensures same { IsSamePass pass.old pass.new }
     {
-        match self.stripes.call(rt, pass, command) {
-            Ok(held) => {
-                self.stripes.wake_keeper();
-                self.finish(rt, pass, held)
-            }
+        match self.begin_change(rt, pass, command) {
+            Ok(held) => self.finish(rt, pass, held),
             Err(refusal) => Err(refusal),
         }
     }
@@ -83,7 +118,7 @@ impl<D: Disk + Drop> DurableMap<D> {
         ensures ready { IsReady self.now pass.new }
         ensures same { IsSamePass pass.old pass.new }
     {
-        match self.stripes.read(rt, pass, read) {
+        match self.begin_read(rt, pass, read) {
             Ok(held) => self.finish(rt, pass, held),
             Err(refusal) => Err(refusal),
         }

@@ -26,6 +26,8 @@ pub(crate) enum Turn {
     Worked,
     /// There was nothing to do.
     Rested,
+    /// The turns of the other loop come first.
+    Awaited,
 }
 
 /// The keeper with its pass. It holds no stripe between its calls; each of them makes at most one
@@ -105,18 +107,18 @@ impl<D: Disk> Desk<D> {
         self.keeper.log.is_resting() && self.keeper.next.is_none()
     }
 
-    // DURABLE with the committed count, and wakes those who wait for it.
+    // DURABLE with the committed count, and wakes those who wait for it, if any do.
     fn publish(&mut self) {
         let mut steps = self.stripes.at(&mut self.pass);
         keeping::publish(&mut self.keeper, &mut steps);
         self.stripes.wake_released();
     }
 
-    /// FAIL, and wakes those who wait for their positions.
+    /// FAIL, and wakes all who wait for it or for their positions.
     pub(crate) fn fail(&mut self) {
         let mut steps = self.stripes.at(&mut self.pass);
         keeping::fail(&mut self.keeper, &mut steps);
-        self.stripes.wake_released();
+        self.stripes.wake_failed();
     }
 
     /// A turn of the log: where no device call is due, it takes what the stripes have and stages a
@@ -139,13 +141,15 @@ impl<D: Disk> Desk<D> {
         Ok(Turn::Worked)
     }
 
-    // Begins a checkpoint where the newest log has at least so many bytes.
+    // Begins a checkpoint if the newest log has at least so many bytes, and wakes the loop of the log,
+    // which begins another log.
     fn begin_checkpoint(&mut self, bytes: u64) -> Result<Turn, Refusal> {
         let length = self.keeper.log.gate() as u64 + 1;
         if length < bytes {
             return Ok(Turn::Rested);
         }
         keeping::begin(&mut self.keeper)?;
+        self.stripes.wake_keeper();
         Ok(Turn::Worked)
     }
 
@@ -179,7 +183,7 @@ impl<D: Disk> Desk<D> {
             return self.begin_checkpoint(bytes);
         };
         if self.keeper.next.is_some() {
-            return Ok(Turn::Rested);
+            return Ok(Turn::Awaited);
         }
         if writer.phase() != CheckpointPhase::Ready {
             return self.advance_checkpoint();

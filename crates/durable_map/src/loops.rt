@@ -12,8 +12,8 @@ use std::time::Duration;
 /// For how many milliseconds a loop sleeps before it tries again what was refused some times.
 const SHORT_SLEEP: u64 = 1;
 
-/// For how many milliseconds a loop of checkpoints sleeps where there is nothing to do.
-const LONG_SLEEP: u64 = 5;
+/// For how many milliseconds the loop of checkpoints sleeps if there is nothing to do.
+const LONG_SLEEP: u64 = 100;
 
 /// Says when a loop is to end.
 pub trait Ends {
@@ -53,10 +53,15 @@ impl<D: Disk + Drop> DurableMap<D> {
         }
     }
 
-    // Waits for changes behind the committed ones.
+    // Waits for changes behind the committed ones: sleeps if none has a ticket, else waits for a moment,
+    // since it may be about to come.
     fn rest<R: Wait>(&self, rt: &R, backoff: &Backoff, committed: u64) {
-        self.wait_a_moment(rt, backoff);
-        self.stripes.sleep_until_changed(rt, committed);
+        if self.stripes.has_changed(committed) {
+            self.wait_a_moment(rt, backoff);
+        } else {
+            self.stripes.sleep_until_changed(rt, committed);
+            backoff.reset();
+        }
     }
 
     // Waits until there may be something to write.
@@ -84,7 +89,7 @@ pub fn flush_loop<D: Disk + Drop, E: Ends, R: Wait>(
         }
         match map.flush(rt) {
             (Ok(Turn::Worked), _) => backoff.reset(),
-            (Ok(Turn::Rested), committed) => map.rest(rt, &backoff, committed),
+            (Ok(Turn::Rested | Turn::Awaited), committed) => map.rest(rt, &backoff, committed),
             (Err(refusal), committed) => {
                 if is_final(refusal) {
                     map.fail(rt);
@@ -118,6 +123,7 @@ pub fn checkpoint_loop<D: Disk + Drop, E: Ends, R: Wait>(
         match map.checkpoint(rt, bytes) {
             Ok(Turn::Worked) => backoff.reset(),
             Ok(Turn::Rested) => map.rest_long(rt),
+            Ok(Turn::Awaited) => map.wait_a_moment(rt, &backoff),
             Err(refusal) => {
                 if is_final(refusal) {
                     map.fail(rt);

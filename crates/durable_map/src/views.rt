@@ -39,10 +39,10 @@ impl<D: Disk + Drop> DurableMap<D> {
     }
 
     /// Returns after a moment, when the stripe that the view takes next may have become free, or the
-    /// mark that it awaits durable. A thread that waits long sleeps. It makes no step.
+    /// mark that it awaits durable. A thread that waits for a mark, or long, sleeps. It makes no step.
     pub fn wait_for_view<R: Wait>(&self, rt: &R, backoff: &Backoff, walk: &ViewWalk) {
         match walk.position_awaited() {
-            Some(position) => self.pause(rt, backoff, position),
+            Some(position) => self.stripes.sleep_until_durable(rt, position),
             None => self.wait_a_moment(rt, backoff),
         }
     }

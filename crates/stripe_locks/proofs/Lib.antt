@@ -4,5 +4,6 @@ pub mod Moving
 pub mod Seats
 pub mod Begins
 pub mod Misses
+pub mod Naming
 pub mod Comparing
 pub mod Refuted

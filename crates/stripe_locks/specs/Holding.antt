@@ -1,5 +1,5 @@
 -- What callers see of a held reply: its position, its reply, and the stripes on which its call was made.
-use Rattle.std.specs.Prelude.{ℕ}
+use Rattle.std.specs.Prelude.{◌≡◌, ℕ, List}
 use Rattle.std.specs.List.{Contains}
 use Rattle.map_types.specs.declared.commands.Reply.{Reply}
 use Rattle.ticket_order.specs.declared.held.Released.{Released}
@@ -10,7 +10,7 @@ use Rattle.stripe_locks.specs.declared.held.Held.{Held}
 use Rattle.stripe_locks.specs.declared.held.Released as over_stripes
 use Rattle.stripe_locks.specs.declared.held.Released.TheVariants as released
 use Rattle.stripe_locks.specs.declared.stripes.Stripes.{Stripes}
-use Rattle.stripe_locks.specs.Passes.{recorded, IsPassOf}
+use Rattle.stripe_locks.specs.Passes.{recorded, name_of, IsPassOf}
 
 abbrev pub position_of : Held → ℕ
 position_of h = h.held.position
@@ -23,6 +23,16 @@ pub record IsHeldOf (s : Stripes) (h : Held) : Type 0 where
   pub own : IsPassOf s h.maker.value
   pub asked : Asked
   pub made : Contains (recorded h.maker.value).calls (call (position_of h) asked (reply_of h))
+
+-- the numbers that tell the words of these stripes from those of all others
+abbrev pub name_of_words : Stripes → List ℕ
+name_of_words s = name_of s.table.shared.table_id
+
+-- it is held of stripes whose words have this name
+pub record IsHeldAt (name : List ℕ) (h : Held) : Type 0 where
+  pub stripes : Stripes
+  pub named : name_of_words stripes ≡ name
+  pub held : IsHeldOf stripes h
 
 -- what a release answered, but for whose reply it is
 abbrev pub answer_of : over_stripes.Released → Released

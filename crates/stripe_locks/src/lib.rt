@@ -6,6 +6,7 @@ mod board;
 mod calls;
 mod fronts;
 mod held;
+pub mod laws;
 mod parking;
 mod plays;
 mod rule;

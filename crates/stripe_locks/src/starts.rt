@@ -68,6 +68,8 @@ impl Stripes {
                 table,
                 count,
                 sleepers: AtomicU64::new(0),
+                waiters: AtomicU64::new(0),
+                resting: AtomicU64::new(0),
                 alloc,
             }),
             Err(_) => Err(Refusal::NoMemory),

@@ -29,6 +29,10 @@ pub struct Stripes {
     pub(crate) count: StripeCount,
     // How many threads sleep until a stripe is given back.
     pub(crate) sleepers: AtomicU64,
+    // How many threads sleep until a position is durable.
+    pub(crate) waiters: AtomicU64,
+    // 1 while the keeper sleeps until changes come, else 0.
+    pub(crate) resting: AtomicU64,
     pub(crate) alloc: Global,
     ghost words: { table.shared.table_id.words ≡ count.count + 4 },
     ghost slots: { table.shared.table_id.slots ≡ count.count },
