@@ -13,7 +13,7 @@ ghost use Rattle.atomic_methods.specs.Prepared.{acted, CanAct, IsPrepared};
 use crate::plans::{Effect, Plan, answered, plan_change};
 use bin_table::Node;
 use bin_transfer::Growing;
-use java_hash::{StripeCount, hash, spread};
+use java_hash::{StripeCount, spread_of};
 use map_types::{Command, Key, Read, Refusal, Reply, Value};
 use std::alloc::{AllocError, Global};
 use std::marker::Model;
@@ -52,13 +52,6 @@ impl Model for Part {
         moved = part.table.moved;
       };
     } };
-}
-
-// The spread of the hash of the key.
-fn spread_of(key: &Key) -> u32
-    ensures { result ≡ spread_of_key key.now }
-{
-    spread(hash(key.as_str()))
 }
 
 impl Part {
@@ -114,7 +107,24 @@ impl Part {
         ensures unchanged { OnErr result (self.new.growth ≡ self.old.growth) }
         ensures err { IfErr result (λ refusal. refusal ≡ Refusal.NoMemory) }
     {
-        let spread = spread_of(&command.key);
+        self.prepare_hashed(alloc, command, spread_of(command.key.as_str()))
+    }
+
+    /// The same of a command for whose key the hash has this spread.
+    pub fn prepare_hashed(
+        &mut self,
+        alloc: Global,
+        command: &Command,
+        spread: u32,
+    ) -> Result<Prepared, Refusal>
+        requires { spread ≡ spread_of_key command.now.key }
+        ensures ok { IfOk result (IsPrepared self.old.map command.now) }
+        ensures content { self.new.map ≡ self.old.map }
+        ensures stripes { self.new.growth.stripes ≡ self.old.growth.stripes }
+        ensures growth { OnOk result (HasGrown self.old self.new) }
+        ensures unchanged { OnErr result (self.new.growth ≡ self.old.growth) }
+        ensures err { IfErr result (λ refusal. refusal ≡ Refusal.NoMemory) }
+    {
         let old = self.table.get(spread, &command.key);
         let is_mapped = old.is_some();
         let Plan { effect, reply } = plan_change(alloc, old, &command.change)?;
@@ -157,7 +167,15 @@ impl Part {
         ensures ok { IfOk result (λ reply. reply ≡ answer self.now.map read.now) }
         ensures err { IfErr result (λ refusal. refusal ≡ Refusal.NoMemory) }
     {
-        let spread = spread_of(&read.key);
+        self.read_hashed(read, spread_of(read.key.as_str()))
+    }
+
+    /// The same of a read for whose key the hash has this spread.
+    pub fn read_hashed(&self, read: &Read, spread: u32) -> Result<Reply, Refusal>
+        requires { spread ≡ spread_of_key read.now.key }
+        ensures ok { IfOk result (λ reply. reply ≡ answer self.now.map read.now) }
+        ensures err { IfErr result (λ refusal. refusal ≡ Refusal.NoMemory) }
+    {
         answered(self.table.get(spread, &read.key), &read.question)
     }
 

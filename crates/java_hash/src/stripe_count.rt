@@ -1,8 +1,9 @@
 //! How many stripes a map has, and which stripe and bin a key belongs to.
-ghost use Rattle.std.specs.Prelude.{◌≡◌, ◌↔◌, IsSome, IfSome, IsTrue, ◌<◌, ◌^◌, ℕ};
+ghost use Rattle.std.specs.Prelude.{◌≡◌, ◌↔◌, IsSome, IfSome, IsTrue, ◌<◌, ◌^◌, ℕ, List};
+ghost use Rattle.java_hash.specs.Hash.{hash_of, spread_of};
 ghost use Rattle.java_hash.specs.Stripes.{is_stripe_count, stripe_of, bin_of};
 
-use crate::string_hash::{hash, spread};
+use crate::string_hash::spread_of;
 
 /// A number of stripes: a power of two from 1 to 256.
 #[derive(Clone, Copy)]
@@ -33,12 +34,21 @@ impl StripeCount {
 }
 
 /// The stripe of the key `text`.
-#[tactic(auto, unfolding(crate::specs::Stripes::stripe_of))]
 pub fn stripe_of(text: &str, stripes: StripeCount) -> usize
     ensures value { result ≡ stripe_of stripes.count text.now }
     ensures within { result < stripes.count }
 {
-    spread(hash(text)) as usize & (stripes.get() - 1)
+    stripe_of_spread(spread_of(text), stripes)
+}
+
+/// The stripe of each key whose hash has this spread.
+#[tactic(auto, unfolding(crate::specs::Stripes::stripe_of))]
+pub fn stripe_of_spread(spread: u32, stripes: StripeCount) -> usize
+    ensures value { (text : List ℕ) → spread ≡ spread_of (hash_of text) →
+        result ≡ stripe_of stripes.count text }
+    ensures within { result < stripes.count }
+{
+    spread as usize & (stripes.get() - 1)
 }
 
 /// The bin of a spread in a stripe with `bins` bins.

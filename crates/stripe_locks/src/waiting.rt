@@ -2,6 +2,7 @@
 ghost use Rattle.std.specs.Prelude.{◌≡◌, ◌<◌, None, IfOk, IfErr};
 ghost use Rattle.ticket_order.specs.declared.record.Record.{Record};
 ghost use Rattle.ticket_order.specs.Calls.{HasFound, IsNotBusy, MakesCall, MakesRead, RefusesChange, RefusesRead};
+ghost use Rattle.java_hash.specs.Hash.{hash_of, spread_of};
 ghost use Rattle.java_hash.specs.Stripes.{stripe_of};
 ghost use Rattle.stripe_locks.specs.Passes.{recorded, stripe_count, IsPassOf, IsSamePass};
 ghost use Rattle.stripe_locks.specs.Holding.{position_of, reply_of, IsHeldOf};
@@ -12,7 +13,7 @@ use crate::held::Held;
 use crate::rule::Pass;
 use crate::stripes::{FIRST_STRIPE, Stripes};
 use crossbeam_utils::Backoff;
-use java_hash::stripe_of;
+use java_hash::{spread_of, stripe_of_spread};
 use map_types::{Command, Read, Refusal};
 use std::snapshot::Snapshot;
 use std::sync::Wait;
@@ -62,8 +63,15 @@ impl Stripes {
         unreachable!()
     }
 
-    fn call_on(&self, pass: &mut Pass, command: Command, content: Stripe) -> Result<Held, Refusal>
+    fn call_on(
+        &self,
+        pass: &mut Pass,
+        command: Command,
+        spread: u32,
+        content: Stripe,
+    ) -> Result<Held, Refusal>
         requires own { IsPassOf self.now pass.old }
+        requires spread { spread ≡ spread_of (hash_of command.key) }
         requires found { (b : Record) × HasFound b (stripe_of (stripe_count self.now) command.key) content (recorded pass.old) }
         ensures made { (b : Record) → HasFound b (stripe_of (stripe_count self.now) command.key) content (recorded pass.old) → IfOk result (λ held. MakesCall (stripe_count self.now) b command (position_of held) (reply_of held) (recorded pass.new)) }
         ensures refused { (b : Record) → HasFound b (stripe_of (stripe_count self.now) command.key) content (recorded pass.old) → IfErr result (λ refusal. RefusesChange b (stripe_of (stripe_count self.now) command.key) refusal (recorded pass.new)) }
@@ -75,13 +83,20 @@ impl Stripes {
             stripes: self,
             pass,
         };
-        let held = ticket_order::call_on(&mut board, self.alloc, command, content)?;
+        let held = ticket_order::call_on(&mut board, self.alloc, command, spread, content)?;
         let maker = Snapshot::of(pass);
         Ok(Held { held, maker })
     }
 
-    fn read_on(&self, pass: &mut Pass, read: Read, content: Stripe) -> Result<Held, Refusal>
+    fn read_on(
+        &self,
+        pass: &mut Pass,
+        read: Read,
+        spread: u32,
+        content: Stripe,
+    ) -> Result<Held, Refusal>
         requires own { IsPassOf self.now pass.old }
+        requires spread { spread ≡ spread_of (hash_of read.key) }
         requires found { (b : Record) × HasFound b (stripe_of (stripe_count self.now) read.key) content (recorded pass.old) }
         ensures made { (b : Record) → HasFound b (stripe_of (stripe_count self.now) read.key) content (recorded pass.old) → IfOk result (λ held. MakesRead (stripe_count self.now) b read (position_of held) (reply_of held) (recorded pass.new)) }
         ensures refused { (b : Record) → HasFound b (stripe_of (stripe_count self.now) read.key) content (recorded pass.old) → IfErr result (λ refusal. RefusesRead b (stripe_of (stripe_count self.now) read.key) refusal (recorded pass.new)) }
@@ -93,7 +108,7 @@ impl Stripes {
             stripes: self,
             pass,
         };
-        let held = ticket_order::read_on(&mut board, read, content)?;
+        let held = ticket_order::read_on(&mut board, read, spread, content)?;
         let maker = Snapshot::of(pass);
         Ok(Held { held, maker })
     }
@@ -109,9 +124,10 @@ impl Stripes {
         ensures empty_handed { (recorded pass.new).holding ≡ None }
         ensures same { IsSamePass pass.old pass.new }
     {
-        let stripe = stripe_of(command.key.as_str(), self.count);
+        let spread = spread_of(command.key.as_str());
+        let stripe = stripe_of_spread(spread, self.count);
         let content = self.take_in_time(rt, pass, stripe);
-        self.call_on(pass, command, content)
+        self.call_on(pass, command, spread, content)
     }
 
     /// Makes a read, once the stripe of its key is free: TAKE as often as it takes, ALIVE, LOOK, GIVE.
@@ -124,8 +140,9 @@ impl Stripes {
         ensures empty_handed { (recorded pass.new).holding ≡ None }
         ensures same { IsSamePass pass.old pass.new }
     {
-        let stripe = stripe_of(read.key.as_str(), self.count);
+        let spread = spread_of(read.key.as_str());
+        let stripe = stripe_of_spread(spread, self.count);
         let content = self.take_in_time(rt, pass, stripe);
-        self.read_on(pass, read, content)
+        self.read_on(pass, read, spread, content)
     }
 }

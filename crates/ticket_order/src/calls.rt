@@ -1,5 +1,6 @@
 //! Whole calls of one pass, which don't wait. They make the steps that their walks make.
 ghost use Rattle.std.specs.Prelude.{◌≡◌, None, IfOk, IfErr};
+ghost use Rattle.java_hash.specs.Hash.{hash_of, spread_of};
 ghost use Rattle.java_hash.specs.Stripes.{stripe_of};
 ghost use Rattle.ticket_order.specs.declared.record.Record.{Record};
 ghost use Rattle.ticket_order.specs.Calls.{HasFound, IsNotBusy, MakesCall, MakesRead, RefusesChange, RefusesRead, Releases};
@@ -13,7 +14,7 @@ use crate::steps::Steps;
 use crate::stripe::Stripe;
 use crate::walk::Taken;
 use atomic_methods::Prepared;
-use java_hash::stripe_of;
+use java_hash::{spread_of, stripe_of_spread};
 use map_types::{Command, Read, Refusal};
 use std::alloc::Global;
 
@@ -28,9 +29,15 @@ pub fn try_call<S: Steps>(steps: &mut S, alloc: Global, command: Command) -> Res
     ensures place { S.place steps.new ≡ S.place steps.old }
     ensures stripes { S.stripe_count steps.new ≡ S.stripe_count steps.old }
 {
-    let stripe = stripe_of(command.key.as_str(), steps.stripes());
+    let spread = spread_of(command.key.as_str());
+    let stripe = stripe_of_spread(spread, steps.stripes());
     match steps.take(stripe) {
-        Some(content) => change_on(steps, alloc, command, Taken { stripe, content }),
+        Some(content) => change_on(
+            steps,
+            NewChange { alloc, command },
+            spread,
+            Taken { stripe, content },
+        ),
         None => Err(Refusal::Busy { stripe }),
     }
 }
@@ -43,9 +50,10 @@ pub fn try_read<S: Steps>(steps: &mut S, read: Read) -> Result<Held, Refusal>
     ensures place { S.place steps.new ≡ S.place steps.old }
     ensures stripes { S.stripe_count steps.new ≡ S.stripe_count steps.old }
 {
-    let stripe = stripe_of(read.key.as_str(), steps.stripes());
+    let spread = spread_of(read.key.as_str());
+    let stripe = stripe_of_spread(spread, steps.stripes());
     match steps.take(stripe) {
-        Some(content) => read_from(steps, read, Taken { stripe, content }),
+        Some(content) => read_from(steps, read, spread, Taken { stripe, content }),
         None => Err(Refusal::Busy { stripe }),
     }
 }
@@ -69,14 +77,16 @@ pub fn release<S: Steps>(steps: &mut S, held: Held) -> Released
     Released::Failed
 }
 
-/// Makes a change on the stripe of its key, which the pass has just taken and found with this
-/// content: ALIVE, LOOK, TICKET, GIVE.
+/// Makes a change, for whose key the hash has this spread, on the stripe of the key, which the pass
+/// has just taken and found with this content: ALIVE, LOOK, TICKET, GIVE.
 pub fn call_on<S: Steps>(
     steps: &mut S,
     alloc: Global,
     command: Command,
+    spread: u32,
     content: Stripe,
 ) -> Result<Held, Refusal>
+    requires spread { spread ≡ spread_of (hash_of command.key) }
     requires found { (b : Record) × HasFound b (stripe_of (S.stripe_count steps.old) command.key) content (S.recorded steps.old) }
     ensures made { (b : Record) → HasFound b (stripe_of (S.stripe_count steps.old) command.key) content (S.recorded steps.old) → IfOk result (λ held. MakesCall (S.stripe_count steps.old) b command held.position held.reply (S.recorded steps.new)) }
     ensures refused { (b : Record) → HasFound b (stripe_of (S.stripe_count steps.old) command.key) content (S.recorded steps.old) → IfErr result (λ refusal. RefusesChange b (stripe_of (S.stripe_count steps.old) command.key) refusal (S.recorded steps.new)) }
@@ -84,13 +94,24 @@ pub fn call_on<S: Steps>(
     ensures place { S.place steps.new ≡ S.place steps.old }
     ensures stripes { S.stripe_count steps.new ≡ S.stripe_count steps.old }
 {
-    let stripe = stripe_of(command.key.as_str(), steps.stripes());
-    change_on(steps, alloc, command, Taken { stripe, content })
+    let stripe = stripe_of_spread(spread, steps.stripes());
+    change_on(
+        steps,
+        NewChange { alloc, command },
+        spread,
+        Taken { stripe, content },
+    )
 }
 
-/// Makes a read of the stripe of its key, which the pass has just taken and found with this
-/// content: ALIVE, LOOK, GIVE.
-pub fn read_on<S: Steps>(steps: &mut S, read: Read, content: Stripe) -> Result<Held, Refusal>
+/// Makes a read, for whose key the hash has this spread, of the stripe of the key, which the pass has
+/// just taken and found with this content: ALIVE, LOOK, GIVE.
+pub fn read_on<S: Steps>(
+    steps: &mut S,
+    read: Read,
+    spread: u32,
+    content: Stripe,
+) -> Result<Held, Refusal>
+    requires spread { spread ≡ spread_of (hash_of read.key) }
     requires found { (b : Record) × HasFound b (stripe_of (S.stripe_count steps.old) read.key) content (S.recorded steps.old) }
     ensures made { (b : Record) → HasFound b (stripe_of (S.stripe_count steps.old) read.key) content (S.recorded steps.old) → IfOk result (λ held. MakesRead (S.stripe_count steps.old) b read held.position held.reply (S.recorded steps.new)) }
     ensures refused { (b : Record) → HasFound b (stripe_of (S.stripe_count steps.old) read.key) content (S.recorded steps.old) → IfErr result (λ refusal. RefusesRead b (stripe_of (S.stripe_count steps.old) read.key) refusal (S.recorded steps.new)) }
@@ -98,21 +119,26 @@ pub fn read_on<S: Steps>(steps: &mut S, read: Read, content: Stripe) -> Result<H
     ensures place { S.place steps.new ≡ S.place steps.old }
     ensures stripes { S.stripe_count steps.new ≡ S.stripe_count steps.old }
 {
-    let stripe = stripe_of(read.key.as_str(), steps.stripes());
-    read_from(steps, read, Taken { stripe, content })
+    let stripe = stripe_of_spread(spread, steps.stripes());
+    read_from(steps, read, spread, Taken { stripe, content })
 }
 
 // Makes a change on its stripe, of which the TAKE was made: ALIVE, LOOK, TICKET, GIVE.
 fn change_on<S: Steps>(
     steps: &mut S,
-    alloc: Global,
-    command: Command,
+    new: NewChange,
+    spread: u32,
     mut taken: Taken,
 ) -> Result<Held, Refusal>
-    requires stripe { taken.stripe ≡ stripe_of (S.stripe_count steps.old) command.key }
+    requires spread { spread ≡ spread_of (hash_of new.command.key) }
+    requires stripe { taken.stripe ≡ stripe_of (S.stripe_count steps.old) new.command.key }
     requires found { (b : Record) × HasFound b taken.stripe taken.content (S.recorded steps.old) }
-    ensures made { (b : Record) → HasFound b taken.stripe taken.content (S.recorded steps.old) → IfOk result (λ held. MakesCall (S.stripe_count steps.old) b command held.position held.reply (S.recorded steps.new)) }
-    ensures refused { (b : Record) → HasFound b taken.stripe taken.content (S.recorded steps.old) → IfErr result (λ refusal. RefusesChange b (stripe_of (S.stripe_count steps.old) command.key) refusal (S.recorded steps.new)) }
+    ensures made { (b : Record) → HasFound b taken.stripe taken.content (S.recorded steps.old) →
+        IfOk result (λ held. MakesCall (S.stripe_count steps.old) b new.command
+        held.position held.reply (S.recorded steps.new)) }
+    ensures refused { (b : Record) → HasFound b taken.stripe taken.content (S.recorded steps.old) →
+        IfErr result (λ refusal. RefusesChange b
+        (stripe_of (S.stripe_count steps.old) new.command.key) refusal (S.recorded steps.new)) }
     ensures not_busy { IfErr result IsNotBusy }
     ensures place { S.place steps.new ≡ S.place steps.old }
     ensures stripes { S.stripe_count steps.new ≡ S.stripe_count steps.old }
@@ -123,16 +149,20 @@ fn change_on<S: Steps>(
     if steps.look() >= TICKET_LIMIT {
         return Err(taken.give_back(Refusal::TicketsSpent, steps));
     }
-    match taken.content.prepare(alloc, &command) {
-        Ok(prepared) => Ok(change_ready(steps, NewChange { alloc, command }, taken, prepared)),
+    match taken.content.prepare(new.alloc, &new.command, spread) {
+        Ok(prepared) => Ok(change_ready(steps, new, taken, prepared)),
         Err(refusal) => Err(taken.give_back(refusal, steps)),
     }
 }
 
 // Makes a change that has all its memory: TICKET, GIVE.
 fn change_ready<S: Steps>(steps: &mut S, new: NewChange, taken: Taken, prepared: Prepared) -> Held
-    requires { (b : Record) × FitsChange (S.stripe_count steps.old) b (ToChange new.command) (ChangeStage.IsReady new taken prepared) (S.recorded steps.old) }
-    ensures made { (b : Record) → FitsChange (S.stripe_count steps.old) b (ToChange new.command) (ChangeStage.IsReady new taken prepared) (S.recorded steps.old) → MakesCall (S.stripe_count steps.old) b new.command result.position result.reply (S.recorded steps.new) }
+    requires { (b : Record) × FitsChange (S.stripe_count steps.old) b (ToChange new.command)
+        (ChangeStage.IsReady new taken prepared) (S.recorded steps.old) }
+    ensures made { (b : Record) → FitsChange (S.stripe_count steps.old) b (ToChange new.command)
+        (ChangeStage.IsReady new taken prepared) (S.recorded steps.old) →
+        MakesCall (S.stripe_count steps.old) b new.command
+        result.position result.reply (S.recorded steps.new) }
     ensures place { S.place steps.new ≡ S.place steps.old }
     ensures stripes { S.stripe_count steps.new ≡ S.stripe_count steps.old }
 {
@@ -143,11 +173,21 @@ fn change_ready<S: Steps>(steps: &mut S, new: NewChange, taken: Taken, prepared:
 }
 
 // Makes a read of its stripe, of which the TAKE was made: ALIVE, LOOK, GIVE.
-fn read_from<S: Steps>(steps: &mut S, read: Read, taken: Taken) -> Result<Held, Refusal>
+fn read_from<S: Steps>(
+    steps: &mut S,
+    read: Read,
+    spread: u32,
+    taken: Taken,
+) -> Result<Held, Refusal>
+    requires spread { spread ≡ spread_of (hash_of read.key) }
     requires stripe { taken.stripe ≡ stripe_of (S.stripe_count steps.old) read.key }
     requires found { (b : Record) × HasFound b taken.stripe taken.content (S.recorded steps.old) }
-    ensures made { (b : Record) → HasFound b taken.stripe taken.content (S.recorded steps.old) → IfOk result (λ held. MakesRead (S.stripe_count steps.old) b read held.position held.reply (S.recorded steps.new)) }
-    ensures refused { (b : Record) → HasFound b taken.stripe taken.content (S.recorded steps.old) → IfErr result (λ refusal. RefusesRead b (stripe_of (S.stripe_count steps.old) read.key) refusal (S.recorded steps.new)) }
+    ensures made { (b : Record) → HasFound b taken.stripe taken.content (S.recorded steps.old) →
+        IfOk result (λ held. MakesRead (S.stripe_count steps.old) b read
+        held.position held.reply (S.recorded steps.new)) }
+    ensures refused { (b : Record) → HasFound b taken.stripe taken.content (S.recorded steps.old) →
+        IfErr result (λ refusal. RefusesRead b
+        (stripe_of (S.stripe_count steps.old) read.key) refusal (S.recorded steps.new)) }
     ensures not_busy { IfErr result IsNotBusy }
     ensures place { S.place steps.new ≡ S.place steps.old }
     ensures stripes { S.stripe_count steps.new ≡ S.stripe_count steps.old }
@@ -156,7 +196,7 @@ fn read_from<S: Steps>(steps: &mut S, read: Read, taken: Taken) -> Result<Held, 
         return Err(taken.give_back(Refusal::Failed, steps));
     }
     let position = Position::new(steps.look());
-    match taken.content.part.read(&read) {
+    match taken.content.part.read_hashed(&read, spread) {
         Ok(reply) => {
             steps.give(taken.stripe, taken.content, Purpose::Answer(read));
             Ok(Held { position, reply })

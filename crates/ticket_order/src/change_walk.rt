@@ -10,7 +10,7 @@ use crate::record::Purpose;
 use crate::steps::Steps;
 use crate::walk::{Stage, Stepped, Taken, Walk};
 use atomic_methods::Prepared;
-use java_hash::stripe_of;
+use java_hash::{spread_of, stripe_of};
 use map_types::{Command, Refusal};
 use std::alloc::Global;
 
@@ -91,7 +91,8 @@ impl ChangeStage {
                 if steps.look() >= TICKET_LIMIT {
                     return taken.refused(Refusal::TicketsSpent);
                 }
-                match taken.content.prepare(new.alloc, &new.command) {
+                let spread = spread_of(new.command.key.as_str());
+                match taken.content.prepare(new.alloc, &new.command, spread) {
                     Ok(prepared) => ChangeStage::IsReady(new, taken, prepared).more(),
                     Err(refusal) => taken.refused(refusal),
                 }

@@ -1,5 +1,6 @@
 //! What lies in a stripe.
 ghost use Rattle.std.specs.Prelude.{◌≡◌, [], ◌∷◌, ◌++◌, IfOk, IfErr};
+ghost use Rattle.java_hash.specs.Hash.{hash_of, spread_of};
 ghost use Rattle.map_model.specs.Steps.{step};
 ghost use Rattle.ticket_order.specs.Records.{entry};
 ghost use Rattle.ticket_order.specs.Memory.{HasMemory};
@@ -36,8 +37,15 @@ impl Stripe {
         }
     }
 
-    // Gets the memory that the change needs. The content stays.
-    pub(crate) fn prepare(&mut self, alloc: Global, command: &Command) -> Result<Prepared, Refusal>
+    // Gets the memory that the change needs, for whose key the hash has this spread. The content
+    // stays.
+    pub(crate) fn prepare(
+        &mut self,
+        alloc: Global,
+        command: &Command,
+        spread: u32,
+    ) -> Result<Prepared, Refusal>
+        requires { spread ≡ spread_of (hash_of command.now.key) }
         ensures ok { IfOk result (HasMemory command.now self.new) }
         ensures err { IfErr result (λ refusal. refusal ≡ Refusal.NoMemory) }
         ensures part { self.new.part.map ≡ self.old.part.map }
@@ -46,7 +54,7 @@ impl Stripe {
         if self.outbox.reserve(1).is_err() {
             return Err(Refusal::NoMemory);
         }
-        self.part.prepare(alloc, command)
+        self.part.prepare_hashed(alloc, command, spread)
     }
 
     // Makes the change, and puts it into the outbox with its ticket. It takes no memory.

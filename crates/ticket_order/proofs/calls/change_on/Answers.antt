@@ -8,33 +8,33 @@ use Rattle.ticket_order.proofs.calls.change_on.Goals as goal
 pub give_back-requires : goal.give_back-requires
 give_back-requires g c =
     let f = c.requires.found in
-    let at : c.args.taken.stripe ≡ stripe_of (g.S.Steps.stripe_count c.alive.new.self) c.args.command.key = rw c.alive.ensures.stripes c.requires.stripe in
-    (f.0, ToChange c.args.command, change_failed _ _ _ _ _ c.args.command c.args.taken (record { task_is = refl; stripe_is = at }) (found_content _ _ _ f.1) (rw c.if-not-alive.true at c.alive.ensures.step))
+    let at : c.args.taken.stripe ≡ stripe_of (g.S.Steps.stripe_count c.alive.new.self) c.args.new.command.key = rw c.alive.ensures.stripes c.requires.stripe in
+    (f.0, ToChange c.args.new.command, change_failed _ _ _ _ _ c.args.new.command c.args.taken (record { task_is = refl; stripe_is = at }) (found_content _ _ _ f.1) (rw c.if-not-alive.true at c.alive.ensures.step))
 
 pub returns-then-not-alive-clause-refused : goal.returns-then-not-alive-clause-refused
 returns-then-not-alive-clause-refused g c = λ b f.
-    let at : c.args.taken.stripe ≡ stripe_of (g.S.Steps.stripe_count c.alive.new.self) c.args.command.key = rw c.alive.ensures.stripes c.requires.stripe in
+    let at : c.args.taken.stripe ≡ stripe_of (g.S.Steps.stripe_count c.alive.new.self) c.args.new.command.key = rw c.alive.ensures.stripes c.requires.stripe in
     rw c.give_back.ensures.same (rw (← c.alive.ensures.stripes)
-    (c.give_back.ensures.refused b (ToChange c.args.command) (change_failed _ _ _ _ _ c.args.command c.args.taken (record { task_is = refl; stripe_is = at }) (found_content _ _ _ f) (rw c.if-not-alive.true at c.alive.ensures.step))))
+    (c.give_back.ensures.refused b (ToChange c.args.new.command) (change_failed _ _ _ _ _ c.args.new.command c.args.taken (record { task_is = refl; stripe_is = at }) (found_content _ _ _ f) (rw c.if-not-alive.true at c.alive.ensures.step))))
 
 pub give_back-requires-then-look-ge-TICKET_LIMIT : goal.give_back-requires-then-look-ge-TICKET_LIMIT
 give_back-requires-then-look-ge-TICKET_LIMIT g c =
     let f = c.requires.found in
-    let at : c.args.taken.stripe ≡ stripe_of (g.S.Steps.stripe_count c.look.new.self) c.args.command.key = rw (c.look.ensures.stripes, c.alive.ensures.stripes) c.requires.stripe in
+    let at : c.args.taken.stripe ≡ stripe_of (g.S.Steps.stripe_count c.look.new.self) c.args.new.command.key = rw (c.look.ensures.stripes, c.alive.ensures.stripes) c.requires.stripe in
     let alive = took_alive f.0 _ _ c.args.taken f.1 (rw c.if-not-alive.false at c.alive.ensures.step) in
-    (f.0, ToChange c.args.command, change_spent _ _ _ _ _ c.args.command _ c.args.taken (record { task_is = refl; stripe_is = at }) alive c.look.ensures.step c.if-look-ge-TICKET_LIMIT.true)
+    (f.0, ToChange c.args.new.command, change_spent _ _ _ _ _ c.args.new.command _ c.args.taken (record { task_is = refl; stripe_is = at }) alive c.look.ensures.step c.if-look-ge-TICKET_LIMIT.true)
 
 pub returns-then-look-ge-TICKET_LIMIT-clause-refused : goal.returns-then-look-ge-TICKET_LIMIT-clause-refused
 returns-then-look-ge-TICKET_LIMIT-clause-refused g c = λ b f.
-    let at : c.args.taken.stripe ≡ stripe_of (g.S.Steps.stripe_count c.look.new.self) c.args.command.key = rw (c.look.ensures.stripes, c.alive.ensures.stripes) c.requires.stripe in
+    let at : c.args.taken.stripe ≡ stripe_of (g.S.Steps.stripe_count c.look.new.self) c.args.new.command.key = rw (c.look.ensures.stripes, c.alive.ensures.stripes) c.requires.stripe in
     let alive = took_alive b _ _ c.args.taken f (rw c.if-not-alive.false at c.alive.ensures.step) in
     rw c.give_back-then-look-ge-TICKET_LIMIT.ensures.same (rw (← c.alive.ensures.stripes, ← c.look.ensures.stripes)
-    (c.give_back-then-look-ge-TICKET_LIMIT.ensures.refused b (ToChange c.args.command) (change_spent _ _ _ _ _ c.args.command _ c.args.taken (record { task_is = refl; stripe_is = at }) alive c.look.ensures.step c.if-look-ge-TICKET_LIMIT.true)))
+    (c.give_back-then-look-ge-TICKET_LIMIT.ensures.refused b (ToChange c.args.new.command) (change_spent _ _ _ _ _ c.args.new.command _ c.args.taken (record { task_is = refl; stripe_is = at }) alive c.look.ensures.step c.if-look-ge-TICKET_LIMIT.true)))
 
 pub change_ready-requires : goal.change_ready-requires
 change_ready-requires g c =
     let f = c.requires.found in
-    let at : c.args.taken.stripe ≡ stripe_of (g.S.Steps.stripe_count c.look.new.self) c.args.command.key = rw (c.look.ensures.stripes, c.alive.ensures.stripes) c.requires.stripe in
+    let at : c.args.taken.stripe ≡ stripe_of (g.S.Steps.stripe_count c.look.new.self) c.args.new.command.key = rw (c.look.ensures.stripes, c.alive.ensures.stripes) c.requires.stripe in
     let alive = took_alive f.0 _ _ c.args.taken f.1 (rw c.if-not-alive.false at c.alive.ensures.step) in (
       f.0,
       (
@@ -47,7 +47,7 @@ change_ready-requires g c =
 
 pub returns-in-Ok-clause-made : goal.returns-in-Ok-clause-made
 returns-in-Ok-clause-made g c = λ b f.
-    let at : c.args.taken.stripe ≡ stripe_of (g.S.Steps.stripe_count c.look.new.self) c.args.command.key = rw (c.look.ensures.stripes, c.alive.ensures.stripes) c.requires.stripe in
+    let at : c.args.taken.stripe ≡ stripe_of (g.S.Steps.stripe_count c.look.new.self) c.args.new.command.key = rw (c.look.ensures.stripes, c.alive.ensures.stripes) c.requires.stripe in
     let alive = took_alive b _ _ c.args.taken f (rw c.if-not-alive.false at c.alive.ensures.step) in
     rw (← c.alive.ensures.stripes, ← c.look.ensures.stripes)
     (c.change_ready.ensures.made b (
@@ -60,13 +60,13 @@ returns-in-Ok-clause-made g c = λ b f.
 pub give_back-requires-in-Err : goal.give_back-requires-in-Err
 give_back-requires-in-Err g c =
     let f = c.requires.found in
-    let at : c.args.taken.stripe ≡ stripe_of (g.S.Steps.stripe_count c.look.new.self) c.args.command.key = rw (c.look.ensures.stripes, c.alive.ensures.stripes) c.requires.stripe in
+    let at : c.args.taken.stripe ≡ stripe_of (g.S.Steps.stripe_count c.look.new.self) c.args.new.command.key = rw (c.look.ensures.stripes, c.alive.ensures.stripes) c.requires.stripe in
     let alive = took_alive f.0 _ _ c.args.taken f.1 (rw c.if-not-alive.false at c.alive.ensures.step) in
-    (f.0, ToChange c.args.command, change_starved _ _ _ _ _ c.args.command _ c.args.taken _ _ (record { task_is = refl; stripe_is = at }) alive c.look.ensures.step c.if-look-ge-TICKET_LIMIT.false refl c.prepare.ensures.part c.prepare.ensures.outbox c.in-Err.ensures.err)
+    (f.0, ToChange c.args.new.command, change_starved _ _ _ _ _ c.args.new.command _ c.args.taken _ _ (record { task_is = refl; stripe_is = at }) alive c.look.ensures.step c.if-look-ge-TICKET_LIMIT.false refl c.prepare.ensures.part c.prepare.ensures.outbox c.in-Err.ensures.err)
 
 pub returns-in-Err-clause-refused : goal.returns-in-Err-clause-refused
 returns-in-Err-clause-refused g c = λ b f.
-    let at : c.args.taken.stripe ≡ stripe_of (g.S.Steps.stripe_count c.look.new.self) c.args.command.key = rw (c.look.ensures.stripes, c.alive.ensures.stripes) c.requires.stripe in
+    let at : c.args.taken.stripe ≡ stripe_of (g.S.Steps.stripe_count c.look.new.self) c.args.new.command.key = rw (c.look.ensures.stripes, c.alive.ensures.stripes) c.requires.stripe in
     let alive = took_alive b _ _ c.args.taken f (rw c.if-not-alive.false at c.alive.ensures.step) in
     rw c.give_back-in-Err.ensures.same (rw (← c.alive.ensures.stripes, ← c.look.ensures.stripes)
-    (c.give_back-in-Err.ensures.refused b (ToChange c.args.command) (change_starved _ _ _ _ _ c.args.command _ c.args.taken _ _ (record { task_is = refl; stripe_is = at }) alive c.look.ensures.step c.if-look-ge-TICKET_LIMIT.false refl c.prepare.ensures.part c.prepare.ensures.outbox c.in-Err.ensures.err)))
+    (c.give_back-in-Err.ensures.refused b (ToChange c.args.new.command) (change_starved _ _ _ _ _ c.args.new.command _ c.args.taken _ _ (record { task_is = refl; stripe_is = at }) alive c.look.ensures.step c.if-look-ge-TICKET_LIMIT.false refl c.prepare.ensures.part c.prepare.ensures.outbox c.in-Err.ensures.err)))

@@ -1,4 +1,4 @@
-use Rattle.std.proofs.Common.{◌≡◌, ℕ, subst, rules}
+use Rattle.std.proofs.Common.{◌≡◌, ℕ, subst, ap, ◌∙◌}
 use Rattle.std.proofs.lemmas.Result.{IfOk-weaker}
 use Rattle.java_hash.specs.Stripes.{stripe_of}
 use Rattle.ticket_order.specs.Calls.{IsNotBusy, MakesCall, RefusesChange}
@@ -10,25 +10,25 @@ use Rattle.stripe_locks.proofs.stripes.Stripes.call.Goals as goal
 
 pub call_on-requires-clause-found : goal.call_on-requires-clause-found
 call_on-requires-clause-found g c =
-    let at : c.stripe_of-stripe.result ≡ stripe_of (stripe_count c.args.self.now) c.args.command.key = search rules in
+    let at : c.stripe_of_spread-stripe.result ≡ stripe_of (stripe_count c.args.self.now) c.args.command.key = c.stripe_of_spread-stripe.ensures.value c.as_str.result.now c.spread_of-spread.ensures ∙ ap (stripe_of (stripe_count c.args.self.now)) c.as_str.ensures.text in
     let k = subst (λ (i : ℕ). TakesInTime (stripe_count c.args.self.now) (recorded c.args.pass.now) i c.take_in_time-content.result (recorded c.take_in_time-content.new.pass)) at c.take_in_time-content.ensures.step in
     (k.waited, found_in_time _ _ _ _ _ k)
 
 pub returns-clause-made : goal.returns-clause-made
 returns-clause-made g c =
-    let at : c.stripe_of-stripe.result ≡ stripe_of (stripe_count c.args.self.now) c.args.command.key = search rules in
+    let at : c.stripe_of_spread-stripe.result ≡ stripe_of (stripe_count c.args.self.now) c.args.command.key = c.stripe_of_spread-stripe.ensures.value c.as_str.result.now c.spread_of-spread.ensures ∙ ap (stripe_of (stripe_count c.args.self.now)) c.as_str.ensures.text in
     let k = subst (λ (i : ℕ). TakesInTime (stripe_count c.args.self.now) (recorded c.args.pass.now) i c.take_in_time-content.result (recorded c.take_in_time-content.new.pass)) at c.take_in_time-content.ensures.step in
     IfOk-weaker c.call_on.result (λ held. MakesCall (stripe_count c.args.self.now) k.waited c.args.command (position_of held) (reply_of held) (recorded c.call_on.new.pass)) _ (λ held m. made_in_time _ _ _ _ _ _ _ _ k m) (c.call_on.ensures.made k.waited (found_in_time _ _ _ _ _ k))
 
 pub returns-clause-refused : goal.returns-clause-refused
 returns-clause-refused g c =
-    let at : c.stripe_of-stripe.result ≡ stripe_of (stripe_count c.args.self.now) c.args.command.key = search rules in
+    let at : c.stripe_of_spread-stripe.result ≡ stripe_of (stripe_count c.args.self.now) c.args.command.key = c.stripe_of_spread-stripe.ensures.value c.as_str.result.now c.spread_of-spread.ensures ∙ ap (stripe_of (stripe_count c.args.self.now)) c.as_str.ensures.text in
     let k = subst (λ (i : ℕ). TakesInTime (stripe_count c.args.self.now) (recorded c.args.pass.now) i c.take_in_time-content.result (recorded c.take_in_time-content.new.pass)) at c.take_in_time-content.ensures.step in
     err_both c.call_on.result (λ refusal. RefusesChange k.waited (stripe_of (stripe_count c.args.self.now) c.args.command.key) refusal (recorded c.call_on.new.pass)) IsNotBusy _
     (λ refusal refused free. record { waited = k.waited; waits = k.waits; refused = refused; not_busy = free }) (c.call_on.ensures.refused k.waited (found_in_time _ _ _ _ _ k)) c.call_on.ensures.not_busy
 
 pub returns-clause-empty_handed : goal.returns-clause-empty_handed
 returns-clause-empty_handed g c =
-    let at : c.stripe_of-stripe.result ≡ stripe_of (stripe_count c.args.self.now) c.args.command.key = search rules in
+    let at : c.stripe_of_spread-stripe.result ≡ stripe_of (stripe_count c.args.self.now) c.args.command.key = c.stripe_of_spread-stripe.ensures.value c.as_str.result.now c.spread_of-spread.ensures ∙ ap (stripe_of (stripe_count c.args.self.now)) c.as_str.ensures.text in
     let k = subst (λ (i : ℕ). TakesInTime (stripe_count c.args.self.now) (recorded c.args.pass.now) i c.take_in_time-content.result (recorded c.take_in_time-content.new.pass)) at c.take_in_time-content.ensures.step in
     change_over _ _ k.waited _ c.args.command c.call_on.result (c.call_on.ensures.made k.waited (found_in_time _ _ _ _ _ k)) (c.call_on.ensures.refused k.waited (found_in_time _ _ _ _ _ k)) c.call_on.ensures.not_busy

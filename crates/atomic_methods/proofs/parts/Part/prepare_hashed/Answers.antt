@@ -4,7 +4,7 @@ use Rattle.atomic_methods.specs.PartState.{PartState}
 use Rattle.map_model.specs.Steps.{outcome}
 use Rattle.atomic_methods.specs.Plans.{value_after}
 use Rattle.atomic_methods.proofs.PrepareLaws.{prepared, is_some-copied}
-use Rattle.atomic_methods.proofs.parts.Part.prepare.Goals as goal
+use Rattle.atomic_methods.proofs.parts.Part.prepare_hashed.Goals as goal
 
 pub returns-clause-ok : goal.returns-clause-ok
 returns-clause-ok c =
