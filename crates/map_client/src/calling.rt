@@ -27,7 +27,8 @@ pub fn call_lines<M: Servers, I: Read, W: Write, E: Write>(
     error: &mut E,
 ) -> u8
     ensures { CallsLines M.Reader.remaining M.Writer.contents M.is_connected port.now
-        (I.remaining input.old) (I.remaining input.new) (W.contents output.old) (W.contents output.new) result }
+        (I.remaining input.old) (I.remaining input.new)
+        (W.contents output.old) (W.contents output.new) result }
 {
     let Some(port) = port_named(port) else {
         say(error, NO_PORT);
@@ -61,8 +62,10 @@ pub fn make_calls<M: Servers, I: Read, W: Write, E: Write>(
     output: &mut W,
     error: &mut E,
 ) -> u8
-    ensures { MakesCalls M.Reader.remaining M.Writer.contents M.is_connected port.now (map (λ word. word.now) words.now)
-        (I.remaining input.old) (I.remaining input.new) (W.contents output.old) (W.contents output.new) result }
+    ensures { MakesCalls M.Reader.remaining M.Writer.contents M.is_connected
+        port.now (map (λ word. word.now) words.now)
+        (I.remaining input.old) (I.remaining input.new)
+        (W.contents output.old) (W.contents output.new) result }
 {
     if asks_lines(words) {
         call_lines(machine, alloc, port, input, output, error)

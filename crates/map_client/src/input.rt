@@ -1,5 +1,6 @@
 //! An input that is read line by line.
-ghost use Rattle.std.specs.Prelude.{◌≡◌, ◌≤◌, ◌∷◌, ◌++◌, ℕ, List, [], length, map, vec_len, IfOk, OnOk, OnErr};
+ghost use Rattle.std.specs.Prelude.{◌≡◌, ◌≤◌, ◌∷◌, ◌++◌, ℕ, List, [], length, map, vec_len};
+ghost use Rattle.std.specs.Prelude.{IfOk, OnOk, OnErr};
 ghost use Rattle.call_text.specs.Names.{Text};
 ghost use Rattle.map_client.specs.Client.{Known};
 ghost use Rattle.map_client.specs.Lines.{Answers, Ends, asked_frames, asked_in, ends_of, last_line};
@@ -34,15 +35,21 @@ fn end_line<R: Read + Drop, W: Write + Drop, O: Write>(
     lines: &mut Lines,
     output: &mut O,
 ) -> Result<(), Stop>
+    // The frames are those of what is asked.
     requires { lines.old.round.frames.items ≡ asked_frames lines.old.round.asked.items }
 
-    ensures frames { OnOk result (lines.new.round.frames.items ≡ asked_frames lines.new.round.asked.items) }
+    ensures frames { OnOk result
+        (lines.new.round.frames.items ≡ asked_frames lines.new.round.asked.items) }
     ensures part { OnOk result (lines.new.part.items ≡ []) }
+    // What held of the connection and the output before holds with these lines, or bytes.
     ensures goes_on { OnOk result ((whole : List Text) (e : Ends) (o : Known)
-        → Underway e (ends_of R.remaining W.contents server.old) o (O.contents output.old) whole lines.old.round.asked.items lines.old.status
-        → Underway e (ends_of R.remaining W.contents server.new) o (O.contents output.new) (whole ++ lines.old.part.items ∷ []) lines.new.round.asked.items lines.new.status) }
+        → Underway e (ends_of R.remaining W.contents server.old) o (O.contents output.old)
+        whole lines.old.round.asked.items lines.old.status
+        → Underway e (ends_of R.remaining W.contents server.new) o (O.contents output.new)
+        (whole ++ lines.old.part.items ∷ []) lines.new.round.asked.items lines.new.status) }
     ensures breaks { OnErr result ((whole : List Text) (e : Ends) (o : Known)
-        → Underway e (ends_of R.remaining W.contents server.old) o (O.contents output.old) whole lines.old.round.asked.items lines.old.status
+        → Underway e (ends_of R.remaining W.contents server.old) o (O.contents output.old)
+        whole lines.old.round.asked.items lines.old.status
         → Breaks e o (O.contents output.new) (whole ++ lines.old.part.items ∷ [])) }
 {
     lines.round.add(alloc, &lines.part)?;
@@ -61,14 +68,20 @@ fn take_byte<R: Read + Drop, W: Write + Drop, O: Write>(
     output: &mut O,
     byte: u8,
 ) -> Result<(), Stop>
+    // The frames are those of what is asked.
     requires { lines.old.round.frames.items ≡ asked_frames lines.old.round.asked.items }
 
-    ensures frames { OnOk result (lines.new.round.frames.items ≡ asked_frames lines.new.round.asked.items) }
+    ensures frames { OnOk result
+        (lines.new.round.frames.items ≡ asked_frames lines.new.round.asked.items) }
+    // What held of the connection and the output before holds with these lines, or bytes.
     ensures goes_on { OnOk result ((bytes : List ℕ) (e : Ends) (o : Known)
-        → Reads bytes lines.old.part.items e (ends_of R.remaining W.contents server.old) o (O.contents output.old) lines.old.round.asked.items lines.old.status
-        → Reads (bytes ++ byte ∷ []) lines.new.part.items e (ends_of R.remaining W.contents server.new) o (O.contents output.new) lines.new.round.asked.items lines.new.status) }
+        → Reads bytes lines.old.part.items e (ends_of R.remaining W.contents server.old) o (O.contents output.old)
+        lines.old.round.asked.items lines.old.status
+        → Reads (bytes ++ byte ∷ []) lines.new.part.items e (ends_of R.remaining W.contents server.new) o (O.contents output.new)
+        lines.new.round.asked.items lines.new.status) }
     ensures breaks { OnErr result ((bytes : List ℕ) (e : Ends) (o : Known)
-        → Reads bytes lines.old.part.items e (ends_of R.remaining W.contents server.old) o (O.contents output.old) lines.old.round.asked.items lines.old.status
+        → Reads bytes lines.old.part.items e (ends_of R.remaining W.contents server.old) o (O.contents output.old)
+        lines.old.round.asked.items lines.old.status
         → StopsAt (bytes ++ byte ∷ []) e o (O.contents output.new)) }
 {
     if byte == LINE_END {
@@ -86,14 +99,20 @@ fn take_bytes<R: Read + Drop, W: Write + Drop, O: Write>(
     output: &mut O,
     piece: &[u8],
 ) -> Result<(), Stop>
+    // The frames are those of what is asked.
     requires { lines.old.round.frames.items ≡ asked_frames lines.old.round.asked.items }
 
-    ensures frames { OnOk result (lines.new.round.frames.items ≡ asked_frames lines.new.round.asked.items) }
+    ensures frames { OnOk result
+        (lines.new.round.frames.items ≡ asked_frames lines.new.round.asked.items) }
+    // What held of the connection and the output before holds with these lines, or bytes.
     ensures goes_on { OnOk result ((bytes : List ℕ) (e : Ends) (o : Known)
-        → Reads bytes lines.old.part.items e (ends_of R.remaining W.contents server.old) o (O.contents output.old) lines.old.round.asked.items lines.old.status
-        → Reads (bytes ++ piece.now) lines.new.part.items e (ends_of R.remaining W.contents server.new) o (O.contents output.new) lines.new.round.asked.items lines.new.status) }
+        → Reads bytes lines.old.part.items e (ends_of R.remaining W.contents server.old) o (O.contents output.old)
+        lines.old.round.asked.items lines.old.status
+        → Reads (bytes ++ piece.now) lines.new.part.items e (ends_of R.remaining W.contents server.new) o (O.contents output.new)
+        lines.new.round.asked.items lines.new.status) }
     ensures breaks { OnErr result ((bytes : List ℕ) (e : Ends) (o : Known)
-        → Reads bytes lines.old.part.items e (ends_of R.remaining W.contents server.old) o (O.contents output.old) lines.old.round.asked.items lines.old.status
+        → Reads bytes lines.old.part.items e (ends_of R.remaining W.contents server.old) o (O.contents output.old)
+        lines.old.round.asked.items lines.old.status
         → StopsAt (bytes ++ piece.now) e o (O.contents output.new)) }
 {
     for byte in piece {
@@ -110,34 +129,46 @@ fn take_piece<R: Read + Drop, W: Write + Drop, O: Write>(
     output: &mut O,
     piece: &[u8],
 ) -> Result<(), Stop>
+    // The frames are those of what is asked.
     requires { lines.old.round.frames.items ≡ asked_frames lines.old.round.asked.items }
 
-    ensures frames { OnOk result (lines.new.round.frames.items ≡ asked_frames lines.new.round.asked.items) }
+    ensures frames { OnOk result
+        (lines.new.round.frames.items ≡ asked_frames lines.new.round.asked.items) }
+    // What held of the connection and the output before holds with these lines, or bytes.
     ensures goes_on { OnOk result ((bytes : List ℕ) (e : Ends) (o : Known)
-        → Reads bytes lines.old.part.items e (ends_of R.remaining W.contents server.old) o (O.contents output.old) lines.old.round.asked.items lines.old.status
-        → Reads (bytes ++ piece.now) lines.new.part.items e (ends_of R.remaining W.contents server.new) o (O.contents output.new) lines.new.round.asked.items lines.new.status) }
+        → Reads bytes lines.old.part.items e (ends_of R.remaining W.contents server.old) o (O.contents output.old)
+        lines.old.round.asked.items lines.old.status
+        → Reads (bytes ++ piece.now) lines.new.part.items e (ends_of R.remaining W.contents server.new) o (O.contents output.new)
+        lines.new.round.asked.items lines.new.status) }
     ensures breaks { OnErr result ((bytes : List ℕ) (e : Ends) (o : Known)
-        → Reads bytes lines.old.part.items e (ends_of R.remaining W.contents server.old) o (O.contents output.old) lines.old.round.asked.items lines.old.status
+        → Reads bytes lines.old.part.items e (ends_of R.remaining W.contents server.old) o (O.contents output.old)
+        lines.old.round.asked.items lines.old.status
         → StopsAt (bytes ++ piece.now) e o (O.contents output.new)) }
 {
     take_bytes(alloc, server, lines, output, piece)?;
     answer_round(alloc, server, &mut lines.round, &mut lines.status, output)
 }
 
-/// Answers what is left at the end of the input. What stands behind the last whole line is a line too.
+/// Answers what is left at the end of the input. What stands behind the last whole line is a line
+/// too.
 fn finish<R: Read + Drop, W: Write + Drop, O: Write>(
     alloc: Global,
     server: &mut Option<(R, W)>,
     lines: &mut Lines,
     output: &mut O,
 ) -> Result<(), Stop>
+    // The frames are those of what is asked.
     requires { lines.old.round.frames.items ≡ asked_frames lines.old.round.asked.items }
 
+    // Each line was answered; or of the first ones a beginning was printed.
     ensures answers { OnOk result ((whole : List Text) (e : Ends) (o : Known)
-        → Underway e (ends_of R.remaining W.contents server.old) o (O.contents output.old) whole lines.old.round.asked.items lines.old.status
-        → Answers e (ends_of R.remaining W.contents server.new) o (O.contents output.new) (map asked_in (whole ++ last_line lines.old.part.items)) 0 lines.new.status) }
+        → Underway e (ends_of R.remaining W.contents server.old) o (O.contents output.old)
+        whole lines.old.round.asked.items lines.old.status
+        → Answers e (ends_of R.remaining W.contents server.new) o (O.contents output.new)
+        (map asked_in (whole ++ last_line lines.old.part.items)) 0 lines.new.status) }
     ensures breaks { OnErr result ((whole : List Text) (e : Ends) (o : Known)
-        → Underway e (ends_of R.remaining W.contents server.old) o (O.contents output.old) whole lines.old.round.asked.items lines.old.status
+        → Underway e (ends_of R.remaining W.contents server.old) o (O.contents output.old)
+        whole lines.old.round.asked.items lines.old.status
         → Breaks e o (O.contents output.new) (whole ++ last_line lines.old.part.items)) }
 {
     let part = lines.part.as_slice();
@@ -179,7 +210,8 @@ pub(crate) fn answer_input<I: Read, R: Read + Drop, W: Write + Drop, O: Write>(
     input: &mut I,
     output: &mut O,
 ) -> Result<u8, Stop>
-    ensures { AnswersInput (I.remaining input.old) (I.remaining input.new) (ends_of R.remaining W.contents server.old)
+    ensures { AnswersInput (I.remaining input.old) (I.remaining input.new)
+        (ends_of R.remaining W.contents server.old)
         (O.contents output.old) (O.contents output.new) result }
 {
     let mut room = room_of(alloc, PIECE)?;

@@ -1,4 +1,5 @@
-//! The client of a server: one call, or one for each line of an input, and what is printed of the replies.
+//! The client of a server: one call, or one for each line of an input, and what is printed of the
+//! replies.
 #![tactic(auto)]
 
 pub mod calling;

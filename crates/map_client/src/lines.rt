@@ -34,7 +34,8 @@ fn words_of<'a>(alloc: Global, line: &'a str) -> Result<Vec<&'a str>, AllocError
 
 /// The request of these words.
 fn asked_by(alloc: Global, words: &[&str]) -> Result<Result<Request, BadLine>, AllocError>
-    ensures { IfOk result (λ asked. asked ≡ asked_by (parse_words (map (λ word. word.now) words.now))) }
+    ensures { IfOk result
+        (λ asked. asked ≡ asked_by (parse_words (map (λ word. word.now) words.now))) }
 {
     match parse_words(alloc, words) {
         Ok(called) => Ok(Ok(request_of(called))),

@@ -40,7 +40,8 @@ pub(crate) fn first_of(first: u8, next: u8) -> u8
 
 /// Puts two texts and the end of a line at the end.
 fn put_texts(text: &mut String, first: &str, second: &str) -> Result<(), AllocError>
-    ensures { OnOk result (string_bytes text.new ≡ string_bytes text.old ++ (first.now ++ second.now ++ codes "\n")) }
+    ensures { OnOk result (string_bytes text.new
+        ≡ string_bytes text.old ++ (first.now ++ second.now ++ codes "\n")) }
 {
     text.push_str(first)?;
     text.push_str(second)?;

@@ -1,7 +1,7 @@
 //! Requests that are sent together, and their replies.
-ghost use Rattle.std.specs.Prelude.{◌≡◌, [], ◌∷◌, ◌++◌, IfOk, OnOk, string_bytes, option_map};
-ghost use Rattle.std.specs.Prelude.{◌⊎◌, OnErr};
-ghost use Rattle.map_client.specs.Lines.{asked_frame, asked_frames, asked_in, ends_of, Answers, BreaksOff};
+ghost use Rattle.std.specs.Prelude.{◌≡◌, ◌⊎◌, [], ◌∷◌, ◌++◌, IfOk, OnErr, OnOk, string_bytes};
+ghost use Rattle.map_client.specs.Lines.{Answers, BreaksOff};
+ghost use Rattle.map_client.specs.Lines.{asked_frame, asked_frames, asked_in, ends_of};
 ghost use Rattle.map_client.specs.declared.rounds.Stop.TheVariants.{NoMemory};
 ghost use Rattle.map_client.specs.Rounds.{Comes, Receives, Sends, TellsRound};
 
@@ -62,8 +62,10 @@ impl Round {
 
     /// Takes a line in.
     pub fn add(&mut self, alloc: Global, line: &[u8]) -> Result<(), Stop>
-        ensures asked { OnOk result (self.new.asked.items ≡ self.old.asked.items ++ asked_in line.now ∷ []) }
-        ensures frames { OnOk result (self.new.frames.items ≡ self.old.frames.items ++ asked_frame (asked_in line.now)) }
+        ensures asked { OnOk result
+            (self.new.asked.items ≡ self.old.asked.items ++ asked_in line.now ∷ []) }
+        ensures frames { OnOk result
+            (self.new.frames.items ≡ self.old.frames.items ++ asked_frame (asked_in line.now)) }
     {
         let asked = asked_in(alloc, line)?;
         if let Ok(request) = &asked {
@@ -79,7 +81,8 @@ impl Round {
 
 /// Sends the frames. If not all of them can be written, the connection is given up.
 fn send<R: Read + Drop, W: Write + Drop>(server: &mut Option<(R, W)>, frames: &[u8])
-    ensures { Sends (ends_of R.remaining W.contents server.old) (ends_of R.remaining W.contents server.new) frames.now }
+    ensures { Sends (ends_of R.remaining W.contents server.old)
+        (ends_of R.remaining W.contents server.new) frames.now }
 {
     if let Some((_, writer)) = server {
         if write_whole(writer, frames).is_err() {
@@ -93,7 +96,8 @@ fn receive<R: Read + Drop, W: Write + Drop>(
     alloc: Global,
     server: &mut Option<(R, W)>,
 ) -> Result<Outcome, Stop>
-    ensures { IfOk result (λ outcome. Receives (ends_of R.remaining W.contents server.old) (ends_of R.remaining W.contents server.new) outcome) }
+    ensures { IfOk result (λ outcome. Receives (ends_of R.remaining W.contents server.old)
+        (ends_of R.remaining W.contents server.new) outcome) }
 {
     let Some((reader, _)) = server else {
         return Ok(Outcome::NoReply);
@@ -114,7 +118,8 @@ fn outcome_of<R: Read + Drop, W: Write + Drop>(
     server: &mut Option<(R, W)>,
     asked: &Result<Request, BadLine>,
 ) -> Result<Outcome, Stop>
-    ensures { IfOk result (λ outcome. Comes (ends_of R.remaining W.contents server.old) (ends_of R.remaining W.contents server.new) asked.now outcome) }
+    ensures { IfOk result (λ outcome. Comes (ends_of R.remaining W.contents server.old)
+        (ends_of R.remaining W.contents server.new) asked.now outcome) }
 {
     match asked {
         Ok(_) => receive(alloc, server),
@@ -130,7 +135,8 @@ fn tell_round<R: Read + Drop, W: Write + Drop>(
     text: &mut String,
     status: &mut u8,
 ) -> Result<(), Stop>
-    ensures { OnOk result (TellsRound (ends_of R.remaining W.contents server.old) (ends_of R.remaining W.contents server.new)
+    ensures { OnOk result (TellsRound (ends_of R.remaining W.contents server.old)
+        (ends_of R.remaining W.contents server.new)
         (string_bytes text.old) (string_bytes text.new) asked.now status.old status.new) }
 {
     for line in asked {
@@ -149,14 +155,20 @@ pub(crate) fn answer_round<R: Read + Drop, W: Write + Drop, O: Write>(
     status: &mut u8,
     output: &mut O,
 ) -> Result<(), Stop>
+    // The frames are those of what is asked.
     requires { round.old.frames.items ≡ asked_frames round.old.asked.items }
 
-    ensures answers { OnOk result (Answers (ends_of R.remaining W.contents server.old) (ends_of R.remaining W.contents server.new)
-        (O.contents output.old) (O.contents output.new) round.old.asked.items status.old status.new) }
+    // What came of the lines was printed, and the round is empty.
+    ensures answers { OnOk result (Answers (ends_of R.remaining W.contents server.old)
+        (ends_of R.remaining W.contents server.new) (O.contents output.old) (O.contents output.new)
+        round.old.asked.items status.old status.new) }
     ensures asked { OnOk result (round.new.asked.items ≡ []) }
     ensures frames { OnOk result (round.new.frames.items ≡ []) }
+
+    // Or nothing was printed, or a beginning of it.
     ensures breaks { OnErr result ((O.contents output.new ≡ O.contents output.old)
-        ⊎ BreaksOff (ends_of R.remaining W.contents server.old) (O.contents output.old) (O.contents output.new) round.old.asked.items) }
+        ⊎ BreaksOff (ends_of R.remaining W.contents server.old) (O.contents output.old) (O.contents output.new)
+        round.old.asked.items) }
 {
     send(server, &round.frames);
     let mut text = String::new(alloc);

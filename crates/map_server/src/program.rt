@@ -133,7 +133,9 @@ fn call_words<'a>(alloc: Global) -> Arg<'a>
         .num_args(1..)
         .value_names(&["METHOD", "ARGS"])
         .trailing_var_arg(true)
-        .help("The method, and behind it the key, the function and the values that it takes; or - for one call on each line of standard input")
+        .help(
+            "The method, and behind it the key, the function and the values that it takes; or - for one call on each line of standard input",
+        )
 }
 
 /// The command that serves the map in memory.
@@ -206,7 +208,9 @@ fn call_line<'a>(alloc: Global) -> Result<Command<'a>, AllocError>
     ensures local { IfOk result (λ command. (fields_of command).has_globals ≡ false) }
 {
     Command::new(alloc, "call")
-        .about("Makes one call of a server, or one for each line of standard input, and prints the replies")
+        .about(
+            "Makes one call of a server, or one for each line of standard input, and prints the replies",
+        )
         .arg(port(alloc))?
         .arg(call_words(alloc))
 }
@@ -396,15 +400,7 @@ pub fn dchm<T: Host, M: Directories + Servers, R: Read, W: Write, E: Write>(
         Ok(Order::Check { directory }) => check(machine, alloc, directory, output, error),
         Ok(Order::Serve(words)) => serve(rt, machine, alloc, &words, output, error),
         Ok(Order::Call { port, words }) => {
-            make_calls(
-                machine,
-                alloc,
-                port,
-                words.as_slice(),
-                input,
-                output,
-                error,
-            )
+            make_calls(machine, alloc, port, words.as_slice(), input, output, error)
         }
         Ok(Order::Sim { file }) => sim(rt, alloc, file, output, error),
         Err(advice) => advise(alloc, &advice, output, error),

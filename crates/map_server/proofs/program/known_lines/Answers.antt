@@ -1,6 +1,6 @@
-use Rattle.std.proofs.Common.{◌≡◌, ap, codes, true}
+use Rattle.std.proofs.Common.{◌≡◌, ap, true}
 use Rattle.std.proofs.lemmas.Result.{IfOk-weaker}
-use Rattle.clap.specs.Words.{App, Shape, app_of, new_app}
+use Rattle.clap.specs.Words.{Shape, app_of}
 use Rattle.clap.specs.Simple.{on_top}
 use Rattle.map_server.specs.CommandLine.{bare_line, call_line, check_line, init_line, mem_line, serve_line, sim_line}
 use Rattle.map_server.proofs.Lines.{with_line}

@@ -1,6 +1,6 @@
 use Rattle.std.proofs.Common.{◌≡◌, false, codes}
 use Rattle.std.proofs.lemmas.Result.{IfOk-weaker}
-use Rattle.clap.specs.Words.{App, app_of, new_app, with_rule}
+use Rattle.clap.specs.Words.{app_of, new_app}
 use Rattle.clap.specs.declared.builder.command.Command.TheViews.{out-Command as fields_of}
 use Rattle.map_server.specs.CommandLine.{directory_rule, option_rule, port_rule}
 use Rattle.map_server.proofs.Lines.{stays_local, with_argument}
