@@ -161,8 +161,8 @@ fn finish<W: Write, C: Calls>(
     }
 }
 
-/// Answers what is in a place, and says whether the reply ends the connection. The longest reply has
-/// room beside what is to be written then.
+/// Answers what is in a place, and says whether the reply ends the connection. The longest reply
+/// has room beside what is to be written then.
 fn reply<W: Write, C: Calls>(
     writer: &mut W,
     calls: &mut C,

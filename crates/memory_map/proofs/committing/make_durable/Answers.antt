@@ -3,7 +3,7 @@ use Rattle.ticket_order.specs.declared.record.Record.{Record}
 use Rattle.flusher.specs.declared.keeper.Keeper.{Keeper}
 use Rattle.memory_map.specs.Served.{IsCommitted, IsSwept, IsWithheld}
 use Rattle.memory_map.proofs.Releasing.{committed_by, published_idle, were_taken}
-use Rattle.memory_map.proofs.memory.make_durable.Goals as goal
+use Rattle.memory_map.proofs.committing.make_durable.Goals as goal
 
 pub returns-in-Ok-clause-ok : goal.returns-in-Ok-clause-ok
 returns-in-Ok-clause-ok g c =

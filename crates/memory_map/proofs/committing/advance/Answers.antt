@@ -1,5 +1,5 @@
 use Rattle.flusher.specs.Fitting.{done_after}
-use Rattle.memory_map.proofs.memory.advance.Goals as goal
+use Rattle.memory_map.proofs.committing.advance.Goals as goal
 
 pub advance-requires : goal.advance-requires
 advance-requires g c = (c.requires.kept.0, c.requires.kept.2.0, c.requires.kept.1, c.requires.kept.2.1)

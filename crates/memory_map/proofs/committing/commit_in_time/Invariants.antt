@@ -1,7 +1,7 @@
 use Rattle.std.proofs.Common.{◌≡◌}
 use Rattle.flusher.specs.Fitting.{HasSeenMore, IsQuiet}
 use Rattle.memory_map.specs.Served.{IsIdle, IsKept}
-use Rattle.memory_map.proofs.memory.commit_in_time.Given as goal
+use Rattle.memory_map.proofs.committing.commit_in_time.Given as goal
 
 abbrev pub invariant-loop-turn : goal.invariant-loop-turn
 invariant-loop-turn g l = record {

@@ -2,7 +2,7 @@ use Rattle.std.proofs.Common.{rules, ◌≡◌, ◌∙◌, Err, ap, inl}
 use Rattle.std.proofs.lemmas.Result.{on_err_weaker}
 use Rattle.map_types.specs.declared.refusals.Refusal.TheVariants.{LogFull}
 use Rattle.memory_map.proofs.Releasing.{no_room}
-use Rattle.memory_map.proofs.memory.commit_some.Goals as goal
+use Rattle.memory_map.proofs.committing.commit_some.Goals as goal
 
 pub commit_staged-requires-clause-kept : goal.commit_staged-requires-clause-kept
 commit_staged-requires-clause-kept g c = let k = c.requires.kept in (k.0, k.1, (k.2.0, c.stage_batch.ensures.fits k.0 k.2.0 k.1 k.2.1))

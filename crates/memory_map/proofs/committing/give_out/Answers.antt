@@ -6,7 +6,7 @@ use Rattle.connections.specs.Dialogue.{Answer}
 use Rattle.memory_map.specs.Served.{AreTaken, IsCommitted, IsKept, IsWithheld}
 use Rattle.flusher.proofs.OwnCalls.{sees}
 use Rattle.memory_map.proofs.Releasing.{found}
-use Rattle.memory_map.proofs.memory.give_out.Goals as goal
+use Rattle.memory_map.proofs.committing.give_out.Goals as goal
 
 pub returns-in_err-make_durable-clause-err : goal.returns-in_err-make_durable-clause-err
 returns-in_err-make_durable-clause-err g c =

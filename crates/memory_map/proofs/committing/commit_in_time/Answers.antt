@@ -5,7 +5,7 @@ use Rattle.flusher.specs.Keeping.{is_walking}
 use Rattle.memory_map.specs.Served.{CannotCommit}
 use Rattle.flusher.proofs.Quiet.{quiet_then}
 use Rattle.flusher.proofs.Seeing.{sees_then}
-use Rattle.memory_map.proofs.memory.commit_in_time.Goals as goal
+use Rattle.memory_map.proofs.committing.commit_in_time.Goals as goal
 
 pub commit_some-requires-clause-kept : goal.commit_some-requires-clause-kept
 commit_some-requires-clause-kept g c =
