@@ -34,6 +34,7 @@ use Rattle.flusher.specs.contracts.keeper.Keeper as Keeper
 use Rattle.flusher.proofs.in_hand.InHand.TheSendSync as hand
 use Rattle.flusher.proofs.sweeper.Sweep.TheSendSync as sweep
 use Rattle.gate_log.proofs.log.GateLog.TheSendSync as log
+use Rattle.gate_log.proofs.zeros.Zeros.TheSendSync as zeros
 use Rattle.checkpoint_file.proofs.writer.CheckpointWriter.TheSendSync as writer
 use Rattle.java_hash.proofs.stripe_count.StripeCount.TheSendSync as count
 use Rattle.ticket_order.proofs.held.Held.TheSendSync as held
@@ -84,7 +85,7 @@ stripes_sync = search (stripe, shared.the_sync, lease.the_sync, heap.frees, coun
 
 module _ (D : RattleType) where
   keeper : IsSend D → IsSend (Keeper.the_field D).row
-  keeper s = search (walk, sweeper, log.the_send, writer.the_send, count.the_field_send, leaves, sendable) depth 20
+  keeper s = search (walk, sweeper, log.the_send, zeros.the_send, writer.the_send, count.the_field_send, leaves, sendable) depth 20
 
   module _ (g : Ghosts D.Denot) where
     fields : IsSend D → AllSend (shape (Inside.the_type D g)).fields

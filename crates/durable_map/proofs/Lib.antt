@@ -6,5 +6,6 @@ mod Kept
 mod Sections
 mod Between
 mod Sealed
+mod Ahead
 pub mod Viewing
 pub mod Crosses

@@ -96,6 +96,11 @@ impl<D: Disk> Desk<D> {
         keeping::stage(&mut self.keeper, MOST_COMMANDS)
     }
 
+    // Writes zeros ahead of the staged batch, where that is due.
+    fn write_ahead(&mut self) -> Result<(), Refusal> {
+        keeping::write_ahead(&mut self.keeper)
+    }
+
     // Makes the device call that is due in the logs.
     fn advance_logs(&mut self) -> Result<(), Refusal> {
         let _phase = keeping::advance_logs(&mut self.keeper)?;
@@ -122,17 +127,16 @@ impl<D: Disk> Desk<D> {
     }
 
     /// A turn of the log: where no device call is due, it takes what the stripes have and stages a
-    /// batch; else it makes the call, and publishes what that committed.
+    /// batch, ahead of which it may write zeros; else it makes the call, and publishes what that committed.
     pub(crate) fn flush(&mut self) -> Result<Turn, Refusal> {
         if self.is_resting() {
             self.gather();
             let count = self.stage()?;
-            let turn = if count == 0 {
-                Turn::Rested
-            } else {
-                Turn::Worked
-            };
-            return Ok(turn);
+            if count == 0 {
+                return Ok(Turn::Rested);
+            }
+            self.write_ahead()?;
+            return Ok(Turn::Worked);
         }
         self.advance_logs()?;
         if self.is_resting() {

@@ -49,6 +49,16 @@ pub(crate) fn stage<D: Disk>(keeper: &mut Keeper<D>, most: u32) -> Result<u32, R
     staged
 }
 
+/// Writes zeros ahead of the staged batch, where that is due.
+pub(crate) fn write_ahead<D: Disk>(keeper: &mut Keeper<D>) -> Result<(), Refusal>
+    requires keeps { (n : ℕ) × (p : Record) × Keeps D.states D.honest n keeper.old p }
+    ensures keeps { (n : ℕ) (p : Record) → Keeps D.states D.honest n keeper.old p → Keeps D.states D.honest n keeper.new p }
+{
+    let written = keeper.write_ahead();
+    what_is_kept(keeper);
+    written
+}
+
 /// Makes the device call that is due in the logs.
 pub(crate) fn advance_logs<D: Disk>(keeper: &mut Keeper<D>) -> Result<Phase, Refusal>
     requires keeps { (n : ℕ) × (p : Record) × Keeps D.states D.honest n keeper.old p }
