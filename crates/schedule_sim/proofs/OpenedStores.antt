@@ -13,7 +13,7 @@ use Rattle.atomic_methods.specs.PartState.{PartState}
 use Rattle.one_history.specs.Turns.{maps_of}
 use Rattle.disk_model.specs.Files.{AllCoherent, AreCoherent, Contents, File, Files, IsCoherent, Leaves, MayLeave, at_rest, empty_coherent, now, synced}
 use Rattle.disk_model.specs.Memory.{memory_failures}
-use Rattle.file_pieces.specs.Counting.{Made}
+use Rattle.file_pieces.specs.Counting.{Made, MadeAtMost}
 use Rattle.store_layout.specs.Calls.{opening_calls}
 use Rattle.store_layout.specs.Opening.{Holds, Opened, Refuses, StandsForFront, map_of, prefix_of}
 use Rattle.flusher.specs.declared.keeper.Keeper.{Keeper}
@@ -27,7 +27,7 @@ use Rattle.schedules.specs.declared.outcome.Outcome.TheVariants as outcome
 use Rattle.schedules.specs.Machine.{whole}
 use Rattle.schedules.specs.World.{World, begun_by, seen_of}
 use Rattle.schedules.specs.After.{after, after_with, synced_below, syncs_made, without_life}
-use Rattle.schedules.specs.Cases.{Finds, HappensWith, Meets, OpensFiles, entry_of, names_within}
+use Rattle.schedules.specs.Cases.{Finds, HappensWith, MayTake, Meets, OpensFiles, entry_of, names_within}
 use Rattle.schedules.specs.Fitting.{fits_with}
 use Rattle.schedules.specs.Laws.{FrontIsFound, StandingFilesOpen}
 use Rattle.schedules.specs.Sound.{IsFront}
@@ -108,16 +108,24 @@ refused_did law w least stripes fails_at calls e old new closed files opens =
       stands = rw leaves next;
     }
 
+-- not more device calls were made than finding what the files hold takes
+may_take : (w : World) (least calls : ℕ) (old new : Traced) → IsClosed w least old → length (traced_states old) + calls ≡ length (traced_states new)
+    → ((found : Opened) → Holds (contents_of traced_states old) found → MadeAtMost traced_states (opening_calls found) old new) → MayTake w calls
+may_take w least calls old new closed made tried = λ found holds.
+    let most = tried found (subst (λ files. Holds (seen_of files) found) closed.files holds) in
+    omega (arith, made, most)
+
 -- by the call that the event names
 pub failed_did : StandingFilesOpen → (w : World) (least : ℕ) (stripes : StripeCount) (fails_at : Option ℕ) (calls : ℕ) (e : Refusal) (old new : Traced) → IsClosed w least old → e ≡ refusal.Failed
     → Stopped traced_states (λ (traced : Traced). memory_failures traced.disk) traced_honest 4 old new e → length (traced_states old) + calls ≡ length (traced_states new)
+    → ((found : Opened) → Holds (contents_of traced_states old) found → MadeAtMost traced_states (opening_calls found) old new)
     → fails_at ≡ Some calls → LastFails calls (traced_states new) → DidStore w least (event.Open stripes fails_at) (outcome.NotOpened calls e) (Closed new)
-failed_did law w least stripes fails_at calls e old new closed failed stopped made named last =
+failed_did law w least stripes fails_at calls e old new closed failed stopped made tried named last =
     let left : HasFailed (traced_states old) (traced_states new) calls =
     failed_leaves traced_states (λ (traced : Traced). memory_failures traced.disk) traced_honest old new e calls stopped made last in
     refused_did law w least stripes fails_at calls e old new closed
     (left.files ∙ ap (λ r. synced_below (syncs_made r calls) (now (traced_states old))) (sym failed))
-    (subst (λ r. OpensFiles w nothing fails_at (outcome.NotOpened calls r)) (sym failed) (left.some, named))
+    (subst (λ r. OpensFiles w nothing fails_at (outcome.NotOpened calls r)) (sym failed) (left.some, named, may_take w least calls old new closed made tried))
 
 syncs_all : (e : Refusal) (calls : ℕ) → (e ≡ refusal.Failed → ⊥) → syncs_made e calls ≡ 4
 syncs_all refusal.Failed calls other = absurd (other refl)
@@ -128,21 +136,23 @@ not_failed e Reason other (inl is) = absurd (other is)
 not_failed e Reason other (inr reason) = reason
 
 opens_refused : (w : World) (fails_at : Option ℕ) (calls : ℕ) (e : Refusal) → (e ≡ refusal.Failed → ⊥) → 4 ≤ calls → names_within fails_at calls ≡ false → (e ≡ refusal.NoMemory) ⊎ Refuses (seen_of w.files) e
-    → OpensFiles w nothing fails_at (outcome.NotOpened calls e)
-opens_refused w fails_at calls refusal.Failed other all none reason = absurd (other refl)
-opens_refused w fails_at calls e other all none reason = (all, none, reason)
+    → MayTake w calls → OpensFiles w nothing fails_at (outcome.NotOpened calls e)
+opens_refused w fails_at calls refusal.Failed other all none reason few = absurd (other refl)
+opens_refused w fails_at calls e other all none reason few = (all, none, reason, few)
 
 -- as the files are, or for want of memory
 pub other_did : StandingFilesOpen → (w : World) (least : ℕ) (stripes : StripeCount) (fails_at : Option ℕ) (calls : ℕ) (e : Refusal) (old new : Traced) → IsClosed w least old → (e ≡ refusal.Failed → ⊥)
     → names_within fails_at calls ≡ false → length (traced_states old) + calls ≡ length (traced_states new)
+    → ((found : Opened) → Holds (contents_of traced_states old) found → MadeAtMost traced_states (opening_calls found) old new)
     → Stopped traced_states (λ (traced : Traced). memory_failures traced.disk) traced_honest 4 old new e
     → RefusesFor (Refuses (contents_of traced_states old) e) e → DidStore w least (event.Open stripes fails_at) (outcome.NotOpened calls e) (Closed new)
-other_did law w least stripes fails_at calls e old new closed other none made stopped reason =
+other_did law w least stripes fails_at calls e old new closed other none made tried stopped reason =
     let synced : Synced (traced_states old) (traced_states new) = all_synced traced_states (λ (traced : Traced). memory_failures traced.disk) traced_honest old new e other stopped in
     let reason' : RefusesFor (Refuses (seen_of w.files) e) e = subst (λ files. RefusesFor (Refuses (seen_of files) e) e) (sym closed.files) reason in
     refused_did law w least stripes fails_at calls e old new closed
     (synced.files ∙ ap (λ n. synced_below n (now (traced_states old))) (sym (syncs_all e calls other)))
-    (opens_refused w fails_at calls e other (omega (arith, made, at_least (traced_states old) (traced_states new) synced)) none (not_failed e (Refuses (seen_of w.files) e) other reason'))
+    (opens_refused w fails_at calls e other (omega (arith, made, at_least (traced_states old) (traced_states new) synced)) none (not_failed e (Refuses (seen_of w.files) e) other reason')
+    (may_take w least calls old new closed made tried))
 
 -- ---- a life begins
 

@@ -6,7 +6,7 @@ ghost use Rattle.one_history.specs.Turns.{opening_of};
 ghost use Rattle.disk_model.specs.Files.{Files};
 ghost use Rattle.disk_model.specs.Fills.{after_stop};
 ghost use Rattle.disk_model.specs.Memory.{memory_failures};
-ghost use Rattle.file_pieces.specs.Counting.{Made};
+ghost use Rattle.file_pieces.specs.Counting.{Made, MadeAtMost};
 ghost use Rattle.store_layout.specs.Calls.{opening_calls};
 ghost use Rattle.store_layout.specs.Opening.{Holds, Opened, Refuses};
 ghost use Rattle.flusher.specs.Fitting.{Fits, IsUnused};
@@ -97,6 +97,8 @@ fn refused(
     fails_at: Option<u64>,
 ) -> Result<(Store, Outcome), AllocError>
     ensures did { IfOk result (λ x. (w : World) (least : ℕ) (stripes : StripesOf) (old : Traced) → length (traced_states old) + calls ≡ length (traced_states disk)
+        → ((found : Opened) → Holds (contents_of traced_states old) found
+        → MadeAtMost traced_states (opening_calls found) old disk)
         → Stopped traced_states (λ traced. memory_failures traced.disk) traced_honest 4 old disk refusal → RefusesFor (Refuses (contents_of traced_states old) refusal) refusal
         → IsClosed w least old → DidStore w least (event.Open stripes fails_at) x.1 x.0) }
     ensures told { (old : Traced) → length (traced_states old) + calls ≡ length (traced_states disk) → IfOk result (λ x. TellsCalls old x) }

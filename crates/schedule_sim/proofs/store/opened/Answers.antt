@@ -21,5 +21,5 @@ returns-else-names_within-clause-did c = if_ok c.begun.result _ _ (λ x did w le
 
 pub returns-in_ok-calls-in-Err-clause-did : goal.returns-in_ok-calls-in-Err-clause-did
 returns-in_ok-calls-in-Err-clause-did c = if_ok c.refused.result _ _ (λ x did w least closed. did w least c.args.stripes c.plan_opening.new.disk
-    (c.in_ok-calls-in-Err.ensures (traced_states c.plan_opening.new.disk) c.calls-before.ensures) c.in-Err.ensures.stopped (c.in-Err.ensures.err tt).1
+    (c.in_ok-calls-in-Err.ensures (traced_states c.plan_opening.new.disk) c.calls-before.ensures) (c.in-Err.ensures.tried tt) c.in-Err.ensures.stopped (c.in-Err.ensures.err tt).1
     (planned w least c.args.disk c.plan_opening.new.disk c.plan_opening.ensures closed)) c.refused.ensures.did
