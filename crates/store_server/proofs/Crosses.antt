@@ -7,7 +7,7 @@ use Rattle.std.proofs.Crossing.{crosses}
 use Rattle.disk_model.specs.declared.disk.Disk.{Ghosts}
 use Rattle.disk_model.proofs.first_error.FirstError.TheSendSync as first_error
 use Rattle.durable_map.proofs.Crosses.{map_field_sync, map_sync}
-use Rattle.store_server.specs.contracts.worker.Pool as Pool
+use Rattle.store_server.specs.contracts.pool.Pool as Pool
 use Rattle.store_server.specs.contracts.server.Server as Server
 
 module _ (a : NamedLft) (D G : RattleType) (g : Ghosts D.Denot) where

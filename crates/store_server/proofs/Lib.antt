@@ -1,1 +1,3 @@
+mod Between
 mod Crosses
+mod Owning

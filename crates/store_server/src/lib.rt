@@ -1,13 +1,20 @@
 //! The server: the map of a directory is served on a port, by workers on threads of their own.
 #![tactic(auto)]
 
+pub mod begun;
 pub mod bulk;
 mod idle;
+pub mod laws;
+#[cfg(test)]
+mod pipeline_tests;
+pub mod pool;
 pub mod server;
 #[cfg(test)]
 mod server_tests;
 pub mod worker;
 
+pub use begun::Begun;
 pub use bulk::{RespondBy, Responds, Task, answer_of, respond_by};
+pub use pool::{Arrivals, workers};
 pub use server::{ServerWords, serve};
-pub use worker::{Arrivals, Gate, NoGate, Worker, workers};
+pub use worker::{Gate, NoGate, Worker};

@@ -5,7 +5,8 @@ ghost use Rattle.console.specs.Printing.{PrintsAtMost};
 ghost use Rattle.store_server.specs.Serving.{Announces, Hosts, ServesOn};
 ghost use Rattle.store_server.specs.Settings.{AreNamed, IsWorkerCount};
 
-use crate::worker::{Arrivals, Gate, NoGate, workers};
+use crate::pool::{Arrivals, workers};
+use crate::worker::{Gate, NoGate};
 use console::{MISUSED, break_off, cannot_open, port_named, refuse, say, stripes_named};
 use directories::Directories;
 use disk_model::{Disk, FirstError};

@@ -1,6 +1,6 @@
 use crate::server::{Server, Settings, run, serve_disk};
 use crate::{Arrivals, Gate, NoGate};
-use disk_model::{Failure, Fill, FirstError, MemDisk};
+use disk_model::{Disk, Failure, Fill, FirstError, MemDisk};
 use durable_map::DurableMap;
 use java_hash::StripeCount;
 use log::Log;
@@ -18,15 +18,16 @@ use std::time::{Clock, Duration};
 /// How many turns a gate holds a request at most, each of a millisecond.
 const MOST_TURNS: u32 = 10_000;
 
+/// An opening makes fewer device calls.
+const MOST_CALLS: u64 = 1_000;
+
 /// No log of a test grows so long.
 const NO_CHECKPOINT: u64 = 1_000_000;
 
 /// A put of 5 at `a`, and what it answers at first and later.
 const PUT: &[u8] = b"\x00\x0C\x10\x01a\x01\x00\x00\x00\x00\x00\x00\x00\x05";
 
-const WAS_ABSENT: &[u8] = b"\x00\x02\x00\x00";
-
-const WAS_5: &[u8] = b"\x00\x0A\x00\x01\x00\x00\x00\x00\x00\x00\x00\x05";
+pub(crate) const WAS_ABSENT: &[u8] = b"\x00\x02\x00\x00";
 
 /// The replies to two clients.
 const ABSENT_AND_5: &[u8] = b"\x00\x02\x00\x00\x00\x0A\x00\x01\x00\x00\x00\x00\x00\x00\x00\x05";
@@ -48,7 +49,7 @@ const GET_A_AND_B: &[u8] = b"\x00\x03\x01\x01a\x00\x03\x01\x01b";
 const BOTH_ARE_800: &[u8] =
     b"\x00\x0A\x01\x01\x00\x00\x00\x00\x00\x00\x03\x20\x00\x0A\x01\x01\x00\x00\x00\x00\x00\x00\x03\x20";
 
-fn sixteen() -> Result<StripeCount, Fail> {
+pub(crate) fn sixteen() -> Result<StripeCount, Fail> {
     Ok(StripeCount::new(16).ok_or("16 is allowed")?)
 }
 
@@ -60,7 +61,7 @@ fn formatted(alloc: Global) -> Result<MemDisk, Fail> {
 }
 
 /// The settings of a server at the port.
-fn settings(port: u16) -> Result<Settings, Fail> {
+pub(crate) fn settings(port: u16) -> Result<Settings, Fail> {
     Ok(Settings {
         port,
         stripes: sixteen()?,
@@ -136,13 +137,14 @@ fn received(alloc: Global, clients: &[TcpStream]) -> Vec<u8> {
 }
 
 /// Serves clients that send these bytes, one each, and answers what they were sent.
-fn served<
+pub(crate) fn served<
+    D: Disk + Drop + Send,
     G: Gate + Sync,
     R: Net<Listener = TcpListener, Stream = TcpStream> + Clock + Log + Threads + Wait + Sync,
 >(
     rt: &R,
     alloc: Global,
-    server: &Server<MemDisk>,
+    server: &Server<D>,
     gate: &G,
     requests: &[&[u8]],
     workers: usize,
@@ -329,28 +331,28 @@ fn eight_clients_share_two_counters(rt: HostRuntime) -> Result<(), Fail> {
     Ok(())
 }
 
-/// Whether these are replies to puts of the first client, and then one to each that refuses with `Failed`.
-fn fail_at_last(replies: &[u8]) -> bool {
-    let Some(rest) = replies.strip_prefix(WAS_ABSENT) else {
-        return replies == ALL_FAILED;
-    };
-    let mut rest = rest;
-    for _ in 0..replies.len() {
-        match rest.strip_prefix(WAS_5) {
-            Some(after) => rest = after,
-            None => break,
+/// How many device calls an opening makes.
+fn calls_of_opening(alloc: Global) -> Result<u64, Fail> {
+    for after in 0..MOST_CALLS {
+        let fill = Fill::Old;
+        let mut disk = formatted(alloc)?;
+        disk.plan(Some(Failure { after, fill }));
+        if open_parts(alloc, disk, sixteen()?).is_ok() {
+            return Ok(after);
         }
     }
-    rest == ALL_FAILED
+    Err(Fail::from("it is opened"))
 }
 
+/// The first batch fails as its gate is opened: no put of it is answered.
 #[test]
 fn after_a_device_failure_each_call_fails(rt: HostRuntime) -> Result<(), Fail> {
     let fill = Fill::Old;
-    let server = server_over(rt.alloc(), Some(Failure { after: 60, fill }))?;
+    let after = calls_of_opening(rt.alloc())? + 2;
+    let server = server_over(rt.alloc(), Some(Failure { after, fill }))?;
     let puts = repeated(rt.alloc(), PUT, 30)?;
     let sent = served(&rt, rt.alloc(), &server, &NoGate, &[puts.as_slice(); 3], 1)?;
-    assert!(rt; fail_at_last(sent.as_slice()), "{sent:?}");
+    assert_eq!(rt; sent.as_slice(), ALL_FAILED);
     Ok(())
 }
 

@@ -1,62 +1,60 @@
-//! Workers: threads that serve connections over the running store, each with a pass of its own.
+//! A worker, which makes the calls of connections over the running store with a pass of its own.
 ghost use Rattle.std.specs.Prelude.{◌≡◌, ℕ, false, IfOk, IfErr};
+ghost use Rattle.stripe_locks.specs.Holding.{IsHeldAt};
 ghost use Rattle.stripe_locks.specs.Plays.{joining};
-ghost use Rattle.durable_map.specs.Maps.{opening_of, stripe_count};
+ghost use Rattle.durable_map.specs.Durable.{Finishes};
+ghost use Rattle.durable_map.specs.Maps.{name_of_words, opening_of, stripe_count};
 ghost use Rattle.connections.specs.Connection.{Connection};
-ghost use Rattle.connections.specs.Deferred.{Defers, LetsGo};
-ghost use Rattle.store_server.specs.Serving.{Completed, CompletesRequest};
+ghost use Rattle.store_server.specs.Serving.{Began, Finished, GaveUp, IsSameWorker, Owns};
 ghost use Rattle.store_server.specs.Responding.{RespondsRightly};
-ghost use Rattle.store_server.specs.WholeMap.{AnswersOf, CompletesBulk};
+ghost use Rattle.store_server.specs.WholeMap.{CompletesBulk};
 
-use crate::bulk::{Responds, Task, answer_of, respond_by};
-use crate::idle::{Patience, Sent, Taken};
+use crate::begun::Begun;
+use crate::bulk::{Responds, Task};
 use bulk_tasks::view;
 use connections::{Calls, ConnectionError, serve_connection};
-use crossbeam_channel::{Receiver, Sender, bounded};
 use disk_model::Disk;
 use durable_map::DurableMap;
 use map_types::{Refusal, Reply};
 use std::alloc::Global;
 use std::io::{Read, Write};
 use std::marker::Model;
-use std::net::TcpStream;
 use std::sync::Wait;
 use std::sync::atomic::{AtomicU64, Ordering};
-use std::thread;
-use std::thread::Threads;
-use std::time::{Clock, Duration};
-use stripe_locks::Pass;
+use stripe_locks::laws::held_at_is_held_of;
+use stripe_locks::{Held, Pass};
 use wire_frames::{Bulk, Request};
 
-/// How many connections wait for a worker at most.
-const MOST_WAITING: usize = 64;
-
-/// Is told of each request that is taken up, and again once it is answered. The requests are numbered
-/// from 0 in the order in which they are taken up.
+/// Is told of each request that is taken up, before its call is begun, and again once it is answered or
+/// given up. The requests are numbered from 0 in the order in which they are taken up.
 pub trait Gate {
+    /// Whether it is told of requests; else they aren't counted.
+    fn is_told(&self) -> bool {
+        true
+    }
+
     fn before(&self, n: u64);
 
     fn after(&self, n: u64);
 }
 
-/// The gate of a server, which holds nothing up.
+/// The gate of a server, which holds nothing up, and is told of nothing.
 #[derive(Drop)]
 pub struct NoGate;
 
 impl Gate for NoGate {
+    fn is_told(&self) -> bool {
+        false
+    }
+
     fn before(&self, _n: u64) {}
 
     fn after(&self, _n: u64) {}
 }
 
-/// Where connections come from.
-pub trait Arrivals {
-    /// The next connection, or nothing where no more come.
-    fn next(&mut self) -> Option<TcpStream>;
-}
-
-/// A worker answers each request by a call of the running store, with its own pass. Of the whole map it
-/// takes a view, and `responds` finds the reply by it.
+/// A worker makes the call of each request with its own pass as it begins it, and gives the reply out as
+/// it finishes it. For a request of the whole map it then takes a view, and `responds` finds the reply
+/// by it.
 #[derive(Drop)]
 pub struct Worker<'a, D: Disk + Drop, G: Gate, R: Wait, A: Responds> {
     rt: &'a R,
@@ -70,8 +68,8 @@ pub struct Worker<'a, D: Disk + Drop, G: Gate, R: Wait, A: Responds> {
 
 impl<'a, D: Disk + Drop, G: Gate, R: Wait, A: Responds> Model for Worker<'a, D, G, R, A> {
     ghost use Rattle.stripe_locks.specs.Passes.{recorded};
-    ghost use Rattle.durable_map.specs.Maps.{IsReady, stripe_count};
-    ghost use Rattle.std.specs.Coded.{coded_ℕ, coded×, code_by};
+    ghost use Rattle.durable_map.specs.Maps.{IsReady, name_of_words, stripe_count};
+    ghost use Rattle.std.specs.Coded.{coded_ℕ, coded_list, coded×, code_by};
     ghost use Rattle.std.specs.Prelude.{refl};
     ghost use Rattle.ticket_order.specs.contracts.record.Record as record_type;
     ghost use Rattle.store_server.specs.Serving.{WorkerState};
@@ -79,11 +77,13 @@ impl<'a, D: Disk + Drop, G: Gate, R: Wait, A: Responds> Model for Worker<'a, D, 
 
     ghost Value = { WorkerState };
 
-    ghost coded = { code_by _ (coded× coded_ℕ record_type.the_row.coded)
-        (λ s. (s.stripes, s.pass)) (λ p. record { stripes = p.0; pass = p.1 }) (λ _. refl) };
+    ghost coded = { code_by _ (coded× coded_ℕ (coded× (coded_list coded_ℕ) record_type.the_row.coded))
+        (λ s. (s.stripes, (s.words, s.pass)))
+        (λ p. record { stripes = p.0; words = p.1.0; pass = p.1.1 }) (λ _. refl) };
 
     ghost view = { λ worker. record {
       stripes = stripe_count worker.map.now;
+      words = name_of_words worker.map.now;
       pass = recorded worker.pass;
     } };
 
@@ -105,8 +105,9 @@ impl<'a, D: Disk + Drop, G: Gate, R: Wait, A: Responds> Worker<'a, D, G, R, A> {
         // Each reply that it finds is that of the view.
         requires { RespondsRightly A.is_ready A.replies responds }
 
-        // It has the stripes of the map, and a new pass that isn't the keeper's.
+        // It has the stripes and the shared words of the map, and a new pass that isn't the keeper's.
         ensures stripes { IfOk result (λ worker. worker.stripes ≡ stripe_count map.now) }
+        ensures words { IfOk result (λ worker. worker.words ≡ name_of_words map.now) }
         ensures joins { IfOk result (λ worker.
             (found : ℕ) × (worker.pass ≡ joining (opening_of map.now) found)) }
         ensures worker { IfOk result (λ worker. worker.pass.keeper ≡ false) }
@@ -124,25 +125,61 @@ impl<'a, D: Disk + Drop, G: Gate, R: Wait, A: Responds> Worker<'a, D, G, R, A> {
         })
     }
 
+    // Tells the gate of the next request, and gives its number, if the gate is told of requests.
+    fn take_up(&self) -> Option<u64> {
+        if !self.gate.is_told() {
+            return None;
+        }
+        let n = self.taken_up.fetch_add(1, Ordering::SeqCst);
+        self.gate.before(n);
+        Some(n)
+    }
+
+    // Tells the gate of the end of the request with this number, if it has one.
+    fn put_down(&self, number: Option<u64>) {
+        if let Some(n) = number {
+            self.gate.after(n);
+        }
+    }
+
+    // Makes the call of a change or a read. A request of the whole map is held as it is.
+    #[tactic(auto, using(crate::proofs::Owning::held_at))]
+    fn begin_as(&mut self, number: Option<u64>, request: Request) -> Result<Begun, Refusal>
+        ensures began { Began self.old request result self.new }
+        ensures owned { IfOk result (Owns self.new) }
+    {
+        match request {
+            Request::Change(command) => {
+                match self.map.begin_change(self.rt, &mut self.pass, command) {
+                    Ok(held) => Ok(Begun::Call(number, held)),
+                    Err(refusal) => Err(refusal),
+                }
+            }
+            Request::Read(read) => match self.map.begin_read(self.rt, &mut self.pass, read) {
+                Ok(held) => Ok(Begun::Call(number, held)),
+                Err(refusal) => Err(refusal),
+            },
+            Request::Bulk(bulk) => Ok(Begun::View(number, bulk)),
+        }
+    }
+
+    // Waits for the position of a call, and gives its reply out.
+    fn finish_call(&mut self, held: Held) -> Result<Reply, Refusal>
+        requires owned { IsHeldAt self.old.words held }
+        ensures same { IsSameWorker self.old self.new }
+        ensures finishes { Finishes self.old.pass held result self.new.pass }
+    {
+        held_at_is_held_of();
+        self.map.finish(self.rt, &mut self.pass, held)
+    }
+
     // Takes a view of the map, and answers by it.
     fn answer_bulk(&mut self, bulk: Bulk) -> Result<Reply, Refusal>
-        ensures stripes { self.new.stripes ≡ self.old.stripes }
+        ensures same { IsSameWorker self.old self.new }
         ensures completes { CompletesBulk self.old.stripes self.old.pass bulk result self.new.pass }
     {
         let view = view(self.rt, self.alloc, self.map, &mut self.pass)?;
         self.responds.respond(Task { view, bulk })
-    }
-
-    // Makes the call of a request.
-    fn answer(&mut self, request: Request) -> Result<Reply, Refusal>
-        ensures stripes { self.new.stripes ≡ self.old.stripes }
-        ensures completes { CompletesRequest self.old.stripes self.old.pass request result self.new.pass }
-    {
-        match request {
-            Request::Change(command) => self.map.change(self.rt, &mut self.pass, command),
-            Request::Read(read) => self.map.read(self.rt, &mut self.pass, read),
-            Request::Bulk(bulk) => self.answer_bulk(bulk),
-        }
     }
 
     /// Serves a connection until it ends or breaks off.
@@ -152,7 +189,7 @@ impl<'a, D: Disk + Drop, G: Gate, R: Wait, A: Responds> Worker<'a, D, G, R, A> {
         reader: &mut I,
         writer: &mut O,
     ) -> Result<(), ConnectionError>
-        ensures { Connection Defers Completed LetsGo
+        ensures { Connection Began Finished GaveUp
             (I.remaining reader.old) (I.remaining reader.new)
             (O.contents writer.old) (O.contents writer.new)
             self.old self.new result }
@@ -162,197 +199,56 @@ impl<'a, D: Disk + Drop, G: Gate, R: Wait, A: Responds> Worker<'a, D, G, R, A> {
 }
 
 impl<D: Disk + Drop, G: Gate, R: Wait, A: Responds> Calls for Worker<'_, D, G, R, A> {
-    type Held = Request;
+    type Held = Begun;
 
-    ghost began = { Defers };
+    ghost began = { Began };
 
-    ghost finished = { Completed };
+    ghost finished = { Finished };
 
-    ghost gave_up = { LetsGo };
+    ghost gave_up = { GaveUp };
 
-    // A call is made when it is finished.
-    fn begin(&mut self, request: Request) -> Result<Request, Refusal> {
-        Ok(request)
-    }
+    ghost owns = { Owns };
 
-    // A change waits for its commit, and a read may wait for that of a change which it saw.
-    fn may_finish(&self, _request: &Request) -> bool {
-        false
-    }
-
-    fn finish(&mut self, request: Request) -> Result<Reply, Refusal> {
-        let n = self.taken_up.fetch_add(1, Ordering::SeqCst);
-        self.gate.before(n);
-        let answer = self.answer(request);
-        self.gate.after(n);
-        answer
-    }
-
-    fn give_up(&mut self, _request: Request) {}
-}
-
-/// What the workers share.
-#[derive(Drop)]
-struct Pool<'a, D: Disk + Drop, G: Gate> {
-    alloc: Global,
-    map: &'a DurableMap<D>,
-    gate: &'a G,
-    taken_up: AtomicU64,
-    // for how many seconds a client may be idle; 0 is for ever
-    idle: u32,
-    streams: Receiver<TcpStream, Global>,
-}
-
-// Serves a connection to its end, or until its client was idle for too long.
-fn attend<D: Disk + Drop, G: Gate, R: Clock + Wait, A: Responds>(
-    rt: &R,
-    pool: &Pool<'_, D, G>,
-    worker: &mut Worker<'_, D, G, R, A>,
-    stream: &TcpStream,
-) {
-    let _ = stream.set_nodelay(true);
-    if pool.idle == 0 {
-        let _ = worker.serve(pool.alloc, &mut { stream }, &mut { stream });
-        return;
-    }
-    let limit = Duration::from_secs(u64::from(pool.idle));
-    if let Ok(patience) = Patience::new(rt, stream, limit) {
-        let mut sent = Sent {
-            patience: &patience,
-        };
-        let mut taken = Taken {
-            patience: &patience,
-        };
-        let _ = worker.serve(pool.alloc, &mut sent, &mut taken);
-    }
-}
-
-// Serves connections until no more come. What befalls a connection ends that one alone.
-fn serve_each<D: Disk + Drop, G: Gate, R: Clock + Wait, A: Responds>(
-    rt: &R,
-    pool: &Pool<'_, D, G>,
-    responds: A,
-)
-    requires { RespondsRightly A.is_ready A.replies responds }
-{
-    let made = Worker::new(
-        rt,
-        pool.alloc,
-        responds,
-        pool.map,
-        pool.gate,
-        &pool.taken_up,
-    );
-    let Ok(mut worker) = made else {
-        return;
-    };
-    for _ in rt.forever() {
-        let Ok(stream) = pool.streams.recv(rt) else {
-            return;
-        };
-        attend(rt, pool, &mut worker, &stream);
-    }
-    unreachable!()
-}
-
-// The same, with what finds the replies to requests of the whole map.
-fn serve_each_by<
-    D: Disk + Drop,
-    G: Gate,
-    R: Clock + Wait,
-    F: Fn(Task) -> Result<Reply, Refusal> + Drop,
->(rt: &R, pool: &Pool<'_, D, G>, by: F)
-    requires callable { F.IsAlwaysCallable by }
-    requires right { (task : _) (answer : _) → F.post by task answer
-        → AnswersOf task.view.map task.bulk answer }
-{
-    serve_each(rt, pool, respond_by(by));
-}
-
-// A worker's thread.
-fn work<D: Disk + Drop, G: Gate, R: Clock + Threads + Wait + Sync>(rt: &R, pool: &Pool<'_, D, G>) {
-    let alloc = pool.alloc;
-    serve_each_by(
-        rt,
-        pool,
-        move |task: Task| -> Result<Reply, Refusal>
-            ensures { AnswersOf task.view.map task.bulk result }
-        { answer_of(rt, alloc, &task) },
-    );
-}
-
-// Hands each connection to the workers.
-fn hand_out<C: Arrivals, R: Wait>(rt: &R, accepted: &Sender<TcpStream, Global>, arrivals: &mut C) {
-    for _ in rt.forever() {
-        let Some(stream) = arrivals.next() else {
-            return;
-        };
-        if accepted.send(rt, stream).is_err() {
-            return;
-        }
-    }
-    unreachable!()
-}
-
-// Starts the workers, and hands the connections out. The workers end once the sender is dropped.
-fn employ<D: Disk + Drop + Send, G: Gate + Sync, C: Arrivals, R: Clock + Threads + Wait + Sync>(
-    rt: &R,
-    pool: &Pool<'_, D, G>,
-    accepted: Sender<TcpStream, Global>,
-    arrivals: &mut C,
-    count: usize,
-) -> Result<(), Refusal>
-    ensures { IfErr result (λ refusal. refusal ≡ Refusal.NoMemory) }
-{
-    let has_started = thread::scope(thread::scope_env(), rt, |scope| {
-        for _ in 0..count {
-            if scope.spawn(move || work(rt, pool)).is_err() {
-                drop(accepted);
-                return false;
+    fn begin(&mut self, request: Request) -> Result<Begun, Refusal> {
+        let number = self.take_up();
+        match self.begin_as(number, request) {
+            Ok(begun) => Ok(begun),
+            Err(refusal) => {
+                self.put_down(number);
+                Err(refusal)
             }
         }
-        hand_out(rt, &accepted, arrivals);
-        drop(accepted);
-        true
-    });
-    if has_started {
-        Ok(())
-    } else {
-        Err(Refusal::NoMemory)
     }
-}
 
-/// Serves the connections with `count` workers, and returns once no more come and each that came has
-/// ended. Each worker takes one pass as it starts, and serves one connection after another with it; at
-/// most 64 more wait for a worker. A connection ends if its client is idle for `idle` seconds, that is,
-/// sends no whole request and takes no reply; 0 is for ever. Refused with `NoMemory` if a thread can't be
-/// started.
-pub fn workers<
-    D: Disk + Drop + Send,
-    G: Gate + Sync,
-    C: Arrivals,
-    R: Clock + Threads + Wait + Sync,
->(
-    rt: &R,
-    alloc: Global,
-    map: &DurableMap<D>,
-    gate: &G,
-    arrivals: &mut C,
-    count: usize,
-    idle: u32,
-) -> Result<(), Refusal>
-    ensures { IfErr result (λ refusal. refusal ≡ Refusal.NoMemory) }
-{
-    let Ok((accepted, streams)) = bounded(alloc, MOST_WAITING) else {
-        return Err(Refusal::NoMemory);
-    };
-    let pool = Pool {
-        alloc,
-        map,
-        gate,
-        taken_up: AtomicU64::new(0),
-        idle,
-        streams,
-    };
-    employ(rt, &pool, accepted, arrivals, count)
+    fn may_finish(&self, begun: &Begun) -> bool {
+        match begun {
+            Begun::Call(_, held) => self.map.may_finish(held),
+            Begun::View(..) => false,
+        }
+    }
+
+    fn finish(&mut self, begun: Begun) -> Result<Reply, Refusal> {
+        match begun {
+            Begun::Call(number, held) => {
+                let answer = self.finish_call(held);
+                self.put_down(number);
+                answer
+            }
+            Begun::View(number, bulk) => {
+                let answer = self.answer_bulk(bulk);
+                self.put_down(number);
+                answer
+            }
+        }
+    }
+
+    fn give_up(&mut self, begun: Begun) {
+        match begun {
+            Begun::Call(number, held) => {
+                held.give_up();
+                self.put_down(number);
+            }
+            Begun::View(number, _bulk) => self.put_down(number),
+        }
+    }
 }
