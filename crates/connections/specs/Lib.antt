@@ -1,5 +1,4 @@
 pub mod Connection
-pub mod Deferred
 pub mod Dialogue
 pub mod Moves
 pub mod Owning
