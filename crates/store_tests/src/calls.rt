@@ -38,7 +38,11 @@ impl Ends for Flag {
     }
 }
 
-fn open<R: Abort>(rt: &R, alloc: Global, disk: MemDisk) -> Result<DurableMap<MemDisk>, Refusal> {
+pub(crate) fn open<R: Abort>(
+    rt: &R,
+    alloc: Global,
+    disk: MemDisk,
+) -> Result<DurableMap<MemDisk>, Refusal> {
     let count = StripeCount::new(16).expect(rt, "16 is a count of stripes");
     let mut disk = disk;
     format(alloc, &mut disk, count)?;
@@ -51,7 +55,7 @@ fn open<R: Abort>(rt: &R, alloc: Global, disk: MemDisk) -> Result<DurableMap<Mem
     }
 }
 
-fn key(alloc: Global, text: &str) -> Result<Key, Refusal> {
+pub(crate) fn key(alloc: Global, text: &str) -> Result<Key, Refusal> {
     Key::new(alloc, text)
 }
 
@@ -255,8 +259,8 @@ fn try_reads(
 
 /// Ends a loop after so many turns.
 #[derive(Drop)]
-struct Turns {
-    left: AtomicU32,
+pub(crate) struct Turns {
+    pub(crate) left: AtomicU32,
 }
 
 impl Ends for Turns {
