@@ -38,7 +38,8 @@ impl Model for View {
         (λ p. record { marks = p.0; map = p.1 })
         (λ _. refl) };
 
-    ghost view = { λ v. record { marks = v.marks.items; map = finite.from_entries v.entries.items } };
+    ghost view = { λ v.
+        record { marks = v.marks.items; map = finite.from_entries v.entries.items } };
 
     ghost invariant = { λ v. HasDistinctKeys v.entries.items };
 }

@@ -107,7 +107,8 @@ fn func_and_value(alloc: Global, words: &[&str]) -> Result<(Func, Value), CallEr
 /// The question of a method, whose words behind the key are these.
 #[tactic(auto, unfolding(crate::specs::Calls::question_of))]
 fn question_of(alloc: Global, method: ReadMethod, words: &[&str]) -> Result<Question, CallError>
-    ensures { Gives (λ question. question) result (question_of method (map (λ word. word.now) words.now)) }
+    ensures { Gives (λ question. question) result
+        (question_of method (map (λ word. word.now) words.now)) }
 {
     match method {
         ReadMethod::Get => {
@@ -125,7 +126,8 @@ fn question_of(alloc: Global, method: ReadMethod, words: &[&str]) -> Result<Ques
 /// The change of a method, whose words behind the key are these.
 #[tactic(auto, unfolding(crate::specs::Calls::change_of))]
 fn change_of(alloc: Global, method: ChangeMethod, words: &[&str]) -> Result<Change, CallError>
-    ensures { Gives (λ change. change) result (change_of method (map (λ word. word.now) words.now)) }
+    ensures { Gives (λ change. change) result
+        (change_of method (map (λ word. word.now) words.now)) }
 {
     match method {
         ChangeMethod::Put => Ok(Change::Put(one_value(alloc, words)?)),
@@ -162,7 +164,8 @@ fn change_of(alloc: Global, method: ChangeMethod, words: &[&str]) -> Result<Chan
 /// What a method asks of a key, with these words behind it.
 #[tactic(auto, unfolding(crate::specs::Calls::asked_of))]
 fn asked_of(alloc: Global, method: Method, key: Key, words: &[&str]) -> Result<Asked, CallError>
-    ensures { Gives (λ asked. asked) result (asked_of method key (map (λ word. word.now) words.now)) }
+    ensures { Gives (λ asked. asked) result
+        (asked_of method key (map (λ word. word.now) words.now)) }
 {
     match method {
         Method::Read(method) => {

@@ -52,7 +52,8 @@ fn read_on<D: Disk>(
     ensures at { OnOk result (IsAt reader.new unread) }
     ensures reaches { OnOk result (unread.at + count ≤ end_of reader.new) }
     ensures called { OnOk result (ReadsPieces D.states disk.old disk.new reader.old reader.new) }
-    ensures tried { OnErr result (ReadsAtMost D.states disk.old disk.new reader.old (unread.at + unread.left)) }
+    ensures tried { OnErr result
+        (ReadsAtMost D.states disk.old disk.new reader.old (unread.at + unread.left)) }
     ensures held { D.honest disk.new
         → OnOk result (Holds (seen_in D.states disk.new unread.file) reader.new) }
     ensures err { IfErr result (RefusesIn unread.file (λ offset. D.honest disk.new → ⊥)) }
@@ -77,10 +78,12 @@ pub(crate) fn reach_body<D: Disk>(
     ensures looks { Looks D.states D.failures D.honest (failed_in result) disk.old disk.new }
     ensures at { OnOk result (IsAt reader.new body) }
     ensures called { OnOk result (ReadsPieces D.states disk.old disk.new reader.old reader.new) }
-    ensures tried { OnErr result (ReadsAtMost D.states disk.old disk.new reader.old (body.at + body.left)) }
+    ensures tried { OnErr result
+        (ReadsAtMost D.states disk.old disk.new reader.old (body.at + body.left)) }
     ensures held { D.honest disk.new
         → OnOk result (Holds (seen_in D.states disk.new body.file) reader.new) }
-    ensures err { IfErr result (λ refusal. (refusal ≡ Refusal.Failed) ⊎ ((refusal ≡ Refusal.NoMemory) ⊎ (D.honest disk.new → ⊥))) }
+    ensures err { IfErr result (λ refusal. (refusal ≡ Refusal.Failed)
+        ⊎ ((refusal ≡ Refusal.NoMemory) ⊎ (D.honest disk.new → ⊥))) }
 {
     read_on(disk, reader, body, 0)
 }
@@ -99,7 +102,8 @@ pub(crate) fn fetch<D: Disk>(
     ensures at { OnOk result (IsAt reader.new unread) }
     ensures reaches { OnOk result (Reaches reader.new unread) }
     ensures called { OnOk result (ReadsPieces D.states disk.old disk.new reader.old reader.new) }
-    ensures tried { OnErr result (ReadsAtMost D.states disk.old disk.new reader.old (unread.at + unread.left)) }
+    ensures tried { OnErr result
+        (ReadsAtMost D.states disk.old disk.new reader.old (unread.at + unread.left)) }
     ensures held { D.honest disk.new
         → OnOk result (Holds (seen_in D.states disk.new unread.file) reader.new) }
     ensures err { IfErr result (RefusesIn unread.file (λ offset.

@@ -13,7 +13,8 @@ use store_layout::OPEN_GATE;
 /// or the file is empty. Refuses with `Failed` alone.
 pub fn must_close<D: Disk>(disk: &mut D, file: usize) -> Result<bool, Refusal>
     requires { file < 4 }
-    ensures value { D.honest disk.new → IfOk result (λ must. must ≡ is_to_close (now (D.states disk.old) file).seen) }
+    ensures value { D.honest disk.new → IfOk result (λ must. must ≡ is_to_close
+        (now (D.states disk.old) file).seen) }
     ensures looks { OnOk result (Looks D.states D.failures D.honest 0 disk.old disk.new) }
     ensures failed { OnErr result (Looks D.states D.failures D.honest 1 disk.old disk.new) }
     ensures called { Made D.states 1 disk.old disk.new }

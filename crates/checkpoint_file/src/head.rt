@@ -42,9 +42,13 @@ pub fn read_head<D: Disk>(disk: &mut D, file: usize) -> Result<Option<Head>, Ref
     requires { file < 2 }
     ensures looks { Looks D.states D.failures D.honest (failed_in result) disk.old disk.new }
     ensures called { Made D.states 1 disk.old disk.new }
-    ensures some { D.honest disk.new → IfOk result (λ found. IfSome found (λ head. IsHead head file (now (D.states disk.old) file).seen)) }
-    ensures none { D.honest disk.new → IfOk result (λ found. IfNone found (is_sealed (now (D.states disk.old) file).seen ≡ false)) }
-    ensures err { IfErr result (λ refusal. (refusal ≡ Refusal.Failed) ⊎ (D.honest disk.new → head_fault file (now (D.states disk.old) file).seen ≡ Some refusal)) }
+    ensures some { D.honest disk.new → IfOk result (λ found. IfSome found (λ head.
+        IsHead head file (now (D.states disk.old) file).seen)) }
+    ensures none { D.honest disk.new → IfOk result (λ found. IfNone found
+        (is_sealed (now (D.states disk.old) file).seen ≡ false)) }
+    ensures err { IfErr result (λ refusal. (refusal ≡ Refusal.Failed)
+        ⊎ (D.honest disk.new
+        → head_fault file (now (D.states disk.old) file).seen ≡ Some refusal)) }
 {
     let mut bytes = [0; BODY_OFFSET];
     let count = match disk.read(file, 0, &mut bytes) {

@@ -8,6 +8,7 @@ ghost use Rattle.checkpoint_file.specs.Standing.{Stands, MayRead};
 /// Each content that a stop may leave is as the phase allows. Once the checkpoint is sealed, it is
 /// sealed with exactly the sections that were given.
 pub fn stops_of_a_checkpoint()
-    ensures { (w : CheckpointState) (old : List ℕ) (sections : List Section) (file : File) (content : List ℕ) → Stands w old sections file
-        → MayLeave file content → MayRead w.phase w old sections content }
+    ensures { (w : CheckpointState) (old : List ℕ) (sections : List Section) (file : File)
+        (content : List ℕ) → Stands w old sections file → MayLeave file content
+        → MayRead w.phase w old sections content }
 {}

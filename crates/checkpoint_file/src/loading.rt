@@ -55,13 +55,17 @@ fn section_head<D: Disk>(
     ensures at { OnOk result (IsAt reader.new unread) }
     ensures reached { OnOk result (unread.at + 12 ≤ end_of reader.new) }
     ensures called { OnOk result (ReadsPieces D.states disk.old disk.new reader.old reader.new) }
-    ensures tried { OnErr result (ReadsAtMost D.states disk.old disk.new reader.old (unread.at + unread.left)) }
+    ensures tried { OnErr result
+        (ReadsAtMost D.states disk.old disk.new reader.old (unread.at + unread.left)) }
     ensures held { D.honest disk.new
         → OnOk result (Holds (seen_in D.states disk.new unread.file) reader.new) }
     ensures fits { IfOk result (λ head. (head.0 < 2 ^ 64) × (head.1 < 2 ^ 32)) }
     ensures long { OnOk result (12 ≤ unread.left) }
-    ensures ok { D.honest disk.new → ForRest D.states disk.old unread (λ rest. IfOk result (λ head. rest ≡ (big_bytes 8 head.0 ++ big_bytes 4 head.1) ++ drop 12 rest)) }
-    ensures err { IfErr result (RefusesIn unread.file (λ offset. D.honest disk.new → ForRest D.states disk.old unread (λ rest. (offset ≡ unread.at) × (length rest < 12)))) }
+    ensures ok { D.honest disk.new → ForRest D.states disk.old unread (λ rest. IfOk result (λ head.
+        rest ≡ (big_bytes 8 head.0 ++ big_bytes 4 head.1) ++ drop 12 rest)) }
+    ensures err { IfErr result
+        (RefusesIn unread.file (λ offset. D.honest disk.new
+        → ForRest D.states disk.old unread (λ rest. (offset ≡ unread.at) × (length rest < 12)))) }
 {
     if unread.left < SECTION_HEAD_BYTES {
         return Err(unread.damaged());
@@ -87,7 +91,8 @@ fn next_entry<D: Disk>(
     ensures at { OnOk result (IsAt reader.new unread) }
     ensures reached { IfOk result (λ x. unread.at + x.1 ≤ end_of reader.new) }
     ensures called { OnOk result (ReadsPieces D.states disk.old disk.new reader.old reader.new) }
-    ensures tried { OnErr result (ReadsAtMost D.states disk.old disk.new reader.old (unread.at + unread.left)) }
+    ensures tried { OnErr result
+        (ReadsAtMost D.states disk.old disk.new reader.old (unread.at + unread.left)) }
     ensures held { D.honest disk.new
         → OnOk result (Holds (seen_in D.states disk.new unread.file) reader.new) }
     ensures few { IfOk result (λ x. x.1 ≤ unread.left) }
@@ -95,7 +100,9 @@ fn next_entry<D: Disk>(
         MayFollow stripe.of.count stripe.number before.now x.0) }
     ensures ok { D.honest disk.new → ForRest D.states disk.old unread (λ rest.
         IfOk result (λ x. IsNext x.0 x.1 rest)) }
-    ensures err { IfErr result (RefusesIn unread.file (λ offset. D.honest disk.new → ForRest D.states disk.old unread (λ rest. (offset ≡ unread.at)
+    ensures err { IfErr result
+        (RefusesIn unread.file (λ offset. D.honest disk.new
+        → ForRest D.states disk.old unread (λ rest. (offset ≡ unread.at)
         × HasNoNext stripe.of.count stripe.number before.now rest))) }
 {
     fetch(disk, reader, unread)?;
@@ -125,7 +132,8 @@ fn entries<D: Disk>(
     ensures looks { Looks D.states D.failures D.honest (failed_in result) disk.old disk.new }
     ensures at { IfOk result (λ x. IsAt reader.new x.1) }
     ensures called { OnOk result (ReadsPieces D.states disk.old disk.new reader.old reader.new) }
-    ensures tried { OnErr result (ReadsAtMost D.states disk.old disk.new reader.old (unread.at + unread.left)) }
+    ensures tried { OnErr result
+        (ReadsAtMost D.states disk.old disk.new reader.old (unread.at + unread.left)) }
     ensures held { D.honest disk.new
         → OnOk result (Holds (seen_in D.states disk.new unread.file) reader.new) }
     ensures behind { IfOk result (λ x. IsBehind unread x.1) }
@@ -133,7 +141,9 @@ fn entries<D: Disk>(
     ensures ok { D.honest disk.new → ForRest D.states disk.old unread (λ rest. IfOk result (λ x.
         GoesOn (seen_in D.states disk.old unread.file)
         (entries_bytes first_layout x.0.items) rest x.1)) }
-    ensures err { IfErr result (RefusesIn unread.file (λ offset. D.honest disk.new → ForRest D.states disk.old unread (λ rest. (distance : ℕ) × (offset ≡ unread.at + distance)
+    ensures err { IfErr result
+        (RefusesIn unread.file (λ offset. D.honest disk.new
+        → ForRest D.states disk.old unread (λ rest. (distance : ℕ) × (offset ≡ unread.at + distance)
         × HasFewer stripe.of.count stripe.number count rest distance))) }
 {
     let mut entries = Vec::new(alloc);
@@ -161,7 +171,8 @@ fn section<D: Disk>(
     ensures looks { Looks D.states D.failures D.honest (failed_in result) disk.old disk.new }
     ensures at { IfOk result (λ x. IsAt reader.new x.1) }
     ensures called { OnOk result (ReadsPieces D.states disk.old disk.new reader.old reader.new) }
-    ensures tried { OnErr result (ReadsAtMost D.states disk.old disk.new reader.old (unread.at + unread.left)) }
+    ensures tried { OnErr result
+        (ReadsAtMost D.states disk.old disk.new reader.old (unread.at + unread.left)) }
     ensures held { D.honest disk.new
         → OnOk result (Holds (seen_in D.states disk.new unread.file) reader.new) }
     ensures behind { IfOk result (λ x. IsBehind unread x.1) }
@@ -169,7 +180,9 @@ fn section<D: Disk>(
     ensures ok { D.honest disk.new → ForRest D.states disk.old unread (λ rest. IfOk result (λ x.
         GoesOn (seen_in D.states disk.old unread.file)
         (section_bytes first_layout (section_of x.0)) rest x.1)) }
-    ensures err { IfErr result (RefusesIn unread.file (λ offset. D.honest disk.new → ForRest D.states disk.old unread (λ rest. (distance : ℕ) × (offset ≡ unread.at + distance)
+    ensures err { IfErr result
+        (RefusesIn unread.file (λ offset. D.honest disk.new
+        → ForRest D.states disk.old unread (λ rest. (distance : ℕ) × (offset ≡ unread.at + distance)
         × IsFault first_layout stripe.of.count stripe.number rest distance))) }
 {
     let (mark, count) = section_head(disk, reader, unread)?;
@@ -192,14 +205,17 @@ fn all_sections<D: Disk>(
     ensures looks { Looks D.states D.failures D.honest (failed_in result) disk.old disk.new }
     ensures at { IfOk result (λ x. IsAt reader.new x.1) }
     ensures called { OnOk result (ReadsPieces D.states disk.old disk.new reader.old reader.new) }
-    ensures tried { OnErr result (ReadsAtMost D.states disk.old disk.new reader.old (unread.at + unread.left)) }
+    ensures tried { OnErr result
+        (ReadsAtMost D.states disk.old disk.new reader.old (unread.at + unread.left)) }
     ensures behind { IfOk result (λ x. IsBehind unread x.1) }
     ensures many { IfOk result (λ x. length x.0.items ≡ stripes.count) }
     ensures loaded { IfOk result (λ x. AreLoaded stripes.count x.0.items) }
     ensures ok { D.honest disk.new → ForRest D.states disk.old unread (λ rest. IfOk result (λ x.
         GoesOn (seen_in D.states disk.old unread.file)
         (sections_bytes first_layout (sections_of x.0.items)) rest x.1)) }
-    ensures err { IfErr result (RefusesIn unread.file (λ offset. D.honest disk.new → ForRest D.states disk.old unread (λ rest. (distance : ℕ) × (offset ≡ unread.at + distance)
+    ensures err { IfErr result
+        (RefusesIn unread.file (λ offset. D.honest disk.new
+        → ForRest D.states disk.old unread (λ rest. (distance : ℕ) × (offset ≡ unread.at + distance)
         × HasFault first_layout stripes.count rest distance))) }
 {
     let mut sections = Vec::new(alloc);
@@ -230,10 +246,14 @@ fn whole_body<D: Disk>(
     ensures looks { Looks D.states D.failures D.honest (failed_in result) disk.old disk.new }
     ensures called { OnOk result (length (D.states disk.new) + pieces_in (end_of reader.old)
         ≡ length (D.states disk.old) + pieces_in (unread.at + unread.left)) }
-    ensures tried { OnErr result (ReadsAtMost D.states disk.old disk.new reader.old (unread.at + unread.left)) }
+    ensures tried { OnErr result
+        (ReadsAtMost D.states disk.old disk.new reader.old (unread.at + unread.left)) }
     ensures loaded { IfOk result (λ sections. AreLoaded stripes.count sections.items) }
-    ensures ok { D.honest disk.new → ForRest D.states disk.old unread (λ rest. IfOk result (λ sections. IsBodyOf stripes.count sections.items rest)) }
-    ensures err { IfErr result (RefusesIn unread.file (λ offset. D.honest disk.new → ForRest D.states disk.old unread (λ rest. (distance : ℕ) × (offset ≡ unread.at + distance)
+    ensures ok { D.honest disk.new → ForRest D.states disk.old unread (λ rest.
+        IfOk result (λ sections. IsBodyOf stripes.count sections.items rest)) }
+    ensures err { IfErr result
+        (RefusesIn unread.file (λ offset. D.honest disk.new
+        → ForRest D.states disk.old unread (λ rest. (distance : ℕ) × (offset ≡ unread.at + distance)
         × HasFault first_layout stripes.count rest distance))) }
 {
     let (sections, behind) = all_sections(alloc, disk, reader, unread, stripes)?;
@@ -246,11 +266,13 @@ fn whole_body<D: Disk>(
 // How many stripes there are, and where the body stands in a file of so many bytes.
 fn body_of(file: u8, head: &Head, len: usize) -> Result<(StripeCount, Unread), Refusal>
     requires { file < 4 }
-    ensures place { IfOk result (λ x. (x.0.count ≡ head.now.stripes) × IsBodyAt file head.now.body_len x.1) }
+    ensures place { IfOk result (λ x. (x.0.count ≡ head.now.stripes)
+        × IsBodyAt file head.now.body_len x.1) }
     ensures inside { OnOk result (36 + head.now.body_len ≤ len) }
-    ensures ok { (content : List ℕ) → len ≡ length content → HasFields head.now content → OnOk result (size_fault file content ≡ None) }
-    ensures err { IfErr result (λ refusal. (content : List ℕ) → len ≡ length content → HasFields head.now content
-        → size_fault file content ≡ Some refusal) }
+    ensures ok { (content : List ℕ) → len ≡ length content → HasFields head.now content
+        → OnOk result (size_fault file content ≡ None) }
+    ensures err { IfErr result (λ refusal. (content : List ℕ) → len ≡ length content
+        → HasFields head.now content → size_fault file content ≡ Some refusal) }
     ensures unfailed { failed_in result ≡ 0 }
 {
     let Some(stripes) = StripeCount::new(head.stripes) else {
@@ -277,14 +299,22 @@ fn sized_body<D: Disk>(
 ) -> Result<(StripeCount, Unread, FileReader), Refusal>
     requires { file < 4 }
     ensures looks { Looks D.states D.failures D.honest (failed_in result) disk.old disk.new }
-    ensures called { IfOk result (λ x. Made D.states (1 + pieces_in (end_of x.2)) disk.old disk.new) }
-    ensures tried { OnErr result (MadeAtMost D.states (1 + pieces_in (36 + head.now.body_len)) disk.old disk.new) }
-    ensures place { IfOk result (λ x. (x.0.count ≡ head.now.stripes) × IsBodyAt file head.now.body_len x.1) }
+    ensures called { IfOk result (λ x. Made D.states (1 + pieces_in (end_of x.2)) disk.old
+        disk.new) }
+    ensures tried { OnErr result
+        (MadeAtMost D.states (1 + pieces_in (36 + head.now.body_len)) disk.old disk.new) }
+    ensures place { IfOk result (λ x. (x.0.count ≡ head.now.stripes)
+        × IsBodyAt file head.now.body_len x.1) }
     ensures at { IfOk result (λ x. IsAt x.2 x.1) }
-    ensures held { D.honest disk.new → IfOk result (λ x. Holds (seen_in D.states disk.new x.1.file) x.2) }
-    ensures inside { D.honest disk.new → OnOk result (36 + head.now.body_len ≤ length (seen_in D.states disk.old file)) }
-    ensures ok { D.honest disk.new → HasFields head.now (seen_in D.states disk.old file) → OnOk result (size_fault file (seen_in D.states disk.old file) ≡ None) }
-    ensures err { IfErr result (λ refusal. (refusal ≡ Refusal.Failed) ⊎ ((refusal ≡ Refusal.NoMemory) ⊎ (D.honest disk.new → HasFields head.now (seen_in D.states disk.old file)
+    ensures held { D.honest disk.new → IfOk result (λ x. Holds (seen_in D.states disk.new x.1.file)
+        x.2) }
+    ensures inside { D.honest disk.new
+        → OnOk result (36 + head.now.body_len ≤ length (seen_in D.states disk.old file)) }
+    ensures ok { D.honest disk.new → HasFields head.now (seen_in D.states disk.old file)
+        → OnOk result (size_fault file (seen_in D.states disk.old file) ≡ None) }
+    ensures err { IfErr result (λ refusal. (refusal ≡ Refusal.Failed)
+        ⊎ ((refusal ≡ Refusal.NoMemory)
+        ⊎ (D.honest disk.new → HasFields head.now (seen_in D.states disk.old file)
         → size_fault file (seen_in D.states disk.old file) ≡ Some refusal))) }
 {
     let mut reader = begin_file(alloc, disk, file)?;
@@ -302,14 +332,18 @@ fn load_body<D: Disk>(
 ) -> Result<LoadedCheckpoint, Refusal>
     requires { file < 2 }
     ensures looks { Looks D.states D.failures D.honest (failed_in result) disk.old disk.new }
-    ensures called { OnOk result (Made D.states (1 + pieces_in (36 + head.now.body_len)) disk.old disk.new) }
-    ensures tried { OnErr result (MadeAtMost D.states (1 + pieces_in (36 + head.now.body_len)) disk.old disk.new) }
+    ensures called { OnOk result
+        (Made D.states (1 + pieces_in (36 + head.now.body_len)) disk.old disk.new) }
+    ensures tried { OnErr result
+        (MadeAtMost D.states (1 + pieces_in (36 + head.now.body_len)) disk.old disk.new) }
     ensures ok { D.honest disk.new → IsHead head.now file (seen_in D.states disk.old file)
         → IfOk result (λ loaded.
         IsCheckpoint first_layout (checkpoint_of loaded) (seen_in D.states disk.old file)) }
     ensures loaded { IfOk result (λ loaded.
         AreLoaded loaded.stripes.count loaded.sections.items) }
-    ensures err { IfErr result (λ refusal. (refusal ≡ Refusal.Failed) ⊎ ((refusal ≡ Refusal.NoMemory) ⊎ (D.honest disk.new → IsHead head.now file (seen_in D.states disk.old file)
+    ensures err { IfErr result (λ refusal. (refusal ≡ Refusal.Failed)
+        ⊎ ((refusal ≡ Refusal.NoMemory)
+        ⊎ (D.honest disk.new → IsHead head.now file (seen_in D.states disk.old file)
         → IsBadCheckpoint first_layout file (seen_in D.states disk.old file) refusal))) }
 {
     let (stripes, body, mut reader) = sized_body(alloc, disk, file, head)?;
@@ -337,16 +371,24 @@ pub fn load<D: Disk>(
     requires { file < 2 }
     ensures looks { Looks D.states D.failures D.honest (failed_in result) disk.old disk.new }
     ensures called { D.honest disk.new → IfOk result (λ found. IfSome found (λ loaded.
-        Made D.states (checkpoint_calls (body_length_in (now (D.states disk.old) file).seen)) disk.old disk.new)) }
+        Made D.states (checkpoint_calls (body_length_in (now (D.states disk.old) file).seen))
+        disk.old disk.new)) }
     ensures called_once { IfOk result (λ found. IfNone found (Made D.states 1 disk.old disk.new)) }
-    ensures tried { D.honest disk.new → OnErr result
-        (MadeAtMost D.states (checkpoint_calls (body_length_in (now (D.states disk.old) file).seen)) disk.old disk.new) }
-    ensures some { D.honest disk.new → IfOk result (λ found. IfSome found (λ loaded. IsCheckpoint first_layout (checkpoint_of loaded) (now (D.states disk.old) file).seen)) }
+    ensures tried { D.honest disk.new
+        → OnErr result
+        (MadeAtMost D.states (checkpoint_calls (body_length_in (now (D.states disk.old) file).seen))
+        disk.old disk.new) }
+    ensures some { D.honest disk.new → IfOk result (λ found. IfSome found (λ loaded.
+        IsCheckpoint first_layout (checkpoint_of loaded) (now (D.states disk.old) file).seen)) }
     ensures loaded { IfOk result (λ found. IfSome found (λ loaded.
         AreLoaded loaded.stripes.count loaded.sections.items)) }
-    ensures rising { IfOk result (λ found. IfSome found (λ loaded. AreRising loaded.sections.items)) }
-    ensures none { D.honest disk.new → IfOk result (λ found. IfNone found (is_sealed (now (D.states disk.old) file).seen ≡ false)) }
-    ensures err { IfErr result (λ refusal. (refusal ≡ Refusal.Failed) ⊎ ((refusal ≡ Refusal.NoMemory) ⊎ (D.honest disk.new → IsUnloadable file (now (D.states disk.old) file).seen refusal))) }
+    ensures rising { IfOk result (λ found. IfSome found (λ loaded.
+        AreRising loaded.sections.items)) }
+    ensures none { D.honest disk.new → IfOk result (λ found. IfNone found
+        (is_sealed (now (D.states disk.old) file).seen ≡ false)) }
+    ensures err { IfErr result (λ refusal. (refusal ≡ Refusal.Failed)
+        ⊎ ((refusal ≡ Refusal.NoMemory)
+        ⊎ (D.honest disk.new → IsUnloadable file (now (D.states disk.old) file).seen refusal))) }
 {
     match read_head(disk, file)? {
         Some(head) => Ok(Some(load_body(alloc, disk, file as u8, &head)?)),

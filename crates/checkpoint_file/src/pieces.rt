@@ -35,7 +35,8 @@ pub(crate) fn mark_and_count(head: &[u8]) -> (u64, usize)
 
 // The key and the value at the front.
 fn key_and_value(alloc: Global, bytes: &[u8]) -> Result<((Key, Value), &[u8]), Refusal>
-    ensures { Gives (λ x. (x.0, x.1.now)) result (both_at (key_at first_layout) some_value_at bytes.now) }
+    ensures { Gives (λ x. (x.0, x.1.now)) result
+        (both_at (key_at first_layout) some_value_at bytes.now) }
 {
     let (key, rest) = key_at(alloc, bytes)?;
     let (value, rest) = some_value_at(alloc, rest)?;
@@ -47,8 +48,12 @@ pub(crate) fn entry_at(
     alloc: Global,
     bytes: &[u8],
 ) -> Result<Option<((Key, Value), &[u8])>, Refusal>
-    ensures some { IfOk result (λ found. IfSome found (λ x. IsText 255 x.0.0 × IsValue x.0.1 × (bytes.now ≡ entry_bytes first_layout x.0 ++ x.1.now))) }
-    ensures none { IfOk result (λ found. IfNone found ((entry : List ℕ × Value) (rest : List ℕ) → IsText 255 entry.0 → IsValue entry.1 → bytes.now ≢ entry_bytes first_layout entry ++ rest)) }
+    ensures some { IfOk result (λ found. IfSome found (λ x. IsText 255 x.0.0 × IsValue x.0.1
+        × (bytes.now ≡ entry_bytes first_layout x.0 ++ x.1.now))) }
+    ensures none { IfOk result (λ found.
+        IfNone found
+        ((entry : List ℕ × Value) (rest : List ℕ) → IsText 255 entry.0 → IsValue entry.1
+        → bytes.now ≢ entry_bytes first_layout entry ++ rest)) }
     ensures err { IfErr result (λ refusal. refusal ≡ Refusal.NoMemory) }
 {
     match key_and_value(alloc, bytes) {
@@ -62,7 +67,8 @@ pub(crate) fn entry_at(
 
 /// Whether the key belongs to the stripe and is above that of the last entry.
 pub(crate) fn may_follow(entries: &[(Key, Value)], key: &Key, stripe: Stripe) -> bool
-    ensures { IsTrue result ↔ ((stripe_of stripe.of.count key.now ≡ stripe.number) × IsAbove entries.now key.now) }
+    ensures { IsTrue result
+        ↔ ((stripe_of stripe.of.count key.now ≡ stripe.number) × IsAbove entries.now key.now) }
 {
     if stripe_of(key.as_str(), stripe.of) != stripe.number {
         return false;

@@ -32,7 +32,8 @@ pub(crate) fn header(
 
 /// Puts the entries at the end, or some of them where no memory is found.
 fn append_entries(entries: &[(Key, Value)], out: &mut Vec<u8>) -> Result<(), Refusal>
-    ensures ok { OnOk result (out.new.items ≡ out.old.items ++ entries_bytes first_layout entries.now) }
+    ensures ok { OnOk result
+        (out.new.items ≡ out.old.items ++ entries_bytes first_layout entries.now) }
     ensures fits { OnOk result (AreWellFormed entries.now) }
     ensures err { IfErr result (λ refusal. refusal ≡ Refusal.NoMemory) }
 {

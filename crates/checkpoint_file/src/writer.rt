@@ -42,9 +42,32 @@ impl Model for CheckpointWriter {
 
     ghost Value = { CheckpointState };
 
-    ghost view = { λ w. record { generation = w.generation; low = w.low; stripes = w.stripes.count; phase = w.phase; count = w.count; greatest = w.greatest; body = w.body; section = w.section.items; is_broken = w.is_broken } };
+    ghost view = { λ w.
+        record {
+          generation = w.generation;
+          low = w.low;
+          stripes = w.stripes.count;
+          phase = w.phase;
+          count = w.count;
+          greatest = w.greatest;
+          body = w.body;
+          section = w.section.items;
+          is_broken = w.is_broken;
+        } };
 
-    ghost invariant = { λ w. IsSound (record { generation = w.generation; low = w.low; stripes = w.stripes.count; phase = w.phase; count = w.count; greatest = w.greatest; body = w.body; section = w.section.items; is_broken = w.is_broken }) };
+    ghost invariant = { λ w.
+        IsSound
+        (record {
+          generation = w.generation;
+          low = w.low;
+          stripes = w.stripes.count;
+          phase = w.phase;
+          count = w.count;
+          greatest = w.greatest;
+          body = w.body;
+          section = w.section.items;
+          is_broken = w.is_broken;
+        }) };
 }
 
 impl CheckpointWriter {
@@ -117,8 +140,11 @@ impl CheckpointWriter {
     ) -> Result<(), Refusal>
         ensures wrong_phase { (result ≡ Err Refusal.WrongPhase) ↔ (IsOver self.old.phase → ⊥) }
         ensures no_other { IfErr result (λ refusal. refusal ≡ Refusal.WrongPhase) }
-        ensures ok { OnOk result (self.new ≡ record (begun generation low stripes.count must_close) { is_broken = self.old.is_broken }) }
-        ensures stands { OnOk result ((old : List ℕ) → must_close ≡ is_to_close old → Stands self.new old [] (at_rest old)) }
+        ensures ok { OnOk result
+            (self.new ≡ record (begun generation low stripes.count
+            must_close) { is_broken = self.old.is_broken }) }
+        ensures stands { OnOk result
+            ((old : List ℕ) → must_close ≡ is_to_close old → Stands self.new old [] (at_rest old)) }
         ensures err { OnErr result (self.new ≡ self.old) }
     {
         match self.phase {
@@ -143,12 +169,17 @@ impl CheckpointWriter {
     /// Stages the section of the next stripe: what it held after the first `mark` commands.
     pub fn section(&mut self, mark: u64, entries: &[(Key, Value)]) -> Result<(), Refusal>
         ensures ok { OnOk result (self.new ≡ with_section mark entries.now self.old) }
-        ensures staged { OnOk result ((map : Map) (old : List ℕ) (sections : List Section) (file : File) → entries.now ≡ finite.entries map
-            → AreKeysOf self.old.stripes self.old.count entries.now → self.old.low ≤ mark → Stands self.old old sections file
+        ensures staged { OnOk result
+            ((map : Map) (old : List ℕ) (sections : List Section) (file : File)
+            → entries.now ≡ finite.entries map
+            → AreKeysOf self.old.stripes self.old.count entries.now → self.old.low ≤ mark
+            → Stands self.old old sections file
             → Stands self.new old (sections ++ record { mark = mark; map = map } ∷ []) file) }
         ensures wrong_phase { (result ≡ Err Refusal.WrongPhase) ↔ (TakesSection self.old → ⊥) }
-        ensures full { (result ≡ Err Refusal.LogFull) ↔ (TakesSection self.old × (2 ^ 32 - 1 < length entries.now)) }
-        ensures no_other { IfErr result (λ refusal. (refusal ≡ Refusal.WrongPhase) ⊎ (refusal ≡ Refusal.LogFull) ⊎ (refusal ≡ Refusal.NoMemory)) }
+        ensures full { (result ≡ Err Refusal.LogFull)
+            ↔ (TakesSection self.old × (2 ^ 32 - 1 < length entries.now)) }
+        ensures no_other { IfErr result (λ refusal. (refusal ≡ Refusal.WrongPhase)
+            ⊎ (refusal ≡ Refusal.LogFull) ⊎ (refusal ≡ Refusal.NoMemory)) }
         ensures err { OnErr result (self.new ≡ self.old) }
     {
         if self.phase != CheckpointPhase::Ready || self.count == self.stripes.count {
@@ -167,7 +198,9 @@ impl CheckpointWriter {
     /// Goes on to the header, once the sections of all stripes are written.
     pub fn seal(&mut self) -> Result<(), Refusal>
         ensures ok { OnOk result (self.new ≡ record self.old { phase = CheckpointPhase.Header }) }
-        ensures stands { OnOk result ((old : List ℕ) (sections : List Section) (file : File) → Stands self.old old sections file → Stands self.new old sections file) }
+        ensures stands { OnOk result
+            ((old : List ℕ) (sections : List Section) (file : File)
+            → Stands self.old old sections file → Stands self.new old sections file) }
         ensures wrong_phase { (result ≡ Err Refusal.WrongPhase) ↔ (TakesSeal self.old → ⊥) }
         ensures no_other { IfErr result (λ refusal. refusal ≡ Refusal.WrongPhase) }
         ensures err { OnErr result (self.new ≡ self.old) }
@@ -181,12 +214,19 @@ impl CheckpointWriter {
 
     // Writes the header.
     fn write_header<D: Disk>(&self, disk: &mut D) -> Result<(), DeviceError>
-        requires place { D.honest disk.old → 1 ≤ length (now (D.states disk.old) (checkpoint_file self.now.generation)).seen }
+        requires place { D.honest disk.old
+            → 1 ≤ length (now (D.states disk.old) (checkpoint_file self.now.generation)).seen }
         ensures was_honest { D.honest disk.new → D.honest disk.old }
-        ensures ok { OnOk result (Makes D.states D.failures (checkpoint_file self.now.generation)
-            (Call.writes 1 (checkpoint_header self.now.generation self.now.low self.now.greatest self.now.stripes self.now.body)) disk.old disk.new) }
-        ensures err { OnErr result (Fails D.states D.failures (checkpoint_file self.now.generation)
-            (Call.writes 1 (checkpoint_header self.now.generation self.now.low self.now.greatest self.now.stripes self.now.body)) disk.old disk.new) }
+        ensures ok { OnOk result
+            (Makes D.states D.failures (checkpoint_file self.now.generation)
+            (Call.writes 1
+            (checkpoint_header self.now.generation self.now.low self.now.greatest self.now.stripes
+            self.now.body)) disk.old disk.new) }
+        ensures err { OnErr result
+            (Fails D.states D.failures (checkpoint_file self.now.generation)
+            (Call.writes 1
+            (checkpoint_header self.now.generation self.now.low self.now.greatest self.now.stripes
+            self.now.body)) disk.old disk.new) }
     {
         let bytes = header(
             self.generation,
@@ -200,11 +240,20 @@ impl CheckpointWriter {
 
     // Makes the device call that is due; where none is, it makes none.
     fn make_call<D: Disk>(&self, disk: &mut D) -> Result<(), DeviceError>
-        requires place { D.honest disk.old → (call : Call) → call_in self.now.phase self.now ≡ Some call → IsPlaced call (now (D.states disk.old) (checkpoint_file self.now.generation)) }
-        ensures rests { call_in self.now.phase self.now ≡ None → (result ≡ Ok tt) × (disk.new ≡ disk.old) }
+        requires place { D.honest disk.old → (call : Call)
+            → call_in self.now.phase self.now ≡ Some call
+            → IsPlaced call (now (D.states disk.old) (checkpoint_file self.now.generation)) }
+        ensures rests { call_in self.now.phase self.now ≡ None
+            → (result ≡ Ok tt) × (disk.new ≡ disk.old) }
         ensures was_honest { D.honest disk.new → D.honest disk.old }
-        ensures ok { OnOk result ((call : Call) → call_in self.now.phase self.now ≡ Some call → Makes D.states D.failures (checkpoint_file self.now.generation) call disk.old disk.new) }
-        ensures err { OnErr result ((call : Call) → call_in self.now.phase self.now ≡ Some call → Fails D.states D.failures (checkpoint_file self.now.generation) call disk.old disk.new) }
+        ensures ok { OnOk result
+            ((call : Call) → call_in self.now.phase self.now ≡ Some call
+            → Makes D.states D.failures (checkpoint_file self.now.generation) call disk.old
+            disk.new) }
+        ensures err { OnErr result
+            ((call : Call) → call_in self.now.phase self.now ≡ Some call
+            → Fails D.states D.failures (checkpoint_file self.now.generation) call disk.old
+            disk.new) }
     {
         let file = checkpoint_file(self.generation);
         match self.phase {
@@ -247,10 +296,14 @@ impl CheckpointWriter {
         requires stands { MayAdvance D.states D.honest self.old disk.old }
 
         ensures stands { MayAdvance D.states D.honest self.new disk.new }
-        ensures broken { self.old.is_broken ≡ true → (result ≡ Err Refusal.Failed) × (self.new ≡ self.old) × (disk.new ≡ disk.old) }
-        ensures rests { self.old.is_broken ≡ false → call_in self.old.phase self.old ≡ None → (result ≡ Ok self.old.phase) × (self.new ≡ self.old) × (disk.new ≡ disk.old) }
-        ensures advances { self.old.is_broken ≡ false → (call : Call) → call_in self.old.phase self.old ≡ Some call
-            → Advances D.states D.failures D.honest call self.old self.new disk.old disk.new result }
+        ensures broken { self.old.is_broken ≡ true
+            → (result ≡ Err Refusal.Failed) × (self.new ≡ self.old) × (disk.new ≡ disk.old) }
+        ensures rests { self.old.is_broken ≡ false → call_in self.old.phase self.old ≡ None
+            → (result ≡ Ok self.old.phase) × (self.new ≡ self.old) × (disk.new ≡ disk.old) }
+        ensures advances { self.old.is_broken ≡ false → (call : Call)
+            → call_in self.old.phase self.old ≡ Some call
+            → Advances D.states D.failures D.honest call self.old self.new disk.old disk.new
+            result }
     {
         if self.is_broken {
             return Err(Refusal::Failed);

@@ -26,20 +26,42 @@ use store_states::laws::{steps_of_checkpoints, stops_of_a_store};
 /// After the last sync of a seal the checkpoint is the sealed one, and none runs. After a device
 /// failure no call is made. It takes no memory.
 pub fn advance<D: Disk>(keeper: &mut Keeper<D>) -> Result<CheckpointPhase, Refusal>
-    requires { (n : ℕ) × (done : List Command) × (p : Record) × Fits D.states D.honest n done keeper.old p }
-    ensures failed { keeper.old.is_broken ≡ true → (result ≡ Err Refusal.Failed) × (keeper.new ≡ keeper.old) }
-    ensures rests { keeper.old.is_broken ≡ false → call_due keeper.old.next keeper.old.checkpoint ≡ None → (result ≡ Ok (phase_of keeper.old.checkpoint)) × (keeper.new ≡ keeper.old) }
-    ensures steps { keeper.old.is_broken ≡ false → (call : Call) (w : CheckpointState) → call_due keeper.old.next keeper.old.checkpoint ≡ Some call → keeper.old.checkpoint ≡ Some w
+    requires { (n : ℕ) × (done : List Command) × (p : Record)
+        × Fits D.states D.honest n done keeper.old p }
+    ensures failed { keeper.old.is_broken ≡ true
+        → (result ≡ Err Refusal.Failed) × (keeper.new ≡ keeper.old) }
+    ensures rests { keeper.old.is_broken ≡ false
+        → call_due keeper.old.next keeper.old.checkpoint ≡ None
+        → (result ≡ Ok (phase_of keeper.old.checkpoint)) × (keeper.new ≡ keeper.old) }
+    ensures steps { keeper.old.is_broken ≡ false → (call : Call) (w : CheckpointState)
+        → call_due keeper.old.next keeper.old.checkpoint ≡ Some call
+        → keeper.old.checkpoint ≡ Some w
         → StepsCheckpoint D.states D.failures D.honest call w keeper.old keeper.new result }
     ensures works { OnOk result (keeper.new.is_broken ≡ false) }
     ensures breaks { OnErr result (keeper.new.is_broken ≡ true) }
-    ensures any_moment { (n : ℕ) (done : List Command) (p : Record) → Fits D.states D.honest n done keeper.old p → D.honest keeper.old.disk
-        → AtEachMoment D.states keeper.old.disk keeper.new.disk (StopsFit (history_of p) keeper.old) }
-    ensures given { (sections : List Section) (w : CheckpointState) → HasGiven keeper.old.checkpoint sections (now (D.states keeper.old.disk)) → keeper.new.checkpoint ≡ Some w → OnOk result (HasGiven (Some w) sections (now (D.states keeper.new.disk))) }
-    ensures sealed { (n : ℕ) (done : List Command) (p : Record) (w : CheckpointState) (sections : List Section) → Fits D.states D.honest n done keeper.old p → D.honest keeper.new.disk → keeper.old.next ≡ None → keeper.old.checkpoint ≡ Some w → w.phase ≡ CheckpointPhase.Opened
-        → HasGiven keeper.old.checkpoint sections (now (D.states keeper.old.disk)) → OnOk result (UsesCheckpoint (checkpoint_of w sections) (now (D.states keeper.new.disk))) }
-    ensures fits { (n : ℕ) (done : List Command) (p : Record) → Fits D.states D.honest n done keeper.old p → Fits D.states D.honest n done keeper.new p }
-    ensures same { keeper.new ≡ record keeper.old { disk = keeper.new.disk; sealed = keeper.new.sealed; checkpoint = keeper.new.checkpoint; must_close = keeper.new.must_close; is_broken = keeper.new.is_broken } }
+    ensures any_moment { (n : ℕ) (done : List Command) (p : Record)
+        → Fits D.states D.honest n done keeper.old p → D.honest keeper.old.disk
+        → AtEachMoment D.states keeper.old.disk keeper.new.disk
+        (StopsFit (history_of p) keeper.old) }
+    ensures given { (sections : List Section) (w : CheckpointState)
+        → HasGiven keeper.old.checkpoint sections (now (D.states keeper.old.disk))
+        → keeper.new.checkpoint ≡ Some w
+        → OnOk result (HasGiven (Some w) sections (now (D.states keeper.new.disk))) }
+    ensures sealed { (n : ℕ) (done : List Command) (p : Record) (w : CheckpointState)
+        (sections : List Section) → Fits D.states D.honest n done keeper.old p
+        → D.honest keeper.new.disk → keeper.old.next ≡ None → keeper.old.checkpoint ≡ Some w
+        → w.phase ≡ CheckpointPhase.Opened
+        → HasGiven keeper.old.checkpoint sections (now (D.states keeper.old.disk))
+        → OnOk result (UsesCheckpoint (checkpoint_of w sections) (now (D.states keeper.new.disk))) }
+    ensures fits { (n : ℕ) (done : List Command) (p : Record)
+        → Fits D.states D.honest n done keeper.old p → Fits D.states D.honest n done keeper.new p }
+    ensures same { keeper.new ≡ record keeper.old {
+      disk = keeper.new.disk;
+      sealed = keeper.new.sealed;
+      checkpoint = keeper.new.checkpoint;
+      must_close = keeper.new.must_close;
+      is_broken = keeper.new.is_broken;
+    } }
 {
     steps_of_checkpoints();
     stops_of_a_store();
@@ -65,12 +87,24 @@ fn step<D: Disk>(
 ) -> Result<CheckpointPhase, Refusal>
     requires stands { MayAdvance D.states D.honest writer keeper.old.disk }
     requires works { (keeper.old.is_broken ≡ false) × (writer.is_broken ≡ false) }
-    ensures rests { call_in writer.phase writer ≡ None → (result ≡ Ok writer.phase) × (keeper.new ≡ record keeper.old { checkpoint = Some writer }) }
+    ensures rests { call_in writer.phase writer ≡ None
+        → (result ≡ Ok writer.phase)
+        × (keeper.new ≡ record keeper.old { checkpoint = Some writer }) }
     ensures advances { (call : Call) → call_in writer.phase writer ≡ Some call
-        → (after : CheckpointState) × Advances D.states D.failures D.honest call writer after keeper.old.disk keeper.new.disk result × KeepsAfter result writer.phase after (record (checkpoints_of keeper.old) { writer = Some writer }) (checkpoints_of keeper.new) }
+        → (after : CheckpointState)
+        × Advances D.states D.failures D.honest call writer after keeper.old.disk keeper.new.disk
+        result
+        × KeepsAfter result writer.phase after
+        (record (checkpoints_of keeper.old) { writer = Some writer }) (checkpoints_of keeper.new) }
     ensures ok { OnOk result (keeper.new.is_broken ≡ false) }
     ensures err { OnErr result (keeper.new.is_broken ≡ true) }
-    ensures same { keeper.new ≡ record keeper.old { disk = keeper.new.disk; sealed = keeper.new.sealed; checkpoint = keeper.new.checkpoint; must_close = keeper.new.must_close; is_broken = keeper.new.is_broken } }
+    ensures same { keeper.new ≡ record keeper.old {
+      disk = keeper.new.disk;
+      sealed = keeper.new.sealed;
+      checkpoint = keeper.new.checkpoint;
+      must_close = keeper.new.must_close;
+      is_broken = keeper.new.is_broken;
+    } }
 {
     let phase = writer.phase();
     match writer.advance(&mut keeper.disk) {

@@ -20,15 +20,25 @@ use store_states::laws::steps_of_checkpoints;
 /// one, the log of the checkpoint is begun with it, and the keeper's next six calls of `advance` write
 /// its header and end the newest one. It makes no device call and takes no memory.
 pub fn begin<D: Disk>(keeper: &mut Keeper<D>) -> Result<(), Refusal>
-    requires { (n : ℕ) × (done : List Command) × (p : Record) × Fits D.states D.honest n done keeper.old p }
+    requires { (n : ℕ) × (done : List Command) × (p : Record)
+        × Fits D.states D.honest n done keeper.old p }
     ensures failed { (result ≡ Err Refusal.Failed) ↔ (keeper.old.is_broken ≡ true) }
-    ensures wrong_phase { (result ≡ Err Refusal.WrongPhase) ↔ ((keeper.old.is_broken ≡ false) × (MayBegin keeper.old → ⊥)) }
-    ensures no_other { IfErr result (λ refusal. (refusal ≡ Refusal.Failed) ⊎ (refusal ≡ Refusal.WrongPhase)) }
+    ensures wrong_phase { (result ≡ Err Refusal.WrongPhase)
+        ↔ ((keeper.old.is_broken ≡ false) × (MayBegin keeper.old → ⊥)) }
+    ensures no_other { IfErr result (λ refusal. (refusal ≡ Refusal.Failed)
+        ⊎ (refusal ≡ Refusal.WrongPhase)) }
     ensures ok { OnOk result (Begins keeper.old keeper.new) }
-    ensures given { OnOk result ((n : ℕ) (done : List Command) (p : Record) → Fits D.states D.honest n done keeper.old p → D.honest keeper.old.disk → HasGiven keeper.new.checkpoint [] (now (D.states keeper.new.disk))) }
+    ensures given { OnOk result
+        ((n : ℕ) (done : List Command) (p : Record) → Fits D.states D.honest n done keeper.old p
+        → D.honest keeper.old.disk
+        → HasGiven keeper.new.checkpoint [] (now (D.states keeper.new.disk))) }
     ensures err { OnErr result (keeper.new ≡ keeper.old) }
-    ensures fits { (n : ℕ) (done : List Command) (p : Record) → Fits D.states D.honest n done keeper.old p → Fits D.states D.honest n done keeper.new p }
-    ensures same { keeper.new ≡ record keeper.old { next = keeper.new.next; checkpoint = keeper.new.checkpoint } }
+    ensures fits { (n : ℕ) (done : List Command) (p : Record)
+        → Fits D.states D.honest n done keeper.old p → Fits D.states D.honest n done keeper.new p }
+    ensures same { keeper.new ≡ record keeper.old {
+      next = keeper.new.next;
+      checkpoint = keeper.new.checkpoint;
+    } }
 {
     steps_of_checkpoints();
     if keeper.is_broken {
@@ -55,8 +65,10 @@ pub fn begin<D: Disk>(keeper: &mut Keeper<D>) -> Result<(), Refusal>
 // The writer of the checkpoint that follows the sealed one, whose log has this low ticket.
 fn writer_from<D: Disk>(keeper: &Keeper<D>, low: u64) -> CheckpointWriter
     requires { keeper.now.sealed + 1 < 2 ^ 64 }
-    ensures state { result ≡ begun (keeper.now.sealed + 1) low keeper.now.stripes.count keeper.now.must_close }
-    ensures stands { (old : List ℕ) → keeper.now.must_close ≡ is_to_close old → Stands result old [] (at_rest old) }
+    ensures state { result ≡ begun (keeper.now.sealed + 1) low keeper.now.stripes.count
+        keeper.now.must_close }
+    ensures stands { (old : List ℕ) → keeper.now.must_close ≡ is_to_close old
+        → Stands result old [] (at_rest old) }
 {
     let mut writer = CheckpointWriter::new(keeper.alloc);
     match writer.begin(keeper.sealed + 1, low, keeper.stripes, keeper.must_close) {

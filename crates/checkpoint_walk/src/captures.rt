@@ -31,17 +31,35 @@ pub fn capture_step<D: Disk, S: Steps>(
     stripe: usize,
     steps: &mut S,
 ) -> Result<Option<u64>, Refusal>
-    requires fits { (done : List Command) × FitsWalking D.states D.honest (S.stripe_count steps.old) done keeper.old (S.recorded steps.old) }
+    requires fits { (done : List Command)
+        × FitsWalking D.states D.honest (S.stripe_count steps.old) done keeper.old
+        (S.recorded steps.old) }
     requires rests { is_walking keeper.old.sweeper.walking ≡ false }
-    ensures failed { (result ≡ Err Refusal.Failed) ↔ ((keeper.old.capture ≡ None) × (keeper.old.is_broken ≡ true)) }
-    ensures wrong_phase { (result ≡ Err Refusal.WrongPhase) ↔ ((keeper.old.capture ≡ None) × (keeper.old.is_broken ≡ false) × (IsNextStripe stripe keeper.old.next keeper.old.checkpoint → ⊥)) }
-    ensures first { ((result ≡ Err Refusal.Failed) ⊎ (result ≡ Err Refusal.WrongPhase)) → (steps.new ≡ steps.old) × (keeper.new ≡ keeper.old) }
-    ensures one { (result ≢ Err Refusal.Failed) → (result ≢ Err Refusal.WrongPhase) → MakesOne S.recorded S.moves (kind_next (S.stripe_count steps.old) stripe keeper.old.capture) steps.old steps.new }
-    ensures after { AfterStep (S.stripe_count steps.old) stripe keeper.old.capture keeper.old keeper.new (S.recorded steps.old) (S.recorded steps.new) result }
-    ensures cause { (walk : TheWalk) → keeper.old.capture ≡ Some walk → IfErr result (IsCauseOf walk) }
-    ensures given { (done : List Command) (sections : List Section) → FitsWalking D.states D.honest (S.stripe_count steps.old) done keeper.old (S.recorded steps.old) → D.honest keeper.old.disk → HasGiven keeper.old.checkpoint sections (now (D.states keeper.old.disk))
-        → GivesPartIn D.states (S.stripe_count steps.old) (history_of (S.recorded steps.new)) result sections keeper.new }
-    ensures fits { (done : List Command) → FitsWalking D.states D.honest (S.stripe_count steps.old) done keeper.old (S.recorded steps.old) → FitsWalking D.states D.honest (S.stripe_count steps.new) done keeper.new (S.recorded steps.new) }
+    ensures failed { (result ≡ Err Refusal.Failed)
+        ↔ ((keeper.old.capture ≡ None) × (keeper.old.is_broken ≡ true)) }
+    ensures wrong_phase { (result ≡ Err Refusal.WrongPhase)
+        ↔ ((keeper.old.capture ≡ None) × (keeper.old.is_broken ≡ false)
+        × (IsNextStripe stripe keeper.old.next keeper.old.checkpoint → ⊥)) }
+    ensures first { ((result ≡ Err Refusal.Failed) ⊎ (result ≡ Err Refusal.WrongPhase))
+        → (steps.new ≡ steps.old) × (keeper.new ≡ keeper.old) }
+    ensures one { (result ≢ Err Refusal.Failed) → (result ≢ Err Refusal.WrongPhase)
+        → MakesOne S.recorded S.moves
+        (kind_next (S.stripe_count steps.old) stripe keeper.old.capture) steps.old steps.new }
+    ensures after { AfterStep (S.stripe_count steps.old) stripe keeper.old.capture keeper.old
+        keeper.new (S.recorded steps.old) (S.recorded steps.new) result }
+    ensures cause { (walk : TheWalk) → keeper.old.capture ≡ Some walk
+        → IfErr result (IsCauseOf walk) }
+    ensures given { (done : List Command) (sections : List Section)
+        → FitsWalking D.states D.honest (S.stripe_count steps.old) done keeper.old
+        (S.recorded steps.old) → D.honest keeper.old.disk
+        → HasGiven keeper.old.checkpoint sections (now (D.states keeper.old.disk))
+        → GivesPartIn D.states (S.stripe_count steps.old) (history_of (S.recorded steps.new)) result
+        sections keeper.new }
+    ensures fits { (done : List Command)
+        → FitsWalking D.states D.honest (S.stripe_count steps.old) done keeper.old
+        (S.recorded steps.old)
+        → FitsWalking D.states D.honest (S.stripe_count steps.new) done keeper.new
+        (S.recorded steps.new) }
     ensures place { S.place steps.new ≡ S.place steps.old }
     ensures stripes { S.stripe_count steps.new ≡ S.stripe_count steps.old }
 {
@@ -59,15 +77,24 @@ fn take<D: Disk, S: Steps>(
     stripe: usize,
     steps: &mut S,
 ) -> Result<Option<u64>, Refusal>
-    requires fits { (done : List Command) × Fits D.states D.honest (S.stripe_count steps.old) done keeper.old (S.recorded steps.old) }
+    requires fits { (done : List Command)
+        × Fits D.states D.honest (S.stripe_count steps.old) done keeper.old (S.recorded steps.old) }
     requires rests { is_walking keeper.old.sweeper.walking ≡ false }
     requires over { keeper.old.capture ≡ None }
     ensures failed { (result ≡ Err Refusal.Failed) ↔ (keeper.old.is_broken ≡ true) }
-    ensures wrong_phase { (result ≡ Err Refusal.WrongPhase) ↔ ((keeper.old.is_broken ≡ false) × (IsNextStripe stripe keeper.old.next keeper.old.checkpoint → ⊥)) }
-    ensures first { ((result ≡ Err Refusal.Failed) ⊎ (result ≡ Err Refusal.WrongPhase)) → (steps.new ≡ steps.old) × (keeper.new ≡ keeper.old) }
-    ensures one { (result ≢ Err Refusal.Failed) → (result ≢ Err Refusal.WrongPhase) → MakesOne S.recorded S.moves (Take stripe) steps.old steps.new }
-    ensures after { AfterTake (S.stripe_count steps.old) stripe keeper.old keeper.new (S.recorded steps.old) (S.recorded steps.new) result }
-    ensures fits { (done : List Command) → Fits D.states D.honest (S.stripe_count steps.old) done keeper.old (S.recorded steps.old) → FitsWalking D.states D.honest (S.stripe_count steps.new) done keeper.new (S.recorded steps.new) }
+    ensures wrong_phase { (result ≡ Err Refusal.WrongPhase)
+        ↔ ((keeper.old.is_broken ≡ false)
+        × (IsNextStripe stripe keeper.old.next keeper.old.checkpoint → ⊥)) }
+    ensures first { ((result ≡ Err Refusal.Failed) ⊎ (result ≡ Err Refusal.WrongPhase))
+        → (steps.new ≡ steps.old) × (keeper.new ≡ keeper.old) }
+    ensures one { (result ≢ Err Refusal.Failed) → (result ≢ Err Refusal.WrongPhase)
+        → MakesOne S.recorded S.moves (Take stripe) steps.old steps.new }
+    ensures after { AfterTake (S.stripe_count steps.old) stripe keeper.old keeper.new
+        (S.recorded steps.old) (S.recorded steps.new) result }
+    ensures fits { (done : List Command)
+        → Fits D.states D.honest (S.stripe_count steps.old) done keeper.old (S.recorded steps.old)
+        → FitsWalking D.states D.honest (S.stripe_count steps.new) done keeper.new
+        (S.recorded steps.new) }
     ensures place { S.place steps.new ≡ S.place steps.old }
     ensures stripes { S.stripe_count steps.new ≡ S.stripe_count steps.old }
 {
@@ -92,10 +119,14 @@ fn go_on<D: Disk, S: Steps>(
     steps: &mut S,
 ) -> Result<Option<u64>, Refusal>
     requires next { (stripe : ℕ) × IsNextStripe stripe keeper.old.next keeper.old.checkpoint }
-    requires walked { (b : Record) × (i : ℕ) × (HasTaken (S.stripe_count steps.old) b i walk (S.recorded steps.old) ⊎ HasLooked (S.stripe_count steps.old) b i walk (S.recorded steps.old)) }
+    requires walked { (b : Record) × (i : ℕ)
+        × (HasTaken (S.stripe_count steps.old) b i walk (S.recorded steps.old)
+        ⊎ HasLooked (S.stripe_count steps.old) b i walk (S.recorded steps.old)) }
     requires over { keeper.old.capture ≡ None }
-    ensures one { MakesOne S.recorded S.moves (next_kind (S.stripe_count steps.old) walk) steps.old steps.new }
-    ensures after { AfterWalk (S.stripe_count steps.old) walk keeper.old keeper.new (S.recorded steps.old) (S.recorded steps.new) result }
+    ensures one { MakesOne S.recorded S.moves (next_kind (S.stripe_count steps.old) walk) steps.old
+        steps.new }
+    ensures after { AfterWalk (S.stripe_count steps.old) walk keeper.old keeper.new
+        (S.recorded steps.old) (S.recorded steps.new) result }
     ensures cause { IfErr result (IsCauseOf walk) }
     ensures place { S.place steps.new ≡ S.place steps.old }
     ensures stripes { S.stripe_count steps.new ≡ S.stripe_count steps.old }
@@ -125,17 +156,32 @@ pub fn try_capture<D: Disk, S: Steps>(
     stripe: usize,
     steps: &mut S,
 ) -> Result<u64, Refusal>
-    requires fits { (done : List Command) × Fits D.states D.honest (S.stripe_count steps.old) done keeper.old (S.recorded steps.old) }
+    requires fits { (done : List Command)
+        × Fits D.states D.honest (S.stripe_count steps.old) done keeper.old (S.recorded steps.old) }
     requires rests { is_walking keeper.old.sweeper.walking ≡ false }
     requires over { keeper.old.capture ≡ None }
     ensures failed { (result ≡ Err Refusal.Failed) ↔ (keeper.old.is_broken ≡ true) }
-    ensures wrong_phase { (result ≡ Err Refusal.WrongPhase) ↔ ((keeper.old.is_broken ≡ false) × (IsNextStripe stripe keeper.old.next keeper.old.checkpoint → ⊥)) }
-    ensures first { ((result ≡ Err Refusal.Failed) ⊎ (result ≡ Err Refusal.WrongPhase)) → (steps.new ≡ steps.old) × (keeper.new ≡ keeper.old) }
-    ensures ok { IfOk result (λ mark. GivesSection (S.stripe_count steps.old) (S.recorded steps.old) stripe mark keeper.old keeper.new (S.recorded steps.new)) }
-    ensures err { IfErr result (λ refusal. AfterRefusal stripe keeper.old keeper.new (S.recorded steps.old) (S.recorded steps.new) refusal) }
-    ensures given { (done : List Command) (sections : List Section) → Fits D.states D.honest (S.stripe_count steps.old) done keeper.old (S.recorded steps.old) → D.honest keeper.old.disk → HasGiven keeper.old.checkpoint sections (now (D.states keeper.old.disk))
-        → IfOk result (λ mark. GivesPart D.states (S.stripe_count steps.old) (history_of (S.recorded steps.new)) mark sections keeper.new) }
-    ensures fits { (done : List Command) → Fits D.states D.honest (S.stripe_count steps.old) done keeper.old (S.recorded steps.old) → Fits D.states D.honest (S.stripe_count steps.new) done keeper.new (S.recorded steps.new) }
+    ensures wrong_phase { (result ≡ Err Refusal.WrongPhase)
+        ↔ ((keeper.old.is_broken ≡ false)
+        × (IsNextStripe stripe keeper.old.next keeper.old.checkpoint → ⊥)) }
+    ensures first { ((result ≡ Err Refusal.Failed) ⊎ (result ≡ Err Refusal.WrongPhase))
+        → (steps.new ≡ steps.old) × (keeper.new ≡ keeper.old) }
+    ensures ok { IfOk result (λ mark.
+        GivesSection (S.stripe_count steps.old) (S.recorded steps.old) stripe mark keeper.old
+        keeper.new (S.recorded steps.new)) }
+    ensures err { IfErr result (λ refusal.
+        AfterRefusal stripe keeper.old keeper.new (S.recorded steps.old) (S.recorded steps.new)
+        refusal) }
+    ensures given { (done : List Command) (sections : List Section)
+        → Fits D.states D.honest (S.stripe_count steps.old) done keeper.old (S.recorded steps.old)
+        → D.honest keeper.old.disk
+        → HasGiven keeper.old.checkpoint sections (now (D.states keeper.old.disk))
+        → IfOk result (λ mark.
+        GivesPart D.states (S.stripe_count steps.old) (history_of (S.recorded steps.new)) mark
+        sections keeper.new) }
+    ensures fits { (done : List Command)
+        → Fits D.states D.honest (S.stripe_count steps.old) done keeper.old (S.recorded steps.old)
+        → Fits D.states D.honest (S.stripe_count steps.new) done keeper.new (S.recorded steps.new) }
     ensures place { S.place steps.new ≡ S.place steps.old }
     ensures stripes { S.stripe_count steps.new ≡ S.stripe_count steps.old }
 {
@@ -159,17 +205,32 @@ pub fn capture<D: Disk, R: Wait, S: Steps>(
     stripe: usize,
     steps: &mut S,
 ) -> Result<u64, Refusal>
-    requires fits { (done : List Command) × Fits D.states D.honest (S.stripe_count steps.old) done keeper.old (S.recorded steps.old) }
+    requires fits { (done : List Command)
+        × Fits D.states D.honest (S.stripe_count steps.old) done keeper.old (S.recorded steps.old) }
     requires rests { is_walking keeper.old.sweeper.walking ≡ false }
     requires over { keeper.old.capture ≡ None }
     ensures failed { (result ≡ Err Refusal.Failed) ↔ (keeper.old.is_broken ≡ true) }
-    ensures wrong_phase { (result ≡ Err Refusal.WrongPhase) ↔ ((keeper.old.is_broken ≡ false) × (IsNextStripe stripe keeper.old.next keeper.old.checkpoint → ⊥)) }
-    ensures first { ((result ≡ Err Refusal.Failed) ⊎ (result ≡ Err Refusal.WrongPhase)) → (steps.new ≡ steps.old) × (keeper.new ≡ keeper.old) }
-    ensures ok { IfOk result (λ mark. GivesWaiting (S.stripe_count steps.old) (S.recorded steps.old) stripe mark keeper.old keeper.new (S.recorded steps.new)) }
-    ensures err { IfErr result (λ refusal. AfterWaiting stripe keeper.old keeper.new (S.recorded steps.old) (S.recorded steps.new) refusal) }
-    ensures given { (done : List Command) (sections : List Section) → Fits D.states D.honest (S.stripe_count steps.old) done keeper.old (S.recorded steps.old) → D.honest keeper.old.disk → HasGiven keeper.old.checkpoint sections (now (D.states keeper.old.disk))
-        → IfOk result (λ mark. GivesPart D.states (S.stripe_count steps.old) (history_of (S.recorded steps.new)) mark sections keeper.new) }
-    ensures fits { (done : List Command) → Fits D.states D.honest (S.stripe_count steps.old) done keeper.old (S.recorded steps.old) → Fits D.states D.honest (S.stripe_count steps.new) done keeper.new (S.recorded steps.new) }
+    ensures wrong_phase { (result ≡ Err Refusal.WrongPhase)
+        ↔ ((keeper.old.is_broken ≡ false)
+        × (IsNextStripe stripe keeper.old.next keeper.old.checkpoint → ⊥)) }
+    ensures first { ((result ≡ Err Refusal.Failed) ⊎ (result ≡ Err Refusal.WrongPhase))
+        → (steps.new ≡ steps.old) × (keeper.new ≡ keeper.old) }
+    ensures ok { IfOk result (λ mark.
+        GivesWaiting (S.stripe_count steps.old) (S.recorded steps.old) stripe mark keeper.old
+        keeper.new (S.recorded steps.new)) }
+    ensures err { IfErr result (λ refusal.
+        AfterWaiting stripe keeper.old keeper.new (S.recorded steps.old) (S.recorded steps.new)
+        refusal) }
+    ensures given { (done : List Command) (sections : List Section)
+        → Fits D.states D.honest (S.stripe_count steps.old) done keeper.old (S.recorded steps.old)
+        → D.honest keeper.old.disk
+        → HasGiven keeper.old.checkpoint sections (now (D.states keeper.old.disk))
+        → IfOk result (λ mark.
+        GivesPart D.states (S.stripe_count steps.old) (history_of (S.recorded steps.new)) mark
+        sections keeper.new) }
+    ensures fits { (done : List Command)
+        → Fits D.states D.honest (S.stripe_count steps.old) done keeper.old (S.recorded steps.old)
+        → Fits D.states D.honest (S.stripe_count steps.new) done keeper.new (S.recorded steps.new) }
     ensures place { S.place steps.new ≡ S.place steps.old }
     ensures stripes { S.stripe_count steps.new ≡ S.stripe_count steps.old }
 {

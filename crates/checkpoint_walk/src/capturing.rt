@@ -15,7 +15,9 @@ pub(crate) fn hold<S: Steps>(alloc: Global, stripe: usize, steps: &mut S) -> Opt
     requires free { (S.recorded steps.old).holding ≡ None }
     requires within { stripe < S.stripe_count steps.old }
     ensures one { MakesOne S.recorded S.moves (Take stripe) steps.old steps.new }
-    ensures some { IfSome result (λ walk. HasTaken (S.stripe_count steps.old) (S.recorded steps.old) stripe walk (S.recorded steps.new)) }
+    ensures some { IfSome result (λ walk.
+        HasTaken (S.stripe_count steps.old) (S.recorded steps.old) stripe walk
+        (S.recorded steps.new)) }
     ensures none { IfNone result (S.recorded steps.new ≡ missing (S.recorded steps.old) stripe) }
     ensures place { S.place steps.new ≡ S.place steps.old }
     ensures stripes { S.stripe_count steps.new ≡ S.stripe_count steps.old }
@@ -32,9 +34,12 @@ pub(crate) fn hold<S: Steps>(alloc: Global, stripe: usize, steps: &mut S) -> Opt
 // LOOK, and then the entries of the stripe are copied. The walk has then only its GIVE left, which
 // hands out what was copied, or puts the stripe back.
 pub(crate) fn look<S: Steps>(walk: Walk, steps: &mut S) -> Walk
-    requires { (b : Record) × (i : ℕ) × HasTaken (S.stripe_count steps.old) b i walk (S.recorded steps.old) }
+    requires { (b : Record) × (i : ℕ)
+        × HasTaken (S.stripe_count steps.old) b i walk (S.recorded steps.old) }
     ensures one { MakesOne S.recorded S.moves Look steps.old steps.new }
-    ensures looked { (b : Record) (i : ℕ) → HasTaken (S.stripe_count steps.old) b i walk (S.recorded steps.old) → HasLooked (S.stripe_count steps.old) b i result (S.recorded steps.new) }
+    ensures looked { (b : Record) (i : ℕ)
+        → HasTaken (S.stripe_count steps.old) b i walk (S.recorded steps.old)
+        → HasLooked (S.stripe_count steps.old) b i result (S.recorded steps.new) }
     ensures place { S.place steps.new ≡ S.place steps.old }
     ensures stripes { S.stripe_count steps.new ≡ S.stripe_count steps.old }
 {
@@ -50,12 +55,21 @@ pub(crate) fn look<S: Steps>(walk: Walk, steps: &mut S) -> Walk
 
 // GIVE: what was copied, or the refusal for which the stripe is put back.
 pub(crate) fn hand_out<S: Steps>(walk: Walk, steps: &mut S) -> Result<Captured, Refusal>
-    requires { (b : Record) × (i : ℕ) × HasLooked (S.stripe_count steps.old) b i walk (S.recorded steps.old) }
-    ensures one { (b : Record) (i : ℕ) → HasLooked (S.stripe_count steps.old) b i walk (S.recorded steps.old) → MakesOne S.recorded S.moves (Give i) steps.old steps.new }
-    ensures captured { IfOk result (λ z. (captured_of_walk walk ≡ Some z) × (refusal_of_walk walk ≡ None)) }
-    ensures ok { IfOk result (λ z. (b : Record) (i : ℕ) → HasLooked (S.stripe_count steps.old) b i walk (S.recorded steps.old) → CapturesStripe (S.stripe_count steps.old) b i z.mark z.entries.items (S.recorded steps.new)) }
+    requires { (b : Record) × (i : ℕ)
+        × HasLooked (S.stripe_count steps.old) b i walk (S.recorded steps.old) }
+    ensures one { (b : Record) (i : ℕ)
+        → HasLooked (S.stripe_count steps.old) b i walk (S.recorded steps.old)
+        → MakesOne S.recorded S.moves (Give i) steps.old steps.new }
+    ensures captured { IfOk result (λ z. (captured_of_walk walk ≡ Some z)
+        × (refusal_of_walk walk ≡ None)) }
+    ensures ok { IfOk result (λ z. (b : Record) (i : ℕ)
+        → HasLooked (S.stripe_count steps.old) b i walk (S.recorded steps.old)
+        → CapturesStripe (S.stripe_count steps.old) b i z.mark z.entries.items
+        (S.recorded steps.new)) }
     ensures refused { IfErr result (λ refusal. refusal_of_walk walk ≡ Some refusal) }
-    ensures err { IfErr result (λ refusal. (b : Record) (i : ℕ) → HasLooked (S.stripe_count steps.old) b i walk (S.recorded steps.old) → RefusesCapture b i refusal (S.recorded steps.new)) }
+    ensures err { IfErr result (λ refusal. (b : Record) (i : ℕ)
+        → HasLooked (S.stripe_count steps.old) b i walk (S.recorded steps.old)
+        → RefusesCapture b i refusal (S.recorded steps.new)) }
     ensures place { S.place steps.new ≡ S.place steps.old }
     ensures stripes { S.stripe_count steps.new ≡ S.stripe_count steps.old }
 {

@@ -14,7 +14,9 @@ use store_layout::laws::laws_of_found;
 /// Whatever a stop leaves of the four files stands for a front of the history that the keeper's pass has
 /// seen, with the committed commands and no more than the staged ones besides.
 pub fn stops_while_capturing<D: Disk>(keeper: &Keeper<D>)
-    ensures { (n : ℕ) (done : List Command) (p : Record) → FitsWalking D.states D.honest n done keeper.now p → D.honest keeper.now.disk → StopsFit (history_of p) keeper.now (now (D.states keeper.now.disk)) }
+    ensures { (n : ℕ) (done : List Command) (p : Record)
+        → FitsWalking D.states D.honest n done keeper.now p → D.honest keeper.now.disk
+        → StopsFit (history_of p) keeper.now (now (D.states keeper.now.disk)) }
 {
     stops_of_a_keeper(keeper);
     laws_of_found();

@@ -20,15 +20,24 @@ use store_states::laws::steps_of_checkpoints;
 /// that was last published has reached the greatest of their marks. Until then it may be tried again.
 /// It makes no device call.
 pub fn seal<D: Disk>(keeper: &mut Keeper<D>) -> Result<(), Refusal>
-    requires { (n : ℕ) × (done : List Command) × (p : Record) × Fits D.states D.honest n done keeper.old p }
+    requires { (n : ℕ) × (done : List Command) × (p : Record)
+        × Fits D.states D.honest n done keeper.old p }
     ensures failed { (result ≡ Err Refusal.Failed) ↔ (keeper.old.is_broken ≡ true) }
-    ensures wrong_phase { (result ≡ Err Refusal.WrongPhase) ↔ ((keeper.old.is_broken ≡ false) × (HasAllSections keeper.old.checkpoint → ⊥)) }
-    ensures early { (result ≡ Err Refusal.TooEarly) ↔ ((keeper.old.is_broken ≡ false) × HasAllSections keeper.old.checkpoint × IsMarkedAbove keeper.old.published keeper.old.checkpoint) }
-    ensures no_other { IfErr result (λ refusal. (refusal ≡ Refusal.Failed) ⊎ (refusal ≡ Refusal.WrongPhase) ⊎ (refusal ≡ Refusal.TooEarly)) }
-    ensures ok { OnOk result (keeper.new ≡ record keeper.old { checkpoint = sealing keeper.old.checkpoint }) }
-    ensures given { (sections : List Section) → HasGiven keeper.old.checkpoint sections (now (D.states keeper.old.disk)) → HasGiven keeper.new.checkpoint sections (now (D.states keeper.new.disk)) }
+    ensures wrong_phase { (result ≡ Err Refusal.WrongPhase)
+        ↔ ((keeper.old.is_broken ≡ false) × (HasAllSections keeper.old.checkpoint → ⊥)) }
+    ensures early { (result ≡ Err Refusal.TooEarly)
+        ↔ ((keeper.old.is_broken ≡ false) × HasAllSections keeper.old.checkpoint
+        × IsMarkedAbove keeper.old.published keeper.old.checkpoint) }
+    ensures no_other { IfErr result (λ refusal. (refusal ≡ Refusal.Failed)
+        ⊎ (refusal ≡ Refusal.WrongPhase) ⊎ (refusal ≡ Refusal.TooEarly)) }
+    ensures ok { OnOk result
+        (keeper.new ≡ record keeper.old { checkpoint = sealing keeper.old.checkpoint }) }
+    ensures given { (sections : List Section)
+        → HasGiven keeper.old.checkpoint sections (now (D.states keeper.old.disk))
+        → HasGiven keeper.new.checkpoint sections (now (D.states keeper.new.disk)) }
     ensures err { OnErr result (keeper.new ≡ keeper.old) }
-    ensures fits { (n : ℕ) (done : List Command) (p : Record) → Fits D.states D.honest n done keeper.old p → Fits D.states D.honest n done keeper.new p }
+    ensures fits { (n : ℕ) (done : List Command) (p : Record)
+        → Fits D.states D.honest n done keeper.old p → Fits D.states D.honest n done keeper.new p }
 {
     steps_of_checkpoints();
     if keeper.is_broken {
@@ -43,11 +52,16 @@ pub fn seal<D: Disk>(keeper: &mut Keeper<D>) -> Result<(), Refusal>
 // The same, where this many commands are published.
 fn seal_by(writer: &mut CheckpointWriter, published: u64) -> Result<(), Refusal>
     ensures wrong_phase { (result ≡ Err Refusal.WrongPhase) ↔ (TakesSeal writer.old → ⊥) }
-    ensures early { (result ≡ Err Refusal.TooEarly) ↔ (TakesSeal writer.old × (published < writer.old.greatest)) }
-    ensures no_other { IfErr result (λ refusal. (refusal ≡ Refusal.WrongPhase) ⊎ (refusal ≡ Refusal.TooEarly)) }
+    ensures early { (result ≡ Err Refusal.TooEarly)
+        ↔ (TakesSeal writer.old × (published < writer.old.greatest)) }
+    ensures no_other { IfErr result (λ refusal. (refusal ≡ Refusal.WrongPhase)
+        ⊎ (refusal ≡ Refusal.TooEarly)) }
     ensures ok { OnOk result (writer.new ≡ record writer.old { phase = CheckpointPhase.Header }) }
     ensures reached { OnOk result (writer.old.greatest ≤ published) }
-    ensures stands { OnOk result ((old : List ℕ) (sections : List Section) (file : File) → checkpoint.Stands writer.old old sections file → checkpoint.Stands writer.new old sections file) }
+    ensures stands { OnOk result
+        ((old : List ℕ) (sections : List Section) (file : File)
+        → checkpoint.Stands writer.old old sections file
+        → checkpoint.Stands writer.new old sections file) }
     ensures err { OnErr result (writer.new ≡ writer.old) }
 {
     if writer.phase() != CheckpointPhase::Ready

@@ -30,9 +30,14 @@ pub(crate) fn is_next<D: Disk>(keeper: &Keeper<D>, stripe: usize) -> bool
 // The refusals that come before the first step of a capture.
 pub(crate) fn check<D: Disk>(keeper: &Keeper<D>, stripe: usize) -> Result<(), Refusal>
     ensures failed { (result ≡ Err Refusal.Failed) ↔ (keeper.now.is_broken ≡ true) }
-    ensures wrong_phase { (result ≡ Err Refusal.WrongPhase) ↔ ((keeper.now.is_broken ≡ false) × (IsNextStripe stripe keeper.now.next keeper.now.checkpoint → ⊥)) }
-    ensures ok { OnOk result ((keeper.now.is_broken ≡ false) × IsNextStripe stripe keeper.now.next keeper.now.checkpoint) }
-    ensures no_other { IfErr result (λ refusal. (refusal ≡ Refusal.Failed) ⊎ (refusal ≡ Refusal.WrongPhase)) }
+    ensures wrong_phase { (result ≡ Err Refusal.WrongPhase)
+        ↔ ((keeper.now.is_broken ≡ false)
+        × (IsNextStripe stripe keeper.now.next keeper.now.checkpoint → ⊥)) }
+    ensures ok { OnOk result
+        ((keeper.now.is_broken ≡ false)
+        × IsNextStripe stripe keeper.now.next keeper.now.checkpoint) }
+    ensures no_other { IfErr result (λ refusal. (refusal ≡ Refusal.Failed)
+        ⊎ (refusal ≡ Refusal.WrongPhase)) }
 {
     if keeper.is_broken {
         return Err(Refusal::Failed);
@@ -66,11 +71,19 @@ pub(crate) fn give<D: Disk, S: Steps>(
     steps: &mut S,
 ) -> Result<u64, Refusal>
     requires next { (stripe : ℕ) × IsNextStripe stripe keeper.old.next keeper.old.checkpoint }
-    requires looked { (b : Record) × (i : ℕ) × HasLooked (S.stripe_count steps.old) b i walk (S.recorded steps.old) }
+    requires looked { (b : Record) × (i : ℕ)
+        × HasLooked (S.stripe_count steps.old) b i walk (S.recorded steps.old) }
     requires over { keeper.old.capture ≡ None }
-    ensures one { (b : Record) (i : ℕ) → HasLooked (S.stripe_count steps.old) b i walk (S.recorded steps.old) → MakesOne S.recorded S.moves (Give i) steps.old steps.new }
-    ensures given { IfOk result (λ mark. (b : Record) (i : ℕ) → HasLooked (S.stripe_count steps.old) b i walk (S.recorded steps.old) → GivesSection (S.stripe_count steps.old) b i mark keeper.old keeper.new (S.recorded steps.new)) }
-    ensures back { IfErr result (λ refusal. (b : Record) (i : ℕ) → HasLooked (S.stripe_count steps.old) b i walk (S.recorded steps.old) → PutsBack b i refusal keeper.old keeper.new (S.recorded steps.new)) }
+    ensures one { (b : Record) (i : ℕ)
+        → HasLooked (S.stripe_count steps.old) b i walk (S.recorded steps.old)
+        → MakesOne S.recorded S.moves (Give i) steps.old steps.new }
+    ensures given { IfOk result (λ mark. (b : Record) (i : ℕ)
+        → HasLooked (S.stripe_count steps.old) b i walk (S.recorded steps.old)
+        → GivesSection (S.stripe_count steps.old) b i mark keeper.old keeper.new
+        (S.recorded steps.new)) }
+    ensures back { IfErr result (λ refusal. (b : Record) (i : ℕ)
+        → HasLooked (S.stripe_count steps.old) b i walk (S.recorded steps.old)
+        → PutsBack b i refusal keeper.old keeper.new (S.recorded steps.new)) }
     ensures cause { IfErr result (IsCauseOf walk) }
     ensures place { S.place steps.new ≡ S.place steps.old }
     ensures stripes { S.stripe_count steps.new ≡ S.stripe_count steps.old }

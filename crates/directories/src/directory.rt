@@ -19,7 +19,8 @@ pub fn init_disk<D: Disk, W: Write, E: Write>(
     output: &mut W,
     error: &mut E,
 ) -> u8
-    ensures { Formats D.states D.failures D.honest stripes.count disk.old disk.new (W.contents output.old) (W.contents output.new) result }
+    ensures { Formats D.states D.failures D.honest stripes.count disk.old disk.new
+        (W.contents output.old) (W.contents output.new) result }
 {
     let count = stripes.get();
     let Ok(line) = format!(in alloc; "formatted {count}\n") else {
@@ -38,7 +39,8 @@ pub fn check_disk<D: Disk, W: Write, E: Write>(
     output: &mut W,
     error: &mut E,
 ) -> (D, u8)
-    ensures { Checks D.states D.failures D.honest disk result.0 (W.contents output.old) (W.contents output.new) result.1 }
+    ensures { Checks D.states D.failures D.honest disk result.0 (W.contents output.old)
+        (W.contents output.new) result.1 }
 {
     match summarize(alloc, disk) {
         Ok((disk, summary)) => match summary.text(alloc) {
@@ -58,7 +60,8 @@ pub fn init<M: Directories, W: Write, E: Write>(
     output: &mut W,
     error: &mut E,
 ) -> u8
-    ensures { Inits M.Opened.states M.Opened.failures M.Opened.honest M.is_opened directory.now stripes.now (W.contents output.old) (W.contents output.new) result }
+    ensures { Inits M.Opened.states M.Opened.failures M.Opened.honest M.is_opened directory.now
+        stripes.now (W.contents output.old) (W.contents output.new) result }
 {
     let Some(stripes) = stripes_named(stripes) else {
         say(error, "S is a power of two from 1 to 256\n");
@@ -78,7 +81,8 @@ pub fn check<M: Directories, W: Write, E: Write>(
     output: &mut W,
     error: &mut E,
 ) -> u8
-    ensures { Inspects M.Opened.states M.Opened.failures M.Opened.honest M.is_opened directory.now (W.contents output.old) (W.contents output.new) result }
+    ensures { Inspects M.Opened.states M.Opened.failures M.Opened.honest M.is_opened directory.now
+        (W.contents output.old) (W.contents output.new) result }
 {
     match machine.open_files(alloc, directory) {
         Ok(disk) => {

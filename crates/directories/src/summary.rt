@@ -96,8 +96,12 @@ fn count<D: Disk>(alloc: Global, disk: D) -> Result<(D, Counts), (D, Refusal)>
 // The number of stripes of the checkpoint of this generation.
 fn stripes_of<D: Disk>(alloc: Global, disk: &mut D, generation: u64) -> Result<usize, Refusal>
     ensures looks { Looks D.states D.failures D.honest (failed_in result) disk.old disk.new }
-    ensures ok { D.honest disk.new → (found : Opened) → found.checkpoint.generation ≡ generation → Holds (contents_of D.states disk.old) found → IfOk result (λ stripes. stripes ≡ found.checkpoint.stripes) }
-    ensures err { D.honest disk.new → (found : Opened) → found.checkpoint.generation ≡ generation → Holds (contents_of D.states disk.old) found → IfErr result (λ refusal. (refusal ≡ Refusal.Failed) ⊎ (refusal ≡ Refusal.NoMemory)) }
+    ensures ok { D.honest disk.new → (found : Opened) → found.checkpoint.generation ≡ generation
+        → Holds (contents_of D.states disk.old) found
+        → IfOk result (λ stripes. stripes ≡ found.checkpoint.stripes) }
+    ensures err { D.honest disk.new → (found : Opened) → found.checkpoint.generation ≡ generation
+        → Holds (contents_of D.states disk.old) found
+        → IfErr result (λ refusal. (refusal ≡ Refusal.Failed) ⊎ (refusal ≡ Refusal.NoMemory)) }
 {
     let file = (generation % 2) as usize;
     match load(alloc, disk, file)? {

@@ -24,7 +24,8 @@ pub trait Disk {
     /// How many bytes the file has.
     fn len(&mut self, file: usize) -> Result<usize, DeviceError>
         requires { file < 4 }
-        ensures length { honest self.new → IfOk result (λ n. n ≡ length (now (states self.old) file).seen) }
+        ensures length { honest self.new → IfOk result (λ n. n ≡ length
+            (now (states self.old) file).seen) }
         ensures state { states self.new ≡ now (states self.old) ∷ states self.old }
         ensures was_honest { honest self.new → honest self.old }
         ensures ok { OnOk result (failures self.new ≡ failures self.old) }
@@ -34,8 +35,10 @@ pub trait Disk {
     fn read(&mut self, file: usize, at: usize, buf: &mut [u8]) -> Result<usize, DeviceError>
         requires { file < 4 }
         ensures within { IfOk result (λ n. n ≤ length buf.old) }
-        ensures count { honest self.new → IfOk result (λ n. n ≡ min (length buf.old) (length (now (states self.old) file).seen - at)) }
-        ensures bytes { honest self.new → IfOk result (λ n. take n buf.new ≡ take n (drop at (now (states self.old) file).seen)) }
+        ensures count { honest self.new → IfOk result (λ n. n ≡ min (length buf.old)
+            (length (now (states self.old) file).seen - at)) }
+        ensures bytes { honest self.new → IfOk result (λ n. take n buf.new
+            ≡ take n (drop at (now (states self.old) file).seen)) }
         ensures state { states self.new ≡ now (states self.old) ∷ states self.old }
         ensures was_honest { honest self.new → honest self.old }
         ensures ok { OnOk result (failures self.new ≡ failures self.old) }
@@ -46,10 +49,13 @@ pub trait Disk {
     fn write_at(&mut self, file: usize, at: usize, bytes: &[u8]) -> Result<(), DeviceError>
         requires file { file < 4 }
         requires place { honest self.old → at ≤ length (now (states self.old) file).seen }
-        ensures written { OnOk result (states self.new
-            ≡ with_file file (written at bytes.now (now (states self.old) file)) (now (states self.old)) ∷ states self.old) }
-        ensures torn { OnErr result ((left : File)
-            × (at ≤ length (now (states self.old) file).seen → IsTorn at (length bytes.now) (now (states self.old) file) left)
+        ensures written { OnOk result
+            (states self.new ≡ with_file file (written at bytes.now (now (states self.old) file))
+            (now (states self.old)) ∷ states self.old) }
+        ensures torn { OnErr result
+            ((left : File)
+            × (at ≤ length (now (states self.old) file).seen
+            → IsTorn at (length bytes.now) (now (states self.old) file) left)
             × (states self.new ≡ with_file file left (now (states self.old)) ∷ states self.old)) }
         ensures was_honest { honest self.new → honest self.old }
         ensures ok { OnOk result (failures self.new ≡ failures self.old) }
@@ -59,8 +65,9 @@ pub trait Disk {
     /// pending still is.
     fn sync(&mut self, file: usize) -> Result<(), DeviceError>
         requires { file < 4 }
-        ensures synced { OnOk result (states self.new
-            ≡ with_file file (synced (now (states self.old) file)) (now (states self.old)) ∷ states self.old) }
+        ensures synced { OnOk result
+            (states self.new ≡ with_file file (synced (now (states self.old) file))
+            (now (states self.old)) ∷ states self.old) }
         ensures same { OnErr result (states self.new ≡ now (states self.old) ∷ states self.old) }
         ensures was_honest { honest self.new → honest self.old }
         ensures ok { OnOk result (failures self.new ≡ failures self.old) }

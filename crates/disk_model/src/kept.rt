@@ -58,7 +58,8 @@ impl Kept {
 
     // Notes that a write of this many bytes was made there.
     pub(crate) fn touch(&mut self, at: usize, size: usize)
-        ensures kept { (file : File) → IsKept self.old file → IsKept self.new (reached at size file.seen file) }
+        ensures kept { (file : File) → IsKept self.old file
+            → IsKept self.new (reached at size file.seen file) }
         ensures seen { self.new.seen ≡ self.old.seen }
         ensures clean { self.new.clean ≤ at }
     {
@@ -69,7 +70,8 @@ impl Kept {
 
     pub(crate) fn write(&mut self, at: usize, bytes: &[u8]) -> Result<(), AllocError>
         requires { at ≤ length self.old.seen.items }
-        ensures ok { OnOk result ((file : File) → IsKept self.old file → IsKept self.new (written at bytes.now file)) }
+        ensures ok { OnOk result
+            ((file : File) → IsKept self.old file → IsKept self.new (written at bytes.now file)) }
         ensures err { OnErr result ((file : File) → IsKept self.old file → IsKept self.new file) }
     {
         make_room(&mut self.seen, at + bytes.len())?;
@@ -88,7 +90,9 @@ impl Kept {
     ) -> Result<(), AllocError>
         requires number { number < 4 }
         requires place { at ≤ length self.old.seen.items }
-        ensures ok { OnOk result ((file : File) → IsKept self.old file → IsKept self.new (torn fill.now number at bytes.now file)) }
+        ensures ok { OnOk result
+            ((file : File) → IsKept self.old file
+            → IsKept self.new (torn fill.now number at bytes.now file)) }
         ensures err { OnErr result (self.new ≡ self.old) }
     {
         let left = self.bytes_torn(alloc, at, bytes, fill)?;
@@ -109,7 +113,8 @@ impl Kept {
         bytes: &[u8],
         fill: &Fill,
     ) -> Result<Vec<u8>, AllocError>
-        ensures { IfOk result (λ left. (file : File) → IsKept self.now file → left.items ≡ bytes_torn fill.now at bytes.now file) }
+        ensures { IfOk result (λ left. (file : File) → IsKept self.now file
+            → left.items ≡ bytes_torn fill.now at bytes.now file) }
     {
         let mut left = Vec::with_capacity(alloc, bytes.len())?;
         for i in 0..bytes.len() {
@@ -120,7 +125,8 @@ impl Kept {
 
     fn byte_torn(&self, at: usize, bytes: &[u8], fill: &Fill, i: usize) -> u8
         requires { i < length bytes.now }
-        ensures { (file : File) → IsKept self.now file → result ≡ byte_torn fill.now at bytes.now file i }
+        ensures { (file : File) → IsKept self.now file
+            → result ≡ byte_torn fill.now at bytes.now file i }
     {
         match fill {
             Fill::Old if i < self.base.len().saturating_sub(at) => self.base[at + i],
@@ -134,7 +140,8 @@ impl Kept {
 
     // Takes what is read as what is on the disk. It writes again only what stands from `clean` on.
     pub(crate) fn settle(&mut self, alloc: Global) -> Result<(), AllocError>
-        ensures ok { OnOk result ((file : File) → IsKept self.old file → IsKept self.new (synced file)) }
+        ensures ok { OnOk result
+            ((file : File) → IsKept self.old file → IsKept self.new (synced file)) }
         ensures err { OnErr result ((file : File) → IsKept self.old file → IsKept self.new file) }
     {
         let len = self.seen.len();
@@ -157,7 +164,8 @@ impl Kept {
     // How many bytes are pending.
     pub(crate) fn pending_count(&self) -> u128
         ensures bounded { result < 2 ^ 66 }
-        ensures exact { (file : File) → IsKept self.now file → length file.base ≤ file.greatest → result ≡ pending_below file file.greatest }
+        ensures exact { (file : File) → IsKept self.now file → length file.base ≤ file.greatest
+            → result ≡ pending_below file file.greatest }
     {
         let mut count: u128 = 0;
         for place in 0..self.reached.len() {
@@ -177,7 +185,8 @@ impl Kept {
         requires number { number < 4 }
         requires bounded { before < 2 ^ 70 }
         ensures { IfOk result (λ left. (file : File) → IsKept self.now file
-            → left.items ≡ bytes_by (length_left fill.now number file) (λ i. byte_left fill.now (before + pending_below file i) file i)) }
+            → left.items ≡ bytes_by (length_left fill.now number file) (λ i.
+            byte_left fill.now (before + pending_below file i) file i)) }
     {
         let Ok(len) = usize::try_from(self.len_left(number, fill)) else {
             return Err(AllocError);
@@ -206,7 +215,8 @@ impl Kept {
     }
 
     fn byte_left(&self, count: u128, place: usize, fill: &Fill) -> u8
-        ensures { (file : File) → IsKept self.now file → result ≡ byte_left fill.now count file place }
+        ensures { (file : File) → IsKept self.now file
+            → result ≡ byte_left fill.now count file place }
     {
         let seen = byte_or(&self.seen, place, 0);
         match fill {
@@ -238,7 +248,8 @@ fn within(low: u128, high: u128, len: u128) -> u128
 fn len_torn(number: usize, seen_len: usize, written_len: usize, fill: &Fill) -> usize
     requires { number < 4 }
     ensures low { seen_len ≤ written_len → seen_len ≤ result }
-    ensures exact { (file : File) (at : ℕ) (bytes : List ℕ) → seen_len ≡ length file.seen → written_len ≡ max (length file.seen) (at + length bytes)
+    ensures exact { (file : File) (at : ℕ) (bytes : List ℕ) → seen_len ≡ length file.seen
+        → written_len ≡ max (length file.seen) (at + length bytes)
         → result ≡ length_torn fill.now number at bytes file }
 {
     match fill {
@@ -258,7 +269,9 @@ fn truncated(mut bytes: Vec<u8>, len: usize) -> Vec<u8>
 
 // Marks so many places from `at` on.
 fn mark(marks: &mut [bool], at: usize, size: usize)
-    ensures { (i : ℕ) → i < length marks.old → slice_index_or marks.new i true ≡ is_in i (record { at = at; size = size }) || slice_index_or marks.old i true }
+    ensures { (i : ℕ) → i < length marks.old
+        → slice_index_or marks.new i true
+        ≡ is_in i (record { at = at; size = size }) || slice_index_or marks.old i true }
 {
     let end = at.saturating_add(size).min(marks.len());
     for place in at..end {

@@ -70,8 +70,12 @@ impl MemDisk {
     /// Stops the machine and starts it again: the files hold what the fill picks of what a stop may
     /// leave, and nothing is pending. Where there is no memory for that, nothing changes.
     pub fn stop(&mut self, fill: &Fill) -> Result<(), AllocError>
-        ensures ok { OnOk result (memory_states self.new ≡ after_stop fill.now (now (memory_states self.old)) ∷ memory_states self.old) }
-        ensures allowed { OnOk result (Leaves (now (memory_states self.old)) (left_by fill.now (now (memory_states self.old)))) }
+        ensures ok { OnOk result
+            (memory_states self.new ≡ after_stop fill.now (now (memory_states self.old))
+            ∷ memory_states self.old) }
+        ensures allowed { OnOk result
+            (Leaves (now (memory_states self.old))
+            (left_by fill.now (now (memory_states self.old)))) }
         ensures err { OnErr result (memory_states self.new ≡ memory_states self.old) }
         ensures failures { memory_failures self.new ≡ memory_failures self.old }
         ensures planned { planned_of self.new ≡ planned_of self.old }
@@ -86,8 +90,10 @@ impl MemDisk {
     fn write(&mut self, file: usize, at: usize, bytes: &[u8]) -> Result<(), DeviceError>
         requires file { file < 4 }
         requires place { at ≤ length (now (memory_states self.old) file).seen }
-        ensures written { OnOk result (memory_states self.new
-            ≡ with_file file (written at bytes.now (now (memory_states self.old) file)) (now (memory_states self.old)) ∷ memory_states self.old) }
+        ensures written { OnOk result
+            (memory_states self.new
+            ≡ with_file file (written at bytes.now (now (memory_states self.old) file))
+            (now (memory_states self.old)) ∷ memory_states self.old) }
         ensures same { OnOk result (is_short self.new ≡ is_short self.old) }
         ensures lost { OnErr result (LosesWrite file at (length bytes.now) self.old self.new) }
         ensures ok { OnOk result (memory_failures self.new ≡ memory_failures self.old) }
@@ -110,8 +116,11 @@ impl MemDisk {
     fn tear(&mut self, file: usize, at: usize, bytes: &[u8], fill: &Fill)
         requires file { file < 4 }
         requires place { at ≤ length (now (memory_states self.old) file).seen }
-        ensures torn { LosesWrite file at (length bytes.now) self.old self.new ⊎ ((is_short self.new ≡ is_short self.old) × (memory_states self.new
-            ≡ with_file file (torn fill.now file at bytes.now (now (memory_states self.old) file)) (now (memory_states self.old)) ∷ memory_states self.old)) }
+        ensures torn { LosesWrite file at (length bytes.now) self.old self.new
+            ⊎ ((is_short self.new ≡ is_short self.old)
+            × (memory_states self.new
+            ≡ with_file file (torn fill.now file at bytes.now (now (memory_states self.old) file))
+            (now (memory_states self.old)) ∷ memory_states self.old)) }
         ensures failures { memory_failures self.new ≡ memory_failures self.old + 1 }
         ensures planned { planned_of self.new ≡ planned_of self.old }
     {
@@ -137,7 +146,8 @@ impl MemDisk {
 
     // A call that reads.
     fn look(&mut self) -> Result<(), DeviceError>
-        ensures state { memory_states self.new ≡ now (memory_states self.old) ∷ memory_states self.old }
+        ensures state { memory_states self.new ≡ now (memory_states self.old)
+            ∷ memory_states self.old }
         ensures plan { IsByPlan self.old self.new (is_ok result) }
         ensures ok { OnOk result (memory_failures self.new ≡ memory_failures self.old) }
         ensures err { OnErr result (memory_failures self.new ≡ memory_failures self.old + 1) }
@@ -163,7 +173,8 @@ impl Disk for MemDisk {
     fn len(&mut self, file: usize) -> Result<usize, DeviceError>
         requires { file < 4 }
         ensures length { IfOk result (λ n. n ≡ length (now (memory_states self.old) file).seen) }
-        ensures state { memory_states self.new ≡ now (memory_states self.old) ∷ memory_states self.old }
+        ensures state { memory_states self.new ≡ now (memory_states self.old)
+            ∷ memory_states self.old }
         ensures plan { IsByPlan self.old self.new (is_ok result) }
         ensures ok { OnOk result (memory_failures self.new ≡ memory_failures self.old) }
         ensures err { OnErr result (memory_failures self.new ≡ memory_failures self.old + 1) }
@@ -175,9 +186,12 @@ impl Disk for MemDisk {
     fn read(&mut self, file: usize, at: usize, buf: &mut [u8]) -> Result<usize, DeviceError>
         requires { file < 4 }
         ensures within { IfOk result (λ n. n ≤ length buf.old) }
-        ensures count { IfOk result (λ n. n ≡ min (length buf.old) (length (now (memory_states self.old) file).seen - at)) }
-        ensures bytes { IfOk result (λ n. take n buf.new ≡ take n (drop at (now (memory_states self.old) file).seen)) }
-        ensures state { memory_states self.new ≡ now (memory_states self.old) ∷ memory_states self.old }
+        ensures count { IfOk result (λ n.
+            n ≡ min (length buf.old) (length (now (memory_states self.old) file).seen - at)) }
+        ensures bytes { IfOk result (λ n.
+            take n buf.new ≡ take n (drop at (now (memory_states self.old) file).seen)) }
+        ensures state { memory_states self.new ≡ now (memory_states self.old)
+            ∷ memory_states self.old }
         ensures plan { IsByPlan self.old self.new (is_ok result) }
         ensures ok { OnOk result (memory_failures self.new ≡ memory_failures self.old) }
         ensures err { OnErr result (memory_failures self.new ≡ memory_failures self.old + 1) }
@@ -189,14 +203,24 @@ impl Disk for MemDisk {
     fn write_at(&mut self, file: usize, at: usize, bytes: &[u8]) -> Result<(), DeviceError>
         requires file { file < 4 }
         requires place { at ≤ length (now (memory_states self.old) file).seen }
-        ensures written { OnOk result (memory_states self.new
-            ≡ with_file file (written at bytes.now (now (memory_states self.old) file)) (now (memory_states self.old)) ∷ memory_states self.old) }
-        ensures torn { OnErr result ((left : File)
-            × (at ≤ length (now (memory_states self.old) file).seen → IsTorn at (length bytes.now) (now (memory_states self.old) file) left)
-            × (memory_states self.new ≡ with_file file left (now (memory_states self.old)) ∷ memory_states self.old)) }
-        ensures failed { IfSome (due_of (planned_of self.old)) (λ fill. LosesWrite file at (length bytes.now) self.old self.new ⊎ ((is_short self.new ≡ is_short self.old) × (memory_states self.new
-            ≡ with_file file (torn fill file at bytes.now (now (memory_states self.old) file)) (now (memory_states self.old)) ∷ memory_states self.old))) }
-        ensures lost { IfNone (due_of (planned_of self.old)) (OnErr result (LosesWrite file at (length bytes.now) self.old self.new)) }
+        ensures written { OnOk result
+            (memory_states self.new
+            ≡ with_file file (written at bytes.now (now (memory_states self.old) file))
+            (now (memory_states self.old)) ∷ memory_states self.old) }
+        ensures torn { OnErr result
+            ((left : File)
+            × (at ≤ length (now (memory_states self.old) file).seen
+            → IsTorn at (length bytes.now) (now (memory_states self.old) file) left)
+            × (memory_states self.new ≡ with_file file left (now (memory_states self.old))
+            ∷ memory_states self.old)) }
+        ensures failed { IfSome (due_of (planned_of self.old)) (λ fill.
+            LosesWrite file at (length bytes.now) self.old self.new
+            ⊎ ((is_short self.new ≡ is_short self.old)
+            × (memory_states self.new
+            ≡ with_file file (torn fill file at bytes.now (now (memory_states self.old) file))
+            (now (memory_states self.old)) ∷ memory_states self.old))) }
+        ensures lost { IfNone (due_of (planned_of self.old))
+            (OnErr result (LosesWrite file at (length bytes.now) self.old self.new)) }
         ensures plan { IsByPlan self.old self.new (is_ok result) }
         ensures ok { OnOk result (memory_failures self.new ≡ memory_failures self.old) }
         ensures err { OnErr result (memory_failures self.new ≡ memory_failures self.old + 1) }
@@ -212,9 +236,12 @@ impl Disk for MemDisk {
 
     fn sync(&mut self, file: usize) -> Result<(), DeviceError>
         requires { file < 4 }
-        ensures synced { OnOk result (memory_states self.new
-            ≡ with_file file (synced (now (memory_states self.old) file)) (now (memory_states self.old)) ∷ memory_states self.old) }
-        ensures same { OnErr result (memory_states self.new ≡ now (memory_states self.old) ∷ memory_states self.old) }
+        ensures synced { OnOk result
+            (memory_states self.new
+            ≡ with_file file (synced (now (memory_states self.old) file))
+            (now (memory_states self.old)) ∷ memory_states self.old) }
+        ensures same { OnErr result
+            (memory_states self.new ≡ now (memory_states self.old) ∷ memory_states self.old) }
         ensures plan { IsByPlan self.old self.new (is_ok result) }
         ensures ok { OnOk result (memory_failures self.new ≡ memory_failures self.old) }
         ensures err { OnErr result (memory_failures self.new ≡ memory_failures self.old + 1) }
@@ -243,7 +270,8 @@ impl Disk for MemDisk {
 
 // What a stop leaves of the four files.
 fn left_files(alloc: Global, files: &[Kept; 4], fill: &Fill) -> Result<[Kept; 4], AllocError>
-    ensures { IfOk result (λ left. (states : Files) → AreKept files.now states → AreCoherent states → AreKept left (after_stop fill.now states)) }
+    ensures { IfOk result (λ left. (states : Files) → AreKept files.now states → AreCoherent states
+        → AreKept left (after_stop fill.now states)) }
 {
     let second = files[0].pending_count();
     let third = second + files[1].pending_count();
@@ -259,7 +287,8 @@ fn left_files(alloc: Global, files: &[Kept; 4], fill: &Fill) -> Result<[Kept; 4]
 // Notes a failed write of so many bytes, after which a read gives what is kept.
 fn tore(past: &Past, files: &[Kept; 4], file: usize, at: usize, size: usize) -> Past
     requires { file < 4 }
-    ensures { (other : Kept) → result.events ≡ tore file at size (slice_index_or files.now file other).seen.items ∷ past.now.events }
+    ensures { (other : Kept) → result.events ≡ tore file at size
+        (slice_index_or files.now file other).seen.items ∷ past.now.events }
 {
     let kept = &files[file];
     let seen = kept.seen.as_slice();

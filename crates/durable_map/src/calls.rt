@@ -99,7 +99,8 @@ impl<D: Disk + Drop> DurableMap<D> {
         command: Command,
     ) -> Result<Reply, Refusal>
         requires { IsReady self.now pass.old }
-        ensures completes { Completes (recorded pass.old) (Changing command) result (recorded pass.new) }
+        ensures completes { Completes (recorded pass.old) (Changing command) result
+            (recorded pass.new) }
         ensures ready { IsReady self.now pass.new }
         ensures same { IsSamePass pass.old pass.new }
     {
@@ -114,7 +115,8 @@ impl<D: Disk + Drop> DurableMap<D> {
     /// `Failed` where the store has failed. `NoMemory`.
     pub fn read<R: Wait>(&self, rt: &R, pass: &mut Pass, read: Read) -> Result<Reply, Refusal>
         requires { IsReady self.now pass.old }
-        ensures completes { Completes (recorded pass.old) (Reading read) result (recorded pass.new) }
+        ensures completes { Completes (recorded pass.old) (Reading read) result
+            (recorded pass.new) }
         ensures ready { IsReady self.now pass.new }
         ensures same { IsSamePass pass.old pass.new }
     {

@@ -23,7 +23,8 @@ impl<D: Disk + Drop> DurableMap<D> {
         value: Value,
     ) -> Result<Reply, Refusal>
         requires { IsReady self.now pass.old }
-        ensures completes { Completes (recorded pass.old) (Changing (record { key = key; change = Put value })) result (recorded pass.new) }
+        ensures completes { Completes (recorded pass.old)
+            (Changing (record { key = key; change = Put value })) result (recorded pass.new) }
         ensures ready { IsReady self.now pass.new }
         ensures same { IsSamePass pass.old pass.new }
     {
@@ -40,7 +41,9 @@ impl<D: Disk + Drop> DurableMap<D> {
         value: Value,
     ) -> Result<Reply, Refusal>
         requires { IsReady self.now pass.old }
-        ensures completes { Completes (recorded pass.old) (Changing (record { key = key; change = PutIfAbsent value })) result (recorded pass.new) }
+        ensures completes { Completes (recorded pass.old)
+            (Changing (record { key = key; change = PutIfAbsent value })) result
+            (recorded pass.new) }
         ensures ready { IsReady self.now pass.new }
         ensures same { IsSamePass pass.old pass.new }
     {
@@ -51,7 +54,8 @@ impl<D: Disk + Drop> DurableMap<D> {
     /// Java's `remove(key)`: the value before, or absent.
     pub fn remove<R: Wait>(&self, rt: &R, pass: &mut Pass, key: Key) -> Result<Reply, Refusal>
         requires { IsReady self.now pass.old }
-        ensures completes { Completes (recorded pass.old) (Changing (record { key = key; change = Remove })) result (recorded pass.new) }
+        ensures completes { Completes (recorded pass.old)
+            (Changing (record { key = key; change = Remove })) result (recorded pass.new) }
         ensures ready { IsReady self.now pass.new }
         ensures same { IsSamePass pass.old pass.new }
     {
@@ -68,7 +72,8 @@ impl<D: Disk + Drop> DurableMap<D> {
         value: Value,
     ) -> Result<Reply, Refusal>
         requires { IsReady self.now pass.old }
-        ensures completes { Completes (recorded pass.old) (Changing (record { key = key; change = RemoveIf value })) result (recorded pass.new) }
+        ensures completes { Completes (recorded pass.old)
+            (Changing (record { key = key; change = RemoveIf value })) result (recorded pass.new) }
         ensures ready { IsReady self.now pass.new }
         ensures same { IsSamePass pass.old pass.new }
     {
@@ -85,7 +90,8 @@ impl<D: Disk + Drop> DurableMap<D> {
         value: Value,
     ) -> Result<Reply, Refusal>
         requires { IsReady self.now pass.old }
-        ensures completes { Completes (recorded pass.old) (Changing (record { key = key; change = Replace value })) result (recorded pass.new) }
+        ensures completes { Completes (recorded pass.old)
+            (Changing (record { key = key; change = Replace value })) result (recorded pass.new) }
         ensures ready { IsReady self.now pass.new }
         ensures same { IsSamePass pass.old pass.new }
     {
@@ -103,7 +109,9 @@ impl<D: Disk + Drop> DurableMap<D> {
         new: Value,
     ) -> Result<Reply, Refusal>
         requires { IsReady self.now pass.old }
-        ensures completes { Completes (recorded pass.old) (Changing (record { key = key; change = ReplaceIf old new })) result (recorded pass.new) }
+        ensures completes { Completes (recorded pass.old)
+            (Changing (record { key = key; change = ReplaceIf old new })) result
+            (recorded pass.new) }
         ensures ready { IsReady self.now pass.new }
         ensures same { IsSamePass pass.old pass.new }
     {
@@ -121,7 +129,9 @@ impl<D: Disk + Drop> DurableMap<D> {
         argument: Option<Value>,
     ) -> Result<Reply, Refusal>
         requires { IsReady self.now pass.old }
-        ensures completes { Completes (recorded pass.old) (Changing (record { key = key; change = Compute func argument })) result (recorded pass.new) }
+        ensures completes { Completes (recorded pass.old)
+            (Changing (record { key = key; change = Compute func argument })) result
+            (recorded pass.new) }
         ensures ready { IsReady self.now pass.new }
         ensures same { IsSamePass pass.old pass.new }
     {
@@ -139,7 +149,9 @@ impl<D: Disk + Drop> DurableMap<D> {
         argument: Option<Value>,
     ) -> Result<Reply, Refusal>
         requires { IsReady self.now pass.old }
-        ensures completes { Completes (recorded pass.old) (Changing (record { key = key; change = ComputeIfAbsent func argument })) result (recorded pass.new) }
+        ensures completes { Completes (recorded pass.old)
+            (Changing (record { key = key; change = ComputeIfAbsent func argument })) result
+            (recorded pass.new) }
         ensures ready { IsReady self.now pass.new }
         ensures same { IsSamePass pass.old pass.new }
     {
@@ -157,7 +169,9 @@ impl<D: Disk + Drop> DurableMap<D> {
         argument: Option<Value>,
     ) -> Result<Reply, Refusal>
         requires { IsReady self.now pass.old }
-        ensures completes { Completes (recorded pass.old) (Changing (record { key = key; change = ComputeIfPresent func argument })) result (recorded pass.new) }
+        ensures completes { Completes (recorded pass.old)
+            (Changing (record { key = key; change = ComputeIfPresent func argument })) result
+            (recorded pass.new) }
         ensures ready { IsReady self.now pass.new }
         ensures same { IsSamePass pass.old pass.new }
     {
@@ -175,7 +189,9 @@ impl<D: Disk + Drop> DurableMap<D> {
         value: Value,
     ) -> Result<Reply, Refusal>
         requires { IsReady self.now pass.old }
-        ensures completes { Completes (recorded pass.old) (Changing (record { key = key; change = Merge func value })) result (recorded pass.new) }
+        ensures completes { Completes (recorded pass.old)
+            (Changing (record { key = key; change = Merge func value })) result
+            (recorded pass.new) }
         ensures ready { IsReady self.now pass.new }
         ensures same { IsSamePass pass.old pass.new }
     {

@@ -53,14 +53,16 @@ impl<D: Disk> Model for Desk<D> {
     ghost view = { λ desk. recorded desk.pass };
 
     ghost invariant = { λ desk. IsPassOf (arc_value desk.stripes) desk.pass
-        × Keeps D.states D.honest (stripe_count (arc_value desk.stripes)) desk.keeper (recorded desk.pass) };
+        × Keeps D.states D.honest (stripe_count (arc_value desk.stripes)) desk.keeper
+        (recorded desk.pass) };
 }
 
 impl<D: Disk> Desk<D> {
     /// The keeper of a directory that was opened, with the keeper's pass of these stripes.
     pub(crate) fn new(stripes: Arc<Stripes, Global>, keeper: Keeper<D>, pass: Pass) -> Desk<D>
         requires own { IsPassOf (arc_value stripes) pass }
-        requires keeps { Keeps D.states D.honest (stripe_count (arc_value stripes)) keeper (recorded pass) }
+        requires keeps { Keeps D.states D.honest (stripe_count (arc_value stripes)) keeper
+            (recorded pass) }
         ensures { result ≡ recorded pass }
     {
         Desk {

@@ -18,9 +18,10 @@ use ticket_order::Steps;
 /// Its sweeps took what is committed, no more is published, and what a stop leaves stands for that.
 /// Until a device call fails, the marks of the sealed checkpoint are committed.
 pub(crate) fn what_is_kept<D: Disk>(keeper: &Keeper<D>)
-    ensures { (n : ℕ) (done : List Command) (p : Record) → Fits D.states D.honest n done keeper.now p
-        → is_walking keeper.now.sweeper.walking ≡ false → keeper.now.capture ≡ None
-        → AllLegalSections n p p.sections → (keeper.now.is_broken ≡ true → KeepsSealed D.states D.honest keeper.now)
+    ensures { (n : ℕ) (done : List Command) (p : Record)
+        → Fits D.states D.honest n done keeper.now p → is_walking keeper.now.sweeper.walking ≡ false
+        → keeper.now.capture ≡ None → AllLegalSections n p p.sections
+        → (keeper.now.is_broken ≡ true → KeepsSealed D.states D.honest keeper.now)
         → Keeps D.states D.honest n keeper.now p }
 {
     committed_were_taken(keeper);
@@ -29,9 +30,11 @@ pub(crate) fn what_is_kept<D: Disk>(keeper: &Keeper<D>)
 
 /// Takes the entries of a stripe, unless another pass holds it or no memory is found.
 pub(crate) fn sweep<D: Disk, S: Steps>(keeper: &mut Keeper<D>, stripe: usize, steps: &mut S)
-    requires keeps { Keeps D.states D.honest (S.stripe_count steps.old) keeper.old (S.recorded steps.old) }
+    requires keeps { Keeps D.states D.honest (S.stripe_count steps.old) keeper.old
+        (S.recorded steps.old) }
     requires within { stripe < S.stripe_count steps.old }
-    ensures keeps { Keeps D.states D.honest (S.stripe_count steps.new) keeper.new (S.recorded steps.new) }
+    ensures keeps { Keeps D.states D.honest (S.stripe_count steps.new) keeper.new
+        (S.recorded steps.new) }
     ensures place { S.place steps.new ≡ S.place steps.old }
     ensures stripes { S.stripe_count steps.new ≡ S.stripe_count steps.old }
 {
@@ -42,7 +45,8 @@ pub(crate) fn sweep<D: Disk, S: Steps>(keeper: &mut Keeper<D>, stripe: usize, st
 /// Stages the longest batch of at most `most` commands, and answers its length.
 pub(crate) fn stage<D: Disk>(keeper: &mut Keeper<D>, most: u32) -> Result<u32, Refusal>
     requires keeps { (n : ℕ) × (p : Record) × Keeps D.states D.honest n keeper.old p }
-    ensures keeps { (n : ℕ) (p : Record) → Keeps D.states D.honest n keeper.old p → Keeps D.states D.honest n keeper.new p }
+    ensures keeps { (n : ℕ) (p : Record) → Keeps D.states D.honest n keeper.old p
+        → Keeps D.states D.honest n keeper.new p }
 {
     let staged = keeper.stage_batch(most);
     what_is_kept(keeper);
@@ -52,7 +56,8 @@ pub(crate) fn stage<D: Disk>(keeper: &mut Keeper<D>, most: u32) -> Result<u32, R
 /// Writes zeros ahead of the staged batch, where that is due.
 pub(crate) fn write_ahead<D: Disk>(keeper: &mut Keeper<D>) -> Result<(), Refusal>
     requires keeps { (n : ℕ) × (p : Record) × Keeps D.states D.honest n keeper.old p }
-    ensures keeps { (n : ℕ) (p : Record) → Keeps D.states D.honest n keeper.old p → Keeps D.states D.honest n keeper.new p }
+    ensures keeps { (n : ℕ) (p : Record) → Keeps D.states D.honest n keeper.old p
+        → Keeps D.states D.honest n keeper.new p }
 {
     let written = keeper.write_ahead();
     what_is_kept(keeper);
@@ -62,7 +67,8 @@ pub(crate) fn write_ahead<D: Disk>(keeper: &mut Keeper<D>) -> Result<(), Refusal
 /// Makes the device call that is due in the logs.
 pub(crate) fn advance_logs<D: Disk>(keeper: &mut Keeper<D>) -> Result<Phase, Refusal>
     requires keeps { (n : ℕ) × (p : Record) × Keeps D.states D.honest n keeper.old p }
-    ensures keeps { (n : ℕ) (p : Record) → Keeps D.states D.honest n keeper.old p → Keeps D.states D.honest n keeper.new p }
+    ensures keeps { (n : ℕ) (p : Record) → Keeps D.states D.honest n keeper.old p
+        → Keeps D.states D.honest n keeper.new p }
 {
     let stepped = keeper.advance();
     what_is_kept(keeper);
@@ -71,8 +77,10 @@ pub(crate) fn advance_logs<D: Disk>(keeper: &mut Keeper<D>) -> Result<Phase, Ref
 
 /// DURABLE with the committed count.
 pub(crate) fn publish<D: Disk, S: Steps>(keeper: &mut Keeper<D>, steps: &mut S)
-    requires keeps { Keeps D.states D.honest (S.stripe_count steps.old) keeper.old (S.recorded steps.old) }
-    ensures keeps { Keeps D.states D.honest (S.stripe_count steps.new) keeper.new (S.recorded steps.new) }
+    requires keeps { Keeps D.states D.honest (S.stripe_count steps.old) keeper.old
+        (S.recorded steps.old) }
+    ensures keeps { Keeps D.states D.honest (S.stripe_count steps.new) keeper.new
+        (S.recorded steps.new) }
     ensures place { S.place steps.new ≡ S.place steps.old }
     ensures stripes { S.stripe_count steps.new ≡ S.stripe_count steps.old }
 {
@@ -82,8 +90,10 @@ pub(crate) fn publish<D: Disk, S: Steps>(keeper: &mut Keeper<D>, steps: &mut S)
 
 /// FAIL.
 pub(crate) fn fail<D: Disk, S: Steps>(keeper: &mut Keeper<D>, steps: &mut S)
-    requires keeps { Keeps D.states D.honest (S.stripe_count steps.old) keeper.old (S.recorded steps.old) }
-    ensures keeps { Keeps D.states D.honest (S.stripe_count steps.new) keeper.new (S.recorded steps.new) }
+    requires keeps { Keeps D.states D.honest (S.stripe_count steps.old) keeper.old
+        (S.recorded steps.old) }
+    ensures keeps { Keeps D.states D.honest (S.stripe_count steps.new) keeper.new
+        (S.recorded steps.new) }
     ensures place { S.place steps.new ≡ S.place steps.old }
     ensures stripes { S.stripe_count steps.new ≡ S.stripe_count steps.old }
 {
@@ -94,7 +104,8 @@ pub(crate) fn fail<D: Disk, S: Steps>(keeper: &mut Keeper<D>, steps: &mut S)
 /// Begins the checkpoint that follows the sealed one.
 pub(crate) fn begin<D: Disk>(keeper: &mut Keeper<D>) -> Result<(), Refusal>
     requires keeps { (n : ℕ) × (p : Record) × Keeps D.states D.honest n keeper.old p }
-    ensures keeps { (n : ℕ) (p : Record) → Keeps D.states D.honest n keeper.old p → Keeps D.states D.honest n keeper.new p }
+    ensures keeps { (n : ℕ) (p : Record) → Keeps D.states D.honest n keeper.old p
+        → Keeps D.states D.honest n keeper.new p }
 {
     let begun = checkpoint_walk::begin(keeper);
     what_is_kept(keeper);
@@ -107,8 +118,10 @@ pub(crate) fn capture<D: Disk, S: Steps>(
     stripe: usize,
     steps: &mut S,
 ) -> Result<u64, Refusal>
-    requires keeps { Keeps D.states D.honest (S.stripe_count steps.old) keeper.old (S.recorded steps.old) }
-    ensures keeps { Keeps D.states D.honest (S.stripe_count steps.new) keeper.new (S.recorded steps.new) }
+    requires keeps { Keeps D.states D.honest (S.stripe_count steps.old) keeper.old
+        (S.recorded steps.old) }
+    ensures keeps { Keeps D.states D.honest (S.stripe_count steps.new) keeper.new
+        (S.recorded steps.new) }
     ensures place { S.place steps.new ≡ S.place steps.old }
     ensures stripes { S.stripe_count steps.new ≡ S.stripe_count steps.old }
 {
@@ -120,7 +133,8 @@ pub(crate) fn capture<D: Disk, S: Steps>(
 /// Goes on to the seal of the checkpoint.
 pub(crate) fn seal<D: Disk>(keeper: &mut Keeper<D>) -> Result<(), Refusal>
     requires keeps { (n : ℕ) × (p : Record) × Keeps D.states D.honest n keeper.old p }
-    ensures keeps { (n : ℕ) (p : Record) → Keeps D.states D.honest n keeper.old p → Keeps D.states D.honest n keeper.new p }
+    ensures keeps { (n : ℕ) (p : Record) → Keeps D.states D.honest n keeper.old p
+        → Keeps D.states D.honest n keeper.new p }
 {
     let sealed = checkpoint_walk::seal(keeper);
     what_is_kept(keeper);
@@ -132,7 +146,8 @@ pub(crate) fn advance_checkpoint<D: Disk>(
     keeper: &mut Keeper<D>,
 ) -> Result<CheckpointPhase, Refusal>
     requires keeps { (n : ℕ) × (p : Record) × Keeps D.states D.honest n keeper.old p }
-    ensures keeps { (n : ℕ) (p : Record) → Keeps D.states D.honest n keeper.old p → Keeps D.states D.honest n keeper.new p }
+    ensures keeps { (n : ℕ) (p : Record) → Keeps D.states D.honest n keeper.old p
+        → Keeps D.states D.honest n keeper.new p }
 {
     let stepped = checkpoint_walk::advance(keeper);
     what_is_kept(keeper);

@@ -12,13 +12,14 @@ ghost use Rattle.durable_map.specs.Durable.{Begins, Completes, CompletesAmong, F
 /// replies are legal in what the pass has seen at last, and the second stands behind the first.
 pub fn calls_follow_each_other()
     ensures { (v u w : Record) (first second : Asked) (one other : Reply)
-        → Completes v first (Ok one) u → Completes u second (Ok other) w → FollowEachOther v first one second other w }
+        → Completes v first (Ok one) u → Completes u second (Ok other) w
+        → FollowEachOther v first one second other w }
 {}
 
 /// A call that was begun, and finished with others of its pass between, is completed as a whole call is:
 /// its reply is legal in what the pass has seen, and was given out once its position was durable.
 pub fn begun_calls_complete()
-    ensures { (v u x w : Record) (asked : Asked) (held : Held) (others : List Call) (answer : Result Reply Refusal)
-        → Begins v asked (Ok held) u → GoesOnWith u others x → Finishes x held answer w
-        → CompletesAmong v asked answer w }
+    ensures { (v u x w : Record) (asked : Asked) (held : Held) (others : List Call)
+        (answer : Result Reply Refusal) → Begins v asked (Ok held) u → GoesOnWith u others x
+        → Finishes x held answer w → CompletesAmong v asked answer w }
 {}

@@ -44,7 +44,8 @@ impl<D: Disk + Drop> DurableMap<D> {
     ) -> Result<DurableMap<D>, (D, Refusal)>
         requires start { IsAtStart keeper.stripes first keeper }
         requires parts { ArePartsOf keeper.stripes.count parts.items }
-        requires fits { (p : Record) → p.opening ≡ turns.opening_of first parts.items → IsUnused first p → Fits D.states D.honest keeper.stripes.count [] keeper p }
+        requires fits { (p : Record) → p.opening ≡ turns.opening_of first parts.items
+            → IsUnused first p → Fits D.states D.honest keeper.stripes.count [] keeper p }
         ensures stripes { IfOk result (λ map. stripe_count map ≡ keeper.stripes.count) }
         ensures opening { IfOk result (λ map. opening_of map ≡ turns.opening_of first parts.items) }
         ensures disk { IfErr result (λ x. x.0 ≡ keeper.disk) }
@@ -111,7 +112,8 @@ impl<D: Disk + Drop> DurableMap<D> {
     pub fn release(&self, pass: &mut Pass, held: Held) -> Released
         requires own { IsPassOf self.now pass.old }
         requires held { IsHeldOf self.now held }
-        ensures released { Releases (position_of held) (reply_of held) (recorded pass.old) (answer_of result) (recorded pass.new) }
+        ensures released { Releases (position_of held) (reply_of held) (recorded pass.old)
+            (answer_of result) (recorded pass.new) }
         ensures held { StaysHeldOf self.now result }
         ensures same { IsSamePass pass.old pass.new }
     {

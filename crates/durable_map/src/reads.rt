@@ -17,7 +17,8 @@ impl<D: Disk + Drop> DurableMap<D> {
     /// Java's `get`: the value now, or absent.
     pub fn get<R: Wait>(&self, rt: &R, pass: &mut Pass, key: Key) -> Result<Reply, Refusal>
         requires { IsReady self.now pass.old }
-        ensures completes { Completes (recorded pass.old) (Reading (record { key = key; question = Get })) result (recorded pass.new) }
+        ensures completes { Completes (recorded pass.old)
+            (Reading (record { key = key; question = Get })) result (recorded pass.new) }
         ensures ready { IsReady self.now pass.new }
         ensures same { IsSamePass pass.old pass.new }
     {
@@ -34,7 +35,9 @@ impl<D: Disk + Drop> DurableMap<D> {
         default: Value,
     ) -> Result<Reply, Refusal>
         requires { IsReady self.now pass.old }
-        ensures completes { Completes (recorded pass.old) (Reading (record { key = key; question = GetOrDefault default })) result (recorded pass.new) }
+        ensures completes { Completes (recorded pass.old)
+            (Reading (record { key = key; question = GetOrDefault default })) result
+            (recorded pass.new) }
         ensures ready { IsReady self.now pass.new }
         ensures same { IsSamePass pass.old pass.new }
     {
@@ -45,7 +48,8 @@ impl<D: Disk + Drop> DurableMap<D> {
     /// Java's `containsKey`: whether the key is mapped.
     pub fn contains_key<R: Wait>(&self, rt: &R, pass: &mut Pass, key: Key) -> Result<Reply, Refusal>
         requires { IsReady self.now pass.old }
-        ensures completes { Completes (recorded pass.old) (Reading (record { key = key; question = ContainsKey })) result (recorded pass.new) }
+        ensures completes { Completes (recorded pass.old)
+            (Reading (record { key = key; question = ContainsKey })) result (recorded pass.new) }
         ensures ready { IsReady self.now pass.new }
         ensures same { IsSamePass pass.old pass.new }
     {

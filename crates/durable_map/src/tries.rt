@@ -19,7 +19,8 @@ impl<D: Disk + Drop> DurableMap<D> {
     /// changed.
     pub fn try_change(&self, pass: &mut Pass, command: Command) -> Result<Held, Refusal>
         requires { IsReady self.now pass.old }
-        ensures tries { Tries self.now (recorded pass.old) (Changing command) result (recorded pass.new) }
+        ensures tries { Tries self.now (recorded pass.old) (Changing command) result
+            (recorded pass.new) }
         ensures ready { IsReady self.now pass.new }
         ensures same { IsSamePass pass.old pass.new }
     {
@@ -32,7 +33,8 @@ impl<D: Disk + Drop> DurableMap<D> {
     /// has failed, and `NoMemory`.
     pub fn try_read(&self, pass: &mut Pass, read: Read) -> Result<Held, Refusal>
         requires { IsReady self.now pass.old }
-        ensures tries { Tries self.now (recorded pass.old) (Reading read) result (recorded pass.new) }
+        ensures tries { Tries self.now (recorded pass.old) (Reading read) result
+            (recorded pass.new) }
         ensures ready { IsReady self.now pass.new }
         ensures same { IsSamePass pass.old pass.new }
     {
@@ -42,7 +44,8 @@ impl<D: Disk + Drop> DurableMap<D> {
     /// `put`, held until it is released.
     pub fn try_put(&self, pass: &mut Pass, key: Key, value: Value) -> Result<Held, Refusal>
         requires { IsReady self.now pass.old }
-        ensures tries { Tries self.now (recorded pass.old) (Changing (record { key = key; change = Put value })) result (recorded pass.new) }
+        ensures tries { Tries self.now (recorded pass.old)
+            (Changing (record { key = key; change = Put value })) result (recorded pass.new) }
         ensures ready { IsReady self.now pass.new }
         ensures same { IsSamePass pass.old pass.new }
     {
@@ -58,7 +61,9 @@ impl<D: Disk + Drop> DurableMap<D> {
         value: Value,
     ) -> Result<Held, Refusal>
         requires { IsReady self.now pass.old }
-        ensures tries { Tries self.now (recorded pass.old) (Changing (record { key = key; change = PutIfAbsent value })) result (recorded pass.new) }
+        ensures tries { Tries self.now (recorded pass.old)
+            (Changing (record { key = key; change = PutIfAbsent value })) result
+            (recorded pass.new) }
         ensures ready { IsReady self.now pass.new }
         ensures same { IsSamePass pass.old pass.new }
     {
@@ -69,7 +74,8 @@ impl<D: Disk + Drop> DurableMap<D> {
     /// `remove`, held until it is released.
     pub fn try_remove(&self, pass: &mut Pass, key: Key) -> Result<Held, Refusal>
         requires { IsReady self.now pass.old }
-        ensures tries { Tries self.now (recorded pass.old) (Changing (record { key = key; change = Remove })) result (recorded pass.new) }
+        ensures tries { Tries self.now (recorded pass.old)
+            (Changing (record { key = key; change = Remove })) result (recorded pass.new) }
         ensures ready { IsReady self.now pass.new }
         ensures same { IsSamePass pass.old pass.new }
     {
@@ -80,7 +86,8 @@ impl<D: Disk + Drop> DurableMap<D> {
     /// `remove_if`, held until it is released.
     pub fn try_remove_if(&self, pass: &mut Pass, key: Key, value: Value) -> Result<Held, Refusal>
         requires { IsReady self.now pass.old }
-        ensures tries { Tries self.now (recorded pass.old) (Changing (record { key = key; change = RemoveIf value })) result (recorded pass.new) }
+        ensures tries { Tries self.now (recorded pass.old)
+            (Changing (record { key = key; change = RemoveIf value })) result (recorded pass.new) }
         ensures ready { IsReady self.now pass.new }
         ensures same { IsSamePass pass.old pass.new }
     {
@@ -91,7 +98,8 @@ impl<D: Disk + Drop> DurableMap<D> {
     /// `replace`, held until it is released.
     pub fn try_replace(&self, pass: &mut Pass, key: Key, value: Value) -> Result<Held, Refusal>
         requires { IsReady self.now pass.old }
-        ensures tries { Tries self.now (recorded pass.old) (Changing (record { key = key; change = Replace value })) result (recorded pass.new) }
+        ensures tries { Tries self.now (recorded pass.old)
+            (Changing (record { key = key; change = Replace value })) result (recorded pass.new) }
         ensures ready { IsReady self.now pass.new }
         ensures same { IsSamePass pass.old pass.new }
     {
@@ -108,7 +116,9 @@ impl<D: Disk + Drop> DurableMap<D> {
         new: Value,
     ) -> Result<Held, Refusal>
         requires { IsReady self.now pass.old }
-        ensures tries { Tries self.now (recorded pass.old) (Changing (record { key = key; change = ReplaceIf old new })) result (recorded pass.new) }
+        ensures tries { Tries self.now (recorded pass.old)
+            (Changing (record { key = key; change = ReplaceIf old new })) result
+            (recorded pass.new) }
         ensures ready { IsReady self.now pass.new }
         ensures same { IsSamePass pass.old pass.new }
     {
@@ -125,7 +135,9 @@ impl<D: Disk + Drop> DurableMap<D> {
         argument: Option<Value>,
     ) -> Result<Held, Refusal>
         requires { IsReady self.now pass.old }
-        ensures tries { Tries self.now (recorded pass.old) (Changing (record { key = key; change = Compute func argument })) result (recorded pass.new) }
+        ensures tries { Tries self.now (recorded pass.old)
+            (Changing (record { key = key; change = Compute func argument })) result
+            (recorded pass.new) }
         ensures ready { IsReady self.now pass.new }
         ensures same { IsSamePass pass.old pass.new }
     {
@@ -142,7 +154,9 @@ impl<D: Disk + Drop> DurableMap<D> {
         argument: Option<Value>,
     ) -> Result<Held, Refusal>
         requires { IsReady self.now pass.old }
-        ensures tries { Tries self.now (recorded pass.old) (Changing (record { key = key; change = ComputeIfAbsent func argument })) result (recorded pass.new) }
+        ensures tries { Tries self.now (recorded pass.old)
+            (Changing (record { key = key; change = ComputeIfAbsent func argument })) result
+            (recorded pass.new) }
         ensures ready { IsReady self.now pass.new }
         ensures same { IsSamePass pass.old pass.new }
     {
@@ -159,7 +173,9 @@ impl<D: Disk + Drop> DurableMap<D> {
         argument: Option<Value>,
     ) -> Result<Held, Refusal>
         requires { IsReady self.now pass.old }
-        ensures tries { Tries self.now (recorded pass.old) (Changing (record { key = key; change = ComputeIfPresent func argument })) result (recorded pass.new) }
+        ensures tries { Tries self.now (recorded pass.old)
+            (Changing (record { key = key; change = ComputeIfPresent func argument })) result
+            (recorded pass.new) }
         ensures ready { IsReady self.now pass.new }
         ensures same { IsSamePass pass.old pass.new }
     {
@@ -176,7 +192,9 @@ impl<D: Disk + Drop> DurableMap<D> {
         value: Value,
     ) -> Result<Held, Refusal>
         requires { IsReady self.now pass.old }
-        ensures tries { Tries self.now (recorded pass.old) (Changing (record { key = key; change = Merge func value })) result (recorded pass.new) }
+        ensures tries { Tries self.now (recorded pass.old)
+            (Changing (record { key = key; change = Merge func value })) result
+            (recorded pass.new) }
         ensures ready { IsReady self.now pass.new }
         ensures same { IsSamePass pass.old pass.new }
     {
@@ -187,7 +205,8 @@ impl<D: Disk + Drop> DurableMap<D> {
     /// `get`, held until it is released.
     pub fn try_get(&self, pass: &mut Pass, key: Key) -> Result<Held, Refusal>
         requires { IsReady self.now pass.old }
-        ensures tries { Tries self.now (recorded pass.old) (Reading (record { key = key; question = Get })) result (recorded pass.new) }
+        ensures tries { Tries self.now (recorded pass.old)
+            (Reading (record { key = key; question = Get })) result (recorded pass.new) }
         ensures ready { IsReady self.now pass.new }
         ensures same { IsSamePass pass.old pass.new }
     {
@@ -203,7 +222,9 @@ impl<D: Disk + Drop> DurableMap<D> {
         default: Value,
     ) -> Result<Held, Refusal>
         requires { IsReady self.now pass.old }
-        ensures tries { Tries self.now (recorded pass.old) (Reading (record { key = key; question = GetOrDefault default })) result (recorded pass.new) }
+        ensures tries { Tries self.now (recorded pass.old)
+            (Reading (record { key = key; question = GetOrDefault default })) result
+            (recorded pass.new) }
         ensures ready { IsReady self.now pass.new }
         ensures same { IsSamePass pass.old pass.new }
     {
@@ -214,7 +235,8 @@ impl<D: Disk + Drop> DurableMap<D> {
     /// `contains_key`, held until it is released.
     pub fn try_contains_key(&self, pass: &mut Pass, key: Key) -> Result<Held, Refusal>
         requires { IsReady self.now pass.old }
-        ensures tries { Tries self.now (recorded pass.old) (Reading (record { key = key; question = ContainsKey })) result (recorded pass.new) }
+        ensures tries { Tries self.now (recorded pass.old)
+            (Reading (record { key = key; question = ContainsKey })) result (recorded pass.new) }
         ensures ready { IsReady self.now pass.new }
         ensures same { IsSamePass pass.old pass.new }
     {

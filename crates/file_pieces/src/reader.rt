@@ -34,10 +34,13 @@ impl Model for FileReader {
     ghost use Rattle.std.specs.Prelude.{◌≡◌, ◌+◌, ◌%◌, ◌<◌, ◌≤◌, ◌^◌, length};
     ghost use Rattle.file_pieces.specs.Buffer.{held_in};
 
-    ghost view = { λ r. record { file = r.file; len = r.len; from = r.from; held = held_in r.buffer } };
+    ghost view = { λ r.
+        record { file = r.file; len = r.len; from = r.from; held = held_in r.buffer } };
 
-    ghost invariant = { λ r. (r.file < 4) × (r.len < 2 ^ 64) × (r.from + length (held_in r.buffer) ≤ r.len)
-        × (r.from + length (held_in r.buffer) < r.len → (r.from + length (held_in r.buffer)) % 65536 ≡ 0) };
+    ghost invariant = { λ r. (r.file < 4) × (r.len < 2 ^ 64)
+        × (r.from + length (held_in r.buffer) ≤ r.len)
+        × (r.from + length (held_in r.buffer) < r.len
+        → (r.from + length (held_in r.buffer)) % 65536 ≡ 0) };
 }
 
 impl FileReader {
@@ -48,7 +51,8 @@ impl FileReader {
         ensures called { Made D.states 1 disk.old disk.new }
         ensures file { IfOk result (λ reader. reader.file ≡ file) }
         ensures none_held { IfOk result (λ reader. (reader.from ≡ 0) × (reader.held ≡ [])) }
-        ensures holds { D.honest disk.new → IfOk result (Holds (now (D.states disk.old) file).seen) }
+        ensures holds { D.honest disk.new
+            → IfOk result (Holds (now (D.states disk.old) file).seen) }
         ensures err { IfErr result (λ fault. fault ≡ ReadFault.Failed) }
     {
         let Ok(len) = disk.len(file) else {
@@ -100,10 +104,10 @@ impl FileReader {
         ensures called { OnOk result (Made D.states 1 disk.old disk.new) }
         ensures tried { OnErr result (MadeAtMost D.states 1 disk.old disk.new) }
         ensures same { OnErr result (self.new ≡ self.old) }
-        ensures holds { D.honest disk.new → Holds (now (D.states disk.old) self.old.file).seen self.old
-            → OnOk result (Holds (now (D.states disk.old) self.old.file).seen self.new) }
-        ensures short { D.honest disk.new → Holds (now (D.states disk.old) self.old.file).seen self.old
-            → IfErr result (λ fault. fault ≢ ReadFault.Short) }
+        ensures holds { D.honest disk.new → Holds (now (D.states disk.old) self.old.file).seen
+            self.old → OnOk result (Holds (now (D.states disk.old) self.old.file).seen self.new) }
+        ensures short { D.honest disk.new → Holds (now (D.states disk.old) self.old.file).seen
+            self.old → IfErr result (λ fault. fault ≢ ReadFault.Short) }
     {
         let at = self.from + self.buffer.len();
         let count = (self.len - at).min(PIECE_BYTES);
@@ -119,13 +123,14 @@ impl FileReader {
         ensures from { self.new.from ≡ self.old.from }
         ensures forward { end_of self.old ≤ end_of self.new }
         ensures reaches { OnOk result (end ≤ end_of self.new) }
-        ensures pieces { OnOk result (pieces_in (end_of self.new) ≡ max (pieces_in (end_of self.old)) (pieces_in end)) }
+        ensures pieces { OnOk result
+            (pieces_in (end_of self.new) ≡ max (pieces_in (end_of self.old)) (pieces_in end)) }
         ensures called { OnOk result (ReadsPieces D.states disk.old disk.new self.old self.new) }
         ensures tried { OnErr result (ReadsAtMost D.states disk.old disk.new self.old end) }
-        ensures holds { D.honest disk.new → Holds (now (D.states disk.old) self.old.file).seen self.old
-            → Holds (now (D.states disk.old) self.old.file).seen self.new }
-        ensures short { D.honest disk.new → Holds (now (D.states disk.old) self.old.file).seen self.old
-            → IfErr result (λ fault. fault ≢ ReadFault.Short) }
+        ensures holds { D.honest disk.new → Holds (now (D.states disk.old) self.old.file).seen
+            self.old → Holds (now (D.states disk.old) self.old.file).seen self.new }
+        ensures short { D.honest disk.new → Holds (now (D.states disk.old) self.old.file).seen
+            self.old → IfErr result (λ fault. fault ≢ ReadFault.Short) }
     {
         while self.end() < end {
             self.read_piece(disk)?;
@@ -139,7 +144,8 @@ impl FileReader {
         requires ordered { at ≤ end }
         requires reached { end ≤ end_of self.now }
         ensures size { length result.now ≡ end - at }
-        ensures same { (content : List ℕ) → Holds content self.now → result.now ≡ take (end - at) (drop at content) }
+        ensures same { (content : List ℕ) → Holds content self.now
+            → result.now ≡ take (end - at) (drop at content) }
     {
         &self.buffer.as_slice()[at - self.from..end - self.from]
     }

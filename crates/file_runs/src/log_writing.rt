@@ -37,7 +37,9 @@ fn put(alloc: Global) -> Result<Command, Refusal> {
 }
 
 fn stage_one(log: &mut GateLog, command: Command) -> Result<(), Refusal>
-    ensures stands { (batches : List Batch) (staged : List Batch) (file : File) → Stands log.old batches staged file → (later : List Batch) × Stands log.new batches later file }
+    ensures stands { (batches : List Batch) (staged : List Batch) (file : File)
+        → Stands log.old batches staged file
+        → (later : List Batch) × Stands log.new batches later file }
     ensures generation { log.new.generation ≡ log.old.generation }
     ensures broken { log.new.is_broken ≡ log.old.is_broken }
 {
@@ -53,7 +55,9 @@ fn stage_one(log: &mut GateLog, command: Command) -> Result<(), Refusal>
 }
 
 fn stage_two(log: &mut GateLog, one: Command, other: Command) -> Result<(), Refusal>
-    ensures stands { (batches : List Batch) (staged : List Batch) (file : File) → Stands log.old batches staged file → (later : List Batch) × Stands log.new batches later file }
+    ensures stands { (batches : List Batch) (staged : List Batch) (file : File)
+        → Stands log.old batches staged file
+        → (later : List Batch) × Stands log.new batches later file }
     ensures generation { log.new.generation ≡ log.old.generation }
     ensures broken { log.new.is_broken ≡ log.old.is_broken }
 {
@@ -77,7 +81,9 @@ fn stage_two(log: &mut GateLog, one: Command, other: Command) -> Result<(), Refu
 
 // Stages a batch of puts.
 fn stage(alloc: Global, log: &mut GateLog, is_pair: bool) -> Result<(), Refusal>
-    ensures stands { (batches : List Batch) (staged : List Batch) (file : File) → Stands log.old batches staged file → (later : List Batch) × Stands log.new batches later file }
+    ensures stands { (batches : List Batch) (staged : List Batch) (file : File)
+        → Stands log.old batches staged file
+        → (later : List Batch) × Stands log.new batches later file }
     ensures generation { log.new.generation ≡ log.old.generation }
     ensures broken { log.new.is_broken ≡ log.old.is_broken }
 {

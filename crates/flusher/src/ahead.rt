@@ -21,7 +21,8 @@ impl<D: Disk> Keeper<D> {
         ensures ok { OnOk result (self.new ≡ record self.old { zeros = count }) }
         ensures no_other { IfErr result (λ refusal. refusal ≡ Refusal.NoMemory) }
         ensures err { OnErr result (self.new ≡ self.old) }
-        ensures fits { (n : ℕ) (done : List Command) (p : Record) → Fits D.states D.honest n done self.old p → Fits D.states D.honest n done self.new p }
+        ensures fits { (n : ℕ) (done : List Command) (p : Record)
+            → Fits D.states D.honest n done self.old p → Fits D.states D.honest n done self.new p }
     {
         self.zeros = Zeros::new(self.alloc, count)?;
         Ok(())
@@ -32,10 +33,16 @@ impl<D: Disk> Keeper<D> {
         requires stands { MayAdvance D.states D.honest self.old.log self.old.disk }
         requires works { (self.old.is_broken ≡ false) × (self.old.log.is_broken ≡ false) }
         ensures ahead { ((result ≡ Ok tt) × (self.new ≡ self.old))
-            ⊎ WritesAhead D.states D.failures D.honest self.old.zeros self.old.log self.new.log self.old.disk self.new.disk result }
+            ⊎ WritesAhead D.states D.failures D.honest self.old.zeros self.old.log self.new.log
+            self.old.disk self.new.disk result }
         ensures ok { OnOk result (self.new.is_broken ≡ false) }
-        ensures err { IfErr result (λ refusal. (refusal ≡ Refusal.Failed) × (self.new.is_broken ≡ true)) }
-        ensures same { self.new ≡ record self.old { disk = self.new.disk; log = self.new.log; is_broken = self.new.is_broken } }
+        ensures err { IfErr result (λ refusal. (refusal ≡ Refusal.Failed)
+            × (self.new.is_broken ≡ true)) }
+        ensures same { self.new ≡ record self.old {
+          disk = self.new.disk;
+          log = self.new.log;
+          is_broken = self.new.is_broken;
+        } }
     {
         match self.log.write_ahead(&self.zeros, &mut self.disk) {
             Ok(()) => Ok(()),
@@ -50,16 +57,27 @@ impl<D: Disk> Keeper<D> {
     /// that its frame doesn't lengthen the file. Where that isn't due it makes no device call. After a
     /// device failure no call is made. It takes no memory.
     pub fn write_ahead(&mut self) -> Result<(), Refusal>
-        requires { (n : ℕ) × (done : List Command) × (p : Record) × Fits D.states D.honest n done self.old p }
-        ensures failed { self.old.is_broken ≡ true → (result ≡ Err Refusal.Failed) × (self.new ≡ self.old) }
-        ensures ahead { self.old.is_broken ≡ false → ((result ≡ Ok tt) × (self.new ≡ self.old))
-            ⊎ WritesAhead D.states D.failures D.honest self.old.zeros self.old.log self.new.log self.old.disk self.new.disk result }
+        requires { (n : ℕ) × (done : List Command) × (p : Record)
+            × Fits D.states D.honest n done self.old p }
+        ensures failed { self.old.is_broken ≡ true
+            → (result ≡ Err Refusal.Failed) × (self.new ≡ self.old) }
+        ensures ahead { self.old.is_broken ≡ false
+            → ((result ≡ Ok tt) × (self.new ≡ self.old))
+            ⊎ WritesAhead D.states D.failures D.honest self.old.zeros self.old.log self.new.log
+            self.old.disk self.new.disk result }
         ensures works { OnOk result (self.new.is_broken ≡ false) }
-        ensures err { IfErr result (λ refusal. (refusal ≡ Refusal.Failed) × (self.new.is_broken ≡ true)) }
-        ensures any_moment { (n : ℕ) (done : List Command) (p : Record) → Fits D.states D.honest n done self.old p → D.honest self.old.disk
+        ensures err { IfErr result (λ refusal. (refusal ≡ Refusal.Failed)
+            × (self.new.is_broken ≡ true)) }
+        ensures any_moment { (n : ℕ) (done : List Command) (p : Record)
+            → Fits D.states D.honest n done self.old p → D.honest self.old.disk
             → AtEachMoment D.states self.old.disk self.new.disk (StopsFit (history_of p) self.old) }
-        ensures fits { (n : ℕ) (done : List Command) (p : Record) → Fits D.states D.honest n done self.old p → Fits D.states D.honest n done self.new p }
-        ensures same { self.new ≡ record self.old { disk = self.new.disk; log = self.new.log; is_broken = self.new.is_broken } }
+        ensures fits { (n : ℕ) (done : List Command) (p : Record)
+            → Fits D.states D.honest n done self.old p → Fits D.states D.honest n done self.new p }
+        ensures same { self.new ≡ record self.old {
+          disk = self.new.disk;
+          log = self.new.log;
+          is_broken = self.new.is_broken;
+        } }
     {
         steps_of_logs();
         stops_of_a_store();

@@ -60,7 +60,10 @@ impl InHand {
 
     // Makes places up to this one.
     fn lengthen(&mut self, len: usize) -> Result<(), AllocError>
-        ensures ok { OnOk result ((more : ℕ) × (self.new ≡ record self.old { slots = self.old.slots ++ replicate more None }) × (len ≤ length self.new.slots)) }
+        ensures ok { OnOk result
+            ((more : ℕ)
+            × (self.new ≡ record self.old { slots = self.old.slots ++ replicate more None })
+            × (len ≤ length self.new.slots)) }
         ensures err { OnErr result (self.new ≡ self.old) }
     {
         let old = self.slots.len();
@@ -130,8 +133,10 @@ impl InHand {
 
     /// The longest run from the first place on that may be one batch.
     pub fn longest_run(&self, most: u32) -> Run
-        ensures { (commands : List Command) × IsLongest most self.now commands × (result.count ≡ length commands)
-            × (result.frame_len ≡ length (frame first_layout (record { first = self.now.next; commands = commands }))) }
+        ensures { (commands : List Command) × IsLongest most self.now commands
+            × (result.count ≡ length commands)
+            × (result.frame_len ≡ length (frame first_layout
+            (record { first = self.now.next; commands = commands }))) }
     {
         let limit = self.most_of(most);
         let mut room = MOST_FRAME_BYTES - FRAME_HEAD_BYTES;
@@ -151,10 +156,16 @@ impl InHand {
     /// Takes the first so many commands out of their places, with their tickets. Where it finds no
     /// memory they stay.
     pub fn take_run(&mut self, alloc: Global, count: usize) -> Result<Vec<Entry>, AllocError>
-        requires run { (commands : List Command) × IsRun self.old commands × (length commands ≡ count) }
+        requires run { (commands : List Command) × IsRun self.old commands
+            × (length commands ≡ count) }
         requires fits { self.old.next + count < 2 ^ 64 }
-        ensures ok { IfOk result (λ entries. (commands : List Command) → IsRun self.old commands → length commands ≡ count
-            → (entries.items ≡ entries_from self.old.next commands) × (self.new ≡ record self.old { slots = replicate count None ++ drop count self.old.slots })) }
+        ensures ok { IfOk result (λ entries. (commands : List Command) → IsRun self.old commands
+            → length commands ≡ count
+            → (entries.items ≡ entries_from self.old.next commands)
+            × (self.new ≡ record self.old {
+              slots = replicate count None
+                  ++ drop count self.old.slots;
+            })) }
         ensures err { OnErr result (self.new ≡ self.old) }
     {
         let mut entries = Vec::with_capacity(alloc, count)?;
@@ -170,7 +181,10 @@ impl InHand {
     /// Goes past the first so many places, whose commands are no longer waited for.
     pub fn pass(&mut self, count: usize)
         requires fits { self.old.next + count < 2 ^ 64 }
-        ensures { self.new ≡ record { next = self.old.next + count; slots = drop count self.old.slots } }
+        ensures { self.new ≡ record {
+          next = self.old.next + count;
+          slots = drop count self.old.slots;
+        } }
     {
         for _ in 0..count {
             drop(self.slots.pop_front());
@@ -194,7 +208,8 @@ fn run_of(count: u32, room: usize) -> Run
 // The least number of places from this ticket on among which each of the entries has one, if there
 // can be so many.
 fn places_for(next: u64, entries: &[Entry]) -> Option<usize>
-    ensures { IfSome result (λ len. All (λ e. next ≤ e.ticket → e.ticket < next + len) entries.now) }
+    ensures { IfSome result (λ len.
+        All (λ e. next ≤ e.ticket → e.ticket < next + len) entries.now) }
 {
     let mut len = 0usize;
     for entry in entries {

@@ -77,16 +77,20 @@ impl<D: Disk> Keeper<D> {
         must_close: bool,
     ) -> Keeper<D>
         ensures disk { result.disk ≡ disk }
-        ensures store { (result.sealed ≡ sealed) × (result.log ≡ log) × (result.next ≡ None) × (result.must_close ≡ must_close) }
-        ensures checkpoint { (result.checkpoint ≡ None) × (result.capture ≡ None) × (result.stripes ≡ stripes) }
+        ensures store { (result.sealed ≡ sealed) × (result.log ≡ log) × (result.next ≡ None)
+            × (result.must_close ≡ must_close) }
+        ensures checkpoint { (result.checkpoint ≡ None) × (result.capture ≡ None)
+            × (result.stripes ≡ stripes) }
         ensures hand { result.sweeper.in_hand ≡ record { next = log.committed; slots = [] } }
         ensures sweep { (result.sweeper.sweep ≡ None) × (result.sweeper.walking ≡ Walking.Rests) }
         ensures staged { result.staged.items ≡ [] }
         ensures zeros { result.zeros ≡ 0 }
         ensures works { (result.is_broken ≡ false) × (result.has_failed ≡ false) }
         ensures published { result.published ≡ log.committed }
-        ensures fits { (p : Record) → log ≡ resumed log.generation log.low log.gate log.committed → IsUnused log.committed p
-            → (D.honest disk → IsFoundFor p sealed log must_close (now (D.states disk))) → Fits D.states D.honest stripes.count [] result p }
+        ensures fits { (p : Record) → log ≡ resumed log.generation log.low log.gate log.committed
+            → IsUnused log.committed p
+            → (D.honest disk → IsFoundFor p sealed log must_close (now (D.states disk)))
+            → Fits D.states D.honest stripes.count [] result p }
     {
         beginnings_of_stores();
         let first = log.committed();
@@ -113,13 +117,23 @@ impl<D: Disk> Keeper<D> {
     /// GIVE of its next stripe. After `Held`, and where no memory was found, the next call tries that
     /// stripe again.
     pub fn sweep_step<S: Steps>(&mut self, steps: &mut S) -> Result<Swept, Refusal>
-        requires { (done : List Command) × Fits D.states D.honest (S.stripe_count steps.old) done self.old (S.recorded steps.old) }
-        ensures one { MakesOne S.recorded S.moves (next_kind self.old.sweeper.sweep self.old.sweeper.walking) steps.old steps.new }
-        ensures steps_on { StepsOn (S.stripe_count steps.old) self.old.sweeper.sweep self.old.sweeper.walking self.old.sweeper.in_hand self.new.sweeper (S.recorded steps.old) (S.recorded steps.new) result }
-        ensures done { (done : List Command) → Fits D.states D.honest (S.stripe_count steps.old) done self.old (S.recorded steps.old)
-            → IfOk result (IsDone self.new.sweeper (done ++ commands_of self.old.staged.items) (S.recorded steps.new)) }
-        ensures fits { (done : List Command) → Fits D.states D.honest (S.stripe_count steps.old) done self.old (S.recorded steps.old)
-            → Fits D.states D.honest (S.stripe_count steps.new) done self.new (S.recorded steps.new) }
+        requires { (done : List Command)
+            × Fits D.states D.honest (S.stripe_count steps.old) done self.old
+            (S.recorded steps.old) }
+        ensures one { MakesOne S.recorded S.moves
+            (next_kind self.old.sweeper.sweep self.old.sweeper.walking) steps.old steps.new }
+        ensures steps_on { StepsOn (S.stripe_count steps.old) self.old.sweeper.sweep
+            self.old.sweeper.walking self.old.sweeper.in_hand self.new.sweeper
+            (S.recorded steps.old) (S.recorded steps.new) result }
+        ensures done { (done : List Command)
+            → Fits D.states D.honest (S.stripe_count steps.old) done self.old (S.recorded steps.old)
+            → IfOk result
+            (IsDone self.new.sweeper (done ++ commands_of self.old.staged.items)
+            (S.recorded steps.new)) }
+        ensures fits { (done : List Command)
+            → Fits D.states D.honest (S.stripe_count steps.old) done self.old (S.recorded steps.old)
+            → Fits D.states D.honest (S.stripe_count steps.new) done self.new
+            (S.recorded steps.new) }
         ensures quiet { IsQuiet (S.recorded steps.old) (S.recorded steps.new) }
         ensures seen { HasSeenMore (S.recorded steps.old) (S.recorded steps.new) }
         ensures same { self.new ≡ record self.old { sweeper = self.new.sweeper } }
@@ -135,15 +149,27 @@ impl<D: Disk> Keeper<D> {
     /// found. A stripe that another holds is tried again until it is free. Where no memory is found, the
     /// stripes before that one are drained, and the next sweep goes on there.
     pub fn sweep<R: Wait, S: Steps>(&mut self, rt: &R, steps: &mut S) -> Result<u64, Refusal>
-        requires { (done : List Command) × Fits D.states D.honest (S.stripe_count steps.old) done self.old (S.recorded steps.old) }
-        ensures done { (done : List Command) → Fits D.states D.honest (S.stripe_count steps.old) done self.old (S.recorded steps.old)
-            → IfOk result (λ count. HasGathered self.new.sweeper (done ++ commands_of self.old.staged.items) count (S.recorded steps.new)) }
-        ensures count { IfOk result (λ count. MakesSweep self.old.sweeper.sweep count (S.recorded steps.old) (S.recorded steps.new)) }
-        ensures err { IfErr result (λ refusal. (refusal ≡ Refusal.NoMemory) × StaysAt (S.stripe_count steps.new) self.new.sweeper (S.recorded steps.new)) }
-        ensures stays { OnErr result (IfSome self.new.sweeper.sweep (λ sweep. MakesSweep self.old.sweeper.sweep sweep.count (S.recorded steps.old) (S.recorded steps.new))) }
+        requires { (done : List Command)
+            × Fits D.states D.honest (S.stripe_count steps.old) done self.old
+            (S.recorded steps.old) }
+        ensures done { (done : List Command)
+            → Fits D.states D.honest (S.stripe_count steps.old) done self.old (S.recorded steps.old)
+            → IfOk result (λ count.
+            HasGathered self.new.sweeper (done ++ commands_of self.old.staged.items) count
+            (S.recorded steps.new)) }
+        ensures count { IfOk result (λ count.
+            MakesSweep self.old.sweeper.sweep count (S.recorded steps.old) (S.recorded steps.new)) }
+        ensures err { IfErr result (λ refusal. (refusal ≡ Refusal.NoMemory)
+            × StaysAt (S.stripe_count steps.new) self.new.sweeper (S.recorded steps.new)) }
+        ensures stays { OnErr result
+            (IfSome self.new.sweeper.sweep (λ sweep.
+            MakesSweep self.old.sweeper.sweep sweep.count (S.recorded steps.old)
+            (S.recorded steps.new))) }
         ensures rests { is_walking self.new.sweeper.walking ≡ false }
-        ensures fits { (done : List Command) → Fits D.states D.honest (S.stripe_count steps.old) done self.old (S.recorded steps.old)
-            → Fits D.states D.honest (S.stripe_count steps.new) done self.new (S.recorded steps.new) }
+        ensures fits { (done : List Command)
+            → Fits D.states D.honest (S.stripe_count steps.old) done self.old (S.recorded steps.old)
+            → Fits D.states D.honest (S.stripe_count steps.new) done self.new
+            (S.recorded steps.new) }
         ensures quiet { IsQuiet (S.recorded steps.old) (S.recorded steps.new) }
         ensures seen { HasSeenMore (S.recorded steps.old) (S.recorded steps.new) }
         ensures same { self.new ≡ record self.old { sweeper = self.new.sweeper } }
@@ -165,14 +191,22 @@ impl<D: Disk> Keeper<D> {
     /// Sweeps one stripe, by TAKE and GIVE, and doesn't wait for it. A sweep that is begun and not over
     /// stays where it is.
     pub fn try_sweep<S: Steps>(&mut self, stripe: usize, steps: &mut S) -> Result<(), Refusal>
-        requires fits { (done : List Command) × Fits D.states D.honest (S.stripe_count steps.old) done self.old (S.recorded steps.old) }
+        requires fits { (done : List Command)
+            × Fits D.states D.honest (S.stripe_count steps.old) done self.old
+            (S.recorded steps.old) }
         requires rests { is_walking self.old.sweeper.walking ≡ false }
         requires within { stripe < S.stripe_count steps.old }
-        ensures ok { OnOk result (SweepsOnce (S.stripe_count steps.old) stripe self.old.sweeper.in_hand self.new.sweeper.in_hand (S.recorded steps.old) (S.recorded steps.new)) }
-        ensures err { IfErr result (λ refusal. RefusesSweep (S.recorded steps.old) stripe refusal (S.recorded steps.new)) }
-        ensures kept { OnErr result (SameEntries self.old.sweeper.in_hand self.new.sweeper.in_hand) }
-        ensures fits { (done : List Command) → Fits D.states D.honest (S.stripe_count steps.old) done self.old (S.recorded steps.old)
-            → Fits D.states D.honest (S.stripe_count steps.new) done self.new (S.recorded steps.new) }
+        ensures ok { OnOk result
+            (SweepsOnce (S.stripe_count steps.old) stripe self.old.sweeper.in_hand
+            self.new.sweeper.in_hand (S.recorded steps.old) (S.recorded steps.new)) }
+        ensures err { IfErr result (λ refusal.
+            RefusesSweep (S.recorded steps.old) stripe refusal (S.recorded steps.new)) }
+        ensures kept { OnErr result
+            (SameEntries self.old.sweeper.in_hand self.new.sweeper.in_hand) }
+        ensures fits { (done : List Command)
+            → Fits D.states D.honest (S.stripe_count steps.old) done self.old (S.recorded steps.old)
+            → Fits D.states D.honest (S.stripe_count steps.new) done self.new
+            (S.recorded steps.new) }
         ensures same { self.new ≡ record self.old { sweeper = record self.old.sweeper { in_hand = self.new.sweeper.in_hand } } }
         ensures place { S.place steps.new ≡ S.place steps.old }
         ensures stripes { S.stripe_count steps.new ≡ S.stripe_count steps.old }
@@ -199,15 +233,30 @@ impl<D: Disk> Keeper<D> {
 
     // Stages the first so many commands. Where that is refused the same entries are in hand.
     fn stage_run(&mut self, count: u32) -> Result<(), Refusal>
-        requires run { (commands : List Command) × IsRun self.old.sweeper.in_hand commands × (length commands ≡ count) × FitsBatch count self.old.log.committed commands × (is_too_long self.old.log commands → ⊥) }
+        requires run { (commands : List Command) × IsRun self.old.sweeper.in_hand commands
+            × (length commands ≡ count) × FitsBatch count self.old.log.committed commands
+            × (is_too_long self.old.log commands → ⊥) }
         requires some { 1 ≤ count }
         requires next { self.old.sweeper.in_hand.next ≡ self.old.log.committed }
         requires resting { IsResting self.old.log }
-        ensures ok { OnOk result ((commands : List Command) → IsRun self.old.sweeper.in_hand commands → length commands ≡ count → Stages commands self.old.log self.old.sweeper.in_hand self.new.log self.new.sweeper.in_hand self.new.staged.items) }
-        ensures stands { OnOk result ((batches : List Batch) (file : File) → log.Stands self.old.log batches [] file → log.Stands self.new.log batches (batch_of self.old.log.committed self.new.staged.items ∷ []) file) }
+        ensures ok { OnOk result
+            ((commands : List Command) → IsRun self.old.sweeper.in_hand commands
+            → length commands ≡ count
+            → Stages commands self.old.log self.old.sweeper.in_hand self.new.log
+            self.new.sweeper.in_hand self.new.staged.items) }
+        ensures stands { OnOk result
+            ((batches : List Batch) (file : File) → log.Stands self.old.log batches [] file
+            → log.Stands self.new.log batches
+            (batch_of self.old.log.committed self.new.staged.items ∷ []) file) }
         ensures no_other { IfErr result (λ refusal. refusal ≡ Refusal.NoMemory) }
-        ensures err { OnErr result ((self.new.log ≡ self.old.log) × (self.new.staged ≡ self.old.staged) × SameEntries self.old.sweeper.in_hand self.new.sweeper.in_hand) }
-        ensures same { self.new ≡ record self.old { log = self.new.log; sweeper = record self.old.sweeper { in_hand = self.new.sweeper.in_hand }; staged = self.new.staged } }
+        ensures err { OnErr result
+            ((self.new.log ≡ self.old.log) × (self.new.staged ≡ self.old.staged)
+            × SameEntries self.old.sweeper.in_hand self.new.sweeper.in_hand) }
+        ensures same { self.new ≡ record self.old {
+          log = self.new.log;
+          sweeper = record self.old.sweeper { in_hand = self.new.sweeper.in_hand };
+          staged = self.new.staged;
+        } }
     {
         let batch = match self.sweeper.in_hand.take_run(self.alloc, count as usize) {
             Ok(batch) => batch,
@@ -228,16 +277,32 @@ impl<D: Disk> Keeper<D> {
     /// Stages the longest run of tickets in hand, from the committed count on, that may be one batch
     /// of at most `most`, and answers its length. Where there is none, nothing is staged.
     pub fn stage_batch(&mut self, most: u32) -> Result<u32, Refusal>
-        requires { (n : ℕ) × (done : List Command) × (p : Record) × Fits D.states D.honest n done self.old p }
+        requires { (n : ℕ) × (done : List Command) × (p : Record)
+            × Fits D.states D.honest n done self.old p }
         ensures failed { (result ≡ Err Refusal.Failed) ↔ (self.old.is_broken ≡ true) }
-        ensures wrong_phase { (result ≡ Err Refusal.WrongPhase) ↔ ((self.old.is_broken ≡ false) × (MayStage self.old.log self.old.next → ⊥)) }
-        ensures full { (result ≡ Err Refusal.LogFull) ↔ ((self.old.is_broken ≡ false) × MayStage self.old.log self.old.next × IsFull most self.old.log self.old.sweeper.in_hand) }
-        ensures no_other { IfErr result (λ refusal. (refusal ≡ Refusal.Failed) ⊎ (refusal ≡ Refusal.WrongPhase) ⊎ (refusal ≡ Refusal.LogFull) ⊎ (refusal ≡ Refusal.NoMemory)) }
-        ensures ok { IfOk result (λ count. (commands : List Command) × IsLongest most self.old.sweeper.in_hand commands × (count ≡ length commands)
-            × (count ≡ 0 → self.new ≡ self.old) × (1 ≤ count → Stages commands self.old.log self.old.sweeper.in_hand self.new.log self.new.sweeper.in_hand self.new.staged.items)) }
-        ensures err { OnErr result ((self.new.log ≡ self.old.log) × (self.new.staged ≡ self.old.staged) × SameEntries self.old.sweeper.in_hand self.new.sweeper.in_hand) }
-        ensures fits { (n : ℕ) (done : List Command) (p : Record) → Fits D.states D.honest n done self.old p → Fits D.states D.honest n done self.new p }
-        ensures same { self.new ≡ record self.old { log = self.new.log; sweeper = record self.old.sweeper { in_hand = self.new.sweeper.in_hand }; staged = self.new.staged } }
+        ensures wrong_phase { (result ≡ Err Refusal.WrongPhase)
+            ↔ ((self.old.is_broken ≡ false) × (MayStage self.old.log self.old.next → ⊥)) }
+        ensures full { (result ≡ Err Refusal.LogFull)
+            ↔ ((self.old.is_broken ≡ false) × MayStage self.old.log self.old.next
+            × IsFull most self.old.log self.old.sweeper.in_hand) }
+        ensures no_other { IfErr result (λ refusal. (refusal ≡ Refusal.Failed)
+            ⊎ (refusal ≡ Refusal.WrongPhase) ⊎ (refusal ≡ Refusal.LogFull)
+            ⊎ (refusal ≡ Refusal.NoMemory)) }
+        ensures ok { IfOk result (λ count. (commands : List Command)
+            × IsLongest most self.old.sweeper.in_hand commands × (count ≡ length commands)
+            × (count ≡ 0 → self.new ≡ self.old)
+            × (1 ≤ count → Stages commands self.old.log self.old.sweeper.in_hand self.new.log
+            self.new.sweeper.in_hand self.new.staged.items)) }
+        ensures err { OnErr result
+            ((self.new.log ≡ self.old.log) × (self.new.staged ≡ self.old.staged)
+            × SameEntries self.old.sweeper.in_hand self.new.sweeper.in_hand) }
+        ensures fits { (n : ℕ) (done : List Command) (p : Record)
+            → Fits D.states D.honest n done self.old p → Fits D.states D.honest n done self.new p }
+        ensures same { self.new ≡ record self.old {
+          log = self.new.log;
+          sweeper = record self.old.sweeper { in_hand = self.new.sweeper.in_hand };
+          staged = self.new.staged;
+        } }
     {
         if self.is_broken {
             return Err(Refusal::Failed);
@@ -263,9 +328,15 @@ impl<D: Disk> Keeper<D> {
     // The staged batch is committed, and no longer in hand.
     fn let_go(&mut self)
         requires fits { self.old.sweeper.in_hand.next + length self.old.staged.items < 2 ^ 64 }
-        ensures hand { self.new.sweeper ≡ record self.old.sweeper { in_hand = passed (length self.old.staged.items) self.old.sweeper.in_hand } }
+        ensures hand { self.new.sweeper ≡ record self.old.sweeper {
+          in_hand = passed
+              (length self.old.staged.items) self.old.sweeper.in_hand;
+        } }
         ensures staged { self.new.staged.items ≡ [] }
-        ensures same { self.new ≡ record self.old { sweeper = self.new.sweeper; staged = self.new.staged } }
+        ensures same { self.new ≡ record self.old {
+          sweeper = self.new.sweeper;
+          staged = self.new.staged;
+        } }
     {
         self.sweeper.in_hand.pass(self.staged.len());
         self.staged.clear();
@@ -287,11 +358,18 @@ impl<D: Disk> Keeper<D> {
     fn step_newest(&mut self) -> Result<Phase, Refusal>
         requires stands { MayAdvance D.states D.honest self.old.log self.old.disk }
         requires works { (self.old.is_broken ≡ false) × (self.old.log.is_broken ≡ false) }
-        ensures rests { self.old.log.phase ≡ Phase.Idle → (result ≡ Ok Phase.Idle) × (self.new ≡ self.old) }
-        ensures advances { self.old.log.phase ≢ Phase.Idle → Advances D.states D.failures D.honest self.old.log self.new.log self.old.disk self.new.disk result }
+        ensures rests { self.old.log.phase ≡ Phase.Idle
+            → (result ≡ Ok Phase.Idle) × (self.new ≡ self.old) }
+        ensures advances { self.old.log.phase ≢ Phase.Idle
+            → Advances D.states D.failures D.honest self.old.log self.new.log self.old.disk
+            self.new.disk result }
         ensures ok { OnOk result (self.new.is_broken ≡ false) }
         ensures err { OnErr result (self.new.is_broken ≡ true) }
-        ensures same { self.new ≡ record self.old { disk = self.new.disk; log = self.new.log; is_broken = self.new.is_broken } }
+        ensures same { self.new ≡ record self.old {
+          disk = self.new.disk;
+          log = self.new.log;
+          is_broken = self.new.is_broken;
+        } }
     {
         let stepped = self.log.advance(&mut self.disk);
         self.noted(stepped)
@@ -302,12 +380,25 @@ impl<D: Disk> Keeper<D> {
         requires stands { MayAdvance D.states D.honest self.old.log self.old.disk }
         requires works { (self.old.is_broken ≡ false) × (self.old.log.is_broken ≡ false) }
         requires fits { self.old.sweeper.in_hand.next + length self.old.staged.items < 2 ^ 64 }
-        ensures rests { self.old.log.phase ≡ Phase.Idle → (result ≡ Ok Phase.Idle) × (self.new ≡ self.old) }
-        ensures advances { self.old.log.phase ≢ Phase.Idle → Advances D.states D.failures D.honest self.old.log self.new.log self.old.disk self.new.disk result }
-        ensures hand { OnOk result (IsPast None self.old.log.phase self.old.sweeper self.old.staged.items self.new.sweeper self.new.staged.items) }
+        ensures rests { self.old.log.phase ≡ Phase.Idle
+            → (result ≡ Ok Phase.Idle) × (self.new ≡ self.old) }
+        ensures advances { self.old.log.phase ≢ Phase.Idle
+            → Advances D.states D.failures D.honest self.old.log self.new.log self.old.disk
+            self.new.disk result }
+        ensures hand { OnOk result
+            (IsPast None self.old.log.phase self.old.sweeper self.old.staged.items self.new.sweeper
+            self.new.staged.items) }
         ensures ok { OnOk result (self.new.is_broken ≡ false) }
-        ensures err { OnErr result ((self.new.sweeper ≡ self.old.sweeper) × (self.new.staged ≡ self.old.staged) × (self.new.is_broken ≡ true)) }
-        ensures same { self.new ≡ record self.old { disk = self.new.disk; log = self.new.log; sweeper = self.new.sweeper; staged = self.new.staged; is_broken = self.new.is_broken } }
+        ensures err { OnErr result
+            ((self.new.sweeper ≡ self.old.sweeper) × (self.new.staged ≡ self.old.staged)
+            × (self.new.is_broken ≡ true)) }
+        ensures same { self.new ≡ record self.old {
+          disk = self.new.disk;
+          log = self.new.log;
+          sweeper = self.new.sweeper;
+          staged = self.new.staged;
+          is_broken = self.new.is_broken;
+        } }
     {
         let phase = self.log.phase();
         let after = self.step_newest()?;
@@ -324,10 +415,22 @@ impl<D: Disk> Keeper<D> {
         requires works { (self.old.is_broken ≡ false) × (self.old.log.is_broken ≡ false) }
         requires moves { self.old.log.phase ≢ Phase.Idle }
         requires alone { self.old.next ≡ None }
-        ensures advances { (log : LogState) × Advances D.states D.failures D.honest self.old.log log self.old.disk self.new.disk result }
-        ensures ok { OnOk result ((logs_of self.new ≡ ended_in self.old.log.phase self.old.log next) × (self.new.is_broken ≡ false)) }
-        ensures err { OnErr result ((logs_of self.new ≡ record { newest = record self.old.log { is_broken = true }; next = Some next }) × (self.new.is_broken ≡ true)) }
-        ensures same { self.new ≡ record self.old { disk = self.new.disk; log = self.new.log; next = self.new.next; is_broken = self.new.is_broken } }
+        ensures advances { (log : LogState) × Advances D.states D.failures D.honest self.old.log log
+            self.old.disk self.new.disk result }
+        ensures ok { OnOk result
+            ((logs_of self.new ≡ ended_in self.old.log.phase self.old.log next)
+            × (self.new.is_broken ≡ false)) }
+        ensures err { OnErr result
+            ((logs_of self.new ≡ record {
+              newest = record self.old.log { is_broken = true };
+              next = Some next;
+            }) × (self.new.is_broken ≡ true)) }
+        ensures same { self.new ≡ record self.old {
+          disk = self.new.disk;
+          log = self.new.log;
+          next = self.new.next;
+          is_broken = self.new.is_broken;
+        } }
     {
         let is_last = self.log.phase() == Phase::Opened;
         let stepped = self.step_newest();
@@ -343,8 +446,16 @@ impl<D: Disk> Keeper<D> {
     fn end_newest(&mut self, generation: u64) -> Result<Phase, Refusal>
         requires { IsResting self.old.log }
         ensures ok { result ≡ Ok Phase.Staged }
-        ensures stands { (batches : List Batch) (staged : List Batch) (file : File) → log.Stands self.old.log batches staged file → log.Stands self.new.log batches staged file }
-        ensures same { self.new ≡ record self.old { log = record self.old.log { phase = Phase.Staged; ending = Some generation } } }
+        ensures stands { (batches : List Batch) (staged : List Batch) (file : File)
+            → log.Stands self.old.log batches staged file
+            → log.Stands self.new.log batches staged file }
+        ensures same { self.new
+            ≡ record self.old {
+              log = record self.old.log {
+                phase = Phase.Staged;
+                ending = Some generation;
+              };
+            } }
     {
         self.log.end_with(generation)?;
         Ok(Phase::Staged)
@@ -357,11 +468,21 @@ impl<D: Disk> Keeper<D> {
         requires works { (self.old.is_broken ≡ false) × (next.is_broken ≡ false) }
         requires moves { next.phase ≢ Phase.Idle }
         requires resting { IsResting self.old.log }
-        ensures advances { (log : LogState) × (stepped : Result Phase Refusal) × (self.new.next ≡ Some log) × Advances D.states D.failures D.honest next log self.old.disk self.new.disk stepped × IsTold stepped next.generation self.old.log self.new.log result }
-        ensures stands { (batches : List Batch) (staged : List Batch) (file : File) → log.Stands self.old.log batches staged file → log.Stands self.new.log batches staged file }
+        ensures advances { (log : LogState) × (stepped : Result Phase Refusal)
+            × (self.new.next ≡ Some log)
+            × Advances D.states D.failures D.honest next log self.old.disk self.new.disk stepped
+            × IsTold stepped next.generation self.old.log self.new.log result }
+        ensures stands { (batches : List Batch) (staged : List Batch) (file : File)
+            → log.Stands self.old.log batches staged file
+            → log.Stands self.new.log batches staged file }
         ensures ok { OnOk result (self.new.is_broken ≡ false) }
         ensures err { OnErr result (self.new.is_broken ≡ true) }
-        ensures same { self.new ≡ record self.old { disk = self.new.disk; log = self.new.log; next = self.new.next; is_broken = self.new.is_broken } }
+        ensures same { self.new ≡ record self.old {
+          disk = self.new.disk;
+          log = self.new.log;
+          next = self.new.next;
+          is_broken = self.new.is_broken;
+        } }
     {
         let stepped = next.advance(&mut self.disk);
         let generation = next.generation();
@@ -378,19 +499,39 @@ impl<D: Disk> Keeper<D> {
     /// rotation the header of the log that follows is written, and then the newest one ends. After a
     /// device failure no call is made. It takes no memory.
     pub fn advance(&mut self) -> Result<Phase, Refusal>
-        requires { (n : ℕ) × (done : List Command) × (p : Record) × Fits D.states D.honest n done self.old p }
-        ensures failed { self.old.is_broken ≡ true → (result ≡ Err Refusal.Failed) × (self.new ≡ self.old) }
-        ensures rests { self.old.is_broken ≡ false → (due_of (logs_of self.old)).phase ≡ Phase.Idle → (result ≡ Ok Phase.Idle) × (self.new ≡ self.old) }
-        ensures steps { self.old.is_broken ≡ false → (due_of (logs_of self.old)).phase ≢ Phase.Idle → StepsLogs D.states D.failures D.honest (logs_of self.old) (logs_of self.new) self.old.disk self.new.disk result }
-        ensures committed { self.new.log.committed ≡ self.old.log.committed + committed_by result self.old.log.phase self.old.staged.items }
-        ensures hand { OnOk result (IsPast self.old.next self.old.log.phase self.old.sweeper self.old.staged.items self.new.sweeper self.new.staged.items) }
+        requires { (n : ℕ) × (done : List Command) × (p : Record)
+            × Fits D.states D.honest n done self.old p }
+        ensures failed { self.old.is_broken ≡ true
+            → (result ≡ Err Refusal.Failed) × (self.new ≡ self.old) }
+        ensures rests { self.old.is_broken ≡ false → (due_of (logs_of self.old)).phase ≡ Phase.Idle
+            → (result ≡ Ok Phase.Idle) × (self.new ≡ self.old) }
+        ensures steps { self.old.is_broken ≡ false → (due_of (logs_of self.old)).phase ≢ Phase.Idle
+            → StepsLogs D.states D.failures D.honest (logs_of self.old) (logs_of self.new)
+            self.old.disk self.new.disk result }
+        ensures committed { self.new.log.committed ≡ self.old.log.committed
+            + committed_by result self.old.log.phase self.old.staged.items }
+        ensures hand { OnOk result
+            (IsPast self.old.next self.old.log.phase self.old.sweeper self.old.staged.items
+            self.new.sweeper self.new.staged.items) }
         ensures works { OnOk result (self.new.is_broken ≡ false) }
-        ensures kept { OnErr result ((self.new.sweeper ≡ self.old.sweeper) × (self.new.staged ≡ self.old.staged) × (self.new.is_broken ≡ true)) }
-        ensures any_moment { (n : ℕ) (done : List Command) (p : Record) → Fits D.states D.honest n done self.old p → D.honest self.old.disk
+        ensures kept { OnErr result
+            ((self.new.sweeper ≡ self.old.sweeper) × (self.new.staged ≡ self.old.staged)
+            × (self.new.is_broken ≡ true)) }
+        ensures any_moment { (n : ℕ) (done : List Command) (p : Record)
+            → Fits D.states D.honest n done self.old p → D.honest self.old.disk
             → AtEachMoment D.states self.old.disk self.new.disk (StopsFit (history_of p) self.old) }
-        ensures fits { (n : ℕ) (done : List Command) (p : Record) → Fits D.states D.honest n done self.old p
-            → Fits D.states D.honest n (done_after result self.old.log.phase done self.old.staged.items) self.new p }
-        ensures same { self.new ≡ record self.old { disk = self.new.disk; log = self.new.log; next = self.new.next; sweeper = self.new.sweeper; staged = self.new.staged; is_broken = self.new.is_broken } }
+        ensures fits { (n : ℕ) (done : List Command) (p : Record)
+            → Fits D.states D.honest n done self.old p
+            → Fits D.states D.honest n
+            (done_after result self.old.log.phase done self.old.staged.items) self.new p }
+        ensures same { self.new ≡ record self.old {
+          disk = self.new.disk;
+          log = self.new.log;
+          next = self.new.next;
+          sweeper = self.new.sweeper;
+          staged = self.new.staged;
+          is_broken = self.new.is_broken;
+        } }
     {
         steps_of_logs();
         stops_of_a_store();
@@ -410,13 +551,21 @@ impl<D: Disk> Keeper<D> {
 
     /// DURABLE with the committed count, which the pass has seen; no step where `fail` was called.
     pub fn publish<S: Steps>(&mut self, steps: &mut S)
-        requires fits { (done : List Command) × Fits D.states D.honest (S.stripe_count steps.old) done self.old (S.recorded steps.old) }
+        requires fits { (done : List Command)
+            × Fits D.states D.honest (S.stripe_count steps.old) done self.old
+            (S.recorded steps.old) }
         requires rests { is_walking self.old.sweeper.walking ≡ false }
-        ensures one { self.old.has_failed ≡ false → MakesOne S.recorded S.moves Durable steps.old steps.new }
-        ensures published { self.old.has_failed ≡ false → (S.recorded steps.new ≡ publishing (S.recorded steps.old) self.old.log.committed) × (self.new ≡ record self.old { published = self.old.log.committed }) }
-        ensures failed { self.old.has_failed ≡ true → (steps.new ≡ steps.old) × (self.new ≡ self.old) }
-        ensures fits { (done : List Command) → Fits D.states D.honest (S.stripe_count steps.old) done self.old (S.recorded steps.old)
-            → Fits D.states D.honest (S.stripe_count steps.new) done self.new (S.recorded steps.new) }
+        ensures one { self.old.has_failed ≡ false
+            → MakesOne S.recorded S.moves Durable steps.old steps.new }
+        ensures published { self.old.has_failed ≡ false
+            → (S.recorded steps.new ≡ publishing (S.recorded steps.old) self.old.log.committed)
+            × (self.new ≡ record self.old { published = self.old.log.committed }) }
+        ensures failed { self.old.has_failed ≡ true
+            → (steps.new ≡ steps.old) × (self.new ≡ self.old) }
+        ensures fits { (done : List Command)
+            → Fits D.states D.honest (S.stripe_count steps.old) done self.old (S.recorded steps.old)
+            → Fits D.states D.honest (S.stripe_count steps.new) done self.new
+            (S.recorded steps.new) }
         ensures place { S.place steps.new ≡ S.place steps.old }
         ensures stripes { S.stripe_count steps.new ≡ S.stripe_count steps.old }
     {
@@ -430,12 +579,17 @@ impl<D: Disk> Keeper<D> {
 
     /// FAIL. From now on nothing is published.
     pub fn fail<S: Steps>(&mut self, steps: &mut S)
-        requires fits { (done : List Command) × Fits D.states D.honest (S.stripe_count steps.old) done self.old (S.recorded steps.old) }
+        requires fits { (done : List Command)
+            × Fits D.states D.honest (S.stripe_count steps.old) done self.old
+            (S.recorded steps.old) }
         requires rests { is_walking self.old.sweeper.walking ≡ false }
         ensures one { MakesOne S.recorded S.moves Fail steps.old steps.new }
-        ensures failed { (S.recorded steps.new ≡ failing (S.recorded steps.old)) × (self.new ≡ record self.old { has_failed = true }) }
-        ensures fits { (done : List Command) → Fits D.states D.honest (S.stripe_count steps.old) done self.old (S.recorded steps.old)
-            → Fits D.states D.honest (S.stripe_count steps.new) done self.new (S.recorded steps.new) }
+        ensures failed { (S.recorded steps.new ≡ failing (S.recorded steps.old))
+            × (self.new ≡ record self.old { has_failed = true }) }
+        ensures fits { (done : List Command)
+            → Fits D.states D.honest (S.stripe_count steps.old) done self.old (S.recorded steps.old)
+            → Fits D.states D.honest (S.stripe_count steps.new) done self.new
+            (S.recorded steps.new) }
         ensures place { S.place steps.new ≡ S.place steps.old }
         ensures stripes { S.stripe_count steps.new ≡ S.stripe_count steps.old }
     {

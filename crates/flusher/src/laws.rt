@@ -19,7 +19,8 @@ use store_states::laws::{beginnings_of_stores, stops_of_a_store};
 /// seen, with the committed commands and no more than the staged ones besides, also after a device call
 /// has failed.
 pub fn stops_of_a_keeper<D: Disk>(_keeper: &Keeper<D>)
-    ensures { (n : ℕ) (done : List Command) (p : Record) → Fits D.states D.honest n done _keeper.now p → D.honest _keeper.now.disk
+    ensures { (n : ℕ) (done : List Command) (p : Record)
+        → Fits D.states D.honest n done _keeper.now p → D.honest _keeper.now.disk
         → StopsFit (history_of p) _keeper.now (now (D.states _keeper.now.disk)) }
 {
     stops_of_a_store();
@@ -29,24 +30,32 @@ pub fn stops_of_a_keeper<D: Disk>(_keeper: &Keeper<D>)
 /// of the one history from the pass's opening on: each entry of the history below the committed count
 /// was taken.
 pub fn committed_were_taken<D: Disk>(_keeper: &Keeper<D>)
-    ensures front { (n : ℕ) (done : List Command) (p : Record) → Fits D.states D.honest n done _keeper.now p
+    ensures front { (n : ℕ) (done : List Command) (p : Record)
+        → Fits D.states D.honest n done _keeper.now p
         → IsTakenFront done _keeper.now.log.committed p }
-    ensures each { (n : ℕ) (done : List Command) (p : Record) → Fits D.states D.honest n done _keeper.now p
-        → (e : Entry) → Contains (entries_from p.opening.first p.seen) e → e.ticket < _keeper.now.log.committed → Contains p.taken e }
+    ensures each { (n : ℕ) (done : List Command) (p : Record)
+        → Fits D.states D.honest n done _keeper.now p → (e : Entry)
+        → Contains (entries_from p.opening.first p.seen) e → e.ticket < _keeper.now.log.committed
+        → Contains p.taken e }
 {}
 
 /// What is in hand was taken by the sweeps of the keeper's pass, and so was what may be the next batch.
 pub fn runs_were_taken<D: Disk>(_keeper: &Keeper<D>)
-    ensures { (n : ℕ) (done : List Command) (p : Record) → Fits D.states D.honest n done _keeper.now p
-        → (commands : List Command) → IsRun _keeper.now.sweeper.in_hand commands → WereTaken _keeper.now.log.committed commands p }
+    ensures { (n : ℕ) (done : List Command) (p : Record)
+        → Fits D.states D.honest n done _keeper.now p → (commands : List Command)
+        → IsRun _keeper.now.sweeper.in_hand commands
+        → WereTaken _keeper.now.log.committed commands p }
 {}
 
 /// Between its walks the keeper's pass holds no stripe, and may make calls and releases of its own.
 pub fn pass_goes_on<D: Disk>(_keeper: &Keeper<D>)
-    ensures free { (n : ℕ) (done : List Command) (p : Record) → Fits D.states D.honest n done _keeper.now p
+    ensures free { (n : ℕ) (done : List Command) (p : Record)
+        → Fits D.states D.honest n done _keeper.now p
         → is_walking _keeper.now.sweeper.walking ≡ false → p.holding ≡ None }
-    ensures fits { (n : ℕ) (done : List Command) (p : Record) → Fits D.states D.honest n done _keeper.now p
-        → is_walking _keeper.now.sweeper.walking ≡ false → (w : Record) → IsBeside p w → w.holding ≡ None → Fits D.states D.honest n done _keeper.now w }
+    ensures fits { (n : ℕ) (done : List Command) (p : Record)
+        → Fits D.states D.honest n done _keeper.now p
+        → is_walking _keeper.now.sweeper.walking ≡ false → (w : Record) → IsBeside p w
+        → w.holding ≡ None → Fits D.states D.honest n done _keeper.now w }
 {
     beginnings_of_stores();
     laws_of_found();

@@ -70,11 +70,18 @@ impl Sweeper {
 
     /// Makes exactly one step: the LOOK that begins a sweep, or TAKE or GIVE of its next stripe.
     pub fn step<S: Steps>(&mut self, steps: &mut S) -> Result<Swept, Refusal>
-        requires { (gone : List Command) × Stands (S.stripe_count steps.old) self.old gone (S.recorded steps.old) }
-        ensures one { MakesOne S.recorded S.moves (next_kind self.old.sweep self.old.walking) steps.old steps.new }
-        ensures steps_on { StepsOn (S.stripe_count steps.old) self.old.sweep self.old.walking self.old.in_hand self.new (S.recorded steps.old) (S.recorded steps.new) result }
-        ensures stands { (gone : List Command) → Stands (S.stripe_count steps.old) self.old gone (S.recorded steps.old) → Stands (S.stripe_count steps.new) self.new gone (S.recorded steps.new) }
-        ensures done { (gone : List Command) → Stands (S.stripe_count steps.old) self.old gone (S.recorded steps.old) → IfOk result (IsDone self.new gone (S.recorded steps.new)) }
+        requires { (gone : List Command)
+            × Stands (S.stripe_count steps.old) self.old gone (S.recorded steps.old) }
+        ensures one { MakesOne S.recorded S.moves (next_kind self.old.sweep self.old.walking)
+            steps.old steps.new }
+        ensures steps_on { StepsOn (S.stripe_count steps.old) self.old.sweep self.old.walking
+            self.old.in_hand self.new (S.recorded steps.old) (S.recorded steps.new) result }
+        ensures stands { (gone : List Command)
+            → Stands (S.stripe_count steps.old) self.old gone (S.recorded steps.old)
+            → Stands (S.stripe_count steps.new) self.new gone (S.recorded steps.new) }
+        ensures done { (gone : List Command)
+            → Stands (S.stripe_count steps.old) self.old gone (S.recorded steps.old)
+            → IfOk result (IsDone self.new gone (S.recorded steps.new)) }
         ensures place { S.place steps.new ≡ S.place steps.old }
         ensures stripes { S.stripe_count steps.new ≡ S.stripe_count steps.old }
     {
@@ -92,8 +99,11 @@ impl Sweeper {
         requires free { (S.recorded steps.old).holding ≡ None }
         requires within { stripe < S.stripe_count steps.old }
         requires keeper { (S.recorded steps.old).keeper ≡ true }
-        ensures ok { OnOk result (SweepsOnce (S.stripe_count steps.old) stripe self.old.in_hand self.new.in_hand (S.recorded steps.old) (S.recorded steps.new)) }
-        ensures err { IfErr result (λ refusal. RefusesSweep (S.recorded steps.old) stripe refusal (S.recorded steps.new)) }
+        ensures ok { OnOk result
+            (SweepsOnce (S.stripe_count steps.old) stripe self.old.in_hand self.new.in_hand
+            (S.recorded steps.old) (S.recorded steps.new)) }
+        ensures err { IfErr result (λ refusal.
+            RefusesSweep (S.recorded steps.old) stripe refusal (S.recorded steps.new)) }
         ensures kept { OnErr result (Collects self.old.in_hand [] self.new.in_hand) }
         ensures same { self.new ≡ record self.old { in_hand = self.new.in_hand } }
         ensures place { S.place steps.new ≡ S.place steps.old }
@@ -120,8 +130,11 @@ impl Sweeper {
 
     fn look<S: Steps>(&mut self, steps: &mut S) -> Result<Swept, Refusal>
         ensures one { MakesOne S.recorded S.moves Look steps.old steps.new }
-        ensures begins { BeginsSweep self.old.in_hand self.new (S.recorded steps.old) (S.recorded steps.new) result }
-        ensures stands { (gone : List Command) → HasNone self.old.in_hand gone (S.recorded steps.old) → Stands (S.stripe_count steps.new) self.new gone (S.recorded steps.new) }
+        ensures begins { BeginsSweep self.old.in_hand self.new (S.recorded steps.old)
+            (S.recorded steps.new) result }
+        ensures stands { (gone : List Command)
+            → HasNone self.old.in_hand gone (S.recorded steps.old)
+            → Stands (S.stripe_count steps.new) self.new gone (S.recorded steps.new) }
         ensures place { S.place steps.new ≡ S.place steps.old }
         ensures stripes { S.stripe_count steps.new ≡ S.stripe_count steps.old }
     {
@@ -133,11 +146,17 @@ impl Sweeper {
     }
 
     fn take<S: Steps>(&mut self, sweep: Sweep, steps: &mut S) -> Result<Swept, Refusal>
-        requires stands { (gone : List Command) × IsBetween (S.stripe_count steps.old) sweep self.old.in_hand gone (S.recorded steps.old) }
+        requires stands { (gone : List Command)
+            × IsBetween (S.stripe_count steps.old) sweep self.old.in_hand gone
+            (S.recorded steps.old) }
         requires sweep { self.old.sweep ≡ Some sweep }
         ensures one { MakesOne S.recorded S.moves (Take sweep.stripe) steps.old steps.new }
-        ensures after { AfterTake (S.stripe_count steps.old) sweep self.old.in_hand self.new (S.recorded steps.old) (S.recorded steps.new) result }
-        ensures stands { (gone : List Command) → IsBetween (S.stripe_count steps.old) sweep self.old.in_hand gone (S.recorded steps.old) → Stands (S.stripe_count steps.new) self.new gone (S.recorded steps.new) }
+        ensures after { AfterTake (S.stripe_count steps.old) sweep self.old.in_hand self.new
+            (S.recorded steps.old) (S.recorded steps.new) result }
+        ensures stands { (gone : List Command)
+            → IsBetween (S.stripe_count steps.old) sweep self.old.in_hand gone
+            (S.recorded steps.old)
+            → Stands (S.stripe_count steps.new) self.new gone (S.recorded steps.new) }
         ensures place { S.place steps.new ≡ S.place steps.old }
         ensures stripes { S.stripe_count steps.new ≡ S.stripe_count steps.old }
     {
@@ -154,12 +173,20 @@ impl Sweeper {
     }
 
     fn give<S: Steps>(&mut self, sweep: Sweep, walk: Walk, steps: &mut S) -> Result<Swept, Refusal>
-        requires stands { (gone : List Command) × IsHolding (S.stripe_count steps.old) sweep walk self.old.in_hand gone (S.recorded steps.old) }
+        requires stands { (gone : List Command)
+            × IsHolding (S.stripe_count steps.old) sweep walk self.old.in_hand gone
+            (S.recorded steps.old) }
         requires sweep { self.old.sweep ≡ Some sweep }
         ensures one { MakesOne S.recorded S.moves (Give sweep.stripe) steps.old steps.new }
-        ensures after { AfterGive (S.stripe_count steps.old) sweep walk self.old.in_hand self.new (S.recorded steps.old) (S.recorded steps.new) result }
-        ensures stands { (gone : List Command) → IsHolding (S.stripe_count steps.old) sweep walk self.old.in_hand gone (S.recorded steps.old) → Stands (S.stripe_count steps.new) self.new gone (S.recorded steps.new) }
-        ensures done { (gone : List Command) → IsHolding (S.stripe_count steps.old) sweep walk self.old.in_hand gone (S.recorded steps.old) → IfOk result (IsDone self.new gone (S.recorded steps.new)) }
+        ensures after { AfterGive (S.stripe_count steps.old) sweep walk self.old.in_hand self.new
+            (S.recorded steps.old) (S.recorded steps.new) result }
+        ensures stands { (gone : List Command)
+            → IsHolding (S.stripe_count steps.old) sweep walk self.old.in_hand gone
+            (S.recorded steps.old)
+            → Stands (S.stripe_count steps.new) self.new gone (S.recorded steps.new) }
+        ensures done { (gone : List Command)
+            → IsHolding (S.stripe_count steps.old) sweep walk self.old.in_hand gone
+            (S.recorded steps.old) → IfOk result (IsDone self.new gone (S.recorded steps.new)) }
         ensures place { S.place steps.new ≡ S.place steps.old }
         ensures stripes { S.stripe_count steps.new ≡ S.stripe_count steps.old }
     {
@@ -177,8 +204,16 @@ impl Sweeper {
     // The stripe is done.
     fn go_on(&mut self, sweep: Sweep, stripes: usize) -> Swept
         requires { sweep.stripe < stripes }
-        ensures more { sweep.stripe + 1 < stripes → (result ≡ Swept.More) × (self.new ≡ record self.old { sweep = Some (record sweep { stripe = sweep.stripe + 1 }); walking = Walking.SweepTakes }) }
-        ensures last { stripes ≤ sweep.stripe + 1 → (result ≡ Swept.Done sweep.count) × (self.new ≡ record self.old { sweep = None; walking = Walking.Rests }) }
+        ensures more { sweep.stripe + 1 < stripes
+            → (result ≡ Swept.More)
+            × (self.new
+            ≡ record self.old {
+              sweep = Some (record sweep { stripe = sweep.stripe + 1 });
+              walking = Walking.SweepTakes;
+            }) }
+        ensures last { stripes ≤ sweep.stripe + 1
+            → (result ≡ Swept.Done sweep.count)
+            × (self.new ≡ record self.old { sweep = None; walking = Walking.Rests }) }
     {
         if sweep.stripe + 1 < stripes {
             self.sweep = Some(Sweep {
@@ -212,7 +247,9 @@ fn hold<S: Steps>(alloc: Global, stripe: usize, steps: &mut S) -> Option<Walk>
     requires within { stripe < S.stripe_count steps.old }
     requires keeper { (S.recorded steps.old).keeper ≡ true }
     ensures one { MakesOne S.recorded S.moves (Take stripe) steps.old steps.new }
-    ensures some { IfSome result (λ walk. IsSwept (S.stripe_count steps.old) (S.recorded steps.old) stripe walk (S.recorded steps.new)) }
+    ensures some { IfSome result (λ walk.
+        IsSwept (S.stripe_count steps.old) (S.recorded steps.old) stripe walk
+        (S.recorded steps.new)) }
     ensures none { IfNone result (S.recorded steps.new ≡ missing (S.recorded steps.old) stripe) }
     ensures place { S.place steps.new ≡ S.place steps.old }
     ensures stripes { S.stripe_count steps.new ≡ S.stripe_count steps.old }
@@ -229,11 +266,19 @@ fn hold<S: Steps>(alloc: Global, stripe: usize, steps: &mut S) -> Option<Walk>
 // GIVE of that stripe: the entries that were in its outbox, or `None` where it is put back as it was
 // taken.
 fn hand_out<S: Steps>(walk: Walk, steps: &mut S) -> Option<Vec<Entry>>
-    requires { (b : Record) × (i : ℕ) × IsSwept (S.stripe_count steps.old) b i walk (S.recorded steps.old) }
-    ensures one { (b : Record) (i : ℕ) → IsSwept (S.stripe_count steps.old) b i walk (S.recorded steps.old) → MakesOne S.recorded S.moves (Give i) steps.old steps.new }
-    ensures entries { IfSome result (λ entries. (entries.items ≡ entries_of_walk walk) × (refusal_of_walk walk ≡ None)) }
-    ensures some { IfSome result (λ entries. (b : Record) (i : ℕ) → IsSwept (S.stripe_count steps.old) b i walk (S.recorded steps.old) → SweepsStripe (S.stripe_count steps.old) b i entries.items (S.recorded steps.new)) }
-    ensures none { IfNone result ((b : Record) (i : ℕ) → IsSwept (S.stripe_count steps.old) b i walk (S.recorded steps.old) → RefusesSweep b i Refusal.NoMemory (S.recorded steps.new)) }
+    requires { (b : Record) × (i : ℕ)
+        × IsSwept (S.stripe_count steps.old) b i walk (S.recorded steps.old) }
+    ensures one { (b : Record) (i : ℕ)
+        → IsSwept (S.stripe_count steps.old) b i walk (S.recorded steps.old)
+        → MakesOne S.recorded S.moves (Give i) steps.old steps.new }
+    ensures entries { IfSome result (λ entries. (entries.items ≡ entries_of_walk walk)
+        × (refusal_of_walk walk ≡ None)) }
+    ensures some { IfSome result (λ entries. (b : Record) (i : ℕ)
+        → IsSwept (S.stripe_count steps.old) b i walk (S.recorded steps.old)
+        → SweepsStripe (S.stripe_count steps.old) b i entries.items (S.recorded steps.new)) }
+    ensures none { IfNone result
+        ((b : Record) (i : ℕ) → IsSwept (S.stripe_count steps.old) b i walk (S.recorded steps.old)
+        → RefusesSweep b i Refusal.NoMemory (S.recorded steps.new)) }
     ensures place { S.place steps.new ≡ S.place steps.old }
     ensures stripes { S.stripe_count steps.new ≡ S.stripe_count steps.old }
 {

@@ -16,13 +16,20 @@ use store_layout::Phase;
 pub fn commit_staged<D: Disk>(log: &mut GateLog, disk: &mut D) -> Result<(), Refusal>
     requires phase { log.old.phase ≡ Phase.Staged }
     requires works { log.old.is_broken ≡ false }
-    requires stands { D.honest disk.old → (batches : List Batch) × (staged : List Batch) × Stands log.old batches staged (now (D.states disk.old) (log_file log.old.generation)) }
-    ensures any_moment { (batches : List Batch) (staged : List Batch) → Stands log.old batches staged (now (D.states disk.old) (log_file log.old.generation))
-        → AtEachMoment D.states disk.old disk.new (IsKept log.old batches staged (now (D.states disk.old))) }
+    requires stands { D.honest disk.old → (batches : List Batch) × (staged : List Batch)
+        × Stands log.old batches staged (now (D.states disk.old) (log_file log.old.generation)) }
+    ensures any_moment { (batches : List Batch) (staged : List Batch)
+        → Stands log.old batches staged (now (D.states disk.old) (log_file log.old.generation))
+        → AtEachMoment D.states disk.old disk.new
+        (IsKept log.old batches staged (now (D.states disk.old))) }
     ensures ok { OnOk result (log.new ≡ log_after Phase.Opened log.old) }
-    ensures stands { OnOk result ((batches : List Batch) (staged : List Batch) → Stands log.old batches staged (now (D.states disk.old) (log_file log.old.generation))
-        → Stands log.new (batches ++ staged) [] (now (D.states disk.new) (log_file log.old.generation))) }
-    ensures err { IfErr result (λ refusal. (refusal ≡ Refusal.Failed) × (log.new.is_broken ≡ true) × (log.new.committed ≡ log.old.committed)) }
+    ensures stands { OnOk result
+        ((batches : List Batch) (staged : List Batch)
+        → Stands log.old batches staged (now (D.states disk.old) (log_file log.old.generation))
+        → Stands log.new (batches ++ staged) []
+        (now (D.states disk.new) (log_file log.old.generation))) }
+    ensures err { IfErr result (λ refusal. (refusal ≡ Refusal.Failed) × (log.new.is_broken ≡ true)
+        × (log.new.committed ≡ log.old.committed)) }
 {
     let _written = log.advance(disk)?;
     let _synced = log.advance(disk)?;

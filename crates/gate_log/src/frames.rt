@@ -55,7 +55,8 @@ pub(crate) fn frame_len(entries: &[Entry]) -> usize
 
 /// Puts the records of the entries at the end, or some of them where no memory is found.
 fn append_records(entries: &[Entry], out: &mut Vec<u8>) -> Result<(), Refusal>
-    ensures ok { OnOk result (out.new.items ≡ out.old.items ++ records_bytes first_layout (commands_of entries.now)) }
+    ensures ok { OnOk result
+        (out.new.items ≡ out.old.items ++ records_bytes first_layout (commands_of entries.now)) }
     ensures fits { OnOk result (AllByRecursion (IsCommand first_layout) (commands_of entries.now)) }
     ensures err { IfErr result (λ refusal. refusal ≡ Refusal.NoMemory) }
 {
@@ -68,7 +69,8 @@ fn append_records(entries: &[Entry], out: &mut Vec<u8>) -> Result<(), Refusal>
 /// The frame of a batch, and a closed gate.
 pub(crate) fn batch_frame(alloc: Global, first: u64, entries: &[Entry]) -> Result<Vec<u8>, Refusal>
     requires { length entries.now ≤ 65536 }
-    ensures ok { IfOk result (λ bytes. bytes.items ≡ frame first_layout (batch_of first entries.now) ++ 0 ∷ []) }
+    ensures ok { IfOk result (λ bytes.
+        bytes.items ≡ frame first_layout (batch_of first entries.now) ++ 0 ∷ []) }
     ensures fits { OnOk result (AllByRecursion (IsCommand first_layout) (commands_of entries.now)) }
     ensures err { IfErr result (λ refusal. refusal ≡ Refusal.NoMemory) }
 {

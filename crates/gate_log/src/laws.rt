@@ -8,6 +8,7 @@ ghost use Rattle.gate_log.specs.Standing.{Stands, IsReady, MayRead};
 /// Once the header is on the disk, each content that a stop may leave has the committed batches, or
 /// what is staged too.
 pub fn stops_of_a_log()
-    ensures { (log : LogState) (batches : List Batch) (staged : List Batch) (file : File) (content : List ℕ) → Stands log batches staged file → IsReady log.phase
+    ensures { (log : LogState) (batches : List Batch) (staged : List Batch) (file : File)
+        (content : List ℕ) → Stands log batches staged file → IsReady log.phase
         → MayLeave file content → MayRead log.phase log.ending log batches staged content }
 {}

@@ -45,9 +45,32 @@ impl Model for GateLog {
 
     ghost Value = { LogState };
 
-    ghost view = { λ log. record { generation = log.generation; low = log.low; phase = log.phase; gate = log.gate; committed = log.committed; count = log.count; frame = log.frame.items; ending = log.ending; is_broken = log.is_broken } };
+    ghost view = { λ log.
+        record {
+          generation = log.generation;
+          low = log.low;
+          phase = log.phase;
+          gate = log.gate;
+          committed = log.committed;
+          count = log.count;
+          frame = log.frame.items;
+          ending = log.ending;
+          is_broken = log.is_broken;
+        } };
 
-    ghost invariant = { λ log. IsSound (record { generation = log.generation; low = log.low; phase = log.phase; gate = log.gate; committed = log.committed; count = log.count; frame = log.frame.items; ending = log.ending; is_broken = log.is_broken }) };
+    ghost invariant = { λ log.
+        IsSound
+        (record {
+          generation = log.generation;
+          low = log.low;
+          phase = log.phase;
+          gate = log.gate;
+          committed = log.committed;
+          count = log.count;
+          frame = log.frame.items;
+          ending = log.ending;
+          is_broken = log.is_broken;
+        }) };
 }
 
 impl GateLog {
@@ -76,8 +99,10 @@ impl GateLog {
     pub fn resume(alloc: Global, generation: u64, low: u64, gate: usize, committed: u64) -> GateLog
         requires { gate + 1 < 2 ^ 64 }
         ensures state { result ≡ resumed generation low gate committed }
-        ensures stands { (batches : List Batch) (content : List ℕ) → IsClosed first_layout generation low batches content
-            → gate ≡ length (log_front first_layout generation low batches) → committed ≡ low + length (commands_in batches)
+        ensures stands { (batches : List Batch) (content : List ℕ)
+            → IsClosed first_layout generation low batches content
+            → gate ≡ length (log_front first_layout generation low batches)
+            → committed ≡ low + length (commands_in batches)
             → Stands result batches [] (at_rest content) }
     {
         GateLog {
@@ -142,7 +167,8 @@ impl GateLog {
     pub fn begin(&mut self, generation: u64, low: u64) -> Result<(), Refusal>
         ensures wrong_phase { (result ≡ Err Refusal.WrongPhase) ↔ (self.old.phase ≢ Phase.Idle) }
         ensures no_other { IfErr result (λ refusal. refusal ≡ Refusal.WrongPhase) }
-        ensures ok { OnOk result (self.new ≡ record (begun generation low) { is_broken = self.old.is_broken }) }
+        ensures ok { OnOk result
+            (self.new ≡ record (begun generation low) { is_broken = self.old.is_broken }) }
         ensures stands { OnOk result ((file : File) → Stands self.new [] [] file) }
         ensures err { OnErr result (self.new ≡ self.old) }
     {
@@ -167,15 +193,26 @@ impl GateLog {
         requires fits { self.old.committed + length entries.now < 2 ^ 64 }
         requires some { 1 ≤ length entries.now }
         requires few { length entries.now ≤ 65536 }
-        requires short { length (frame first_layout (batch_of self.old.committed entries.now)) ≤ 1048576 }
+        requires short { length (frame first_layout (batch_of self.old.committed entries.now))
+            ≤ 1048576 }
 
-        ensures ok { OnOk result (self.new ≡ record self.old { phase = Phase.Staged; count = length entries.now; frame = frame first_layout (batch_of self.old.committed entries.now) ++ 0 ∷ [] }) }
-        ensures staged { OnOk result ((batches : List Batch) (staged : List Batch) (file : File) → Stands self.old batches staged file
+        ensures ok { OnOk result
+            (self.new ≡ record self.old {
+              phase = Phase.Staged;
+              count = length entries.now;
+              frame = frame first_layout (batch_of self.old.committed entries.now) ++ 0 ∷ [];
+            }) }
+        ensures staged { OnOk result
+            ((batches : List Batch) (staged : List Batch) (file : File)
+            → Stands self.old batches staged file
             → Stands self.new batches (batch_of self.old.committed entries.now ∷ []) file) }
         ensures wrong_phase { (result ≡ Err Refusal.WrongPhase) ↔ (IsResting self.old → ⊥) }
         ensures full { (result ≡ Err Refusal.LogFull)
-            ↔ (IsResting self.old × (2 ^ 40 < self.old.gate + 1 + length (frame first_layout (batch_of self.old.committed entries.now)) + 1)) }
-        ensures no_other { IfErr result (λ refusal. (refusal ≡ Refusal.WrongPhase) ⊎ (refusal ≡ Refusal.LogFull) ⊎ (refusal ≡ Refusal.NoMemory)) }
+            ↔ (IsResting self.old
+            × (2 ^ 40 < self.old.gate + 1
+            + length (frame first_layout (batch_of self.old.committed entries.now)) + 1)) }
+        ensures no_other { IfErr result (λ refusal. (refusal ≡ Refusal.WrongPhase)
+            ⊎ (refusal ≡ Refusal.LogFull) ⊎ (refusal ≡ Refusal.NoMemory)) }
         ensures err { OnErr result (self.new ≡ self.old) }
     {
         if self.phase != Phase::Idle || self.ending.is_some() {
@@ -193,8 +230,11 @@ impl GateLog {
     /// Stages the end frame, which names the generation of the log that goes on. After its last step
     /// the log is over.
     pub fn end_with(&mut self, generation: u64) -> Result<(), Refusal>
-        ensures ok { OnOk result (self.new ≡ record self.old { phase = Phase.Staged; ending = Some generation }) }
-        ensures staged { OnOk result ((batches : List Batch) (staged : List Batch) (file : File) → Stands self.old batches staged file → Stands self.new batches staged file) }
+        ensures ok { OnOk result
+            (self.new ≡ record self.old { phase = Phase.Staged; ending = Some generation }) }
+        ensures staged { OnOk result
+            ((batches : List Batch) (staged : List Batch) (file : File)
+            → Stands self.old batches staged file → Stands self.new batches staged file) }
         ensures wrong_phase { (result ≡ Err Refusal.WrongPhase) ↔ (IsResting self.old → ⊥) }
         ensures no_other { IfErr result (λ refusal. refusal ≡ Refusal.WrongPhase) }
         ensures err { OnErr result (self.new ≡ self.old) }
@@ -209,10 +249,17 @@ impl GateLog {
 
     // Writes what is staged, and a closed gate.
     fn write_staged<D: Disk>(&self, disk: &mut D) -> Result<(), DeviceError>
-        requires place { D.honest disk.old → self.now.gate + 1 ≤ length (now (D.states disk.old) (log_file self.now.generation)).seen }
+        requires place { D.honest disk.old → self.now.gate + 1 ≤ length
+            (now (D.states disk.old) (log_file self.now.generation)).seen }
         ensures was_honest { D.honest disk.new → D.honest disk.old }
-        ensures ok { OnOk result (Makes D.states D.failures (log_file self.now.generation) (Call.writes (self.now.gate + 1) (bytes_staged self.now.ending self.now.frame)) disk.old disk.new) }
-        ensures err { OnErr result (Fails D.states D.failures (log_file self.now.generation) (Call.writes (self.now.gate + 1) (bytes_staged self.now.ending self.now.frame)) disk.old disk.new) }
+        ensures ok { OnOk result
+            (Makes D.states D.failures (log_file self.now.generation)
+            (Call.writes (self.now.gate + 1) (bytes_staged self.now.ending self.now.frame)) disk.old
+            disk.new) }
+        ensures err { OnErr result
+            (Fails D.states D.failures (log_file self.now.generation)
+            (Call.writes (self.now.gate + 1) (bytes_staged self.now.ending self.now.frame)) disk.old
+            disk.new) }
     {
         let file = log_file(self.generation);
         match self.ending {
@@ -223,11 +270,17 @@ impl GateLog {
 
     // Makes the device call that is due; in `Idle` it makes none.
     fn make_call<D: Disk>(&self, disk: &mut D) -> Result<(), DeviceError>
-        requires place { D.honest disk.old → (call : Call) → call_in self.now.phase self.now ≡ Some call → IsPlaced call (now (D.states disk.old) (log_file self.now.generation)) }
+        requires place { D.honest disk.old → (call : Call)
+            → call_in self.now.phase self.now ≡ Some call
+            → IsPlaced call (now (D.states disk.old) (log_file self.now.generation)) }
         ensures idle { self.now.phase ≡ Phase.Idle → (result ≡ Ok tt) × (disk.new ≡ disk.old) }
         ensures was_honest { D.honest disk.new → D.honest disk.old }
-        ensures ok { OnOk result ((call : Call) → call_in self.now.phase self.now ≡ Some call → Makes D.states D.failures (log_file self.now.generation) call disk.old disk.new) }
-        ensures err { OnErr result ((call : Call) → call_in self.now.phase self.now ≡ Some call → Fails D.states D.failures (log_file self.now.generation) call disk.old disk.new) }
+        ensures ok { OnOk result
+            ((call : Call) → call_in self.now.phase self.now ≡ Some call
+            → Makes D.states D.failures (log_file self.now.generation) call disk.old disk.new) }
+        ensures err { OnErr result
+            ((call : Call) → call_in self.now.phase self.now ≡ Some call
+            → Fails D.states D.failures (log_file self.now.generation) call disk.old disk.new) }
     {
         let file = log_file(self.generation);
         match self.phase {
@@ -265,9 +318,12 @@ impl GateLog {
         requires stands { MayAdvance D.states D.honest self.old disk.old }
 
         ensures stands { MayAdvance D.states D.honest self.new disk.new }
-        ensures broken { self.old.is_broken ≡ true → (result ≡ Err Refusal.Failed) × (self.new ≡ self.old) × (disk.new ≡ disk.old) }
-        ensures rests { self.old.is_broken ≡ false → self.old.phase ≡ Phase.Idle → (result ≡ Ok Phase.Idle) × (self.new ≡ self.old) × (disk.new ≡ disk.old) }
-        ensures advances { self.old.is_broken ≡ false → self.old.phase ≢ Phase.Idle → Advances D.states D.failures D.honest self.old self.new disk.old disk.new result }
+        ensures broken { self.old.is_broken ≡ true
+            → (result ≡ Err Refusal.Failed) × (self.new ≡ self.old) × (disk.new ≡ disk.old) }
+        ensures rests { self.old.is_broken ≡ false → self.old.phase ≡ Phase.Idle
+            → (result ≡ Ok Phase.Idle) × (self.new ≡ self.old) × (disk.new ≡ disk.old) }
+        ensures advances { self.old.is_broken ≡ false → self.old.phase ≢ Phase.Idle
+            → Advances D.states D.failures D.honest self.old self.new disk.old disk.new result }
     {
         if self.is_broken {
             return Err(Refusal::Failed);
@@ -300,10 +356,15 @@ impl GateLog {
 
     // Writes the zeros behind the gate.
     fn write_zeros<D: Disk>(&self, zeros: &Zeros, disk: &mut D) -> Result<(), DeviceError>
-        requires place { D.honest disk.old → self.now.gate + 1 ≤ length (now (D.states disk.old) (log_file self.now.generation)).seen }
+        requires place { D.honest disk.old → self.now.gate + 1 ≤ length
+            (now (D.states disk.old) (log_file self.now.generation)).seen }
         ensures was_honest { D.honest disk.new → D.honest disk.old }
-        ensures ok { OnOk result (Makes D.states D.failures (log_file self.now.generation) (Call.writes (self.now.gate + 1) (replicate zeros.now 0)) disk.old disk.new) }
-        ensures err { OnErr result (Fails D.states D.failures (log_file self.now.generation) (Call.writes (self.now.gate + 1) (replicate zeros.now 0)) disk.old disk.new) }
+        ensures ok { OnOk result
+            (Makes D.states D.failures (log_file self.now.generation)
+            (Call.writes (self.now.gate + 1) (replicate zeros.now 0)) disk.old disk.new) }
+        ensures err { OnErr result
+            (Fails D.states D.failures (log_file self.now.generation)
+            (Call.writes (self.now.gate + 1) (replicate zeros.now 0)) disk.old disk.new) }
     {
         disk.write_at(log_file(self.generation), self.gate + 1, zeros.as_slice())
     }
@@ -316,9 +377,12 @@ impl GateLog {
         requires stands { MayAdvance D.states D.honest self.old disk.old }
 
         ensures stands { MayAdvance D.states D.honest self.new disk.new }
-        ensures broken { self.old.is_broken ≡ true → (result ≡ Err Refusal.Failed) × (self.new ≡ self.old) × (disk.new ≡ disk.old) }
-        ensures works { self.old.is_broken ≡ false → ((result ≡ Ok tt) × (self.new ≡ self.old) × (disk.new ≡ disk.old))
-            ⊎ WritesAhead D.states D.failures D.honest zeros.now self.old self.new disk.old disk.new result }
+        ensures broken { self.old.is_broken ≡ true
+            → (result ≡ Err Refusal.Failed) × (self.new ≡ self.old) × (disk.new ≡ disk.old) }
+        ensures works { self.old.is_broken ≡ false
+            → ((result ≡ Ok tt) × (self.new ≡ self.old) × (disk.new ≡ disk.old))
+            ⊎ WritesAhead D.states D.failures D.honest zeros.now self.old self.new disk.old disk.new
+            result }
     {
         if self.is_broken {
             return Err(Refusal::Failed);

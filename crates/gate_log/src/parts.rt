@@ -85,7 +85,8 @@ pub(crate) fn next_generation(body: &[u8]) -> u64
 /// The first ticket and the count that stand before a batch's records.
 fn first_and_count(body: &[u8]) -> (u64, usize)
     requires { 12 ≤ length body.now }
-    ensures spelled { body.now ≡ big_bytes 8 result.0 ++ (big_bytes 4 result.1 ++ drop 12 body.now) }
+    ensures spelled { body.now ≡ big_bytes 8 result.0
+        ++ (big_bytes 4 result.1 ++ drop 12 body.now) }
     ensures fits { result.1 < 2 ^ 32 }
 {
     let first = BigEndian::read_u64(body);
@@ -95,8 +96,12 @@ fn first_and_count(body: &[u8]) -> (u64, usize)
 
 /// The record at the front and the bytes behind it; `None` where no record stands there.
 fn command_at(alloc: Global, bytes: &[u8]) -> Result<Option<(Command, &[u8])>, Refusal>
-    ensures some { IfOk result (λ found. IfSome found (λ x. IsCommand first_layout x.0 × (bytes.now ≡ record_bytes first_layout x.0 ++ x.1.now))) }
-    ensures none { IfOk result (λ found. IfNone found ((command : Command) (rest : List ℕ) → IsCommand first_layout command → bytes.now ≢ record_bytes first_layout command ++ rest)) }
+    ensures some { IfOk result (λ found. IfSome found (λ x. IsCommand first_layout x.0
+        × (bytes.now ≡ record_bytes first_layout x.0 ++ x.1.now))) }
+    ensures none { IfOk result (λ found.
+        IfNone found
+        ((command : Command) (rest : List ℕ) → IsCommand first_layout command
+        → bytes.now ≢ record_bytes first_layout command ++ rest)) }
     ensures err { IfErr result (λ refusal. refusal ≡ Refusal.NoMemory) }
 {
     match decode(alloc, bytes) {
@@ -117,8 +122,12 @@ fn entries_at(
     bytes: &[u8],
 ) -> Result<Option<Vec<Entry>>, Refusal>
     requires { first + count < 2 ^ 64 }
-    ensures some { IfOk result (λ found. IfSome found (λ entries. AreEntries first count entries.items bytes.now)) }
-    ensures none { IfOk result (λ found. IfNone found ((commands : List Command) → length commands ≡ count → AllByRecursion (IsCommand first_layout) commands
+    ensures some { IfOk result (λ found. IfSome found (λ entries.
+        AreEntries first count entries.items bytes.now)) }
+    ensures none { IfOk result (λ found.
+        IfNone found
+        ((commands : List Command) → length commands ≡ count
+        → AllByRecursion (IsCommand first_layout) commands
         → bytes.now ≢ records_bytes first_layout commands)) }
     ensures err { IfErr result (λ refusal. refusal ≡ Refusal.NoMemory) }
 {
@@ -147,8 +156,11 @@ pub(crate) fn batch_at(
 ) -> Result<Option<Vec<Entry>>, Refusal>
     requires low { 12 ≤ length body.now }
     requires high { length body.now ≤ 1048571 }
-    ensures some { IfOk result (λ found. IfSome found (λ entries. IsBody expected entries.items body.now)) }
-    ensures none { IfOk result (λ found. IfNone found ((batch : Batch) → IsBatch first_layout batch → batch.first ≡ expected
+    ensures some { IfOk result (λ found. IfSome found (λ entries.
+        IsBody expected entries.items body.now)) }
+    ensures none { IfOk result (λ found.
+        IfNone found
+        ((batch : Batch) → IsBatch first_layout batch → batch.first ≡ expected
         → frame first_layout batch ≢ 1 ∷ (big_bytes 4 (length body.now) ++ body.now))) }
     ensures err { IfErr result (λ refusal. refusal ≡ Refusal.NoMemory) }
 {

@@ -56,7 +56,8 @@ impl Place {
         ensures reaches { OnOk result (end ≤ end_of reader.new) }
         ensures pieces { OnOk result (pieces_in (end_of reader.new)
             ≡ max (pieces_in (end_of reader.old)) (pieces_in end)) }
-        ensures called { OnOk result (ReadsPieces D.states disk.old disk.new reader.old reader.new) }
+        ensures called { OnOk result
+            (ReadsPieces D.states disk.old disk.new reader.old reader.new) }
         ensures tried { OnErr result (ReadsAtMost D.states disk.old disk.new reader.old end) }
         ensures holds { D.honest disk.new
             → Holds (bytes_of D.states disk.old reader.old) reader.old
@@ -122,11 +123,13 @@ impl Place {
         ensures from { reader.new.from ≡ reader.old.from }
         ensures forward { end_of reader.old ≤ end_of reader.new }
         ensures fits { IfOk result (FitsAhead self.gate) }
-        ensures reaches { IfOk result (λ ahead. behind_frame self.gate ahead + 1 ≤ end_of reader.new) }
+        ensures reaches { IfOk result (λ ahead.
+            behind_frame self.gate ahead + 1 ≤ end_of reader.new) }
         ensures inside { IfOk result (λ ahead. behind_frame self.gate ahead < reader.old.len) }
         ensures pieces { IfOk result (λ ahead. pieces_in (end_of reader.new)
             ≡ max (pieces_in (end_of reader.old)) (pieces_in (behind_frame self.gate ahead + 1))) }
-        ensures called { OnOk result (ReadsPieces D.states disk.old disk.new reader.old reader.new) }
+        ensures called { OnOk result
+            (ReadsPieces D.states disk.old disk.new reader.old reader.new) }
         ensures tried { OnErr result (ReadsAtMost D.states disk.old disk.new reader.old
             (max (end_of reader.old) reader.old.len)) }
         ensures within { D.honest disk.new → (size : ℕ) (rest : List ℕ)
@@ -142,7 +145,9 @@ impl Place {
             → Holds (bytes_of D.states disk.old reader.old) reader.old
             → drop (self.gate + 1) (bytes_of D.states disk.old reader.old) ≡ rest
             → IfOk result (ComesAhead 165 rest) }
-        ensures err { IfErr result (RefusesAt self.generation self.gate (D.honest disk.new → (rest : List ℕ)
+        ensures err { IfErr result
+            (RefusesAt self.generation self.gate
+            (D.honest disk.new → (rest : List ℕ)
             → Holds (bytes_of D.states disk.old reader.old) reader.old
             → drop (self.gate + 1) (bytes_of D.states disk.old reader.old) ≡ rest
             → HasNoFrame first_layout self.expected (self.generation + 1) rest)) }
@@ -172,11 +177,13 @@ impl Place {
         ensures from { reader.new.from ≡ reader.old.from }
         ensures forward { end_of reader.old ≤ end_of reader.new }
         ensures fits { IfOk result (FitsAhead self.gate) }
-        ensures reaches { IfOk result (λ ahead. behind_frame self.gate ahead + 1 ≤ end_of reader.new) }
+        ensures reaches { IfOk result (λ ahead.
+            behind_frame self.gate ahead + 1 ≤ end_of reader.new) }
         ensures inside { IfOk result (λ ahead. behind_frame self.gate ahead < reader.old.len) }
         ensures pieces { IfOk result (λ ahead. pieces_in (end_of reader.new)
             ≡ max (pieces_in (end_of reader.old)) (pieces_in (behind_frame self.gate ahead + 1))) }
-        ensures called { OnOk result (ReadsPieces D.states disk.old disk.new reader.old reader.new) }
+        ensures called { OnOk result
+            (ReadsPieces D.states disk.old disk.new reader.old reader.new) }
         ensures tried { OnErr result (ReadsAtMost D.states disk.old disk.new reader.old
             (max (end_of reader.old) reader.old.len)) }
         ensures within { D.honest disk.new → (size byte : ℕ) (rest : List ℕ)

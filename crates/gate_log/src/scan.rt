@@ -42,10 +42,17 @@ pub enum Found {
 impl Model for Scan {
     ghost Value = { ScanState };
 
-    ghost view = { λ scan. record { generation = scan.place.generation; gate = scan.place.gate; expected = scan.place.expected; reader = scan.reader } };
+    ghost view = { λ scan.
+        record {
+          generation = scan.place.generation;
+          gate = scan.place.gate;
+          expected = scan.place.expected;
+          reader = scan.reader;
+        } };
 
-    ghost invariant = { λ scan. (scan.reader.file ≡ log_file scan.place.generation) × (scan.reader.from ≤ scan.place.gate)
-        × (scan.place.gate + 1 ≤ end_of scan.reader) × (scan.place.gate < scan.reader.len) × (scan.reader.len < 2 ^ 64) };
+    ghost invariant = { λ scan. (scan.reader.file ≡ log_file scan.place.generation)
+        × (scan.reader.from ≤ scan.place.gate) × (scan.place.gate + 1 ≤ end_of scan.reader)
+        × (scan.place.gate < scan.reader.len) × (scan.reader.len < 2 ^ 64) };
 }
 
 // Begins to read the file.
@@ -74,12 +81,16 @@ impl Scan {
         low: u64,
     ) -> Result<Scan, Refusal>
         ensures looks { Looks D.states D.failures D.honest (failed_in result) disk.old disk.new }
-        ensures ok { IfOk result (λ scan. (scan.generation ≡ generation) × (scan.gate ≡ 17) × (scan.expected ≡ low)) }
+        ensures ok { IfOk result (λ scan. (scan.generation ≡ generation) × (scan.gate ≡ 17)
+            × (scan.expected ≡ low)) }
         ensures called { OnOk result (Made D.states 2 disk.old disk.new) }
         ensures pieces { IfOk result (λ scan. pieces_in (end_of scan.reader) ≡ 1) }
         ensures tried { OnErr result (MadeAtMost D.states 2 disk.old disk.new) }
-        ensures read { D.honest disk.new → IfOk result (λ scan. HasRead first_layout low [] scan (log_bytes D.states disk.old generation)) }
-        ensures refused { D.honest disk.new → IfErr result (λ refusal. (refusal ≡ Refusal.Failed) ⊎ ((refusal ≡ Refusal.NoMemory) ⊎ IsBadHeader generation low (log_bytes D.states disk.old generation) refusal)) }
+        ensures read { D.honest disk.new → IfOk result (λ scan. HasRead first_layout low [] scan
+            (log_bytes D.states disk.old generation)) }
+        ensures refused { D.honest disk.new → IfErr result (λ refusal. (refusal ≡ Refusal.Failed)
+            ⊎ ((refusal ≡ Refusal.NoMemory)
+            ⊎ IsBadHeader generation low (log_bytes D.states disk.old generation) refusal)) }
     {
         let place = Place {
             generation,
@@ -113,22 +124,42 @@ impl Scan {
     pub fn next_frame<D: Disk>(&mut self, alloc: Global, disk: &mut D) -> Result<Found, Refusal>
         ensures looks { Looks D.states D.failures D.honest (failed_in result) disk.old disk.new }
         ensures goes_on { IfOk result (GoesOn self.old self.new) }
-        ensures pieces { IfOk result (λ found. pieces_in (end_of self.new.reader)
-            ≡ max (pieces_in (end_of self.old.reader)) (pieces_in (last_gate self.old self.new found + 1))) }
-        ensures called { OnOk result (ReadsPieces D.states disk.old disk.new self.old.reader self.new.reader) }
+        ensures pieces { IfOk result (λ found.
+            pieces_in (end_of self.new.reader)
+            ≡ max (pieces_in (end_of self.old.reader))
+            (pieces_in (last_gate self.old self.new found + 1))) }
+        ensures called { OnOk result
+            (ReadsPieces D.states disk.old disk.new self.old.reader self.new.reader) }
         ensures tried { OnErr result (ReadsAtMost D.states disk.old disk.new self.old.reader
             (max (end_of self.old.reader) self.old.reader.len)) }
-        ensures within { D.honest disk.new → (low size : ℕ) (batches : List Batch) → HasRead first_layout low batches self.old (log_bytes D.states disk.old self.old.generation)
-            → ReadsAtGate first_layout (drop self.old.gate (log_bytes D.states disk.old self.old.generation)) size
-            → OnErr result (ReadsAtMost D.states disk.old disk.new self.old.reader (max (end_of self.old.reader) (self.old.gate + size))) }
-        ensures found { D.honest disk.new → (low : ℕ) (batches : List Batch) → HasRead first_layout low batches self.old (log_bytes D.states disk.old self.old.generation)
-            → IfOk result (IsFound first_layout low batches self.old self.new (log_bytes D.states disk.old self.old.generation)) }
-        ensures err { IfErr result (RefusesFor self.old (D.honest disk.new → (low : ℕ) (batches : List Batch)
-            → HasRead first_layout low batches self.old (log_bytes D.states disk.old self.old.generation)
-            → IsBroken first_layout self.old.generation low batches (log_bytes D.states disk.old self.old.generation))) }
+        ensures within { D.honest disk.new → (low size : ℕ) (batches : List Batch)
+            → HasRead first_layout low batches self.old
+            (log_bytes D.states disk.old self.old.generation)
+            → ReadsAtGate first_layout
+            (drop self.old.gate (log_bytes D.states disk.old self.old.generation)) size
+            → OnErr result
+            (ReadsAtMost D.states disk.old disk.new self.old.reader
+            (max (end_of self.old.reader) (self.old.gate + size))) }
+        ensures found { D.honest disk.new → (low : ℕ) (batches : List Batch)
+            → HasRead first_layout low batches self.old
+            (log_bytes D.states disk.old self.old.generation)
+            → IfOk result
+            (IsFound first_layout low batches self.old self.new
+            (log_bytes D.states disk.old self.old.generation)) }
+        ensures err { IfErr result
+            (RefusesFor self.old
+            (D.honest disk.new → (low : ℕ) (batches : List Batch)
+            → HasRead first_layout low batches self.old
+            (log_bytes D.states disk.old self.old.generation)
+            → IsBroken first_layout self.old.generation low batches
+            (log_bytes D.states disk.old self.old.generation))) }
         ensures same { OnErr result (IsStill self.old self.new) }
-        ensures held { D.honest disk.new → (low : ℕ) (batches : List Batch) → HasRead first_layout low batches self.old (log_bytes D.states disk.old self.old.generation)
-            → OnErr result (HasRead first_layout low batches self.new (log_bytes D.states disk.old self.old.generation)) }
+        ensures held { D.honest disk.new → (low : ℕ) (batches : List Batch)
+            → HasRead first_layout low batches self.old
+            (log_bytes D.states disk.old self.old.generation)
+            → OnErr result
+            (HasRead first_layout low batches self.new
+            (log_bytes D.states disk.old self.old.generation)) }
     {
         let place = self.place;
         match place.look_ahead(disk, &mut self.reader)? {
@@ -150,10 +181,13 @@ impl Scan {
 
 /// A content reads in at most one way as the log of a generation.
 pub fn one_reading()
-    ensures one { (layout : Layout) (generation low : ℕ) (content : List ℕ) (a b : Reading) → IsLayout layout → Reads layout generation low content a
+    ensures one { (layout : Layout) (generation low : ℕ) (content : List ℕ) (a b : Reading)
+        → IsLayout layout → Reads layout generation low content a
         → Reads layout generation low content b → a ≡ b }
-    ensures one_end { (layout : Layout) (generation low m n : ℕ) (content : List ℕ) (a b : List Batch) → IsLayout layout → IsEnded layout generation low a m content
+    ensures one_end { (layout : Layout) (generation low m n : ℕ) (content : List ℕ)
+        (a b : List Batch) → IsLayout layout → IsEnded layout generation low a m content
         → IsEnded layout generation low b n content → (a ≡ b) × (m ≡ n) }
-    ensures never_both { (layout : Layout) (generation low next : ℕ) (content : List ℕ) (a b : List Batch) → IsLayout layout → IsClosed layout generation low a content
+    ensures never_both { (layout : Layout) (generation low next : ℕ) (content : List ℕ)
+        (a b : List Batch) → IsLayout layout → IsClosed layout generation low a content
         → IsEnded layout generation low b next content → ⊥ }
 {}

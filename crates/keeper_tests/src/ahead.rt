@@ -29,7 +29,8 @@ fn step_ninth<D: Disk, R: Wait, S: Steps>(
     steps: &mut S,
     times: u32,
 ) -> Result<(), Refusal>
-    requires { (done : List Command) × Fits D.states D.honest (S.stripe_count steps.old) done keeper.old (S.recorded steps.old) }
+    requires { (done : List Command)
+        × Fits D.states D.honest (S.stripe_count steps.old) done keeper.old (S.recorded steps.old) }
 {
     let _count = keeper.sweep(rt, steps)?;
     let _eight = commit_most(keeper, steps, 8)?;

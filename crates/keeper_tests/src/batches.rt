@@ -68,7 +68,8 @@ fn stage_twice<D: Disk, R: Wait, S: Steps>(
     keeper: &mut Keeper<D>,
     steps: &mut S,
 ) -> Result<(u32, usize, u32), Refusal>
-    requires { (done : List Command) × Fits D.states D.honest (S.stripe_count steps.old) done keeper.old (S.recorded steps.old) }
+    requires { (done : List Command)
+        × Fits D.states D.honest (S.stripe_count steps.old) done keeper.old (S.recorded steps.old) }
 {
     let first = sweep_and_commit(rt, keeper, steps)?;
     let gate = keeper.log.gate();
@@ -114,7 +115,8 @@ fn stage_one_stripe<D: Disk, S: Steps>(
     steps: &mut S,
     stripe: usize,
 ) -> Result<u32, Refusal>
-    requires kept { (done : List Command) × Fits D.states D.honest (S.stripe_count steps.old) done keeper.old (S.recorded steps.old) }
+    requires kept { (done : List Command)
+        × Fits D.states D.honest (S.stripe_count steps.old) done keeper.old (S.recorded steps.old) }
     requires within { stripe < S.stripe_count steps.old }
 {
     if keeper.is_walking() {

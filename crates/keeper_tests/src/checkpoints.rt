@@ -30,8 +30,11 @@ const CHECKPOINT: [u8; 82] = [
 
 // Makes so many device calls of the checkpoint.
 pub(crate) fn write_times<D: Disk>(keeper: &mut Keeper<D>, times: u32)
-    requires { (n : ℕ) × (done : List Command) × (p : Record) × Fits D.states D.honest n done keeper.old p }
-    ensures { (n : ℕ) (p : Record) (done : List Command) → Fits D.states D.honest n done keeper.old p → (more : List Command) × Fits D.states D.honest n more keeper.new p }
+    requires { (n : ℕ) × (done : List Command) × (p : Record)
+        × Fits D.states D.honest n done keeper.old p }
+    ensures { (n : ℕ) (p : Record) (done : List Command)
+        → Fits D.states D.honest n done keeper.old p
+        → (more : List Command) × Fits D.states D.honest n more keeper.new p }
 {
     for _ in 0..times {
         let _phase = checkpoint_walk::advance(keeper);
@@ -40,8 +43,11 @@ pub(crate) fn write_times<D: Disk>(keeper: &mut Keeper<D>, times: u32)
 
 // Begins a checkpoint, with its log, and makes its device calls up to the first section.
 fn begin_with_log<D: Disk>(keeper: &mut Keeper<D>) -> Result<(), Refusal>
-    requires { (n : ℕ) × (done : List Command) × (p : Record) × Fits D.states D.honest n done keeper.old p }
-    ensures { (n : ℕ) (p : Record) (done : List Command) → Fits D.states D.honest n done keeper.old p → (more : List Command) × Fits D.states D.honest n more keeper.new p }
+    requires { (n : ℕ) × (done : List Command) × (p : Record)
+        × Fits D.states D.honest n done keeper.old p }
+    ensures { (n : ℕ) (p : Record) (done : List Command)
+        → Fits D.states D.honest n done keeper.old p
+        → (more : List Command) × Fits D.states D.honest n more keeper.new p }
 {
     begin(keeper)?;
     advance_times(keeper, 6);
@@ -56,8 +62,10 @@ pub(crate) fn capture_one<D: Disk, R: Wait, S: Steps>(
     steps: &mut S,
     stripe: usize,
 ) -> Result<u64, Refusal>
-    requires { (done : List Command) × Fits D.states D.honest (S.stripe_count steps.old) done keeper.old (S.recorded steps.old) }
-    ensures kept { (done : List Command) × Fits D.states D.honest (S.stripe_count steps.new) done keeper.new (S.recorded steps.new) }
+    requires { (done : List Command)
+        × Fits D.states D.honest (S.stripe_count steps.old) done keeper.old (S.recorded steps.old) }
+    ensures kept { (done : List Command)
+        × Fits D.states D.honest (S.stripe_count steps.new) done keeper.new (S.recorded steps.new) }
     ensures place { S.place steps.new ≡ S.place steps.old }
 {
     if keeper.is_walking() {
@@ -74,8 +82,10 @@ pub(crate) fn commit_most<D: Disk, S: Steps>(
     steps: &mut S,
     most: u32,
 ) -> Result<u32, Refusal>
-    requires { (done : List Command) × Fits D.states D.honest (S.stripe_count steps.old) done keeper.old (S.recorded steps.old) }
-    ensures kept { (done : List Command) × Fits D.states D.honest (S.stripe_count steps.new) done keeper.new (S.recorded steps.new) }
+    requires { (done : List Command)
+        × Fits D.states D.honest (S.stripe_count steps.old) done keeper.old (S.recorded steps.old) }
+    ensures kept { (done : List Command)
+        × Fits D.states D.honest (S.stripe_count steps.new) done keeper.new (S.recorded steps.new) }
     ensures place { S.place steps.new ≡ S.place steps.old }
 {
     let staged = keeper.stage_batch(most)?;
@@ -112,7 +122,8 @@ fn walk<D: Disk, R: Wait, S: Steps>(
     stripes: &Stripes,
     worker: &mut Pass,
 ) -> Result<Walked, Refusal>
-    requires kept { (done : List Command) × Fits D.states D.honest (S.stripe_count steps.old) done keeper.old (S.recorded steps.old) }
+    requires kept { (done : List Command)
+        × Fits D.states D.honest (S.stripe_count steps.old) done keeper.old (S.recorded steps.old) }
     requires own { IsPassOf stripes.now worker.old }
     requires free { (recorded worker.old).holding ≡ None }
     ensures place { S.place steps.new ≡ S.place steps.old }
@@ -216,7 +227,8 @@ fn write_half<D: Disk, R: Wait, S: Steps>(
     keeper: &mut Keeper<D>,
     steps: &mut S,
 ) -> Result<u64, Refusal>
-    requires { (done : List Command) × Fits D.states D.honest (S.stripe_count steps.old) done keeper.old (S.recorded steps.old) }
+    requires { (done : List Command)
+        × Fits D.states D.honest (S.stripe_count steps.old) done keeper.old (S.recorded steps.old) }
     ensures place { S.place steps.new ≡ S.place steps.old }
 {
     begin_with_log(keeper)?;
@@ -254,7 +266,8 @@ fn refused_in_rotation<D: Disk, S: Steps>(
     keeper: &mut Keeper<D>,
     steps: &mut S,
 ) -> Result<[u8; 4], Refusal>
-    requires { (done : List Command) × Fits D.states D.honest (S.stripe_count steps.old) done keeper.old (S.recorded steps.old) }
+    requires { (done : List Command)
+        × Fits D.states D.honest (S.stripe_count steps.old) done keeper.old (S.recorded steps.old) }
 {
     begin(keeper)?;
     let again = number_of(begin(keeper));

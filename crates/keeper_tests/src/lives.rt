@@ -21,8 +21,10 @@ fn sweep_one<D: Disk, R: Wait, S: Steps>(
     keeper: &mut Keeper<D>,
     steps: &mut S,
 ) -> Result<u32, Refusal>
-    requires { (done : List Command) × Fits D.states D.honest (S.stripe_count steps.old) done keeper.old (S.recorded steps.old) }
-    ensures kept { (done : List Command) × Fits D.states D.honest (S.stripe_count steps.new) done keeper.new (S.recorded steps.new) }
+    requires { (done : List Command)
+        × Fits D.states D.honest (S.stripe_count steps.old) done keeper.old (S.recorded steps.old) }
+    ensures kept { (done : List Command)
+        × Fits D.states D.honest (S.stripe_count steps.new) done keeper.new (S.recorded steps.new) }
     ensures place { S.place steps.new ≡ S.place steps.old }
 {
     let _count = keeper.sweep(rt, steps)?;
@@ -35,7 +37,8 @@ fn rotate<D: Disk, R: Wait, S: Steps>(
     keeper: &mut Keeper<D>,
     steps: &mut S,
 ) -> Result<(), Refusal>
-    requires { (done : List Command) × Fits D.states D.honest (S.stripe_count steps.old) done keeper.old (S.recorded steps.old) }
+    requires { (done : List Command)
+        × Fits D.states D.honest (S.stripe_count steps.old) done keeper.old (S.recorded steps.old) }
     ensures place { S.place steps.new ≡ S.place steps.old }
 {
     let _one = sweep_one(rt, keeper, steps)?;
@@ -59,7 +62,8 @@ fn seal_one<D: Disk, R: Wait, S: Steps>(
     keeper: &mut Keeper<D>,
     steps: &mut S,
 ) -> Result<u64, Refusal>
-    requires { (done : List Command) × Fits D.states D.honest (S.stripe_count steps.old) done keeper.old (S.recorded steps.old) }
+    requires { (done : List Command)
+        × Fits D.states D.honest (S.stripe_count steps.old) done keeper.old (S.recorded steps.old) }
     ensures place { S.place steps.new ≡ S.place steps.old }
 {
     let _one = sweep_one(rt, keeper, steps)?;

@@ -90,8 +90,10 @@ fn publish_all<D: Disk, R: Wait, S: Steps>(
     keeper: &mut Keeper<D>,
     steps: &mut S,
 ) -> Result<u32, Refusal>
-    requires { (done : List Command) × Fits D.states D.honest (S.stripe_count steps.old) done keeper.old (S.recorded steps.old) }
-    ensures { (done : List Command) × Fits D.states D.honest (S.stripe_count steps.new) done keeper.new (S.recorded steps.new) }
+    requires { (done : List Command)
+        × Fits D.states D.honest (S.stripe_count steps.old) done keeper.old (S.recorded steps.old) }
+    ensures { (done : List Command)
+        × Fits D.states D.honest (S.stripe_count steps.new) done keeper.new (S.recorded steps.new) }
 {
     let count = sweep_and_commit(rt, keeper, steps);
     if keeper.is_walking() {
@@ -149,7 +151,8 @@ fn release_in_time<D: Disk, R: Wait, S: Steps>(
     worker: &mut Pass,
     held: Held,
 ) -> Result<Released, Refusal>
-    requires kept { (done : List Command) × Fits D.states D.honest (S.stripe_count steps.old) done keeper.old (S.recorded steps.old) }
+    requires kept { (done : List Command)
+        × Fits D.states D.honest (S.stripe_count steps.old) done keeper.old (S.recorded steps.old) }
     requires own { IsPassOf stripes.now worker.old }
     requires held { IsHeldOf stripes.now held }
 {
@@ -239,7 +242,8 @@ fn release_all(
 
 // Commits a batch that fails, and makes a FAIL: whether a later commit is refused with 9.
 fn fail_in_commit<D: Disk, R: Wait, S: Steps>(rt: &R, keeper: &mut Keeper<D>, steps: &mut S) -> bool
-    requires { (done : List Command) × Fits D.states D.honest (S.stripe_count steps.old) done keeper.old (S.recorded steps.old) }
+    requires { (done : List Command)
+        × Fits D.states D.honest (S.stripe_count steps.old) done keeper.old (S.recorded steps.old) }
 {
     let _staged = sweep_and_commit(rt, keeper, steps);
     let later = commit(keeper);
@@ -262,13 +266,15 @@ fn make_ten<D: Disk, R: Wait, S: Steps>(
     command: &Command,
     all: &mut Vec<Held>,
 ) -> Result<(), Refusal>
-    requires kept { (done : List Command) × Fits D.states D.honest (S.stripe_count steps.old) done keeper.old (S.recorded steps.old) }
+    requires kept { (done : List Command)
+        × Fits D.states D.honest (S.stripe_count steps.old) done keeper.old (S.recorded steps.old) }
     requires own { IsPassOf stripes.now worker.old }
     requires free { (recorded worker.old).holding ≡ None }
     requires all { All (IsHeldOf stripes.now) all.old.items }
     ensures own { IsPassOf stripes.now worker.new }
     ensures all { All (IsHeldOf stripes.now) all.new.items }
-    ensures kept { (done : List Command) × Fits D.states D.honest (S.stripe_count steps.new) done keeper.new (S.recorded steps.new) }
+    ensures kept { (done : List Command)
+        × Fits D.states D.honest (S.stripe_count steps.new) done keeper.new (S.recorded steps.new) }
 {
     make_times(stripes, worker, command, 5, all)?;
     let _count = publish_all(rt, keeper, steps)?;
@@ -294,7 +300,8 @@ fn release_twice<D: Disk, R: Wait, S: Steps>(
     worker: &mut Pass,
     all: Vec<Held>,
 ) -> Result<([usize; 3], bool), Refusal>
-    requires kept { (done : List Command) × Fits D.states D.honest (S.stripe_count steps.old) done keeper.old (S.recorded steps.old) }
+    requires kept { (done : List Command)
+        × Fits D.states D.honest (S.stripe_count steps.old) done keeper.old (S.recorded steps.old) }
     requires own { IsPassOf stripes.now worker.old }
     requires all { All (IsHeldOf stripes.now) all.items }
 {
@@ -317,7 +324,8 @@ fn lose_five<D: Disk, R: Wait, S: Steps>(
     worker: &mut Pass,
     command: &Command,
 ) -> Result<([usize; 3], bool), Refusal>
-    requires kept { (done : List Command) × Fits D.states D.honest (S.stripe_count steps.old) done keeper.old (S.recorded steps.old) }
+    requires kept { (done : List Command)
+        × Fits D.states D.honest (S.stripe_count steps.old) done keeper.old (S.recorded steps.old) }
     requires own { IsPassOf stripes.now worker.old }
     requires free { (recorded worker.old).holding ≡ None }
 {

@@ -48,8 +48,11 @@ pub(crate) struct Joined {
 // Opens the disk, and takes two passes of its stripes.
 pub(crate) fn rejoin(alloc: Global, disk: MemDisk, count: StripeCount) -> Result<Joined, Refusal>
     ensures count { IfOk result (λ joined. stripe_count joined.stripes ≡ count.count) }
-    ensures own { IfOk result (λ joined. IsPassOf joined.stripes joined.pass × IsPassOf joined.stripes joined.worker) }
-    ensures fits { IfOk result (λ joined. Fits ⟦<MemDisk as Disk>⟧.states ⟦<MemDisk as Disk>⟧.honest (stripe_count joined.stripes) [] joined.keeper (recorded joined.pass)) }
+    ensures own { IfOk result (λ joined. IsPassOf joined.stripes joined.pass
+        × IsPassOf joined.stripes joined.worker) }
+    ensures fits { IfOk result (λ joined.
+        Fits ⟦<MemDisk as Disk>⟧.states ⟦<MemDisk as Disk>⟧.honest (stripe_count joined.stripes) []
+        joined.keeper (recorded joined.pass)) }
     ensures free { IfOk result (λ joined. (recorded joined.worker).holding ≡ None) }
 {
     let (keeper, stripes) = match open(alloc, disk, count) {
@@ -69,8 +72,11 @@ pub(crate) fn rejoin(alloc: Global, disk: MemDisk, count: StripeCount) -> Result
 // Makes the disk that of an empty map, and opens it.
 pub(crate) fn join(alloc: Global, disk: MemDisk, count: StripeCount) -> Result<Joined, Refusal>
     ensures count { IfOk result (λ joined. stripe_count joined.stripes ≡ count.count) }
-    ensures own { IfOk result (λ joined. IsPassOf joined.stripes joined.pass × IsPassOf joined.stripes joined.worker) }
-    ensures fits { IfOk result (λ joined. Fits ⟦<MemDisk as Disk>⟧.states ⟦<MemDisk as Disk>⟧.honest (stripe_count joined.stripes) [] joined.keeper (recorded joined.pass)) }
+    ensures own { IfOk result (λ joined. IsPassOf joined.stripes joined.pass
+        × IsPassOf joined.stripes joined.worker) }
+    ensures fits { IfOk result (λ joined.
+        Fits ⟦<MemDisk as Disk>⟧.states ⟦<MemDisk as Disk>⟧.honest (stripe_count joined.stripes) []
+        joined.keeper (recorded joined.pass)) }
     ensures free { IfOk result (λ joined. (recorded joined.worker).holding ≡ None) }
 {
     let mut disk = disk;
@@ -124,8 +130,11 @@ pub(crate) const MOST: u32 = 100_000;
 
 // Makes so many steps of the log.
 pub(crate) fn advance_times<D: Disk>(keeper: &mut Keeper<D>, times: u32)
-    requires { (n : ℕ) × (done : List Command) × (p : Record) × Fits D.states D.honest n done keeper.old p }
-    ensures { (n : ℕ) (p : Record) (done : List Command) → Fits D.states D.honest n done keeper.old p → (more : List Command) × Fits D.states D.honest n more keeper.new p }
+    requires { (n : ℕ) × (done : List Command) × (p : Record)
+        × Fits D.states D.honest n done keeper.old p }
+    ensures { (n : ℕ) (p : Record) (done : List Command)
+        → Fits D.states D.honest n done keeper.old p
+        → (more : List Command) × Fits D.states D.honest n more keeper.new p }
 {
     for _ in 0..times {
         let _phase = keeper.advance();
@@ -134,8 +143,11 @@ pub(crate) fn advance_times<D: Disk>(keeper: &mut Keeper<D>, times: u32)
 
 // Stages a batch, and makes the four steps that commit it.
 pub(crate) fn commit<D: Disk>(keeper: &mut Keeper<D>) -> Result<u32, Refusal>
-    requires { (n : ℕ) × (done : List Command) × (p : Record) × Fits D.states D.honest n done keeper.old p }
-    ensures { (n : ℕ) (p : Record) (done : List Command) → Fits D.states D.honest n done keeper.old p → (more : List Command) × Fits D.states D.honest n more keeper.new p }
+    requires { (n : ℕ) × (done : List Command) × (p : Record)
+        × Fits D.states D.honest n done keeper.old p }
+    ensures { (n : ℕ) (p : Record) (done : List Command)
+        → Fits D.states D.honest n done keeper.old p
+        → (more : List Command) × Fits D.states D.honest n more keeper.new p }
 {
     let staged = keeper.stage_batch(MOST);
     advance_times(keeper, 4);
@@ -148,8 +160,10 @@ pub(crate) fn sweep_and_commit<D: Disk, R: Wait, S: Steps>(
     keeper: &mut Keeper<D>,
     steps: &mut S,
 ) -> Result<u32, Refusal>
-    requires { (done : List Command) × Fits D.states D.honest (S.stripe_count steps.old) done keeper.old (S.recorded steps.old) }
-    ensures { (done : List Command) × Fits D.states D.honest (S.stripe_count steps.new) done keeper.new (S.recorded steps.new) }
+    requires { (done : List Command)
+        × Fits D.states D.honest (S.stripe_count steps.old) done keeper.old (S.recorded steps.old) }
+    ensures { (done : List Command)
+        × Fits D.states D.honest (S.stripe_count steps.new) done keeper.new (S.recorded steps.new) }
 {
     let _count = keeper.sweep(rt, steps)?;
     commit(keeper)

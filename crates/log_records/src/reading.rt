@@ -67,7 +67,8 @@ fn sized_at(
 ) -> Result<(&str, &[u8]), Refusal>
     requires low { 1 ≤ width }
     requires high { width ≤ 8 }
-    ensures exact { Reads (λ x. (x.0.now, x.1.now)) result (sized_at width most too_long bytes.now) }
+    ensures exact { Reads (λ x. (x.0.now, x.1.now)) result
+        (sized_at width most too_long bytes.now) }
     ensures short { IfOk result (λ x. length x.0.now ≤ most) }
 {
     let (len, rest) = number_at(width, bytes)?;
@@ -228,12 +229,16 @@ pub fn record_at(alloc: Global, bytes: &[u8]) -> Result<(Command, &[u8]), Refusa
 /// The record at the front of the bytes, and how many bytes it takes. What follows is left.
 pub fn decode(alloc: Global, bytes: &[u8]) -> Result<(Command, usize), Refusal>
     // What is read is spelled so.
-    ensures found { IfOk result (λ x. IsRecord first_layout (take x.1 bytes.now) x.0 × (x.1 ≤ length bytes.now)) }
+    ensures found { IfOk result (λ x. IsRecord first_layout (take x.1 bytes.now) x.0
+        × (x.1 ≤ length bytes.now)) }
     // What is spelled so at the front is read, unless memory runs out.
-    ensures only { (front rest : List ℕ) (command : Command) → IsRecord first_layout front command → bytes.now ≡ front ++ rest →
-        MatchResult result (λ x. (x.0 ≡ command) × (x.1 ≡ length front)) (λ refusal. refusal ≡ NoMemory) }
+    ensures only { (front rest : List ℕ) (command : Command) → IsRecord first_layout front command
+        → bytes.now ≡ front ++ rest
+        → MatchResult result (λ x. (x.0 ≡ command) × (x.1 ≡ length front)) (λ refusal.
+        refusal ≡ NoMemory) }
     // The refusal is the first from left to right.
-    ensures refused { IfErr result (λ refusal. (refusal ≡ NoMemory) ⊎ (record_at first_layout bytes.now ≡ Err refusal)) }
+    ensures refused { IfErr result (λ refusal. (refusal ≡ NoMemory)
+        ⊎ (record_at first_layout bytes.now ≡ Err refusal)) }
     ensures kinds { IfErr result IsRecordRefusal }
 {
     let (command, rest) = record_at(alloc, bytes)?;

@@ -70,7 +70,8 @@ fn append_argument(argument: &Option<Value>, out: &mut Vec<u8>) -> Result<(), Al
 
 /// Puts a function and its argument at the end, or some of that where no memory is found.
 fn append_call(func: Func, argument: &Option<Value>, out: &mut Vec<u8>) -> Result<(), AllocError>
-    ensures ok { OnOk result (out.new.items ≡ out.old.items ++ (func_number func ∷ value_bytes argument.now)) }
+    ensures ok { OnOk result
+        (out.new.items ≡ out.old.items ++ (func_number func ∷ value_bytes argument.now)) }
     ensures fits { OnOk result (IsArgument argument.now) }
     ensures err { OnErr result (take (length out.old.items) out.new.items ≡ out.old.items) }
 {
@@ -106,7 +107,8 @@ fn append_arguments(change: &Change, out: &mut Vec<u8>) -> Result<(), AllocError
 
 /// Puts a record at the end, or some of it where no memory is found.
 fn append_record(command: &Command, out: &mut Vec<u8>) -> Result<(), AllocError>
-    ensures ok { OnOk result (out.new.items ≡ out.old.items ++ record_bytes first_layout command.now) }
+    ensures ok { OnOk result
+        (out.new.items ≡ out.old.items ++ record_bytes first_layout command.now) }
     ensures fits { OnOk result (IsCommand first_layout command.now) }
     ensures err { OnErr result (take (length out.old.items) out.new.items ≡ out.old.items) }
 {
@@ -149,7 +151,8 @@ pub fn put_value(value: &Value, out: &mut Vec<u8>) -> Result<(), Refusal>
 
 /// Puts a command's record at the end.
 pub fn encode(command: &Command, out: &mut Vec<u8>) -> Result<(), Refusal>
-    ensures ok { OnOk result (out.new.items ≡ out.old.items ++ record_bytes first_layout command.now) }
+    ensures ok { OnOk result
+        (out.new.items ≡ out.old.items ++ record_bytes first_layout command.now) }
     ensures fits { OnOk result (IsCommand first_layout command.now) }
     ensures err { IfErr result (λ refusal. (refusal ≡ NoMemory) × (out.new.items ≡ out.old.items)) }
 {

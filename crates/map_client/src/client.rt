@@ -30,7 +30,8 @@ fn exchange<R: Read, W: Write>(
     writer: &mut W,
     request: &Request,
 ) -> Result<Result<Reply, Refusal>, Unanswered>
-    ensures { Exchanges (R.remaining reader.old) (R.remaining reader.new) (W.contents writer.old) (W.contents writer.new) request.now result }
+    ensures { Exchanges (R.remaining reader.old) (R.remaining reader.new) (W.contents writer.old)
+        (W.contents writer.new) request.now result }
 {
     let Ok(frame) = request_frame(alloc, request) else {
         return Err(Unanswered::NoMemory);
@@ -86,7 +87,8 @@ pub fn ask<R: Read, W: Write, O: Write, E: Write>(
     output: &mut O,
     error: &mut E,
 ) -> u8
-    ensures { AsksServer (R.remaining reader.old) (R.remaining reader.new) (W.contents writer.old) (W.contents writer.new) (O.contents output.old) (O.contents output.new) request.now result }
+    ensures { AsksServer (R.remaining reader.old) (R.remaining reader.new) (W.contents writer.old)
+        (W.contents writer.new) (O.contents output.old) (O.contents output.new) request.now result }
 {
     match exchange(alloc, reader, writer, request) {
         Ok(Ok(reply)) => show(alloc, &reply, output, error),
@@ -138,7 +140,8 @@ pub fn call<M: Servers, W: Write, E: Write>(
     error: &mut E,
 ) -> u8
     ensures { CallsServer M.Reader.remaining M.Writer.contents M.is_connected port.now
-        (parse_words (map (λ word. word.now) words.now)) (W.contents output.old) (W.contents output.new) result }
+        (parse_words (map (λ word. word.now) words.now)) (W.contents output.old)
+        (W.contents output.new) result }
 {
     let request = match parse_words(alloc, words) {
         Ok(called) => Some(request_of(called)),

@@ -74,14 +74,17 @@ fn take_byte<R: Read + Drop, W: Write + Drop, O: Write>(
     ensures frames { OnOk result
         (lines.new.round.frames.items ≡ asked_frames lines.new.round.asked.items) }
     // What held of the connection and the output before holds with these lines, or bytes.
-    ensures goes_on { OnOk result ((bytes : List ℕ) (e : Ends) (o : Known)
-        → Reads bytes lines.old.part.items e (ends_of R.remaining W.contents server.old) o (O.contents output.old)
-        lines.old.round.asked.items lines.old.status
-        → Reads (bytes ++ byte ∷ []) lines.new.part.items e (ends_of R.remaining W.contents server.new) o (O.contents output.new)
+    ensures goes_on { OnOk result
+        ((bytes : List ℕ) (e : Ends) (o : Known)
+        → Reads bytes lines.old.part.items e (ends_of R.remaining W.contents server.old) o
+        (O.contents output.old) lines.old.round.asked.items lines.old.status
+        → Reads (bytes ++ byte ∷ []) lines.new.part.items e
+        (ends_of R.remaining W.contents server.new) o (O.contents output.new)
         lines.new.round.asked.items lines.new.status) }
-    ensures breaks { OnErr result ((bytes : List ℕ) (e : Ends) (o : Known)
-        → Reads bytes lines.old.part.items e (ends_of R.remaining W.contents server.old) o (O.contents output.old)
-        lines.old.round.asked.items lines.old.status
+    ensures breaks { OnErr result
+        ((bytes : List ℕ) (e : Ends) (o : Known)
+        → Reads bytes lines.old.part.items e (ends_of R.remaining W.contents server.old) o
+        (O.contents output.old) lines.old.round.asked.items lines.old.status
         → StopsAt (bytes ++ byte ∷ []) e o (O.contents output.new)) }
 {
     if byte == LINE_END {
@@ -105,14 +108,17 @@ fn take_bytes<R: Read + Drop, W: Write + Drop, O: Write>(
     ensures frames { OnOk result
         (lines.new.round.frames.items ≡ asked_frames lines.new.round.asked.items) }
     // What held of the connection and the output before holds with these lines, or bytes.
-    ensures goes_on { OnOk result ((bytes : List ℕ) (e : Ends) (o : Known)
-        → Reads bytes lines.old.part.items e (ends_of R.remaining W.contents server.old) o (O.contents output.old)
-        lines.old.round.asked.items lines.old.status
-        → Reads (bytes ++ piece.now) lines.new.part.items e (ends_of R.remaining W.contents server.new) o (O.contents output.new)
+    ensures goes_on { OnOk result
+        ((bytes : List ℕ) (e : Ends) (o : Known)
+        → Reads bytes lines.old.part.items e (ends_of R.remaining W.contents server.old) o
+        (O.contents output.old) lines.old.round.asked.items lines.old.status
+        → Reads (bytes ++ piece.now) lines.new.part.items e
+        (ends_of R.remaining W.contents server.new) o (O.contents output.new)
         lines.new.round.asked.items lines.new.status) }
-    ensures breaks { OnErr result ((bytes : List ℕ) (e : Ends) (o : Known)
-        → Reads bytes lines.old.part.items e (ends_of R.remaining W.contents server.old) o (O.contents output.old)
-        lines.old.round.asked.items lines.old.status
+    ensures breaks { OnErr result
+        ((bytes : List ℕ) (e : Ends) (o : Known)
+        → Reads bytes lines.old.part.items e (ends_of R.remaining W.contents server.old) o
+        (O.contents output.old) lines.old.round.asked.items lines.old.status
         → StopsAt (bytes ++ piece.now) e o (O.contents output.new)) }
 {
     for byte in piece {
@@ -135,14 +141,17 @@ fn take_piece<R: Read + Drop, W: Write + Drop, O: Write>(
     ensures frames { OnOk result
         (lines.new.round.frames.items ≡ asked_frames lines.new.round.asked.items) }
     // What held of the connection and the output before holds with these lines, or bytes.
-    ensures goes_on { OnOk result ((bytes : List ℕ) (e : Ends) (o : Known)
-        → Reads bytes lines.old.part.items e (ends_of R.remaining W.contents server.old) o (O.contents output.old)
-        lines.old.round.asked.items lines.old.status
-        → Reads (bytes ++ piece.now) lines.new.part.items e (ends_of R.remaining W.contents server.new) o (O.contents output.new)
+    ensures goes_on { OnOk result
+        ((bytes : List ℕ) (e : Ends) (o : Known)
+        → Reads bytes lines.old.part.items e (ends_of R.remaining W.contents server.old) o
+        (O.contents output.old) lines.old.round.asked.items lines.old.status
+        → Reads (bytes ++ piece.now) lines.new.part.items e
+        (ends_of R.remaining W.contents server.new) o (O.contents output.new)
         lines.new.round.asked.items lines.new.status) }
-    ensures breaks { OnErr result ((bytes : List ℕ) (e : Ends) (o : Known)
-        → Reads bytes lines.old.part.items e (ends_of R.remaining W.contents server.old) o (O.contents output.old)
-        lines.old.round.asked.items lines.old.status
+    ensures breaks { OnErr result
+        ((bytes : List ℕ) (e : Ends) (o : Known)
+        → Reads bytes lines.old.part.items e (ends_of R.remaining W.contents server.old) o
+        (O.contents output.old) lines.old.round.asked.items lines.old.status
         → StopsAt (bytes ++ piece.now) e o (O.contents output.new)) }
 {
     take_bytes(alloc, server, lines, output, piece)?;

@@ -166,9 +166,10 @@ pub(crate) fn answer_round<R: Read + Drop, W: Write + Drop, O: Write>(
     ensures frames { OnOk result (round.new.frames.items ≡ []) }
 
     // Or nothing was printed, or a beginning of it.
-    ensures breaks { OnErr result ((O.contents output.new ≡ O.contents output.old)
-        ⊎ BreaksOff (ends_of R.remaining W.contents server.old) (O.contents output.old) (O.contents output.new)
-        round.old.asked.items) }
+    ensures breaks { OnErr result
+        ((O.contents output.new ≡ O.contents output.old)
+        ⊎ BreaksOff (ends_of R.remaining W.contents server.old) (O.contents output.old)
+        (O.contents output.new) round.old.asked.items) }
 {
     send(server, &round.frames);
     let mut text = String::new(alloc);

@@ -58,7 +58,11 @@ impl Outcome {
 
     /// The value becomes `value`, and the reply is the old one.
     fn was(old: Option<&Value>, value: Option<&Value>) -> Result<Outcome, Refusal>
-        ensures ok { IfOk result (λ after. after ≡ record { value = option_copied value.entry; reply = Reply.Was (option_copied old.entry) }) }
+        ensures ok { IfOk result (λ after.
+            after ≡ record {
+              value = option_copied value.entry;
+              reply = Reply.Was (option_copied old.entry);
+            }) }
         ensures err { IfErr result (λ refusal. refusal ≡ Refusal.NoMemory) }
     {
         Ok(Outcome {
@@ -69,7 +73,11 @@ impl Outcome {
 
     /// The value becomes `value`, and is the reply.
     fn now(value: Option<&Value>) -> Result<Outcome, Refusal>
-        ensures ok { IfOk result (λ after. after ≡ record { value = option_copied value.entry; reply = Reply.Now (option_copied value.entry) }) }
+        ensures ok { IfOk result (λ after.
+            after ≡ record {
+              value = option_copied value.entry;
+              reply = Reply.Now (option_copied value.entry);
+            }) }
         ensures err { IfErr result (λ refusal. refusal ≡ Refusal.NoMemory) }
     {
         Ok(Outcome {
@@ -80,7 +88,8 @@ impl Outcome {
 
     /// The value becomes `value`, and the reply is whether the change was made.
     fn did(done: bool, value: Option<&Value>) -> Result<Outcome, Refusal>
-        ensures ok { IfOk result (λ after. after ≡ record { value = option_copied value.entry; reply = Reply.Did done }) }
+        ensures ok { IfOk result (λ after.
+            after ≡ record { value = option_copied value.entry; reply = Reply.Did done }) }
         ensures err { IfErr result (λ refusal. refusal ≡ Refusal.NoMemory) }
     {
         Ok(Outcome {
@@ -96,7 +105,9 @@ impl Outcome {
         old: Option<&Value>,
         arg: Option<&Value>,
     ) -> Result<Outcome, Refusal>
-        ensures ok { IfOk result (λ after. after ≡ computed (option_copied old.entry) (apply func (option_copied old.entry) (option_copied arg.entry))) }
+        ensures ok { IfOk result (λ after.
+            after ≡ computed (option_copied old.entry) (apply func (option_copied old.entry)
+            (option_copied arg.entry))) }
         ensures err { IfErr result (λ refusal. refusal ≡ Refusal.NoMemory) }
     {
         match apply(alloc, func, old, arg)? {

@@ -244,7 +244,8 @@ fn known_lines<'a>(alloc: Global) -> Result<Command<'a>, AllocError>
 
 /// The subcommand that the words name, with what they give its arguments.
 fn line_in<'m, 'a>(matches: &'m ArgMatches<'a>) -> Option<(&'a str, &'m ArgMatches<'a>)>
-    ensures { option_map (λ line. (line.0.now, rows_of (found_of line.1.now))) result ≡ subcommand_rows_of matches.now }
+    ensures { option_map (λ line. (line.0.now, rows_of (found_of line.1.now))) result
+        ≡ subcommand_rows_of matches.now }
 {
     matches.subcommand()
 }
@@ -258,7 +259,8 @@ fn word_or<'a>(matches: &ArgMatches<'a>, id: &str, other: &'a str) -> &'a str
 
 /// The words of a call.
 fn words_in<'a>(alloc: Global, matches: &ArgMatches<'a>) -> Result<Vec<&'a str>, AllocError>
-    ensures { IfOk result (λ words. map (λ word. word.now) words.items ≡ call_in (rows_of (found_of matches.now))) }
+    ensures { IfOk result (λ words.
+        map (λ word. word.now) words.items ≡ call_in (rows_of (found_of matches.now))) }
 {
     let mut words = Vec::new(alloc);
     words.extend_from_slice(matches.get_strs("METHOD").unwrap_or(&[]))?;
@@ -350,7 +352,8 @@ fn mem<T: Wait, R: Read, W: Write, E: Write>(
     output: &mut W,
     error: &mut E,
 ) -> u8
-    ensures { Serves (R.remaining input.old) (R.remaining input.new) (W.contents output.old) (W.contents output.new) result }
+    ensures { Serves (R.remaining input.old) (R.remaining input.new) (W.contents output.old)
+        (W.contents output.new) result }
 {
     let mut memory = match Memory::new(rt, alloc, MemDisk::new(alloc)) {
         Ok(memory) => memory,
@@ -388,9 +391,9 @@ pub fn dchm<T: Host, M: Directories + Servers, R: Read, W: Write, E: Write>(
     output: &mut W,
     error: &mut E,
 ) -> u8
-    ensures { Ran M.Opened.states M.Opened.failures M.Opened.honest M.is_opened
-        M.Reader.remaining M.Writer.contents M.is_connected (map string_bytes words.now)
-        (R.remaining input.old) (R.remaining input.new) (W.contents output.old) (W.contents output.new) result }
+    ensures { Ran M.Opened.states M.Opened.failures M.Opened.honest M.is_opened M.Reader.remaining
+        M.Writer.contents M.is_connected (map string_bytes words.now) (R.remaining input.old)
+        (R.remaining input.new) (W.contents output.old) (W.contents output.new) result }
 {
     match order_of(alloc, words) {
         Ok(Order::Mem) => mem(rt, alloc, input, output, error),

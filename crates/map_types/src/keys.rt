@@ -38,7 +38,8 @@ impl Key {
         ensures ok { IfOk result (λ key. key ≡ text.now) }
         ensures ok_only_within { IsOk result → length text.now ≤ 255 }
         ensures too_long { (result ≡ Err Refusal.KeyTooLong) ↔ (255 < length text.now) }
-        ensures no_other { length text.now ≤ 255 → IfErr result (λ refusal. refusal ≡ Refusal.NoMemory) }
+        ensures no_other { length text.now ≤ 255
+            → IfErr result (λ refusal. refusal ≡ Refusal.NoMemory) }
     {
         if text.len() > Key::MOST_BYTES {
             return Err(Refusal::KeyTooLong);
@@ -73,7 +74,8 @@ impl Eq for Key {
 impl PartialOrd for Key {
     ghost partial_cmp = { as_partial_cmp (slice_cmp nat_cmp) };
 
-    ghost laws = { partial_order_from_own_ties (Prim.search (comparing, rules)) (Prim.search (comparing, rules)) };
+    ghost laws = { partial_order_from_own_ties (Prim.search (comparing, rules))
+        (Prim.search (comparing, rules)) };
 
     fn partial_cmp(&self, other: &Key) -> Option<Ordering> {
         Some(self.cmp(other))

@@ -36,7 +36,8 @@ impl Text {
         ensures ok { IfOk result (λ value. value ≡ text.now) }
         ensures ok_only_within { IsOk result → length text.now ≤ 4096 }
         ensures too_long { (result ≡ Err Refusal.ValueTooLong) ↔ (4096 < length text.now) }
-        ensures no_other { length text.now ≤ 4096 → IfErr result (λ refusal. refusal ≡ Refusal.NoMemory) }
+        ensures no_other { length text.now ≤ 4096
+            → IfErr result (λ refusal. refusal ≡ Refusal.NoMemory) }
     {
         if text.len() > Text::MOST_BYTES {
             return Err(Refusal::ValueTooLong);
@@ -100,7 +101,8 @@ impl Value {
         ensures ok { IfOk result (λ value. value ≡ Value.Text text.now) }
         ensures ok_only_within { IsOk result → length text.now ≤ 4096 }
         ensures too_long { (result ≡ Err Refusal.ValueTooLong) ↔ (4096 < length text.now) }
-        ensures no_other { length text.now ≤ 4096 → IfErr result (λ refusal. refusal ≡ Refusal.NoMemory) }
+        ensures no_other { length text.now ≤ 4096
+            → IfErr result (λ refusal. refusal ≡ Refusal.NoMemory) }
     {
         Ok(Value::Text(Text::new(alloc, text)?))
     }

@@ -22,10 +22,13 @@ fn advance<D: Disk>(keeper: &mut Keeper<D>) -> Result<(), Refusal>
     requires alone { keeper.old.next ≡ None }
     requires due { keeper.old.log.phase ≢ Phase.Idle }
     requires kept { (n : ℕ) × (p : Record) × IsKept D.states D.honest n keeper.old p }
-    ensures ok { OnOk result ((keeper.new.log ≡ log_after keeper.old.log.phase keeper.old.log) × (keeper.new.is_broken ≡ false)) }
+    ensures ok { OnOk result
+        ((keeper.new.log ≡ log_after keeper.old.log.phase keeper.old.log)
+        × (keeper.new.is_broken ≡ false)) }
     ensures err { OnErr result (keeper.new.log.is_broken ≡ true) }
     ensures alone { keeper.new.next ≡ None }
-    ensures kept { (n : ℕ) (p : Record) → IsKept D.states D.honest n keeper.old p → IsKept D.states D.honest n keeper.new p }
+    ensures kept { (n : ℕ) (p : Record) → IsKept D.states D.honest n keeper.old p
+        → IsKept D.states D.honest n keeper.new p }
     ensures walking { keeper.new.sweeper.walking ≡ keeper.old.sweeper.walking }
     ensures has_failed { keeper.new.has_failed ≡ keeper.old.has_failed }
 {
@@ -43,7 +46,8 @@ fn commit_staged<D: Disk>(keeper: &mut Keeper<D>) -> Result<(), Refusal>
     ensures ok { OnOk result (IsResting keeper.new.log × (keeper.new.is_broken ≡ false)) }
     ensures err { OnErr result (keeper.new.log.is_broken ≡ true) }
     ensures alone { keeper.new.next ≡ None }
-    ensures kept { (n : ℕ) (p : Record) → IsKept D.states D.honest n keeper.old p → IsKept D.states D.honest n keeper.new p }
+    ensures kept { (n : ℕ) (p : Record) → IsKept D.states D.honest n keeper.old p
+        → IsKept D.states D.honest n keeper.new p }
     ensures walking { keeper.new.sweeper.walking ≡ keeper.old.sweeper.walking }
     ensures has_failed { keeper.new.has_failed ≡ keeper.old.has_failed }
 {
@@ -59,8 +63,10 @@ fn commit_some<D: Disk>(keeper: &mut Keeper<D>) -> Result<(), Refusal>
     requires idle { IsIdle keeper.old }
     requires kept { (n : ℕ) × (p : Record) × IsKept D.states D.honest n keeper.old p }
     ensures ok { OnOk result (IsIdle keeper.new) }
-    ensures err { (n : ℕ) (p : Record) → IsKept D.states D.honest n keeper.old p → OnErr result (CannotCommit keeper.new.log p) }
-    ensures kept { (n : ℕ) (p : Record) → IsKept D.states D.honest n keeper.old p → IsKept D.states D.honest n keeper.new p }
+    ensures err { (n : ℕ) (p : Record) → IsKept D.states D.honest n keeper.old p
+        → OnErr result (CannotCommit keeper.new.log p) }
+    ensures kept { (n : ℕ) (p : Record) → IsKept D.states D.honest n keeper.old p
+        → IsKept D.states D.honest n keeper.new p }
     ensures walking { keeper.new.sweeper.walking ≡ keeper.old.sweeper.walking }
 {
     runs_were_taken(keeper);
@@ -88,10 +94,14 @@ fn commit_in_time<S: Steps, D: Disk, R: Wait>(
     position: Position,
 ) -> Result<(), Refusal>
     requires idle { IsIdle keeper.old }
-    requires kept { IsKept D.states D.honest (S.stripe_count steps.old) keeper.old (S.recorded steps.old) }
+    requires kept { IsKept D.states D.honest (S.stripe_count steps.old) keeper.old
+        (S.recorded steps.old) }
     ensures ok { OnOk result (IsIdle keeper.new × (position ≤ keeper.new.log.committed)) }
-    ensures err { OnErr result (CannotCommit keeper.new.log (S.recorded steps.new) × (is_walking keeper.new.sweeper.walking ≡ false)) }
-    ensures kept { IsKept D.states D.honest (S.stripe_count steps.new) keeper.new (S.recorded steps.new) }
+    ensures err { OnErr result
+        (CannotCommit keeper.new.log (S.recorded steps.new)
+        × (is_walking keeper.new.sweeper.walking ≡ false)) }
+    ensures kept { IsKept D.states D.honest (S.stripe_count steps.new) keeper.new
+        (S.recorded steps.new) }
     ensures quiet { IsQuiet (S.recorded steps.old) (S.recorded steps.new) }
     ensures seen { HasSeenMore (S.recorded steps.old) (S.recorded steps.new) }
     ensures place { S.place steps.new ≡ S.place steps.old }
@@ -116,11 +126,16 @@ fn make_durable<S: Steps, D: Disk, R: Wait>(
     position: Position,
 ) -> Result<(), Refusal>
     requires idle { IsIdle keeper.old }
-    requires kept { IsKept D.states D.honest (S.stripe_count steps.old) keeper.old (S.recorded steps.old) }
-    ensures ok { OnOk result (IsIdle keeper.new × IsCommitted position (S.recorded steps.old) (S.recorded steps.new) keeper.new.log) }
+    requires kept { IsKept D.states D.honest (S.stripe_count steps.old) keeper.old
+        (S.recorded steps.old) }
+    ensures ok { OnOk result
+        (IsIdle keeper.new × IsCommitted position (S.recorded steps.old) (S.recorded steps.new)
+        keeper.new.log) }
     ensures taken { OnOk result (AreTaken position (S.recorded steps.old) (S.recorded steps.new)) }
-    ensures err { IfErr result (λ refusal. (refusal ≡ Refusal.Failed) × IsWithheld (S.recorded steps.old) (S.recorded steps.new) keeper.new.log) }
-    ensures kept { IsKept D.states D.honest (S.stripe_count steps.new) keeper.new (S.recorded steps.new) }
+    ensures err { IfErr result (λ refusal. (refusal ≡ Refusal.Failed)
+        × IsWithheld (S.recorded steps.old) (S.recorded steps.new) keeper.new.log) }
+    ensures kept { IsKept D.states D.honest (S.stripe_count steps.new) keeper.new
+        (S.recorded steps.new) }
     ensures place { S.place steps.new ≡ S.place steps.old }
     ensures stripes { S.stripe_count steps.new ≡ S.stripe_count steps.old }
 {
@@ -146,10 +161,14 @@ pub(crate) fn give_out<S: Steps, D: Disk, R: Wait>(
     held: Held,
 ) -> Result<Reply, Refusal>
     requires idle { IsIdle keeper.old }
-    requires kept { IsKept D.states D.honest (S.stripe_count steps.old) keeper.old (S.recorded steps.old) }
-    ensures ok { IfOk result (λ reply. (reply ≡ held.reply) × IsIdle keeper.new × IsGivenOut held.position (S.recorded steps.old) (S.recorded steps.new) keeper.new.log) }
-    ensures err { IfErr result (λ refusal. (refusal ≡ Refusal.Failed) × IsWithheld (S.recorded steps.old) (S.recorded steps.new) keeper.new.log) }
-    ensures kept { IsKept D.states D.honest (S.stripe_count steps.new) keeper.new (S.recorded steps.new) }
+    requires kept { IsKept D.states D.honest (S.stripe_count steps.old) keeper.old
+        (S.recorded steps.old) }
+    ensures ok { IfOk result (λ reply. (reply ≡ held.reply) × IsIdle keeper.new
+        × IsGivenOut held.position (S.recorded steps.old) (S.recorded steps.new) keeper.new.log) }
+    ensures err { IfErr result (λ refusal. (refusal ≡ Refusal.Failed)
+        × IsWithheld (S.recorded steps.old) (S.recorded steps.new) keeper.new.log) }
+    ensures kept { IsKept D.states D.honest (S.stripe_count steps.new) keeper.new
+        (S.recorded steps.new) }
     ensures place { S.place steps.new ≡ S.place steps.old }
     ensures stripes { S.stripe_count steps.new ≡ S.stripe_count steps.old }
 {

@@ -51,18 +51,28 @@ impl<'a, D: Disk + Drop, R: Wait> Model for Memory<'a, D, R> {
 
     ghost coded = { Prim.hlevel (codes, record_type.the_row.coded) };
 
-    ghost view = { λ memory. record { stripes = stripe_count memory.stripes; pass = recorded memory.pass; log = memory.keeper.log; has_failed = memory.has_failed } };
+    ghost view = { λ memory.
+        record {
+          stripes = stripe_count memory.stripes;
+          pass = recorded memory.pass;
+          log = memory.keeper.log;
+          has_failed = memory.has_failed;
+        } };
 
     ghost invariant = { λ memory. IsPassOf memory.stripes memory.pass
-        × IsKept D.states D.honest (stripe_count memory.stripes) memory.keeper (recorded memory.pass)
-        × (memory.has_failed ≡ false → IsIdle memory.keeper) };
+        × IsKept D.states D.honest (stripe_count memory.stripes) memory.keeper
+        (recorded memory.pass) × (memory.has_failed ≡ false → IsIdle memory.keeper) };
 }
 
 /// Makes the call of a request. A request of the whole map is refused as an unknown method.
 fn make<S: Steps>(steps: &mut S, alloc: Global, request: Request) -> Result<Held, Refusal>
     requires free { (S.recorded steps.old).holding ≡ None }
-    ensures ok { IfOk result (λ held. Makes (S.stripe_count steps.old) (S.recorded steps.old) request held.position held.reply (S.recorded steps.new)) }
-    ensures err { IfErr result (λ refusal. Refuses (S.stripe_count steps.old) (S.recorded steps.old) request refusal (S.recorded steps.new)) }
+    ensures ok { IfOk result (λ held.
+        Makes (S.stripe_count steps.old) (S.recorded steps.old) request held.position held.reply
+        (S.recorded steps.new)) }
+    ensures err { IfErr result (λ refusal.
+        Refuses (S.stripe_count steps.old) (S.recorded steps.old) request refusal
+        (S.recorded steps.new)) }
     ensures free { (S.recorded steps.new).holding ≡ None }
     ensures beside { IsBeside (S.recorded steps.old) (S.recorded steps.new) }
     ensures place { S.place steps.new ≡ S.place steps.old }
@@ -139,9 +149,11 @@ pub fn begun_are_served()
 fn open_new<D: Disk + Drop>(alloc: Global, disk: D) -> Result<(Keeper<D>, Stripes), (D, Refusal)>
     ensures idle { IfOk result (λ x. IsIdle x.0) }
     ensures stripes { IfOk result (λ x. stripe_count x.1 ≡ 16) }
-    ensures log { IfOk result (λ x. IsResumed x.0.log × (x.0.log.committed ≡ (begun_with x.1).first)) }
+    ensures log { IfOk result (λ x. IsResumed x.0.log
+        × (x.0.log.committed ≡ (begun_with x.1).first)) }
     ensures new { IfOk result (λ x. D.honest x.0.disk → begun_with x.1 ≡ nothing_yet) }
-    ensures kept { IfOk result (λ x. (p : Record) → p.opening ≡ begun_with x.1 → IsUnused (begun_with x.1).first p → IsKept D.states D.honest 16 x.0 p) }
+    ensures kept { IfOk result (λ x. (p : Record) → p.opening ≡ begun_with x.1
+        → IsUnused (begun_with x.1).first p → IsKept D.states D.honest 16 x.0 p) }
     ensures failures { IfOk result (λ x. D.failures x.0.disk ≡ D.failures disk) }
     ensures err { IfErr result (λ x. D.honest x.0 → CannotOpen D.states D.failures disk x.1 x.0) }
 {
@@ -167,7 +179,9 @@ impl<'a, R: Wait> Memory<'a, MemDisk, R> {
         disk: MemDisk,
     ) -> Result<Memory<'a, MemDisk, R>, (MemDisk, Refusal)>
         ensures empty { IfOk result IsEmpty }
-        ensures err { IfErr result (λ refused. CannotBegin ⟦<MemDisk as Disk>⟧.states ⟦<MemDisk as Disk>⟧.failures disk refused.1 refused.0) }
+        ensures err { IfErr result (λ refused.
+            CannotBegin ⟦<MemDisk as Disk>⟧.states ⟦<MemDisk as Disk>⟧.failures disk refused.1
+            refused.0) }
     {
         let (keeper, stripes) = open_new(alloc, disk)?;
         let pass = match stripes.keeper_pass() {

@@ -26,7 +26,8 @@ pub fn apply(
     old: Option<&Value>,
     arg: Option<&Value>,
 ) -> Result<Result<Option<Value>, FuncError>, Refusal>
-    ensures ok { IfOk result (λ applied. applied ≡ functions.apply func (option_copied old.entry) (option_copied arg.entry)) }
+    ensures ok { IfOk result (λ applied.
+        applied ≡ functions.apply func (option_copied old.entry) (option_copied arg.entry)) }
     ensures err { IfErr result (λ refusal. refusal ≡ Refusal.NoMemory) }
 {
     match func {
@@ -46,7 +47,8 @@ fn on_numbers(
     old: Option<&Value>,
     arg: Option<&Value>,
 ) -> Result<Option<Value>, FuncError>
-    ensures { result ≡ functions.on_numbers (functions.combine_of func) (functions.keep_of func) (option_copied old.entry) (option_copied arg.entry) }
+    ensures { result ≡ functions.on_numbers (functions.combine_of func) (functions.keep_of func)
+        (option_copied old.entry) (option_copied arg.entry) }
 {
     match (old, arg) {
         (None, Some(Value::Int(arg))) => Ok(kept(func, *arg)),
@@ -88,7 +90,8 @@ fn on_texts(
     old: Option<&Value>,
     arg: Option<&Value>,
 ) -> Result<Result<Option<Value>, FuncError>, Refusal>
-    ensures ok { IfOk result (λ applied. applied ≡ functions.on_texts (option_copied old.entry) (option_copied arg.entry)) }
+    ensures ok { IfOk result (λ applied.
+        applied ≡ functions.on_texts (option_copied old.entry) (option_copied arg.entry)) }
     ensures err { IfErr result (λ refusal. refusal ≡ Refusal.NoMemory) }
 {
     match (old, arg) {

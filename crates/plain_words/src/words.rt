@@ -41,7 +41,8 @@ impl Model for PlainWords {
 
     ghost view = { λ words. words.chronicle.book };
 
-    ghost invariant = { λ words. IsKept words.stripes.count words.tickets words.durable words.failed words.slots.items words.chronicle.book };
+    ghost invariant = { λ words. IsKept words.stripes.count words.tickets words.durable words.failed
+        words.slots.items words.chronicle.book };
 }
 
 // The stripes with these parts, at home.
@@ -86,7 +87,8 @@ impl PlainWords {
 
     /// Words with an empty map and no change made.
     pub fn empty(alloc: Global, stripes: StripeCount, workers: u16) -> Result<PlainWords, Refusal>
-        ensures ok { IfOk result (λ words. words ≡ started (record { first = 0; map = finite.empty }) stripes.count workers) }
+        ensures ok { IfOk result (λ words.
+            words ≡ started (record { first = 0; map = finite.empty }) stripes.count workers) }
         ensures err { IfErr result (λ refusal. refusal ≡ Refusal.NoMemory) }
     {
         let parts = empty_parts(alloc, stripes)?;
@@ -111,7 +113,8 @@ impl PlainWords {
         requires pass { pass < length self.old.passes }
         requires within { stripe < self.old.stripes }
         requires empty_handed { (record_of pass self.old).holding ≡ None }
-        ensures step { Takes self.old.stripes (record_of pass self.old) stripe result (record_of pass self.new) }
+        ensures step { Takes self.old.stripes (record_of pass self.old) stripe result
+            (record_of pass self.new) }
         ensures moved { BookMoves pass (take_made stripe result) self.old self.new }
     {
         let place = &mut self.slots[stripe];
@@ -136,8 +139,10 @@ impl PlainWords {
 
     pub(crate) fn give(&mut self, pass: usize, stripe: usize, content: Stripe, purpose: &Purpose)
         requires pass { pass < length self.old.passes }
-        requires fits { MayGive self.old.stripes (record_of pass self.old) stripe content purpose.now }
-        ensures step { Gives self.old.stripes purpose.now (record_of pass self.old) (record_of pass self.new) }
+        requires fits { MayGive self.old.stripes (record_of pass self.old) stripe content
+            purpose.now }
+        ensures step { Gives self.old.stripes purpose.now (record_of pass self.old)
+            (record_of pass self.new) }
         ensures moved { BookMoves pass (made.Gave stripe) self.old self.new }
     {
         self.chronicle.note(pass, &Turn::Gave { purpose });
@@ -147,7 +152,8 @@ impl PlainWords {
     pub(crate) fn ticket(&mut self, pass: usize, command: &Command) -> Ticket
         requires pass { pass < length self.old.passes }
         requires fits { MayDraw self.old.stripes (record_of pass self.old) command.now }
-        ensures step { Draws (record_of pass self.old) command.now result (record_of pass self.new) }
+        ensures step { Draws (record_of pass self.old) command.now result
+            (record_of pass self.new) }
         ensures moved { BookMoves pass (made.Drew result) self.old self.new }
     {
         let ticket = Ticket::new(self.tickets);

@@ -48,7 +48,8 @@ impl Divided {
     /// Makes the change in the part of its key.
     pub(crate) fn change(&mut self, alloc: Global, command: &Command) -> Result<(), Refusal>
         ensures stripes { self.new.stripes ≡ self.old.stripes }
-        ensures ok { OnOk result ((m : Map) → IsDivided self.old.stripes.count m self.old.parts.items
+        ensures ok { OnOk result
+            ((m : Map) → IsDivided self.old.stripes.count m self.old.parts.items
             → IsDivided self.old.stripes.count (step m command.now).map self.new.parts.items) }
         ensures err { IfErr result (λ refusal. refusal ≡ Refusal.NoMemory) }
     {

@@ -12,7 +12,8 @@ use store_layout::VERSION;
 
 // The sections, none of which has an entry.
 fn empty_sections(alloc: Global, stripes: StripeCount) -> Result<Vec<u8>, Refusal>
-    ensures ok { IfOk result (λ bytes. bytes.items ≡ sections_bytes first_layout (first_checkpoint stripes.count).sections) }
+    ensures ok { IfOk result (λ bytes.
+        bytes.items ≡ sections_bytes first_layout (first_checkpoint stripes.count).sections) }
     ensures err { IfErr result (λ refusal. refusal ≡ Refusal.NoMemory) }
 {
     let mut bytes = Vec::new(alloc);
@@ -25,7 +26,8 @@ fn empty_sections(alloc: Global, stripes: StripeCount) -> Result<Vec<u8>, Refusa
 
 /// What stands behind the gate of a new store's checkpoint.
 pub(crate) fn first_bytes(alloc: Global, stripes: StripeCount) -> Result<Vec<u8>, Refusal>
-    ensures ok { IfOk result (λ bytes. bytes.items ≡ checkpoint_bytes first_layout (first_checkpoint stripes.count)) }
+    ensures ok { IfOk result (λ bytes.
+        bytes.items ≡ checkpoint_bytes first_layout (first_checkpoint stripes.count)) }
     ensures err { IfErr result (λ refusal. refusal ≡ Refusal.NoMemory) }
 {
     let sections = empty_sections(alloc, stripes)?;

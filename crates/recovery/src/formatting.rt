@@ -24,7 +24,8 @@ use std::alloc::Global;
 // Whether a checkpoint is sealed.
 fn is_formatted<D: Disk>(disk: &mut D) -> Result<bool, Refusal>
     ensures looks { Looks D.states D.failures D.honest (failed_in result) disk.old disk.new }
-    ensures value { D.honest disk.new → IfOk result (λ is. is ≡ is_sealed (contents_of D.states disk.old 0) || is_sealed (contents_of D.states disk.old 1)) }
+    ensures value { D.honest disk.new → IfOk result (λ is. is ≡ is_sealed
+        (contents_of D.states disk.old 0) || is_sealed (contents_of D.states disk.old 1)) }
     ensures err { IfErr result (λ refusal. refusal ≡ Refusal.Failed) }
 {
     let first = has_seal(disk, 0)?;
@@ -37,11 +38,18 @@ fn make_store<D: Disk>(alloc: Global, disk: &mut D, bytes: &[u8]) -> Result<(), 
     ensures was_honest { D.honest disk.new → D.honest disk.old }
     ensures failed { IfErr result (λ refusal. refusal ≡ Refusal.Failed) }
     ensures failures { D.failures disk.new ≡ D.failures disk.old + failed_in result }
-    ensures moments { D.honest disk.new → (stripes : ℕ) → is_stripe_count stripes ≡ true → bytes.now ≡ checkpoint_bytes first_layout (first_checkpoint stripes) → IsClear (now (D.states disk.old))
+    ensures moments { D.honest disk.new → (stripes : ℕ) → is_stripe_count stripes ≡ true
+        → bytes.now ≡ checkpoint_bytes first_layout (first_checkpoint stripes)
+        → IsClear (now (D.states disk.old))
         → AtEachMoment D.states disk.old disk.new (AtStops (IsNewOrUnformatted stripes)) }
-    ensures ok { OnOk result (D.honest disk.new → (stripes : ℕ) → is_stripe_count stripes ≡ true → bytes.now ≡ checkpoint_bytes first_layout (first_checkpoint stripes)
+    ensures ok { OnOk result
+        (D.honest disk.new → (stripes : ℕ) → is_stripe_count stripes ≡ true
+        → bytes.now ≡ checkpoint_bytes first_layout (first_checkpoint stripes)
         → IsClear (now (D.states disk.old)) → AtStops (IsNew stripes) (now (D.states disk.new))) }
-    ensures files { OnOk result (D.honest disk.new → (stripes : ℕ) → bytes.now ≡ checkpoint_bytes first_layout (first_checkpoint stripes) → now (D.states disk.old) ≡ empty_files → now (D.states disk.new) ≡ new_files stripes) }
+    ensures files { OnOk result
+        (D.honest disk.new → (stripes : ℕ)
+        → bytes.now ≡ checkpoint_bytes first_layout (first_checkpoint stripes)
+        → now (D.states disk.old) ≡ empty_files → now (D.states disk.new) ≡ new_files stripes) }
 {
     close_gate(disk)?;
     begin_log(alloc, disk)?;
@@ -53,15 +61,23 @@ fn make_store<D: Disk>(alloc: Global, disk: &mut D, bytes: &[u8]) -> Result<(), 
 pub fn format<D: Disk>(alloc: Global, disk: &mut D, stripes: StripeCount) -> Result<(), Refusal>
     ensures was_honest { D.honest disk.new → D.honest disk.old }
     ensures failures { D.failures disk.new ≡ D.failures disk.old + failed_in result }
-    ensures refusals { IfErr result (λ refusal. (refusal ≡ Refusal.Failed) ⊎ ((refusal ≡ Refusal.NoMemory) ⊎ (refusal ≡ Refusal.AlreadyFormatted))) }
-    ensures formatted { IfErr result (λ refusal. refusal ≡ Refusal.AlreadyFormatted → D.honest disk.new → IsFormatted (contents_of D.states disk.old)) }
-    ensures unformatted { D.honest disk.new → result ≢ Err Refusal.AlreadyFormatted → result ≢ Err Refusal.Failed → IsUnformatted (contents_of D.states disk.old) }
-    ensures untouched { IfErr result (λ refusal. refusal ≢ Refusal.Failed → SyncsAndLooks D.states D.failures D.honest 2 0 disk.old disk.new) }
+    ensures refusals { IfErr result (λ refusal. (refusal ≡ Refusal.Failed)
+        ⊎ ((refusal ≡ Refusal.NoMemory) ⊎ (refusal ≡ Refusal.AlreadyFormatted))) }
+    ensures formatted { IfErr result (λ refusal. refusal ≡ Refusal.AlreadyFormatted
+        → D.honest disk.new → IsFormatted (contents_of D.states disk.old)) }
+    ensures unformatted { D.honest disk.new → result ≢ Err Refusal.AlreadyFormatted
+        → result ≢ Err Refusal.Failed → IsUnformatted (contents_of D.states disk.old) }
+    ensures untouched { IfErr result (λ refusal. refusal ≢ Refusal.Failed
+        → SyncsAndLooks D.states D.failures D.honest 2 0 disk.old disk.new) }
     ensures moments { D.honest disk.new → AtStops IsUnformatted (now (D.states disk.old))
         → AtEachMoment D.states disk.old disk.new (AtStops (IsNewOrUnformatted stripes.count)) }
-    ensures ok { OnOk result (D.honest disk.new → AtStops (IsNew stripes.count) (now (D.states disk.new))) }
-    ensures reads { OnOk result (D.honest disk.new → IsNew stripes.count (contents_of D.states disk.new)) }
-    ensures files { OnOk result (D.honest disk.new → now (D.states disk.old) ≡ empty_files → now (D.states disk.new) ≡ new_files stripes.count) }
+    ensures ok { OnOk result
+        (D.honest disk.new → AtStops (IsNew stripes.count) (now (D.states disk.new))) }
+    ensures reads { OnOk result
+        (D.honest disk.new → IsNew stripes.count (contents_of D.states disk.new)) }
+    ensures files { OnOk result
+        (D.honest disk.new → now (D.states disk.old) ≡ empty_files
+        → now (D.states disk.new) ≡ new_files stripes.count) }
 {
     sync_files(disk, 2)?;
     if is_formatted(disk)? {

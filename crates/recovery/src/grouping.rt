@@ -21,7 +21,8 @@ pub(crate) struct Groups {
 impl Groups {
     // Empty lists.
     fn new(alloc: Global, stripes: StripeCount) -> Result<Groups, Refusal>
-        ensures ok { IfOk result (λ groups. AreGroups stripes.count finite.empty (lists_of groups.lists)) }
+        ensures ok { IfOk result (λ groups.
+            AreGroups stripes.count finite.empty (lists_of groups.lists)) }
         ensures stripes { IfOk result (λ groups. groups.stripes ≡ stripes) }
         ensures err { IfErr result (λ refusal. refusal ≡ Refusal.NoMemory) }
     {
@@ -35,8 +36,10 @@ impl Groups {
     // Puts the entry into the list of its key's stripe.
     fn add(&mut self, entry: (Key, Value)) -> Result<(), Refusal>
         ensures stripes { self.new.stripes ≡ self.old.stripes }
-        ensures ok { OnOk result ((behind : Entries) → HasDistinctKeys (entry ∷ behind)
-            → AreGroups self.old.stripes.count (finite.from_entries behind) (lists_of self.old.lists)
+        ensures ok { OnOk result
+            ((behind : Entries) → HasDistinctKeys (entry ∷ behind)
+            → AreGroups self.old.stripes.count (finite.from_entries behind)
+            (lists_of self.old.lists)
             → AreGroups self.old.stripes.count (finite.from_entries (entry ∷ behind))
             (lists_of self.new.lists)) }
         ensures err { IfErr result (λ refusal. refusal ≡ Refusal.NoMemory) }
@@ -49,8 +52,10 @@ impl Groups {
     // Puts each entry into the list of its key's stripe.
     fn add_all(&mut self, mut entries: Vec<(Key, Value)>) -> Result<(), Refusal>
         ensures stripes { self.new.stripes ≡ self.old.stripes }
-        ensures ok { OnOk result ((behind : Entries) → HasDistinctKeys (entries.items ++ behind)
-            → AreGroups self.old.stripes.count (finite.from_entries behind) (lists_of self.old.lists)
+        ensures ok { OnOk result
+            ((behind : Entries) → HasDistinctKeys (entries.items ++ behind)
+            → AreGroups self.old.stripes.count (finite.from_entries behind)
+            (lists_of self.old.lists)
             → AreGroups self.old.stripes.count (finite.from_entries (entries.items ++ behind))
             (lists_of self.new.lists)) }
         ensures err { IfErr result (λ refusal. refusal ≡ Refusal.NoMemory) }

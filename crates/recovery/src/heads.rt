@@ -19,7 +19,8 @@ pub(crate) fn newest_file<D: Disk>(disk: &mut D) -> Result<usize, Refusal>
     ensures tried { OnErr result (MadeAtMost D.states 2 disk.old disk.new) }
     ensures file { IfOk result (λ file. file < 2) }
     ensures ok { D.honest disk.new → IfOk result (IsUsed (contents_of D.states disk.old)) }
-    ensures err { IfErr result (λ refusal. (refusal ≡ Refusal.Failed) ⊎ (D.honest disk.new → heads_fault (contents_of D.states disk.old) ≡ Some refusal)) }
+    ensures err { IfErr result (λ refusal. (refusal ≡ Refusal.Failed)
+        ⊎ (D.honest disk.new → heads_fault (contents_of D.states disk.old) ≡ Some refusal)) }
 {
     let first = read_head(disk, 0)?;
     let second = read_head(disk, 1)?;

@@ -37,13 +37,17 @@ fn read_log<D: Disk>(
     restoring: &mut Restoring,
 ) -> Result<(End, GateLog), Refusal>
     ensures looks { Looks D.states D.failures D.honest (failed_in result) disk.old disk.new }
-    ensures called { IfOk result (λ x. Made D.states (log_calls (end_gate x.0 x.1.gate)) disk.old disk.new) }
-    ensures tried { D.honest disk.new → (last : ℕ) → EndsAt generation low (log_bytes D.states disk.old generation) last
+    ensures called { IfOk result (λ x. Made D.states (log_calls (end_gate x.0 x.1.gate)) disk.old
+        disk.new) }
+    ensures tried { D.honest disk.new → (last : ℕ)
+        → EndsAt generation low (log_bytes D.states disk.old generation) last
         → OnErr result (MadeAtMost D.states (log_calls last) disk.old disk.new) }
     ensures same { IsSameFrame restoring.old restoring.new }
     ensures resumed { IfOk result (λ x. IsResumed x.1) }
-    ensures ok { D.honest disk.new → IfOk result (λ x. IsLogRead generation low (log_bytes D.states disk.old generation) restoring.old x.0 x.1 restoring.new) }
-    ensures err { D.honest disk.new → IfErr result (λ refusal. RefusesFor (IsBadLog generation low (log_bytes D.states disk.old generation) refusal) refusal) }
+    ensures ok { D.honest disk.new → IfOk result (λ x. IsLogRead generation low
+        (log_bytes D.states disk.old generation) restoring.old x.0 x.1 restoring.new) }
+    ensures err { D.honest disk.new → IfErr result (λ refusal. RefusesFor
+        (IsBadLog generation low (log_bytes D.states disk.old generation) refusal) refusal) }
 {
     let mut scan = Scan::begin(alloc, disk, generation, low)?;
     let end = replay(alloc, disk, generation, &mut scan, restoring)?;
@@ -61,18 +65,32 @@ pub(crate) fn read_logs<D: Disk>(
     restoring: &mut Restoring,
 ) -> Result<GateLog, Refusal>
     ensures looks { Looks D.states D.failures D.honest (failed_in result) disk.old disk.new }
-    ensures called { D.honest disk.new → (stripes : ℕ) (sections : List Section) (first : List Batch) (second : Option (List Batch))
-        → AreLogs (contents_of D.states disk.old) (checkpoint_with generation low stripes sections) first second
-        → OnOk result (Made D.states (logs_calls (checkpoint_with generation low stripes sections) first second) disk.old disk.new) }
-    ensures tried { D.honest disk.new → (stripes : ℕ) (sections : List Section) (first : List Batch) (second : Option (List Batch))
-        → AreLogs (contents_of D.states disk.old) (checkpoint_with generation low stripes sections) first second
-        → OnErr result (MadeAtMost D.states (logs_calls (checkpoint_with generation low stripes sections) first second) disk.old disk.new) }
+    ensures called { D.honest disk.new → (stripes : ℕ) (sections : List Section)
+        (first : List Batch) (second : Option (List Batch))
+        → AreLogs (contents_of D.states disk.old) (checkpoint_with generation low stripes sections)
+        first second
+        → OnOk result
+        (Made D.states (logs_calls (checkpoint_with generation low stripes sections) first second)
+        disk.old disk.new) }
+    ensures tried { D.honest disk.new → (stripes : ℕ) (sections : List Section) (first : List Batch)
+        (second : Option (List Batch))
+        → AreLogs (contents_of D.states disk.old) (checkpoint_with generation low stripes sections)
+        first second
+        → OnErr result
+        (MadeAtMost D.states
+        (logs_calls (checkpoint_with generation low stripes sections) first second) disk.old
+        disk.new) }
     ensures same { IsSameFrame restoring.old restoring.new }
     ensures resumed { IfOk result IsResumed }
     ensures ok { D.honest disk.new → (stripes : ℕ) (sections : List Section)
-        → IfOk result (AreReplayed (contents_of D.states disk.old) (checkpoint_with generation low stripes sections) restoring.old restoring.new) }
+        → IfOk result
+        (AreReplayed (contents_of D.states disk.old)
+        (checkpoint_with generation low stripes sections) restoring.old restoring.new) }
     ensures err { D.honest disk.new → (stripes : ℕ) (sections : List Section)
-        → IfErr result (λ refusal. RefusesFor (AreBadLogs (contents_of D.states disk.old) (checkpoint_with generation low stripes sections) refusal) refusal) }
+        → IfErr result (λ refusal.
+        RefusesFor
+        (AreBadLogs (contents_of D.states disk.old)
+        (checkpoint_with generation low stripes sections) refusal) refusal) }
 {
     let (end, first) = read_log(alloc, disk, generation, low, restoring)?;
     if end == End::Closed {

@@ -22,7 +22,8 @@ use store_layout::{BODY_OFFSET, CLOSED_GATE, OPEN_GATE};
 pub(crate) fn has_seal<D: Disk>(disk: &mut D, file: usize) -> Result<bool, Refusal>
     requires { file < 4 }
     ensures looks { Looks D.states D.failures D.honest (failed_in result) disk.old disk.new }
-    ensures value { D.honest disk.new → IfOk result (λ is. is ≡ is_sealed (now (D.states disk.old) file).seen) }
+    ensures value { D.honest disk.new → IfOk result (λ is. is ≡ is_sealed
+        (now (D.states disk.old) file).seen) }
     ensures err { IfErr result (λ refusal. refusal ≡ Refusal.Failed) }
 {
     let mut bytes = [0; BODY_OFFSET];
@@ -36,8 +37,10 @@ pub(crate) fn has_seal<D: Disk>(disk: &mut D, file: usize) -> Result<bool, Refus
 fn write<D: Disk>(disk: &mut D, at: usize, bytes: &[u8]) -> Result<(), Refusal>
     requires place { D.honest disk.old → at ≤ length (now (D.states disk.old) 0).seen }
     ensures was_honest { D.honest disk.new → D.honest disk.old }
-    ensures ok { OnOk result (Makes D.states D.failures 0 (Call.writes at bytes.now) disk.old disk.new) }
-    ensures err { OnErr result (Fails D.states D.failures 0 (Call.writes at bytes.now) disk.old disk.new) }
+    ensures ok { OnOk result
+        (Makes D.states D.failures 0 (Call.writes at bytes.now) disk.old disk.new) }
+    ensures err { OnErr result
+        (Fails D.states D.failures 0 (Call.writes at bytes.now) disk.old disk.new) }
     ensures failed { IfErr result (λ refusal. refusal ≡ Refusal.Failed) }
 {
     match disk.write_at(0, at, bytes) {
@@ -64,10 +67,14 @@ pub(crate) fn close_gate<D: Disk>(disk: &mut D) -> Result<(), Refusal>
     ensures was_honest { D.honest disk.new → D.honest disk.old }
     ensures failed { IfErr result (λ refusal. refusal ≡ Refusal.Failed) }
     ensures failures { D.failures disk.new ≡ D.failures disk.old + failed_in result }
-    ensures moments { D.honest disk.new → (content : List ℕ) → now (D.states disk.old) 0 ≡ at_rest content → is_sealed content ≡ false
-        → AtEachMoment D.states disk.old disk.new (OneFile 0 (λ left. is_sealed left ≡ false) (now (D.states disk.old))) }
+    ensures moments { D.honest disk.new → (content : List ℕ)
+        → now (D.states disk.old) 0 ≡ at_rest content → is_sealed content ≡ false
+        → AtEachMoment D.states disk.old disk.new
+        (OneFile 0 (λ left. is_sealed left ≡ false) (now (D.states disk.old))) }
     ensures ok { OnOk result (D.honest disk.new → IsShut [] [] (now (D.states disk.new) 0)) }
-    ensures left { OnOk result (D.honest disk.new → now (D.states disk.old) 0 ≡ at_rest [] → Becomes 0 (at_rest (0 ∷ [])) (now (D.states disk.old)) (now (D.states disk.new))) }
+    ensures left { OnOk result
+        (D.honest disk.new → now (D.states disk.old) 0 ≡ at_rest []
+        → Becomes 0 (at_rest (0 ∷ [])) (now (D.states disk.old)) (now (D.states disk.new))) }
 {
     if !must_close(disk, 0)? {
         return sync(disk);
@@ -81,9 +88,14 @@ pub(crate) fn begin_log<D: Disk>(alloc: Global, disk: &mut D) -> Result<(), Refu
     ensures was_honest { D.honest disk.new → D.honest disk.old }
     ensures failed { IfErr result (λ refusal. refusal ≡ Refusal.Failed) }
     ensures failures { D.failures disk.new ≡ D.failures disk.old + failed_in result }
-    ensures others { AtEachMoment D.states disk.old disk.new (λ files. (n : ℕ) → n ≢ 2 → files n ≡ now (D.states disk.old) n) }
-    ensures ok { OnOk result ((content : List ℕ) → MayLeave (now (D.states disk.new) 2) content → IsClosed first_layout 0 0 [] content) }
-    ensures left { OnOk result (now (D.states disk.old) 2 ≡ at_rest [] → Becomes 2 (at_rest first_log) (now (D.states disk.old)) (now (D.states disk.new))) }
+    ensures others { AtEachMoment D.states disk.old disk.new (λ files. (n : ℕ) → n ≢ 2
+        → files n ≡ now (D.states disk.old) n) }
+    ensures ok { OnOk result
+        ((content : List ℕ) → MayLeave (now (D.states disk.new) 2) content
+        → IsClosed first_layout 0 0 [] content) }
+    ensures left { OnOk result
+        (now (D.states disk.old) 2 ≡ at_rest []
+        → Becomes 2 (at_rest first_log) (now (D.states disk.old)) (now (D.states disk.new))) }
 {
     let mut log = GateLog::new(alloc, 0, 0);
     let _written = log.advance(disk)?;
@@ -98,10 +110,16 @@ pub(crate) fn seal<D: Disk>(disk: &mut D, bytes: &[u8]) -> Result<(), Refusal>
     ensures failed { IfErr result (λ refusal. refusal ≡ Refusal.Failed) }
     ensures failures { D.failures disk.new ≡ D.failures disk.old + failed_in result }
     ensures moments { IsShut [] [] (now (D.states disk.old) 0)
-        → AtEachMoment D.states disk.old disk.new (OneFile 0 (IsSealedWith bytes.now) (now (D.states disk.old))) }
-    ensures ok { OnOk result (IsShut [] [] (now (D.states disk.old) 0) → (content : List ℕ) → MayLeave (now (D.states disk.new) 0) content
+        → AtEachMoment D.states disk.old disk.new
+        (OneFile 0 (IsSealedWith bytes.now) (now (D.states disk.old))) }
+    ensures ok { OnOk result
+        (IsShut [] [] (now (D.states disk.old) 0) → (content : List ℕ)
+        → MayLeave (now (D.states disk.new) 0) content
         → (rest : List ℕ) × (content ≡ 165 ∷ (bytes.now ++ rest))) }
-    ensures left { OnOk result (now (D.states disk.old) 0 ≡ at_rest (0 ∷ []) → Becomes 0 (at_rest (165 ∷ bytes.now)) (now (D.states disk.old)) (now (D.states disk.new))) }
+    ensures left { OnOk result
+        (now (D.states disk.old) 0 ≡ at_rest (0 ∷ [])
+        → Becomes 0 (at_rest (165 ∷ bytes.now)) (now (D.states disk.old))
+        (now (D.states disk.new))) }
 {
     write(disk, 1, bytes)?;
     sync(disk)?;

@@ -56,14 +56,19 @@ fn restore_from<D: Disk>(
     ensures looks { Looks D.states D.failures D.honest (failed_in result) disk.old disk.new }
     ensures called { D.honest disk.new → (first : List Batch) (second : Option (List Batch))
         → AreLogs (contents_of D.states disk.old) (checkpoint_of loaded) first second
-        → OnOk result (Made D.states (logs_calls (checkpoint_of loaded) first second) disk.old disk.new) }
+        → OnOk result
+        (Made D.states (logs_calls (checkpoint_of loaded) first second) disk.old disk.new) }
     ensures tried { D.honest disk.new → (first : List Batch) (second : Option (List Batch))
         → AreLogs (contents_of D.states disk.old) (checkpoint_of loaded) first second
-        → OnErr result (MadeAtMost D.states (logs_calls (checkpoint_of loaded) first second) disk.old disk.new) }
+        → OnErr result
+        (MadeAtMost D.states (logs_calls (checkpoint_of loaded) first second) disk.old disk.new) }
     ensures resumed { IfOk result (λ found. IsResumed found.log) }
     ensures parts { IfOk result (λ found. ArePartsOf stripes.count found.parts.items) }
-    ensures ok { D.honest disk.new → AreRising loaded.sections.items → IfOk result (IsRestored (contents_of D.states disk.old) (checkpoint_of loaded) stripes.count) }
-    ensures err { D.honest disk.new → IfErr result (λ refusal. RefusesFor (AreBadLogs (contents_of D.states disk.old) (checkpoint_of loaded) refusal) refusal) }
+    ensures ok { D.honest disk.new → AreRising loaded.sections.items
+        → IfOk result
+        (IsRestored (contents_of D.states disk.old) (checkpoint_of loaded) stripes.count) }
+    ensures err { D.honest disk.new → IfErr result (λ refusal. RefusesFor
+        (AreBadLogs (contents_of D.states disk.old) (checkpoint_of loaded) refusal) refusal) }
 {
     let generation = loaded.generation;
     let low = loaded.low;
@@ -83,14 +88,18 @@ fn restore_from<D: Disk>(
 // alone.
 fn restore<D: Disk>(alloc: Global, disk: &mut D, stripes: StripeCount) -> Result<Restored, Refusal>
     ensures looks { Looks D.states D.failures D.honest (failed_in result) disk.old disk.new }
-    ensures called { D.honest disk.new → (found : Opened) → Holds (contents_of D.states disk.old) found
+    ensures called { D.honest disk.new → (found : Opened)
+        → Holds (contents_of D.states disk.old) found
         → OnOk result (Made D.states (files_calls found) disk.old disk.new) }
-    ensures tried { D.honest disk.new → (found : Opened) → Holds (contents_of D.states disk.old) found
+    ensures tried { D.honest disk.new → (found : Opened)
+        → Holds (contents_of D.states disk.old) found
         → OnErr result (MadeAtMost D.states (files_calls found) disk.old disk.new) }
     ensures resumed { IfOk result (λ found. IsResumed found.log) }
     ensures parts { IfOk result (λ found. ArePartsOf stripes.count found.parts.items) }
-    ensures ok { D.honest disk.new → IfOk result (IsOpened (contents_of D.states disk.old) stripes.count) }
-    ensures err { D.honest disk.new → IfErr result (λ refusal. RefusesFor (Refuses (contents_of D.states disk.old) refusal) refusal) }
+    ensures ok { D.honest disk.new
+        → IfOk result (IsOpened (contents_of D.states disk.old) stripes.count) }
+    ensures err { D.honest disk.new → IfErr result (λ refusal. RefusesFor
+        (Refuses (contents_of D.states disk.old) refusal) refusal) }
 {
     let file = newest_file(disk)?;
     let Some(loaded) = load(alloc, disk, file)? else {
@@ -107,15 +116,20 @@ fn read_files<D: Disk>(
     stripes: StripeCount,
 ) -> Result<(Restored, bool), Refusal>
     ensures looks { Looks D.states D.failures D.honest (failed_in result) disk.old disk.new }
-    ensures called { D.honest disk.new → (found : Opened) → Holds (contents_of D.states disk.old) found
+    ensures called { D.honest disk.new → (found : Opened)
+        → Holds (contents_of D.states disk.old) found
         → OnOk result (Made D.states (reading_calls found) disk.old disk.new) }
-    ensures tried { D.honest disk.new → (found : Opened) → Holds (contents_of D.states disk.old) found
+    ensures tried { D.honest disk.new → (found : Opened)
+        → Holds (contents_of D.states disk.old) found
         → OnErr result (MadeAtMost D.states (reading_calls found) disk.old disk.new) }
     ensures resumed { IfOk result (λ x. IsResumed x.0.log) }
     ensures parts { IfOk result (λ x. ArePartsOf stripes.count x.0.parts.items) }
-    ensures ok { D.honest disk.new → IfOk result (λ x. IsOpened (contents_of D.states disk.old) stripes.count x.0) }
-    ensures gate { D.honest disk.new → IfOk result (λ x. x.1 ≡ is_to_close (contents_of D.states disk.old (checkpoint_file (x.0.sealed + 1)))) }
-    ensures err { D.honest disk.new → IfErr result (λ refusal. RefusesFor (Refuses (contents_of D.states disk.old) refusal) refusal) }
+    ensures ok { D.honest disk.new → IfOk result (λ x. IsOpened (contents_of D.states disk.old)
+        stripes.count x.0) }
+    ensures gate { D.honest disk.new → IfOk result (λ x. x.1 ≡ is_to_close
+        (contents_of D.states disk.old (checkpoint_file (x.0.sealed + 1)))) }
+    ensures err { D.honest disk.new → IfErr result (λ refusal. RefusesFor
+        (Refuses (contents_of D.states disk.old) refusal) refusal) }
 {
     let restored = restore(alloc, disk, stripes)?;
     let must_close = must_close(disk, 1 - checkpoint_file(restored.sealed))?;
@@ -130,16 +144,21 @@ fn open_files<D: Disk>(
 ) -> Result<(Restored, bool), Refusal>
     ensures calls { OnOk result (SyncsAndLooks D.states D.failures D.honest 4 0 disk.old disk.new) }
     ensures stopped { IfErr result (Stopped D.states D.failures D.honest 4 disk.old disk.new) }
-    ensures made { D.honest disk.new → (found : Opened) → Holds (contents_of D.states disk.old) found
+    ensures made { D.honest disk.new → (found : Opened)
+        → Holds (contents_of D.states disk.old) found
         → OnOk result (Made D.states (opening_calls found) disk.old disk.new) }
-    ensures tried { D.honest disk.new → (found : Opened) → Holds (contents_of D.states disk.old) found
+    ensures tried { D.honest disk.new → (found : Opened)
+        → Holds (contents_of D.states disk.old) found
         → OnErr result (MadeAtMost D.states (opening_calls found) disk.old disk.new) }
     ensures was_honest { D.honest disk.new → D.honest disk.old }
     ensures resumed { IfOk result (λ x. IsResumed x.0.log) }
     ensures parts { IfOk result (λ x. ArePartsOf stripes.count x.0.parts.items) }
-    ensures ok { D.honest disk.new → IfOk result (λ x. IsOpened (contents_of D.states disk.old) stripes.count x.0) }
-    ensures gate { D.honest disk.new → IfOk result (λ x. x.1 ≡ is_to_close (contents_of D.states disk.old (checkpoint_file (x.0.sealed + 1)))) }
-    ensures err { D.honest disk.new → IfErr result (λ refusal. RefusesFor (Refuses (contents_of D.states disk.old) refusal) refusal) }
+    ensures ok { D.honest disk.new → IfOk result (λ x. IsOpened (contents_of D.states disk.old)
+        stripes.count x.0) }
+    ensures gate { D.honest disk.new → IfOk result (λ x. x.1 ≡ is_to_close
+        (contents_of D.states disk.old (checkpoint_file (x.0.sealed + 1)))) }
+    ensures err { D.honest disk.new → IfErr result (λ refusal. RefusesFor
+        (Refuses (contents_of D.states disk.old) refusal) refusal) }
 {
     sync_files(disk, 4)?;
     read_files(alloc, disk, stripes)
@@ -154,18 +173,25 @@ pub fn open_parts<D: Disk>(
     mut disk: D,
     stripes: StripeCount,
 ) -> Result<(Keeper<D>, Vec<Part>, u64), (D, Refusal)>
-    ensures calls { IfOk result (λ x. SyncsAndLooks D.states D.failures D.honest 4 0 disk x.0.disk) }
+    ensures calls { IfOk result (λ x. SyncsAndLooks D.states D.failures D.honest 4 0 disk
+        x.0.disk) }
     ensures stopped { IfErr result (λ x. Stopped D.states D.failures D.honest 4 disk x.0 x.1) }
-    ensures made { IfOk result (λ x. D.honest x.0.disk → (found : Opened) → Holds (contents_of D.states disk) found
+    ensures made { IfOk result (λ x. D.honest x.0.disk → (found : Opened)
+        → Holds (contents_of D.states disk) found
         → Made D.states (opening_calls found) disk x.0.disk) }
-    ensures tried { IfErr result (λ x. D.honest x.0 → (found : Opened) → Holds (contents_of D.states disk) found
+    ensures tried { IfErr result (λ x. D.honest x.0 → (found : Opened)
+        → Holds (contents_of D.states disk) found
         → MadeAtMost D.states (opening_calls found) disk x.0) }
     ensures start { IfOk result (λ x. IsAtStart stripes x.2 x.0) }
     ensures parts { IfOk result (λ x. ArePartsOf stripes.count x.1.items) }
-    ensures ok { IfOk result (λ x. D.honest x.0.disk → D.honest disk × IsOpenedAs (contents_of D.states disk) stripes.count x.0 x.1.items x.2) }
-    ensures err { IfErr result (λ x. D.honest x.0 → D.honest disk × RefusesFor (Refuses (contents_of D.states disk) x.1) x.1) }
-    ensures stops { IfOk result (λ x. LeavesOnly (now (D.states x.0.disk)) (contents_of D.states disk)) }
-    ensures fits { IfOk result (λ x. (p : Record) → p.opening ≡ opening_of x.2 x.1.items → IsUnused x.2 p → Fits D.states D.honest stripes.count [] x.0 p) }
+    ensures ok { IfOk result (λ x. D.honest x.0.disk
+        → D.honest disk × IsOpenedAs (contents_of D.states disk) stripes.count x.0 x.1.items x.2) }
+    ensures err { IfErr result (λ x. D.honest x.0
+        → D.honest disk × RefusesFor (Refuses (contents_of D.states disk) x.1) x.1) }
+    ensures stops { IfOk result (λ x. LeavesOnly (now (D.states x.0.disk))
+        (contents_of D.states disk)) }
+    ensures fits { IfOk result (λ x. (p : Record) → p.opening ≡ opening_of x.2 x.1.items
+        → IsUnused x.2 p → Fits D.states D.honest stripes.count [] x.0 p) }
 {
     laws_of_parts();
     match open_files(alloc, &mut disk, stripes) {
@@ -186,18 +212,26 @@ pub fn open<D: Disk>(
     disk: D,
     stripes: StripeCount,
 ) -> Result<(Keeper<D>, Stripes), (D, Refusal)>
-    ensures calls { IfOk result (λ x. SyncsAndLooks D.states D.failures D.honest 4 0 disk x.0.disk) }
+    ensures calls { IfOk result (λ x. SyncsAndLooks D.states D.failures D.honest 4 0 disk
+        x.0.disk) }
     ensures stopped { IfErr result (λ x. Stopped D.states D.failures D.honest 4 disk x.0 x.1) }
-    ensures made { IfOk result (λ x. D.honest x.0.disk → (found : Opened) → Holds (contents_of D.states disk) found
+    ensures made { IfOk result (λ x. D.honest x.0.disk → (found : Opened)
+        → Holds (contents_of D.states disk) found
         → Made D.states (opening_calls found) disk x.0.disk) }
-    ensures tried { IfErr result (λ x. D.honest x.0 → (found : Opened) → Holds (contents_of D.states disk) found
+    ensures tried { IfErr result (λ x. D.honest x.0 → (found : Opened)
+        → Holds (contents_of D.states disk) found
         → MadeAtMost D.states (opening_calls found) disk x.0) }
     ensures start { IfOk result (λ x. IsAtStart stripes (begun_with x.1).first x.0) }
     ensures stripes { IfOk result (λ x. stripe_count x.1 ≡ stripes.count) }
-    ensures ok { IfOk result (λ x. D.honest x.0.disk → D.honest disk × StandsFor (contents_of D.states disk) (begun_with x.1).first (begun_with x.1).map) }
-    ensures err { IfErr result (λ x. D.honest x.0 → D.honest disk × RefusesFor (Refuses (contents_of D.states disk) x.1) x.1) }
-    ensures stops { IfOk result (λ x. LeavesOnly (now (D.states x.0.disk)) (contents_of D.states disk)) }
-    ensures fits { IfOk result (λ x. (p : Record) → p.opening ≡ begun_with x.1 → IsUnused (begun_with x.1).first p → Fits D.states D.honest stripes.count [] x.0 p) }
+    ensures ok { IfOk result (λ x. D.honest x.0.disk
+        → D.honest disk × StandsFor (contents_of D.states disk) (begun_with x.1).first
+        (begun_with x.1).map) }
+    ensures err { IfErr result (λ x. D.honest x.0
+        → D.honest disk × RefusesFor (Refuses (contents_of D.states disk) x.1) x.1) }
+    ensures stops { IfOk result (λ x. LeavesOnly (now (D.states x.0.disk))
+        (contents_of D.states disk)) }
+    ensures fits { IfOk result (λ x. (p : Record) → p.opening ≡ begun_with x.1
+        → IsUnused (begun_with x.1).first p → Fits D.states D.honest stripes.count [] x.0 p) }
 {
     laws_of_parts();
     let (keeper, parts, first) = open_parts(alloc, disk, stripes)?;

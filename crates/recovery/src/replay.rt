@@ -46,16 +46,26 @@ pub(crate) fn replay<D: Disk>(
     requires generation { scan.old.generation ≡ generation }
     requires reached { pieces_in (scan.old.gate + 1) ≤ pieces_in (end_of scan.old.reader) }
     ensures looks { Looks D.states D.failures D.honest (failed_in result) disk.old disk.new }
-    ensures called { OnOk result (ReadsPieces D.states disk.old disk.new scan.old.reader scan.new.reader) }
-    ensures tried { D.honest disk.new → (low last : ℕ) → HasRead first_layout low [] scan.old (log_bytes D.states disk.old generation)
+    ensures called { OnOk result
+        (ReadsPieces D.states disk.old disk.new scan.old.reader scan.new.reader) }
+    ensures tried { D.honest disk.new → (low last : ℕ)
+        → HasRead first_layout low [] scan.old (log_bytes D.states disk.old generation)
         → EndsAt generation low (log_bytes D.states disk.old generation) last
-        → OnErr result (ReadsAtMost D.states disk.old disk.new scan.old.reader (max (end_of scan.old.reader) (last + 1))) }
+        → OnErr result
+        (ReadsAtMost D.states disk.old disk.new scan.old.reader
+        (max (end_of scan.old.reader) (last + 1))) }
     ensures pieces { IfOk result (λ end. pieces_in (end_of scan.new.reader)
         ≡ max (pieces_in (end_of scan.old.reader)) (pieces_in (end_gate end scan.new.gate + 1))) }
     ensures same { IsSameFrame restoring.old restoring.new }
-    ensures ok { D.honest disk.new → (low : ℕ) → HasRead first_layout low [] scan.old (log_bytes D.states disk.old generation)
-        → IfOk result (λ end. IsReplayed generation low (log_bytes D.states disk.old generation) restoring.old end scan.new restoring.new) }
-    ensures err { IfErr result (λ refusal. RefusesFor (D.honest disk.new → (low : ℕ) → HasRead first_layout low [] scan.old (log_bytes D.states disk.old generation)
+    ensures ok { D.honest disk.new → (low : ℕ)
+        → HasRead first_layout low [] scan.old (log_bytes D.states disk.old generation)
+        → IfOk result (λ end.
+        IsReplayed generation low (log_bytes D.states disk.old generation) restoring.old end
+        scan.new restoring.new) }
+    ensures err { IfErr result (λ refusal.
+        RefusesFor
+        (D.honest disk.new → (low : ℕ)
+        → HasRead first_layout low [] scan.old (log_bytes D.states disk.old generation)
         → IsBrokenFor generation low (log_bytes D.states disk.old generation) refusal) refusal) }
 {
     for _ in 0..u64::MAX {

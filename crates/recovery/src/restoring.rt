@@ -57,10 +57,12 @@ impl Restoring {
         loaded: LoadedCheckpoint,
     ) -> Result<Restoring, Refusal>
         requires { AreLoaded loaded.stripes.count loaded.sections.items }
-        ensures map { IfOk result (λ restoring. HasMap restoring (finite.from_entries (entries_in loaded.sections.items))) }
+        ensures map { IfOk result (λ restoring.
+            HasMap restoring (finite.from_entries (entries_in loaded.sections.items))) }
         ensures stripes { IfOk result (λ restoring. restoring.divided.stripes ≡ stripes) }
         ensures of { IfOk result (λ restoring. restoring.of ≡ loaded.stripes) }
-        ensures marks { IfOk result (λ restoring. restoring.marks.items ≡ marks_in loaded.sections.items) }
+        ensures marks { IfOk result (λ restoring.
+            restoring.marks.items ≡ marks_in loaded.sections.items) }
         ensures err { IfErr result (λ refusal. refusal ≡ Refusal.NoMemory) }
     {
         let marks = marks_of(alloc, &loaded.sections)?;
@@ -72,7 +74,8 @@ impl Restoring {
 
     // Whether the change is in no section.
     fn counts(&self, entry: &Entry) -> bool
-        ensures { result ≡ nat_le (slice_index_or self.now.marks.items (stripe_of self.now.of.count entry.now.command.key) 0) entry.now.ticket }
+        ensures { result ≡ nat_le (slice_index_or self.now.marks.items
+            (stripe_of self.now.of.count entry.now.command.key) 0) entry.now.ticket }
     {
         let stripe = stripe_of(entry.command.key.as_str(), self.of);
         match self.marks.get(stripe) {
@@ -84,7 +87,10 @@ impl Restoring {
     /// Makes those of the changes that are in no section, in their order.
     pub(crate) fn apply(&mut self, alloc: Global, entries: &[Entry]) -> Result<(), Refusal>
         ensures same { IsSameFrame self.old self.new }
-        ensures ok { OnOk result ((m : Map) → HasMap self.old m → HasMap self.new (map_after m (counted_of self.old.of.count self.old.marks.items entries.now))) }
+        ensures ok { OnOk result
+            ((m : Map) → HasMap self.old m
+            → HasMap self.new
+            (map_after m (counted_of self.old.of.count self.old.marks.items entries.now))) }
         ensures err { IfErr result (λ refusal. refusal ≡ Refusal.NoMemory) }
     {
         for entry in entries {

@@ -143,8 +143,10 @@ fn take_back(events: &mut Vec<Event>, place: usize)
 
 impl Script {
     fn add(&mut self, line: Line, stripes: u16) -> Result<(), AllocError>
-        ensures events { OnOk result (self.new.events.items ≡ self.old.events.items ++ events_of stripes line) }
-        ensures spans { OnOk result (self.new.spans.items ≡ self.old.spans.items ++ span_of stripes line ∷ []) }
+        ensures events { OnOk result
+            (self.new.events.items ≡ self.old.events.items ++ events_of stripes line) }
+        ensures spans { OnOk result
+            (self.new.spans.items ≡ self.old.spans.items ++ span_of stripes line ∷ []) }
     {
         let Line { form, event } = line;
         let more = more_of(form, stripes);
@@ -157,8 +159,10 @@ impl Script {
 
     /// The script of these lines.
     pub fn of(alloc: Global, lines: Vec<Line>) -> Result<Script, AllocError>
-        ensures events { IfOk result (λ script. script.events.items ≡ flat_map (events_of (most_stripes lines.items)) lines.items) }
-        ensures spans { IfOk result (λ script. script.spans.items ≡ map (span_of (most_stripes lines.items)) lines.items) }
+        ensures events { IfOk result (λ script.
+            script.events.items ≡ flat_map (events_of (most_stripes lines.items)) lines.items) }
+        ensures spans { IfOk result (λ script.
+            script.spans.items ≡ map (span_of (most_stripes lines.items)) lines.items) }
     {
         let stripes = most_stripes(lines.as_slice());
         let mut script = Script {
@@ -175,7 +179,8 @@ impl Script {
     /// its line. Where these outcomes show that such steps were made, those of the first such line
     /// become steps of nobody, which don't fit, and the answer is yes: the script is to be played again.
     pub fn take_back_steps(&mut self, outcomes: &[Outcome]) -> bool
-        ensures events { TakesBack (stray_steps 0 self.old.spans.items outcomes.now) self.old.events.items self.new.events.items result }
+        ensures events { TakesBack (stray_steps 0 self.old.spans.items outcomes.now)
+            self.old.events.items self.new.events.items result }
         ensures spans { self.new.spans ≡ self.old.spans }
     {
         let Some((first, behind)) = stray_steps(self.spans.as_slice(), outcomes) else {

@@ -56,7 +56,8 @@ impl Life {
 
     /// Whether the next device call of this side can be made now.
     pub(crate) fn may_call(&self, side: Side) -> bool
-        ensures told { (w : World) (fill : TheFill) → IsLife w self.now → result ≡ fits w (event.Stop (Some side) fill) }
+        ensures told { (w : World) (fill : TheFill) → IsLife w self.now
+            → result ≡ fits w (event.Stop (Some side) fill) }
         ensures no_capture { result ≡ true → self.now.keeper.capture ≡ None }
     {
         laws_of_telling::<Traced>();
@@ -98,7 +99,8 @@ impl Life {
     fn call_log(&mut self, ending: &Ending) -> Result<Outcome, AllocError>
         requires life { (w : World) × IsLife w self.old }
         requires may { MayCall sides.Log self.old.keeper }
-        ensures { IfOk result (λ x. (w : World) → IsLife w self.old → Did w (event.Device sides.Log ending.now) x self.new) }
+        ensures { IfOk result (λ x. (w : World) → IsLife w self.old
+            → Did w (event.Device sides.Log ending.now) x self.new) }
     {
         laws_of_telling::<Traced>();
         laws_of_log_calls::<Traced>();
@@ -128,7 +130,8 @@ impl Life {
     fn call_checkpoint(&mut self, ending: &Ending) -> Result<Outcome, AllocError>
         requires life { (w : World) × IsLife w self.old }
         requires may { MayCall sides.Checkpoint self.old.keeper }
-        ensures { IfOk result (λ x. (w : World) → IsLife w self.old → Did w (event.Device sides.Checkpoint ending.now) x self.new) }
+        ensures { IfOk result (λ x. (w : World) → IsLife w self.old
+            → Did w (event.Device sides.Checkpoint ending.now) x self.new) }
     {
         laws_of_telling::<Traced>();
         laws_of_checkpoint_calls::<Traced>();
@@ -157,7 +160,8 @@ impl Life {
     /// One of the keeper's writers makes its next device call.
     pub(crate) fn call_device(&mut self, side: Side, ending: &Ending) -> Result<Outcome, AllocError>
         requires { (w : World) × IsLife w self.old }
-        ensures { IfOk result (λ x. (w : World) → IsLife w self.old → Did w (event.Device side ending.now) x self.new) }
+        ensures { IfOk result (λ x. (w : World) → IsLife w self.old
+            → Did w (event.Device side ending.now) x self.new) }
     {
         laws_of_telling::<Traced>();
         laws_of_log_calls::<Traced>();
@@ -218,7 +222,8 @@ impl Life {
         requires life { (w : World) × IsLife w self.old }
         requires may { MayCall side self.old.keeper }
         requires writes { is_sync (call_on side self.old.keeper) ≡ false }
-        ensures { IfOk result (λ call. (w : World) → IsLife w self.old → IsInterrupted w side call self.new.keeper.disk) }
+        ensures { IfOk result (λ call. (w : World) → IsLife w self.old
+            → IsInterrupted w side call self.new.keeper.disk) }
     {
         laws_of_telling::<Traced>();
         laws_of_log_calls::<Traced>();
@@ -244,8 +249,10 @@ impl Life {
     /// Has the machine stop within the next device call of this side. A write counts as made then, and
     /// a sync as not made.
     pub(crate) fn interrupt(&mut self, side: Side) -> Result<DeviceCall, AllocError>
-        requires life { (w : World) × (fill : TheFill) × IsLife w self.old × (fits w (event.Stop (Some side) fill) ≡ true) }
-        ensures { IfOk result (λ call. (w : World) → IsLife w self.old → IsInterrupted w side call self.new.keeper.disk) }
+        requires life { (w : World) × (fill : TheFill) × IsLife w self.old
+            × (fits w (event.Stop (Some side) fill) ≡ true) }
+        ensures { IfOk result (λ call. (w : World) → IsLife w self.old
+            → IsInterrupted w side call self.new.keeper.disk) }
     {
         laws_of_telling::<Traced>();
         laws_of_known_histories();

@@ -12,7 +12,9 @@ use std::alloc::{AllocError, Global};
 
 // Puts the entries of the part behind the others.
 fn add_part(alloc: Global, part: &Part, entries: &mut Vec<MapEntry>) -> Result<(), AllocError>
-    ensures { OnOk result (map entry_of entries.new.items ≡ map entry_of entries.old.items ++ finite.entries part.now.map) }
+    ensures { OnOk result
+        (map entry_of entries.new.items ≡ map entry_of entries.old.items
+        ++ finite.entries part.now.map) }
 {
     let Ok(own) = part.entries_sorted(alloc) else {
         return Err(AllocError);
@@ -26,7 +28,8 @@ fn add_part(alloc: Global, part: &Part, entries: &mut Vec<MapEntry>) -> Result<(
 /// The entries of all parts, in rising byte order of their keys.
 pub(crate) fn entries_of(alloc: Global, parts: &[Part]) -> Result<Vec<MapEntry>, AllocError>
     requires { (stripes : ℕ) × ArePartsOf stripes parts.now }
-    ensures { IfOk result (λ entries. map entry_of entries.items ≡ finite.entries (union_of (maps_of parts.now))) }
+    ensures { IfOk result (λ entries.
+        map entry_of entries.items ≡ finite.entries (union_of (maps_of parts.now))) }
 {
     let mut entries = Vec::new(alloc);
     for part in parts {

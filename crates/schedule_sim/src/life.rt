@@ -78,7 +78,8 @@ fn step_walk(words: &mut PlainWords, pass: usize, walk: Walk) -> (Made, Stepped)
     requires pass { pass < length words.old.passes }
     requires under_way { IsUnderWay words.old.stripes walk (record_of pass words.old) }
     ensures one { MakesStep pass (next_kind words.old.stripes walk) words.old words.new result.0 }
-    ensures next { (b : Record) (task : Task) → Fits words.old.stripes b task walk (record_of pass words.old)
+    ensures next { (b : Record) (task : Task)
+        → Fits words.old.stripes b task walk (record_of pass words.old)
         → Next words.old.stripes b task result.1 (record_of pass words.new) }
 {
     let mut steps = Watched {
@@ -107,7 +108,8 @@ impl Life {
         requires fits { (p : Record) → p.opening ≡ opening_of first parts.items → IsUnused first p
             → keeping.Fits traced_states traced_honest stripes.count [] keeper p }
         requires start { IsAtStart stripes first keeper }
-        ensures life { IfOk result (λ life. (w : World) (found : Opened) → IsOpening w stripes.count found keeper parts.items → IsLife w life) }
+        ensures life { IfOk result (λ life. (w : World) (found : Opened)
+            → IsOpening w stripes.count found keeper parts.items → IsLife w life) }
         ensures kept { IfOk result (λ life. life.keeper ≡ keeper) }
     {
         laws_of_parts();
@@ -126,7 +128,8 @@ impl Life {
 
     fn is_idle(&self, worker: usize) -> bool
         requires { length self.now.jobs.items ≡ 64 }
-        ensures idle { result ≡ true → (worker < 64) × (job_of worker self.now.jobs.items ≡ Job.Idle) }
+        ensures idle { result ≡ true
+            → (worker < 64) × (job_of worker self.now.jobs.items ≡ Job.Idle) }
         ensures busy { result ≡ false → worker < 64 → job_of worker self.now.jobs.items ≢ Job.Idle }
     {
         worker < WORKERS && matches!(self.jobs[worker], Job::Idle)
@@ -134,7 +137,8 @@ impl Life {
 
     pub(crate) fn change(&mut self, worker: usize, command: &Command) -> Result<Outcome, AllocError>
         requires { (w : World) × IsLife w self.old }
-        ensures { IfOk result (λ x. (w : World) → IsLife w self.old → Did w (event.Change worker command.now) x self.new) }
+        ensures { IfOk result (λ x. (w : World) → IsLife w self.old
+            → Did w (event.Change worker command.now) x self.new) }
     {
         fits_of_workers();
         beginnings_of_walks();
@@ -149,7 +153,8 @@ impl Life {
 
     pub(crate) fn read(&mut self, worker: usize, read: &Read) -> Result<Outcome, AllocError>
         requires { (w : World) × IsLife w self.old }
-        ensures { IfOk result (λ x. (w : World) → IsLife w self.old → Did w (event.Read worker read.now) x self.new) }
+        ensures { IfOk result (λ x. (w : World) → IsLife w self.old
+            → Did w (event.Read worker read.now) x self.new) }
     {
         fits_of_workers();
         beginnings_of_walks();
@@ -186,7 +191,8 @@ impl Life {
     fn step_call(&mut self, worker: usize, walk: Walk) -> Outcome
         requires but { (w : World) × IsLifeBut w worker (Job.Calling walk) self.old }
         requires worker { worker < 64 }
-        ensures { (w : World) → IsLifeBut w worker (Job.Calling walk) self.old → Did w (event.Step worker) result self.new }
+        ensures { (w : World) → IsLifeBut w worker (Job.Calling walk) self.old
+            → Did w (event.Step worker) result self.new }
     {
         walks_of_workers();
         steps_of_workers();
@@ -201,7 +207,8 @@ impl Life {
     fn step_release(&mut self, worker: usize, walk: Walk) -> Outcome
         requires but { (w : World) × IsLifeBut w worker (Job.Releasing walk) self.old }
         requires worker { worker < 64 }
-        ensures { (w : World) → IsLifeBut w worker (Job.Releasing walk) self.old → Did w (event.Step worker) result self.new }
+        ensures { (w : World) → IsLifeBut w worker (Job.Releasing walk) self.old
+            → Did w (event.Step worker) result self.new }
     {
         walks_of_workers();
         steps_of_workers();
@@ -235,7 +242,8 @@ impl Life {
     /// An event of a life, which doesn't end it.
     pub(crate) fn happen(&mut self, event: &Event) -> Result<Outcome, AllocError>
         requires { (w : World) × IsLife w self.old }
-        ensures { IfOk result (λ x. (w : World) → IsLife w self.old → is_of_life event.now ≡ true → Did w event.now x self.new) }
+        ensures { IfOk result (λ x. (w : World) → IsLife w self.old → is_of_life event.now ≡ true
+            → Did w event.now x self.new) }
     {
         match event {
             Event::Change { worker, command } => self.change(*worker, command),
@@ -258,7 +266,8 @@ impl Life {
     /// The disk, once the life is over.
     pub(crate) fn into_disk(self) -> Traced
         ensures disk { result ≡ self.keeper.disk }
-        ensures lies { (w : World) (least : ℕ) → IsLife w self → IsDurable least w.life → LiesOn w least result }
+        ensures lies { (w : World) (least : ℕ) → IsLife w self → IsDurable least w.life
+            → LiesOn w least result }
     {
         stops_while_capturing(&self.keeper);
         laws_of_known_histories();

@@ -61,7 +61,8 @@ fn plan_opening(disk: &mut Traced, fails_at: Option<u64>) -> Result<(), AllocErr
 
 // How many calls were made since there were so many.
 fn calls_since(disk: &Traced, before: Option<u64>) -> Result<u64, AllocError>
-    ensures { (old : List Files) → IfSome before (λ n. n ≡ length old) → IfOk result (λ n. length old + n ≡ length (traced_states disk.now)) }
+    ensures { (old : List Files) → IfSome before (λ n. n ≡ length old)
+        → IfOk result (λ n. length old + n ≡ length (traced_states disk.now)) }
 {
     let now = disk.calls().ok_or(AllocError)?;
     let before = before.ok_or(AllocError)?;
@@ -96,12 +97,15 @@ fn refused(
     calls: u64,
     fails_at: Option<u64>,
 ) -> Result<(Store, Outcome), AllocError>
-    ensures did { IfOk result (λ x. (w : World) (least : ℕ) (stripes : StripesOf) (old : Traced) → length (traced_states old) + calls ≡ length (traced_states disk)
+    ensures did { IfOk result (λ x. (w : World) (least : ℕ) (stripes : StripesOf) (old : Traced)
+        → length (traced_states old) + calls ≡ length (traced_states disk)
         → ((found : Opened) → Holds (contents_of traced_states old) found
         → MadeAtMost traced_states (opening_calls found) old disk)
-        → Stopped traced_states (λ traced. memory_failures traced.disk) traced_honest 4 old disk refusal → RefusesFor (Refuses (contents_of traced_states old) refusal) refusal
+        → Stopped traced_states (λ traced. memory_failures traced.disk) traced_honest 4 old disk
+        refusal → RefusesFor (Refuses (contents_of traced_states old) refusal) refusal
         → IsClosed w least old → DidStore w least (event.Open stripes fails_at) x.1 x.0) }
-    ensures told { (old : Traced) → length (traced_states old) + calls ≡ length (traced_states disk) → IfOk result (λ x. TellsCalls old x) }
+    ensures told { (old : Traced) → length (traced_states old) + calls ≡ length (traced_states disk)
+        → IfOk result (λ x. TellsCalls old x) }
 {
     steps_between_lives();
     let is_told = match refusal {
@@ -128,14 +132,16 @@ fn begun(
     requires fits { (p : Record) → p.opening ≡ opening_of first parts.items → IsUnused first p
         → Fits traced_states traced_honest stripes.count [] keeper p }
     requires start { IsAtStart stripes first keeper }
-    ensures did { IfOk result (λ x. (w : World) (least : ℕ) (fails_at : Option ℕ) (old : Traced) → cases.names_within fails_at calls ≡ false
+    ensures did { IfOk result (λ x. (w : World) (least : ℕ) (fails_at : Option ℕ) (old : Traced)
+        → cases.names_within fails_at calls ≡ false
         → length (traced_states old) + calls ≡ length (traced_states keeper.disk)
         → ((found : Opened) → Holds (contents_of traced_states old) found
         → Made traced_states (opening_calls found) old keeper.disk)
-        → SyncsAndLooks traced_states (λ traced. memory_failures traced.disk) traced_honest 4 0 old keeper.disk
-        → IsOpenedAs (contents_of traced_states old) stripes.count keeper parts.items first
-        → IsClosed w least old → DidStore w least (event.Open stripes fails_at) x.1 x.0) }
-    ensures told { (old : Traced) → length (traced_states old) + calls ≡ length (traced_states keeper.disk) → IfOk result (λ x. TellsCalls old x) }
+        → SyncsAndLooks traced_states (λ traced. memory_failures traced.disk) traced_honest 4 0 old
+        keeper.disk → IsOpenedAs (contents_of traced_states old) stripes.count keeper parts.items
+        first → IsClosed w least old → DidStore w least (event.Open stripes fails_at) x.1 x.0) }
+    ensures told { (old : Traced) → length (traced_states old) + calls
+        ≡ length (traced_states keeper.disk) → IfOk result (λ x. TellsCalls old x) }
 {
     steps_between_lives();
     laws_of_parts();
@@ -157,7 +163,8 @@ fn opened(
     stripes: StripeCount,
     fails_at: Option<u64>,
 ) -> Result<(Store, Outcome), AllocError>
-    ensures did { IfOk result (λ x. (w : World) (least : ℕ) → IsClosed w least disk → DidStore w least (event.Open stripes fails_at) x.1 x.0) }
+    ensures did { IfOk result (λ x. (w : World) (least : ℕ) → IsClosed w least disk
+        → DidStore w least (event.Open stripes fails_at) x.1 x.0) }
     ensures told { IfOk result (λ x. TellsCalls disk x) }
 {
     plan_opening(&mut disk, fails_at)?;
@@ -183,7 +190,8 @@ fn stopped(
     within: Option<DeviceCall>,
     fill: &Fill,
 ) -> Result<(Store, Outcome), AllocError>
-    ensures store { IfOk result (λ x. (w : World) (least : ℕ) → LiesOn w least disk → IsStore (without_life w (after_stop fill.now w.files)) least x.0) }
+    ensures store { IfOk result (λ x. (w : World) (least : ℕ) → LiesOn w least disk
+        → IsStore (without_life w (after_stop fill.now w.files)) least x.0) }
     ensures outcome { IfOk result (λ x. x.1 ≡ Outcome.Stopped within) }
 {
     disk.stop(fill)?;
@@ -193,7 +201,8 @@ fn stopped(
 // The machine stops within the next device call of this side.
 fn stopped_within(mut life: Life, side: Side, fill: &Fill) -> Result<(Store, Outcome), AllocError>
     requires { (w : World) × IsLife w life }
-    ensures { IfOk result (λ x. (w : World) (least : ℕ) → IsStore w least (Store.Open life) → DidStore w least (event.Stop (Some side) fill.now) x.1 x.0) }
+    ensures { IfOk result (λ x. (w : World) (least : ℕ) → IsStore w least (Store.Open life)
+        → DidStore w least (event.Stop (Some side) fill.now) x.1 x.0) }
 {
     if !life.may_call(side) {
         return Ok((Store::Open(life), Outcome::Skipped));
@@ -238,7 +247,8 @@ impl Store {
         stripes: StripeCount,
         fails_at: Option<u64>,
     ) -> Result<(Store, Outcome), AllocError>
-        ensures { IfOk result (λ x. (w : World) (least : ℕ) → IsStore w least self → DidStore w least (event.Open stripes fails_at) x.1 x.0) }
+        ensures { IfOk result (λ x. (w : World) (least : ℕ) → IsStore w least self
+            → DidStore w least (event.Open stripes fails_at) x.1 x.0) }
     {
         match self {
             Store::Closed(disk) => opened(alloc, disk, stripes, fails_at),
@@ -248,7 +258,8 @@ impl Store {
 
     fn stop_within(self, side: Side, fill: &Fill) -> Result<(Store, Outcome), AllocError>
         requires { (w : World) × (least : ℕ) × IsStore w least self }
-        ensures { IfOk result (λ x. (w : World) (least : ℕ) → IsStore w least self → DidStore w least (event.Stop (Some side) fill.now) x.1 x.0) }
+        ensures { IfOk result (λ x. (w : World) (least : ℕ) → IsStore w least self
+            → DidStore w least (event.Stop (Some side) fill.now) x.1 x.0) }
     {
         match self {
             Store::Open(life) => stopped_within(life, side, fill),
@@ -258,7 +269,8 @@ impl Store {
 
     fn stop(self, within: Option<Side>, fill: &Fill) -> Result<(Store, Outcome), AllocError>
         requires { (w : World) × (least : ℕ) × IsStore w least self }
-        ensures { IfOk result (λ x. (w : World) (least : ℕ) → IsStore w least self → DidStore w least (event.Stop within fill.now) x.1 x.0) }
+        ensures { IfOk result (λ x. (w : World) (least : ℕ) → IsStore w least self
+            → DidStore w least (event.Stop within fill.now) x.1 x.0) }
     {
         match within {
             Some(side) => self.stop_within(side, fill),
@@ -267,7 +279,8 @@ impl Store {
     }
 
     fn leave(self) -> (Store, Outcome)
-        ensures { (w : World) (least : ℕ) → IsStore w least self → DidStore w least event.Leave result.1 result.0 }
+        ensures { (w : World) (least : ℕ) → IsStore w least self
+            → DidStore w least event.Leave result.1 result.0 }
     {
         match self {
             Store::Open(life) => (Store::Closed(life.into_disk()), Outcome::Left),
@@ -277,7 +290,8 @@ impl Store {
 
     fn go_on(self, event: &Event) -> Result<(Store, Outcome), AllocError>
         requires { (w : World) × (least : ℕ) × IsStore w least self }
-        ensures { IfOk result (λ x. (w : World) (least : ℕ) → IsStore w least self → is_of_life event.now ≡ true → DidStore w least event.now x.1 x.0) }
+        ensures { IfOk result (λ x. (w : World) (least : ℕ) → IsStore w least self
+            → is_of_life event.now ≡ true → DidStore w least event.now x.1 x.0) }
     {
         match self {
             Store::Open(mut life) => {
@@ -291,7 +305,8 @@ impl Store {
     /// The store after the event, and what came of it.
     pub(crate) fn happen(self, alloc: Global, event: &Event) -> Result<(Store, Outcome), AllocError>
         requires { (w : World) × (least : ℕ) × IsStore w least self }
-        ensures { IfOk result (λ x. (w : World) (least : ℕ) → IsStore w least self → DidStore w least event.now x.1 x.0) }
+        ensures { IfOk result (λ x. (w : World) (least : ℕ) → IsStore w least self
+            → DidStore w least event.now x.1 x.0) }
     {
         match event {
             Event::Open { stripes, fails_at } => self.open(alloc, *stripes, *fails_at),

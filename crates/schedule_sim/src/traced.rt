@@ -74,8 +74,10 @@ fn note(
     is_short: bool,
     fill: &mut Option<Fill>,
 ) -> Option<Noted>
-    ensures tied { (states : List Files) → (is_short ≡ false → CameTo answer.now fill.old call states) → IsTied result states }
-    ensures planned { (plan : Option Failure) → IsPlanned fill.old plan → (is_short ≡ false → OnErr answer.now (plan ≡ Option.None)) → IsPlanned fill.new plan }
+    ensures tied { (states : List Files)
+        → (is_short ≡ false → CameTo answer.now fill.old call states) → IsTied result states }
+    ensures planned { (plan : Option Failure) → IsPlanned fill.old plan
+        → (is_short ≡ false → OnErr answer.now (plan ≡ Option.None)) → IsPlanned fill.new plan }
 {
     if is_short {
         return None;
@@ -102,7 +104,8 @@ fn is_of(call: &DeviceCall, file: usize) -> bool
 
 // One call more.
 fn one_more(calls: Option<u64>) -> Option<u64>
-    ensures { (files : Files) (states : List Files) → IsCounted calls states → IsCounted result (files ∷ states) }
+    ensures { (files : Files) (states : List Files) → IsCounted calls states
+        → IsCounted result (files ∷ states) }
 {
     calls?.checked_add(1)
 }
@@ -164,7 +167,8 @@ impl Traced {
     /// fill.
     pub(crate) fn take_lost(&mut self, fill: &Fill, file: usize) -> Option<DeviceCall>
         ensures same { traced_states self.new ≡ traced_states self.old }
-        ensures lost { IfSome result (λ call. WasLast (Option.Some fill.now) call (traced_states self.new)) }
+        ensures lost { IfSome result (λ call.
+            WasLast (Option.Some fill.now) call (traced_states self.new)) }
         ensures file { IfSome result (λ call. file_of call ≡ file) }
     {
         let noted = self.last.take()?;
@@ -177,7 +181,8 @@ impl Traced {
 
     /// Whether the last call was a sync that was planned to fail.
     pub(crate) fn has_lost_sync(&self) -> bool
-        ensures { result ≡ true → (before : List Files) × (traced_states self.now ≡ now before ∷ before) }
+        ensures { result ≡ true
+            → (before : List Files) × (traced_states self.now ≡ now before ∷ before) }
     {
         matches!(
             &self.last,
@@ -202,8 +207,12 @@ impl Traced {
 
     /// Stops the machine and starts it again.
     pub(crate) fn stop(&mut self, fill: &Fill) -> Result<(), AllocError>
-        ensures ok { OnOk result (traced_states self.new ≡ after_stop fill.now (now (traced_states self.old)) ∷ traced_states self.old) }
-        ensures allowed { OnOk result (Leaves (now (traced_states self.old)) (left_by fill.now (now (traced_states self.old)))) }
+        ensures ok { OnOk result
+            (traced_states self.new ≡ after_stop fill.now (now (traced_states self.old))
+            ∷ traced_states self.old) }
+        ensures allowed { OnOk result
+            (Leaves (now (traced_states self.old))
+            (left_by fill.now (now (traced_states self.old)))) }
     {
         self.last = None;
         self.disk.stop(fill)?;

@@ -47,8 +47,10 @@ impl Life {
     fn step_sweep(&mut self) -> Outcome
         requires life { (w : World) × IsLife w self.old }
         requires no_capture { self.old.keeper.capture ≡ None }
-        ensures begins { is_walking self.old.keeper.sweeper.walking ≡ false → (w : World) → IsLife w self.old → Did w event.Sweep result self.new }
-        ensures goes_on { is_walking self.old.keeper.sweeper.walking ≡ true → (w : World) → IsLife w self.old → Did w event.KeeperStep result self.new }
+        ensures begins { is_walking self.old.keeper.sweeper.walking ≡ false → (w : World)
+            → IsLife w self.old → Did w event.Sweep result self.new }
+        ensures goes_on { is_walking self.old.keeper.sweeper.walking ≡ true → (w : World)
+            → IsLife w self.old → Did w event.KeeperStep result self.new }
     {
         let mut steps = Watched {
             words: &mut self.words,
@@ -76,8 +78,10 @@ impl Life {
     fn step_capture(&mut self, stripe: usize) -> Outcome
         requires life { (w : World) × IsLife w self.old }
         requires no_sweep { is_walking self.old.keeper.sweeper.walking ≡ false }
-        ensures begins { self.old.keeper.capture ≡ None → (w : World) → IsLife w self.old → Did w (event.Capture stripe) result self.new }
-        ensures goes_on { (walk : Walk) → self.old.keeper.capture ≡ Some walk → (w : World) → IsLife w self.old → Did w event.KeeperStep result self.new }
+        ensures begins { self.old.keeper.capture ≡ None → (w : World) → IsLife w self.old
+            → Did w (event.Capture stripe) result self.new }
+        ensures goes_on { (walk : Walk) → self.old.keeper.capture ≡ Some walk → (w : World)
+            → IsLife w self.old → Did w event.KeeperStep result self.new }
     {
         laws_of_captures::<Traced>();
         laws_of_telling::<Traced>();

@@ -77,7 +77,8 @@ impl<'a, D: Disk + Drop, G: Gate, R: Wait, A: Responds> Model for Worker<'a, D, 
 
     ghost Value = { WorkerState };
 
-    ghost coded = { code_by _ (coded× coded_ℕ (coded× (coded_list coded_ℕ) record_type.the_row.coded))
+    ghost coded = { code_by _
+        (coded× coded_ℕ (coded× (coded_list coded_ℕ) record_type.the_row.coded))
         (λ s. (s.stripes, (s.words, s.pass)))
         (λ p. record { stripes = p.0; words = p.1.0; pass = p.1.1 }) (λ _. refl) };
 

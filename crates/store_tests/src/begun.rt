@@ -19,7 +19,8 @@ fn begin_three<R: Wait>(
     alloc: Global,
 ) -> Result<(Held, Held, Held), Refusal>
     requires ready { IsReady map.now pass.old }
-    ensures held { IfOk result (λ three. IsHeldOf map.now three.0 × IsHeldOf map.now three.1 × IsHeldOf map.now three.2) }
+    ensures held { IfOk result (λ three. IsHeldOf map.now three.0 × IsHeldOf map.now three.1
+        × IsHeldOf map.now three.2) }
     ensures ready { IsReady map.now pass.new }
 {
     let first = Command {

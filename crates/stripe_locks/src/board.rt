@@ -25,7 +25,8 @@ impl Steps for Board<'_> {
 
     ghost stripe_count = { λ board. board.stripes.now.count.count };
 
-    ghost place = { λ board. board.pass.ghost_name ∷ board.pass.now.seat.id ∷ name_of board.stripes.now.table.shared.table_id };
+    ghost place = { λ board. board.pass.ghost_name ∷ board.pass.now.seat.id
+        ∷ name_of board.stripes.now.table.shared.table_id };
 
     // Other threads move the words between two steps: nothing is said but what the record says.
     ghost moves = { λ board made after. Unit {0} };

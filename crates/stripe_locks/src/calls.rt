@@ -35,9 +35,13 @@ impl Stripes {
     pub fn try_call(&self, pass: &mut Pass, command: Command) -> Result<Held, Refusal>
         requires own { IsPassOf self.now pass.old }
         requires empty_handed { (recorded pass.old).holding ≡ None }
-        ensures made { IfOk result (λ held. MakesCall (stripe_count self.now) (recorded pass.old) command (position_of held) (reply_of held) (recorded pass.new)) }
+        ensures made { IfOk result (λ held.
+            MakesCall (stripe_count self.now) (recorded pass.old) command (position_of held)
+            (reply_of held) (recorded pass.new)) }
         ensures held { IfOk result (IsHeldOf self.now) }
-        ensures refused { IfErr result (λ refusal. RefusesChange (recorded pass.old) (stripe_of (stripe_count self.now) command.key) refusal (recorded pass.new)) }
+        ensures refused { IfErr result (λ refusal.
+            RefusesChange (recorded pass.old) (stripe_of (stripe_count self.now) command.key)
+            refusal (recorded pass.new)) }
         ensures empty_handed { (recorded pass.new).holding ≡ None }
         ensures same { IsSamePass pass.old pass.new }
     {
@@ -54,9 +58,13 @@ impl Stripes {
     pub fn try_read(&self, pass: &mut Pass, read: Read) -> Result<Held, Refusal>
         requires own { IsPassOf self.now pass.old }
         requires empty_handed { (recorded pass.old).holding ≡ None }
-        ensures made { IfOk result (λ held. MakesRead (stripe_count self.now) (recorded pass.old) read (position_of held) (reply_of held) (recorded pass.new)) }
+        ensures made { IfOk result (λ held.
+            MakesRead (stripe_count self.now) (recorded pass.old) read (position_of held)
+            (reply_of held) (recorded pass.new)) }
         ensures held { IfOk result (IsHeldOf self.now) }
-        ensures refused { IfErr result (λ refusal. RefusesRead (recorded pass.old) (stripe_of (stripe_count self.now) read.key) refusal (recorded pass.new)) }
+        ensures refused { IfErr result (λ refusal.
+            RefusesRead (recorded pass.old) (stripe_of (stripe_count self.now) read.key) refusal
+            (recorded pass.new)) }
         ensures empty_handed { (recorded pass.new).holding ≡ None }
         ensures same { IsSamePass pass.old pass.new }
     {
@@ -91,7 +99,8 @@ impl Stripes {
 
     fn release_on(&self, pass: &mut Pass, held: ticket_order::Held) -> ticket_order::Released
         requires own { IsPassOf self.now pass.old }
-        ensures released { Releases held.position held.reply (recorded pass.old) result (recorded pass.new) }
+        ensures released { Releases held.position held.reply (recorded pass.old) result
+            (recorded pass.new) }
         ensures same { IsSamePass pass.old pass.new }
     {
         let mut board = Board {
@@ -105,7 +114,8 @@ impl Stripes {
     pub fn release(&self, pass: &mut Pass, held: Held) -> Released
         requires own { IsPassOf self.now pass.old }
         requires held { IsHeldOf self.now held }
-        ensures released { Releases (position_of held) (reply_of held) (recorded pass.old) (answer_of result) (recorded pass.new) }
+        ensures released { Releases (position_of held) (reply_of held) (recorded pass.old)
+            (answer_of result) (recorded pass.new) }
         ensures held { StaysHeldOf self.now result }
         ensures same { IsSamePass pass.old pass.new }
     {

@@ -56,7 +56,9 @@ impl Stripes {
         requires other { IsPassOf self.now other }
         requires empty_handed { (recorded other).holding ≡ None }
         ensures fronts { AreComparable (recorded one).seen (recorded other).seen }
-        ensures borne_out { (recorded other).keeper ≡ true → All (BearsOut (recorded other).published (recorded other).failed) (recorded one).steps }
+        ensures borne_out { (recorded other).keeper ≡ true
+            → All (BearsOut (recorded other).published (recorded other).failed)
+            (recorded one).steps }
     {
         let Pass {
             mut seat,

@@ -36,7 +36,8 @@ fn store_all(alloc: Global, parts: Vec<Part>) -> Result<Vec<Option<Stripe>>, Ref
 }
 
 fn first_words(alloc: Global, count: StripeCount, first: u64) -> Result<Vec<u64>, Refusal>
-    ensures ok { IfOk result (λ words. words.items ≡ slice_set (slice_set (replicate (count.count + 4) 0) 0 first) 1 first) }
+    ensures ok { IfOk result (λ words.
+        words.items ≡ slice_set (slice_set (replicate (count.count + 4) 0) 0 first) 1 first) }
     ensures err { IfErr result (λ refusal. refusal ≡ Refusal.NoMemory) }
 {
     let mut words = Vec::from_elem(alloc, 0u64, count.get() + FIRST_STRIPE)?;
@@ -57,7 +58,8 @@ impl Stripes {
         requires count { length parts.items ≡ count.count }
         requires parts { AreParts count.count parts.items }
         ensures count { IfOk result (λ stripes. stripe_count stripes ≡ count.count) }
-        ensures opening { IfOk result (λ stripes. begun_with stripes ≡ opening_of first parts.items) }
+        ensures opening { IfOk result (λ stripes.
+            begun_with stripes ≡ opening_of first parts.items) }
         ensures err { IfErr result (λ refusal. refusal ≡ Refusal.NoMemory) }
     {
         let beginning = Beginning::new(first, &parts);
@@ -79,7 +81,8 @@ impl Stripes {
     /// Stripes of an empty map, with no change made.
     pub fn empty(alloc: Global, count: StripeCount) -> Result<Stripes, Refusal>
         ensures count { IfOk result (λ stripes. stripe_count stripes ≡ count.count) }
-        ensures opening { IfOk result (λ stripes. begun_with stripes ≡ record { first = 0; map = finite.empty }) }
+        ensures opening { IfOk result (λ stripes.
+            begun_with stripes ≡ record { first = 0; map = finite.empty }) }
         ensures err { IfErr result (λ refusal. refusal ≡ Refusal.NoMemory) }
     {
         let parts = empty_parts(alloc, count)?;

@@ -17,7 +17,8 @@ impl Stripes {
         requires own { IsPassOf self.now pass.old }
         requires within { stripe < stripe_count self.now }
         requires empty_handed { (recorded pass.old).holding ≡ None }
-        ensures step { Takes (stripe_count self.now) (recorded pass.old) stripe result (recorded pass.new) }
+        ensures step { Takes (stripe_count self.now) (recorded pass.old) stripe result
+            (recorded pass.new) }
         ensures same { IsSamePass pass.old pass.new }
     {
         let words = &self.table.shared;
@@ -43,8 +44,10 @@ impl Stripes {
     )
         requires own { IsPassOf self.now pass.old }
         requires asked { G.purpose ≡ purpose.now }
-        requires fits { MayGive (stripe_count self.now) (recorded pass.old) stripe content purpose.now }
-        ensures step { Gives (stripe_count self.now) purpose.now (recorded pass.old) (recorded pass.new) }
+        requires fits { MayGive (stripe_count self.now) (recorded pass.old) stripe content
+            purpose.now }
+        ensures step { Gives (stripe_count self.now) purpose.now (recorded pass.old)
+            (recorded pass.new) }
         ensures same { IsSamePass pass.old pass.new }
     {
         let _ = purpose;
@@ -58,8 +61,10 @@ impl Stripes {
 
     pub(crate) fn give(&self, pass: &mut Pass, stripe: usize, content: Stripe, purpose: &Purpose)
         requires own { IsPassOf self.now pass.old }
-        requires fits { MayGive (stripe_count self.now) (recorded pass.old) stripe content purpose.now }
-        ensures step { Gives (stripe_count self.now) purpose.now (recorded pass.old) (recorded pass.new) }
+        requires fits { MayGive (stripe_count self.now) (recorded pass.old) stripe content
+            purpose.now }
+        ensures step { Gives (stripe_count self.now) purpose.now (recorded pass.old)
+            (recorded pass.new) }
         ensures same { IsSamePass pass.old pass.new }
     {
         self.give_as::<Brand>(pass, stripe, content, purpose);

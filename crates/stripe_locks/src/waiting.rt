@@ -51,7 +51,8 @@ impl Stripes {
         requires own { IsPassOf self.now pass.old }
         requires within { stripe < stripe_count self.now }
         requires empty_handed { (recorded pass.old).holding ≡ None }
-        ensures step { TakesInTime (stripe_count self.now) (recorded pass.old) stripe result (recorded pass.new) }
+        ensures step { TakesInTime (stripe_count self.now) (recorded pass.old) stripe result
+            (recorded pass.new) }
         ensures same { IsSamePass pass.old pass.new }
     {
         for _try in rt.forever() {
@@ -72,9 +73,18 @@ impl Stripes {
     ) -> Result<Held, Refusal>
         requires own { IsPassOf self.now pass.old }
         requires spread { spread ≡ spread_of (hash_of command.key) }
-        requires found { (b : Record) × HasFound b (stripe_of (stripe_count self.now) command.key) content (recorded pass.old) }
-        ensures made { (b : Record) → HasFound b (stripe_of (stripe_count self.now) command.key) content (recorded pass.old) → IfOk result (λ held. MakesCall (stripe_count self.now) b command (position_of held) (reply_of held) (recorded pass.new)) }
-        ensures refused { (b : Record) → HasFound b (stripe_of (stripe_count self.now) command.key) content (recorded pass.old) → IfErr result (λ refusal. RefusesChange b (stripe_of (stripe_count self.now) command.key) refusal (recorded pass.new)) }
+        requires found { (b : Record) × HasFound b (stripe_of (stripe_count self.now) command.key)
+            content (recorded pass.old) }
+        ensures made { (b : Record) → HasFound b (stripe_of (stripe_count self.now) command.key)
+            content (recorded pass.old)
+            → IfOk result (λ held.
+            MakesCall (stripe_count self.now) b command (position_of held) (reply_of held)
+            (recorded pass.new)) }
+        ensures refused { (b : Record) → HasFound b (stripe_of (stripe_count self.now) command.key)
+            content (recorded pass.old)
+            → IfErr result (λ refusal.
+            RefusesChange b (stripe_of (stripe_count self.now) command.key) refusal
+            (recorded pass.new)) }
         ensures held { IfOk result (IsHeldOf self.now) }
         ensures not_busy { IfErr result IsNotBusy }
         ensures same { IsSamePass pass.old pass.new }
@@ -97,9 +107,18 @@ impl Stripes {
     ) -> Result<Held, Refusal>
         requires own { IsPassOf self.now pass.old }
         requires spread { spread ≡ spread_of (hash_of read.key) }
-        requires found { (b : Record) × HasFound b (stripe_of (stripe_count self.now) read.key) content (recorded pass.old) }
-        ensures made { (b : Record) → HasFound b (stripe_of (stripe_count self.now) read.key) content (recorded pass.old) → IfOk result (λ held. MakesRead (stripe_count self.now) b read (position_of held) (reply_of held) (recorded pass.new)) }
-        ensures refused { (b : Record) → HasFound b (stripe_of (stripe_count self.now) read.key) content (recorded pass.old) → IfErr result (λ refusal. RefusesRead b (stripe_of (stripe_count self.now) read.key) refusal (recorded pass.new)) }
+        requires found { (b : Record) × HasFound b (stripe_of (stripe_count self.now) read.key)
+            content (recorded pass.old) }
+        ensures made { (b : Record) → HasFound b (stripe_of (stripe_count self.now) read.key)
+            content (recorded pass.old)
+            → IfOk result (λ held.
+            MakesRead (stripe_count self.now) b read (position_of held) (reply_of held)
+            (recorded pass.new)) }
+        ensures refused { (b : Record) → HasFound b (stripe_of (stripe_count self.now) read.key)
+            content (recorded pass.old)
+            → IfErr result (λ refusal.
+            RefusesRead b (stripe_of (stripe_count self.now) read.key) refusal
+            (recorded pass.new)) }
         ensures held { IfOk result (IsHeldOf self.now) }
         ensures not_busy { IfErr result IsNotBusy }
         ensures same { IsSamePass pass.old pass.new }
@@ -118,9 +137,13 @@ impl Stripes {
     pub fn call<R: Wait>(&self, rt: &R, pass: &mut Pass, command: Command) -> Result<Held, Refusal>
         requires own { IsPassOf self.now pass.old }
         requires empty_handed { (recorded pass.old).holding ≡ None }
-        ensures made { IfOk result (λ held. MakesCallInTime (stripe_count self.now) (recorded pass.old) command (position_of held) (reply_of held) (recorded pass.new)) }
+        ensures made { IfOk result (λ held.
+            MakesCallInTime (stripe_count self.now) (recorded pass.old) command (position_of held)
+            (reply_of held) (recorded pass.new)) }
         ensures held { IfOk result (IsHeldOf self.now) }
-        ensures refused { IfErr result (λ refusal. RefusesChangeInTime (recorded pass.old) (stripe_of (stripe_count self.now) command.key) refusal (recorded pass.new)) }
+        ensures refused { IfErr result (λ refusal.
+            RefusesChangeInTime (recorded pass.old) (stripe_of (stripe_count self.now) command.key)
+            refusal (recorded pass.new)) }
         ensures empty_handed { (recorded pass.new).holding ≡ None }
         ensures same { IsSamePass pass.old pass.new }
     {
@@ -134,9 +157,13 @@ impl Stripes {
     pub fn read<R: Wait>(&self, rt: &R, pass: &mut Pass, read: Read) -> Result<Held, Refusal>
         requires own { IsPassOf self.now pass.old }
         requires empty_handed { (recorded pass.old).holding ≡ None }
-        ensures made { IfOk result (λ held. MakesReadInTime (stripe_count self.now) (recorded pass.old) read (position_of held) (reply_of held) (recorded pass.new)) }
+        ensures made { IfOk result (λ held.
+            MakesReadInTime (stripe_count self.now) (recorded pass.old) read (position_of held)
+            (reply_of held) (recorded pass.new)) }
         ensures held { IfOk result (IsHeldOf self.now) }
-        ensures refused { IfErr result (λ refusal. RefusesReadInTime (recorded pass.old) (stripe_of (stripe_count self.now) read.key) refusal (recorded pass.new)) }
+        ensures refused { IfErr result (λ refusal.
+            RefusesReadInTime (recorded pass.old) (stripe_of (stripe_count self.now) read.key)
+            refusal (recorded pass.new)) }
         ensures empty_handed { (recorded pass.new).holding ≡ None }
         ensures same { IsSamePass pass.old pass.new }
     {

@@ -24,8 +24,12 @@ use std::alloc::Global;
 /// is drawn then.
 pub fn try_call<S: Steps>(steps: &mut S, alloc: Global, command: Command) -> Result<Held, Refusal>
     requires { (S.recorded steps.old).holding ≡ None }
-    ensures made { IfOk result (λ held. MakesCall (S.stripe_count steps.old) (S.recorded steps.old) command held.position held.reply (S.recorded steps.new)) }
-    ensures refused { IfErr result (λ refusal. RefusesChange (S.recorded steps.old) (stripe_of (S.stripe_count steps.old) command.key) refusal (S.recorded steps.new)) }
+    ensures made { IfOk result (λ held.
+        MakesCall (S.stripe_count steps.old) (S.recorded steps.old) command held.position held.reply
+        (S.recorded steps.new)) }
+    ensures refused { IfErr result (λ refusal.
+        RefusesChange (S.recorded steps.old) (stripe_of (S.stripe_count steps.old) command.key)
+        refusal (S.recorded steps.new)) }
     ensures place { S.place steps.new ≡ S.place steps.old }
     ensures stripes { S.stripe_count steps.new ≡ S.stripe_count steps.old }
 {
@@ -45,8 +49,12 @@ pub fn try_call<S: Steps>(steps: &mut S, alloc: Global, command: Command) -> Res
 /// Makes a read: TAKE, ALIVE, LOOK, GIVE. It is refused as a change is, but for `TicketsSpent`.
 pub fn try_read<S: Steps>(steps: &mut S, read: Read) -> Result<Held, Refusal>
     requires { (S.recorded steps.old).holding ≡ None }
-    ensures made { IfOk result (λ held. MakesRead (S.stripe_count steps.old) (S.recorded steps.old) read held.position held.reply (S.recorded steps.new)) }
-    ensures refused { IfErr result (λ refusal. RefusesRead (S.recorded steps.old) (stripe_of (S.stripe_count steps.old) read.key) refusal (S.recorded steps.new)) }
+    ensures made { IfOk result (λ held.
+        MakesRead (S.stripe_count steps.old) (S.recorded steps.old) read held.position held.reply
+        (S.recorded steps.new)) }
+    ensures refused { IfErr result (λ refusal.
+        RefusesRead (S.recorded steps.old) (stripe_of (S.stripe_count steps.old) read.key) refusal
+        (S.recorded steps.new)) }
     ensures place { S.place steps.new ≡ S.place steps.old }
     ensures stripes { S.stripe_count steps.new ≡ S.stripe_count steps.old }
 {
@@ -61,7 +69,8 @@ pub fn try_read<S: Steps>(steps: &mut S, read: Read) -> Result<Held, Refusal>
 /// Gives the reply out where its position is durable: SEE, and where the durable count is too low
 /// ALIVE, and where that says no SEE once more. It takes no memory.
 pub fn release<S: Steps>(steps: &mut S, held: Held) -> Released
-    ensures released { Releases held.position held.reply (S.recorded steps.old) result (S.recorded steps.new) }
+    ensures released { Releases held.position held.reply (S.recorded steps.old) result
+        (S.recorded steps.new) }
     ensures place { S.place steps.new ≡ S.place steps.old }
     ensures stripes { S.stripe_count steps.new ≡ S.stripe_count steps.old }
 {
@@ -87,9 +96,18 @@ pub fn call_on<S: Steps>(
     content: Stripe,
 ) -> Result<Held, Refusal>
     requires spread { spread ≡ spread_of (hash_of command.key) }
-    requires found { (b : Record) × HasFound b (stripe_of (S.stripe_count steps.old) command.key) content (S.recorded steps.old) }
-    ensures made { (b : Record) → HasFound b (stripe_of (S.stripe_count steps.old) command.key) content (S.recorded steps.old) → IfOk result (λ held. MakesCall (S.stripe_count steps.old) b command held.position held.reply (S.recorded steps.new)) }
-    ensures refused { (b : Record) → HasFound b (stripe_of (S.stripe_count steps.old) command.key) content (S.recorded steps.old) → IfErr result (λ refusal. RefusesChange b (stripe_of (S.stripe_count steps.old) command.key) refusal (S.recorded steps.new)) }
+    requires found { (b : Record) × HasFound b (stripe_of (S.stripe_count steps.old) command.key)
+        content (S.recorded steps.old) }
+    ensures made { (b : Record) → HasFound b (stripe_of (S.stripe_count steps.old) command.key)
+        content (S.recorded steps.old)
+        → IfOk result (λ held.
+        MakesCall (S.stripe_count steps.old) b command held.position held.reply
+        (S.recorded steps.new)) }
+    ensures refused { (b : Record) → HasFound b (stripe_of (S.stripe_count steps.old) command.key)
+        content (S.recorded steps.old)
+        → IfErr result (λ refusal.
+        RefusesChange b (stripe_of (S.stripe_count steps.old) command.key) refusal
+        (S.recorded steps.new)) }
     ensures not_busy { IfErr result IsNotBusy }
     ensures place { S.place steps.new ≡ S.place steps.old }
     ensures stripes { S.stripe_count steps.new ≡ S.stripe_count steps.old }
@@ -112,9 +130,18 @@ pub fn read_on<S: Steps>(
     content: Stripe,
 ) -> Result<Held, Refusal>
     requires spread { spread ≡ spread_of (hash_of read.key) }
-    requires found { (b : Record) × HasFound b (stripe_of (S.stripe_count steps.old) read.key) content (S.recorded steps.old) }
-    ensures made { (b : Record) → HasFound b (stripe_of (S.stripe_count steps.old) read.key) content (S.recorded steps.old) → IfOk result (λ held. MakesRead (S.stripe_count steps.old) b read held.position held.reply (S.recorded steps.new)) }
-    ensures refused { (b : Record) → HasFound b (stripe_of (S.stripe_count steps.old) read.key) content (S.recorded steps.old) → IfErr result (λ refusal. RefusesRead b (stripe_of (S.stripe_count steps.old) read.key) refusal (S.recorded steps.new)) }
+    requires found { (b : Record) × HasFound b (stripe_of (S.stripe_count steps.old) read.key)
+        content (S.recorded steps.old) }
+    ensures made { (b : Record) → HasFound b (stripe_of (S.stripe_count steps.old) read.key) content
+        (S.recorded steps.old)
+        → IfOk result (λ held.
+        MakesRead (S.stripe_count steps.old) b read held.position held.reply
+        (S.recorded steps.new)) }
+    ensures refused { (b : Record) → HasFound b (stripe_of (S.stripe_count steps.old) read.key)
+        content (S.recorded steps.old)
+        → IfErr result (λ refusal.
+        RefusesRead b (stripe_of (S.stripe_count steps.old) read.key) refusal
+        (S.recorded steps.new)) }
     ensures not_busy { IfErr result IsNotBusy }
     ensures place { S.place steps.new ≡ S.place steps.old }
     ensures stripes { S.stripe_count steps.new ≡ S.stripe_count steps.old }

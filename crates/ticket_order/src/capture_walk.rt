@@ -39,9 +39,12 @@ impl CaptureStage {
     }
 
     pub(crate) fn step<S: Steps>(self, steps: &mut S) -> Stepped
-        requires { (b : Record) × (task : Task) × FitsCapture (S.stripe_count steps.old) b task self (S.recorded steps.old) }
+        requires { (b : Record) × (task : Task)
+            × FitsCapture (S.stripe_count steps.old) b task self (S.recorded steps.old) }
         ensures one { MakesOne S.recorded S.moves (next_of_capture self) steps.old steps.new }
-        ensures next { (b : Record) (task : Task) → FitsCapture (S.stripe_count steps.old) b task self (S.recorded steps.old) → Next (S.stripe_count steps.old) b task result (S.recorded steps.new) }
+        ensures next { (b : Record) (task : Task)
+            → FitsCapture (S.stripe_count steps.old) b task self (S.recorded steps.old)
+            → Next (S.stripe_count steps.old) b task result (S.recorded steps.new) }
         ensures shorter { HasFewerLeft (left_of_capture self) result }
         ensures captured { KeepsCaptured (captured_of_capture self) result }
         ensures place { S.place steps.new ≡ S.place steps.old }
@@ -71,8 +74,10 @@ impl CaptureStage {
     }
 
     pub(crate) fn given_back(self) -> Stage
-        ensures fits { (n : ℕ) (b : Record) (task : Task) (p : Record) → FitsCapture n b task self p → FitsStage n b task result p }
-        ensures refuses { holds_of_capture self ≡ true → refusal_of_stage result ≡ Some Refusal.NoMemory }
+        ensures fits { (n : ℕ) (b : Record) (task : Task) (p : Record) → FitsCapture n b task self p
+            → FitsStage n b task result p }
+        ensures refuses { holds_of_capture self ≡ true
+            → refusal_of_stage result ≡ Some Refusal.NoMemory }
         ensures same { holds_of_capture self ≡ false → result ≡ Stage.Capture self }
     {
         match self {

@@ -65,9 +65,13 @@ impl ChangeStage {
     }
 
     pub(crate) fn step<S: Steps>(self, steps: &mut S) -> Stepped
-        requires { (b : Record) × (task : Task) × FitsChange (S.stripe_count steps.old) b task self (S.recorded steps.old) }
-        ensures one { MakesOne S.recorded S.moves (next_of_change (S.stripe_count steps.old) self) steps.old steps.new }
-        ensures next { (b : Record) (task : Task) → FitsChange (S.stripe_count steps.old) b task self (S.recorded steps.old) → Next (S.stripe_count steps.old) b task result (S.recorded steps.new) }
+        requires { (b : Record) × (task : Task)
+            × FitsChange (S.stripe_count steps.old) b task self (S.recorded steps.old) }
+        ensures one { MakesOne S.recorded S.moves (next_of_change (S.stripe_count steps.old) self)
+            steps.old steps.new }
+        ensures next { (b : Record) (task : Task)
+            → FitsChange (S.stripe_count steps.old) b task self (S.recorded steps.old)
+            → Next (S.stripe_count steps.old) b task result (S.recorded steps.new) }
         ensures shorter { HasFewerLeft (left_of_change self) result }
         ensures place { S.place steps.new ≡ S.place steps.old }
         ensures stripes { S.stripe_count steps.new ≡ S.stripe_count steps.old }

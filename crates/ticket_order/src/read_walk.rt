@@ -30,9 +30,13 @@ impl ReadStage {
     }
 
     pub(crate) fn step<S: Steps>(self, steps: &mut S) -> Stepped
-        requires { (b : Record) × (task : Task) × FitsRead (S.stripe_count steps.old) b task self (S.recorded steps.old) }
-        ensures one { MakesOne S.recorded S.moves (next_of_read (S.stripe_count steps.old) self) steps.old steps.new }
-        ensures next { (b : Record) (task : Task) → FitsRead (S.stripe_count steps.old) b task self (S.recorded steps.old) → Next (S.stripe_count steps.old) b task result (S.recorded steps.new) }
+        requires { (b : Record) × (task : Task)
+            × FitsRead (S.stripe_count steps.old) b task self (S.recorded steps.old) }
+        ensures one { MakesOne S.recorded S.moves (next_of_read (S.stripe_count steps.old) self)
+            steps.old steps.new }
+        ensures next { (b : Record) (task : Task)
+            → FitsRead (S.stripe_count steps.old) b task self (S.recorded steps.old)
+            → Next (S.stripe_count steps.old) b task result (S.recorded steps.new) }
         ensures shorter { HasFewerLeft (left_of_read self) result }
         ensures place { S.place steps.new ≡ S.place steps.old }
         ensures stripes { S.stripe_count steps.new ≡ S.stripe_count steps.old }

@@ -32,7 +32,8 @@ pub trait Steps {
     fn take(&mut self, stripe: usize) -> Option<Stripe>
         requires within { stripe < stripe_count self.old }
         requires empty_handed { (recorded self.old).holding ≡ None }
-        ensures step { Takes (stripe_count self.old) (recorded self.old) stripe result (recorded self.new) }
+        ensures step { Takes (stripe_count self.old) (recorded self.old) stripe result
+            (recorded self.new) }
         ensures moved { moves self.old (take_made stripe result) self.new }
         ensures place { place self.new ≡ place self.old }
         ensures stripes { stripe_count self.new ≡ stripe_count self.old };
@@ -40,7 +41,8 @@ pub trait Steps {
     /// GIVE: the content goes back, and the stripe is free.
     fn give(&mut self, stripe: usize, content: Stripe, purpose: Purpose)
         requires fits { MayGive (stripe_count self.old) (recorded self.old) stripe content purpose }
-        ensures step { Gives (stripe_count self.old) purpose (recorded self.old) (recorded self.new) }
+        ensures step { Gives (stripe_count self.old) purpose (recorded self.old)
+            (recorded self.new) }
         ensures moved { moves self.old (Gave stripe) self.new }
         ensures place { place self.new ≡ place self.old }
         ensures stripes { stripe_count self.new ≡ stripe_count self.old };

@@ -61,7 +61,8 @@ impl Stripe {
     pub(crate) fn act(&mut self, command: Command, prepared: Prepared, ticket: Ticket) -> Reply
         requires { HasMemory command self.old prepared }
         ensures part { self.new.part.map ≡ (step self.old.part.map command).map }
-        ensures outbox { self.new.outbox.items ≡ self.old.outbox.items ++ entry ticket command ∷ [] }
+        ensures outbox { self.new.outbox.items ≡ self.old.outbox.items ++ entry ticket command
+            ∷ [] }
         ensures reply { result ≡ (step self.old.part.map command).reply }
     {
         let reply = self.part.act(prepared);

@@ -28,9 +28,12 @@ impl SweepStage {
     }
 
     pub(crate) fn step<S: Steps>(self, steps: &mut S) -> Stepped
-        requires { (b : Record) × (task : Task) × FitsSweep (S.stripe_count steps.old) b task self (S.recorded steps.old) }
+        requires { (b : Record) × (task : Task)
+            × FitsSweep (S.stripe_count steps.old) b task self (S.recorded steps.old) }
         ensures one { MakesOne S.recorded S.moves (next_of_sweep self) steps.old steps.new }
-        ensures next { (b : Record) (task : Task) → FitsSweep (S.stripe_count steps.old) b task self (S.recorded steps.old) → Next (S.stripe_count steps.old) b task result (S.recorded steps.new) }
+        ensures next { (b : Record) (task : Task)
+            → FitsSweep (S.stripe_count steps.old) b task self (S.recorded steps.old)
+            → Next (S.stripe_count steps.old) b task result (S.recorded steps.new) }
         ensures shorter { HasFewerLeft (left_of_sweep self) result }
         ensures entries { KeepsEntries (entries_of_sweep self) result }
         ensures place { S.place steps.new ≡ S.place steps.old }
@@ -54,8 +57,10 @@ impl SweepStage {
     }
 
     pub(crate) fn given_back(self) -> Stage
-        ensures fits { (n : ℕ) (b : Record) (task : Task) (p : Record) → FitsSweep n b task self p → FitsStage n b task result p }
-        ensures refuses { holds_of_sweep self ≡ true → refusal_of_stage result ≡ Some Refusal.NoMemory }
+        ensures fits { (n : ℕ) (b : Record) (task : Task) (p : Record) → FitsSweep n b task self p
+            → FitsStage n b task result p }
+        ensures refuses { holds_of_sweep self ≡ true
+            → refusal_of_stage result ≡ Some Refusal.NoMemory }
         ensures same { holds_of_sweep self ≡ false → result ≡ Stage.Sweep self }
     {
         match self {

@@ -66,9 +66,12 @@ impl Taken {
 
     // Gives the stripe back as it was taken, since the call is refused.
     pub(crate) fn give_back<S: Steps>(self, refusal: Refusal, steps: &mut S) -> Refusal
-        requires { (b : Record) × (task : Task) × IsRefusing (S.stripe_count steps.old) b task self refusal (S.recorded steps.old) }
+        requires { (b : Record) × (task : Task)
+            × IsRefusing (S.stripe_count steps.old) b task self refusal (S.recorded steps.old) }
         ensures one { MakesOne S.recorded S.moves (Give self.stripe) steps.old steps.new }
-        ensures refused { (b : Record) (task : Task) → IsRefusing (S.stripe_count steps.old) b task self refusal (S.recorded steps.old) → Refuses (S.stripe_count steps.old) b task refusal (S.recorded steps.new) }
+        ensures refused { (b : Record) (task : Task)
+            → IsRefusing (S.stripe_count steps.old) b task self refusal (S.recorded steps.old)
+            → Refuses (S.stripe_count steps.old) b task refusal (S.recorded steps.new) }
         ensures same { result ≡ refusal }
         ensures place { S.place steps.new ≡ S.place steps.old }
         ensures stripes { S.stripe_count steps.new ≡ S.stripe_count steps.old }
@@ -110,7 +113,8 @@ impl Walk {
 
     /// A sweep of the stripe, by the pass that sweeps: TAKE, GIVE.
     pub fn sweep(alloc: Global, stripe: usize) -> Walk
-        ensures fits { (n : ℕ) (b : Record) → b.holding ≡ None → stripe < n → b.keeper ≡ true → Fits n b (ToSweep stripe) result b }
+        ensures fits { (n : ℕ) (b : Record) → b.holding ≡ None → stripe < n → b.keeper ≡ true
+            → Fits n b (ToSweep stripe) result b }
         ensures first { (n : ℕ) → next_kind n result ≡ Take stripe }
         ensures left { steps_left result ≡ 2 }
     {
@@ -121,7 +125,8 @@ impl Walk {
 
     /// A capture of the stripe: TAKE, LOOK, GIVE.
     pub fn capture(alloc: Global, stripe: usize) -> Walk
-        ensures fits { (n : ℕ) (b : Record) → b.holding ≡ None → stripe < n → Fits n b (ToCapture stripe) result b }
+        ensures fits { (n : ℕ) (b : Record) → b.holding ≡ None → stripe < n
+            → Fits n b (ToCapture stripe) result b }
         ensures first { (n : ℕ) → next_kind n result ≡ Take stripe }
         ensures left { steps_left result ≡ 3 }
     {
@@ -174,7 +179,8 @@ impl Walk {
     /// and end with `NoMemory`: for a caller that finds no memory for what it would be handed. Any
     /// other walk stays as it is.
     pub fn give_back(self) -> Walk
-        ensures fits { (n : ℕ) (b : Record) (task : Task) (p : Record) → Fits n b task self p → Fits n b task result p }
+        ensures fits { (n : ℕ) (b : Record) (task : Task) (p : Record) → Fits n b task self p
+            → Fits n b task result p }
         ensures refuses { is_holding self ≡ true → refusal_of_walk result ≡ Some Refusal.NoMemory }
         ensures same { is_holding self ≡ false → result ≡ self }
     {
@@ -190,8 +196,11 @@ impl Walk {
     /// Makes exactly one step.
     pub fn step<S: Steps>(self, steps: &mut S) -> Stepped
         requires { IsUnderWay (S.stripe_count steps.old) self (S.recorded steps.old) }
-        ensures one { MakesOne S.recorded S.moves (next_kind (S.stripe_count steps.old) self) steps.old steps.new }
-        ensures next { (b : Record) (task : Task) → Fits (S.stripe_count steps.old) b task self (S.recorded steps.old) → Next (S.stripe_count steps.old) b task result (S.recorded steps.new) }
+        ensures one { MakesOne S.recorded S.moves (next_kind (S.stripe_count steps.old) self)
+            steps.old steps.new }
+        ensures next { (b : Record) (task : Task)
+            → Fits (S.stripe_count steps.old) b task self (S.recorded steps.old)
+            → Next (S.stripe_count steps.old) b task result (S.recorded steps.new) }
         ensures shorter { HasFewerLeft (steps_left self) result }
         ensures entries { KeepsEntries (entries_of_walk self) result }
         ensures captured { KeepsCaptured (captured_of_walk self) result }

@@ -57,7 +57,8 @@ fn value_of(alloc: Global, bytes: &[u8]) -> Result<Option<Value>, AnswerError>
 /// What `Did` says.
 fn done_of(value: &Option<Value>) -> Option<bool>
     ensures found { IfSome result (λ done. value.now ≡ Some (Int (pos (from_bool done)))) }
-    ensures only { (done : Bool) → value.now ≡ Some (Int (pos (from_bool done))) → result ≡ Some done }
+    ensures only { (done : Bool) → value.now ≡ Some (Int (pos (from_bool done)))
+        → result ≡ Some done }
 {
     match value {
         Some(Value::Int(0)) => Some(false),
@@ -69,7 +70,8 @@ fn done_of(value: &Option<Value>) -> Option<bool>
 /// What `Fault` says.
 fn fault_of(value: &Option<Value>) -> Option<FuncError>
     ensures found { IfSome result (λ fault. value.now ≡ Some (Int (pos (fault_number fault)))) }
-    ensures only { (fault : FuncError) → value.now ≡ Some (Int (pos (fault_number fault))) → result ≡ Some fault }
+    ensures only { (fault : FuncError) → value.now ≡ Some (Int (pos (fault_number fault)))
+        → result ≡ Some fault }
 {
     match value {
         Some(Value::Int(1)) => Some(FuncError::WrongKind),
@@ -82,7 +84,8 @@ fn fault_of(value: &Option<Value>) -> Option<FuncError>
 fn refusal_of(number: u8) -> Option<Refusal>
     ensures found { IfSome result (λ refusal. number ≡ refusal_number refusal) }
     ensures plain { IfSome result IsPlain }
-    ensures only { (refusal : Refusal) → IsPlain refusal → number ≡ refusal_number refusal → result ≡ Some refusal }
+    ensures only { (refusal : Refusal) → IsPlain refusal → number ≡ refusal_number refusal
+        → result ≡ Some refusal }
 {
     match number {
         1 => Some(Refusal::NullValue),
@@ -109,7 +112,8 @@ fn refusal_of(number: u8) -> Option<Refusal>
 /// The refusal of a status; its value is absent.
 fn refused_of(status: u8, value: &Option<Value>) -> Option<Refusal>
     ensures found { IfSome result (λ refusal. AreParts status value.now (Err refusal)) }
-    ensures only { (refusal : Refusal) → AreParts status value.now (Err refusal) → result ≡ Some refusal }
+    ensures only { (refusal : Refusal) → AreParts status value.now (Err refusal)
+        → result ≡ Some refusal }
 {
     if value.is_some() || status < REFUSED {
         return None;
@@ -136,7 +140,8 @@ fn answer_of(status: u8, value: Option<Value>) -> Option<Result<Reply, Refusal>>
 /// stripe or a file is none, since a reply doesn't say which.
 pub fn read_answer(alloc: Global, body: &[u8]) -> Result<Result<Reply, Refusal>, AnswerError>
     ensures found { IfOk result (λ answer. IsReply body.now answer) }
-    ensures only { (answer : Answer) → IsReply body.now answer → MatchResult result (λ found. found ≡ answer) (λ error. error ≡ NoMemory) }
+    ensures only { (answer : Answer) → IsReply body.now answer
+        → MatchResult result (λ found. found ≡ answer) (λ error. error ≡ NoMemory) }
 {
     let Some((status, rest)) = body.split_first() else {
         return Err(AnswerError::NotAReply);

@@ -35,7 +35,8 @@ fn put_argument(question: &Question, out: &mut Vec<u8>) -> Result<(), Refusal>
 
 /// Puts a question about a key at the end.
 fn put_read(read: &Read, out: &mut Vec<u8>) -> Result<(), Refusal>
-    ensures ok { OnOk result (out.new.items ≡ out.old.items ++ request_bytes (Request.Read read.now)) }
+    ensures ok { OnOk result
+        (out.new.items ≡ out.old.items ++ request_bytes (Request.Read read.now)) }
     ensures bound { OnOk result (length (request_bytes (Request.Read read.now)) ≤ 4356) }
     ensures err { IfErr result (λ refusal. refusal ≡ NoMemory) }
 {
@@ -46,7 +47,8 @@ fn put_read(read: &Read, out: &mut Vec<u8>) -> Result<(), Refusal>
 
 /// Puts a call of the whole map at the end.
 fn put_bulk(bulk: &Bulk, out: &mut Vec<u8>) -> Result<(), Refusal>
-    ensures ok { OnOk result (out.new.items ≡ out.old.items ++ request_bytes (Request.Bulk bulk.now)) }
+    ensures ok { OnOk result
+        (out.new.items ≡ out.old.items ++ request_bytes (Request.Bulk bulk.now)) }
     ensures bound { OnOk result (length (request_bytes (Request.Bulk bulk.now)) ≤ 4108) }
     ensures err { IfErr result (λ refusal. refusal ≡ NoMemory) }
 {

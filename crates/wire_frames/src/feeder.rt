@@ -112,7 +112,8 @@ impl Feeder {
     /// The next message, once a whole frame is there or a length is refused: a frame's request, or
     /// the refusal in its place. A refused length gives `BadFrame`, and then nothing more comes.
     pub fn next(&mut self) -> Option<Result<Request, Refusal>>
-        ensures none { IfNone result ((self.new ≡ self.old) × ((self.old.ended ≡ true) ⊎ IsPartial self.old.left)) }
+        ensures none { IfNone result
+            ((self.new ≡ self.old) × ((self.old.ended ≡ true) ⊎ IsPartial self.old.left)) }
         ensures some { IfSome result (λ message. Takes self.old self.new message) }
     {
         if self.ended {

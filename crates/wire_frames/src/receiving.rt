@@ -82,7 +82,8 @@ fn read_length<R: Read>(reader: &mut R) -> Result<u16, ReplyError>
 
 /// Reads so many bytes.
 fn read_body<R: Read>(alloc: Global, reader: &mut R, len: u16) -> Result<Vec<u8>, ReplyError>
-    ensures { FillsBody (R.remaining reader.old) (R.remaining reader.new) (λ body. body.items) len result }
+    ensures { FillsBody (R.remaining reader.old) (R.remaining reader.new) (λ body. body.items) len
+        result }
 {
     let mut body = vec![in alloc; 0u8; usize::from(len)]?;
     read_whole(reader, &mut body)?;

@@ -28,7 +28,8 @@ pub(crate) const REFUSED: u8 = 128;
 fn write_some<W: Write>(writer: &mut W, bytes: &[u8]) -> io::Result<usize>
     ensures some { IfOk result (λ n. 0 < n) }
     ensures bound { IfOk result (λ n. n ≤ length bytes.now) }
-    ensures ok { IfOk result (λ n. Appends (W.contents writer.old) (W.contents writer.new) (take n bytes.now)) }
+    ensures ok { IfOk result (λ n. Appends (W.contents writer.old) (W.contents writer.new)
+        (take n bytes.now)) }
     ensures err { OnErr result (Appends (W.contents writer.old) (W.contents writer.new) []) }
 {
     for _ in 0..u64::MAX {
@@ -56,7 +57,8 @@ pub fn write_whole<W: Write>(writer: &mut W, bytes: &[u8]) -> io::Result<()>
 }
 
 fn write_number<W: Write>(writer: &mut W, status: u8, bits: u64) -> io::Result<()>
-    ensures { Writes (W.contents writer.old) (W.contents writer.new) result (frame (status ∷ 1 ∷ to_be_bytes w64 bits)) }
+    ensures { Writes (W.contents writer.old) (W.contents writer.new) result
+        (frame (status ∷ 1 ∷ to_be_bytes w64 bits)) }
 {
     let b = bits.to_be_bytes();
     write_whole(
@@ -69,7 +71,8 @@ fn write_number<W: Write>(writer: &mut W, status: u8, bits: u64) -> io::Result<(
 
 fn write_text<W: Write>(writer: &mut W, status: u8, text: &str) -> io::Result<()>
     requires { length text.now ≤ 4096 }
-    ensures { Writes (W.contents writer.old) (W.contents writer.new) result (frame (status ∷ value_bytes (Some (Text text.now)))) }
+    ensures { Writes (W.contents writer.old) (W.contents writer.new) result
+        (frame (status ∷ value_bytes (Some (Text text.now)))) }
 {
     let all = (text.len() as u16 + 4).to_be_bytes();
     let len = (text.len() as u16).to_be_bytes();
@@ -78,7 +81,8 @@ fn write_text<W: Write>(writer: &mut W, status: u8, text: &str) -> io::Result<()
 }
 
 fn write_value<W: Write>(writer: &mut W, status: u8, value: &Value) -> io::Result<()>
-    ensures { Writes (W.contents writer.old) (W.contents writer.new) result (frame (status ∷ value_bytes (Some value.now))) }
+    ensures { Writes (W.contents writer.old) (W.contents writer.new) result
+        (frame (status ∷ value_bytes (Some value.now))) }
 {
     match value {
         Value::Int(number) => {
@@ -91,7 +95,8 @@ fn write_value<W: Write>(writer: &mut W, status: u8, value: &Value) -> io::Resul
 
 /// Writes the frame of a status and a value, or absent.
 fn write_found<W: Write>(writer: &mut W, status: u8, value: &Option<Value>) -> io::Result<()>
-    ensures { Writes (W.contents writer.old) (W.contents writer.new) result (frame (status ∷ value_bytes value.now)) }
+    ensures { Writes (W.contents writer.old) (W.contents writer.new) result
+        (frame (status ∷ value_bytes value.now)) }
 {
     match value {
         None => write_whole(writer, &[0, 2, status, 0]),
@@ -100,14 +105,16 @@ fn write_found<W: Write>(writer: &mut W, status: u8, value: &Option<Value>) -> i
 }
 
 fn write_did<W: Write>(writer: &mut W, done: bool) -> io::Result<()>
-    ensures { Writes (W.contents writer.old) (W.contents writer.new) result (reply_frame (Ok (Reply.Did done))) }
+    ensures { Writes (W.contents writer.old) (W.contents writer.new) result
+        (reply_frame (Ok (Reply.Did done))) }
 {
     let bits = u64::from(done);
     write_number(writer, DID, bits)
 }
 
 fn write_fault<W: Write>(writer: &mut W, fault: FuncError) -> io::Result<()>
-    ensures { Writes (W.contents writer.old) (W.contents writer.new) result (reply_frame (Ok (Reply.Fault fault))) }
+    ensures { Writes (W.contents writer.old) (W.contents writer.new) result
+        (reply_frame (Ok (Reply.Fault fault))) }
 {
     let bits = u64::from(fault.number());
     write_number(writer, FAULT, bits)
@@ -116,7 +123,8 @@ fn write_fault<W: Write>(writer: &mut W, fault: FuncError) -> io::Result<()>
 /// Writes the frame of a reply or a refusal. It takes no memory. Where the writer fails, a
 /// beginning of the frame was written, and never all of it.
 pub fn write_reply<W: Write>(writer: &mut W, answer: &Result<Reply, Refusal>) -> io::Result<()>
-    ensures { Writes (W.contents writer.old) (W.contents writer.new) result (reply_frame answer.now) }
+    ensures { Writes (W.contents writer.old) (W.contents writer.new) result
+        (reply_frame answer.now) }
 {
     match answer {
         Ok(Reply::Was(value)) => write_found(writer, WAS, value),
