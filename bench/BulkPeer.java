@@ -1,7 +1,7 @@
 import java.util.concurrent.ConcurrentHashMap;
 
 /**
- * Makes the bulk calls of crates/bulk_bench on the JDK's ConcurrentHashMap, and prints the same lines without that of the
+ * Makes the bulk calls of crates/bench_bulk on the JDK's ConcurrentHashMap, and prints the same lines without that of the
  * view, which it has none of: give `measure N`.
  */
 public final class BulkPeer {

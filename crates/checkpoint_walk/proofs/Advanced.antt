@@ -23,9 +23,9 @@ use Rattle.checkpoint_file.specs.Advancing.{Advances, MayAdvance}
 use Rattle.checkpoint_file.specs.States.{CheckpointState, state_after}
 use Rattle.checkpoint_file.specs.Standing as checkpoint
 use Rattle.checkpoint_file.specs.Standing.{checkpoint_of}
-use Rattle.store_states.specs.Laws.{CheckpointIsSealed, StopsUseCheckpoint, StoresStop, WriterStepsOn, WriterStepsStop, sealed_with}
-use Rattle.store_states.specs.Standing as store
-use Rattle.store_states.specs.States.{Held}
+use Rattle.store_invariant.specs.Laws.{CheckpointIsSealed, StopsUseCheckpoint, StoresStop, WriterStepsOn, WriterStepsStop, sealed_with}
+use Rattle.store_invariant.specs.Standing as store
+use Rattle.store_invariant.specs.States.{Held}
 use Rattle.flusher.specs.declared.keeper.Keeper.{Keeper}
 use Rattle.flusher.specs.Fitting.{Fits, HoldsFor, StopsFit, Stores, batches_of, store_of}
 use Rattle.checkpoint_walk.specs.Checkpointing.{Checkpoints, HasGiven, KeepsAfter, checkpoints_of, kept_in}

@@ -14,9 +14,9 @@ use Rattle.gate_log.specs.States as log_states
 use Rattle.gate_log.specs.Standing as gate_log
 use Rattle.checkpoint_file.specs.States.{CheckpointState, begun}
 use Rattle.checkpoint_file.specs.Standing as checkpoint
-use Rattle.store_states.specs.Laws.{CheckpointBegins, RotationBegins}
-use Rattle.store_states.specs.States.{Held, StoreState}
-use Rattle.store_states.specs.Standing as store
+use Rattle.store_invariant.specs.Laws.{CheckpointBegins, RotationBegins}
+use Rattle.store_invariant.specs.States.{Held, StoreState}
+use Rattle.store_invariant.specs.Standing as store
 use Rattle.flusher.specs.declared.keeper.Keeper.{Keeper}
 use Rattle.flusher.specs.Fitting.{Fits, IsEmptyIn, store_of}
 use Rattle.flusher.specs.Rotating.{Rotates}

@@ -21,9 +21,9 @@ use Rattle.gate_log.specs.States.{LogState}
 use Rattle.gate_log.specs.Standing as gate_log
 use Rattle.checkpoint_file.specs.States.{AreKeysOf, CheckpointState, TakesSection, with_section}
 use Rattle.checkpoint_file.specs.Standing as checkpoint
-use Rattle.store_states.specs.Laws.{SectionIsGiven}
-use Rattle.store_states.specs.States.{low_after}
-use Rattle.store_states.specs.Standing as store
+use Rattle.store_invariant.specs.Laws.{SectionIsGiven}
+use Rattle.store_invariant.specs.States.{low_after}
+use Rattle.store_invariant.specs.Standing as store
 use Rattle.flusher.specs.declared.keeper.Keeper.{Keeper}
 use Rattle.flusher.specs.Fitting.{Fits, HoldsFor, IsBeside, store_of}
 use Rattle.flusher.specs.Keeping.{is_walking}

@@ -9,9 +9,9 @@ use Rattle.store_layout.specs.Checkpoints.{Section, checkpoint_file, greatest_ma
 use Rattle.checkpoint_file.specs.States.{CheckpointState}
 use Rattle.checkpoint_file.specs.Standing as checkpoint
 use Rattle.store_layout.specs.declared.checkpoint_phase.CheckpointPhase.TheVariants.{Header}
-use Rattle.store_states.specs.Laws.{SealBegins}
-use Rattle.store_states.specs.States.{StoreState}
-use Rattle.store_states.specs.Standing as store
+use Rattle.store_invariant.specs.Laws.{SealBegins}
+use Rattle.store_invariant.specs.States.{StoreState}
+use Rattle.store_invariant.specs.Standing as store
 use Rattle.flusher.specs.declared.keeper.Keeper.{Keeper}
 use Rattle.flusher.specs.Fitting.{Fits, store_of}
 use Rattle.checkpoint_walk.specs.Checkpointing.{HasGiven}

@@ -16,7 +16,7 @@ use Rattle.checkpoint_file.specs.Advancing.{Advances}
 use Rattle.checkpoint_file.specs.States.{CheckpointState, call_in}
 use Rattle.checkpoint_file.specs.Standing as checkpoint
 use Rattle.checkpoint_file.specs.Standing.{checkpoint_of}
-use Rattle.store_states.specs.Laws.{CheckpointIsSealed, StopsUseCheckpoint, StoresStop, WriterStepsOn, WriterStepsStop}
+use Rattle.store_invariant.specs.Laws.{CheckpointIsSealed, StopsUseCheckpoint, StoresStop, WriterStepsOn, WriterStepsStop}
 use Rattle.flusher.specs.declared.keeper.Keeper.{Keeper}
 use Rattle.flusher.specs.Fitting.{Fits, StopsFit}
 use Rattle.checkpoint_walk.specs.Checkpointing.{Checkpoints, HasGiven, KeepsAfter, StepsCheckpoint, call_due, checkpoints_of, kept_in}

@@ -14,7 +14,7 @@ use disk_model::Disk;
 use flusher::Keeper;
 use gate_log::GateLog;
 use map_types::Refusal;
-use store_states::laws::steps_of_checkpoints;
+use store_invariant::laws::steps_of_checkpoints;
 
 /// Begins the checkpoint that follows the sealed one. Where the newest log is still that of the sealed
 /// one, the log of the checkpoint is begun with it, and the keeper's next six calls of `advance` write

@@ -19,7 +19,7 @@ use disk_model::Disk;
 use flusher::{Keeper, pass_goes_on};
 use map_types::Refusal;
 use std::sync::Wait;
-use store_states::laws::steps_of_checkpoints;
+use store_invariant::laws::steps_of_checkpoints;
 use ticket_order::{Stepped, Steps, Walk};
 
 /// Makes exactly one step of a capture: TAKE of the stripe whose section is the next, LOOK, or GIVE. With

@@ -14,7 +14,7 @@ use checkpoint_file::{CheckpointPhase, CheckpointWriter};
 use disk_model::Disk;
 use flusher::Keeper;
 use map_types::Refusal;
-use store_states::laws::steps_of_checkpoints;
+use store_invariant::laws::steps_of_checkpoints;
 
 /// Goes on to the header of the checkpoint, once the sections of all stripes are written and the count
 /// that was last published has reached the greatest of their marks. Until then it may be tried again.

@@ -10,8 +10,8 @@ use Rattle.store_layout.specs.Standing.{AreMarks, AreParts}
 use Rattle.checkpoint_file.specs.States.{CheckpointState}
 use Rattle.checkpoint_file.specs.Standing as checkpoint
 use Rattle.gate_log.specs.States.{LogState}
-use Rattle.store_states.specs.States.{Held, StoreState}
-use Rattle.store_states.specs.Standing.{LogsStand, MayCapture, WriterStands}
+use Rattle.store_invariant.specs.States.{Held, StoreState}
+use Rattle.store_invariant.specs.Standing.{LogsStand, MayCapture, WriterStands}
 use Rattle.ticket_order.specs.declared.record.Record.{Record}
 use Rattle.ticket_order.specs.Legality.{history_of}
 use Rattle.ticket_order.specs.StepRules.{AllLegalSections}

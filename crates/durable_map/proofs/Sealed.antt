@@ -13,7 +13,7 @@ use Rattle.store_layout.specs.declared.log_phase.Phase.TheVariants.{Idle}
 use Rattle.gate_log.specs.States.{LogState}
 use Rattle.store_layout.specs.declared.checkpoint_phase.CheckpointPhase.{CheckpointPhase}
 use Rattle.checkpoint_file.specs.States.{CheckpointState}
-use Rattle.store_states.specs.Standing.{IsSealedIn}
+use Rattle.store_invariant.specs.Standing.{IsSealedIn}
 use Rattle.flusher.specs.declared.keeper.Keeper.{Keeper}
 use Rattle.flusher.specs.HandSteps.{SameEntries}
 use Rattle.flusher.specs.Keeping.{committed_by}

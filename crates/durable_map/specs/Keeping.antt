@@ -6,7 +6,7 @@ use Rattle.map_model.specs.Histories.{History}
 use Rattle.store_layout.specs.Checkpoints.{Checkpoint, Section, checkpoint_file, greatest_mark}
 use Rattle.store_layout.specs.Standing.{AreMarks, AreParts, reach}
 use Rattle.checkpoint_file.specs.States.{CheckpointState}
-use Rattle.store_states.specs.Standing.{IsSealedIn}
+use Rattle.store_invariant.specs.Standing.{IsSealedIn}
 use Rattle.ticket_order.specs.declared.record.Record.{Record}
 use Rattle.ticket_order.specs.Legality.{history_of}
 use Rattle.ticket_order.specs.StepRules.{AllLegalSections}

@@ -14,9 +14,9 @@ use Rattle.store_layout.specs.declared.log_phase.Phase.TheVariants.{Idle, Header
 use Rattle.gate_log.specs.States.{LogState, begun, commands_of, log_after}
 use Rattle.gate_log.specs.Standing as gate_log
 use Rattle.gate_log.specs.Advancing.{Advances, MayAdvance}
-use Rattle.store_states.specs.States.{StoreState}
-use Rattle.store_states.specs.Standing as store
-use Rattle.store_states.specs.Laws.{EndStepsOn, LogEnds, LogStepsOn, LogStepsStop, NextIsReady, NextStepsOn, NextStepsStop, StoresStop}
+use Rattle.store_invariant.specs.States.{StoreState}
+use Rattle.store_invariant.specs.Standing as store
+use Rattle.store_invariant.specs.Laws.{EndStepsOn, LogEnds, LogStepsOn, LogStepsStop, NextIsReady, NextStepsOn, NextStepsStop, StoresStop}
 use Rattle.flusher.specs.declared.keeper.Keeper.{Keeper}
 use Rattle.flusher.specs.declared.sweeper.Sweeper.{Sweeper}
 use Rattle.flusher.specs.Keeping.{IsPast, committed_by}

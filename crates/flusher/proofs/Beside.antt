@@ -12,7 +12,7 @@ use Rattle.ticket_order.specs.declared.record.Opening.{Opening}
 use Rattle.ticket_order.specs.declared.record.Record.{Record}
 use Rattle.store_layout.specs.OpeningLaws.{FrontStays}
 use Rattle.gate_log.specs.States.{commands_of}
-use Rattle.store_states.specs.Laws.{StandingStays}
+use Rattle.store_invariant.specs.Laws.{StandingStays}
 use Rattle.flusher.specs.declared.keeper.Keeper.{Keeper}
 use Rattle.flusher.specs.declared.sweeper.Sweep.{Sweep}
 use Rattle.flusher.specs.declared.sweeper.Walking.{Walking}

@@ -15,8 +15,8 @@ use Rattle.checkpoint_file.specs.States.{CheckpointState}
 use Rattle.store_layout.specs.declared.log_phase.Phase.TheVariants.{Staged, Opened}
 use Rattle.gate_log.specs.States.{LogState, batch_of, commands_of, log_after}
 use Rattle.gate_log.specs.Standing as gate_log
-use Rattle.store_states.specs.States.{StoreState, newest_batches}
-use Rattle.store_states.specs.Laws.{BatchIsStaged, StoresStop}
+use Rattle.store_invariant.specs.States.{StoreState, newest_batches}
+use Rattle.store_invariant.specs.Laws.{BatchIsStaged, StoresStop}
 use Rattle.flusher.specs.declared.keeper.Keeper.{Keeper}
 use Rattle.flusher.specs.declared.sweeper.Sweeper.{Sweeper}
 use Rattle.store_layout.specs.Hands.{Hand, IsRun}

@@ -17,8 +17,8 @@ use Rattle.ticket_order.specs.Legality.{entries_from, history_of}
 use Rattle.store_layout.specs.OpeningLaws.{FrontStays}
 use Rattle.checkpoint_file.specs.States.{CheckpointState}
 use Rattle.gate_log.specs.States.{LogState, commands_of, resumed}
-use Rattle.store_states.specs.States.{StoreState}
-use Rattle.store_states.specs.Laws.{OpenedStands, StandingStays}
+use Rattle.store_invariant.specs.States.{StoreState}
+use Rattle.store_invariant.specs.Laws.{OpenedStands, StandingStays}
 use Rattle.flusher.specs.declared.keeper.Keeper.{Keeper}
 use Rattle.flusher.specs.declared.sweeper.Sweep.{Sweep}
 use Rattle.flusher.specs.declared.sweeper.Walking.{Walking}

@@ -18,9 +18,9 @@ use Rattle.gate_log.specs.States.{LogState, commands_of, log_after}
 use Rattle.gate_log.specs.Standing as gate_log
 use Rattle.gate_log.specs.Advancing.{Advances, committed_after, staged_after}
 use Rattle.gate_log.specs.Ahead.{WritesAhead}
-use Rattle.store_states.specs.States.{Held, StoreState, newest_batches}
-use Rattle.store_states.specs.Standing as store
-use Rattle.store_states.specs.Laws.{EndStepsOn, LogEnds, LogStays, LogStepsOn, LogStepsStop, NextIsReady, NextStepsOn, NextStepsStop, StoresStop, stepped}
+use Rattle.store_invariant.specs.States.{Held, StoreState, newest_batches}
+use Rattle.store_invariant.specs.Standing as store
+use Rattle.store_invariant.specs.Laws.{EndStepsOn, LogEnds, LogStays, LogStepsOn, LogStepsStop, NextIsReady, NextStepsOn, NextStepsStop, StoresStop, stepped}
 use Rattle.flusher.specs.Fitting.{HoldsFront, batches_of}
 use Rattle.flusher.proofs.Moments.{moments_so}
 

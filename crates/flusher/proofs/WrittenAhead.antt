@@ -10,8 +10,8 @@ use Rattle.ticket_order.specs.declared.record.Record.{Record}
 use Rattle.ticket_order.specs.Legality.{history_of}
 use Rattle.gate_log.specs.States.{LogState}
 use Rattle.gate_log.specs.Ahead.{WritesAhead}
-use Rattle.store_states.specs.States.{StoreState}
-use Rattle.store_states.specs.Laws.{LogStays, LogStepsStop, StoresStop}
+use Rattle.store_invariant.specs.States.{StoreState}
+use Rattle.store_invariant.specs.Laws.{LogStays, LogStepsStop, StoresStop}
 use Rattle.flusher.specs.declared.keeper.Keeper.{Keeper}
 use Rattle.flusher.specs.Rotating.{MayRotate}
 use Rattle.flusher.specs.Fitting.{Fits, HoldsFor, IsEmptyIn, IsUnbroken, StopsFit, store_of}

@@ -16,8 +16,8 @@ use Rattle.store_layout.specs.declared.log_phase.Phase.{Phase}
 use Rattle.store_layout.specs.declared.log_phase.Phase.TheVariants.{Idle, Header, HeaderWritten, Staged, Written, Synced, Opened}
 use Rattle.gate_log.specs.States.{LogState, batch_of, commands_of}
 use Rattle.gate_log.specs.Standing as gate_log
-use Rattle.store_states.specs.States.{StoreState, Held}
-use Rattle.store_states.specs.Standing as store
+use Rattle.store_invariant.specs.States.{StoreState, Held}
+use Rattle.store_invariant.specs.Standing as store
 use Rattle.flusher.specs.declared.keeper.Keeper.{Keeper}
 use Rattle.flusher.specs.Sweeping.{Stands}
 use Rattle.flusher.specs.Rotating.{MayRotate}

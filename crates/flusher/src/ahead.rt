@@ -12,7 +12,7 @@ use crate::keeper::Keeper;
 use disk_model::Disk;
 use gate_log::Zeros;
 use map_types::Refusal;
-use store_states::laws::{steps_of_logs, stops_of_a_store};
+use store_invariant::laws::{steps_of_logs, stops_of_a_store};
 
 impl<D: Disk> Keeper<D> {
     /// From now on this many zeros are written ahead at a time; with 0, as at first, none are. Their

@@ -3,15 +3,15 @@ use Rattle.std.specs.Prelude.{◌≡◌, ◌≢◌, ◌⊎◌, ℕ, List, [], �
 use Rattle.clap.specs.Words.{Row, Text}
 use Rattle.connections.specs.declared.connection.ConnectionError.{ConnectionError}
 use Rattle.connections.specs.Connection.{Connection}
-use Rattle.memory_map.specs.Maps.{Began, Finished, GaveUp, IsEmpty, MapState}
+use Rattle.cmd_mem.specs.Maps.{Began, Finished, GaveUp, IsEmpty, MapState}
 use Rattle.disk_model.specs.Files.{Files}
 use Rattle.map_server.specs.CommandLine.{faults, named_by, Asks, FindsNoMemory, Misuses}
 use Rattle.map_server.specs.declared.program.Order.{Order}
 use Rattle.map_server.specs.declared.program.Order.TheVariants.{Mem, Init, Check, Serve, Call, Sim}
-use Rattle.directories.specs.Directory.{Inits, Inspects}
-use Rattle.map_client.specs.Calling.{MakesCalls}
-use Rattle.store_server.specs.Serving.{ServesOn}
-use Rattle.script_player.specs.Simulation.{Simulates}
+use Rattle.cmd_directory.specs.Directory.{Inits, Inspects}
+use Rattle.cmd_call.specs.Calling.{MakesCalls}
+use Rattle.cmd_serve.specs.Serving.{ServesOn}
+use Rattle.cmd_sim.specs.Simulation.{Simulates}
 
 -- What was written is the dialogue of what was read, each request answered by the map, which was empty at first. The status is 0 where the connection ended by itself, and 1 where it broke off.
 pub record Dialogues (r0 r1 w0 w1 : Option (List ℕ)) (status : ℕ) : Type 0 where

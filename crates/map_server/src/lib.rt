@@ -7,4 +7,4 @@ pub mod program;
 pub use connections::{Calls, serve_connection};
 pub use host::Host;
 pub use program::dchm;
-pub use store_server::{Arrivals, Gate, NoGate, workers};
+pub use cmd_serve::{Arrivals, Gate, NoGate, workers};

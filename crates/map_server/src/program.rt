@@ -10,17 +10,17 @@ use crate::host::Host;
 use clap::error::ErrorKind;
 use clap::{Arg, ArgAction, ArgMatches, Command, Error};
 use connections::{ConnectionError, serve_connection};
-use console::{DONE, MISUSED, break_off, refuse, say};
-use directories::{Directories, check, init};
+use cmd_text::{DONE, MISUSED, break_off, refuse, say};
+use cmd_directory::{Directories, check, init};
 use disk_model::MemDisk;
-use map_client::{Servers, make_calls};
+use cmd_call::{Servers, make_calls};
 use map_types::Refusal;
-use memory_map::Memory;
-use script_player::sim;
+use cmd_mem::Memory;
+use cmd_sim::sim;
 use std::alloc::{AllocError, Global};
 use std::io::{Read, Write};
 use std::sync::Wait;
-use store_server::{ServerWords, serve};
+use cmd_serve::{ServerWords, serve};
 
 /// What a command line asks for.
 #[derive(Drop)]

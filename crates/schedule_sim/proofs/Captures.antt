@@ -7,13 +7,13 @@ use Rattle.one_history.specs.OneHistory.{HoldApart, IsOneHistory}
 use Rattle.one_history.specs.Turns.{record_of}
 use Rattle.flusher.specs.declared.keeper.Keeper.{Keeper}
 use Rattle.checkpoint_walk.specs.Walking.{FitsWalking}
-use Rattle.schedules.specs.declared.outcome.Made.{Made}
-use Rattle.schedules.specs.World.{World, Life}
-use Rattle.schedule_states.specs.Doings.{Doing}
-use Rattle.schedule_states.specs.Laws.{KeeperSteps}
-use Rattle.schedule_states.specs.Workers.{WorkersStand}
-use Rattle.keeper_states.specs.Laws.{CountsAreTold, StripeIsTold}
-use Rattle.keeper_states.specs.Standing.{KeeperStands}
+use Rattle.sim_rules.specs.declared.outcome.Made.{Made}
+use Rattle.sim_rules.specs.World.{World, Life}
+use Rattle.sim_workers.specs.Doings.{Doing}
+use Rattle.sim_workers.specs.Laws.{KeeperSteps}
+use Rattle.sim_workers.specs.Workers.{WorkersStand}
+use Rattle.sim_keeper.specs.Laws.{CountsAreTold, StripeIsTold}
+use Rattle.sim_keeper.specs.Standing.{KeeperStands}
 use Rattle.schedule_sim.specs.declared.traced.Traced.{Traced}
 use Rattle.schedule_sim.specs.Tracing.{traced_states, traced_honest}
 use Rattle.schedule_sim.specs.Watching.{MakesStep}

@@ -22,23 +22,23 @@ use Rattle.flusher.specs.declared.keeper.Keeper.{Keeper}
 use Rattle.flusher.specs.Keeping.{is_walking}
 use Rattle.checkpoint_walk.specs.Capturing.{IsCauseOf}
 use Rattle.checkpoint_walk.specs.Walking.{AfterStep, AfterTake, FitsBy, FitsWalking, IsCapturing, kind_next}
-use Rattle.schedules.specs.declared.event.Event.TheVariants as event
-use Rattle.schedules.specs.declared.outcome.End.{End}
-use Rattle.schedules.specs.declared.outcome.End.TheVariants as ends
-use Rattle.schedules.specs.declared.outcome.Made.{Made}
-use Rattle.schedules.specs.declared.outcome.Outcome.TheVariants as outcome
-use Rattle.schedules.specs.World.{World, Life, KeeperWalk, CaptureLooks, CaptureGives, rests as rests_at}
-use Rattle.schedules.specs.After.{capture_gives, capture_takes, keeper_stepped, with_life}
-use Rattle.schedules.specs.Cases.{section_size}
-use Rattle.schedules.specs.Fitting.{fits_with}
-use Rattle.schedule_states.specs.Laws.{FreeIsTold, HeldIsTold, KeeperSteps}
-use Rattle.schedule_states.specs.Workers.{StandWith, WorkersStand}
-use Rattle.keeper_states.specs.Laws.{CaptureAnswers, CaptureRefuses, CaptureStepAnswers, CaptureTakesNone, CountsAreTold, FrontIsSeen}
-use Rattle.keeper_states.specs.Laws.{PassHolds, StripeIsTold, TooManyAreTooLarge, WalkIsTold}
-use Rattle.keeper_states.specs.Promises.{StepsCapture}
-use Rattle.keeper_states.specs.Showing.{capture_shown, walk_by}
-use Rattle.keeper_states.specs.Standing.{Answers, HasKeeper, KeeperStands}
-use Rattle.keeper_states.specs.Telling as telling
+use Rattle.sim_rules.specs.declared.event.Event.TheVariants as event
+use Rattle.sim_rules.specs.declared.outcome.End.{End}
+use Rattle.sim_rules.specs.declared.outcome.End.TheVariants as ends
+use Rattle.sim_rules.specs.declared.outcome.Made.{Made}
+use Rattle.sim_rules.specs.declared.outcome.Outcome.TheVariants as outcome
+use Rattle.sim_rules.specs.World.{World, Life, KeeperWalk, CaptureLooks, CaptureGives, rests as rests_at}
+use Rattle.sim_rules.specs.After.{capture_gives, capture_takes, keeper_stepped, with_life}
+use Rattle.sim_rules.specs.Cases.{section_size}
+use Rattle.sim_rules.specs.Fitting.{fits_with}
+use Rattle.sim_workers.specs.Laws.{FreeIsTold, HeldIsTold, KeeperSteps}
+use Rattle.sim_workers.specs.Workers.{StandWith, WorkersStand}
+use Rattle.sim_keeper.specs.Laws.{CaptureAnswers, CaptureRefuses, CaptureStepAnswers, CaptureTakesNone, CountsAreTold, FrontIsSeen}
+use Rattle.sim_keeper.specs.Laws.{PassHolds, StripeIsTold, TooManyAreTooLarge, WalkIsTold}
+use Rattle.sim_keeper.specs.Promises.{StepsCapture}
+use Rattle.sim_keeper.specs.Showing.{capture_shown, walk_by}
+use Rattle.sim_keeper.specs.Standing.{Answers, HasKeeper, KeeperStands}
+use Rattle.sim_keeper.specs.Telling as telling
 use Rattle.schedule_sim.specs.declared.traced.Traced.{Traced}
 use Rattle.schedule_sim.specs.declared.job.Job.{Job}
 use Rattle.schedule_sim.specs.declared.life.Life as sim

@@ -11,19 +11,19 @@ use Rattle.store_layout.specs.declared.checkpoint_phase.CheckpointPhase.{Checkpo
 use Rattle.flusher.specs.declared.keeper.Keeper.{Keeper}
 use Rattle.flusher.specs.Fitting.{Fits}
 use Rattle.flusher.specs.Keeping.{is_walking}
-use Rattle.schedules.specs.declared.event.Ending.{Ending}
-use Rattle.schedules.specs.declared.event.Ending.TheVariants as ending
-use Rattle.schedules.specs.declared.event.Event.TheVariants as event
-use Rattle.schedules.specs.declared.event.Side.{Side}
-use Rattle.schedules.specs.declared.event.Side.TheVariants as side
-use Rattle.schedules.specs.declared.outcome.DeviceCall.{DeviceCall}
-use Rattle.schedules.specs.declared.outcome.Outcome.TheVariants as outcome
-use Rattle.schedules.specs.After.{file_of}
-use Rattle.schedules.specs.World.{World, Life, rests}
-use Rattle.schedules.specs.Fitting.{fits, fits_with, has_call}
-use Rattle.schedule_states.specs.Laws.{KeeperRests}
-use Rattle.keeper_states.specs.Laws.{BrokenAnswers, CheckpointAnswers, CheckpointCallIsTold, CheckpointFails, LogCallIsTold, WalkIsTold, file_due}
-use Rattle.keeper_states.specs.Promises.{IsLost, IsMade, TriesCheckpoint}
+use Rattle.sim_rules.specs.declared.event.Ending.{Ending}
+use Rattle.sim_rules.specs.declared.event.Ending.TheVariants as ending
+use Rattle.sim_rules.specs.declared.event.Event.TheVariants as event
+use Rattle.sim_rules.specs.declared.event.Side.{Side}
+use Rattle.sim_rules.specs.declared.event.Side.TheVariants as side
+use Rattle.sim_rules.specs.declared.outcome.DeviceCall.{DeviceCall}
+use Rattle.sim_rules.specs.declared.outcome.Outcome.TheVariants as outcome
+use Rattle.sim_rules.specs.After.{file_of}
+use Rattle.sim_rules.specs.World.{World, Life, rests}
+use Rattle.sim_rules.specs.Fitting.{fits, fits_with, has_call}
+use Rattle.sim_workers.specs.Laws.{KeeperRests}
+use Rattle.sim_keeper.specs.Laws.{BrokenAnswers, CheckpointAnswers, CheckpointCallIsTold, CheckpointFails, LogCallIsTold, WalkIsTold, file_due}
+use Rattle.sim_keeper.specs.Promises.{IsLost, IsMade, TriesCheckpoint}
 use Rattle.schedule_sim.specs.declared.traced.Traced.{Traced}
 use Rattle.schedule_sim.specs.declared.life.Life as sim
 use Rattle.schedule_sim.specs.Calling.{MayCall, is_due}

@@ -8,24 +8,24 @@ use Rattle.disk_model.specs.declared.fill.Fill.{Fill}
 use Rattle.ticket_order.specs.Legality.{history_of}
 use Rattle.one_history.specs.declared.book.Book.{Book}
 use Rattle.one_history.specs.Turns.{record_of}
-use Rattle.store_states.specs.Standing.{StopsStand}
+use Rattle.store_invariant.specs.Standing.{StopsStand}
 use Rattle.flusher.specs.declared.keeper.Keeper.{Keeper}
 use Rattle.flusher.specs.Fitting.{StopsFit}
-use Rattle.schedules.specs.declared.event.Event.{Event}
-use Rattle.schedules.specs.declared.event.Event.TheVariants as event
-use Rattle.schedules.specs.declared.event.Side.{Side}
-use Rattle.schedules.specs.declared.outcome.DeviceCall.{DeviceCall}
-use Rattle.schedules.specs.declared.outcome.Outcome.{Outcome}
-use Rattle.schedules.specs.declared.outcome.Outcome.TheVariants as outcome
-use Rattle.schedules.specs.Machine.{whole}
-use Rattle.schedules.specs.World.{World, Life}
-use Rattle.schedules.specs.After.{after, after_with, entered, without_life}
-use Rattle.schedules.specs.Cases.{HappensWith, Meets}
-use Rattle.schedules.specs.Fitting.{fits, fits_with}
-use Rattle.schedules.specs.Laws.{KnownStands}
-use Rattle.schedules.specs.Runs.{OpensWell}
-use Rattle.schedules.specs.Sound.{AnswersLegally, AreAbove, OpensFront}
-use Rattle.schedule_states.specs.Workers.{WorkersStand}
+use Rattle.sim_rules.specs.declared.event.Event.{Event}
+use Rattle.sim_rules.specs.declared.event.Event.TheVariants as event
+use Rattle.sim_rules.specs.declared.event.Side.{Side}
+use Rattle.sim_rules.specs.declared.outcome.DeviceCall.{DeviceCall}
+use Rattle.sim_rules.specs.declared.outcome.Outcome.{Outcome}
+use Rattle.sim_rules.specs.declared.outcome.Outcome.TheVariants as outcome
+use Rattle.sim_rules.specs.Machine.{whole}
+use Rattle.sim_rules.specs.World.{World, Life}
+use Rattle.sim_rules.specs.After.{after, after_with, entered, without_life}
+use Rattle.sim_rules.specs.Cases.{HappensWith, Meets}
+use Rattle.sim_rules.specs.Fitting.{fits, fits_with}
+use Rattle.sim_rules.specs.Laws.{KnownStands}
+use Rattle.sim_rules.specs.Runs.{OpensWell}
+use Rattle.sim_rules.specs.Sound.{AnswersLegally, AreAbove, OpensFront}
+use Rattle.sim_workers.specs.Workers.{WorkersStand}
 use Rattle.schedule_sim.specs.declared.job.Job.{Job}
 use Rattle.schedule_sim.specs.declared.life.Life as sim
 use Rattle.schedule_sim.specs.declared.store.Store.{Store}

@@ -13,15 +13,15 @@ use Rattle.flusher.specs.declared.keeper.Keeper.{Keeper}
 use Rattle.flusher.specs.Fitting.{Fits}
 use Rattle.flusher.specs.Keeping.{is_walking}
 use Rattle.checkpoint_walk.specs.Walking.{FitsWalking}
-use Rattle.schedules.specs.declared.event.Event.TheVariants as event
-use Rattle.schedules.specs.declared.outcome.Outcome.TheVariants as outcome
-use Rattle.schedules.specs.World.{World, Life, keeper_holds, rests}
-use Rattle.schedules.specs.After.{with_life}
-use Rattle.schedules.specs.Fitting.{fits_inside, fits_with}
-use Rattle.schedule_states.specs.Laws.{KeeperSteps}
-use Rattle.schedule_states.specs.Workers.{DrawsNone, WorkersStand}
-use Rattle.keeper_states.specs.Laws.{CountsAreTold, FailAnswers, PublishAnswers, WalkIsTold}
-use Rattle.keeper_states.specs.Standing.{HasKeeper}
+use Rattle.sim_rules.specs.declared.event.Event.TheVariants as event
+use Rattle.sim_rules.specs.declared.outcome.Outcome.TheVariants as outcome
+use Rattle.sim_rules.specs.World.{World, Life, keeper_holds, rests}
+use Rattle.sim_rules.specs.After.{with_life}
+use Rattle.sim_rules.specs.Fitting.{fits_inside, fits_with}
+use Rattle.sim_workers.specs.Laws.{KeeperSteps}
+use Rattle.sim_workers.specs.Workers.{DrawsNone, WorkersStand}
+use Rattle.sim_keeper.specs.Laws.{CountsAreTold, FailAnswers, PublishAnswers, WalkIsTold}
+use Rattle.sim_keeper.specs.Standing.{HasKeeper}
 use Rattle.schedule_sim.specs.declared.traced.Traced.{Traced}
 use Rattle.schedule_sim.specs.declared.job.Job.{Job}
 use Rattle.schedule_sim.specs.declared.life.Life as sim

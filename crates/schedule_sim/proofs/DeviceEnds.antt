@@ -9,19 +9,19 @@ use Rattle.flusher.specs.declared.keeper.Keeper.{Keeper}
 use Rattle.flusher.specs.Fitting.{Fits}
 use Rattle.flusher.specs.Keeping.{is_walking}
 use Rattle.checkpoint_walk.specs.Walking.{FitsWalking}
-use Rattle.schedules.specs.declared.event.Ending.{Ending}
-use Rattle.schedules.specs.declared.event.Event.{Event}
-use Rattle.schedules.specs.declared.event.Event.TheVariants as event
-use Rattle.schedules.specs.declared.event.Side.{Side}
-use Rattle.schedules.specs.declared.outcome.Outcome.{Outcome}
-use Rattle.schedules.specs.declared.outcome.Outcome.TheVariants as outcome
-use Rattle.schedules.specs.World.{World, Life, LogWork, Resting, Committing, Rotating, Running, gate_after, rests}
-use Rattle.schedules.specs.Fitting.{fits_inside, has_call}
-use Rattle.schedules.specs.After.{after_inside, called, checkpoint_called, failed_or, log_called, running_called, with_files}
-use Rattle.schedule_states.specs.Laws.{KeeperRests}
-use Rattle.schedule_states.specs.Workers.{ConcernsNone}
-use Rattle.keeper_states.specs.Laws.{CheckpointCallIsTold, LogCallIsTold, WalkIsTold}
-use Rattle.keeper_states.specs.Standing.{Answers, HasKeeper, KeeperStands, StandsIn}
+use Rattle.sim_rules.specs.declared.event.Ending.{Ending}
+use Rattle.sim_rules.specs.declared.event.Event.{Event}
+use Rattle.sim_rules.specs.declared.event.Event.TheVariants as event
+use Rattle.sim_rules.specs.declared.event.Side.{Side}
+use Rattle.sim_rules.specs.declared.outcome.Outcome.{Outcome}
+use Rattle.sim_rules.specs.declared.outcome.Outcome.TheVariants as outcome
+use Rattle.sim_rules.specs.World.{World, Life, LogWork, Resting, Committing, Rotating, Running, gate_after, rests}
+use Rattle.sim_rules.specs.Fitting.{fits_inside, has_call}
+use Rattle.sim_rules.specs.After.{after_inside, called, checkpoint_called, failed_or, log_called, running_called, with_files}
+use Rattle.sim_workers.specs.Laws.{KeeperRests}
+use Rattle.sim_workers.specs.Workers.{ConcernsNone}
+use Rattle.sim_keeper.specs.Laws.{CheckpointCallIsTold, LogCallIsTold, WalkIsTold}
+use Rattle.sim_keeper.specs.Standing.{Answers, HasKeeper, KeeperStands, StandsIn}
 use Rattle.schedule_sim.specs.declared.traced.Traced.{Traced}
 use Rattle.schedule_sim.specs.declared.job.Job.{Job}
 use Rattle.schedule_sim.specs.declared.life.Life as sim

@@ -25,18 +25,18 @@ use Rattle.flusher.specs.declared.keeper.Keeper.{Keeper}
 use Rattle.flusher.specs.Fitting.{Fits, StopsFit}
 use Rattle.flusher.specs.Keeping.{is_walking}
 use Rattle.flusher.specs.Rotating.{Logs, StepsLogs, due_of, logs_of}
-use Rattle.schedules.specs.declared.event.Event.TheVariants as event
-use Rattle.schedules.specs.declared.event.Side.{Side}
-use Rattle.schedules.specs.declared.event.Side.TheVariants as side
-use Rattle.schedules.specs.declared.outcome.DeviceCall.{DeviceCall}
-use Rattle.schedules.specs.World.{World, Life}
-use Rattle.schedules.specs.Fitting.{fits, fits_with, has_call}
-use Rattle.schedules.specs.After.{failed, file_of}
-use Rattle.schedules.specs.Cases.{IsPossible, IsThere}
-use Rattle.schedules.specs.Due.{due_file}
-use Rattle.schedules.specs.Laws.{EnteredAsFailed, KnownStands}
-use Rattle.keeper_states.specs.Laws.{CheckpointCallIsTold, LogCallIsTold, WalkIsTold}
-use Rattle.keeper_states.specs.Standing.{KeeperStands}
+use Rattle.sim_rules.specs.declared.event.Event.TheVariants as event
+use Rattle.sim_rules.specs.declared.event.Side.{Side}
+use Rattle.sim_rules.specs.declared.event.Side.TheVariants as side
+use Rattle.sim_rules.specs.declared.outcome.DeviceCall.{DeviceCall}
+use Rattle.sim_rules.specs.World.{World, Life}
+use Rattle.sim_rules.specs.Fitting.{fits, fits_with, has_call}
+use Rattle.sim_rules.specs.After.{failed, file_of}
+use Rattle.sim_rules.specs.Cases.{IsPossible, IsThere}
+use Rattle.sim_rules.specs.Due.{due_file}
+use Rattle.sim_rules.specs.Laws.{EnteredAsFailed, KnownStands}
+use Rattle.sim_keeper.specs.Laws.{CheckpointCallIsTold, LogCallIsTold, WalkIsTold}
+use Rattle.sim_keeper.specs.Standing.{KeeperStands}
 use Rattle.schedule_sim.specs.declared.traced.Traced.{Traced}
 use Rattle.schedule_sim.specs.declared.job.Job.{Job}
 use Rattle.schedule_sim.specs.Calling.{MayCall, is_due}

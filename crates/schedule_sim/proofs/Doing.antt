@@ -1,14 +1,14 @@
 -- What an event did, from its case and from how the life stands after it.
 use Rattle.std.proofs.Common.{◌≡◌, Bool, true, false, Some, MatchBool, refl, sym, ◌∙◌, ap, subst}
 use Rattle.store_layout.specs.Opening.{Opened}
-use Rattle.schedules.specs.declared.event.Event.{Event}
-use Rattle.schedules.specs.declared.outcome.Outcome.{Outcome}
-use Rattle.schedules.specs.declared.outcome.Outcome.TheVariants as outcome
-use Rattle.schedules.specs.World.{World, Life}
-use Rattle.schedules.specs.Fitting.{fits, fits_inside, fits_with}
-use Rattle.schedules.specs.After.{after, after_inside, after_with}
-use Rattle.schedules.specs.Cases.{HappensInside, HappensWith, Meets}
-use Rattle.schedules.specs.Sound.{AnswersLegally}
+use Rattle.sim_rules.specs.declared.event.Event.{Event}
+use Rattle.sim_rules.specs.declared.outcome.Outcome.{Outcome}
+use Rattle.sim_rules.specs.declared.outcome.Outcome.TheVariants as outcome
+use Rattle.sim_rules.specs.World.{World, Life}
+use Rattle.sim_rules.specs.Fitting.{fits, fits_inside, fits_with}
+use Rattle.sim_rules.specs.After.{after, after_inside, after_with}
+use Rattle.sim_rules.specs.Cases.{HappensInside, HappensWith, Meets}
+use Rattle.sim_rules.specs.Sound.{AnswersLegally}
 use Rattle.schedule_sim.specs.declared.life.Life as sim
 use Rattle.schedule_sim.specs.Living.{Did, IsLife}
 

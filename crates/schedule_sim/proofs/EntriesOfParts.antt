@@ -22,8 +22,8 @@ use Rattle.map_model.proofs.MapLaws.{same_gets}
 use Rattle.store_layout.proofs.EntryRows.{rising_from_sorted}
 use Rattle.checkpoint_file.specs.States.{AreKeysOf}
 use Rattle.checkpoint_walk.proofs.Keys.{keys_of_part}
-use Rattle.schedules.specs.declared.outcome.MapEntry.{MapEntry}
-use Rattle.schedules.specs.Cases.{entry_of}
+use Rattle.sim_rules.specs.declared.outcome.MapEntry.{MapEntry}
+use Rattle.sim_rules.specs.Cases.{entry_of}
 
 abbrev Entries : Type 0
 Entries = List (List ℕ × Value)

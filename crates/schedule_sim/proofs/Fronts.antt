@@ -5,12 +5,12 @@ use Rattle.ticket_order.specs.Legality.{history_of}
 use Rattle.one_history.specs.Turns.{record_of}
 use Rattle.store_layout.specs.Opening.{StandsForFront}
 use Rattle.flusher.specs.Fitting.{StopsFit}
-use Rattle.schedules.specs.Laws.{KnownStands}
-use Rattle.schedules.specs.Machine.{whole}
-use Rattle.schedules.specs.Runs.{least_of, most_of}
-use Rattle.schedules.specs.Sound.{AreAbove}
-use Rattle.schedules.specs.World.{World, Life, seen_of, start}
-use Rattle.keeper_states.specs.Laws.{StagedIsTold}
+use Rattle.sim_rules.specs.Laws.{KnownStands}
+use Rattle.sim_rules.specs.Machine.{whole}
+use Rattle.sim_rules.specs.Runs.{least_of, most_of}
+use Rattle.sim_rules.specs.Sound.{AreAbove}
+use Rattle.sim_rules.specs.World.{World, Life, seen_of, start}
+use Rattle.sim_keeper.specs.Laws.{StagedIsTold}
 use Rattle.schedule_sim.specs.declared.life.Life as sim
 use Rattle.schedule_sim.specs.declared.store.Store.{Store}
 use Rattle.schedule_sim.specs.declared.store.Store.TheVariants.{Closed, Open}

@@ -17,19 +17,19 @@ use Rattle.checkpoint_walk.specs.Checkpointing.{call_due}
 use Rattle.flusher.specs.declared.keeper.Keeper.{Keeper}
 use Rattle.flusher.specs.Fitting.{StopsFit}
 use Rattle.flusher.specs.Rotating.{due_of, logs_of}
-use Rattle.schedules.specs.declared.event.Side.{Side}
-use Rattle.schedules.specs.declared.event.Side.TheVariants as side
-use Rattle.schedules.specs.declared.outcome.DeviceCall.{DeviceCall}
-use Rattle.schedules.specs.declared.outcome.DeviceCall.TheVariants as device
-use Rattle.schedules.specs.World.{World, Life}
-use Rattle.schedules.specs.After.{call_of, called, entered, file_of}
-use Rattle.schedules.specs.Cases.{IsDue}
-use Rattle.schedules.specs.Due.{checkpoint_call, due_call, due_file, log_call}
-use Rattle.schedules.specs.Laws.{KnownStands}
-use Rattle.keeper_states.specs.Laws.{CallsAreTold, CheckpointAnswers, CheckpointCallIsTold, FilesAreTold, LogAnswers, LogCallIsTold, StagedIsTold, file_due}
-use Rattle.keeper_states.specs.Promises.{IsMade, TriesCheckpoint, TriesLog}
-use Rattle.keeper_states.specs.Standing.{KeeperStands}
-use Rattle.keeper_states.proofs.SameCall.{known_call}
+use Rattle.sim_rules.specs.declared.event.Side.{Side}
+use Rattle.sim_rules.specs.declared.event.Side.TheVariants as side
+use Rattle.sim_rules.specs.declared.outcome.DeviceCall.{DeviceCall}
+use Rattle.sim_rules.specs.declared.outcome.DeviceCall.TheVariants as device
+use Rattle.sim_rules.specs.World.{World, Life}
+use Rattle.sim_rules.specs.After.{call_of, called, entered, file_of}
+use Rattle.sim_rules.specs.Cases.{IsDue}
+use Rattle.sim_rules.specs.Due.{checkpoint_call, due_call, due_file, log_call}
+use Rattle.sim_rules.specs.Laws.{KnownStands}
+use Rattle.sim_keeper.specs.Laws.{CallsAreTold, CheckpointAnswers, CheckpointCallIsTold, FilesAreTold, LogAnswers, LogCallIsTold, StagedIsTold, file_due}
+use Rattle.sim_keeper.specs.Promises.{IsMade, TriesCheckpoint, TriesLog}
+use Rattle.sim_keeper.specs.Standing.{KeeperStands}
+use Rattle.sim_keeper.proofs.SameCall.{known_call}
 use Rattle.schedule_sim.specs.declared.job.Job.{Job}
 use Rattle.schedule_sim.specs.declared.traced.Traced.{Traced}
 use Rattle.schedule_sim.specs.Calling.{MayCall, call_on, is_sync, number_due}

@@ -13,15 +13,15 @@ use Rattle.one_history.specs.OneHistory.{HoldApart, IsOneHistory, Knows, stripe_
 use Rattle.one_history.specs.Turns.{record_of}
 use Rattle.flusher.specs.declared.keeper.Keeper.{Keeper}
 use Rattle.checkpoint_walk.specs.Walking.{FitsWalking}
-use Rattle.schedules.specs.declared.outcome.Made.{Made}
-use Rattle.schedules.specs.World.{World, Life}
-use Rattle.schedule_states.specs.Doings.{Doing}
-use Rattle.schedule_states.specs.Laws.{FreeIsTold, HeldIsTold}
-use Rattle.schedule_states.specs.Words.{WordsStand}
-use Rattle.schedule_states.specs.Workers.{DrawsNone, KeeperMoves, WorkersStand}
-use Rattle.keeper_states.specs.Laws.{CountsAreTold, FrontIsSeen, PassHolds, StripeIsTold}
-use Rattle.keeper_states.specs.Standing.{KeeperStands, SeesHistory}
-use Rattle.keeper_states.specs.Telling as telling
+use Rattle.sim_rules.specs.declared.outcome.Made.{Made}
+use Rattle.sim_rules.specs.World.{World, Life}
+use Rattle.sim_workers.specs.Doings.{Doing}
+use Rattle.sim_workers.specs.Laws.{FreeIsTold, HeldIsTold}
+use Rattle.sim_workers.specs.Words.{WordsStand}
+use Rattle.sim_workers.specs.Workers.{DrawsNone, KeeperMoves, WorkersStand}
+use Rattle.sim_keeper.specs.Laws.{CountsAreTold, FrontIsSeen, PassHolds, StripeIsTold}
+use Rattle.sim_keeper.specs.Standing.{KeeperStands, SeesHistory}
+use Rattle.sim_keeper.specs.Telling as telling
 use Rattle.schedule_sim.specs.declared.traced.Traced.{Traced}
 use Rattle.schedule_sim.specs.Tracing.{traced_states, traced_honest}
 use Rattle.schedule_sim.specs.Watching.{MakesStep, told_of}

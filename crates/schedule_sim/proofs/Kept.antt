@@ -7,9 +7,9 @@ use Rattle.flusher.specs.declared.keeper.Keeper.{Keeper}
 use Rattle.flusher.specs.Fitting.{Fits}
 use Rattle.flusher.specs.Keeping.{is_walking}
 use Rattle.checkpoint_walk.specs.Walking.{FitsBy}
-use Rattle.schedules.specs.World.{World, Life}
-use Rattle.schedule_states.specs.Workers.{StandWith, WorkersStand}
-use Rattle.keeper_states.specs.Standing.{KeeperStands, StandsIn}
+use Rattle.sim_rules.specs.World.{World, Life}
+use Rattle.sim_workers.specs.Workers.{StandWith, WorkersStand}
+use Rattle.sim_keeper.specs.Standing.{KeeperStands, StandsIn}
 use Rattle.schedule_sim.specs.declared.traced.Traced.{Traced}
 use Rattle.schedule_sim.specs.declared.job.Job.{Job}
 use Rattle.schedule_sim.specs.Tracing.{traced_states, traced_honest}

@@ -9,16 +9,16 @@ use Rattle.store_layout.specs.declared.log_phase.Phase.{Phase}
 use Rattle.flusher.specs.declared.keeper.Keeper.{Keeper}
 use Rattle.flusher.specs.Fitting.{Fits, done_after}
 use Rattle.flusher.specs.Rotating.{due_of, logs_of}
-use Rattle.schedules.specs.declared.event.Ending.TheVariants as ending
-use Rattle.schedules.specs.declared.event.Event.TheVariants as event
-use Rattle.schedules.specs.declared.event.Side.TheVariants as side
-use Rattle.schedules.specs.declared.outcome.DeviceCall.{DeviceCall}
-use Rattle.schedules.specs.declared.outcome.Outcome.TheVariants as outcome
-use Rattle.schedules.specs.After.{file_of}
-use Rattle.schedules.specs.World.{World}
-use Rattle.schedule_states.specs.Laws.{KeeperRests}
-use Rattle.keeper_states.specs.Laws.{CheckpointCallIsTold, LogAnswers, LogCallIsTold, LogFails, WalkIsTold}
-use Rattle.keeper_states.specs.Promises.{IsLost, IsMade, TriesLog}
+use Rattle.sim_rules.specs.declared.event.Ending.TheVariants as ending
+use Rattle.sim_rules.specs.declared.event.Event.TheVariants as event
+use Rattle.sim_rules.specs.declared.event.Side.TheVariants as side
+use Rattle.sim_rules.specs.declared.outcome.DeviceCall.{DeviceCall}
+use Rattle.sim_rules.specs.declared.outcome.Outcome.TheVariants as outcome
+use Rattle.sim_rules.specs.After.{file_of}
+use Rattle.sim_rules.specs.World.{World}
+use Rattle.sim_workers.specs.Laws.{KeeperRests}
+use Rattle.sim_keeper.specs.Laws.{CheckpointCallIsTold, LogAnswers, LogCallIsTold, LogFails, WalkIsTold}
+use Rattle.sim_keeper.specs.Promises.{IsLost, IsMade, TriesLog}
 use Rattle.schedule_sim.specs.declared.traced.Traced.{Traced}
 use Rattle.schedule_sim.specs.declared.life.Life as sim
 use Rattle.schedule_sim.specs.Calling.{MayCall}

@@ -8,7 +8,7 @@ use Rattle.map_types.specs.declared.refusals.Refusal.{Refusal}
 use Rattle.map_types.specs.declared.refusals.Refusal.TheVariants as refusal
 use Rattle.disk_model.specs.Files.{Files, now, synced, with_file}
 use Rattle.recovery.specs.Syncing.{Stopped, SyncsAndLooks, states_synced}
-use Rattle.schedules.specs.After.{syncs_before, synced_below}
+use Rattle.sim_rules.specs.After.{syncs_before, synced_below}
 use Rattle.schedule_sim.specs.Opening.{LastFails, Syncing, Looking}
 
 -- ---- the syncs

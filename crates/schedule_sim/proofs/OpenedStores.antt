@@ -20,17 +20,17 @@ use Rattle.flusher.specs.declared.keeper.Keeper.{Keeper}
 use Rattle.recovery.specs.LogReading.{RefusesFor, contents_of}
 use Rattle.recovery.specs.Opening.{IsOpenedAs}
 use Rattle.recovery.specs.Syncing.{Stopped, SyncsAndLooks}
-use Rattle.schedules.specs.declared.event.Event.TheVariants as event
-use Rattle.schedules.specs.declared.outcome.MapEntry.{MapEntry}
-use Rattle.schedules.specs.declared.outcome.Outcome.{Outcome}
-use Rattle.schedules.specs.declared.outcome.Outcome.TheVariants as outcome
-use Rattle.schedules.specs.Machine.{whole}
-use Rattle.schedules.specs.World.{World, begun_by, seen_of}
-use Rattle.schedules.specs.After.{after, after_with, synced_below, syncs_made, without_life}
-use Rattle.schedules.specs.Cases.{Finds, HappensWith, MayTake, Meets, OpensFiles, entry_of, names_within}
-use Rattle.schedules.specs.Fitting.{fits_with}
-use Rattle.schedules.specs.Laws.{FrontIsFound, StandingFilesOpen}
-use Rattle.schedules.specs.Sound.{IsFront}
+use Rattle.sim_rules.specs.declared.event.Event.TheVariants as event
+use Rattle.sim_rules.specs.declared.outcome.MapEntry.{MapEntry}
+use Rattle.sim_rules.specs.declared.outcome.Outcome.{Outcome}
+use Rattle.sim_rules.specs.declared.outcome.Outcome.TheVariants as outcome
+use Rattle.sim_rules.specs.Machine.{whole}
+use Rattle.sim_rules.specs.World.{World, begun_by, seen_of}
+use Rattle.sim_rules.specs.After.{after, after_with, synced_below, syncs_made, without_life}
+use Rattle.sim_rules.specs.Cases.{Finds, HappensWith, MayTake, Meets, OpensFiles, entry_of, names_within}
+use Rattle.sim_rules.specs.Fitting.{fits_with}
+use Rattle.sim_rules.specs.Laws.{FrontIsFound, StandingFilesOpen}
+use Rattle.sim_rules.specs.Sound.{IsFront}
 use Rattle.schedule_sim.specs.declared.life.Life as sim
 use Rattle.schedule_sim.specs.declared.store.Store.TheVariants.{Closed, Open}
 use Rattle.schedule_sim.specs.declared.traced.Traced.{Traced}

@@ -25,10 +25,10 @@ use Rattle.recovery.specs.Formatting.{AtStops, IsNew}
 use Rattle.store_layout.specs.FirstFiles.{new_files}
 use Rattle.recovery.specs.Dividing.{ArePartsOf}
 use Rattle.recovery.specs.Opening.{IsAtStart}
-use Rattle.schedules.specs.World.{World, start}
-use Rattle.schedule_states.specs.Laws.{LifeBegins}
-use Rattle.keeper_states.specs.Laws.{OpeningStands}
-use Rattle.keeper_states.specs.Standing.{HasKeeper}
+use Rattle.sim_rules.specs.World.{World, start}
+use Rattle.sim_workers.specs.Laws.{LifeBegins}
+use Rattle.sim_keeper.specs.Laws.{OpeningStands}
+use Rattle.sim_keeper.specs.Standing.{HasKeeper}
 use Rattle.schedule_sim.specs.declared.traced.Traced.{Traced}
 use Rattle.schedule_sim.specs.declared.job.Job.{Job}
 use Rattle.schedule_sim.specs.declared.job.Job.TheVariants.{Idle}

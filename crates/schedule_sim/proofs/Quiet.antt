@@ -8,17 +8,17 @@ use Rattle.flusher.specs.declared.keeper.Keeper.{Keeper}
 use Rattle.flusher.specs.Fitting.{Fits}
 use Rattle.flusher.specs.Keeping.{is_walking}
 use Rattle.checkpoint_walk.specs.Walking.{FitsBy, FitsWalking}
-use Rattle.schedules.specs.declared.event.Event.{Event}
-use Rattle.schedules.specs.declared.event.Event.TheVariants as event
-use Rattle.schedules.specs.declared.outcome.Outcome.TheVariants as outcome
-use Rattle.schedules.specs.World.{World, Life, KeeperWalk, Rests, SweepTakes, SweepGives, CaptureLooks, CaptureGives, keeper_holds, rests}
-use Rattle.schedules.specs.After.{checkpoint_begun, seal_begun, with_life}
-use Rattle.schedules.specs.Fitting.{fits, fits_inside, fits_with}
-use Rattle.schedule_states.specs.Laws.{KeeperRests}
-use Rattle.schedule_states.specs.Workers.{ConcernsNone, WorkersStand}
-use Rattle.keeper_states.specs.Laws.{BeginAnswers, SealAnswers, WalkIsTold, begun_as, sealing_as}
-use Rattle.keeper_states.specs.Promises.{TriesBegin, TriesSeal}
-use Rattle.keeper_states.specs.Standing.{Answers, HasKeeper}
+use Rattle.sim_rules.specs.declared.event.Event.{Event}
+use Rattle.sim_rules.specs.declared.event.Event.TheVariants as event
+use Rattle.sim_rules.specs.declared.outcome.Outcome.TheVariants as outcome
+use Rattle.sim_rules.specs.World.{World, Life, KeeperWalk, Rests, SweepTakes, SweepGives, CaptureLooks, CaptureGives, keeper_holds, rests}
+use Rattle.sim_rules.specs.After.{checkpoint_begun, seal_begun, with_life}
+use Rattle.sim_rules.specs.Fitting.{fits, fits_inside, fits_with}
+use Rattle.sim_workers.specs.Laws.{KeeperRests}
+use Rattle.sim_workers.specs.Workers.{ConcernsNone, WorkersStand}
+use Rattle.sim_keeper.specs.Laws.{BeginAnswers, SealAnswers, WalkIsTold, begun_as, sealing_as}
+use Rattle.sim_keeper.specs.Promises.{TriesBegin, TriesSeal}
+use Rattle.sim_keeper.specs.Standing.{Answers, HasKeeper}
 use Rattle.schedule_sim.specs.declared.traced.Traced.{Traced}
 use Rattle.schedule_sim.specs.declared.job.Job.{Job}
 use Rattle.schedule_sim.specs.declared.life.Life as sim

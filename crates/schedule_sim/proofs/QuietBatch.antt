@@ -10,17 +10,17 @@ use Rattle.flusher.specs.declared.keeper.Keeper.{Keeper}
 use Rattle.flusher.specs.Fitting.{Fits}
 use Rattle.flusher.specs.Keeping.{is_walking}
 use Rattle.checkpoint_walk.specs.Walking.{FitsWalking}
-use Rattle.schedules.specs.declared.event.Event.TheVariants as event
-use Rattle.schedules.specs.declared.outcome.Outcome.TheVariants as outcome
-use Rattle.schedules.specs.World.{World, Life, rests}
-use Rattle.schedules.specs.After.{staged_by, with_life}
-use Rattle.schedule_states.specs.Laws.{KeeperRests}
-use Rattle.schedule_states.specs.Words.{IsOfLife, IsTaken}
-use Rattle.schedule_states.specs.Workers.{ConcernsNone, WorkersStand}
-use Rattle.keeper_states.specs.Laws.{StageAnswers, WalkIsTold, staged_as}
-use Rattle.keeper_states.specs.Promises.{TriesStage}
-use Rattle.keeper_states.specs.Standing.{Answers, TellsPlaces}
-use Rattle.schedule_states.specs.Doings.{Doing}
+use Rattle.sim_rules.specs.declared.event.Event.TheVariants as event
+use Rattle.sim_rules.specs.declared.outcome.Outcome.TheVariants as outcome
+use Rattle.sim_rules.specs.World.{World, Life, rests}
+use Rattle.sim_rules.specs.After.{staged_by, with_life}
+use Rattle.sim_workers.specs.Laws.{KeeperRests}
+use Rattle.sim_workers.specs.Words.{IsOfLife, IsTaken}
+use Rattle.sim_workers.specs.Workers.{ConcernsNone, WorkersStand}
+use Rattle.sim_keeper.specs.Laws.{StageAnswers, WalkIsTold, staged_as}
+use Rattle.sim_keeper.specs.Promises.{TriesStage}
+use Rattle.sim_keeper.specs.Standing.{Answers, TellsPlaces}
+use Rattle.sim_workers.specs.Doings.{Doing}
 use Rattle.schedule_sim.specs.declared.traced.Traced.{Traced}
 use Rattle.schedule_sim.specs.declared.job.Job.{Job}
 use Rattle.schedule_sim.specs.declared.life.Life as sim

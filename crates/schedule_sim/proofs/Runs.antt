@@ -5,15 +5,15 @@ use Rattle.std.proofs.Math.Seq.{take-suc}
 use Rattle.std.proofs.lemmas.List.{length-append}
 use Rattle.ticket_order.specs.declared.record.Call.{Call}
 use Rattle.disk_model.specs.Files.{Contents, Leaves}
-use Rattle.schedules.specs.declared.event.Event.{Event}
-use Rattle.schedules.specs.declared.event.Event.TheVariants as event
-use Rattle.schedules.specs.declared.outcome.Outcome.{Outcome}
-use Rattle.schedules.specs.declared.outcome.Outcome.TheVariants as outcome
-use Rattle.schedules.specs.World.{World, Life, start}
-use Rattle.schedules.specs.After.{after}
-use Rattle.schedules.specs.Laws.{LifeGoesOn, NextLifeBegins, RowsGoOn, SoundAtStart, SoundBetweenIsRun, SoundIsRun}
-use Rattle.schedules.specs.Runs.{Row, Happens, IsRun, OpensWell, rows_of, rows_onto, stopped_in}
-use Rattle.schedules.specs.Sound.{AreAbove, IsSound, IsSoundWith, Stays, durable_or, released_by}
+use Rattle.sim_rules.specs.declared.event.Event.{Event}
+use Rattle.sim_rules.specs.declared.event.Event.TheVariants as event
+use Rattle.sim_rules.specs.declared.outcome.Outcome.{Outcome}
+use Rattle.sim_rules.specs.declared.outcome.Outcome.TheVariants as outcome
+use Rattle.sim_rules.specs.World.{World, Life, start}
+use Rattle.sim_rules.specs.After.{after}
+use Rattle.sim_rules.specs.Laws.{LifeGoesOn, NextLifeBegins, RowsGoOn, SoundAtStart, SoundBetweenIsRun, SoundIsRun}
+use Rattle.sim_rules.specs.Runs.{Row, Happens, IsRun, OpensWell, rows_of, rows_onto, stopped_in}
+use Rattle.sim_rules.specs.Sound.{AreAbove, IsSound, IsSoundWith, Stays, durable_or, released_by}
 use Rattle.schedule_sim.specs.declared.store.Store.{Store}
 use Rattle.schedule_sim.specs.declared.store.Store.TheVariants.{Closed, Open}
 use Rattle.schedule_sim.specs.Storing.{DidStore, IsDurable, IsNext, IsStore, StandsNow, StopsWithin}
@@ -24,7 +24,7 @@ use Rattle.schedule_sim.specs.declared.traced.Traced.{Traced}
 use Rattle.schedule_sim.specs.declared.job.Job.{Job}
 use Rattle.flusher.specs.declared.keeper.Keeper.{Keeper}
 use Rattle.one_history.specs.declared.book.Book.{Book}
-use Rattle.schedule_states.specs.Workers.{StandWith, WorkersStand}
+use Rattle.sim_workers.specs.Workers.{StandWith, WorkersStand}
 
 -- After these events and outcomes the store stands against some world, and they lead there soundly.
 pub record IsKept (events : List Event) (outcomes : List Outcome) (store : Store) : Type 0 where

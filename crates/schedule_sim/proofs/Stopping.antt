@@ -11,17 +11,17 @@ use Rattle.one_history.specs.Turns.{record_of}
 use Rattle.disk_model.specs.Files.{Contents, Files, Leaves}
 use Rattle.store_layout.specs.Opening.{StandsForFront}
 use Rattle.store_layout.specs.Standing.{reach}
-use Rattle.store_states.specs.Standing.{StopsStand}
+use Rattle.store_invariant.specs.Standing.{StopsStand}
 use Rattle.flusher.specs.declared.keeper.Keeper.{Keeper}
 use Rattle.flusher.specs.Fitting.{StopsFit}
 use Rattle.checkpoint_walk.specs.Walking.{FitsBy}
-use Rattle.schedules.specs.Machine.{whole}
-use Rattle.schedules.specs.World.{World, Life}
-use Rattle.schedules.specs.Runs.{least_of, most_of, staged_in}
-use Rattle.schedules.specs.Sound.{AreAbove, IsKnownOf}
-use Rattle.schedules.specs.Laws.{KnownStands}
-use Rattle.keeper_states.specs.Laws.{StagedIsTold}
-use Rattle.keeper_states.specs.Standing.{SeesHistory}
+use Rattle.sim_rules.specs.Machine.{whole}
+use Rattle.sim_rules.specs.World.{World, Life}
+use Rattle.sim_rules.specs.Runs.{least_of, most_of, staged_in}
+use Rattle.sim_rules.specs.Sound.{AreAbove, IsKnownOf}
+use Rattle.sim_rules.specs.Laws.{KnownStands}
+use Rattle.sim_keeper.specs.Laws.{StagedIsTold}
+use Rattle.sim_keeper.specs.Standing.{SeesHistory}
 use Rattle.schedule_sim.specs.declared.traced.Traced.{Traced}
 use Rattle.schedule_sim.specs.declared.job.Job.{Job}
 use Rattle.schedule_sim.specs.Tracing.{traced_states, traced_honest}

@@ -4,24 +4,24 @@ use Rattle.store_layout.specs.Opening.{Opened}
 use Rattle.java_hash.specs.declared.stripe_count.StripeCount.{StripeCount}
 use Rattle.disk_model.specs.declared.fill.Fill.{Fill}
 use Rattle.one_history.specs.declared.book.Book.{Book}
-use Rattle.schedules.specs.declared.event.Side.{Side}
-use Rattle.schedules.specs.declared.event.Side.TheVariants as side
-use Rattle.schedules.specs.declared.event.Ending.TheVariants as ending
-use Rattle.schedules.specs.declared.outcome.MapEntry.{MapEntry}
-use Rattle.schedule_states.specs.Doings.{Doing}
-use Rattle.schedule_states.specs.Workers.{StandWith}
+use Rattle.sim_rules.specs.declared.event.Side.{Side}
+use Rattle.sim_rules.specs.declared.event.Side.TheVariants as side
+use Rattle.sim_rules.specs.declared.event.Ending.TheVariants as ending
+use Rattle.sim_rules.specs.declared.outcome.MapEntry.{MapEntry}
+use Rattle.sim_workers.specs.Doings.{Doing}
+use Rattle.sim_workers.specs.Workers.{StandWith}
 use Rattle.schedule_sim.specs.Workers.{doings_of}
 use Rattle.schedule_sim.proofs.Kept.{life_there}
-use Rattle.schedules.specs.declared.event.Event.{Event}
-use Rattle.schedules.specs.declared.event.Event.TheVariants as event
-use Rattle.schedules.specs.declared.outcome.Outcome.{Outcome}
-use Rattle.schedules.specs.declared.outcome.Outcome.TheVariants as outcome
-use Rattle.schedules.specs.World.{World, Life}
-use Rattle.schedules.specs.After.{after}
-use Rattle.schedules.specs.Cases.{HappensInside, HappensWith, Meets}
-use Rattle.schedules.specs.Fitting.{fits, fits_with}
-use Rattle.schedules.specs.Runs.{OpensWell}
-use Rattle.schedules.specs.Sound.{OpensFront}
+use Rattle.sim_rules.specs.declared.event.Event.{Event}
+use Rattle.sim_rules.specs.declared.event.Event.TheVariants as event
+use Rattle.sim_rules.specs.declared.outcome.Outcome.{Outcome}
+use Rattle.sim_rules.specs.declared.outcome.Outcome.TheVariants as outcome
+use Rattle.sim_rules.specs.World.{World, Life}
+use Rattle.sim_rules.specs.After.{after}
+use Rattle.sim_rules.specs.Cases.{HappensInside, HappensWith, Meets}
+use Rattle.sim_rules.specs.Fitting.{fits, fits_with}
+use Rattle.sim_rules.specs.Runs.{OpensWell}
+use Rattle.sim_rules.specs.Sound.{OpensFront}
 use Rattle.schedule_sim.specs.declared.life.Life as sim
 use Rattle.schedule_sim.specs.declared.store.Store.{Store}
 use Rattle.schedule_sim.specs.declared.store.Store.TheVariants.{Closed, Open}

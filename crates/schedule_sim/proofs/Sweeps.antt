@@ -18,21 +18,21 @@ use Rattle.flusher.specs.Keeping.{is_walking}
 use Rattle.flusher.specs.Sweeping.{AfterGive, DrainsStripe, IsHolding, StandsBy, StepsOn, next_kind}
 use Rattle.gate_log.specs.States.{commands_of}
 use Rattle.checkpoint_walk.specs.Walking.{FitsBy, FitsWalking}
-use Rattle.schedules.specs.declared.event.Event.TheVariants as event
-use Rattle.schedules.specs.declared.outcome.End.{End}
-use Rattle.schedules.specs.declared.outcome.End.TheVariants as ends
-use Rattle.schedules.specs.declared.outcome.Made.{Made}
-use Rattle.schedules.specs.declared.outcome.Outcome.TheVariants as outcome
-use Rattle.schedules.specs.World.{World, Life, Sweep, rests, sweep_or}
-use Rattle.schedules.specs.After.{keeper_stepped, places_swept, sweep_begins, sweep_gives, sweep_takes, with_life}
-use Rattle.schedule_states.specs.Laws.{FreeIsTold, HeldIsTold, KeeperSteps}
-use Rattle.schedule_states.specs.Workers as workers
-use Rattle.keeper_states.specs.Laws.{CountsAreTold, FrontIsSeen, NoneTaken, PassHolds, StripeIsTold, SweepAnswers, SweepStepAnswers, SweepTakesNone, SweepTakesOutbox, WalkIsTold}
-use Rattle.keeper_states.specs.Promises.{StepsSweep}
-use Rattle.keeper_states.specs.Showing.{sweep_shown, walk_by, walking_shown}
-use Rattle.keeper_states.specs.Standing.{Answers, KeeperStands}
-use Rattle.keeper_states.specs.Telling as telling
-use Rattle.keeper_states.specs.Telling.{sweep_end}
+use Rattle.sim_rules.specs.declared.event.Event.TheVariants as event
+use Rattle.sim_rules.specs.declared.outcome.End.{End}
+use Rattle.sim_rules.specs.declared.outcome.End.TheVariants as ends
+use Rattle.sim_rules.specs.declared.outcome.Made.{Made}
+use Rattle.sim_rules.specs.declared.outcome.Outcome.TheVariants as outcome
+use Rattle.sim_rules.specs.World.{World, Life, Sweep, rests, sweep_or}
+use Rattle.sim_rules.specs.After.{keeper_stepped, places_swept, sweep_begins, sweep_gives, sweep_takes, with_life}
+use Rattle.sim_workers.specs.Laws.{FreeIsTold, HeldIsTold, KeeperSteps}
+use Rattle.sim_workers.specs.Workers as workers
+use Rattle.sim_keeper.specs.Laws.{CountsAreTold, FrontIsSeen, NoneTaken, PassHolds, StripeIsTold, SweepAnswers, SweepStepAnswers, SweepTakesNone, SweepTakesOutbox, WalkIsTold}
+use Rattle.sim_keeper.specs.Promises.{StepsSweep}
+use Rattle.sim_keeper.specs.Showing.{sweep_shown, walk_by, walking_shown}
+use Rattle.sim_keeper.specs.Standing.{Answers, KeeperStands}
+use Rattle.sim_keeper.specs.Telling as telling
+use Rattle.sim_keeper.specs.Telling.{sweep_end}
 use Rattle.schedule_sim.specs.declared.life.Life as sim
 use Rattle.schedule_sim.specs.declared.traced.Traced.{Traced}
 use Rattle.schedule_sim.specs.Living.{Did, IsLifeOf}

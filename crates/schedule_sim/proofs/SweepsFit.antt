@@ -5,10 +5,10 @@ use Rattle.one_history.specs.declared.book.Book.{Book}
 use Rattle.one_history.specs.Turns.{record_of}
 use Rattle.flusher.specs.declared.keeper.Keeper.{Keeper}
 use Rattle.flusher.specs.Keeping.{is_walking}
-use Rattle.schedules.specs.declared.event.Event.TheVariants as event
-use Rattle.schedules.specs.World.{World}
-use Rattle.schedules.specs.Fitting.{fits, fits_with}
-use Rattle.keeper_states.specs.Laws.{WalkIsTold}
+use Rattle.sim_rules.specs.declared.event.Event.TheVariants as event
+use Rattle.sim_rules.specs.World.{World}
+use Rattle.sim_rules.specs.Fitting.{fits, fits_with}
+use Rattle.sim_keeper.specs.Laws.{WalkIsTold}
 use Rattle.schedule_sim.specs.declared.traced.Traced.{Traced}
 use Rattle.schedule_sim.specs.declared.job.Job.{Job}
 use Rattle.schedule_sim.specs.Tracing.{traced_states}

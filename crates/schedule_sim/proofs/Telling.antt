@@ -16,7 +16,7 @@ use Rattle.flusher.specs.declared.sweeper.Walking.{Walking}
 use Rattle.flusher.specs.declared.sweeper.Walking.TheVariants.{Rests, SweepTakes, SweepGives}
 use Rattle.flusher.specs.Sweeping as sweeping
 use Rattle.checkpoint_walk.specs.Walking as capturing
-use Rattle.schedules.specs.declared.outcome.Made.{Made}
+use Rattle.sim_rules.specs.declared.outcome.Made.{Made}
 use Rattle.one_history.specs.declared.book.Book.{Book}
 use Rattle.schedule_sim.specs.declared.watched.Watched.{Watched}
 use Rattle.schedule_sim.specs.Watching.{IsTold, MakesStep, told_of}

@@ -8,10 +8,10 @@ use Rattle.disk_model.specs.Files.{File, Files, byte_at, now, overwritten, reach
 use Rattle.disk_model.specs.Fills.{bytes_by, torn, within}
 use Rattle.disk_model.specs.Memory.{IsByPlan, LosesWrite, is_short, memory_states, planned_of}
 use Rattle.disk_model.specs.Plans.{due_of, passed}
-use Rattle.schedules.specs.declared.outcome.DeviceCall.{DeviceCall}
-use Rattle.schedules.specs.declared.outcome.DeviceCall.TheVariants as device
-use Rattle.schedules.specs.After.{called, failed}
-use Rattle.schedules.specs.Cases.{IsPossible}
+use Rattle.sim_rules.specs.declared.outcome.DeviceCall.{DeviceCall}
+use Rattle.sim_rules.specs.declared.outcome.DeviceCall.TheVariants as device
+use Rattle.sim_rules.specs.After.{called, failed}
+use Rattle.sim_rules.specs.Cases.{IsPossible}
 use Rattle.schedule_sim.specs.Noting.{CameTo, IsCounted, IsPlanned, IsSameFill, WasLast}
 
 -- ---- the plan

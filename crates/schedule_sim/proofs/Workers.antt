@@ -19,19 +19,19 @@ use Rattle.one_history.specs.OneHistory.{HoldApart, IsOneHistory}
 use Rattle.one_history.specs.Turns.{record_of}
 use Rattle.flusher.specs.declared.keeper.Keeper.{Keeper}
 use Rattle.store_layout.specs.Opening.{Opened}
-use Rattle.schedules.specs.declared.event.Event.{Event}
-use Rattle.schedules.specs.declared.event.Event.TheVariants as event
-use Rattle.schedules.specs.declared.outcome.End.{End}
-use Rattle.schedules.specs.declared.outcome.Made.{Made}
-use Rattle.schedules.specs.declared.outcome.Outcome.{Outcome}
-use Rattle.schedules.specs.declared.outcome.Outcome.TheVariants as outcome
-use Rattle.schedules.specs.World as world
-use Rattle.schedules.specs.After.{after, after_inside, after_with, job_releasing}
-use Rattle.schedule_states.specs.Doings as doings
-use Rattle.schedule_states.specs.Laws.{KeepsStanding, ChangeFits, ReadFits, StepFits, ReleaseFits, ChangeBegins, ReadBegins, ReleaseBegins, CallSteps, CallsLeave, ReleaseSteps, ReleasesLeave, WalksAreUnderWay}
-use Rattle.schedule_states.specs.Workers as states
-use Rattle.keeper_states.specs.Laws.{WorkersLeaveKeeper}
-use Rattle.keeper_states.specs.Standing.{HasKeeper}
+use Rattle.sim_rules.specs.declared.event.Event.{Event}
+use Rattle.sim_rules.specs.declared.event.Event.TheVariants as event
+use Rattle.sim_rules.specs.declared.outcome.End.{End}
+use Rattle.sim_rules.specs.declared.outcome.Made.{Made}
+use Rattle.sim_rules.specs.declared.outcome.Outcome.{Outcome}
+use Rattle.sim_rules.specs.declared.outcome.Outcome.TheVariants as outcome
+use Rattle.sim_rules.specs.World as world
+use Rattle.sim_rules.specs.After.{after, after_inside, after_with, job_releasing}
+use Rattle.sim_workers.specs.Doings as doings
+use Rattle.sim_workers.specs.Laws.{KeepsStanding, ChangeFits, ReadFits, StepFits, ReleaseFits, ChangeBegins, ReadBegins, ReleaseBegins, CallSteps, CallsLeave, ReleaseSteps, ReleasesLeave, WalksAreUnderWay}
+use Rattle.sim_workers.specs.Workers as states
+use Rattle.sim_keeper.specs.Laws.{WorkersLeaveKeeper}
+use Rattle.sim_keeper.specs.Standing.{HasKeeper}
 use Rattle.schedule_sim.specs.declared.traced.Traced.{Traced}
 use Rattle.schedule_sim.specs.declared.job.Job.{Job}
 use Rattle.schedule_sim.specs.declared.job.Job.TheVariants.{Idle, Calling, Waiting, Releasing}

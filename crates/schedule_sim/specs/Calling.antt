@@ -7,9 +7,9 @@ use Rattle.flusher.specs.declared.keeper.Keeper.{Keeper}
 use Rattle.flusher.specs.Keeping.{is_walking}
 use Rattle.flusher.specs.Rotating.{due_of, logs_of}
 use Rattle.checkpoint_walk.specs.Checkpointing.{call_due}
-use Rattle.keeper_states.specs.Laws.{file_due}
-use Rattle.schedules.specs.declared.event.Side.{Side}
-use Rattle.schedules.specs.declared.event.Side.TheVariants as side
+use Rattle.sim_keeper.specs.Laws.{file_due}
+use Rattle.sim_rules.specs.declared.event.Side.{Side}
+use Rattle.sim_rules.specs.declared.event.Side.TheVariants as side
 use Rattle.schedule_sim.specs.declared.traced.Traced.{Traced}
 
 -- the one that is due on this side

@@ -6,15 +6,15 @@ use Rattle.one_history.specs.Turns.{record_of}
 use Rattle.flusher.specs.declared.keeper.Keeper.{Keeper}
 use Rattle.checkpoint_walk.specs.Walking.{FitsWalking}
 use Rattle.store_layout.specs.Opening.{Opened}
-use Rattle.schedules.specs.declared.event.Event.{Event}
-use Rattle.schedules.specs.declared.event.Event.TheVariants as event
-use Rattle.schedules.specs.declared.outcome.Outcome.{Outcome}
-use Rattle.schedules.specs.World.{World}
-use Rattle.schedules.specs.After.{after}
-use Rattle.schedules.specs.Cases.{Meets}
-use Rattle.schedules.specs.Sound.{AnswersLegally}
-use Rattle.schedule_states.specs.Workers.{Stand}
-use Rattle.keeper_states.specs.Standing.{HasKeeper}
+use Rattle.sim_rules.specs.declared.event.Event.{Event}
+use Rattle.sim_rules.specs.declared.event.Event.TheVariants as event
+use Rattle.sim_rules.specs.declared.outcome.Outcome.{Outcome}
+use Rattle.sim_rules.specs.World.{World}
+use Rattle.sim_rules.specs.After.{after}
+use Rattle.sim_rules.specs.Cases.{Meets}
+use Rattle.sim_rules.specs.Sound.{AnswersLegally}
+use Rattle.sim_workers.specs.Workers.{Stand}
+use Rattle.sim_keeper.specs.Standing.{HasKeeper}
 use Rattle.schedule_sim.specs.declared.traced.Traced.{Traced}
 use Rattle.schedule_sim.specs.declared.job.Job.{Job}
 use Rattle.schedule_sim.specs.declared.job.Job.TheVariants.{Idle}

@@ -7,10 +7,10 @@ use Rattle.disk_model.specs.Files.{File, Files, Range, now}
 use Rattle.disk_model.specs.declared.disk.DeviceError.{DeviceError}
 use Rattle.disk_model.specs.declared.fill.Fill.{Fill}
 use Rattle.disk_model.specs.declared.plan.Failure.{Failure}
-use Rattle.schedules.specs.declared.outcome.DeviceCall.{DeviceCall}
-use Rattle.schedules.specs.declared.outcome.DeviceCall.TheVariants as device
-use Rattle.schedules.specs.After.{called, failed}
-use Rattle.schedules.specs.Cases.{IsPossible}
+use Rattle.sim_rules.specs.declared.outcome.DeviceCall.{DeviceCall}
+use Rattle.sim_rules.specs.declared.outcome.DeviceCall.TheVariants as device
+use Rattle.sim_rules.specs.After.{called, failed}
+use Rattle.sim_rules.specs.Cases.{IsPossible}
 use Rattle.schedule_sim.specs.declared.traced.Noted.{Noted}
 
 -- what the call leaves: where it is lost, what the fill says

@@ -7,19 +7,19 @@ use Rattle.flusher.specs.declared.keeper.Keeper.{Keeper}
 use Rattle.recovery.specs.Dividing.{IsDivided}
 use Rattle.recovery.specs.LogReading.{GoesOnFrom}
 use Rattle.store_layout.specs.Opening.{Opened, map_of, newest_of, prefix_of}
-use Rattle.schedules.specs.declared.event.Side.{Side}
-use Rattle.schedules.specs.declared.outcome.DeviceCall.{DeviceCall}
-use Rattle.store_states.specs.Standing.{StopsStand}
-use Rattle.schedules.specs.declared.event.Event.{Event}
-use Rattle.schedules.specs.declared.event.Event.TheVariants as event
-use Rattle.schedules.specs.declared.outcome.Outcome.{Outcome}
-use Rattle.schedules.specs.declared.outcome.Outcome.TheVariants as outcome
-use Rattle.schedules.specs.Machine.{whole}
-use Rattle.schedules.specs.World.{World, Life, begun_by, seen_of}
-use Rattle.schedules.specs.After.{after, entered}
-use Rattle.schedules.specs.Cases.{IsDue, Meets}
-use Rattle.schedules.specs.Runs.{OpensWell}
-use Rattle.schedules.specs.Sound.{AnswersLegally, AreAbove, OpensFront}
+use Rattle.sim_rules.specs.declared.event.Side.{Side}
+use Rattle.sim_rules.specs.declared.outcome.DeviceCall.{DeviceCall}
+use Rattle.store_invariant.specs.Standing.{StopsStand}
+use Rattle.sim_rules.specs.declared.event.Event.{Event}
+use Rattle.sim_rules.specs.declared.event.Event.TheVariants as event
+use Rattle.sim_rules.specs.declared.outcome.Outcome.{Outcome}
+use Rattle.sim_rules.specs.declared.outcome.Outcome.TheVariants as outcome
+use Rattle.sim_rules.specs.Machine.{whole}
+use Rattle.sim_rules.specs.World.{World, Life, begun_by, seen_of}
+use Rattle.sim_rules.specs.After.{after, entered}
+use Rattle.sim_rules.specs.Cases.{IsDue, Meets}
+use Rattle.sim_rules.specs.Runs.{OpensWell}
+use Rattle.sim_rules.specs.Sound.{AnswersLegally, AreAbove, OpensFront}
 use Rattle.schedule_sim.specs.declared.traced.Traced.{Traced}
 use Rattle.schedule_sim.specs.declared.store.Store.{Store}
 use Rattle.schedule_sim.specs.declared.store.Store.TheVariants.{Closed, Open}

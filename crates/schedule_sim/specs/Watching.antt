@@ -3,8 +3,8 @@ use Rattle.std.specs.Prelude.{◌≡◌, ℕ, ◌++◌, ◌∷◌, [], Option, N
 use Rattle.ticket_order.specs.declared.record.StepMade.{StepMade}
 use Rattle.ticket_order.specs.declared.record.StepMade.TheVariants.{Took, FoundHeld, Gave, Drew, Looked, Published, Saw, Failed, FoundAlive}
 use Rattle.ticket_order.specs.Walks.{Kind, Durable, Fail, Take, Give, Ticket, Look, See, Alive, kind_of}
-use Rattle.schedules.specs.declared.outcome.Made.{Made}
-use Rattle.schedules.specs.declared.outcome.Made.TheVariants as told
+use Rattle.sim_rules.specs.declared.outcome.Made.{Made}
+use Rattle.sim_rules.specs.declared.outcome.Made.TheVariants as told
 use Rattle.one_history.specs.declared.book.Book.{Book}
 use Rattle.one_history.specs.Moves.{BookMoves}
 use Rattle.one_history.specs.Turns.{record_of}

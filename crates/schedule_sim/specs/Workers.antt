@@ -4,9 +4,9 @@ use Rattle.ticket_order.specs.declared.held.Released.{Released}
 use Rattle.ticket_order.specs.declared.held.Released.TheVariants as answer
 use Rattle.ticket_order.specs.declared.walk.Stepped.{Stepped}
 use Rattle.ticket_order.specs.declared.walk.Stepped.TheVariants as stepped
-use Rattle.schedules.specs.declared.outcome.End.{End}
-use Rattle.schedules.specs.declared.outcome.End.TheVariants as ends
-use Rattle.schedule_states.specs.Doings.{Doing, Rests, Calls, Waits, Releases}
+use Rattle.sim_rules.specs.declared.outcome.End.{End}
+use Rattle.sim_rules.specs.declared.outcome.End.TheVariants as ends
+use Rattle.sim_workers.specs.Doings.{Doing, Rests, Calls, Waits, Releases}
 use Rattle.schedule_sim.specs.declared.job.Job.{Job}
 use Rattle.schedule_sim.specs.declared.job.Job.TheVariants.{Idle, Calling, Waiting, Releasing}
 

@@ -1,6 +1,6 @@
 //! The store that a schedule begins with.
 ghost use Rattle.std.specs.Prelude.{IfOk};
-ghost use Rattle.schedules.specs.World.{start};
+ghost use Rattle.sim_rules.specs.World.{start};
 ghost use Rattle.schedule_sim.specs.Storing.{IsStore};
 
 use crate::store::Store;

@@ -1,9 +1,9 @@
 //! The device calls of a life's keeper.
 ghost use Rattle.std.specs.Prelude.{◌≡◌, Some, None, false, true, IfOk};
-ghost use Rattle.schedules.specs.World.{World};
-ghost use Rattle.schedules.specs.Fitting.{fits};
-ghost use Rattle.schedules.specs.declared.event.Event.TheVariants as event;
-ghost use Rattle.schedules.specs.declared.event.Side.TheVariants as sides;
+ghost use Rattle.sim_rules.specs.World.{World};
+ghost use Rattle.sim_rules.specs.Fitting.{fits};
+ghost use Rattle.sim_rules.specs.declared.event.Event.TheVariants as event;
+ghost use Rattle.sim_rules.specs.declared.event.Side.TheVariants as sides;
 ghost use Rattle.disk_model.specs.declared.fill.Fill.{Fill as TheFill};
 ghost use Rattle.schedule_sim.specs.Calling.{MayCall, call_on, is_due, is_sync, number_due};
 ghost use Rattle.schedule_sim.specs.Living.{Did, IsLife};
@@ -14,11 +14,11 @@ use crate::traced::Traced;
 use checkpoint_file::CheckpointPhase;
 use checkpoint_walk::{advance, stops_while_capturing};
 use gate_log::Phase;
-use keeper_states::laws::{laws_of_checkpoint_calls, laws_of_log_calls, laws_of_telling};
+use sim_keeper::laws::{laws_of_checkpoint_calls, laws_of_log_calls, laws_of_telling};
 use map_types::Refusal;
-use schedule_states::laws::steps_of_the_keeper;
-use schedules::laws::laws_of_known_histories;
-use schedules::{DeviceCall, Ending, Outcome, Side};
+use sim_workers::laws::steps_of_the_keeper;
+use sim_rules::laws::laws_of_known_histories;
+use sim_rules::{DeviceCall, Ending, Outcome, Side};
 use std::alloc::AllocError;
 use store_layout::{checkpoint_file, log_file};
 

@@ -4,10 +4,10 @@ ghost use Rattle.std.specs.FinMap as finite;
 ghost use Rattle.map_model.specs.Parts.{union_of};
 ghost use Rattle.one_history.specs.Turns.{maps_of};
 ghost use Rattle.recovery.specs.Dividing.{ArePartsOf};
-ghost use Rattle.schedules.specs.Cases.{entry_of};
+ghost use Rattle.sim_rules.specs.Cases.{entry_of};
 
 use atomic_methods::Part;
-use schedules::MapEntry;
+use sim_rules::MapEntry;
 use std::alloc::{AllocError, Global};
 
 // Puts the entries of the part behind the others.

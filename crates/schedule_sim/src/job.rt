@@ -2,7 +2,7 @@
 ghost use Rattle.std.specs.Prelude.{◌≡◌};
 ghost use Rattle.schedule_sim.specs.Workers.{answered_of, called_of, released_of, IsOfCall, IsOfRelease};
 
-use schedules::End;
+use sim_rules::End;
 use ticket_order::{Held, Released, Stepped, Walk};
 
 #[derive(Drop)]

@@ -1,20 +1,20 @@
 //! What the keeper of a life does between its walks and its device calls.
 ghost use Rattle.std.specs.Prelude.{◌≡◌, Some, None, false, true, IfOk};
-ghost use Rattle.keeper_states.specs.Telling.{capture_end, sweep_end};
+ghost use Rattle.sim_keeper.specs.Telling.{capture_end, sweep_end};
 ghost use Rattle.flusher.specs.Keeping.{is_walking};
 ghost use Rattle.ticket_order.specs.declared.walk.Walk.{Walk};
-ghost use Rattle.schedules.specs.World.{World, Life as TheLife};
-ghost use Rattle.schedules.specs.Fitting.{fits, has_call};
-ghost use Rattle.schedules.specs.declared.event.Event.TheVariants as event;
+ghost use Rattle.sim_rules.specs.World.{World, Life as TheLife};
+ghost use Rattle.sim_rules.specs.Fitting.{fits, has_call};
+ghost use Rattle.sim_rules.specs.declared.event.Event.TheVariants as event;
 ghost use Rattle.schedule_sim.specs.Living.{Did, IsLife};
 
 use crate::life::{Life, WORKERS};
 use crate::traced::Traced;
 use checkpoint_walk::{begin, seal};
-use keeper_states::laws::{laws_of_batches, laws_of_counts, laws_of_seals, laws_of_telling};
+use sim_keeper::laws::{laws_of_batches, laws_of_counts, laws_of_seals, laws_of_telling};
 use plain_words::At;
-use schedule_states::laws::steps_of_the_keeper;
-use schedules::Outcome;
+use sim_workers::laws::steps_of_the_keeper;
+use sim_rules::Outcome;
 
 impl Life {
     pub(crate) fn stage(&mut self, most: u32) -> Outcome

@@ -10,11 +10,11 @@ ghost use Rattle.recovery.specs.Opening.{IsAtStart};
 ghost use Rattle.store_layout.specs.Opening.{Opened};
 ghost use Rattle.schedule_sim.specs.Storing.{IsDurable, IsOpening, LiesOn};
 ghost use Rattle.std.specs.Prelude.{List, slice_set};
-ghost use Rattle.schedules.specs.declared.event.Event.TheVariants as event;
+ghost use Rattle.sim_rules.specs.declared.event.Event.TheVariants as event;
 ghost use Rattle.schedule_sim.specs.declared.job.Job.{Job};
 ghost use Rattle.schedule_sim.specs.Tracing.{traced_states, traced_honest};
 ghost use Rattle.schedule_sim.specs.Watching.{MakesStep};
-ghost use Rattle.schedules.specs.World.{World};
+ghost use Rattle.sim_rules.specs.World.{World};
 ghost use Rattle.schedule_sim.specs.Living.{Did, IsLife, IsLifeBut, is_of_life};
 ghost use Rattle.schedule_sim.specs.Workers.{job_of};
 
@@ -25,15 +25,15 @@ use atomic_methods::Part;
 use checkpoint_walk::stops_while_capturing;
 use flusher::Keeper;
 use java_hash::StripeCount;
-use keeper_states::laws::laws_of_lives;
+use sim_keeper::laws::laws_of_lives;
 use map_model::laws::laws_of_parts;
 use map_types::{Command, Read};
 use plain_words::PlainWords;
-use schedule_states::laws::{
+use sim_workers::laws::{
     beginnings_of_lives, beginnings_of_walks, fits_of_workers, steps_of_workers, walks_of_workers,
 };
-use schedules::laws::laws_of_known_histories;
-use schedules::{Event, Made, Outcome};
+use sim_rules::laws::laws_of_known_histories;
+use sim_rules::{Event, Made, Outcome};
 use std::alloc::{AllocError, Global};
 use std::mem;
 use ticket_order::{Stepped, Walk};

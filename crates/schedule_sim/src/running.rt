@@ -1,10 +1,10 @@
 //! Whole schedules.
 ghost use Rattle.std.specs.Prelude.{IfOk};
-ghost use Rattle.schedules.specs.Runs.{IsRun};
+ghost use Rattle.sim_rules.specs.Runs.{IsRun};
 
 use crate::beginning::formatted;
-use schedules::laws::{ends_of_runs, laws_of_runs, steps_between_lives, steps_of_a_life};
-use schedules::{Event, Outcome};
+use sim_rules::laws::{ends_of_runs, laws_of_runs, steps_between_lives, steps_of_a_life};
+use sim_rules::{Event, Outcome};
 use std::alloc::{AllocError, Global};
 
 /// What came of a schedule: the outcome of each event.

@@ -3,11 +3,11 @@ ghost use Rattle.std.specs.Prelude.{◌≡◌, true, false, List, ◌∷◌, [],
 ghost use Rattle.disk_model.specs.Files.{Files, Leaves, now, empty_files};
 ghost use Rattle.disk_model.specs.Memory.{memory_states, planned_of};
 ghost use Rattle.disk_model.specs.Fills.{after_stop, left_by};
-ghost use Rattle.schedules.specs.After.{file_of};
+ghost use Rattle.sim_rules.specs.After.{file_of};
 ghost use Rattle.schedule_sim.specs.Noting.{CameTo, IsCounted, IsPlanned, IsSameFill, IsTied, WasLast, counted_prop, planned_prop, tied_prop};
 
 use disk_model::{DeviceError, Disk, Failure, Fill, MemDisk};
-use schedules::DeviceCall;
+use sim_rules::DeviceCall;
 use std::alloc::{AllocError, Global};
 
 /// A write or a sync, and the fill with which it failed, where that was planned.

@@ -1,11 +1,11 @@
 //! The walks of a life's keeper: its sweeps and its captures, step by step.
 ghost use Rattle.std.specs.Prelude.{◌≡◌, Some, None, false, true, IfOk};
-ghost use Rattle.keeper_states.specs.Telling.{capture_end, sweep_end};
+ghost use Rattle.sim_keeper.specs.Telling.{capture_end, sweep_end};
 ghost use Rattle.flusher.specs.Keeping.{is_walking};
 ghost use Rattle.ticket_order.specs.declared.walk.Walk.{Walk};
-ghost use Rattle.schedules.specs.World.{World, Life as TheLife};
-ghost use Rattle.schedules.specs.Fitting.{fits, has_call};
-ghost use Rattle.schedules.specs.declared.event.Event.TheVariants as event;
+ghost use Rattle.sim_rules.specs.World.{World, Life as TheLife};
+ghost use Rattle.sim_rules.specs.Fitting.{fits, has_call};
+ghost use Rattle.sim_rules.specs.declared.event.Event.TheVariants as event;
 ghost use Rattle.schedule_sim.specs.Living.{Did, IsLife};
 
 use crate::life::{Life, WORKERS};
@@ -13,12 +13,12 @@ use crate::traced::Traced;
 use crate::watched::Watched;
 use checkpoint_walk::capture_step;
 use flusher::Swept;
-use keeper_states::laws::{
+use sim_keeper::laws::{
     laws_of_captures, laws_of_lives, laws_of_sweeps, laws_of_taking, laws_of_telling,
 };
 use map_types::Refusal;
-use schedule_states::laws::{steps_of_the_keeper, words_of_stripes};
-use schedules::{End, Outcome};
+use sim_workers::laws::{steps_of_the_keeper, words_of_stripes};
+use sim_rules::{End, Outcome};
 
 // What a step of a sweep leaves of it.
 fn end_of_sweep(swept: Result<Swept, Refusal>) -> End

@@ -4,7 +4,7 @@ ghost use Rattle.std.specs.Prelude.{◌<◌, length};
 use java_hash::StripeCount;
 use map_types::Command;
 use plain_words::{At, PlainWords};
-use schedules::Made;
+use sim_rules::Made;
 use ticket_order::{Purpose, Steps, Stripe, Ticket};
 
 /// The words, lent to one pass, and the step that it made last.

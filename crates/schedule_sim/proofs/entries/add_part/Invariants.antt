@@ -1,5 +1,5 @@
 use Rattle.std.proofs.Common.{◌≡◌, ◌++◌, map}
-use Rattle.schedules.specs.Cases.{entry_of}
+use Rattle.sim_rules.specs.Cases.{entry_of}
 use Rattle.schedule_sim.proofs.entries.add_part.Given as goal
 
 abbrev pub invariant-loop-key : goal.invariant-loop-key

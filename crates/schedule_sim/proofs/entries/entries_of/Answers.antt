@@ -11,8 +11,8 @@ use Rattle.map_model.specs.Maps.{Map}
 use Rattle.map_model.specs.Parts.{union_of, parts_of}
 use Rattle.atomic_methods.specs.PartState.{PartState}
 use Rattle.one_history.specs.Turns.{maps_of}
-use Rattle.schedules.specs.declared.outcome.MapEntry.{MapEntry}
-use Rattle.schedules.specs.Cases.{entry_of}
+use Rattle.sim_rules.specs.declared.outcome.MapEntry.{MapEntry}
+use Rattle.sim_rules.specs.Cases.{entry_of}
 use Rattle.schedule_sim.proofs.EntriesOfParts.{sorted_is_union}
 use Rattle.schedule_sim.proofs.entries.entries_of.Goals as goal
 

@@ -2,7 +2,7 @@ use Rattle.std.proofs.Common.{◌≡◌, map, take}
 use Rattle.std.specs.List.{flat_map}
 use Rattle.std.specs.FinMap as finite
 use Rattle.one_history.specs.Turns.{maps_of}
-use Rattle.schedules.specs.Cases.{entry_of}
+use Rattle.sim_rules.specs.Cases.{entry_of}
 use Rattle.schedule_sim.proofs.entries.entries_of.Given as goal
 
 abbrev pub invariant-loop-part : goal.invariant-loop-part

@@ -1,5 +1,5 @@
 use Rattle.std.proofs.Common.{take}
-use Rattle.schedules.specs.Laws.{SoundBetweenIsRun, SoundIsRun}
+use Rattle.sim_rules.specs.Laws.{SoundBetweenIsRun, SoundIsRun}
 use Rattle.schedule_sim.proofs.Runs.{AreLaws, IsKept}
 use Rattle.schedule_sim.proofs.running.run.Given as goal
 

@@ -2,7 +2,7 @@ use Rattle.std.proofs.Common.{◌≡◌, map, subst}
 use Rattle.std.specs.FinMap as finite
 use Rattle.map_model.specs.Parts.{union_of}
 use Rattle.one_history.specs.Turns.{maps_of}
-use Rattle.schedules.specs.Cases.{entry_of}
+use Rattle.sim_rules.specs.Cases.{entry_of}
 use Rattle.schedule_sim.proofs.OpenedStores.{opened_did}
 use Rattle.schedule_sim.proofs.store.begun.Goals as goal
 

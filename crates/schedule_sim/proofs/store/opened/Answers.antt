@@ -1,6 +1,6 @@
 use Rattle.std.proofs.Common.{◌≡◌, ℕ, IfOk, Result, Ok, Err, sym, ◌∙◌, ap}
 use Rattle.disk_model.specs.Files.{now}
-use Rattle.schedules.specs.World.{World}
+use Rattle.sim_rules.specs.World.{World}
 use Rattle.schedule_sim.specs.declared.traced.Traced.{Traced}
 use Rattle.schedule_sim.specs.Storing.{IsClosed}
 use Rattle.schedule_sim.specs.Tracing.{traced_states}

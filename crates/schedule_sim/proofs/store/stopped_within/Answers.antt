@@ -1,6 +1,6 @@
 use Rattle.std.proofs.Common.{Some, sym}
-use Rattle.schedules.specs.After.{entered, without_life}
-use Rattle.schedules.specs.declared.event.Event.TheVariants as event
+use Rattle.sim_rules.specs.After.{entered, without_life}
+use Rattle.sim_rules.specs.declared.event.Event.TheVariants as event
 use Rattle.schedule_sim.specs.declared.store.Store.TheVariants.{Open}
 use Rattle.schedule_sim.proofs.Closings.{both_ok, interrupted_lies, stopped_within_did}
 use Rattle.schedule_sim.proofs.Stores.{skipped}

@@ -1,10 +1,10 @@
 use Rattle.std.proofs.Common.{◌≡◌, None, Ok, Some, refl, sym, ◌∙◌, subst}
 use Rattle.one_history.specs.Turns.{record_of}
-use Rattle.keeper_states.specs.Laws.{file_due}
-use Rattle.schedules.specs.After.{file_of}
-use Rattle.schedules.specs.declared.event.Event.TheVariants as event
-use Rattle.schedules.specs.declared.event.Side.TheVariants as side
-use Rattle.schedules.specs.declared.outcome.Outcome.TheVariants as outcome
+use Rattle.sim_keeper.specs.Laws.{file_due}
+use Rattle.sim_rules.specs.After.{file_of}
+use Rattle.sim_rules.specs.declared.event.Event.TheVariants as event
+use Rattle.sim_rules.specs.declared.event.Side.TheVariants as side
+use Rattle.sim_rules.specs.declared.outcome.Outcome.TheVariants as outcome
 use Rattle.schedule_sim.specs.declared.life.Life.{Life}
 use Rattle.schedule_sim.specs.Living.{Did}
 use Rattle.schedule_sim.specs.Noting.{WasLast}

@@ -1,7 +1,7 @@
 use Rattle.std.proofs.Common.{IfOk, not, sym, ◌∙◌, ap, subst}
 use Rattle.disk_model.specs.declared.fill.Fill.TheVariants.{New}
-use Rattle.schedules.specs.declared.event.Event.TheVariants as event
-use Rattle.schedules.specs.World.{World}
+use Rattle.sim_rules.specs.declared.event.Event.TheVariants as event
+use Rattle.sim_rules.specs.World.{World}
 use Rattle.schedule_sim.specs.Living.{Did, IsLife}
 use Rattle.schedule_sim.proofs.CheckpointEnds.{broken_refuses, due_can, none_skip, walks_on}
 use Rattle.schedule_sim.proofs.Devices.{told_fits}

@@ -1,6 +1,6 @@
 use Rattle.std.proofs.Common.{◌∙◌, Err, ap, inl, inr, refl, subst}
 use Rattle.one_history.specs.Turns.{record_of}
-use Rattle.keeper_states.specs.Promises.{StepsCapture}
+use Rattle.sim_keeper.specs.Promises.{StepsCapture}
 use Rattle.schedule_sim.specs.Tracing.{traced_states, traced_honest}
 use Rattle.schedule_sim.proofs.CapturesMade.{Laws, StepsCaptureOn, begin_did, refuse_did, refused, step_did, steps_at, steps_on, was_made}
 use Rattle.schedule_sim.proofs.life.Life.step_capture.Goals as goal

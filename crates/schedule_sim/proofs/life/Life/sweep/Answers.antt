@@ -1,5 +1,5 @@
 use Rattle.std.proofs.Common.{not, ◌∙◌, ap}
-use Rattle.schedules.specs.declared.event.Event.TheVariants as event
+use Rattle.sim_rules.specs.declared.event.Event.TheVariants as event
 use Rattle.schedule_sim.proofs.Doing.{did_skip}
 use Rattle.schedule_sim.proofs.Kept.{rests}
 use Rattle.schedule_sim.proofs.SweepsFit.{sweep_fits}

@@ -1,9 +1,9 @@
 use Rattle.std.proofs.Common.{◌≡◌, IfSome, Option, None, Some, false, sym, ◌∙◌, ap, subst}
 use Rattle.one_history.specs.Turns.{record_of}
 use Rattle.flusher.specs.Rotating.{logs_of}
-use Rattle.schedules.specs.declared.event.Side.TheVariants as side
-use Rattle.schedules.specs.After.{file_of}
-use Rattle.schedules.specs.World.{World}
+use Rattle.sim_rules.specs.declared.event.Side.TheVariants as side
+use Rattle.sim_rules.specs.After.{file_of}
+use Rattle.sim_rules.specs.World.{World}
 use Rattle.schedule_sim.specs.declared.life.Life.{Life}
 use Rattle.schedule_sim.specs.Calling.{MayCall, call_on, is_sync, number_due}
 use Rattle.schedule_sim.specs.Living.{IsLife}

@@ -1,5 +1,5 @@
 use Rattle.std.proofs.Common.{refl}
-use Rattle.schedules.specs.declared.event.Event.TheVariants as event
+use Rattle.sim_rules.specs.declared.event.Event.TheVariants as event
 use Rattle.schedule_sim.proofs.Closings.{stopped_if}
 use Rattle.schedule_sim.proofs.store.Store.stop.Goals as goal
 

@@ -2,8 +2,8 @@ use Rattle.std.proofs.Common.{◌≡◌, List, ◌∷◌, sym, ◌∙◌, subst,
 use Rattle.disk_model.specs.Files.{Files, now}
 use Rattle.disk_model.specs.Memory.{memory_states, planned_of}
 use Rattle.disk_model.specs.Plans.{passed}
-use Rattle.schedules.specs.declared.outcome.DeviceCall.TheVariants as device
-use Rattle.schedules.specs.Cases.{IsPossible}
+use Rattle.sim_rules.specs.declared.outcome.DeviceCall.TheVariants as device
+use Rattle.sim_rules.specs.Cases.{IsPossible}
 use Rattle.schedule_sim.specs.Noting.{IsPlanned}
 use Rattle.schedule_sim.proofs.TracedCalls.{HasOneMore, came, counted_on, either_way, still_planned, uses_plan, where_err, where_ok}
 use Rattle.schedule_sim.proofs.traced.TracedDisk.sync.Goals as goal

@@ -4,8 +4,8 @@ use Rattle.disk_model.specs.declared.fill.Fill.{Fill}
 use Rattle.disk_model.specs.Fills.{torn}
 use Rattle.disk_model.specs.Memory.{is_short, memory_states, planned_of}
 use Rattle.disk_model.specs.Plans.{due_of, passed}
-use Rattle.schedules.specs.declared.outcome.DeviceCall.TheVariants as device
-use Rattle.schedules.specs.Cases.{IsPossible}
+use Rattle.sim_rules.specs.declared.outcome.DeviceCall.TheVariants as device
+use Rattle.sim_rules.specs.Cases.{IsPossible}
 use Rattle.schedule_sim.specs.Noting.{IsPlanned}
 use Rattle.schedule_sim.proofs.TracedCalls.{HasOneMore, came, counted_on, either_way, still_planned, uses_plan, where_err, where_ok, write_lost}
 use Rattle.schedule_sim.proofs.traced.TracedDisk.write_at.Goals as goal

@@ -1,5 +1,0 @@
-use Rattle.std.proofs.Common.{refl, arith}
-use Rattle.bin_tests.proofs.tables.eight_bins.Goals as goal
-
-pub new-requires : goal.new-requires
-new-requires c = record { exponent = 3; power = refl; within = omega arith }

@@ -1,0 +1,42 @@
+-- What the words of `dchm call` ask for, and what came of it.
+use Rattle.std.specs.Prelude.{◌≡◌, ◌⊎◌, ℕ, Bool, true, false, List, [], ◌∷◌, None, Some, Result, MatchResult, codes}
+use Rattle.std.specs.Str.{bytes_eq}
+use Rattle.call_text.specs.Names.{Text}
+use Rattle.call_text.specs.Whole.{parse_words}
+use Rattle.cmd_text.specs.Naming.{IsNamed, IsPort}
+use Rattle.cmd_call.specs.Client.{CallsServer, IsNoPort, Known, PrintsMisuse}
+use Rattle.cmd_call.specs.Lines.{Ends}
+use Rattle.cmd_call.specs.Inputs.{AnswersInput}
+use Rattle.cmd_call.specs.declared.rounds.Stop.{Stop}
+
+-- `-` alone asks for the lines of the input
+abbrev pub asks_lines : List Text → Bool
+asks_lines [] = false
+asks_lines (word ∷ []) = bytes_eq word (codes "-")
+asks_lines (word ∷ next ∷ words) = false
+
+-- IsConnected says of a reader and a writer that they are the ends of a new connection to a port.
+module _ {R W : Type 0} (remaining : R → Known) (contents : W → Known) (IsConnected : ℕ → R → W → Type 0) where
+  -- a new connection to the port; or none, if no server can be reached
+  abbrev pub Connects : ℕ → Ends → Type 0
+  Connects port None = Unit {0}
+  Connects port (Some ends) = (reader : R) × (writer : W) × IsConnected port reader writer × (ends ≡ (remaining reader, contents writer))
+
+  -- the lines of the input were answered over such a connection; where memory, the input or the output failed, the status is 1
+  pub record AnswersAt (port : ℕ) (i0 i1 o0 o1 : Known) (status : ℕ) : Type 0 where
+    pub ends : Ends
+    pub result : Result ℕ Stop
+    pub connects : Connects port ends
+    pub answers : AnswersInput i0 i1 ends o0 o1 result
+    pub status_is : MatchResult result (λ first. status ≡ first) (λ stop. status ≡ 1)
+
+  -- Where the port is none, nothing is read or printed, with status 2.
+  abbrev pub CallsLines : List ℕ → Known → Known → Known → Known → ℕ → Type 0
+  CallsLines word i0 i1 o0 o1 status =
+      (IsNoPort word × (i1 ≡ i0) × PrintsMisuse o0 o1 status)
+      ⊎ ((port : ℕ) × IsNamed IsPort word (Some port) × AnswersAt port i0 i1 o0 o1 status)
+
+  -- for one call nothing is read of the input
+  pub record MakesCalls (word : List ℕ) (words : List Text) (i0 i1 o0 o1 : Known) (status : ℕ) : Type 0 where
+    pub lines : asks_lines words ≡ true → CallsLines word i0 i1 o0 o1 status
+    pub one : asks_lines words ≡ false → (i1 ≡ i0) × CallsServer remaining contents IsConnected word (parse_words words) o0 o1 status

@@ -1,0 +1,75 @@
+//! The calls that the words of `dchm call` ask for: one, or one for each line of the input.
+ghost use Rattle.std.specs.Prelude.{◌≡◌, map};
+ghost use Rattle.cmd_call.specs.Calling.{CallsLines, MakesCalls, asks_lines};
+
+use crate::client::{NO_PORT, call};
+use crate::input::answer_input;
+use crate::rounds::Stop;
+use crate::servers::Servers;
+use cmd_text::{MISUSED, break_off, port_named, refuse, say};
+use map_types::Refusal;
+use std::alloc::Global;
+use std::io::{Read, Write};
+
+/// Makes a call of the server at the port of this machine for each line of the input, and prints a
+/// line for each on `output`, in the same order: the reply; `refused` and the refusal; `misuse` and
+/// what is wrong with the line, which isn't sent; or `no reply`. Up to 64 lines in hand are asked
+/// together, over one connection. Once that is lost, each further call has no reply.
+///
+/// The status is that of the first line that isn't a reply: 2 for misuse, and else 1. It is 0 if all
+/// are replies. If memory, the input or the output fails, it is 1, and `error` says which.
+pub fn call_lines<M: Servers, I: Read, W: Write, E: Write>(
+    machine: &M,
+    alloc: Global,
+    port: &str,
+    input: &mut I,
+    output: &mut W,
+    error: &mut E,
+) -> u8
+    ensures { CallsLines M.Reader.remaining M.Writer.contents M.is_connected port.now
+        (I.remaining input.old) (I.remaining input.new)
+        (W.contents output.old) (W.contents output.new) result }
+{
+    let Some(port) = port_named(port) else {
+        say(error, NO_PORT);
+        return MISUSED;
+    };
+    let mut server = machine.connect_to(port).ok();
+    match answer_input(alloc, &mut server, input, output) {
+        Ok(status) => status,
+        Err(Stop::NoMemory) => refuse(alloc, Refusal::NoMemory, error),
+        Err(Stop::Broken) => break_off(error),
+    }
+}
+
+/// Whether the words ask for the lines of the input.
+fn asks_lines(words: &[&str]) -> bool
+    ensures { result ≡ asks_lines (map (λ word. word.now) words.now) }
+{
+    match words {
+        [word] => *word == "-",
+        _ => false,
+    }
+}
+
+/// Makes the call of these words; with `-` alone, those of the lines of the input.
+pub fn make_calls<M: Servers, I: Read, W: Write, E: Write>(
+    machine: &M,
+    alloc: Global,
+    port: &str,
+    words: &[&str],
+    input: &mut I,
+    output: &mut W,
+    error: &mut E,
+) -> u8
+    ensures { MakesCalls M.Reader.remaining M.Writer.contents M.is_connected
+        port.now (map (λ word. word.now) words.now)
+        (I.remaining input.old) (I.remaining input.new)
+        (W.contents output.old) (W.contents output.new) result }
+{
+    if asks_lines(words) {
+        call_lines(machine, alloc, port, input, output, error)
+    } else {
+        call(machine, alloc, port, words, output, error)
+    }
+}

@@ -1,0 +1,16 @@
+use Rattle.std.proofs.Common.{◌≡◌}
+use Rattle.flusher.specs.Fitting.{HasSeenMore, IsQuiet}
+use Rattle.cmd_mem.specs.Served.{IsIdle, IsKept}
+use Rattle.cmd_mem.proofs.committing.commit_in_time.Given as goal
+
+abbrev pub invariant-loop-turn : goal.invariant-loop-turn
+invariant-loop-turn g l = record {
+  next : (goal.iterator-loop-turn g).can_next l._turn-iterator;
+  finite : (goal.iterator-loop-turn g).is_finite l._turn-iterator;
+  idle : IsIdle l.keeper;
+  kept : IsKept g.D.Disk.states g.D.Disk.honest (g.S.Steps.stripe_count l.steps) l.keeper (g.S.Steps.recorded l.steps);
+  quiet : IsQuiet (g.S.Steps.recorded l.initial.steps) (g.S.Steps.recorded l.steps);
+  seen : HasSeenMore (g.S.Steps.recorded l.initial.steps) (g.S.Steps.recorded l.steps);
+  place : g.S.Steps.place l.steps ≡ g.S.Steps.place l.initial.steps;
+  stripes : g.S.Steps.stripe_count l.steps ≡ g.S.Steps.stripe_count l.initial.steps;
+}

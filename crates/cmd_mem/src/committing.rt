@@ -1,0 +1,181 @@
+//! What commits calls that were begun, and gives their replies out.
+ghost use Rattle.std.specs.Prelude.{◌≡◌, ◌≢◌, ◌≤◌, IfOk, IfErr, OnOk, OnErr, ℕ, None, false, true};
+ghost use Rattle.ticket_order.specs.declared.record.Record.{Record};
+ghost use Rattle.gate_log.specs.States.{IsResting, log_after};
+ghost use Rattle.flusher.specs.Fitting.{HasSeenMore, IsQuiet};
+ghost use Rattle.flusher.specs.Keeping.{is_walking};
+ghost use Rattle.cmd_mem.specs.Served.{AreTaken, CannotCommit, IsCommitted, IsGivenOut, IsIdle, IsKept, IsWithheld};
+
+use disk_model::Disk;
+use flusher::{Keeper, committed_were_taken, pass_goes_on, runs_were_taken};
+use gate_log::Phase;
+use map_types::{Refusal, Reply};
+use std::sync::Wait;
+use ticket_order::{Held, Position, Released, Steps, release};
+
+/// The longest batch.
+const MOST_COMMANDS: u32 = 65_536;
+
+/// Makes the device call that is due in the log.
+fn advance<D: Disk>(keeper: &mut Keeper<D>) -> Result<(), Refusal>
+    requires working { keeper.old.is_broken ≡ false }
+    requires alone { keeper.old.next ≡ None }
+    requires due { keeper.old.log.phase ≢ Phase.Idle }
+    requires kept { (n : ℕ) × (p : Record) × IsKept D.states D.honest n keeper.old p }
+    ensures ok { OnOk result
+        ((keeper.new.log ≡ log_after keeper.old.log.phase keeper.old.log)
+        × (keeper.new.is_broken ≡ false)) }
+    ensures err { OnErr result (keeper.new.log.is_broken ≡ true) }
+    ensures alone { keeper.new.next ≡ None }
+    ensures kept { (n : ℕ) (p : Record) → IsKept D.states D.honest n keeper.old p
+        → IsKept D.states D.honest n keeper.new p }
+    ensures walking { keeper.new.sweeper.walking ≡ keeper.old.sweeper.walking }
+    ensures has_failed { keeper.new.has_failed ≡ keeper.old.has_failed }
+{
+    let _phase = keeper.advance()?;
+    Ok(())
+}
+
+/// Makes the four device calls of the batch that is staged.
+fn commit_staged<D: Disk>(keeper: &mut Keeper<D>) -> Result<(), Refusal>
+    requires staged { keeper.old.log.phase ≡ Phase.Staged }
+    requires ends { keeper.old.log.ending ≡ None }
+    requires working { keeper.old.is_broken ≡ false }
+    requires alone { keeper.old.next ≡ None }
+    requires kept { (n : ℕ) × (p : Record) × IsKept D.states D.honest n keeper.old p }
+    ensures ok { OnOk result (IsResting keeper.new.log × (keeper.new.is_broken ≡ false)) }
+    ensures err { OnErr result (keeper.new.log.is_broken ≡ true) }
+    ensures alone { keeper.new.next ≡ None }
+    ensures kept { (n : ℕ) (p : Record) → IsKept D.states D.honest n keeper.old p
+        → IsKept D.states D.honest n keeper.new p }
+    ensures walking { keeper.new.sweeper.walking ≡ keeper.old.sweeper.walking }
+    ensures has_failed { keeper.new.has_failed ≡ keeper.old.has_failed }
+{
+    advance(keeper)?;
+    advance(keeper)?;
+    advance(keeper)?;
+    advance(keeper)
+}
+
+/// Commits the longest batch of what is in hand. Where there is none, or no memory is found, nothing is
+/// committed.
+fn commit_some<D: Disk>(keeper: &mut Keeper<D>) -> Result<(), Refusal>
+    requires idle { IsIdle keeper.old }
+    requires kept { (n : ℕ) × (p : Record) × IsKept D.states D.honest n keeper.old p }
+    ensures ok { OnOk result (IsIdle keeper.new) }
+    ensures err { (n : ℕ) (p : Record) → IsKept D.states D.honest n keeper.old p
+        → OnErr result (CannotCommit keeper.new.log p) }
+    ensures kept { (n : ℕ) (p : Record) → IsKept D.states D.honest n keeper.old p
+        → IsKept D.states D.honest n keeper.new p }
+    ensures walking { keeper.new.sweeper.walking ≡ keeper.old.sweeper.walking }
+{
+    runs_were_taken(keeper);
+    match keeper.stage_batch(MOST_COMMANDS) {
+        Ok(count) => {
+            if count == 0 {
+                return Ok(());
+            }
+            commit_staged(keeper)
+        }
+        Err(refusal) => {
+            if refusal == Refusal::NoMemory {
+                return Ok(());
+            }
+            Err(refusal)
+        }
+    }
+}
+
+/// Sweeps and commits until all tickets below the position are committed.
+fn commit_in_time<S: Steps, D: Disk, R: Wait>(
+    rt: &R,
+    steps: &mut S,
+    keeper: &mut Keeper<D>,
+    position: Position,
+) -> Result<(), Refusal>
+    requires idle { IsIdle keeper.old }
+    requires kept { IsKept D.states D.honest (S.stripe_count steps.old) keeper.old
+        (S.recorded steps.old) }
+    ensures ok { OnOk result (IsIdle keeper.new × (position ≤ keeper.new.log.committed)) }
+    ensures err { OnErr result
+        (CannotCommit keeper.new.log (S.recorded steps.new)
+        × (is_walking keeper.new.sweeper.walking ≡ false)) }
+    ensures kept { IsKept D.states D.honest (S.stripe_count steps.new) keeper.new
+        (S.recorded steps.new) }
+    ensures quiet { IsQuiet (S.recorded steps.old) (S.recorded steps.new) }
+    ensures seen { HasSeenMore (S.recorded steps.old) (S.recorded steps.new) }
+    ensures place { S.place steps.new ≡ S.place steps.old }
+    ensures stripes { S.stripe_count steps.new ≡ S.stripe_count steps.old }
+{
+    for _turn in rt.forever() {
+        if position.number() <= keeper.committed() {
+            return Ok(());
+        }
+        let _swept = keeper.sweep(rt, steps);
+        commit_some(keeper)?;
+    }
+    unreachable!()
+}
+
+/// Commits all tickets below the position, and publishes them. Where they can't be committed, the
+/// pass makes a FAIL.
+fn make_durable<S: Steps, D: Disk, R: Wait>(
+    rt: &R,
+    steps: &mut S,
+    keeper: &mut Keeper<D>,
+    position: Position,
+) -> Result<(), Refusal>
+    requires idle { IsIdle keeper.old }
+    requires kept { IsKept D.states D.honest (S.stripe_count steps.old) keeper.old
+        (S.recorded steps.old) }
+    ensures ok { OnOk result
+        (IsIdle keeper.new × IsCommitted position (S.recorded steps.old) (S.recorded steps.new)
+        keeper.new.log) }
+    ensures taken { OnOk result (AreTaken position (S.recorded steps.old) (S.recorded steps.new)) }
+    ensures err { IfErr result (λ refusal. (refusal ≡ Refusal.Failed)
+        × IsWithheld (S.recorded steps.old) (S.recorded steps.new) keeper.new.log) }
+    ensures kept { IsKept D.states D.honest (S.stripe_count steps.new) keeper.new
+        (S.recorded steps.new) }
+    ensures place { S.place steps.new ≡ S.place steps.old }
+    ensures stripes { S.stripe_count steps.new ≡ S.stripe_count steps.old }
+{
+    match commit_in_time(rt, steps, keeper, position) {
+        Ok(()) => {
+            committed_were_taken(keeper);
+            keeper.publish(steps);
+            Ok(())
+        }
+        Err(_refusal) => {
+            keeper.fail(steps);
+            Err(Refusal::Failed)
+        }
+    }
+}
+
+/// Gives the reply of a call that was made out, once its position is committed and published: a SEE
+/// finds no less than what its own pass has published.
+pub(crate) fn give_out<S: Steps, D: Disk, R: Wait>(
+    rt: &R,
+    steps: &mut S,
+    keeper: &mut Keeper<D>,
+    held: Held,
+) -> Result<Reply, Refusal>
+    requires idle { IsIdle keeper.old }
+    requires kept { IsKept D.states D.honest (S.stripe_count steps.old) keeper.old
+        (S.recorded steps.old) }
+    ensures ok { IfOk result (λ reply. (reply ≡ held.reply) × IsIdle keeper.new
+        × IsGivenOut held.position (S.recorded steps.old) (S.recorded steps.new) keeper.new.log) }
+    ensures err { IfErr result (λ refusal. (refusal ≡ Refusal.Failed)
+        × IsWithheld (S.recorded steps.old) (S.recorded steps.new) keeper.new.log) }
+    ensures kept { IsKept D.states D.honest (S.stripe_count steps.new) keeper.new
+        (S.recorded steps.new) }
+    ensures place { S.place steps.new ≡ S.place steps.old }
+    ensures stripes { S.stripe_count steps.new ≡ S.stripe_count steps.old }
+{
+    make_durable(rt, steps, keeper, held.position())?;
+    pass_goes_on(keeper);
+    match release(steps, held) {
+        Released::Reply(_, reply) => Ok(reply),
+        Released::NotYet(_) | Released::Failed => unreachable!(),
+    }
+}

@@ -1,0 +1,15 @@
+use Rattle.std.proofs.Common.{inl, inr, refl}
+use Rattle.cmd_serve.proofs.server.serve.Goals as goal
+
+pub returns-in-Ok-first_error : goal.returns-in-Ok-first_error
+returns-in-Ok-first_error g c = inl (record {
+  settings = c.in-Ok.settings;
+  named = c.in-Ok.ensures.ok;
+  ends = inl (record { disk = c.in-Ok-create_files.disk; opened = c.in-Ok-create_files.ensures; hosts = c.serve_disk.ensures });
+})
+
+pub returns-in-Err-first_error : goal.returns-in-Err-first_error
+returns-in-Err-first_error g c = inl (record { settings = c.in-Ok.settings; named = c.in-Ok.ensures.ok; ends = inr (refl, c.refuse.ensures) })
+
+pub returns-in-Err-create_files : goal.returns-in-Err-create_files
+returns-in-Err-create_files g c = inl (record { settings = c.in-Ok.settings; named = c.in-Ok.ensures.ok; ends = inr (refl, c.cannot_open.ensures) })

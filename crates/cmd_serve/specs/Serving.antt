@@ -1,0 +1,159 @@
+-- What a worker's calls leave of the record of its pass, and what serving a directory prints.
+use Rattle.std.specs.Prelude.{◌≡◌, ◌⊎◌, ℕ, List, [], ◌∷◌, ◌++◌, Option, Result, Ok, Err, codes, decimal}
+use Rattle.map_types.specs.declared.refusals.Refusal.{Refusal}
+use Rattle.disk_model.specs.Files.{Files}
+use Rattle.ticket_order.specs.declared.record.Record.{Record}
+use Rattle.ticket_order.specs.declared.record.Asked.{Asked}
+use Rattle.ticket_order.specs.declared.record.Asked.TheVariants.{Changing, Reading}
+use Rattle.stripe_locks.specs.Holding.{IsHeldAt}
+use Rattle.stripe_locks.specs.declared.held.Held.{Held}
+use Rattle.durable_map.specs.Durable.{Begins, CompletesAmong, Finishes}
+use Rattle.store_layout.specs.Opening.{Opened, Holds}
+use Rattle.recovery.specs.LogReading.{contents_of}
+use Rattle.recovery.specs.Syncing.{SyncsAndLooks}
+use Rattle.wire_frames.specs.declared.requests.Bulk.{Bulk}
+use Rattle.wire_frames.specs.declared.requests.Request.{Request}
+use Rattle.wire_frames.specs.declared.requests.Request.TheVariants as request
+use Rattle.connections.specs.Dialogue.{Answer}
+use Rattle.cmd_text.specs.Printing.{PrintsAtMost, PrintsNothing}
+use Rattle.cmd_directory.specs.Directory.{IsNotOpened}
+use Rattle.cmd_serve.specs.Settings.{AreNamed}
+use Rattle.cmd_serve.specs.WholeMap.{CompletesBulk}
+use Rattle.cmd_serve.specs.declared.begun.Begun.{Begun}
+use Rattle.cmd_serve.specs.declared.begun.Begun.TheVariants as begun
+use Rattle.cmd_serve.specs.declared.server.ServerWords.{ServerWords}
+use Rattle.cmd_serve.specs.declared.server.Settings.{Settings}
+
+-- ---- a worker
+
+-- a worker: the stripes of its map, the name of the map's shared words, and the record of its pass
+pub record WorkerState : Type 0 where
+  pub stripes : ℕ
+  pub words : List ℕ
+  pub pass : Record
+
+-- it is a worker of the same map
+pub record IsSameWorker (before after : WorkerState) : Type 0 where
+  pub stripes : after.stripes ≡ before.stripes
+  pub words : after.words ≡ before.words
+
+-- what is held is a reply of the worker's map, or a request of the whole map
+abbrev pub Owns : WorkerState → Begun → Type 0
+Owns worker (begun.Call number held) = IsHeldAt worker.words held
+Owns worker (begun.View number bulk) = Unit {0}
+
+-- ---- a request that is begun
+
+-- a change or a read was begun so on the record of a pass: its call was made, and its reply is held
+abbrev pub BeginsCall : Record → Asked → Result Begun Refusal → Record → Type 0
+BeginsCall v asked (Ok (begun.Call number held)) w = Begins v asked (Ok held) w
+BeginsCall v asked (Ok (begun.View number bulk)) w = ⊥
+BeginsCall v asked (Err refusal) w = Begins v asked (Err refusal) w
+
+-- a request of the whole map is held as it is, and nothing else is done
+abbrev pub HoldsBulk : Record → Bulk → Result Begun Refusal → Record → Type 0
+HoldsBulk v bulk (Ok (begun.Call number held)) w = ⊥
+HoldsBulk v bulk (Ok (begun.View number kept)) w = (kept ≡ bulk) × (w ≡ v)
+HoldsBulk v bulk (Err refusal) w = ⊥
+
+abbrev pub BeginsRequest : Record → Request → Result Begun Refusal → Record → Type 0
+BeginsRequest v (request.Change command) result w = BeginsCall v (Changing command) result w
+BeginsRequest v (request.Read read) result w = BeginsCall v (Reading read) result w
+BeginsRequest v (request.Bulk bulk) result w = HoldsBulk v bulk result w
+
+-- a request was begun so, or refused, and led from one state of the worker to another
+pub record Began (before : WorkerState) (request : Request) (result : Result Begun Refusal) (after : WorkerState) : Type 0 where
+  pub same : IsSameWorker before after
+  pub begins : BeginsRequest before.pass request result after.pass
+
+-- ---- a request that was begun
+
+-- What is held was answered so over n stripes: a reply is given out as the durable map says, and a view is taken for a request of the whole map.
+abbrev pub FinishesRequest : ℕ → Record → Begun → Answer → Record → Type 0
+FinishesRequest n v (begun.Call number held) answer w = Finishes v held answer w
+FinishesRequest n v (begun.View number bulk) answer w = CompletesBulk n v bulk answer w
+
+-- a request that was begun was answered so, and led from one state of the worker to another
+pub record Finished (before : WorkerState) (held : Begun) (answer : Answer) (after : WorkerState) : Type 0 where
+  pub same : IsSameWorker before after
+  pub finishes : FinishesRequest before.stripes before.pass held answer after.pass
+
+-- a request that was begun was given up, and nothing else was done
+abbrev pub GaveUp : WorkerState → Begun → WorkerState → Type 0
+GaveUp before held after = after ≡ before
+
+-- ---- both together
+
+-- the request asks for this call
+abbrev pub AsksFor : Request → Asked → Type 0
+AsksFor (request.Change command) asked = asked ≡ Changing command
+AsksFor (request.Read read) asked = asked ≡ Reading read
+AsksFor (request.Bulk bulk) asked = ⊥
+
+-- one call of the worker led from one state to the other: a request was begun or refused, or one that was begun was finished or given up
+abbrev pub Calls : WorkerState → WorkerState → Type 0
+Calls before after =
+    ((request : Request) × (result : Result Begun Refusal) × Began before request result after)
+    ⊎ (((held : Begun) × (answer : Answer) × Finished before held answer after) ⊎ ((held : Begun) × GaveUp before held after))
+
+-- calls of the worker, one behind the other, led through these states
+abbrev pub CallsThrough : WorkerState → List WorkerState → WorkerState → Type 0
+CallsThrough before [] after = after ≡ before
+CallsThrough before (next ∷ states) after = Calls before next × CallsThrough next states after
+
+-- A change or a read that a worker begins, and answers after any other calls, is completed: its call was made, the reply is legal at its position
+-- in all that the pass has seen, and it was given out once the position was found durable.
+abbrev pub BegunRequestsComplete : Type 0
+BegunRequestsComplete =
+    (request : Request) (asked : Asked) (number : Option ℕ) (held : Held) (states : List WorkerState) (answer : Answer) (a b c d : WorkerState)
+    → AsksFor request asked → Began a request (Ok (begun.Call number held)) b → CallsThrough b states c
+    → Finished c (begun.Call number held) answer d → CompletesAmong a.pass asked answer d.pass
+
+-- ---- what a server prints
+
+-- the line of a server that listens
+abbrev pub listening_line : ℕ → List ℕ
+listening_line port = codes "listening " ++ (decimal port ++ codes "\n")
+
+-- a server ended, before or after it listened
+pub record Announces (port : ℕ) (w0 w1 : Option (List ℕ)) (status : ℕ) : Type 0 where
+  pub status_is : status ≡ 1
+  pub prints : PrintsAtMost (listening_line port) w0 w1
+
+-- the disk was opened, and only read: it stands for a map
+pub record IsOpenedTo {D : Type 0} (states : D → List Files) (failures : D → ℕ) (honest : D → Type 0) (old new : D) : Type 0 where
+  pub looks : SyncsAndLooks states failures honest 4 0 old new
+  pub stands : honest new → honest old × ((found : Opened) × Holds (contents_of states old) found)
+
+-- Where a server over the disk ends, the status is 1. It prints its line at most, and nothing where opening the disk was refused; this is how
+-- opening left the disk.
+pub record Hosts {D : Type 0} (states : D → List Files) (failures : D → ℕ) (honest : D → Type 0) (port : ℕ) (old : D) (w0 w1 : Option (List ℕ)) (status : ℕ) : Type 0 where
+  pub new : D
+  pub ends : (IsOpenedTo states failures honest old new × Announces port w0 w1 status)
+      ⊎ ((refusal : Refusal) × IsNotOpened states failures honest old new refusal × PrintsNothing w0 w1 status)
+
+-- ---- a directory that was opened
+
+-- no settings that are allowed are named, and nothing was printed, with status 2
+pub record AreMisused (words : ServerWords) (w0 w1 : Option (List ℕ)) (status : ℕ) : Type 0 where
+  pub none : (settings : Settings) → AreNamed words settings → ⊥
+  pub nothing : w1 ≡ w0
+  pub status_is : status ≡ 2
+
+-- IsOpened says that a disk has the files of a directory, as they were when it was opened.
+module _ {D : Type 0} (states : D → List Files) (failures : D → ℕ) (honest : D → Type 0) (IsOpened : List ℕ → D → Type 0) where
+  -- a server over a disk of the directory ended
+  pub record HostsDirectory (directory : List ℕ) (port : ℕ) (w0 w1 : Option (List ℕ)) (status : ℕ) : Type 0 where
+    pub disk : D
+    pub opened : IsOpened directory disk
+    pub hosts : Hosts states failures honest port disk w0 w1 status
+
+  -- The words name these settings, which are allowed; and a server over the directory ended, or it couldn't be opened, and nothing was printed.
+  pub record ServesAs (words : ServerWords) (w0 w1 : Option (List ℕ)) (status : ℕ) : Type 0 where
+    pub settings : Settings
+    pub named : AreNamed words settings
+    pub ends : HostsDirectory words.directory.now settings.port w0 w1 status ⊎ PrintsNothing w0 w1 status
+
+  -- a directory was served by these words, if they are allowed
+  abbrev pub ServesOn : ServerWords → Option (List ℕ) → Option (List ℕ) → ℕ → Type 0
+  ServesOn words w0 w1 status = ServesAs words w0 w1 status ⊎ AreMisused words w0 w1 status

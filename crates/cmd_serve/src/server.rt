@@ -1,0 +1,357 @@
+//! The server: the map of a directory is served on a port of this machine.
+ghost use Rattle.std.specs.Prelude.{◌≡◌, IfOk, IfErr};
+ghost use Rattle.cmd_text.specs.Naming.{IsNamed};
+ghost use Rattle.cmd_text.specs.Printing.{PrintsAtMost};
+ghost use Rattle.cmd_serve.specs.Serving.{Announces, Hosts, ServesOn};
+ghost use Rattle.cmd_serve.specs.Settings.{AreNamed, IsWorkerCount};
+
+use crate::pool::{Arrivals, workers};
+use crate::worker::{Gate, NoGate};
+use cmd_text::{MISUSED, break_off, cannot_open, port_named, refuse, say, stripes_named};
+use cmd_directory::Directories;
+use disk_model::{Disk, FirstError};
+use durable_map::{DurableMap, Ends, checkpoint_loop, flush_loop};
+use java_hash::StripeCount;
+use log::{Log, error, info, warn};
+use map_types::Refusal;
+use recovery::open_parts;
+use std::alloc::Global;
+use std::io::Write;
+use std::net::{Net, TcpListener, TcpStream};
+use std::sync::Wait;
+use std::sync::atomic::{AtomicBool, Ordering};
+use std::thread::Threads;
+use std::time::{Clock, Duration};
+use std::{io, thread};
+use wire_frames::write_whole;
+
+/// How long a server waits before it tries again to accept a connection, in milliseconds: what fails
+/// (as for want of descriptors) fails again at once.
+const ACCEPT_PAUSE: u64 = 20;
+
+/// What is to be done about a store that has failed.
+const WHAT_TO_DO: &str =
+    "each call is refused from now on; remedy the cause, end this process and start it again";
+
+/// The words of a server's command line.
+#[derive(Clone, Copy)]
+pub struct ServerWords<'a> {
+    pub directory: &'a str,
+    pub port: &'a str,
+    pub stripes: &'a str,
+    pub workers: &'a str,
+    pub bytes: &'a str,
+    pub idle: &'a str,
+}
+
+/// What a server is to do.
+#[derive(Clone, Copy)]
+pub(crate) struct Settings {
+    pub port: u16,
+    /// How many stripes the map is divided into.
+    pub stripes: StripeCount,
+    /// How many connections are served at a time.
+    pub workers: usize,
+    /// The length of the log that begins a checkpoint.
+    pub bytes: u64,
+    /// For how many seconds a client may be idle; 0 is for ever.
+    pub idle: u32,
+}
+
+fn workers_named(word: &str) -> Option<usize>
+    ensures { IsNamed IsWorkerCount word.now result }
+{
+    match word.parse::<usize>() {
+        Ok(count) if count > 0 && count <= 64 => Some(count),
+        _ => None,
+    }
+}
+
+/// The settings that the words name; else a text that says what is wrong with them.
+fn settings_named(words: &ServerWords<'_>) -> Result<Settings, &'static str>
+    ensures ok { IfOk result (λ settings. AreNamed words.now settings) }
+    ensures err { IfErr result (λ _. (settings : Settings) → AreNamed words.now settings → ⊥) }
+{
+    let Some(port) = port_named(words.port) else {
+        return Err("P is a number from 1 to 65535\n");
+    };
+    let Some(stripes) = stripes_named(words.stripes) else {
+        return Err("S is a power of two from 1 to 256\n");
+    };
+    let Some(workers) = workers_named(words.workers) else {
+        return Err("W is a number from 1 to 64\n");
+    };
+    let Ok(bytes) = words.bytes.parse::<u64>() else {
+        return Err("B is a number from 0 to 18446744073709551615\n");
+    };
+    let Ok(idle) = words.idle.parse::<u32>() else {
+        return Err("N is a number from 0 to 4294967295\n");
+    };
+    Ok(Settings {
+        port,
+        stripes,
+        workers,
+        bytes,
+        idle,
+    })
+}
+
+/// Whether the loops of a server are to end.
+#[derive(Drop)]
+struct Ending {
+    has_ended: AtomicBool,
+}
+
+impl Ends for Ending {
+    fn has_ended(&self) -> bool {
+        self.has_ended.load(Ordering::SeqCst)
+    }
+}
+
+/// What the threads of a server share.
+#[derive(Drop)]
+pub(crate) struct Server<D: Disk + Drop> {
+    alloc: Global,
+    map: DurableMap<D>,
+    bytes: u64,
+    idle: u32,
+    first_error: FirstError,
+    ending: Ending,
+    has_told: AtomicBool,
+}
+
+impl<D: Disk + Drop> Server<D> {
+    /// A server of the map with these settings; `first_error` tells of its disk.
+    pub(crate) fn new(
+        alloc: Global,
+        map: DurableMap<D>,
+        settings: &Settings,
+        first_error: FirstError,
+    ) -> Server<D> {
+        let has_ended = AtomicBool::new(false);
+        Server {
+            alloc,
+            map,
+            bytes: settings.bytes,
+            idle: settings.idle,
+            first_error,
+            ending: Ending { has_ended },
+            has_told: AtomicBool::new(false),
+        }
+    }
+
+    // Writes a record of why a loop ended, if it is the first that says that the store has failed.
+    fn tell<L: Log>(&self, rt: &L, ended: Result<(), Refusal>) {
+        let Err(refusal) = ended else {
+            return;
+        };
+        if self.has_told.swap(true, Ordering::SeqCst) {
+            return;
+        }
+        match self.first_error.get() {
+            Some(cause) => error!(rt; "the store has failed, {cause}: {WHAT_TO_DO}"),
+            None => error!(rt; "the store has failed, {refusal}: {WHAT_TO_DO}"),
+        }
+    }
+
+    // Makes the loops end.
+    fn end(&self) {
+        self.ending.has_ended.store(true, Ordering::SeqCst);
+    }
+}
+
+/// Runs the two loops of the map on threads of their own and serves the connections with `count`
+/// workers, until no more come. If the store fails, one record says so. Refused with `NoMemory` if a
+/// thread can't be started.
+pub(crate) fn run<
+    D: Disk + Drop + Send,
+    G: Gate + Sync,
+    C: Arrivals,
+    R: Clock + Log + Threads + Wait + Sync,
+>(rt: &R, server: &Server<D>, gate: &G, arrivals: &mut C, count: usize) -> Result<(), Refusal>
+    ensures { IfErr result (λ refusal. refusal ≡ Refusal.NoMemory) }
+{
+    let has_started = thread::scope(thread::scope_env(), rt, |scope| {
+        let flusher = scope.spawn(move || server.tell(
+            rt,
+            flush_loop(rt, &server.map, &server.ending),
+        ));
+        let keeper = scope.spawn(move || {
+            server.tell(
+                rt,
+                checkpoint_loop(rt, &server.map, server.bytes, &server.ending),
+            );
+        });
+        let has_started = flusher.is_ok()
+            && keeper.is_ok()
+            && workers(
+                rt,
+                server.alloc,
+                &server.map,
+                gate,
+                arrivals,
+                count,
+                server.idle,
+            )
+            .is_ok();
+        server.end();
+        has_started
+    });
+    if has_started {
+        Ok(())
+    } else {
+        Err(Refusal::NoMemory)
+    }
+}
+
+/// The connections that a listener accepts.
+#[derive(Drop)]
+struct Acceptor<'a, R: Clock + Log> {
+    rt: &'a R,
+    listener: &'a TcpListener,
+}
+
+impl<R: Clock + Log> Arrivals for Acceptor<'_, R> {
+    // Where none can be accepted it tries again after a pause, and the log has one record of it.
+    fn next(&mut self) -> Option<TcpStream> {
+        let mut has_said = false;
+        for stream in self.listener.incoming() {
+            match stream {
+                Ok(stream) => return Some(stream),
+                Err(error) => {
+                    if !has_said {
+                        warn!(self.rt; "no connection can be accepted: {error}");
+                        has_said = true;
+                    }
+                    thread::sleep(self.rt, Duration::from_millis(ACCEPT_PAUSE));
+                }
+            }
+        }
+        None
+    }
+}
+
+// Says that the server listens: the line on `output`, and how many commands it begins with in the log.
+fn announce<W: Write, L: Log>(rt: &L, line: &str, first: u64, output: &mut W) -> io::Result<()>
+    ensures { PrintsAtMost line.now (W.contents output.old) (W.contents output.new) }
+{
+    write_whole(output, line.as_bytes())?;
+    output.flush()?;
+    info!(rt; "prefix {first}");
+    Ok(())
+}
+
+/// Binds the port, says so, and serves the map.
+fn host<
+    D: Disk + Drop + Send,
+    W: Write,
+    E: Write,
+    R: Net<Listener = TcpListener, Stream = TcpStream> + Clock + Log + Threads + Wait + Sync,
+>(
+    rt: &R,
+    alloc: Global,
+    server: &Server<D>,
+    first: u64,
+    settings: &Settings,
+    output: &mut W,
+    error: &mut E,
+) -> u8
+    ensures { Announces settings.now.port (W.contents output.old) (W.contents output.new) result }
+{
+    let port = settings.port;
+    let Ok(line) = format!(in alloc; "listening {port}\n") else {
+        return refuse(alloc, Refusal::NoMemory, error);
+    };
+    let listener = match TcpListener::bind(rt, ("127.0.0.1", port)) {
+        Ok(listener) => listener,
+        Err(cause) => {
+            error!(rt; "port {port} can't be listened on: {cause}");
+            return break_off(error);
+        }
+    };
+    if let Err(cause) = announce(rt, line.as_str(), first, output) {
+        error!(rt; "standard output failed: {cause}");
+        return break_off(error);
+    }
+    let mut acceptor = Acceptor {
+        rt,
+        listener: &listener,
+    };
+    match run(rt, server, &NoGate, &mut acceptor, settings.workers) {
+        Ok(()) => break_off(error),
+        Err(refusal) => refuse(alloc, refusal, error),
+    }
+}
+
+/// Opens the disk, and serves its map. `first_error` tells of the disk.
+pub(crate) fn serve_disk<
+    D: Disk + Drop + Send,
+    W: Write,
+    E: Write,
+    R: Net<Listener = TcpListener, Stream = TcpStream> + Clock + Log + Threads + Wait + Sync,
+>(
+    rt: &R,
+    alloc: Global,
+    disk: D,
+    first_error: FirstError,
+    settings: &Settings,
+    output: &mut W,
+    error: &mut E,
+) -> u8
+    ensures { Hosts D.states D.failures D.honest settings.now.port
+        disk (W.contents output.old) (W.contents output.new) result }
+{
+    match open_parts(alloc, disk, settings.stripes) {
+        Ok((keeper, parts, first)) => match DurableMap::new(alloc, keeper, parts, first) {
+            Ok(map) => {
+                let server = Server::new(alloc, map, settings, first_error);
+                host(rt, alloc, &server, first, settings, output, error)
+            }
+            Err((_disk, refusal)) => refuse(alloc, refusal, error),
+        },
+        Err((_disk, refusal)) => {
+            if let Some(cause) = first_error.get() {
+                error!(rt; "the directory can't be opened, {cause}");
+            }
+            refuse(alloc, refusal, error)
+        }
+    }
+}
+
+/// Serves the map of a directory on a port of this machine, with the words of its command line. It ends
+/// only by being ended. Of its four files those that are absent are made: an empty one may have been left
+/// out of a copy.
+///
+/// The status is 2 with a text on `error` if the words aren't allowed; 1 with `unreadable` on `error`
+/// if the directory's lock or files, the port or `output` fail; and 1 with `refused` and the refusal
+/// if the directory can't be opened or no memory is found. An Error record has the cause of what the
+/// system refused. Once it listens it prints `listening` and the port, and writes a record of how many
+/// commands the map begins with. If the store fails later, one Error record says why.
+pub fn serve<
+    R: Net<Listener = TcpListener, Stream = TcpStream> + Clock + Log + Threads + Wait + Sync,
+    M: Directories,
+    W: Write,
+    E: Write,
+>(rt: &R, machine: &M, alloc: Global, words: &ServerWords<'_>, output: &mut W, error: &mut E) -> u8
+    ensures { ServesOn M.Opened.states M.Opened.failures M.Opened.honest M.is_opened words.now
+        (W.contents output.old) (W.contents output.new) result }
+{
+    let settings = match settings_named(words) {
+        Ok(settings) => settings,
+        Err(text) => {
+            say(error, text);
+            return MISUSED;
+        }
+    };
+    match machine.create_files(alloc, words.directory) {
+        Ok(disk) => match M::first_error(&disk) {
+            Ok(first_error) => serve_disk(rt, alloc, disk, first_error, &settings, output, error),
+            Err(_) => refuse(alloc, Refusal::NoMemory, error),
+        },
+        Err(cause) => {
+            let directory = words.directory;
+            error!(rt; "the directory {directory} can't be opened: {cause}");
+            cannot_open(alloc, &cause, error)
+        }
+    }
+}

@@ -1,0 +1,255 @@
+//! A worker, which makes the calls of connections over the running store with a pass of its own.
+ghost use Rattle.std.specs.Prelude.{◌≡◌, ℕ, false, IfOk, IfErr};
+ghost use Rattle.stripe_locks.specs.Holding.{IsHeldAt};
+ghost use Rattle.stripe_locks.specs.Plays.{joining};
+ghost use Rattle.durable_map.specs.Durable.{Finishes};
+ghost use Rattle.durable_map.specs.Maps.{name_of_words, opening_of, stripe_count};
+ghost use Rattle.connections.specs.Connection.{Connection};
+ghost use Rattle.cmd_serve.specs.Serving.{Began, Finished, GaveUp, IsSameWorker, Owns};
+ghost use Rattle.cmd_serve.specs.Responding.{RespondsRightly};
+ghost use Rattle.cmd_serve.specs.WholeMap.{CompletesBulk};
+
+use crate::begun::Begun;
+use crate::bulk::{Responds, Task};
+use bulk_tasks::view;
+use connections::{Calls, ConnectionError, serve_connection};
+use disk_model::Disk;
+use durable_map::DurableMap;
+use map_types::{Refusal, Reply};
+use std::alloc::Global;
+use std::io::{Read, Write};
+use std::marker::Model;
+use std::sync::Wait;
+use std::sync::atomic::{AtomicU64, Ordering};
+use stripe_locks::laws::held_at_is_held_of;
+use stripe_locks::{Held, Pass};
+use wire_frames::{Bulk, Request};
+
+/// Is told of each request that is taken up, before its call is begun, and again once it is answered or
+/// given up. The requests are numbered from 0 in the order in which they are taken up.
+pub trait Gate {
+    /// Whether it is told of requests; else they aren't counted.
+    fn is_told(&self) -> bool {
+        true
+    }
+
+    fn before(&self, n: u64);
+
+    fn after(&self, n: u64);
+}
+
+/// The gate of a server, which holds nothing up, and is told of nothing.
+#[derive(Drop)]
+pub struct NoGate;
+
+impl Gate for NoGate {
+    fn is_told(&self) -> bool {
+        false
+    }
+
+    fn before(&self, _n: u64) {}
+
+    fn after(&self, _n: u64) {}
+}
+
+/// A worker makes the call of each request with its own pass as it begins it, and gives the reply out as
+/// it finishes it. For a request of the whole map it then takes a view, and `responds` finds the reply
+/// by it.
+#[derive(Drop)]
+pub struct Worker<'a, D: Disk + Drop, G: Gate, R: Wait, A: Responds> {
+    rt: &'a R,
+    alloc: Global,
+    responds: A,
+    map: &'a DurableMap<D>,
+    gate: &'a G,
+    taken_up: &'a AtomicU64,
+    pass: Pass,
+}
+
+impl<'a, D: Disk + Drop, G: Gate, R: Wait, A: Responds> Model for Worker<'a, D, G, R, A> {
+    ghost use Rattle.stripe_locks.specs.Passes.{recorded};
+    ghost use Rattle.durable_map.specs.Maps.{IsReady, name_of_words, stripe_count};
+    ghost use Rattle.std.specs.Coded.{coded_ℕ, coded_list, coded×, code_by};
+    ghost use Rattle.std.specs.Prelude.{refl};
+    ghost use Rattle.ticket_order.specs.contracts.record.Record as record_type;
+    ghost use Rattle.cmd_serve.specs.Serving.{WorkerState};
+    ghost use Rattle.cmd_serve.specs.Responding.{RespondsRightly};
+
+    ghost Value = { WorkerState };
+
+    ghost coded = { code_by _
+        (coded× coded_ℕ (coded× (coded_list coded_ℕ) record_type.the_row.coded))
+        (λ s. (s.stripes, (s.words, s.pass)))
+        (λ p. record { stripes = p.0; words = p.1.0; pass = p.1.1 }) (λ _. refl) };
+
+    ghost view = { λ worker. record {
+      stripes = stripe_count worker.map.now;
+      words = name_of_words worker.map.now;
+      pass = recorded worker.pass;
+    } };
+
+    ghost invariant = { λ worker. IsReady worker.map.now worker.pass
+        × RespondsRightly A.is_ready A.replies worker.responds };
+}
+
+impl<'a, D: Disk + Drop, G: Gate, R: Wait, A: Responds> Worker<'a, D, G, R, A> {
+    /// A worker, which takes a new pass. The requests of all workers are counted in `taken_up`.
+    /// `responds` finds the replies to requests of the whole map.
+    pub fn new(
+        rt: &'a R,
+        alloc: Global,
+        responds: A,
+        map: &'a DurableMap<D>,
+        gate: &'a G,
+        taken_up: &'a AtomicU64,
+    ) -> Result<Worker<'a, D, G, R, A>, Refusal>
+        // Each reply that it finds is that of the view.
+        requires { RespondsRightly A.is_ready A.replies responds }
+
+        // It has the stripes and the shared words of the map, and a new pass that isn't the keeper's.
+        ensures stripes { IfOk result (λ worker. worker.stripes ≡ stripe_count map.now) }
+        ensures words { IfOk result (λ worker. worker.words ≡ name_of_words map.now) }
+        ensures joins { IfOk result (λ worker.
+            (found : ℕ) × (worker.pass ≡ joining (opening_of map.now) found)) }
+        ensures worker { IfOk result (λ worker. worker.pass.keeper ≡ false) }
+        ensures err { IfErr result (λ refusal. refusal ≡ Refusal.SeatsSpent) }
+    {
+        let pass = map.pass()?;
+        Ok(Worker {
+            rt,
+            alloc,
+            responds,
+            map,
+            gate,
+            taken_up,
+            pass,
+        })
+    }
+
+    // Tells the gate of the next request, and gives its number, if the gate is told of requests.
+    fn take_up(&self) -> Option<u64> {
+        if !self.gate.is_told() {
+            return None;
+        }
+        let n = self.taken_up.fetch_add(1, Ordering::SeqCst);
+        self.gate.before(n);
+        Some(n)
+    }
+
+    // Tells the gate of the end of the request with this number, if it has one.
+    fn put_down(&self, number: Option<u64>) {
+        if let Some(n) = number {
+            self.gate.after(n);
+        }
+    }
+
+    // Makes the call of a change or a read. A request of the whole map is held as it is.
+    #[tactic(auto, using(crate::proofs::Owning::held_at))]
+    fn begin_as(&mut self, number: Option<u64>, request: Request) -> Result<Begun, Refusal>
+        ensures began { Began self.old request result self.new }
+        ensures owned { IfOk result (Owns self.new) }
+    {
+        match request {
+            Request::Change(command) => {
+                match self.map.begin_change(self.rt, &mut self.pass, command) {
+                    Ok(held) => Ok(Begun::Call(number, held)),
+                    Err(refusal) => Err(refusal),
+                }
+            }
+            Request::Read(read) => match self.map.begin_read(self.rt, &mut self.pass, read) {
+                Ok(held) => Ok(Begun::Call(number, held)),
+                Err(refusal) => Err(refusal),
+            },
+            Request::Bulk(bulk) => Ok(Begun::View(number, bulk)),
+        }
+    }
+
+    // Waits for the position of a call, and gives its reply out.
+    fn finish_call(&mut self, held: Held) -> Result<Reply, Refusal>
+        requires owned { IsHeldAt self.old.words held }
+        ensures same { IsSameWorker self.old self.new }
+        ensures finishes { Finishes self.old.pass held result self.new.pass }
+    {
+        held_at_is_held_of();
+        self.map.finish(self.rt, &mut self.pass, held)
+    }
+
+    // Takes a view of the map, and answers by it.
+    fn answer_bulk(&mut self, bulk: Bulk) -> Result<Reply, Refusal>
+        ensures same { IsSameWorker self.old self.new }
+        ensures completes { CompletesBulk self.old.stripes self.old.pass bulk result self.new.pass }
+    {
+        let view = view(self.rt, self.alloc, self.map, &mut self.pass)?;
+        self.responds.respond(Task { view, bulk })
+    }
+
+    /// Serves a connection until it ends or breaks off.
+    pub fn serve<I: Read, O: Write>(
+        &mut self,
+        alloc: Global,
+        reader: &mut I,
+        writer: &mut O,
+    ) -> Result<(), ConnectionError>
+        ensures { Connection Began Finished GaveUp
+            (I.remaining reader.old) (I.remaining reader.new)
+            (O.contents writer.old) (O.contents writer.new)
+            self.old self.new result }
+    {
+        serve_connection(alloc, reader, writer, self)
+    }
+}
+
+impl<D: Disk + Drop, G: Gate, R: Wait, A: Responds> Calls for Worker<'_, D, G, R, A> {
+    type Held = Begun;
+
+    ghost began = { Began };
+
+    ghost finished = { Finished };
+
+    ghost gave_up = { GaveUp };
+
+    ghost owns = { Owns };
+
+    fn begin(&mut self, request: Request) -> Result<Begun, Refusal> {
+        let number = self.take_up();
+        match self.begin_as(number, request) {
+            Ok(begun) => Ok(begun),
+            Err(refusal) => {
+                self.put_down(number);
+                Err(refusal)
+            }
+        }
+    }
+
+    fn may_finish(&self, begun: &Begun) -> bool {
+        match begun {
+            Begun::Call(_, held) => self.map.may_finish(held),
+            Begun::View(..) => false,
+        }
+    }
+
+    fn finish(&mut self, begun: Begun) -> Result<Reply, Refusal> {
+        match begun {
+            Begun::Call(number, held) => {
+                let answer = self.finish_call(held);
+                self.put_down(number);
+                answer
+            }
+            Begun::View(number, bulk) => {
+                let answer = self.answer_bulk(bulk);
+                self.put_down(number);
+                answer
+            }
+        }
+    }
+
+    fn give_up(&mut self, begun: Begun) {
+        match begun {
+            Begun::Call(number, held) => {
+                held.give_up();
+                self.put_down(number);
+            }
+            Begun::View(number, _bulk) => self.put_down(number),
+        }
+    }
+}

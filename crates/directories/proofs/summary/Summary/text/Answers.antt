@@ -1,4 +1,0 @@
-use Rattle.directories.proofs.summary.Summary.text.Goals as goal
-
-pub returns : goal.returns
-returns c = c.format.ensures.ok

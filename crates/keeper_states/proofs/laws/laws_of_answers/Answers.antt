@@ -1,5 +1,0 @@
-use Rattle.keeper_states.proofs.Meeting.{answers_are_met}
-use Rattle.keeper_states.proofs.laws.laws_of_answers.Goals as goal
-
-pub returns : goal.returns
-returns g c = record { met = answers_are_met g.D.Disk.states c.laws_of_runs.ensures.skipped }

@@ -1,5 +1,0 @@
-use Rattle.keeper_states.proofs.Sweeping.{sweep_answers, sweep_step_answers}
-use Rattle.keeper_states.proofs.laws.laws_of_sweeps.Goals as goal
-
-pub returns : goal.returns
-returns g c = record { begins = sweep_answers g.D.Disk.states g.D.Disk.honest; steps = sweep_step_answers g.D.Disk.states g.D.Disk.honest }

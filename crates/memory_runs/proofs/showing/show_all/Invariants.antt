@@ -1,9 +1,0 @@
-use Rattle.std.proofs.Common.{◌≡◌, None}
-use Rattle.memory_runs.proofs.showing.show_all.Given as goal
-
-abbrev pub invariant-loop-stripe : goal.invariant-loop-stripe
-invariant-loop-stripe g l = record {
-  idle : (g.S.Steps.recorded l.steps).holding ≡ None;
-  place : g.S.Steps.place l.steps ≡ g.S.Steps.place l.initial.steps;
-  stripes : g.S.Steps.stripe_count l.steps ≡ g.S.Steps.stripe_count l.initial.steps;
-}

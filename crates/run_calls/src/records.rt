@@ -1,0 +1,116 @@
+//! The records of changes, and their fields.
+use call_text::{Asked, parse_call};
+use run_cases::{Names, hexadecimal, number};
+use log_records::{
+    decode, encode, key_at, number_at, put_key, put_number, put_value, record_len, some_value_at,
+};
+use map_types::{Command, Key, Refusal, Value};
+use std::alloc::Global;
+
+// Whether a record is read as this command to its end, whatever follows it.
+fn is_read(alloc: Global, bytes: &[u8], command: &Command) -> Result<bool, Refusal> {
+    let mut followed = bytes.to_vec(alloc)?;
+    followed.push(0x10)?;
+    let (read, used) = decode(alloc, &followed)?;
+    Ok(used == bytes.len() && record_len(&read) == used && read == *command)
+}
+
+fn is_cut(alloc: Global, front: &[u8]) -> bool {
+    matches!(decode(alloc, front), Err(Refusal::BadFrame))
+}
+
+fn are_cut(alloc: Global, bytes: &[u8]) -> bool {
+    for len in 0..bytes.len() {
+        if !is_cut(alloc, &bytes[..len]) {
+            return false;
+        }
+    }
+    true
+}
+
+fn change_of(alloc: Global, words: &[&str]) -> Result<Command, Refusal> {
+    match parse_call(alloc, words) {
+        Ok(Asked::Change(command)) => Ok(command),
+        _ => Err(Refusal::WrongPhase),
+    }
+}
+
+fn record_text(alloc: Global, bytes: &[u8], command: &Command) -> Result<String, Refusal> {
+    let is_read = is_read(alloc, bytes, command)?;
+    if is_read && are_cut(alloc, bytes) {
+        return Ok(hexadecimal(alloc, bytes)?);
+    }
+    Ok(String::from_str(alloc, "read otherwise")?)
+}
+
+/// The record of the change that the words ask for. It is read as that change again, and each front of it
+/// is refused as `BadFrame`.
+pub(crate) fn record(alloc: Global, words: &[&str]) -> Result<String, Refusal> {
+    let command = change_of(alloc, words)?;
+    let mut bytes = Vec::new(alloc);
+    encode(&command, &mut bytes)?;
+    record_text(alloc, &bytes, &command)
+}
+
+/// How bytes are refused as a record.
+pub(crate) fn read_record(alloc: Global, names: &Names, words: &[&str]) -> Result<String, Refusal> {
+    let [word] = words else {
+        return Err(Refusal::WrongPhase);
+    };
+    let bytes = names.bytes(alloc, word)?;
+    let (_command, used) = decode(alloc, &bytes)?;
+    Ok(format!(in alloc; "a record of {used} bytes")?)
+}
+
+// What follows the key, where it is this one.
+fn after_key<'a>(alloc: Global, bytes: &'a [u8], expected: &Key) -> Option<&'a [u8]> {
+    match key_at(alloc, bytes) {
+        Ok((key, rest)) if key == *expected => Some(rest),
+        _ => None,
+    }
+}
+
+// Whether nothing follows the value, and it is this one.
+fn is_value(alloc: Global, bytes: &[u8], expected: &Value) -> bool {
+    match some_value_at(alloc, bytes) {
+        Ok((value, rest)) => value == *expected && rest.is_empty(),
+        Err(_) => false,
+    }
+}
+
+fn are_read(alloc: Global, bytes: &[u8], expected: u64, key: &Key, value: &Value) -> bool {
+    match number_at(2, bytes) {
+        Ok((number, rest)) if number == expected => match after_key(alloc, rest, key) {
+            Some(rest) => is_value(alloc, rest, value),
+            None => false,
+        },
+        _ => false,
+    }
+}
+
+// A number in two bytes, a key and a value, which are read again.
+fn spelled(alloc: Global, number: u64, key: &Key, value: &Value) -> Result<String, Refusal> {
+    let mut bytes = Vec::new(alloc);
+    if number > 0xFFFF {
+        return Err(Refusal::WrongPhase);
+    }
+    put_number(2, number, &mut bytes)?;
+    put_key(key, &mut bytes)?;
+    put_value(value, &mut bytes)?;
+    if !are_read(alloc, &bytes, number, key, value) {
+        return Ok(String::from_str(alloc, "read otherwise")?);
+    }
+    Ok(hexadecimal(alloc, &bytes)?)
+}
+
+/// The bytes of a number, a key and a number as a value.
+pub(crate) fn fields(alloc: Global, words: &[&str]) -> Result<String, Refusal> {
+    let [first, key, value] = words else {
+        return Err(Refusal::WrongPhase);
+    };
+    let Ok(value) = value.parse::<i64>() else {
+        return Err(Refusal::WrongPhase);
+    };
+    let key = Key::new(alloc, key)?;
+    spelled(alloc, number(first)?, &key, &Value::Int(value))
+}

@@ -1,6 +1,0 @@
-use Rattle.std.proofs.Common.{◌∙◌}
-use Rattle.schedule_script.proofs.Numbers.{number_gives}
-use Rattle.schedule_script.proofs.words.u32_of.Goals as goal
-
-pub returns : goal.returns
-returns c = c.ok.ensures.value ∙ number_gives 32 c.args.word.now _ c.parse.ensures.value.0

@@ -1,6 +1,0 @@
-use Rattle.schedules.proofs.CaseLaws.{skipped_where_unfit}
-use Rattle.schedules.proofs.RunLaws.{outcomes_are_moves, rows_go_on, runs_answer_as_one_thread}
-use Rattle.schedules.proofs.laws.laws_of_runs.Goals as goal
-
-pub returns : goal.returns
-returns c = record { moves = outcomes_are_moves; answers = runs_answer_as_one_thread; skipped = skipped_where_unfit; rows = rows_go_on }

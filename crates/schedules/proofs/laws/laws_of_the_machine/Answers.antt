@@ -1,5 +1,0 @@
-use Rattle.schedules.proofs.MachineLaws.{released_stay_legal}
-use Rattle.schedules.proofs.laws.laws_of_the_machine.Goals as goal
-
-pub returns : goal.returns
-returns c = record { released = released_stay_legal }

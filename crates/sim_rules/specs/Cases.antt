@@ -1,0 +1,419 @@
+-- What may come of each event, by what came before it. The clauses of one definition exclude each other.
+use Rattle.std.specs.Prelude.{◌≡◌, ◌⊎◌, ℕ, ◌+◌, ◌-◌, ◌^◌, ◌<◌, ◌≤◌, List, length, map, Option, Some, None, Bool, true, false, ◌&&◌, ◌||◌, ◌==◌, not}
+use Rattle.std.specs.Prelude.{nat_lt, nat_le, if◌then◌else◌, is_some, MatchBool}
+use Rattle.std.specs.FinMap as finite
+use Rattle.map_types.specs.declared.refusals.Refusal.TheVariants as refusal
+use Rattle.map_types.specs.declared.texts.Value.{Value}
+use Rattle.ticket_order.specs.declared.record.Asked.{Asked}
+use Rattle.ticket_order.specs.declared.record.Asked.TheVariants.{Changing, Reading}
+use Rattle.ticket_order.specs.Records.{ticket_limit}
+use Rattle.disk_model.specs.Files.{AreBytes, Files}
+use Rattle.disk_model.specs.Gates.{IsPlaced}
+use Rattle.store_layout.specs.Calls.{opening_calls}
+use Rattle.store_layout.specs.Checkpoints.{greatest_mark}
+use Rattle.store_layout.specs.Opening.{Opened, Holds, Refuses, map_of, prefix_of}
+use Rattle.store_layout.specs.declared.log_phase.Phase.{Phase}
+use Rattle.store_layout.specs.declared.log_phase.Phase.TheVariants as log_phase
+use Rattle.store_layout.specs.declared.checkpoint_phase.CheckpointPhase.{CheckpointPhase}
+use Rattle.store_layout.specs.declared.checkpoint_phase.CheckpointPhase.TheVariants as checkpoint_phase
+use Rattle.store_layout.specs.Hands.{FitsBatch}
+use Rattle.store_layout.specs.UsedCheckpoint.{UsesCheckpoint}
+use Rattle.sim_rules.specs.declared.event.Ending.{Ending}
+use Rattle.sim_rules.specs.declared.event.Ending.TheVariants as ending
+use Rattle.sim_rules.specs.declared.event.Event.{Event}
+use Rattle.sim_rules.specs.declared.event.Event.TheVariants as event
+use Rattle.sim_rules.specs.declared.event.Side.{Side}
+use Rattle.sim_rules.specs.declared.event.Side.TheVariants as side
+use Rattle.sim_rules.specs.declared.outcome.DeviceCall.{DeviceCall}
+use Rattle.sim_rules.specs.declared.outcome.End.{End}
+use Rattle.sim_rules.specs.declared.outcome.End.TheVariants as ends
+use Rattle.sim_rules.specs.declared.outcome.Made.{Made}
+use Rattle.sim_rules.specs.declared.outcome.Made.TheVariants as made
+use Rattle.sim_rules.specs.declared.outcome.MapEntry.{MapEntry}
+use Rattle.sim_rules.specs.declared.outcome.Outcome.{Outcome}
+use Rattle.sim_rules.specs.declared.outcome.Outcome.TheVariants as outcome
+use Rattle.sim_rules.specs.World.{World, Life, Job, Idle, Walks, Keeps, Releasing, Stage, Begins, HasTaken, IsAlive, IsDead, HasLooked, HasDrawn}
+use Rattle.sim_rules.specs.World.{Asking, FirstSees, HasMissed, FoundFailure, InHand, Sweep, KeeperWalk, Rests, SweepTakes, SweepGives, CaptureLooks}
+use Rattle.sim_rules.specs.World.{CaptureGives, LogWork, Resting, Committing, Rotating, Running, count, gate_after, is_held, is_resting, job_of}
+use Rattle.sim_rules.specs.World.{needs_rotation, next_commands, next_section, place_of, seen_of, stripe_asked, sweep_or}
+use Rattle.sim_rules.specs.Fitting.{fits}
+use Rattle.sim_rules.specs.Due.{due_call, due_file}
+use Rattle.sim_rules.specs.After.{bytes_of, call_of, called, checkpoint_called, file_of, log_called, section_at}
+
+-- ---- the steps of a call
+
+-- TAKE finds the word held exactly where another has it; then the call is over, with refusal 8.
+abbrev pub TakesForCall : Life → ℕ → Made → End → Type 0
+TakesForCall l stripe (made.Took i) ends.Goes = (i ≡ stripe) × (is_held l stripe ≡ false)
+TakesForCall l stripe (made.FoundHeld i) (ends.Refused (refusal.Busy j)) = (i ≡ stripe) × (j ≡ stripe) × (is_held l stripe ≡ true)
+TakesForCall l stripe m end = ⊥
+
+-- ALIVE says no exactly where a FAIL of this life came before.
+abbrev pub FindsAlive : Life → Made → End → Type 0
+FindsAlive l (made.FoundAlive is_alive) ends.Goes = is_alive ≡ not l.has_failed
+FindsAlive l m end = ⊥
+
+-- After an ALIVE that said no the stripe is given back, with refusal 9.
+abbrev pub GivesUp : ℕ → Made → End → Type 0
+GivesUp stripe (made.Gave i) (ends.Refused refusal.Failed) = i ≡ stripe
+GivesUp stripe m end = ⊥
+
+-- LOOK gives the ticket count.
+abbrev pub LooksAround : World → Made → End → Type 0
+LooksAround w (made.Looked n) ends.Goes = n ≡ count w
+LooksAround w m end = ⊥
+
+-- TICKET gives the ticket count. After a LOOK of 2^62 or more the stripe is given back instead, with refusal 10; and where memory is wanting, with
+-- refusal 7.
+abbrev pub DrawsTicket : World → ℕ → ℕ → Made → End → Type 0
+DrawsTicket w stripe n (made.Drew ticket) ends.Goes = (ticket ≡ count w) × (n < ticket_limit)
+DrawsTicket w stripe n (made.Gave i) (ends.Refused refusal.TicketsSpent) = (i ≡ stripe) × (ticket_limit ≤ n)
+DrawsTicket w stripe n (made.Gave i) (ends.Refused refusal.NoMemory) = (i ≡ stripe) × (n < ticket_limit)
+DrawsTicket w stripe n m end = ⊥
+
+-- A change that ends with a held reply has the position one past its ticket.
+abbrev pub GivesChange : ℕ → ℕ → Made → End → Type 0
+GivesChange stripe ticket (made.Gave i) (ends.Held position) = (i ≡ stripe) × (position ≡ ticket + 1)
+GivesChange stripe ticket m end = ⊥
+
+-- A read has the position that its LOOK found; or memory is wanting, with refusal 7.
+abbrev pub GivesRead : ℕ → ℕ → Made → End → Type 0
+GivesRead stripe n (made.Gave i) (ends.Held position) = (i ≡ stripe) × (position ≡ n)
+GivesRead stripe n (made.Gave i) (ends.Refused refusal.NoMemory) = i ≡ stripe
+GivesRead stripe n m end = ⊥
+
+-- A change goes on with its TICKET, and a read with its GIVE.
+abbrev pub GoesOnAfterLook : World → ℕ → Asked → ℕ → Made → End → Type 0
+GoesOnAfterLook w stripe (Changing c) n m end = DrawsTicket w stripe n m end
+GoesOnAfterLook w stripe (Reading r) n m end = GivesRead stripe n m end
+
+-- A change walks TAKE, ALIVE, LOOK, TICKET, GIVE; a read TAKE, ALIVE, LOOK, GIVE.
+abbrev pub StepsCall : World → Life → ℕ → Asked → Stage → Made → End → Type 0
+StepsCall w l stripe asked Begins m end = TakesForCall l stripe m end
+StepsCall w l stripe asked HasTaken m end = FindsAlive l m end
+StepsCall w l stripe asked IsAlive m end = LooksAround w m end
+StepsCall w l stripe asked IsDead m end = GivesUp stripe m end
+StepsCall w l stripe asked (HasLooked n) m end = GoesOnAfterLook w stripe asked n m end
+StepsCall w l stripe asked (HasDrawn ticket) m end = GivesChange stripe ticket m end
+
+-- ---- the steps of a release
+
+-- SEE gives the durable count. Exactly where that reaches the position, the reply is released, with its position.
+abbrev pub SeesFirst : Life → ℕ → Made → End → Type 0
+SeesFirst l position (made.Saw n) (ends.Replied q reply) = (n ≡ l.durable) × (position ≤ n) × (q ≡ position)
+SeesFirst l position (made.Saw n) ends.Goes = (n ≡ l.durable) × (n < position)
+SeesFirst l position m end = ⊥
+
+-- Below it, the reply isn't durable yet where ALIVE says yes.
+abbrev pub AsksAlive : Life → Made → End → Type 0
+AsksAlive l (made.FoundAlive is_alive) ends.NotYet = (is_alive ≡ true) × (is_alive ≡ not l.has_failed)
+AsksAlive l (made.FoundAlive is_alive) ends.Goes = (is_alive ≡ false) × (is_alive ≡ not l.has_failed)
+AsksAlive l m end = ⊥
+
+-- Where it said no, the reply is released if a second SEE reaches the position, and else given up.
+abbrev pub SeesLast : Life → ℕ → Made → End → Type 0
+SeesLast l position (made.Saw n) (ends.Replied q reply) = (n ≡ l.durable) × (position ≤ n) × (q ≡ position)
+SeesLast l position (made.Saw n) ends.Failed = (n ≡ l.durable) × (n < position)
+SeesLast l position m end = ⊥
+
+-- A release walks SEE, ALIVE, SEE.
+abbrev pub StepsRelease : Life → ℕ → Asking → Made → End → Type 0
+StepsRelease l position FirstSees m end = SeesFirst l position m end
+StepsRelease l position HasMissed m end = AsksAlive l m end
+StepsRelease l position FoundFailure m end = SeesLast l position m end
+
+abbrev pub StepsJob : World → Life → Job → Made → End → Type 0
+StepsJob w l Idle m end = ⊥
+StepsJob w l (Walks asked stage) m end = StepsCall w l (stripe_asked l.stripes asked) asked stage m end
+StepsJob w l (Keeps asked position) m end = ⊥
+StepsJob w l (Releasing asked position asking) m end = StepsRelease l position asking m end
+
+-- ---- the steps of a sweep
+
+-- TAKE finds the word held exactly where another has it; then the sweep waits for that stripe.
+abbrev pub TakesForSweep : Life → ℕ → Made → End → Type 0
+TakesForSweep l stripe (made.Took i) ends.Goes = (i ≡ stripe) × (is_held l stripe ≡ false)
+TakesForSweep l stripe (made.FoundHeld i) (ends.SweepHeld j) = (i ≡ stripe) × (j ≡ stripe) × (is_held l stripe ≡ true)
+TakesForSweep l stripe m end = ⊥
+
+-- The stripes come in rising order. With the GIVE of the last the sweep is over, and answers what its LOOK found; or memory is wanting, with refusal
+-- 7.
+abbrev pub GivesSwept : Life → Sweep → Made → End → Type 0
+GivesSwept l sweep (made.Gave i) ends.Goes = (i ≡ sweep.stripe) × (sweep.stripe + 1 < l.stripes)
+GivesSwept l sweep (made.Gave i) (ends.Swept n) = (i ≡ sweep.stripe) × (sweep.stripe + 1 ≡ l.stripes) × (n ≡ sweep.count)
+GivesSwept l sweep (made.Gave i) (ends.Refused refusal.NoMemory) = i ≡ sweep.stripe
+GivesSwept l sweep m end = ⊥
+
+-- A sweep begins with its LOOK; one that waits goes on with the TAKE of its stripe.
+abbrev pub BeginsSweep : World → Life → Option Sweep → Made → End → Type 0
+BeginsSweep w l None m end = LooksAround w m end
+BeginsSweep w l (Some sweep) m end = TakesForSweep l sweep.stripe m end
+
+-- ---- the steps of a capture
+
+-- how many entries the next section is to hold
+abbrev pub section_size : World → Life → ℕ → Option Running → ℕ
+section_size w l mark None = 0
+section_size w l mark (Some running) = length (finite.entries (section_at w l mark running).map)
+
+-- A capture answers what its LOOK found. Refusal 14 comes only for a stripe with more than 2^32 - 1 entries, and refusal 7 where memory is wanting.
+abbrev pub GivesCaptured : World → Life → ℕ → Made → End → Type 0
+GivesCaptured w l n (made.Gave i) (ends.Captured mark) = (i ≡ next_section l.checkpoint) × (mark ≡ n) × (section_size w l n l.checkpoint ≤ 2 ^ 32 - 1)
+GivesCaptured w l n (made.Gave i) (ends.Refused refusal.LogFull) = (i ≡ next_section l.checkpoint) × (2 ^ 32 - 1 < section_size w l n l.checkpoint)
+GivesCaptured w l n (made.Gave i) (ends.Refused refusal.NoMemory) = i ≡ next_section l.checkpoint
+GivesCaptured w l n m end = ⊥
+
+-- A sweep walks LOOK, then TAKE and GIVE on each stripe; a capture walks TAKE, LOOK, GIVE.
+abbrev pub StepsKeeper : World → Life → KeeperWalk → Made → End → Type 0
+StepsKeeper w l Rests m end = ⊥
+StepsKeeper w l SweepTakes m end = TakesForSweep l (sweep_or l.sweep).stripe m end
+StepsKeeper w l SweepGives m end = GivesSwept l (sweep_or l.sweep) m end
+StepsKeeper w l CaptureLooks m end = LooksAround w m end
+StepsKeeper w l (CaptureGives n) m end = GivesCaptured w l n m end
+
+-- ---- a batch is staged
+
+-- n tickets from the committed count on are in hand, and may be one batch of at most `most`
+pub record CanStage (w : World) (l : Life) (most n : ℕ) : Type 0 where
+  pub in_hand : (i : ℕ) → i < n → place_of l (l.committed + i) ≡ InHand
+  pub fits : FitsBatch most l.committed (next_commands w l n)
+
+-- it is the longest such run
+pub record IsLongestRun (w : World) (l : Life) (most n : ℕ) : Type 0 where
+  pub can : CanStage w l most n
+  pub no_longer : CanStage w l most (n + 1) → ⊥
+
+-- its frame and the next gate would end past 2^40 bytes of the log
+abbrev pub IsPastFull : World → Life → ℕ → Type 0
+IsPastFull w l n = (1 ≤ n) × (2 ^ 40 < gate_after w l n + 1)
+
+-- Stage answers the length of the longest run. After a device failure of this life it answers 9; else 16 exactly where the log isn't idle; and 14
+-- where the batch wouldn't fit into the log.
+abbrev pub StagesRun : World → Life → ℕ → Outcome → Type 0
+StagesRun w l most (outcome.Staged n) = (l.is_broken ≡ false) × (is_resting l.log ≡ true) × IsLongestRun w l most n × (IsPastFull w l n → ⊥)
+StagesRun w l most (outcome.Refused refusal.Failed) = l.is_broken ≡ true
+StagesRun w l most (outcome.Refused refusal.WrongPhase) = (l.is_broken ≡ false) × (is_resting l.log ≡ false)
+StagesRun w l most (outcome.Refused refusal.LogFull) =
+    (l.is_broken ≡ false) × (is_resting l.log ≡ true) × ((n : ℕ) × IsLongestRun w l most n × IsPastFull w l n)
+StagesRun w l most (outcome.Refused refusal.NoMemory) = (l.is_broken ≡ false) × (is_resting l.log ≡ true)
+StagesRun w l most x = ⊥
+
+-- ---- a device call
+
+-- the call is one that may be made: of one of the four files, at its end or before
+pub record IsPossible (files : Files) (call : DeviceCall) : Type 0 where
+  pub file : file_of call < 4
+  pub place : IsPlaced (call_of call) (files (file_of call))
+  pub bytes : AreBytes (bytes_of call)
+
+-- the call is the one that is due: of that file, at that place, with those bytes. The low ticket of a checkpoint is left open.
+pub record IsDue (w : World) (l : Life) (s : Side) (call : DeviceCall) : Type 0 where
+  pub file : file_of call ≡ due_file l s
+  pub low : ℕ
+  pub what : call_of call ≡ due_call w l low s
+  pub possible : IsPossible w.files call
+
+-- of a call that fails the file is told: it is the one that is due
+pub record IsThere (w : World) (l : Life) (s : Side) (call : DeviceCall) : Type 0 where
+  pub file : file_of call ≡ due_file l s
+  pub possible : IsPossible w.files call
+
+-- a frame's four calls: it is written, synced, its gate is opened, that is synced
+abbrev pub frame_phase : ℕ → Phase
+frame_phase left =
+    if left == 4 then log_phase.Staged
+    else if left == 3 then log_phase.Written
+    else if left == 2 then log_phase.Synced
+    else log_phase.Opened
+
+-- the six of a rotation are those of the next log's header, written and synced, and those of the end frame
+abbrev pub rotation_phase : ℕ → Phase
+rotation_phase left =
+    if left == 6 then log_phase.Header
+    else if left == 5 then log_phase.HeaderWritten
+    else frame_phase left
+
+abbrev pub phase_of_log : LogWork → Phase
+phase_of_log Resting = log_phase.Idle
+phase_of_log (Committing n left) = frame_phase left
+phase_of_log (Rotating left) = rotation_phase left
+
+-- before the sections the gate is closed, that is synced, and zeros are written where the header will stand
+abbrev pub clearing_phase : ℕ → CheckpointPhase
+clearing_phase left =
+    if left == 3 then checkpoint_phase.Gate
+    else if left == 2 then checkpoint_phase.GateWritten
+    else checkpoint_phase.GateSynced
+
+-- a seal's four calls: the header is written, synced, the gate is opened, that is synced
+abbrev pub sealing_phase : ℕ → CheckpointPhase
+sealing_phase left =
+    if left == 4 then checkpoint_phase.Header
+    else if left == 3 then checkpoint_phase.HeaderWritten
+    else if left == 2 then checkpoint_phase.HeaderSynced
+    else checkpoint_phase.Opened
+
+abbrev pub phase_of_running : Running → CheckpointPhase
+phase_of_running running =
+    if nat_lt 0 running.clears then clearing_phase running.clears
+    else if running.is_waiting then checkpoint_phase.Staged
+    else if nat_lt 0 running.seals then sealing_phase running.seals
+    else checkpoint_phase.Ready
+
+-- after a device call of the checkpoint: where none is written any more, it is sealed
+abbrev pub phase_of_checkpoint : Option Running → CheckpointPhase
+phase_of_checkpoint None = checkpoint_phase.Sealed
+phase_of_checkpoint (Some running) = phase_of_running running
+
+-- the call is the last of a seal
+abbrev pub is_last_call : Running → Bool
+is_last_call running = running.clears == 0 && (not running.is_waiting && running.seals == 1)
+
+-- The last call of a seal leaves files whose greatest sealed generation is the one that was begun, with the sections and marks of its captures.
+abbrev pub UsesRunning : Files → Life → Option Running → Type 0
+UsesRunning files l None = ⊥
+UsesRunning files l (Some running) = is_last_call running ≡ true →
+    (low : ℕ) × UsesCheckpoint (record { generation = running.generation; low = low; stripes = l.stripes; sections = running.sections }) files
+
+-- The outcome names the call, and where it succeeds the phase after it. After a device failure of this life it is refusal 9, and no call is made.
+abbrev pub MakesCall : World → Life → Side → Ending → Outcome → Type 0
+MakesCall w l s e (outcome.Refused refusal.Failed) = l.is_broken ≡ true
+MakesCall w l side.Log ending.Done (outcome.Logged call phase) =
+    (l.is_broken ≡ false) × IsDue w l side.Log call × (phase ≡ phase_of_log (log_called w l l.log).log)
+MakesCall w l side.Checkpoint ending.Done (outcome.Checkpointed call phase) =
+    (l.is_broken ≡ false) × IsDue w l side.Checkpoint call × (phase ≡ phase_of_checkpoint (checkpoint_called l l.checkpoint).checkpoint)
+    × UsesRunning (called call w.files) l l.checkpoint
+MakesCall w l s (ending.Fails fill) (outcome.CallFailed call) = (l.is_broken ≡ false) × IsThere w l s call
+MakesCall w l s e x = ⊥
+
+-- ---- a checkpoint
+
+-- no checkpoint runs, the generation that follows has a number, and the log is idle where a rotation is needed
+abbrev pub may_begin : Life → Bool
+may_begin l = not (is_some l.checkpoint) && (nat_lt (l.sealed + 1) (2 ^ 64) && (not (needs_rotation l) || is_resting l.log))
+
+-- Begin is refused with 9 after a device failure of this life, else with 16 exactly where it may not be.
+abbrev pub BeginsCheckpoint : Life → Outcome → Type 0
+BeginsCheckpoint l outcome.Begun = (l.is_broken ≡ false) × (may_begin l ≡ true)
+BeginsCheckpoint l (outcome.Refused refusal.Failed) = l.is_broken ≡ true
+BeginsCheckpoint l (outcome.Refused refusal.WrongPhase) = (l.is_broken ≡ false) × (may_begin l ≡ false)
+BeginsCheckpoint l x = ⊥
+
+-- the stripe is the next of a running checkpoint, and no write before it is still to be made
+abbrev pub may_capture : Life → Option Running → ℕ → Bool
+may_capture l None stripe = false
+may_capture l (Some running) stripe = nat_lt stripe l.stripes && (stripe == length running.sections && (running.clears == 0 && not running.is_waiting))
+
+-- Capture is refused with 9 after a device failure of this life, else with 16 exactly where it may not be; else it makes its TAKE.
+abbrev pub BeginsCapture : Life → ℕ → Outcome → Type 0
+BeginsCapture l stripe (outcome.Refused refusal.Failed) = l.is_broken ≡ true
+BeginsCapture l stripe (outcome.Refused refusal.WrongPhase) = (l.is_broken ≡ false) × (may_capture l l.checkpoint stripe ≡ false)
+BeginsCapture l stripe (outcome.Stepped m end) = (l.is_broken ≡ false) × (may_capture l l.checkpoint stripe ≡ true) × TakesForCall l stripe m end
+BeginsCapture l stripe x = ⊥
+
+-- all sections of a running checkpoint are written, and no seal is under way
+abbrev pub may_seal : Life → Option Running → Bool
+may_seal l None = false
+may_seal l (Some running) = length running.sections == l.stripes && (not running.is_waiting && running.seals == 0)
+
+-- the greatest mark of its sections
+abbrev pub mark_of : Option Running → ℕ
+mark_of None = 0
+mark_of (Some running) = greatest_mark running.sections
+
+-- Seal is refused with 9 after a device failure of this life, else with 16 exactly where it may not be, else with 17 exactly where the durable count
+-- is below the greatest mark.
+abbrev pub BeginsSeal : Life → Outcome → Type 0
+BeginsSeal l outcome.Sealing = (l.is_broken ≡ false) × (may_seal l l.checkpoint ≡ true) × (mark_of l.checkpoint ≤ l.durable)
+BeginsSeal l (outcome.Refused refusal.Failed) = l.is_broken ≡ true
+BeginsSeal l (outcome.Refused refusal.WrongPhase) = (l.is_broken ≡ false) × (may_seal l l.checkpoint ≡ false)
+BeginsSeal l (outcome.Refused refusal.TooEarly) = (l.is_broken ≡ false) × (may_seal l l.checkpoint ≡ true) × (l.durable < mark_of l.checkpoint)
+BeginsSeal l x = ⊥
+
+-- ---- the counts
+
+-- Publish gives the committed count.
+abbrev pub Publishes : Life → Outcome → Type 0
+Publishes l (outcome.Published n) = n ≡ l.committed
+Publishes l x = ⊥
+
+-- ---- the ends of a life
+
+abbrev pub entry_of : MapEntry → List ℕ × Value
+entry_of entry = (entry.key, entry.value)
+
+-- the event names one of the first so many device calls; they are counted from 1
+abbrev pub names_within : Option ℕ → ℕ → Bool
+names_within None calls = false
+names_within (Some n) calls = nat_lt 0 n && nat_le n calls
+
+-- what the files hold is found; the outcome has the number of its commands, and all entries of its map in rising byte order of their keys
+pub record Finds (w : World) (found : Opened) (prefix : ℕ) (entries : List MapEntry) : Type 0 where
+  pub holds : Holds (seen_of w.files) found
+  pub prefix_is : prefix ≡ prefix_of found
+  pub entries_are : map entry_of entries ≡ finite.entries (map_of found)
+
+-- so many device calls are no more than those of an opening that finds what the files hold
+abbrev pub MayTake : World → ℕ → Type 0
+MayTake w calls = (found : Opened) → Holds (seen_of w.files) found → calls ≤ opening_calls found
+
+-- An opening is refused with 9 exactly where the device call that its event names was made, as the last. Else it never comes to that call: it finds
+-- what the files hold, which the syncs leave as they read, by the device calls that this takes; or it makes its four syncs, and is refused as the files
+-- are, or for want of memory. A refused opening of files that hold something makes no more device calls than finding it takes.
+abbrev pub OpensFiles : World → Opened → Option ℕ → Outcome → Type 0
+OpensFiles w found fails_at (outcome.Opened calls prefix entries) =
+    (calls ≡ opening_calls found) × (names_within fails_at calls ≡ false) × Finds w found prefix entries.items
+OpensFiles w found fails_at (outcome.NotOpened calls refusal.Failed) = (1 ≤ calls) × (fails_at ≡ Some calls) × MayTake w calls
+OpensFiles w found fails_at (outcome.NotOpened calls reason) =
+    (4 ≤ calls) × (names_within fails_at calls ≡ false) × ((reason ≡ refusal.NoMemory) ⊎ Refuses (seen_of w.files) reason) × MayTake w calls
+OpensFiles w found fails_at x = ⊥
+
+-- A stop within a device call names that call.
+abbrev pub StopsInside : World → Life → Option Side → Outcome → Type 0
+StopsInside w l None (outcome.Stopped None) = Unit {0}
+StopsInside w l (Some s) (outcome.Stopped (Some call)) = IsDue w l s call
+StopsInside w l within x = ⊥
+
+-- between lives there is none
+abbrev pub StopsOutside : Outcome → Type 0
+StopsOutside (outcome.Stopped None) = Unit {0}
+StopsOutside x = ⊥
+
+-- ---- all of them
+
+-- the outcome is a step, of which this is so
+abbrev pub IsStep : Outcome → (Made → End → Type 0) → Type 0
+IsStep (outcome.Stepped m end) P = P m end
+IsStep x P = ⊥
+
+abbrev pub HappensInside : World → Life → Event → Outcome → Type 0
+HappensInside w l (event.Change worker c) x = x ≡ outcome.Started
+HappensInside w l (event.Read worker r) x = x ≡ outcome.Started
+HappensInside w l (event.Release worker) x = x ≡ outcome.Started
+HappensInside w l (event.Step worker) x = IsStep x (StepsJob w l (job_of l worker))
+HappensInside w l event.Sweep x = IsStep x (BeginsSweep w l l.sweep)
+HappensInside w l event.KeeperStep x = IsStep x (StepsKeeper w l l.walk)
+HappensInside w l (event.Stage most) x = StagesRun w l most x
+HappensInside w l (event.Device s e) x = MakesCall w l s e x
+HappensInside w l event.Publish x = Publishes l x
+HappensInside w l event.Fail x = x ≡ outcome.FailMade
+HappensInside w l event.Begin x = BeginsCheckpoint l x
+HappensInside w l (event.Capture stripe) x = BeginsCapture l stripe x
+HappensInside w l event.Seal x = BeginsSeal l x
+HappensInside w l (event.Stop within fill) x = StopsInside w l within x
+HappensInside w l event.Leave x = x ≡ outcome.Left
+HappensInside w l (event.Open stripes fails_at) x = ⊥
+
+abbrev pub HappensOutside : World → Opened → Event → Outcome → Type 0
+HappensOutside w found (event.Open stripes fails_at) x = OpensFiles w found fails_at x
+HappensOutside w found (event.Stop within fill) x = StopsOutside x
+HappensOutside w found e x = ⊥
+
+abbrev pub HappensWith : World → Option Life → Opened → Event → Outcome → Type 0
+HappensWith w None found e x = HappensOutside w found e x
+HappensWith w (Some l) found e x = HappensInside w l e x
+
+-- The outcome meets the case of its event; it is Skipped exactly where the event doesn't fit, since no case allows that. What an opening found is
+-- `found`.
+abbrev pub Meets : World → Opened → Event → Outcome → Type 0
+Meets w found e x = MatchBool (fits w e) (HappensWith w w.life found e x) (x ≡ outcome.Skipped)

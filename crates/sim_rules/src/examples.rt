@@ -1,0 +1,38 @@
+//! One change on a new store, row by row, each as the contract of a function.
+ghost use Rattle.sim_rules.specs.Examples.{BatchIsCommitted, ChangeIsReleased, ChangeIsStaged, CheckpointGoesOn, FailsAmongThem, NewStoreOpens, NotYetInHand, OpeningIsRun, OtherIsRefused, RotationGoesOn, ScheduleIsRun, StoppedBefore, StoppedOpen, StoppedShut, UnwrittenIsNoRun};
+
+use store_layout::laws::{laws_of_new_stores, laws_of_opening};
+
+/// The store is opened, a change is made, swept and staged.
+pub fn one_change()
+    ensures opened { NewStoreOpens }
+    ensures fails { FailsAmongThem }
+    ensures run { OpeningIsRun }
+    ensures refused { OtherIsRefused }
+    ensures not_yet { NotYetInHand }
+    ensures staged { ChangeIsStaged }
+{
+    laws_of_new_stores();
+    laws_of_opening();
+}
+
+/// Its frame is written and its reply released; or the machine stops before that; or nothing is written,
+/// and it isn't committed.
+pub fn one_commit()
+    ensures released { ChangeIsReleased }
+    ensures run { ScheduleIsRun }
+    ensures unwritten { UnwrittenIsNoRun }
+    ensures before { StoppedBefore }
+    ensures within_open { StoppedOpen }
+    ensures within_shut { StoppedShut }
+{
+    laws_of_new_stores();
+    laws_of_opening();
+}
+
+/// The phases of a commit, a rotation and a checkpoint.
+pub fn phases()
+    ensures batch { BatchIsCommitted }
+    ensures rotation { RotationGoesOn }
+    ensures checkpoint { CheckpointGoesOn }
+{}

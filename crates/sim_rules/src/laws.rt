@@ -1,0 +1,66 @@
+//! Laws of whole schedules, each as the contract of a function.
+ghost use Rattle.sim_rules.specs.Laws.{BeginsEmpty, DrawsInside, EndsInside, EnteredAsFailed, FrontIsFound, KnownFolds, KnownIsLegal, KnownStands, LifeGoesOn, LongestRunInHand, NextLifeBegins, OpensOutside, OutcomesAreMoves, QuietInside, QuietOutside, ReleasedStayLegal, ReleasesInside, RowsGoOn, RunsAnswerAsOneThread, SkippedWhereUnfit, SoundAtStart, SoundBetweenIsRun, SoundIsRun, StandingFilesOpen, StopsOutside};
+
+use store_layout::laws::{laws_of_new_stores, laws_of_opening};
+
+/// In any run of the machine of one list each reply that was released is that of one thread at its
+/// position, however many lives came after it.
+pub fn laws_of_the_machine()
+    ensures released { ReleasedStayLegal }
+{}
+
+/// A history whose first commands are known by their map alone is a front of the whole list.
+pub fn laws_of_known_histories()
+    ensures folds { KnownFolds }
+    ensures legal { KnownIsLegal }
+    ensures stands { KnownStands }
+{}
+
+/// The outcomes of a run are moves of the machine; and an event is skipped exactly where it doesn't fit.
+pub fn laws_of_runs()
+    ensures moves { OutcomesAreMoves }
+    ensures answers { RunsAnswerAsOneThread }
+    ensures skipped { SkippedWhereUnfit }
+    ensures rows { RowsGoOn }
+{}
+
+/// A keeper that holds what is in hand stages the longest run.
+pub fn laws_of_batches()
+    ensures { LongestRunInHand }
+{}
+
+/// What a schedule begins with, and what a call leaves within which a stop falls.
+pub fn laws_of_files()
+    ensures begins { BeginsEmpty }
+    ensures entered { EnteredAsFailed }
+{
+    laws_of_new_stores();
+}
+
+/// What the loop of a run keeps in a life, event by event.
+pub fn steps_of_a_life()
+    ensures quiet { QuietInside }
+    ensures draws { DrawsInside }
+    ensures releases { ReleasesInside }
+    ensures ends { EndsInside }
+    ensures goes_on { LifeGoesOn }
+{}
+
+/// What it keeps at the beginning and between lives, up to the opening of the next; and what that finds.
+pub fn steps_between_lives()
+    ensures start { SoundAtStart }
+    ensures stops { StopsOutside }
+    ensures quiet { QuietOutside }
+    ensures opens { OpensOutside }
+    ensures goes_on { NextLifeBegins }
+    ensures front { FrontIsFound }
+    ensures well { StandingFilesOpen }
+{
+    laws_of_opening();
+}
+
+/// What was kept to the end makes a run.
+pub fn ends_of_runs()
+    ensures inside { SoundIsRun }
+    ensures outside { SoundBetweenIsRun }
+{}

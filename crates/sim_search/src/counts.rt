@@ -1,0 +1,294 @@
+//! How often each kind of event, device call and outcome came.
+use crate::kinds::{CallKind, PlainCall};
+use crate::outcomes::{PlainEnd, PlainOutcome};
+use map_types::Refusal;
+use sim_rules::{Ending, Event, Side};
+use std::alloc::{AllocError, Global};
+use store_layout::CheckpointPhase;
+
+/// The names of the kinds of events.
+const EVENTS: [&str; 22] = [
+    "open",
+    "open with a failing call",
+    "change",
+    "read",
+    "step",
+    "release",
+    "sweep",
+    "keeper step",
+    "stage",
+    "log call",
+    "failing log call",
+    "checkpoint call",
+    "failing checkpoint call",
+    "publish",
+    "fail",
+    "begin",
+    "capture",
+    "seal",
+    "stop between calls",
+    "stop within a log call",
+    "stop within a checkpoint call",
+    "leave",
+];
+
+/// The kinds of device calls, with their names.
+const CALLS: [(CallKind, &str); 12] = [
+    (CallKind::LogHeader, "header of a log"),
+    (CallKind::Frame, "frame"),
+    (CallKind::EndFrame, "end frame"),
+    (CallKind::LogGate, "gate of a log"),
+    (CallKind::LogSync, "sync of a log"),
+    (CallKind::GateClose, "closing of a checkpoint's gate"),
+    (CallKind::Zeros, "zeros over a header"),
+    (CallKind::Section, "section"),
+    (CallKind::CheckpointHeader, "header of a checkpoint"),
+    (CallKind::SealGate, "gate of a checkpoint"),
+    (CallKind::CheckpointSync, "sync of a checkpoint"),
+    (CallKind::Unknown, "unknown call"),
+];
+
+/// How often a kind of event was made, and how often it wasn't skipped.
+#[derive(Clone, Copy)]
+struct EventCount {
+    made: u64,
+    fitted: u64,
+}
+
+/// How a device call ended.
+#[derive(Clone, Copy)]
+enum Way {
+    Done,
+    Failed,
+    /// The machine stopped within it.
+    Stopped,
+}
+
+/// How often the device calls of a kind ended so.
+#[derive(Clone, Copy)]
+struct CallCount {
+    done: u64,
+    failed: u64,
+    stopped: u64,
+}
+
+/// All counts.
+#[derive(Drop)]
+pub(crate) struct Counts {
+    events: [EventCount; 22],
+    calls: [CallCount; 12],
+    opened: u64,
+    not_opened: u64,
+    replied: u64,
+    not_yet: u64,
+    given_up: u64,
+    busy: u64,
+    failed: u64,
+    wrong_phase: u64,
+    too_early: u64,
+    sealed: u64,
+}
+
+const NO_EVENT: EventCount = EventCount { made: 0, fitted: 0 };
+
+const NO_CALL: CallCount = CallCount {
+    done: 0,
+    failed: 0,
+    stopped: 0,
+};
+
+fn one_more(count: &mut u64) {
+    *count = count.saturating_add(1);
+}
+
+// The place of the event's name.
+fn event_place(event: &Event) -> usize {
+    match event {
+        Event::Open { fails_at: None, .. } => 0,
+        Event::Open { .. } => 1,
+        Event::Change { .. } => 2,
+        Event::Read { .. } => 3,
+        Event::Step { .. } => 4,
+        Event::Release { .. } => 5,
+        Event::Sweep => 6,
+        Event::KeeperStep => 7,
+        Event::Stage { .. } => 8,
+        Event::Device {
+            side: Side::Log,
+            ending: Ending::Done,
+        } => 9,
+        Event::Device {
+            side: Side::Log,
+            ..
+        } => 10,
+        Event::Device {
+            ending: Ending::Done,
+            ..
+        } => 11,
+        Event::Device { .. } => 12,
+        Event::Publish => 13,
+        Event::Fail => 14,
+        Event::Begin => 15,
+        Event::Capture { .. } => 16,
+        Event::Seal => 17,
+        Event::Stop { within: None, .. } => 18,
+        Event::Stop {
+            within: Some(Side::Log),
+            ..
+        } => 19,
+        Event::Stop { .. } => 20,
+        Event::Leave => 21,
+    }
+}
+
+impl Counts {
+    /// Nothing was counted.
+    pub(crate) fn new() -> Counts {
+        Counts {
+            events: [NO_EVENT; 22],
+            calls: [NO_CALL; 12],
+            opened: 0,
+            not_opened: 0,
+            replied: 0,
+            not_yet: 0,
+            given_up: 0,
+            busy: 0,
+            failed: 0,
+            wrong_phase: 0,
+            too_early: 0,
+            sealed: 0,
+        }
+    }
+
+    // Counts a device call of this kind.
+    fn note_call(&mut self, call: PlainCall, way: Way) {
+        let Some(place) = CALLS.iter().position(|(kind, _)| *kind == call.kind) else {
+            return;
+        };
+        if let Some(count) = self.calls.get_mut(place) {
+            match way {
+                Way::Done => one_more(&mut count.done),
+                Way::Failed => one_more(&mut count.failed),
+                Way::Stopped => one_more(&mut count.stopped),
+            }
+        }
+    }
+
+    // Counts a refusal of an event, or at the end of a walk.
+    fn note_refusal(&mut self, refusal: Refusal) {
+        match refusal {
+            Refusal::Busy { .. } => one_more(&mut self.busy),
+            Refusal::Failed => one_more(&mut self.failed),
+            Refusal::WrongPhase => one_more(&mut self.wrong_phase),
+            Refusal::TooEarly => one_more(&mut self.too_early),
+            _ => {}
+        }
+    }
+
+    fn note_outcome(&mut self, found: &PlainOutcome) {
+        match found {
+            PlainOutcome::Refused(refusal) => self.note_refusal(*refusal),
+            PlainOutcome::Opened { .. } => one_more(&mut self.opened),
+            PlainOutcome::NotOpened { .. } => one_more(&mut self.not_opened),
+            PlainOutcome::Stepped { end, .. } => match end {
+                PlainEnd::Replied { .. } => one_more(&mut self.replied),
+                PlainEnd::NotYet => one_more(&mut self.not_yet),
+                PlainEnd::Failed => one_more(&mut self.given_up),
+                PlainEnd::Refused(refusal) => self.note_refusal(*refusal),
+                _ => {}
+            },
+            PlainOutcome::Logged { call, .. } => self.note_call(*call, Way::Done),
+            PlainOutcome::Checkpointed { call, phase } => {
+                self.note_call(*call, Way::Done);
+                if *phase == CheckpointPhase::Sealed {
+                    one_more(&mut self.sealed);
+                }
+            }
+            PlainOutcome::CallFailed(call) => self.note_call(*call, Way::Failed),
+            PlainOutcome::Stopped(Some(call)) => self.note_call(*call, Way::Stopped),
+            _ => {}
+        }
+    }
+
+    /// Counts the event, and what came of it.
+    pub(crate) fn note(&mut self, event: &Event, found: &PlainOutcome) {
+        if let Some(count) = self.events.get_mut(event_place(event)) {
+            one_more(&mut count.made);
+            if !matches!(found, PlainOutcome::Skipped) {
+                one_more(&mut count.fitted);
+            }
+        }
+        self.note_outcome(found);
+    }
+
+    /// How many device calls failed or were stopped within.
+    pub(crate) fn cut_calls(&self) -> u64 {
+        let mut cut = 0u64;
+        for count in &self.calls {
+            cut = cut
+                .saturating_add(count.failed)
+                .saturating_add(count.stopped);
+        }
+        cut
+    }
+
+    fn events_table(&self, alloc: Global) -> Result<String, AllocError> {
+        let mut table = String::new(alloc);
+        for (name, count) in EVENTS.iter().zip(&self.events) {
+            let made = count.made;
+            let fitted = count.fitted;
+            let line = format!(in alloc; "{name}: {made} events, {fitted} of them not skipped\n")?;
+            table.push_str(line.as_str())?;
+        }
+        Ok(table)
+    }
+
+    fn calls_table(&self, alloc: Global) -> Result<String, AllocError> {
+        let mut table = String::new(alloc);
+        for ((_, name), count) in CALLS.iter().zip(&self.calls) {
+            let done = count.done;
+            let failed = count.failed;
+            let stops = count.stopped;
+            let line = format!(in alloc;
+                "{name}: {done} made, {failed} failed, {stops} stops within\n"
+            )?;
+            table.push_str(line.as_str())?;
+        }
+        Ok(table)
+    }
+
+    fn outcomes_table(&self, alloc: Global) -> Result<String, AllocError> {
+        let opened = self.opened;
+        let not_opened = self.not_opened;
+        let replied = self.replied;
+        let not_yet = self.not_yet;
+        let given_up = self.given_up;
+        let sealed = self.sealed;
+        let openings = format!(in alloc;
+            "openings: {opened} gave a map, {not_opened} met their failing call\n"
+        )?;
+        let replies = format!(in alloc;
+            "replies: {replied} released, {not_yet} not yet, {given_up} given up\n"
+        )?;
+        format!(in alloc; "{openings}{replies}checkpoints: {sealed} sealed\n")
+    }
+
+    fn refusals_table(&self, alloc: Global) -> Result<String, AllocError> {
+        let busy = self.busy;
+        let failed = self.failed;
+        let wrong = self.wrong_phase;
+        let early = self.too_early;
+        format!(in alloc;
+            "refusals: {busy} busy, {failed} failed, {wrong} wrong phase, {early} too early\n"
+        )
+    }
+
+    /// The counts, each kind in a line.
+    pub(crate) fn table(&self, alloc: Global) -> Result<String, AllocError> {
+        let events = self.events_table(alloc)?;
+        let calls = self.calls_table(alloc)?;
+        let outcomes = self.outcomes_table(alloc)?;
+        let refusals = self.refusals_table(alloc)?;
+        format!(in alloc; "{events}{calls}{outcomes}{refusals}")
+    }
+}

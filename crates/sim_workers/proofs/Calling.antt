@@ -1,0 +1,303 @@
+-- A worker's call makes a step.
+use Rattle.std.proofs.Common.{ℕ, ◌≡◌, ◌+◌, ◌<◌, List, [], ◌∷◌, ◌++◌, Some, None, true, false, length, refl, arith, sym, ◌∙◌, ap, subst, append-nil, length-append}
+use Rattle.std.specs.Prelude.{not}
+use Rattle.std.specs.List.{Contains}
+use Rattle.std.proofs.lemmas.List.Elements.{Contains-push}
+use Rattle.java_hash.specs.Stripes.{stripe_of}
+use Rattle.map_types.specs.declared.commands.Command.{Command}
+use Rattle.map_types.specs.declared.commands.Read as read_type
+use Rattle.map_types.specs.declared.commands.Reply.{Reply}
+use Rattle.map_types.specs.declared.refusals.Refusal.{Refusal}
+use Rattle.map_types.specs.declared.refusals.Refusal.TheVariants as refusal
+use Rattle.disk_model.specs.Files.{Files}
+use Rattle.store_layout.specs.Opening.{Opened}
+use Rattle.ticket_order.specs.declared.held.Held.{Held}
+use Rattle.ticket_order.specs.declared.record.Asked.{Asked}
+use Rattle.ticket_order.specs.declared.record.Asked.TheVariants.{Changing, Reading}
+use Rattle.ticket_order.specs.declared.record.Call.{Call}
+use Rattle.ticket_order.specs.declared.record.StepMade.{StepMade}
+use Rattle.ticket_order.specs.declared.record.Record.{Record}
+use Rattle.ticket_order.specs.declared.walk.Walk.{Walk}
+use Rattle.ticket_order.specs.declared.walk.Stepped.{Stepped}
+use Rattle.ticket_order.specs.declared.walk.Stepped.TheVariants as stepped
+use Rattle.ticket_order.specs.Records.{call}
+use Rattle.ticket_order.specs.Calls.{RefusesChange, RefusesRead}
+use Rattle.ticket_order.specs.Walks.{Next}
+use Rattle.one_history.specs.declared.book.Book.{Book}
+use Rattle.one_history.specs.Turns.{record_of}
+use Rattle.one_history.specs.Moves.{WordsMove}
+use Rattle.sim_rules.specs.declared.event.Event.TheVariants as event
+use Rattle.sim_rules.specs.declared.outcome.End.{End}
+use Rattle.sim_rules.specs.declared.outcome.Made.{Made}
+use Rattle.sim_rules.specs.declared.outcome.Made.TheVariants as told
+use Rattle.sim_rules.specs.declared.outcome.Outcome.TheVariants as outcome
+use Rattle.sim_rules.specs.World.{World, Life, Job, Idle, Walks, Keeps, Releasing, Place, Stage, Begins, job_of, stripe_asked}
+use Rattle.sim_rules.specs.After.{after, history_after, job_after, places_after, stage_after}
+use Rattle.sim_rules.specs.Cases.{StepsCall, StepsJob}
+use Rattle.sim_rules.specs.Runs.{move_of}
+use Rattle.sim_rules.specs.Sound.{ReleasesLegal}
+use Rattle.sim_workers.specs.Doings.{Doing, Calls, CallLeaves, IsCalling, IsKeeping, JobStands, stage_from, stage_of, stage_with, task_of, told_of}
+use Rattle.sim_workers.specs.Words.{PlacesStand, drawn_at, drawn_by}
+use Rattle.sim_workers.specs.Workers.{IsNowDoing, MakesStep, StepsWalk, WorkersStand}
+use Rattle.sim_workers.specs.Laws.{CallSteps, KeepsStanding}
+use Rattle.sim_workers.proofs.Lists.{ends_same, onto}
+use Rattle.sim_workers.proofs.Ways.{steps_on}
+use Rattle.sim_workers.proofs.Turns.{Turn, Takes, Misses, FindsAlive, FindsDead, GivesUp, Looks, GivesSpent, GivesStarved, DrawsTicket, GivesRead, GivesChange, IsTurn, Tells, before, end_of, step_of, told_by, turn_of}
+use Rattle.sim_workers.proofs.Standing.{changed, each_job, fitting, in_life, is_one, job_changed, places_kept, world_of}
+use Rattle.sim_workers.proofs.Holding.{held_by_another, held_by_none}
+use Rattle.sim_workers.proofs.Places.{places_drawn, places_given}
+use Rattle.sim_workers.proofs.Moving.{KeepsDeeds, counted, deeds_kept, words_moved}
+
+no_change : (r : read_type.Read) (c : Command) → Reading r ≡ Changing c → ⊥
+no_change r c e = cc
+
+-- ---- the case of the step
+
+module _ (b b' : Book) (w : World) (l : Life) (doings : ℕ → Doing) (stand : WorkersStand b w l doings) (j : ℕ) where
+  step_meets : (asked : Asked) (i : ℕ) (turn : Turn) (p : Record) → WordsMove j (step_of i turn) b b' → Tells asked turn p → StepsCall w l i asked (stage_of (steps_on i (before turn))) (told_by i turn) (end_of i turn)
+  unfolding stage_from
+  step_meets asked i (Takes es) p words tells = (refl, held_by_none b w l doings stand i words.1)
+  step_meets asked i Misses p words tells = (refl, refl, held_by_another b w l doings stand i j words.1)
+  step_meets asked i (FindsAlive es) p words tells = words.1 ∙ ap not (sym stand.words.has_failed)
+  step_meets asked i (FindsDead es) p words tells = words.1 ∙ ap not (sym stand.words.has_failed)
+  step_meets asked i (GivesUp es) p words tells = refl
+  step_meets asked i (Looks es q) p words tells = words.1 ∙ sym (counted b w l stand.words)
+  step_meets (Changing c) i (GivesSpent es q) p words tells = (refl, tells.1)
+  step_meets (Changing c) i (GivesStarved es q) p words tells = (refl, tells)
+  step_meets (Changing c) i (DrawsTicket es q t) p words tells = (words.ticket_is ∙ sym (counted b w l stand.words), tells.below)
+  step_meets (Changing c) i (GivesRead es q) p words tells = absurd tells
+  step_meets (Changing c) i (GivesChange es q t) p words tells = (refl, refl)
+  step_meets (Reading r) i (GivesSpent es q) p words tells = absurd tells.0
+  step_meets (Reading r) i (GivesStarved es q) p words tells = refl
+  step_meets (Reading r) i (DrawsTicket es q t) p words tells = absurd (no_change r tells.command tells.asked_is)
+  step_meets (Reading r) i (GivesRead es q) p words tells = (refl, refl)
+  step_meets (Reading r) i (GivesChange es q t) p words tells = absurd tells
+
+-- ---- the job after the step
+
+stage_more : (s : Stage) (made : List StepMade) (step : StepMade) (m : Made) → told_of step ≡ Some m → stage_after (stage_from s made) m ≡ stage_from s (made ++ step ∷ [])
+unfolding stage_from
+stage_more s [] step m is = ap (stage_with s) (sym is)
+stage_more s (x ∷ made) step m is = stage_more (stage_with s (told_of x)) made step m is
+
+change_free : (v p : Record) (i : ℕ) (e : Refusal) → v.holding ≡ None → RefusesChange v i e p → p.holding ≡ None
+change_free v p i (refusal.Busy j) free is = ap (λ (r : Record). r.holding) is.1 ∙ free
+change_free v p i refusal.Failed free is = ap (λ (r : Record). r.holding) is.is
+change_free v p i refusal.TicketsSpent free is = ap (λ (r : Record). r.holding) is.0.is
+change_free v p i refusal.NoMemory free is = ap (λ (r : Record). r.holding) is.0.is
+change_free v p i other free is = absurd is
+
+read_free : (v p : Record) (i : ℕ) (e : Refusal) → v.holding ≡ None → RefusesRead v i e p → p.holding ≡ None
+read_free v p i (refusal.Busy j) free is = ap (λ (r : Record). r.holding) is.1 ∙ free
+read_free v p i refusal.Failed free is = ap (λ (r : Record). r.holding) is.is
+read_free v p i refusal.NoMemory free is = ap (λ (r : Record). r.holding) is.is
+read_free v p i other free is = absurd is
+
+module _ (n : ℕ) (v : Record) (made : List StepMade) (step : StepMade) (m : Made) (p p' : Record) (since : p.steps ≡ v.steps ++ made) (steps : p'.steps ≡ p.steps ++ step ∷ []) (told_is : told_of step ≡ Some m) (free : v.holding ≡ None) (stage : Stage)
+    (stage_is : stage ≡ stage_of made) where
+  walks_on : (asked : Asked) (walk : Walk) → Next n v (task_of asked) (stepped.More walk) p' → IsCalling n p' walk asked (stage_after stage m)
+  walks_on asked walk next = record {
+    begun = v;
+    free = free;
+    fits = next;
+    made = made ++ step ∷ [];
+    steps = steps ∙ onto v.steps made p.steps step since;
+    stage_is = ap (λ s. stage_after s m) stage_is ∙ stage_more Begins made step m told_is;
+  }
+
+  keeps : (asked : Asked) (h : Held) (xs : List Call) → p'.holding ≡ None → p'.calls ≡ xs ++ call h.position asked h.reply ∷ [] → IsKeeping p' h asked h.position
+  keeps asked h xs none grew = record { free = none; position_is = refl; call_is = subst (λ cs. Contains cs (call h.position asked h.reply)) (sym grew) (Contains-push xs (call h.position asked h.reply)) }
+
+  job_stands : (asked : Asked) (s : Stepped) (doing : Doing) (end : End) → Next n v (task_of asked) s p' → CallLeaves s doing end → JobStands n p' doing (job_after (Walks asked stage) m end)
+  job_stands asked (stepped.More walk) doing end next leaves = rw (leaves.0, leaves.1) (walks_on asked walk next)
+  job_stands (Changing c) (stepped.Held h) doing end next leaves = rw (leaves.0, leaves.1) (keeps (Changing c) h v.calls (ap (λ (r : Record). r.holding) next.is) next.grew)
+  job_stands (Changing c) (stepped.Refused e) doing end next leaves = rw (leaves.0, leaves.1) (change_free v p' (stripe_of n c.key) e free next)
+  job_stands (Reading r) (stepped.Held h) doing end next leaves = rw (leaves.0, leaves.1) (keeps (Reading r) h v.calls (ap (λ (x : Record). x.holding) next.is) next.grew)
+  job_stands (Reading r) (stepped.Refused e) doing end next leaves = rw (leaves.0, leaves.1) (read_free v p' (stripe_of n r.key) e free next)
+  job_stands asked s doing end next leaves = absurd leaves
+
+-- ---- the history after the step
+
+-- no ticket was drawn
+IsQuiet : Made → Type 0
+IsQuiet (told.Drew t) = ⊥
+IsQuiet m = Unit {0}
+
+quiet_history : (history : List Command) (asked : Asked) (stage : Stage) (m : Made) → IsQuiet m → history_after history (Walks asked stage) m ≡ history
+unfolding IsQuiet
+quiet_history history (Changing c) stage (told.Drew t) quiet = absurd quiet
+quiet_history history (Changing c) stage m quiet = refl
+quiet_history history (Reading r) stage m quiet = refl
+
+-- the book's history and the world's grew by the same commands
+record Grew (b b' : Book) (history history' : List Command) : Type 0 where
+  more : List Command
+  book : b'.history ≡ b.history ++ more
+  world : history' ≡ history ++ more
+
+module _ (b b' : Book) (history : List Command) (asked : Asked) (stage : Stage) (j : ℕ) where
+  quiet_grew : (m : Made) → IsQuiet m → b'.history ≡ b.history → Grew b b' history (history_after history (Walks asked stage) m)
+  quiet_grew m quiet same = record { more = []; book = same ∙ sym (append-nil b.history); world = quiet_history history asked stage m quiet ∙ sym (append-nil history) }
+
+-- the command is that of the worker's event
+drawn_command : (c d e : Command) (t position : ℕ) (reply reply' : Reply) (xs ys : List Call) → Changing c ≡ Changing d → xs ++ call (t + 1) (Changing e) reply ∷ [] ≡ ys ++ call position (Changing d) reply' ∷ [] → e ≡ c
+drawn_command c d e t position reply reply' xs ys is same =
+    let last : call (t + 1) (Changing e) reply ≡ call position (Changing d) reply' = (ends_same xs ys (call (t + 1) (Changing e) reply) (call position (Changing d) reply') same).1 in
+    let commands : Changing e ≡ Changing d = ap (λ (x : Call). x.asked) last in
+    cc
+
+grew : (b b' : Book) (history : List Command) (asked : Asked) (stage : Stage) (j i : ℕ) (turn : Turn) → WordsMove j (step_of i turn) b b' → Tells asked turn (record_of j b') → Grew b b' history (history_after history (Walks asked stage) (told_by i turn))
+unfolding IsQuiet
+grew b b' history asked stage j i (Takes es) words tells = quiet_grew b b' history asked stage j (told.Took i) tt words.0.same.history
+grew b b' history asked stage j i Misses words tells = quiet_grew b b' history asked stage j (told.FoundHeld i) tt words.0.same.history
+grew b b' history asked stage j i (FindsAlive es) words tells = quiet_grew b b' history asked stage j (told.FoundAlive true) tt words.0.same.history
+grew b b' history asked stage j i (FindsDead es) words tells = quiet_grew b b' history asked stage j (told.FoundAlive false) tt words.0.same.history
+grew b b' history asked stage j i (GivesUp es) words tells = quiet_grew b b' history asked stage j (told.Gave i) tt words.0.history
+grew b b' history asked stage j i (Looks es q) words tells = quiet_grew b b' history asked stage j (told.Looked q) tt words.0.same.history
+grew b b' history asked stage j i (GivesSpent es q) words tells = quiet_grew b b' history asked stage j (told.Gave i) tt words.0.history
+grew b b' history asked stage j i (GivesStarved es q) words tells = quiet_grew b b' history asked stage j (told.Gave i) tt words.0.history
+grew b b' history (Changing c) stage j i (DrawsTicket es q t) words tells =
+    let own : words.command ≡ c = drawn_command c tells.command words.command t tells.position words.reply tells.reply (record_of j b).calls tells.before tells.asked_is (sym words.calls ∙ tells.calls) in
+    record { more = c ∷ []; book = words.history ∙ ap (λ d. b.history ++ d ∷ []) own; world = refl }
+grew b b' history (Reading r) stage j i (DrawsTicket es q t) words tells = absurd (no_change r tells.command tells.asked_is)
+grew b b' history asked stage j i (GivesRead es q) words tells = quiet_grew b b' history asked stage j (told.Gave i) tt words.0.history
+grew b b' history asked stage j i (GivesChange es q t) words tells = quiet_grew b b' history asked stage j (told.Gave i) tt words.0.history
+
+-- ---- the places after the step
+
+Placed : Book → Life → ℕ → Asked → Stage → Made → End → Type 0
+Placed b l j asked stage m end = PlacesStand b (changed l j (job_after (Walks asked stage) m end) (places_after l (Walks asked stage) m))
+
+module _ (b b' : Book) (l : Life) (j : ℕ) (stand : PlacesStand b l) (within : j < length l.jobs) (first : l.first ≡ b.opening.first) (begins : b'.opening.first ≡ b.opening.first) (taken : b'.deeds.taken ≡ b.deeds.taken) where
+  -- no ticket was drawn, and none given
+  quiet : (job : Job) → length b'.history ≡ length b.history → drawn_by (job_of l j) ≡ None → drawn_by job ≡ None → PlacesStand b' (changed l j job l.places)
+  quiet job many before now = places_kept b b' l (changed l j job l.places) begins many taken refl refl
+      (each_job (λ i x. drawn_by x ≡ drawn_by (job_of l i)) l.jobs j job within (now ∙ sym before) (λ i ne. refl)) stand
+
+  placed : (asked : Asked) (i : ℕ) (turn : Turn) (p : Record) → WordsMove j (step_of i turn) b b' → Tells asked turn p → drawn_by (job_of l j) ≡ drawn_at (stage_of (steps_on i (before turn)))
+      → Placed b' l j asked (stage_of (steps_on i (before turn))) (told_by i turn) (end_of i turn)
+  unfolding stage_from Placed
+  placed asked i (Takes es) p words tells was = quiet _ (ap length words.0.same.history) was refl
+  placed asked i Misses p words tells was = quiet _ (ap length words.0.same.history) was refl
+  placed asked i (FindsAlive es) p words tells was = quiet _ (ap length words.0.same.history) was refl
+  placed asked i (FindsDead es) p words tells was = quiet _ (ap length words.0.same.history) was refl
+  placed asked i (GivesUp es) p words tells was = quiet _ (ap length words.0.history) was refl
+  placed asked i (Looks es q) p words tells was = quiet _ (ap length words.0.same.history) was refl
+  placed asked i (GivesSpent es q) p words tells was = quiet _ (ap length words.0.history) was refl
+  placed asked i (GivesStarved es q) p words tells was = quiet _ (ap length words.0.history) was refl
+  placed asked i (DrawsTicket es q t) p words tells was =
+      places_drawn b b' l j t _ stand within first begins (ap length words.history ∙ length-append b.history (words.command ∷ [])) taken words.ticket_is was refl
+  placed asked i (GivesRead es q) p words tells was = quiet _ (ap length words.0.history) was refl
+  placed asked i (GivesChange es q t) p words tells was = places_given b b' l j t _ stand within first begins (ap length words.0.history) taken was refl
+
+-- ---- the step
+
+-- how it is told
+told_as : (i : ℕ) (turn : Turn) → told_of (step_of i turn) ≡ Some (told_by i turn)
+told_as i (Takes es) = refl
+told_as i Misses = refl
+told_as i (FindsAlive es) = refl
+told_as i (FindsDead es) = refl
+told_as i (GivesUp es) = refl
+told_as i (Looks es q) = refl
+told_as i (GivesSpent es q) = refl
+told_as i (GivesStarved es q) = refl
+told_as i (DrawsTicket es q t) = refl
+told_as i (GivesRead es q) = refl
+told_as i (GivesChange es q t) = refl
+
+told_once : (m k : Made) → Some m ≡ Some k → m ≡ k
+told_once m k e = cc
+
+-- a step of a call releases no reply
+nothing_released : (history : List Command) (asked : Asked) (stage : Stage) (m : Made) (end : End) → ReleasesLegal history (move_of (Walks asked stage) m end)
+nothing_released history (Changing c) stage (told.Drew t) end = tt
+nothing_released history (Changing c) stage m end = tt
+nothing_released history (Reading r) stage m end = tt
+
+-- the walk of a call is under way
+IsCall : ℕ → Record → Walk → Job → Type 0
+IsCall n p walk job = (asked : Asked) × (stage : Stage) × (job ≡ Walks asked stage) × IsCalling n p walk asked stage
+
+a_call : (n : ℕ) (p : Record) (walk : Walk) (job : Job) → JobStands n p (Calls walk) job → IsCall n p walk job
+unfolding IsCall
+a_call n p walk Idle stands = absurd stands
+a_call n p walk (Walks asked stage) stands = (asked, stage, refl, stands)
+a_call n p walk (Keeps asked position) stands = absurd stands
+a_call n p walk (Releasing asked position asking) stands = absurd stands
+
+module _ (b b' : Book) (files : Files) (history : List Command) (l : Life) (doings doings' : ℕ → Doing) (j : ℕ) (walk : Walk) (s : Stepped) (m : Made) (doing : Doing) (end : End) (stand : WorkersStand b (world_of files history l) l doings) (worker : j < 64)
+    (made : MakesStep j b b' m) (next : StepsWalk b.stripes walk (record_of j b) s (record_of j b')) (leaves : CallLeaves s doing end) (goes : IsNowDoing j doing doings doings')
+    (asked : Asked) (stage : Stage) (job_is : job_of l j ≡ Walks asked stage) (calling : IsCalling b.stripes (record_of j b) walk asked stage) where
+  abbrev stripe : ℕ
+  stripe = stripe_asked b.stripes asked
+
+  allowed : Next b.stripes calling.begun (task_of asked) s (record_of j b')
+  allowed = next calling.begun (task_of asked) calling.fits
+
+  turned : IsTurn stripe asked calling.made made.step end (record_of j b')
+  turned = turn_of b.stripes calling.begun calling.made made.step end (record_of j b) (record_of j b') calling.steps made.steps asked s doing allowed leaves
+
+  told_is : m ≡ told_by stripe turned.turn
+  told_is = told_once m (told_by stripe turned.turn) (sym made.told ∙ (ap told_of turned.step_is ∙ told_as stripe turned.turn))
+
+  stage_is : stage ≡ stage_of (steps_on stripe (before turned.turn))
+  stage_is = calling.stage_is ∙ ap stage_of turned.made_is
+
+  words_move : WordsMove j (step_of stripe turned.turn) b b'
+  words_move = subst (λ x. WordsMove j x b b') turned.step_is made.moved.words
+
+  meets_case : StepsJob (world_of files history l) l (job_of l j) m end
+  meets_case =
+      let own : StepsCall (world_of files history l) l stripe asked (stage_of (steps_on stripe (before turned.turn))) (told_by stripe turned.turn) (end_of stripe turned.turn) =
+      step_meets b b' (world_of files history l) l doings stand j asked stripe turned.turn (record_of j b') words_move turned.tells in
+      let at : StepsCall (world_of files history l) l stripe asked stage m end =
+      subst (λ x. StepsCall (world_of files history l) l stripe asked x m end) (sym stage_is)
+      (subst (λ x. StepsCall (world_of files history l) l stripe asked (stage_of (steps_on stripe (before turned.turn))) x end) (sym told_is)
+      (subst (λ x. StepsCall (world_of files history l) l stripe asked (stage_of (steps_on stripe (before turned.turn))) (told_by stripe turned.turn) x) (sym turned.end_is) own)) in
+      subst (λ x. StepsJob (world_of files history l) l x m end) (sym job_is)
+      (subst (λ n. StepsCall (world_of files history l) l (stripe_asked n asked) asked stage m end) (sym stand.words.stripes) at)
+
+  deeds : KeepsDeeds b b'
+  deeds = deeds_kept b b' (world_of files history l) l doings j m stand worker made
+
+  placed_so : Placed b' l j asked stage m end
+  placed_so =
+      let was : drawn_by (job_of l j) ≡ drawn_at (stage_of (steps_on stripe (before turned.turn))) = ap drawn_by job_is ∙ ap drawn_at stage_is in
+      let own : Placed b' l j asked (stage_of (steps_on stripe (before turned.turn))) (told_by stripe turned.turn) (end_of stripe turned.turn) =
+      placed b b' l j stand.places (omega (arith, worker, stand.jobs)) stand.words.first (ap (λ o. o.first) made.moved.opening) deeds.taken asked stripe turned.turn (record_of j b') words_move turned.tells was in
+      subst (λ x. Placed b' l j asked x m end) (sym stage_is)
+      (subst (λ x. Placed b' l j asked (stage_of (steps_on stripe (before turned.turn))) x end) (sym told_is)
+      (subst (λ x. Placed b' l j asked (stage_of (steps_on stripe (before turned.turn))) (told_by stripe turned.turn) x) (sym turned.end_is) own))
+
+  grew_so : Grew b b' history (history_after history (Walks asked stage) m)
+  grew_so = subst (λ x. Grew b b' history (history_after history (Walks asked stage) x)) (sym told_is) (grew b b' history asked stage j stripe turned.turn words_move turned.tells)
+
+  after_call : WorkersStand b' (world_of files (history_after history (Walks asked stage) m) (changed l j (job_after (Walks asked stage) m end) (places_after l (Walks asked stage) m)))
+      (changed l j (job_after (Walks asked stage) m end) (places_after l (Walks asked stage) m)) doings'
+  unfolding Placed
+  after_call =
+      let job : Job = job_after (Walks asked stage) m end in
+      let places : List Place = places_after l (Walks asked stage) m in
+      let stands : JobStands b.stripes (record_of j b') doing job =
+      job_stands b.stripes calling.begun calling.made made.step m (record_of j b) (record_of j b') calling.steps made.steps made.told calling.free stage calling.stage_is asked s doing end allowed leaves in
+      job_changed b b' (world_of files history l) (world_of files (history_after history (Walks asked stage) m) (changed l j job places)) l doings doings' j doing job places stand worker
+      made.moved.stripes made.moved.passes deeds.keeper made.moved.others goes
+      (subst (λ n. JobStands n (record_of j b') doing job) (sym made.moved.stripes) stands)
+      (words_moved b b' files history (history_after history (Walks asked stage) m) grew_so.more l j job places stand.words made.one made.apart made.moved.opening made.moved.stripes deeds grew_so.book grew_so.world)
+      placed_so
+
+  call_goes_on : (found : Opened) → KeepsStanding (world_of files history l) found (event.Step j) (outcome.Stepped m end) b' doings'
+  unfolding after
+  call_goes_on found = record {
+    meets = fitting (world_of files history l) found (event.Step j) (outcome.Stepped m end) (rw (is_one j worker, job_is) refl) meets_case;
+    answers = subst (λ x. ReleasesLegal history (move_of x m end)) (sym job_is) (nothing_released history asked stage m end);
+    stand = subst (λ x. WorkersStand b' (world_of files (history_after history x m) (changed l j (job_after x m end) (places_after l x m))) (changed l j (job_after x m end) (places_after l x m)) doings') (sym job_is) after_call;
+  }
+
+pub call_steps : CallSteps
+unfolding IsCall
+call_steps b b' w found doings doings' j walk s m doing end stand worker calls made next leaves goes = in_life b w doings (λ x. KeepsStanding x found (event.Step j) (outcome.Stepped m end) b' doings')
+    (λ files history l stands.
+    let is : IsCall b.stripes (record_of j b) walk (job_of l j) = a_call b.stripes (record_of j b) walk (job_of l j) (subst (λ d. JobStands b.stripes (record_of j b) d (job_of l j)) calls (stands.each j worker)) in
+    call_goes_on b b' files history l doings doings' j walk s m doing end stands worker made next leaves goes is.0 is.1 is.2 is.3 found) stand

@@ -1,0 +1,66 @@
+//! Laws of stores, each as the contract of a function.
+ghost use Rattle.store_invariant.specs.Laws.{BatchIsStaged, CheckpointBegins, CheckpointIsSealed, CommittedAreFound, EndStepsOn, LogEnds, LogStays, LogStepsOn, LogStepsStop, NextIsReady, NextStepsOn, NextStepsStop, OpenedStands, RotationBegins, SealBegins, SectionIsGiven, StandingStays, StopsUseCheckpoint, StoresStop, WriterStepsOn, WriterStepsStop};
+
+use checkpoint_file::stops_of_a_checkpoint;
+use gate_log::stops_of_a_log;
+use store_layout::laws::{
+    laws_of_checkpoints, laws_of_found, laws_of_logs, laws_of_restoring, laws_of_sections,
+};
+
+/// Whatever a stop leaves of a store, now and at each moment of a step, stands for a front of its history
+/// that has the committed commands, and no more than the staged ones besides.
+pub fn stops_of_a_store()
+    ensures rests { StoresStop }
+    ensures log { LogStepsStop }
+    ensures next { NextStepsStop }
+    ensures writer { WriterStepsStop }
+    ensures checkpoint { StopsUseCheckpoint }
+    ensures committed { CommittedAreFound }
+{
+    stops_of_a_log();
+    stops_of_a_checkpoint();
+    laws_of_checkpoints();
+    laws_of_restoring();
+    laws_of_found();
+}
+
+/// A store that was opened, and whose history grows.
+pub fn beginnings_of_stores()
+    ensures opened { OpenedStands }
+    ensures stays { StandingStays }
+{
+    laws_of_restoring();
+    laws_of_logs();
+    laws_of_sections();
+    laws_of_found();
+}
+
+/// A store after a step of its logs.
+pub fn steps_of_logs()
+    ensures staged { BatchIsStaged }
+    ensures log { LogStepsOn }
+    ensures stays { LogStays }
+    ensures next { NextStepsOn }
+    ensures ready { NextIsReady }
+    ensures end { EndStepsOn }
+    ensures ends { LogEnds }
+{
+    stops_of_a_log();
+    laws_of_restoring();
+    laws_of_logs();
+}
+
+/// A store after a step of its checkpoint.
+pub fn steps_of_checkpoints()
+    ensures begins { CheckpointBegins }
+    ensures rotates { RotationBegins }
+    ensures section { SectionIsGiven }
+    ensures seals { SealBegins }
+    ensures steps { WriterStepsOn }
+    ensures sealed { CheckpointIsSealed }
+{
+    laws_of_checkpoints();
+    laws_of_restoring();
+    laws_of_logs();
+    laws_of_sections();
+}

@@ -1,5 +1,0 @@
-use Rattle.store_server.proofs.Between.{complete}
-use Rattle.store_server.proofs.laws.begun_requests_complete.Goals as goal
-
-pub returns : goal.returns
-returns c = complete c.begun_calls_complete.ensures

@@ -1,8 +1,0 @@
-use denote.Param.Send.{sendable}
-use Rattle.std.proofs.Crossing.{crosses}
-use Rattle.disk_model.proofs.memory.MemDisk.TheSendSync as memory
-use Rattle.durable_map.proofs.Crosses.{shared_by_threads}
-use Rattle.store_tests.proofs.calls.thirteen_calls_answer_once_they_are_durable.Goals as goal
-
-pub join-called-requires-send-F : goal.join-called-requires-send-F
-join-called-requires-send-F c κs h = search (shared_by_threads, memory.the_send, sendable, crosses) depth 20

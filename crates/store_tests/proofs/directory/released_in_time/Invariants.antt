@@ -1,5 +1,0 @@
-use Rattle.durable_map.specs.Maps.{IsHeldOf, IsPassOf}
-use Rattle.store_tests.proofs.directory.released_in_time.Given as goal
-
-abbrev pub invariant-loop-turn : goal.invariant-loop-turn
-invariant-loop-turn g l = IsPassOf l.map l.pass × IsHeldOf l.map l.waiting
