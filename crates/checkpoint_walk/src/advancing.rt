@@ -18,8 +18,8 @@ use checkpoint_file::{CheckpointPhase, CheckpointWriter};
 use disk_model::Disk;
 use flusher::Keeper;
 use map_types::Refusal;
-use store_layout::laws::laws_of_checkpoints;
 use store_invariant::laws::{steps_of_checkpoints, stops_of_a_store};
+use store_layout::laws::laws_of_checkpoints;
 
 /// Makes the device call that is due in the file of the checkpoint, and no other, and answers the phase
 /// after it; where none is due it makes none. While the log of the checkpoint is begun none is due.

@@ -7,8 +7,8 @@ ghost use Rattle.cmd_serve.specs.Settings.{AreNamed, IsWorkerCount};
 
 use crate::pool::{Arrivals, workers};
 use crate::worker::{Gate, NoGate};
-use cmd_text::{MISUSED, break_off, cannot_open, port_named, refuse, say, stripes_named};
 use cmd_directory::Directories;
+use cmd_text::{MISUSED, break_off, cannot_open, port_named, refuse, say, stripes_named};
 use disk_model::{Disk, FirstError};
 use durable_map::{DurableMap, Ends, checkpoint_loop, flush_loop};
 use java_hash::StripeCount;

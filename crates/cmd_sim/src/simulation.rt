@@ -6,9 +6,9 @@ ghost use Rattle.cmd_sim.specs.Simulation.{ComesOf, IsTold, Simulates, Simulates
 
 use cmd_text::{MISUSED, cannot_open, print, refuse, say};
 use map_types::Refusal;
-use sim_script::{Script, ScriptError, parse, text_of};
 use schedule_sim::run;
 use sim_rules::Outcome;
+use sim_script::{Script, ScriptError, parse, text_of};
 use std::alloc::{AllocError, Global};
 use std::fs::File;
 use std::io::{Read, Write};

@@ -28,9 +28,9 @@ use map_types::Refusal;
 use std::alloc::Global;
 use std::mem;
 use std::sync::Wait;
+use store_invariant::laws::{beginnings_of_stores, steps_of_logs, stops_of_a_store};
 use store_layout::MOST_LOG_BYTES;
 use store_layout::laws::laws_of_found;
-use store_invariant::laws::{beginnings_of_stores, steps_of_logs, stops_of_a_store};
 use ticket_order::{Entry, Steps, Walk};
 
 /// The one value that sweeps, commits, publishes and fails.

@@ -12,8 +12,8 @@ ghost use Rattle.flusher.specs.Keeping.{is_walking};
 
 use crate::keeper::Keeper;
 use disk_model::Disk;
-use store_layout::laws::laws_of_found;
 use store_invariant::laws::{beginnings_of_stores, stops_of_a_store};
+use store_layout::laws::laws_of_found;
 
 /// Whatever a stop leaves of the four files stands for a front of the history that the keeper's pass has
 /// seen, with the committed commands and no more than the staged ones besides, also after a device call

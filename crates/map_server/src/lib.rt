@@ -4,7 +4,7 @@
 mod host;
 pub mod program;
 
+pub use cmd_serve::{Arrivals, Gate, NoGate, workers};
 pub use connections::{Calls, serve_connection};
 pub use host::Host;
 pub use program::dchm;
-pub use cmd_serve::{Arrivals, Gate, NoGate, workers};

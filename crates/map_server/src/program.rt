@@ -9,18 +9,18 @@ ghost use Rattle.map_server.specs.Program.{Ran, Serves};
 use crate::host::Host;
 use clap::error::ErrorKind;
 use clap::{Arg, ArgAction, ArgMatches, Command, Error};
-use connections::{ConnectionError, serve_connection};
-use cmd_text::{DONE, MISUSED, break_off, refuse, say};
-use cmd_directory::{Directories, check, init};
-use disk_model::MemDisk;
 use cmd_call::{Servers, make_calls};
-use map_types::Refusal;
+use cmd_directory::{Directories, check, init};
 use cmd_mem::Memory;
+use cmd_serve::{ServerWords, serve};
 use cmd_sim::sim;
+use cmd_text::{DONE, MISUSED, break_off, refuse, say};
+use connections::{ConnectionError, serve_connection};
+use disk_model::MemDisk;
+use map_types::Refusal;
 use std::alloc::{AllocError, Global};
 use std::io::{Read, Write};
 use std::sync::Wait;
-use cmd_serve::{ServerWords, serve};
 
 /// What a command line asks for.
 #[derive(Drop)]

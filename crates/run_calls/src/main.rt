@@ -10,8 +10,8 @@ mod records;
 mod replies;
 mod requests;
 
-use run_cases::told_of;
 use playing::CallCases;
+use run_cases::told_of;
 use std::{env, fs, io};
 
 fn main(rt: HostRuntime) -> io::Result<()> {

@@ -1,10 +1,10 @@
 //! Calls of a map, on the plain program and on a part.
 use atomic_methods::Part;
 use call_text::{Asked, parse_call, reply_text};
-use run_cases::put_entries;
 use java_hash::StripeCount;
 use map_model::ReferenceMap;
 use map_types::{Command, Read, Refusal, Reply};
+use run_cases::put_entries;
 use std::alloc::Global;
 
 // The reply of both maps.

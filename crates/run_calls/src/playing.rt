@@ -4,8 +4,8 @@ use crate::maps::calls;
 use crate::records::{fields, read_record, record};
 use crate::replies::{answer, reply};
 use crate::requests::{messages, request};
-use run_cases::{Names, Plays};
 use map_types::Refusal;
+use run_cases::{Names, Plays};
 use std::alloc::Global;
 
 // What comes of a case of this kind, whose input has these words.

@@ -1,10 +1,10 @@
 //! The records of changes, and their fields.
 use call_text::{Asked, parse_call};
-use run_cases::{Names, hexadecimal, number};
 use log_records::{
     decode, encode, key_at, number_at, put_key, put_number, put_value, record_len, some_value_at,
 };
 use map_types::{Command, Key, Refusal, Value};
+use run_cases::{Names, hexadecimal, number};
 use std::alloc::Global;
 
 // Whether a record is read as this command to its end, whatever follows it.

@@ -1,8 +1,8 @@
 //! Replies in bytes.
 use crate::halting::{Dripping, Halting};
 use call_text::{refusal_text, reply_text};
-use run_cases::Names;
 use map_types::{Refusal, Reply};
+use run_cases::Names;
 use std::alloc::{AllocError, Global};
 use wire_frames::{AnswerError, ReplyError, read_answer, read_reply, write_reply};
 

@@ -1,7 +1,7 @@
 //! The frames of requests, and the messages of a stream of them.
 use call_text::{Asked, Called, parse_words, refusal_text};
-use run_cases::{Names, hexadecimal};
 use map_types::Refusal;
+use run_cases::{Names, hexadecimal};
 use std::alloc::Global;
 use wire_frames::{Bulk, Feeder, Request, request_frame};
 

@@ -3,10 +3,10 @@ ghost use Rattle.std.specs.Prelude.{◌<◌};
 
 use crate::disks::{disk_with, plan};
 use call_text::refusal_text;
-use run_cases::{Names, number, put_entries};
 use checkpoint_file::{LoadedCheckpoint, LoadedSection, load};
 use disk_model::{Disk, MemDisk};
 use map_types::Refusal;
+use run_cases::{Names, number, put_entries};
 use std::alloc::{AllocError, Global};
 
 fn put_section(section: &LoadedSection, told: &mut String) -> Result<(), AllocError> {

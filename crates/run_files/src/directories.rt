@@ -2,12 +2,12 @@
 use crate::disks::{content, disk_of, plan};
 use atomic_methods::Part;
 use call_text::refusal_text;
-use run_cases::{Names, put_entries};
 use disk_model::{Disk, MemDisk};
 use flusher::Keeper;
 use java_hash::StripeCount;
 use map_types::Refusal;
 use recovery::{format, open_parts};
+use run_cases::{Names, put_entries};
 use std::alloc::Global;
 
 fn stripes_of(word: &str) -> Result<StripeCount, Refusal> {

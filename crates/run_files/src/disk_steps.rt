@@ -3,9 +3,9 @@ ghost use Rattle.std.specs.Prelude.{◌<◌, IfOk};
 
 use crate::disks::content;
 use crate::fills::{failure_of, stop};
-use run_cases::{Names, number};
 use disk_model::{Disk, MemDisk};
 use map_types::Refusal;
+use run_cases::{Names, number};
 use std::alloc::{AllocError, Global};
 
 fn file_of(word: &str) -> Result<usize, Refusal>

@@ -1,9 +1,9 @@
 //! Disks in memory whose files hold given bytes.
 ghost use Rattle.std.specs.Prelude.{◌<◌};
 
-use run_cases::{Names, hexadecimal, number};
 use disk_model::{Disk, Failure, Fill, MemDisk};
 use map_types::Refusal;
+use run_cases::{Names, hexadecimal, number};
 use std::alloc::Global;
 
 fn fill(

@@ -1,7 +1,7 @@
 //! What a stop leaves, as a word.
-use run_cases::{bytes_spelled, number};
 use disk_model::{Failure, Fill, MemDisk};
 use map_types::Refusal;
+use run_cases::{bytes_spelled, number};
 use std::alloc::Global;
 
 fn lens_of(text: &str) -> Result<[usize; 4], Refusal> {

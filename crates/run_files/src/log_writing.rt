@@ -9,11 +9,11 @@ ghost use Rattle.gate_log.specs.Standing.{Stands};
 use crate::disks::content;
 use crate::fills::{failure_of, stop};
 use call_text::refusal_text;
-use run_cases::number;
 use disk_model::{Disk, Failure, Fill, MemDisk};
 use gate_log::{Found, GateLog, Phase, Scan, commit_staged};
 use log_records::record_len;
 use map_types::{Change, Command, Key, Refusal, Value};
+use run_cases::number;
 use std::alloc::Global;
 use ticket_order::{Entry, Ticket};
 

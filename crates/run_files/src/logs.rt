@@ -1,10 +1,10 @@
 //! Logs as they are read.
 use crate::disks::{disk_with, plan};
-use run_cases::{Names, hexadecimal};
 use disk_model::MemDisk;
 use gate_log::{Found, Scan};
 use log_records::{encode, put_number};
 use map_types::Refusal;
+use run_cases::{Names, hexadecimal};
 use std::alloc::Global;
 use ticket_order::Entry;
 

@@ -12,8 +12,8 @@ mod log_writing;
 mod logs;
 mod playing;
 
-use run_cases::told_of;
 use playing::FileCases;
+use run_cases::told_of;
 use std::{env, fs, io};
 
 fn main(rt: HostRuntime) -> io::Result<()> {

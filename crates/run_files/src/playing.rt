@@ -5,8 +5,8 @@ use crate::directories::{formatted, opened};
 use crate::disk_steps::stepped;
 use crate::log_writing::{log_ended, log_resumed, log_written};
 use crate::logs::scanned;
-use run_cases::{Names, Plays};
 use map_types::Refusal;
+use run_cases::{Names, Plays};
 use std::alloc::Global;
 
 // What comes of a case of this kind, whose input has these words.

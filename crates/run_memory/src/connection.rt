@@ -7,17 +7,17 @@ use crate::directory::running;
 use crate::host::Host;
 use crate::marks::{begin, end};
 use anyhow::{Context, Result, anyhow};
-use run_cases::{bytes_spelled, hexadecimal};
+use cmd_mem::Memory;
+use cmd_serve::{NoGate, Responds, Task, Worker, answer_of, respond_by};
 use connections::{Calls, ConnectionError, serve_connection};
 use disk_model::{Disk, MemDisk};
 use durable_map::{DurableMap, Ends, flush_loop};
 use map_types::{Refusal, Reply};
-use cmd_mem::Memory;
+use run_cases::{bytes_spelled, hexadecimal};
 use std::alloc::Global;
 use std::sync::Wait;
 use std::sync::atomic::{AtomicBool, AtomicU64, Ordering};
 use std::thread::join;
-use cmd_serve::{NoGate, Responds, Task, Worker, answer_of, respond_by};
 
 /// Room for all replies of a case, so that what is written takes no memory.
 const ROOM: usize = 65536;

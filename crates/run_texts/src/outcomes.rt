@@ -3,8 +3,8 @@ use call_text::{refusal_text, reply_text};
 use checkpoint_file::CheckpointPhase;
 use gate_log::Phase;
 use map_types::{FuncError, Key, Refusal, Reply, Value};
-use sim_script::{Form, Span, text_of};
 use sim_rules::{DeviceCall, End, Made, MapEntry, Outcome};
+use sim_script::{Form, Span, text_of};
 use std::alloc::{AllocError, Global};
 
 const DAMAGED: Refusal = Refusal::Damaged {

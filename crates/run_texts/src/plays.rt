@@ -1,9 +1,9 @@
 //! What comes last of schedules that are played.
 use crate::scripts::script_of;
 use disk_model::Fill;
-use sim_script::{Script, ScriptError};
 use schedule_sim::run;
 use sim_rules::{End, Event, Outcome};
+use sim_script::{Script, ScriptError};
 use std::alloc::{AllocError, Global};
 
 /// A change of `a` to 5, whose batch is written and synced; its gate isn't opened.

@@ -1,8 +1,8 @@
 //! What comes of scripts that aren't played.
 use crate::events::event_text;
 use map_types::Refusal;
-use sim_script::{Script, ScriptError, parse, text_of};
 use sim_rules::{End, Event, Made, Outcome};
+use sim_script::{Script, ScriptError, parse, text_of};
 use std::alloc::{AllocError, Global};
 
 /// What is told, or the fault of the script.

@@ -14,11 +14,11 @@ use crate::traced::Traced;
 use checkpoint_file::CheckpointPhase;
 use checkpoint_walk::{advance, stops_while_capturing};
 use gate_log::Phase;
-use sim_keeper::laws::{laws_of_checkpoint_calls, laws_of_log_calls, laws_of_telling};
 use map_types::Refusal;
-use sim_workers::laws::steps_of_the_keeper;
+use sim_keeper::laws::{laws_of_checkpoint_calls, laws_of_log_calls, laws_of_telling};
 use sim_rules::laws::laws_of_known_histories;
 use sim_rules::{DeviceCall, Ending, Outcome, Side};
+use sim_workers::laws::steps_of_the_keeper;
 use std::alloc::AllocError;
 use store_layout::{checkpoint_file, log_file};
 

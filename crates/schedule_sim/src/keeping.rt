@@ -11,10 +11,10 @@ ghost use Rattle.schedule_sim.specs.Living.{Did, IsLife};
 use crate::life::{Life, WORKERS};
 use crate::traced::Traced;
 use checkpoint_walk::{begin, seal};
-use sim_keeper::laws::{laws_of_batches, laws_of_counts, laws_of_seals, laws_of_telling};
 use plain_words::At;
-use sim_workers::laws::steps_of_the_keeper;
+use sim_keeper::laws::{laws_of_batches, laws_of_counts, laws_of_seals, laws_of_telling};
 use sim_rules::Outcome;
+use sim_workers::laws::steps_of_the_keeper;
 
 impl Life {
     pub(crate) fn stage(&mut self, most: u32) -> Outcome

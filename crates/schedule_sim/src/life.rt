@@ -25,15 +25,15 @@ use atomic_methods::Part;
 use checkpoint_walk::stops_while_capturing;
 use flusher::Keeper;
 use java_hash::StripeCount;
-use sim_keeper::laws::laws_of_lives;
 use map_model::laws::laws_of_parts;
 use map_types::{Command, Read};
 use plain_words::PlainWords;
+use sim_keeper::laws::laws_of_lives;
+use sim_rules::laws::laws_of_known_histories;
+use sim_rules::{Event, Made, Outcome};
 use sim_workers::laws::{
     beginnings_of_lives, beginnings_of_walks, fits_of_workers, steps_of_workers, walks_of_workers,
 };
-use sim_rules::laws::laws_of_known_histories;
-use sim_rules::{Event, Made, Outcome};
 use std::alloc::{AllocError, Global};
 use std::mem;
 use ticket_order::{Stepped, Walk};

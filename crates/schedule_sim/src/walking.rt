@@ -13,12 +13,12 @@ use crate::traced::Traced;
 use crate::watched::Watched;
 use checkpoint_walk::capture_step;
 use flusher::Swept;
+use map_types::Refusal;
 use sim_keeper::laws::{
     laws_of_captures, laws_of_lives, laws_of_sweeps, laws_of_taking, laws_of_telling,
 };
-use map_types::Refusal;
-use sim_workers::laws::{steps_of_the_keeper, words_of_stripes};
 use sim_rules::{End, Outcome};
+use sim_workers::laws::{steps_of_the_keeper, words_of_stripes};
 
 // What a step of a sweep leaves of it.
 fn end_of_sweep(swept: Result<Swept, Refusal>) -> End

@@ -1,8 +1,8 @@
 //! The journal of the map in memory, on a disk that fails.
+use cmd_mem::Memory;
 use connections::{Calls, serve_connection};
 use disk_model::{Failure, Fill, MemDisk};
 use map_types::{Change, Command, Key, Question, Read, Refusal, Reply, Value};
-use cmd_mem::Memory;
 use std::alloc::Global;
 use std::sync::Wait;
 use std::test::Fail;

@@ -3,11 +3,11 @@
 use crate::dice::Dice;
 use crate::journal::{begun, called};
 use atomic_methods::Part;
+use cmd_mem::Memory;
 use disk_model::MemDisk;
 use java_hash::StripeCount;
 use map_model::reference::ReferenceMap;
 use map_types::{Command, Read, Refusal, Reply};
-use cmd_mem::Memory;
 use std::alloc::Global;
 use std::sync::Wait;
 use wire_frames::Request;

@@ -1,5 +1,5 @@
-use Rattle.std.proofs.Common.{◌≡◌, ℕ, IfOk, Result, Ok, Err, sym, ◌∙◌, ap}
-use Rattle.disk_model.specs.Files.{now}
+use Rattle.std.proofs.Common.{◌≡◌, ◌+◌, ℕ, List, length, IfOk, Result, Ok, Err, sym, subst, ◌∙◌, ap}
+use Rattle.disk_model.specs.Files.{Files, now}
 use Rattle.sim_rules.specs.World.{World}
 use Rattle.schedule_sim.specs.declared.traced.Traced.{Traced}
 use Rattle.schedule_sim.specs.Storing.{IsClosed}
@@ -23,3 +23,8 @@ pub returns-in_ok-calls-in-Err-clause-did : goal.returns-in_ok-calls-in-Err-clau
 returns-in_ok-calls-in-Err-clause-did c = if_ok c.refused.result _ _ (λ x did w least closed. did w least c.args.stripes c.plan_opening.new.disk
     (c.in_ok-calls-in-Err.ensures (traced_states c.plan_opening.new.disk) c.calls-before.ensures) (c.in-Err.ensures.tried tt) c.in-Err.ensures.stopped (c.in-Err.ensures.err tt).1
     (planned w least c.args.disk c.plan_opening.new.disk c.plan_opening.ensures closed)) c.refused.ensures.did
+
+pub returns-in_ok-calls-in-Err-clause-told : goal.returns-in_ok-calls-in-Err-clause-told
+returns-in_ok-calls-in-Err-clause-told c = c.refused.ensures.told c.args.disk
+    (subst (λ (states : List Files). length states + c.in_ok-calls-in-Err.calls ≡ length (traced_states c.in-Err.disk)) c.plan_opening.ensures
+    (c.in_ok-calls-in-Err.ensures (traced_states c.plan_opening.new.disk) c.calls-before.ensures))
