@@ -37,14 +37,14 @@ fn longest_change(alloc: Global) -> Result<Change, Refusal> {
 }
 
 // A change whose record takes 8,455 bytes, the most that there is.
-pub(crate) fn longest(alloc: Global) -> Result<Command, Refusal> {
+fn longest(alloc: Global) -> Result<Command, Refusal> {
     let key = longest_key(alloc)?;
     let change = longest_change(alloc)?;
     Ok(Command { key, change })
 }
 
 // Makes the change so many times.
-pub(crate) fn make_often(
+fn make_often(
     stripes: &Stripes,
     worker: &mut Pass,
     command: &Command,

@@ -2,8 +2,6 @@
 #![tactic(auto)]
 
 #[cfg(test)]
-mod ahead;
-#[cfg(test)]
 mod batches;
 #[cfg(test)]
 mod checkpoints;

@@ -38,11 +38,7 @@ impl Ends for Flag {
     }
 }
 
-pub(crate) fn open<R: Abort>(
-    rt: &R,
-    alloc: Global,
-    disk: MemDisk,
-) -> Result<DurableMap<MemDisk>, Refusal> {
+fn open<R: Abort>(rt: &R, alloc: Global, disk: MemDisk) -> Result<DurableMap<MemDisk>, Refusal> {
     let count = StripeCount::new(16).expect(rt, "16 is a count of stripes");
     let mut disk = disk;
     format(alloc, &mut disk, count)?;
@@ -55,7 +51,7 @@ pub(crate) fn open<R: Abort>(
     }
 }
 
-pub(crate) fn key(alloc: Global, text: &str) -> Result<Key, Refusal> {
+fn key(alloc: Global, text: &str) -> Result<Key, Refusal> {
     Key::new(alloc, text)
 }
 
@@ -259,8 +255,8 @@ fn try_reads(
 
 /// Ends a loop after so many turns.
 #[derive(Drop)]
-pub(crate) struct Turns {
-    pub(crate) left: AtomicU32,
+struct Turns {
+    left: AtomicU32,
 }
 
 impl Ends for Turns {

@@ -2,8 +2,6 @@
 #![tactic(auto)]
 
 #[cfg(test)]
-mod begun;
-#[cfg(test)]
 mod calls;
 #[cfg(test)]
 mod directory;
