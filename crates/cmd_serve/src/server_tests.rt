@@ -348,7 +348,7 @@ fn calls_of_opening(alloc: Global) -> Result<u64, Fail> {
 #[test]
 fn after_a_device_failure_each_call_fails(rt: HostRuntime) -> Result<(), Fail> {
     let fill = Fill::Old;
-    let after = calls_of_opening(rt.alloc())? + 2;
+    let after = calls_of_opening(rt.alloc())?.wrapping_add(2);
     let server = server_over(rt.alloc(), Some(Failure { after, fill }))?;
     let puts = repeated(rt.alloc(), PUT, 30)?;
     let sent = served(&rt, rt.alloc(), &server, &NoGate, &[puts.as_slice(); 3], 1)?;
