@@ -1,8 +1,7 @@
 -- A part, and a change that is prepared for it, may go from thread to thread.
 use denote.Param.Send.{IsSend, sendable}
-use Rattle.std.proofs.Crossing.{Box-send}
+use Rattle.std.proofs.Crossing.{crosses, Box-send}
 use Rattle.map_types.proofs.commands.Reply.TheSendSync as reply
-use Rattle.map_types.proofs.keys.Key.TheSendSync as key
 use Rattle.map_types.proofs.texts.Value.TheSendSync as value
 use Rattle.bin_table.proofs.Crosses.{node_send}
 use Rattle.bin_transfer.proofs.Crosses.{growing_send}
@@ -14,7 +13,7 @@ pub part_send : IsSend Part.the_row
 part_send = search (growing_send, sendable) depth 20
 
 action_send : IsSend (Action.the_field).row
-action_send = search (node_send, key.the_send, value.the_field_send, Box-send, sendable) depth 20
+action_send = search (node_send, value.the_field_send, Box-send, sendable) depth 20
 
 pub prepared_send : IsSend Prepared.the_row
-prepared_send = search (action_send, reply.the_field_send, sendable) depth 20
+prepared_send = search (action_send, reply.the_field_send, crosses, sendable) depth 20

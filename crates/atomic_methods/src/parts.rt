@@ -1,5 +1,5 @@
 //! One stripe's map.
-ghost use Rattle.std.specs.Prelude.{◌≡◌, ◌^◌, ◌-◌, ◌↔◌, IfOk, IfErr, OnOk, OnErr, IsTrue, Some, None, min};
+ghost use Rattle.std.specs.Prelude.{◌≡◌, ◌^◌, ◌-◌, ◌↔◌, IfOk, IfErr, IfSome, OnOk, OnErr, IsTrue, Some, None, min};
 ghost use Rattle.std.specs.Option.{option_copied};
 ghost use Rattle.std.specs.FinMap as finite;
 ghost use Rattle.map_model.specs.Steps.{answer};
@@ -17,6 +17,7 @@ use java_hash::{StripeCount, spread_of};
 use map_types::{Command, Key, Read, Refusal, Reply, Value};
 use std::alloc::{AllocError, Global};
 use std::marker::Model;
+use std::snapshot::Snapshot;
 
 /// The entries whose keys belong to one stripe. Contracts see it as its finite map, and what they
 /// need to know of its growth.
@@ -83,18 +84,6 @@ impl Part {
         })
     }
 
-    // Gives the key, which is mapped and whose hash has this spread, another value.
-    fn replace(&mut self, spread: u32, key: &Key, value: Value)
-        requires spread { spread ≡ spread_of_key key.now }
-        requires mapped { IsTrue (finite.contains_key self.old.map key.now) }
-        ensures map { self.new.map ≡ finite.insert self.old.map key.now value }
-        ensures growth { self.new.growth ≡ self.old.growth }
-    {
-        let mut node = self.table.take(spread, key).unwrap();
-        node.value = value;
-        self.table.add(spread, node);
-    }
-
     /// Gets all the memory that the change needs, so that `act` can make it. The content stays,
     /// also where no memory is found, which is refused with `NoMemory`. If nothing is refused, a
     /// growth that is due begins, or is put off if it finds no memory, and the one that runs is
@@ -135,12 +124,15 @@ impl Part {
             action,
             spread,
             reply,
+            key: Snapshot::of(&command.key),
         })
     }
 
-    /// Makes the change that `prepare` has prepared for the content that the part still has.
-    pub fn act(&mut self, prepared: Prepared) -> Reply
-        requires { CanAct self.old.map prepared }
+    /// Makes the change that `prepare` has prepared for the content that the part still has. The
+    /// key is that of the change's command.
+    pub fn act(&mut self, key: &Key, prepared: Prepared) -> Reply
+        requires can { CanAct self.old.map prepared }
+        requires key { IfSome prepared.change (λ change. change.0 ≡ key.now) }
         ensures map { self.new.map ≡ acted self.old.map prepared.change }
         ensures growth { self.new.growth ≡ self.old.growth }
         ensures reply { result ≡ prepared.reply }
@@ -149,13 +141,14 @@ impl Part {
             action,
             spread,
             reply,
+            key: _,
         } = prepared;
         match action {
             Action::Keep => {}
-            Action::Unmap(key) => {
-                let _taken = self.table.take(spread, &key);
+            Action::Unmap => {
+                let _taken = self.table.take(spread, key);
             }
-            Action::Replace(key, value) => self.replace(spread, &key, value),
+            Action::Replace(value) => self.table.replace(spread, key, value),
             Action::Insert(node) => self.table.add(spread, node),
         }
         reply
@@ -202,12 +195,12 @@ impl Part {
     }
 }
 
-// What is done to the table, with the memory for it.
+// What is done to the table at the key of the command, with the memory for it.
 #[derive(Drop)]
 enum Action {
     Keep,
-    Unmap(Key),
-    Replace(Key, Value),
+    Unmap,
+    Replace(Value),
     Insert(Box<Node>),
 }
 
@@ -215,9 +208,11 @@ enum Action {
 #[derive(Drop)]
 pub struct Prepared {
     action: Action,
-    // The spread of the hash of the action's key, which is hashed once.
+    // The spread of the hash of the command's key, which is hashed once.
     spread: u32,
     reply: Reply,
+    // The command's key, as it was when the change was prepared. Contracts alone read it.
+    key: Snapshot<Key>,
 }
 
 impl Model for Prepared {
@@ -228,15 +223,15 @@ impl Model for Prepared {
     ghost use Rattle.atomic_methods.specs.Actions.{change_of, is_in_place, IsHashed};
 
     ghost view = { λ prepared. record {
-      change = change_of prepared.action;
+      change = change_of prepared.key.value prepared.action;
       in_place = is_in_place prepared.action;
       reply = prepared.reply;
     } };
 
-    ghost invariant = { λ prepared. IsHashed prepared.action prepared.spread };
+    ghost invariant = { λ prepared. IsHashed prepared.key.value prepared.action prepared.spread };
 }
 
-// Only an entry that wasn't there takes a node.
+// Only an entry that wasn't there takes a node, and with it a copy of the key.
 fn prepare_action(
     alloc: Global,
     key: &Key,
@@ -248,20 +243,21 @@ fn prepare_action(
 {
     match effect {
         Effect::Keep => Ok(Action::Keep),
-        Effect::Unmap => Ok(Action::Unmap(key.clone()?)),
-        Effect::Store(value) => store_action(alloc, key.clone()?, value, is_mapped),
+        Effect::Unmap => Ok(Action::Unmap),
+        Effect::Store(value) => store_action(alloc, key, value, is_mapped),
     }
 }
 
-fn store_action(alloc: Global, key: Key, value: Value, is_mapped: bool) -> Result<Action, Refusal>
-    ensures change { IfOk result (λ action. change_of action ≡ Some (key, Some value)) }
+fn store_action(alloc: Global, key: &Key, value: Value, is_mapped: bool) -> Result<Action, Refusal>
+    ensures change { IfOk result
+        (λ action. change_of key.now action ≡ Some (key.now, Some value)) }
     ensures in_place { IfOk result (λ action. is_in_place action ≡ is_mapped) }
     ensures err { IfErr result (λ refusal. refusal ≡ Refusal.NoMemory) }
 {
     if is_mapped {
-        return Ok(Action::Replace(key, value));
+        return Ok(Action::Replace(value));
     }
-    Ok(Action::Insert(Node::new(alloc, key, value)?))
+    Ok(Action::Insert(Node::new(alloc, key.clone()?, value)?))
 }
 
 #[cfg(test)]
@@ -286,8 +282,9 @@ mod tests {
     }
 
     fn change(part: &mut Part, alloc: Global, key: Key, change: Change) -> Result<(), Refusal> {
-        let prepared = part.prepare(alloc, &Command { key, change })?;
-        part.act(prepared);
+        let command = Command { key, change };
+        let prepared = part.prepare(alloc, &command)?;
+        part.act(&command.key, prepared);
         Ok(())
     }
 

@@ -29,7 +29,7 @@ fn get(alloc: Global, key: &str) -> Result<Read, Refusal> {
 fn pair_on_a_part(part: &mut Part, alloc: Global, number: u32) -> Result<(), Refusal> {
     let command = put(alloc, KEYS[0], number)?;
     let prepared = part.prepare(alloc, &command)?;
-    part.act(prepared);
+    part.act(&command.key, prepared);
     part.read(&get(alloc, KEYS[0])?)?;
     Ok(())
 }

@@ -1,27 +1,16 @@
 -- A fold whose steps may change places gives the same over entries in any order, and so over the stripes one after another as over all keys in byte order.
-use Rattle.std.proofs.Common.{◌≡◌, ℕ, ◌+◌, Bool, true, false, cond, is_some, Option, None, Some, List, [], ◌∷◌, length, fold, refl, sym, ap, ◌∙◌, Ordering, Less, Equal, Greater, arith}
+use Rattle.std.proofs.Common.{◌≡◌, ℕ, ◌+◌, true, false, cond, is_some, None, List, [], ◌∷◌, length, fold, refl, sym, ap, ◌∙◌, Ordering, Less, Equal, Greater, arith}
 use Rattle.std.specs.Ordering.{nat_cmp, eq_by_cmp, is_eq}
 use Rattle.std.specs.Cmp.Lexicographic.{slice_cmp, nat_list_cmp_total}
 use Rattle.std.specs.FinMap as finite
 use Rattle.std.specs.FinMap.Entries.{by_order}
 use Rattle.map_types.specs.declared.texts.Value.{Value}
-use Rattle.map_model.specs.Maps.{Map}
-use Rattle.bin_table.specs.Chains.{Entries, find_in, HasDistinctKeys}
-
-pub head_differs : (b : Bool) (v : Value) (o : Option Value) → cond b (Some v) o ≡ None → b ≡ false
-head_differs true v o none = cc
-head_differs false v o none = refl
-
-pub none_behind : (b : Bool) (v : Value) (o : Option Value) → cond b (Some v) o ≡ None → o ≡ None
-none_behind true v o none = cc
-none_behind false v o none = none
+use Rattle.bin_table.specs.Chains.{Entries, find_in, HasDistinctKeys, map_of}
+use Rattle.bin_table.proofs.SortLaws.{head_differs, none_behind}
 
 no_length : {A : Type 0} (es : List A) → length es ≡ 0 → es ≡ []
 no_length [] e = refl
 no_length (x ∷ es) e = absurd (omega arith)
-
-abbrev map_of : Entries → Map
-map_of es = finite.from_entries es
 
 entries-empty : finite.entries (finite.empty {X = Value} {R = slice_cmp nat_cmp}) ≡ []
 entries-empty = no_length _ (sym (finite.len-entries (finite.empty {X = Value} {R = slice_cmp nat_cmp})) ∙ finite.len-empty (slice_cmp nat_cmp) Value)

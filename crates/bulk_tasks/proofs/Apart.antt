@@ -14,9 +14,9 @@ use Rattle.map_model.specs.Maps.{Map}
 use Rattle.map_model.specs.Parts.{part_of, is_in_stripe}
 use Rattle.map_model.proofs.MapLaws.{get-part_of}
 use Rattle.bin_table.specs.Chains.{Entries, find_in, HasDistinctKeys}
+use Rattle.bin_table.proofs.SortLaws.{head_differs, none_behind}
 use Rattle.ticket_order.specs.declared.capture_walk.Captured.{Captured}
 use Rattle.bulk_tasks.specs.Parts.{entries_of, AreParts, parts_from}
-use Rattle.bulk_tasks.proofs.AnyOrder.{head_differs, none_behind}
 
 first : (a b : Bool) → T (a && b) → T a
 first true b p = tt

@@ -1,5 +1,5 @@
 -- What the steps of a whole view come to.
-use Rattle.std.proofs.Common.{◌≡◌, ℕ, ◌+◌, ◌≤◌, ◌<◌, List, [], ◌∷◌, ◌++◌, length, fold, map, max, false, Result, Ok, Err, IfOk, IfErr, refl, sym, ap, subst, ◌∙◌, arith, append_assoc}
+use Rattle.std.proofs.Common.{◌≡◌, ℕ, ◌+◌, ◌≤◌, List, [], ◌∷◌, ◌++◌, length, fold, map, max, Result, Ok, Err, IfOk, IfErr, refl, sym, ap, subst, ◌∙◌, arith, append_assoc}
 use Rattle.std.proofs.lemmas.List.{length-map}
 use Rattle.map_types.specs.declared.refusals.Refusal.{Refusal}
 use Rattle.map_types.specs.declared.refusals.Refusal.TheVariants as refusal
@@ -10,16 +10,17 @@ use Rattle.ticket_order.specs.declared.capture_walk.Captured.{Captured}
 use Rattle.ticket_order.specs.declared.record.Record.{Record}
 use Rattle.ticket_order.specs.declared.record.Section.{Section}
 use Rattle.ticket_order.specs.declared.record.StepMade.{StepMade}
-use Rattle.ticket_order.specs.declared.record.StepMade.TheVariants.{FoundAlive, Saw}
+use Rattle.ticket_order.specs.declared.record.StepMade.TheVariants.{Saw}
 use Rattle.ticket_order.specs.Legality.{history_of}
 use Rattle.flusher.specs.Fitting.{IsBeside}
-use Rattle.durable_map.specs.Durable.{EndsDurable}
+use Rattle.durable_map.specs.Durable.{EndsDurable, EndsFailed}
+use Rattle.durable_map.proofs.Growing.{fails_behind}
 use Rattle.view_walk.specs.Viewing as walked
 use Rattle.view_walk.specs.Viewing.{greatest_mark, IsDone, IsFailed, IsStarved, Next, Shows, Views}
 use Rattle.bulk_tasks.specs.ViewState.{ViewState}
 use Rattle.bulk_tasks.specs.Parts.{AreParts, marks_of, parts_from}
 use Rattle.bulk_tasks.specs.Laws.{maps_of}
-use Rattle.bulk_tasks.specs.Completing.{AddsView, AnswersView, AreInTurn, Captures, CompletesView, EndsFailed, greatest_of, LacksMemory, Rising, view_of}
+use Rattle.bulk_tasks.specs.Completing.{AddsView, AnswersView, AreInTurn, Captures, CompletesView, greatest_of, LacksMemory, Rising, view_of}
 use Rattle.bulk_tasks.proofs.Walked.{views_are_parts}
 
 -- ---- the marks of what was captured
@@ -71,28 +72,11 @@ ends_durable n b zs w d =
       reached = subst (λ (q : ℕ). q ≤ at.since.durable) (greatest_is zs) at.since.reached;
     }
 
-three_more : (l m : List StepMade) (x y z : StepMade) → (((l ++ m) ++ x ∷ []) ++ y ∷ []) ++ z ∷ [] ≡ l ++ (m ++ x ∷ y ∷ z ∷ [])
-three_more l m x y z =
-    append_assoc ((l ++ m) ++ x ∷ []) (y ∷ []) (z ∷ []) ∙ (append_assoc (l ++ m) (x ∷ []) (y ∷ z ∷ []) ∙ append_assoc l m (x ∷ y ∷ z ∷ []))
-
 ends_failed : (n : ℕ) (b w : Record) (k : IsFailed n b w) → EndsFailed b (greatest_of (marks_of k.captured)) w
 ends_failed n b w k =
     let at = k.failed in
-    let made = at.all.views.made in
-    let one = at.since.first.misses in
-    let two = at.since.second in
-    let first = Saw one.durable in
-    let dead = FoundAlive false in
-    let second = Saw two.durable in record {
-      before = made;
-      first = one.durable;
-      second = two.durable;
-      steps = ap (λ (r : Record). r.steps) two.sees.is ∙ (ap (λ (r : Record). r.steps ++ second ∷ []) at.since.first.lives.is
-          ∙ (ap (λ (r : Record). (r.steps ++ dead ∷ []) ++ second ∷ []) one.sees.is
-          ∙ (ap (λ (l : List StepMade). ((l ++ first ∷ []) ++ dead ∷ []) ++ second ∷ []) at.all.views.steps_are ∙ three_more b.steps made first dead second)));
-      missed = subst (λ (q : ℕ). one.durable < q) (greatest_is k.captured) one.missed;
-      missed_again = subst (λ (q : ℕ). two.durable < q) (greatest_is k.captured) two.missed;
-    }
+    let failed = fails_behind b at.between w (greatest_mark k.captured) at.all.views.made at.all.views.steps_are at.since in
+    subst (λ (q : ℕ). EndsFailed b q w) (greatest_is k.captured) failed
 
 -- ---- how a view ends
 

@@ -1,24 +1,20 @@
 -- Views and calls of one pass are of one history.
-use Rattle.std.proofs.Common.{◌≡◌, ℕ, ◌+◌, ◌-◌, ◌≤◌, List, [], ◌∷◌, ◌++◌, length, map, All, refl, sym, ap, subst, ◌∙◌, arith}
-use Rattle.std.proofs.lemmas.List.{take-append-le}
+use Rattle.std.proofs.Common.{◌≡◌, ℕ, ◌+◌, ◌-◌, ◌≤◌, List, [], ◌∷◌, ◌++◌, length, map, All, refl, sym, ap, ◌∙◌, arith}
 use Rattle.std.proofs.lemmas.List.Elements.{All-nil, All-cons}
-use Rattle.std.proofs.lemmas.Option.{slice_get_within}
 use Rattle.map_types.specs.declared.commands.Command.{Command}
-use Rattle.map_types.specs.declared.commands.Reply.{Reply}
 use Rattle.map_model.specs.Maps.{Map}
 use Rattle.map_model.specs.Parts.{union_of}
-use Rattle.map_model.specs.Steps.{map_after}
 use Rattle.map_model.specs.Histories.{fold_to}
 use Rattle.ticket_order.specs.declared.record.Asked.{Asked}
-use Rattle.ticket_order.specs.declared.record.Asked.TheVariants.{Changing, Reading}
 use Rattle.ticket_order.specs.declared.record.Opening.{Opening}
 use Rattle.ticket_order.specs.declared.record.Record.{Record}
 use Rattle.ticket_order.specs.declared.record.Call.{Call}
 use Rattle.ticket_order.specs.Records.{call, reach}
-use Rattle.ticket_order.specs.Legality.{IsLegal, history_from, history_of}
+use Rattle.ticket_order.specs.Legality.{history_from, history_of}
+use Rattle.ticket_order.proofs.Longer.{fold_longer}
 use Rattle.one_history.specs.OneHistory.{Follows}
-use Rattle.one_history.proofs.Legal.{legal_longer}
 use Rattle.flusher.specs.Fitting.{IsBeside}
+use Rattle.durable_map.proofs.Answering.{legal_on, reached, follows_more}
 use Rattle.bulk_tasks.specs.Parts.{parts_from}
 use Rattle.bulk_tasks.specs.Completing.{Rising, view_of}
 use Rattle.bulk_tasks.specs.Laws.{CallsFollowViews, ViewsFollowCalls}
@@ -37,10 +33,6 @@ above p low (q ∷ marks) high at r =
     let here : p ≤ q = omega (arith, at, r.0) in
     All-cons (λ q. p ≤ q) q marks here (above p q marks high here r.1)
 
-follows_more : (p q : ℕ) (asked : Asked) (position : ℕ) → p ≤ q → Follows q asked position → Follows p asked position
-follows_more p q (Changing c) position low follows = omega (arith, low, follows)
-follows_more p q (Reading r) position low follows = omega (arith, low, follows)
-
 -- what stands behind the end stands behind each
 behind : (low : ℕ) (marks : List ℕ) (high : ℕ) (asked : Asked) (position : ℕ) → Rising low marks high → Follows high asked position → All (λ q. Follows q asked position) marks
 behind low [] high asked position r follows = All-nil (λ q. Follows q asked position)
@@ -49,29 +41,18 @@ behind low (q ∷ marks) high asked position r follows =
 
 -- ---- what stays while a pass sees more
 
-legal_on : (u w : Record) (asked : Asked) (position : ℕ) (reply : Reply) → IsBeside u w → IsLegal (history_of u) position asked reply → IsLegal (history_of w) position asked reply
-legal_on u w asked position reply k legal =
-    subst (λ (o : Opening). IsLegal (history_from o w.seen) position asked reply) (sym k.opening)
-    (subst (λ (xs : List Command). IsLegal (history_from u.opening xs) position asked reply) (sym k.seen.is) (legal_longer u.opening u.seen k.seen.more position asked reply legal))
-
 -- the maps at marks that were seen
 maps_on : (o : Opening) (h more : List Command) (low : ℕ) (marks : List ℕ) → Rising low marks (o.first + length h) → map (fold_to (history_from o (h ++ more))) marks ≡ map (fold_to (history_from o h)) marks
 maps_on o h more low [] r = refl
 maps_on o h more low (q ∷ marks) r =
     let within : q ≤ o.first + length h = highest q marks (o.first + length h) r.1 in
-    let same : fold_to (history_from o (h ++ more)) q ≡ fold_to (history_from o h) q = ap (map_after o.map) (take-append-le (q - o.first) h more (omega (arith, within))) in
-    ap (λ (m : Map). m ∷ map (fold_to (history_from o (h ++ more))) marks) same ∙ ap (λ (ms : List Map). fold_to (history_from o h) q ∷ ms) (maps_on o h more q marks r.1)
+    ap (λ (m : Map). m ∷ map (fold_to (history_from o (h ++ more))) marks) (fold_longer o h more q within) ∙ ap (λ (ms : List Map). fold_to (history_from o h) q ∷ ms) (maps_on o h more q marks r.1)
 
 view_on : (n : ℕ) (u w : Record) (low : ℕ) (marks : List ℕ) → IsBeside u w → Rising low marks (reach u) → view_of n (history_of w) marks ≡ view_of n (history_of u) marks
 view_on n u w low marks k r =
     let U : List Map → Map = λ ms. union_of (parts_from n 0 ms) in
     ap (λ (o : Opening). U (map (fold_to (history_from o w.seen)) marks)) k.opening
     ∙ (ap (λ (xs : List Command). U (map (fold_to (history_from u.opening xs)) marks)) k.seen.is ∙ ap U (maps_on u.opening u.seen k.seen.more low marks r))
-
--- a call that is legal is one of what was seen
-reached : (u : Record) (asked : Asked) (position : ℕ) (reply : Reply) → IsLegal (history_of u) position asked reply → position ≤ reach u
-reached u (Changing c) position reply legal = omega (arith, legal.position_is, legal.from_first, slice_get_within u.seen (legal.ticket - u.opening.first) c legal.command)
-reached u (Reading r) position reply legal = legal.within
 
 -- ---- a view and a call, one behind the other
 

@@ -3,32 +3,26 @@ use Rattle.std.proofs.Common.{◌≡◌, ℕ, Bool, true, false, cond, ◌&&◌,
 use Rattle.std.specs.Prelude.{T}
 use Rattle.std.specs.Option.{option_map}
 use Rattle.std.specs.List as lists
-use Rattle.std.specs.Ordering.{nat_cmp, is_lt, is_eq, eq_by_cmp, ordering_reverse, min_by_ordering}
+use Rattle.std.specs.Ordering.{nat_cmp, is_lt, is_eq, ordering_reverse, min_by_ordering}
 use Rattle.std.specs.Cmp.Lexicographic.{slice_cmp, nat_list_cmp_total}
 use Rattle.std.specs.FinMap as finite
 use Rattle.std.specs.FinMap.Entries.{below_all}
-use Rattle.std.proofs.lemmas.Map.Views.{tells_apart}
 use Rattle.rayon.proofs.Order.{pick_min-associative}
 use Rattle.map_types.specs.declared.texts.Value.{Value}
 use Rattle.map_types.specs.ValueEq.{value_eq}
 use Rattle.map_model.specs.Maps.{Map}
+use Rattle.map_model.proofs.MapLaws.{same_from_ties}
 use Rattle.bin_table.specs.Chains.{Entries, HasDistinctKeys}
 use Rattle.bulk_tasks.specs.Nearest.{lesser, nearer, candidate, approached, nearest_of}
 use Rattle.bulk_tasks.specs.Bulk.{key_of_value}
 use Rattle.bulk_tasks.proofs.AnyOrder.{in_any_order}
 
-only_equal_ties : finite.IsAntisymmetric (slice_cmp nat_cmp)
-only_equal_ties = finite.slice_cmp-IsAntisymmetric finite.nat_cmp-IsAntisymmetric
-
 lesser_assoc : (a b c : List ℕ) → lesser (lesser a b) c ≡ lesser a (lesser b c)
 lesser_assoc a b c = pick_min-associative (slice_cmp nat_cmp) nat_list_cmp_total a b c
 
-same_from : (a b : List ℕ) → eq_by_cmp (slice_cmp nat_cmp) a b ≡ true → a ≡ b
-same_from a b e = tells_apart only_equal_ties a b e
-
 by_cmp : (a b : List ℕ) (o : Ordering) → slice_cmp nat_cmp a b ≡ o → min_by_ordering o a b ≡ min_by_ordering (ordering_reverse o) b a
 by_cmp a b Less is = refl
-by_cmp a b Equal is = same_from a b (ap is_eq is)
+by_cmp a b Equal is = same_from_ties a b (ap is_eq is)
 by_cmp a b Greater is = refl
 
 lesser_comm : (a b : List ℕ) → lesser a b ≡ lesser b a

@@ -1,5 +1,5 @@
 -- What a whole view leaves of the record of its pass.
-use Rattle.std.specs.Prelude.{◌≡◌, ℕ, ◌+◌, ◌≤◌, ◌<◌, List, [], ◌∷◌, ◌++◌, length, fold, map, max, false, Result, Ok, Err}
+use Rattle.std.specs.Prelude.{◌≡◌, ℕ, ◌+◌, ◌≤◌, List, [], ◌∷◌, ◌++◌, length, fold, map, max, Result, Ok, Err}
 use Rattle.map_types.specs.declared.refusals.Refusal.{Refusal}
 use Rattle.map_types.specs.declared.refusals.Refusal.TheVariants.{Failed, NoMemory}
 use Rattle.map_model.specs.Maps.{Map}
@@ -7,13 +7,11 @@ use Rattle.map_model.specs.Parts.{union_of}
 use Rattle.map_model.specs.Histories.{History, fold_to}
 use Rattle.ticket_order.specs.declared.record.Record.{Record}
 use Rattle.ticket_order.specs.declared.record.Section.{Section}
-use Rattle.ticket_order.specs.declared.record.StepMade.{StepMade}
-use Rattle.ticket_order.specs.declared.record.StepMade.TheVariants.{FoundAlive, Saw}
 use Rattle.ticket_order.specs.Records.{reach}
 use Rattle.ticket_order.specs.Legality.{history_of}
 use Rattle.ticket_order.specs.StepRules.{AllLegalSections}
 use Rattle.flusher.specs.Fitting.{IsBeside}
-use Rattle.durable_map.specs.Durable.{EndsDurable, GrewBy}
+use Rattle.durable_map.specs.Durable.{EndsDurable, EndsFailed}
 use Rattle.bulk_tasks.specs.Parts.{parts_from}
 use Rattle.bulk_tasks.specs.ViewState.{ViewState}
 
@@ -59,15 +57,6 @@ pub record LacksMemory (n : ℕ) (v : Record) (w : Record) : Type 0 where
   pub marks : List ℕ
   pub captures : Captures n v marks w
   pub within : length marks ≤ n
-
--- the last steps are a SEE below the position, an ALIVE that said no, and one more SEE below the position
-pub record EndsFailed (v : Record) (position : ℕ) (w : Record) : Type 0 where
-  pub before : List StepMade
-  pub first : ℕ
-  pub second : ℕ
-  pub steps : GrewBy v (before ++ Saw first ∷ FoundAlive false ∷ Saw second ∷ []) w
-  pub missed : first < position
-  pub missed_again : second < position
 
 -- All stripes were captured, and the store has failed before the greatest mark became durable.
 pub record FindsFailure (n : ℕ) (v : Record) (w : Record) : Type 0 where

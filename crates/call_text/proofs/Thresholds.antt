@@ -11,19 +11,19 @@ use Rattle.std.specs.Str.Parse.{digits_value, without_leading_plus, IsNumeral, P
 use Rattle.call_text.specs.Whole.{is_unsigned, unsigned_of}
 use Rattle.call_text.proofs.ValueWords.{both, choose_no, choose_yes, left_of, ok_inner, own, right_of}
 
-unsigned_is : (word : List ℕ) → IsNumeral 10 (without_leading_plus word) → is_unsigned word ≡ true
+pub unsigned_is : (word : List ℕ) → IsNumeral 10 (without_leading_plus word) → is_unsigned word ≡ true
 unsigned_is word h = both _ _ (search (rules, h.0)) (own.from (without_leading_plus word) h.1)
 
-numeral_is : (word : List ℕ) → is_unsigned word ≡ true → IsNumeral 10 (without_leading_plus word)
+pub numeral_is : (word : List ℕ) → is_unsigned word ≡ true → IsNumeral 10 (without_leading_plus word)
 numeral_is word h =
     let some : nat_lt 0 (length (without_leading_plus word)) ≡ true = left_of _ (all_ascii_digits (without_leading_plus word)) h in
     let digits : all_ascii_digits (without_leading_plus word) ≡ true = right_of (nat_lt 0 (length (without_leading_plus word))) _ h in
     (search (rules, some), own.to (without_leading_plus word) digits)
 
-below : (m n : ℕ) → m < n → nat_lt m n ≡ true
+pub below : (m n : ℕ) → m < n → nat_lt m n ≡ true
 below m n h = search (rules, h)
 
-is_below : (m n : ℕ) → nat_lt m n ≡ true → m < n
+pub is_below : (m n : ℕ) → nat_lt m n ≡ true → m < n
 is_below m n h = search (rules, h)
 
 pub unsigned_gives : {E : Type 0} (word : List ℕ) (r : Result ℕ E) → ParsesUnsigned 64 10 word r → result_ok r ≡ unsigned_of word

@@ -1,10 +1,10 @@
 -- The words of all calls: of those of a key, and of those of the whole map.
-use Rattle.std.specs.Prelude.{◌^◌, ℕ, Bool, true, false, ◌&&◌, List, [], ◌∷◌, length, nat_lt, if◌then◌else◌, Option, Some, None, Result, Ok, Err}
+use Rattle.std.specs.Prelude.{◌^◌, ℕ, Bool, ◌&&◌, List, [], ◌∷◌, length, nat_lt, if◌then◌else◌, Option, Some, None, Result, Ok, Err}
 use Rattle.std.specs.Option.{ok_or}
 use Rattle.std.specs.Str.{all_ascii_digits}
 use Rattle.std.specs.Str.Parse.{digits_value, without_leading_plus}
+pub use Rattle.map_types.specs.Reducing.{reduces}
 use Rattle.map_types.specs.declared.commands.Func.{Func}
-use Rattle.map_types.specs.declared.commands.Func.TheVariants.{Sum, Max, Min}
 use Rattle.call_text.specs.declared.called.Called.{Called}
 use Rattle.call_text.specs.declared.called.Called.TheVariants as called
 use Rattle.call_text.specs.declared.bad_word.BadWord.{BadWord}
@@ -26,13 +26,6 @@ unsigned_of word =
 
 abbrev pub threshold_of : Text → Result ℕ BadWord
 threshold_of word = ok_or (unsigned_of word) bad.Threshold
-
--- the functions that a map is reduced by
-abbrev pub reduces : Func → Bool
-reduces Sum = true
-reduces Max = true
-reduces Min = true
-reduces _ = false
 
 -- such a function; the name of another is no function here
 unfoldable pub reducing_of : Text → Result Func BadWord

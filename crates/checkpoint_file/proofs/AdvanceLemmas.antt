@@ -11,8 +11,8 @@ use Rattle.store_layout.specs.Checkpoints.{Section, checkpoint_file}
 use Rattle.store_layout.specs.declared.checkpoint_phase.CheckpointPhase.{CheckpointPhase}
 use Rattle.store_layout.specs.declared.checkpoint_phase.CheckpointPhase.TheVariants.{Idle, Gate, GateWritten, GateSynced, Ready, Staged, Header, HeaderWritten, HeaderSynced, Opened, Sealed}
 use Rattle.checkpoint_file.specs.States.{CheckpointState, call_in, state_after}
-use Rattle.checkpoint_file.specs.Standing.{Stands, IsKept, MayRead}
-use Rattle.checkpoint_file.specs.Advancing.{Advances, MayAdvance}
+use Rattle.checkpoint_file.specs.CheckpointStates.{Stands, IsKept, MayRead}
+use Rattle.checkpoint_file.specs.CheckpointSteps.{Advances, MayAdvance}
 use Rattle.checkpoint_file.proofs.StandingLemmas.{reads_in, placed, goes_to, called_reads, failed_reads}
 
 -- a call is due, or none is and the checkpoint stays as it is

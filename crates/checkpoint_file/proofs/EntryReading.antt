@@ -18,6 +18,7 @@ use Rattle.log_records.proofs.Fields.{key_agrees, some_value_agrees}
 use Rattle.store_layout.specs.Checkpoints.{IsEntryOf, entries_bytes, entry_bytes}
 use Rattle.store_layout.specs.Faults.{AreEntries}
 use Rattle.store_layout.proofs.CheckpointLemmas.{entries_bound}
+use Rattle.store_layout.proofs.Looking.{all_push, all_last}
 use Rattle.checkpoint_file.specs.Loads.{IsAbove, HasNoNext}
 
 abbrev Entry : Type 0
@@ -30,14 +31,6 @@ pub entry_agrees : Agrees (both_at (key_at first_layout) some_value_at) (entry_b
 entry_agrees = both_agree (key_at first_layout) some_value_at (key_bytes first_layout) (λ v. value_bytes (Some v)) (IsText 255) IsValue (key_agrees first_layout (omega arith)) some_value_agrees
 
 -- ---- rising entries
-
-all_push : {A : Type 0} (P : A → Type 0) (xs : List A) (x : A) → AllByRecursion P xs → P x → AllByRecursion P (xs ++ x ∷ [])
-all_push P [] x all one = (one, tt)
-all_push P (y ∷ xs) x all one = (all.0, all_push P xs x all.1 one)
-
-all_last : {A : Type 0} (P : A → Type 0) (xs : List A) (x : A) → AllByRecursion P (xs ++ x ∷ []) → P x
-all_last P [] x all = all.0
-all_last P (y ∷ xs) x all = all_last P xs x all.1
 
 keys_push : (es : List Entry) (e : Entry) → keys_of (es ++ e ∷ []) ≡ keys_of es ++ e.0 ∷ []
 keys_push [] e = refl

@@ -6,8 +6,9 @@ use Rattle.std.proofs.lemmas.Bool.Decides.{nat_tests}
 use Rattle.disk_model.specs.Files.{File, Range, MayLeave, IsTorn, at_rest, byte_at, is_written, overwritten, written, synced}
 use Rattle.disk_model.specs.Gates.{IsShut}
 use Rattle.disk_model.proofs.GateLemmas.{kept_front, overwritten_at, sure_reached, sure_torn, sure_synced}
+use Rattle.disk_model.proofs.FileLemmas.{rest_leaves}
 use Rattle.store_layout.specs.Checkpoints.{is_sealed, is_to_close}
-use Rattle.checkpoint_file.specs.Standing.{IsClosing}
+use Rattle.checkpoint_file.specs.CheckpointStates.{IsClosing}
 
 -- ---- what is not sealed
 
@@ -29,14 +30,6 @@ pub short_unsealed : (content : List ℕ) → length content < 36 → is_sealed 
 short_unsealed content h = grind (arith, nat_tests)
 
 -- ---- the closing of the gate
-
--- a file at rest leaves its content
-pub rest_leaves : (old content : List ℕ) → MayLeave (at_rest old) content → content ≡ old
-rest_leaves old content left =
-    let size : length content ≡ length old = omega (arith, left.no_shorter, left.no_longer) in
-    ext_get_or 0 content old size (λ i h.
-    let below : i < length old = omega (arith, size, h) in
-    left.same i (grind (arith, nat_tests)))
 
 -- of a file of which one write of the first byte is pending
 closing_leaves : (old : List ℕ) (file : File) → drop 1 file.seen ≡ drop 1 old → file.pending ≡ record { at = 0; size = 1 } ∷ [] → file.base ≡ old → file.greatest ≡ max (length old) 1

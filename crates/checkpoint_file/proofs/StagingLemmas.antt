@@ -10,7 +10,7 @@ use Rattle.store_layout.specs.Checkpoints.{Section, IsEntryOf, IsSection, marked
 use Rattle.store_layout.proofs.CheckpointLemmas.{are_push, greatest_push, marks_push, sections_push}
 use Rattle.store_layout.specs.declared.checkpoint_phase.CheckpointPhase.TheVariants.{Ready}
 use Rattle.checkpoint_file.specs.States.{CheckpointState, AreKeysOf, AreWellFormed, with_section}
-use Rattle.checkpoint_file.specs.Standing.{HasFilled, AtPhase, Stands}
+use Rattle.checkpoint_file.specs.CheckpointStates.{HasFilled, AtPhase, Stands}
 
 all_of : (stripes stripe : ℕ) (entries : List (List ℕ × Value)) → AreWellFormed entries → AreKeysOf stripes stripe entries → AllByRecursion (IsEntryOf first_layout stripes stripe) entries
 all_of stripes stripe [] well keys = tt

@@ -6,13 +6,14 @@ use Rattle.disk_model.specs.Files.{File, MayLeave, IsTorn, written, synced}
 use Rattle.disk_model.specs.Gates.{Call, IsShut, IsOpening, IsPlaced, called, MayFailTo}
 use Rattle.disk_model.proofs.GateLemmas.{shut_long, shut_written, shut_synced, opening_synced, gate_written, opening_written, opening_torn, left_opening}
 use Rattle.log_records.specs.Layout.{first_layout}
+use Rattle.disk_model.proofs.FileLemmas.{rest_leaves}
 use Rattle.store_layout.specs.Checkpoints.{Section, IsWhole, IsCheckpoint, checkpoint_header, greatest_mark, is_sealed, sections_bytes, section_bytes}
 use Rattle.store_layout.proofs.CheckpointLemmas.{sections_push, length-checkpoint_header}
 use Rattle.store_layout.specs.declared.checkpoint_phase.CheckpointPhase.{CheckpointPhase}
 use Rattle.store_layout.specs.declared.checkpoint_phase.CheckpointPhase.TheVariants.{Idle, Gate, GateWritten, GateSynced, Ready, Staged, Header, HeaderWritten, HeaderSynced, Opened, Sealed}
 use Rattle.checkpoint_file.specs.States.{CheckpointState, call_in, state_after}
-use Rattle.checkpoint_file.specs.Standing.{HasGiven, IsClosing, IsFilled, HasStaged, HasFilled, IsSealed, AtPhase, Stands, IsSealedOrNot, MayRead, checkpoint_of, written_of}
-use Rattle.checkpoint_file.proofs.FileSteps.{rest_leaves, closed_written, closed_torn, closing_synced, shut_more, shut_over, shut_less, shut_torn_behind, shut_leaves, shut_unsealed}
+use Rattle.checkpoint_file.specs.CheckpointStates.{HasGiven, IsClosing, IsFilled, HasStaged, HasFilled, IsSealed, AtPhase, Stands, IsSealedOrNot, MayRead, checkpoint_of, written_of}
+use Rattle.checkpoint_file.proofs.FileSteps.{closed_written, closed_torn, closing_synced, shut_more, shut_over, shut_less, shut_torn_behind, shut_leaves, shut_unsealed}
 
 module _ (w : CheckpointState) (sections : List Section) (knows : HasGiven w sections) where
   -- once all sections are there, it may be sealed

@@ -1,8 +1,7 @@
 -- The head of a checkpoint's file, as it is read.
-use Rattle.std.specs.Prelude.{◌≡◌, ℕ, List, None, true, Result, Err}
-use Rattle.map_types.specs.declared.refusals.Refusal.{Refusal}
-use Rattle.map_types.specs.declared.refusals.Refusal.TheVariants.{Failed}
+use Rattle.std.specs.Prelude.{◌≡◌, ℕ, List, None, true}
 use Rattle.store_layout.specs.Checkpoints.{is_sealed}
+pub use Rattle.store_layout.specs.Failures.{failed_in}
 use Rattle.store_layout.specs.Faults.{body_length_in, generation_in, greatest_in, head_fault, low_in, stripes_in}
 use Rattle.checkpoint_file.specs.declared.head.Head.{Head}
 
@@ -19,8 +18,3 @@ pub record IsHead (head : Head) (file : ℕ) (content : List ℕ) : Type 0 where
   pub opened : is_sealed content ≡ true
   pub faultless : head_fault file content ≡ None
   pub fields : HasFields head content
-
--- how many device calls failed
-abbrev pub failed_in : {X : Type 0} → Result X Refusal → ℕ
-failed_in (Err Failed) = 1
-failed_in _ = 0

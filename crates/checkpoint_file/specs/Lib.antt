@@ -1,6 +1,6 @@
 pub mod States
-pub mod Standing
-pub mod Advancing
+pub mod CheckpointStates
+pub mod CheckpointSteps
 pub mod Heads
 pub mod Loads
 pub mod Front

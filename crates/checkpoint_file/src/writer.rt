@@ -7,8 +7,8 @@ ghost use Rattle.disk_model.specs.Calls.{Makes, Fails};
 ghost use Rattle.map_model.specs.Maps.{Map};
 ghost use Rattle.store_layout.specs.Checkpoints.{Section, checkpoint_file, checkpoint_header, is_to_close};
 ghost use Rattle.checkpoint_file.specs.States.{AreKeysOf, IsOver, TakesSeal, TakesSection, begun, call_in, idle, state_after, with_section};
-ghost use Rattle.checkpoint_file.specs.Standing.{Stands};
-ghost use Rattle.checkpoint_file.specs.Advancing.{Advances, MayAdvance};
+ghost use Rattle.checkpoint_file.specs.CheckpointStates.{Stands};
+ghost use Rattle.checkpoint_file.specs.CheckpointSteps.{Advances, MayAdvance};
 
 use crate::sections::{header, section_bytes};
 use disk_model::{DeviceError, Disk};

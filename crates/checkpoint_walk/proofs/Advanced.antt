@@ -1,10 +1,8 @@
 -- What a keeper fits after a device call of its checkpoint.
-use Rattle.std.proofs.Common.{◌≡◌, ◌≢◌, ◌⊎◌, inl, inr, ℕ, ◌+◌, List, [], ◌∷◌, ◌++◌, length, Option, None, Some, Bool, true, false, if◌then◌else◌, IfSome, Result, Ok, Err, OnOk, OnErr, append-nil, refl, sym, ◌∙◌, ap, subst, arith}
-use Rattle.std.specs.List.{AllByRecursion}
-use Rattle.std.proofs.lemmas.Bool.{eq-eqb}
+use Rattle.std.proofs.Common.{◌≡◌, ◌≢◌, ◌⊎◌, inl, inr, ℕ, ◌+◌, List, [], ◌∷◌, length, Option, None, Some, Bool, true, false, IfSome, Result, Ok, Err, OnOk, OnErr, append-nil, refl, sym, ◌∙◌, ap, subst, arith}
 use Rattle.std.proofs.lemmas.List.{length-map}
 use Rattle.disk_model.specs.Calls.{Makes}
-use Rattle.disk_model.specs.Files.{AllCoherent, AreCoherent, empty_coherent, IsCoherent, MayLeave, Contents, Leaves, File, Files, now, with_file}
+use Rattle.disk_model.specs.Files.{AreCoherent, Contents, Leaves, File, Files, now, with_file}
 use Rattle.disk_model.specs.Gates.{Call, called}
 use Rattle.disk_model.specs.Moments.{AtEachMoment}
 use Rattle.map_types.specs.declared.commands.Command.{Command}
@@ -13,41 +11,29 @@ use Rattle.ticket_order.specs.declared.record.Record.{Record}
 use Rattle.ticket_order.specs.declared.stripe.Entry.{Entry}
 use Rattle.ticket_order.specs.Legality.{history_of}
 use Rattle.log_records.specs.Layout.{IsLayout, first_layout}
+use Rattle.disk_model.proofs.FileLemmas.{with_same, seen_may_stay}
 use Rattle.store_layout.specs.Checkpoints.{IsCheckpoint, Section, checkpoint_file, is_to_close}
 use Rattle.store_layout.specs.Logs.{commands_in}
 use Rattle.store_layout.specs.OpeningLaws.{OneCheckpoint}
 use Rattle.gate_log.specs.States.{commands_of}
 use Rattle.store_layout.specs.declared.checkpoint_phase.CheckpointPhase.{CheckpointPhase}
 use Rattle.store_layout.specs.declared.checkpoint_phase.CheckpointPhase.TheVariants as phase
-use Rattle.checkpoint_file.specs.Advancing.{Advances, MayAdvance}
+use Rattle.checkpoint_file.specs.CheckpointSteps.{Advances, MayAdvance}
 use Rattle.checkpoint_file.specs.States.{CheckpointState, state_after}
-use Rattle.checkpoint_file.specs.Standing as checkpoint
-use Rattle.checkpoint_file.specs.Standing.{checkpoint_of}
+use Rattle.checkpoint_file.specs.CheckpointStates as checkpoint
+use Rattle.checkpoint_file.specs.CheckpointStates.{checkpoint_of}
 use Rattle.store_invariant.specs.Laws.{CheckpointIsSealed, StopsUseCheckpoint, StoresStop, WriterStepsOn, WriterStepsStop, sealed_with}
-use Rattle.store_invariant.specs.Standing as store
+use Rattle.store_invariant.specs.StoreStates as store
 use Rattle.store_invariant.specs.States.{Held}
 use Rattle.flusher.specs.declared.keeper.Keeper.{Keeper}
 use Rattle.flusher.specs.Fitting.{Fits, HoldsFor, StopsFit, Stores, batches_of, store_of}
 use Rattle.checkpoint_walk.specs.Checkpointing.{Checkpoints, HasGiven, KeepsAfter, checkpoints_of, kept_in}
 use Rattle.store_layout.specs.UsedCheckpoint.{IsUsed, UsesCheckpoint}
+use Rattle.flusher.proofs.Moments.{moments_so, at_end}
+use Rattle.flusher.proofs.Committing.{two_ways}
 use Rattle.checkpoint_walk.proofs.Sealed.{of_writer, writes_in}
-use Rattle.checkpoint_walk.proofs.Standing.{two_ways}
 
 -- ---- moments
-
-all_so : (P Q : Files → Type 0) → ((files : Files) → P files → Q files) → (xs : List Files) → AllByRecursion P xs → AllByRecursion Q xs
-all_so P Q f [] k = tt
-all_so P Q f (x ∷ xs) k = (f x k.0, all_so P Q f xs k.1)
-
-moments_so : {D : Type 0} (states : D → List Files) (old new : D) (P Q : Files → Type 0) → ((files : Files) → P files → Q files) → AtEachMoment states old new P → AtEachMoment states old new Q
-moments_so states old new P Q f m = record { added = m.added; longer = m.longer; first = f _ m.first; each = all_so P Q f m.added m.each }
-
-last_so : (P : Files → Type 0) (added old : List Files) → P (now old) → AllByRecursion P added → P (now (added ++ old))
-last_so P [] old first each = first
-last_so P (x ∷ xs) old first each = each.0
-
-at_end : {D : Type 0} (states : D → List Files) (old new : D) (P : Files → Type 0) → AtEachMoment states old new P → P (now (states new))
-at_end states old new P m = subst (λ (s : List Files). P (now s)) (sym m.longer) (last_so P m.added (states old) m.first m.each)
 
 -- no call was made
 pub none_made : {D : Type 0} (states : D → List Files) (old new : D) (P : Files → Type 0) → new ≡ old → P (now (states old)) → AtEachMoment states old new P
@@ -118,9 +104,6 @@ fits_moved {D} states honest n done old p disk c broken f stripes stores = recor
   rotation = f.rotation;
   stores = stores;
 }
-
-with_same : (number : ℕ) (file : File) (files : Files) → with_file number file files number ≡ file
-with_same number file files = ap (λ b. if b then file else files number) (eq-eqb number number refl)
 
 -- the files after a call that succeeded
 made_files : {D : Type 0} (states : D → List Files) (failures : D → ℕ) (number : ℕ) (call : Call) (old new : D) → Makes states failures number call old new
@@ -293,14 +276,6 @@ fits_stepped {D} states failures honest n done call w old new p (Ok ph) stops go
 fits_stepped {D} states failures honest n done call w old new p (Err e) stops goes seals f s = fits_failed states failures honest n done call w old new p e stops f s
 
 -- ---- what is used then
-
--- what is read is among what a stop may leave
-seen_may_stay : (file : File) → IsCoherent file → MayLeave file file.seen
-seen_may_stay file h = record { no_shorter = h.no_shorter; no_longer = h.no_longer; bytes = h.bytes; same = λ i clear. refl }
-
-pub now_coherent : (states : List Files) → AllCoherent states → AreCoherent (now states)
-now_coherent [] all = empty_coherent
-now_coherent (files ∷ past) all = all.0
 
 -- two lists of sections of which a file is sealed are the same
 sealed_once : (one : OneCheckpoint) (w : CheckpointState) (xs ys : List Section) (a b : List ℕ) (file : File) → w.phase ≡ phase.Sealed → checkpoint.Stands w a xs file → checkpoint.Stands w b ys file → checkpoint_of w xs ≡ checkpoint_of w ys

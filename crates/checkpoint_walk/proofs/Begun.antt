@@ -11,17 +11,17 @@ use Rattle.store_layout.specs.declared.log_phase.Phase.{Phase}
 use Rattle.store_layout.specs.declared.log_phase.Phase.TheVariants.{Idle}
 use Rattle.gate_log.specs.States.{IsResting, LogState}
 use Rattle.gate_log.specs.States as log_states
-use Rattle.gate_log.specs.Standing as gate_log
+use Rattle.gate_log.specs.LogStates as gate_log
 use Rattle.checkpoint_file.specs.States.{CheckpointState, begun}
-use Rattle.checkpoint_file.specs.Standing as checkpoint
+use Rattle.checkpoint_file.specs.CheckpointStates as checkpoint
 use Rattle.store_invariant.specs.Laws.{CheckpointBegins, RotationBegins}
 use Rattle.store_invariant.specs.States.{Held, StoreState}
-use Rattle.store_invariant.specs.Standing as store
+use Rattle.store_invariant.specs.StoreStates as store
 use Rattle.flusher.specs.declared.keeper.Keeper.{Keeper}
 use Rattle.flusher.specs.Fitting.{Fits, IsEmptyIn, store_of}
 use Rattle.flusher.specs.Rotating.{Rotates}
 use Rattle.checkpoint_walk.specs.Checkpointing.{HasGiven}
-use Rattle.checkpoint_walk.proofs.Standing.{fits_changed}
+use Rattle.checkpoint_walk.proofs.ChangedKeepers.{fits_changed}
 
 -- a newest log that isn't that of the sealed checkpoint is that of the next
 next_generation : (k : Checkpoint) (first : List Batch) (second : Option (List Batch)) (newest : LogState) (staged : List Batch) (files : Files) (sealed : ℕ) → store.LogsStand k first second newest staged files → k.generation ≡ sealed

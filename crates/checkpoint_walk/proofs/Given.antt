@@ -16,23 +16,23 @@ use Rattle.ticket_order.specs.Records.{missing}
 use Rattle.ticket_order.specs.Walks.{Give, Look, next_kind}
 use Rattle.store_layout.specs.Checkpoints.{Checkpoint, Section, checkpoint_file}
 use Rattle.store_layout.specs.Logs.{Batch}
-use Rattle.store_layout.specs.Standing.{IsNextOf, reach}
+use Rattle.store_layout.specs.SectionsAndLog.{IsNextOf, reach}
 use Rattle.gate_log.specs.States.{LogState}
-use Rattle.gate_log.specs.Standing as gate_log
+use Rattle.gate_log.specs.LogStates as gate_log
 use Rattle.checkpoint_file.specs.States.{AreKeysOf, CheckpointState, TakesSection, with_section}
-use Rattle.checkpoint_file.specs.Standing as checkpoint
+use Rattle.checkpoint_file.specs.CheckpointStates as checkpoint
 use Rattle.store_invariant.specs.Laws.{SectionIsGiven}
 use Rattle.store_invariant.specs.States.{low_after}
-use Rattle.store_invariant.specs.Standing as store
+use Rattle.store_invariant.specs.StoreStates as store
 use Rattle.flusher.specs.declared.keeper.Keeper.{Keeper}
 use Rattle.flusher.specs.Fitting.{Fits, HoldsFor, IsBeside, store_of}
-use Rattle.flusher.specs.Keeping.{is_walking}
+use Rattle.flusher.specs.KeeperSteps.{is_walking}
 use Rattle.checkpoint_walk.specs.Capturing.{HasLooked, HasTaken, StandsWith}
 use Rattle.checkpoint_walk.specs.Checkpointing.{HasGiven, IsNextStripe}
 use Rattle.checkpoint_walk.specs.Walking.{AfterTake, AfterWalk, FitsBy, FitsWalking, GivesPart, GivesPartIn, GivesSection, IsCapturing, PutsBack}
 use Rattle.checkpoint_walk.proofs.Keys.{keys_of_part}
 use Rattle.checkpoint_walk.proofs.Sealed.{of_writer, writes_in}
-use Rattle.checkpoint_walk.proofs.Standing.{fits_capture, fits_changed}
+use Rattle.checkpoint_walk.proofs.ChangedKeepers.{fits_capture, fits_changed}
 use Rattle.checkpoint_walk.proofs.Walked.{beside_missed, captured_beside, captured_free, refused_beside, refused_free}
 
 -- ---- a section is a part at its mark

@@ -1,5 +1,5 @@
 -- The keys of a stripe's part belong to the stripe.
-use Rattle.std.proofs.Common.{ap, ◌≡◌, ℕ, Bool, true, false, cond, List, [], ◌∷◌, Option, Some, None, refl, sym, ◌∙◌}
+use Rattle.std.proofs.Common.{◌≡◌, ℕ, Bool, true, false, cond, List, [], ◌∷◌, Option, Some, None, refl, sym, ◌∙◌}
 use Rattle.std.specs.FinMap as finite
 use Rattle.std.specs.Ordering.{nat_cmp, eq_by_cmp}
 use Rattle.std.specs.Cmp.Lexicographic.{slice_cmp}
@@ -9,6 +9,7 @@ use Rattle.java_hash.specs.Stripes.{stripe_of}
 use Rattle.map_types.specs.declared.texts.Value.{Value}
 use Rattle.map_model.specs.Maps.{Map}
 use Rattle.map_model.specs.Parts.{part_of, is_in_stripe}
+use Rattle.map_model.proofs.MapLaws.{get-part_of}
 use Rattle.checkpoint_file.specs.States.{AreKeysOf}
 
 abbrev found : List ℕ → List (List ℕ × Value) → Option Value
@@ -33,12 +34,6 @@ all_pass n i (e ∷ es) f = (
 within : (b : Bool) (o : Option Value) → (cond b o None ≡ None → ⊥) → b ≡ true
 within true o some = refl
 within false o some = absurd (some refl)
-
-only_equal_ties : finite.IsAntisymmetric (slice_cmp nat_cmp)
-only_equal_ties = finite.slice_cmp-IsAntisymmetric finite.nat_cmp-IsAntisymmetric
-
-get-part_of : (n i : ℕ) (m : Map) (q : List ℕ) → finite.get (part_of n i m) q ≡ cond (is_in_stripe n i q) (finite.get m q) None
-get-part_of n i m q = finite.get-retain_keys m (is_in_stripe n i) q (λ x t. ap (is_in_stripe n i) (sym (only_equal_ties q x t)))
 
 pub keys_of_part : (n i : ℕ) (m : Map) → AreKeysOf n i (finite.entries (part_of n i m))
 keys_of_part n i m = all_pass n i (finite.entries (part_of n i m)) (λ q some. within (is_in_stripe n i q) (finite.get m q) (λ none_. some (sym (finite.get-entries (part_of n i m) q) ∙ get-part_of n i m q ∙ none_)))

@@ -1,6 +1,7 @@
 pub mod Keys
+pub mod CaptureWalks
 pub mod Walked
-pub mod Standing
+pub mod ChangedKeepers
 pub mod Sealed
 pub mod Begun
 pub mod Given

@@ -7,15 +7,15 @@ use Rattle.ticket_order.specs.declared.record.Record.{Record}
 use Rattle.ticket_order.specs.Legality.{history_of}
 use Rattle.store_layout.specs.Checkpoints.{Section, checkpoint_file, greatest_mark}
 use Rattle.checkpoint_file.specs.States.{CheckpointState}
-use Rattle.checkpoint_file.specs.Standing as checkpoint
+use Rattle.checkpoint_file.specs.CheckpointStates as checkpoint
 use Rattle.store_layout.specs.declared.checkpoint_phase.CheckpointPhase.TheVariants.{Header}
 use Rattle.store_invariant.specs.Laws.{SealBegins}
 use Rattle.store_invariant.specs.States.{StoreState}
-use Rattle.store_invariant.specs.Standing as store
+use Rattle.store_invariant.specs.StoreStates as store
 use Rattle.flusher.specs.declared.keeper.Keeper.{Keeper}
 use Rattle.flusher.specs.Fitting.{Fits, store_of}
 use Rattle.checkpoint_walk.specs.Checkpointing.{HasGiven}
-use Rattle.checkpoint_walk.proofs.Standing.{fits_changed}
+use Rattle.checkpoint_walk.proofs.ChangedKeepers.{fits_changed}
 
 -- the checkpoint that is written, of what is known of a store
 pub writes_in : (state : StoreState) (held : _) (file : File) (w : CheckpointState) → state.writer ≡ Some w → store.WriterStands state.writer state held file → store.Writes w state held file

@@ -12,10 +12,10 @@ use Rattle.store_layout.specs.Checkpoints.{Section, checkpoint_file}
 use Rattle.store_layout.specs.OpeningLaws.{OneCheckpoint}
 use Rattle.store_layout.specs.declared.checkpoint_phase.CheckpointPhase.{CheckpointPhase}
 use Rattle.store_layout.specs.declared.checkpoint_phase.CheckpointPhase.TheVariants as phase
-use Rattle.checkpoint_file.specs.Advancing.{Advances}
+use Rattle.checkpoint_file.specs.CheckpointSteps.{Advances}
 use Rattle.checkpoint_file.specs.States.{CheckpointState, call_in}
-use Rattle.checkpoint_file.specs.Standing as checkpoint
-use Rattle.checkpoint_file.specs.Standing.{checkpoint_of}
+use Rattle.checkpoint_file.specs.CheckpointStates as checkpoint
+use Rattle.checkpoint_file.specs.CheckpointStates.{checkpoint_of}
 use Rattle.store_invariant.specs.Laws.{CheckpointIsSealed, StopsUseCheckpoint, StoresStop, WriterStepsOn, WriterStepsStop}
 use Rattle.flusher.specs.declared.keeper.Keeper.{Keeper}
 use Rattle.flusher.specs.Fitting.{Fits, StopsFit}

@@ -8,7 +8,7 @@ use Rattle.ticket_order.specs.declared.walk.Walk.{Walk}
 use Rattle.ticket_order.specs.Legality.{history_from, history_of}
 use Rattle.store_layout.specs.Opening.{StandsForFront}
 use Rattle.store_layout.specs.OpeningLaws.{FrontStays}
-use Rattle.store_layout.specs.Standing as layout
+use Rattle.store_layout.specs.SectionsAndLog as layout
 use Rattle.flusher.specs.declared.keeper.Keeper.{Keeper}
 use Rattle.flusher.specs.Fitting.{Fits, IsBeside, StopsFit}
 use Rattle.checkpoint_walk.specs.Walking.{FitsBy}

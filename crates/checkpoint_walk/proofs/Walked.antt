@@ -4,19 +4,9 @@ use Rattle.std.proofs.lemmas.List.{append_assoc, length_push, same_from_push}
 use Rattle.map_types.specs.declared.refusals.Refusal.{Refusal}
 use Rattle.map_types.specs.declared.refusals.Refusal.TheVariants as refusal
 use Rattle.map_types.specs.declared.commands.Command.{Command}
-use Rattle.map_types.specs.declared.commands.Read as read_type
-use Rattle.map_types.specs.declared.commands.Reply.{Reply}
 use Rattle.map_types.specs.declared.texts.Value.{Value}
 use Rattle.ticket_order.specs.declared.capture_walk.Captured.{Captured}
 use Rattle.ticket_order.specs.declared.capture_walk.CaptureStage.TheVariants as capture
-use Rattle.ticket_order.specs.declared.change_walk.ChangeStage.{ChangeStage}
-use Rattle.ticket_order.specs.declared.change_walk.ChangeStage.TheVariants as change
-use Rattle.ticket_order.specs.declared.read_walk.ReadStage.{ReadStage}
-use Rattle.ticket_order.specs.declared.read_walk.ReadStage.TheVariants as read
-use Rattle.ticket_order.specs.declared.release_walk.ReleaseStage.{ReleaseStage}
-use Rattle.ticket_order.specs.declared.release_walk.ReleaseStage.TheVariants as release
-use Rattle.ticket_order.specs.declared.sweep_walk.SweepStage.{SweepStage}
-use Rattle.ticket_order.specs.declared.sweep_walk.SweepStage.TheVariants as sweep
 use Rattle.ticket_order.specs.declared.walk.Stage.{Stage}
 use Rattle.ticket_order.specs.declared.walk.Stage.TheVariants as stage
 use Rattle.ticket_order.specs.declared.walk.Stepped.{Stepped}
@@ -30,7 +20,7 @@ use Rattle.ticket_order.specs.declared.record.StepMade.TheVariants.{FoundHeld, G
 use Rattle.ticket_order.specs.declared.record.Record.{Record}
 use Rattle.ticket_order.specs.Records.{giving, looking, missing, stripe_held, taking}
 use Rattle.ticket_order.specs.Calls.{CapturesStripe, HasLookedAt, RefusesCapture}
-use Rattle.ticket_order.specs.Walks.{Fits, FitsStage, Give, HasContent, KeepsCaptured, KeepsRefusal, Look, Next, ToCapture, ToChange, ToRead, ToRelease, ToSweep, captured_of_stage, captured_of_walk, left_of_stage, next_of_stage, refusal_of_stage, refusal_of_walk, steps_left, IsUnderWay}
+use Rattle.ticket_order.specs.Walks.{Fits, FitsStage, Give, HasContent, KeepsCaptured, KeepsRefusal, Look, Next, ToCapture, captured_of_stage, captured_of_walk, left_of_stage, next_of_stage, refusal_of_stage, refusal_of_walk, steps_left, IsUnderWay}
 use Rattle.ticket_order.proofs.Left.{some_left}
 use Rattle.map_model.specs.Maps.{Map}
 use Rattle.flusher.specs.Fitting.{IsBeside}
@@ -38,47 +28,9 @@ use Rattle.std.specs.FinMap as finite
 use Rattle.disk_model.specs.Files.{File}
 use Rattle.store_layout.specs.Checkpoints.{Section}
 use Rattle.checkpoint_file.specs.States.{AreKeysOf, CheckpointState, with_section}
-use Rattle.checkpoint_file.specs.Standing.{Stands}
+use Rattle.checkpoint_file.specs.CheckpointStates.{Stands}
 use Rattle.checkpoint_walk.specs.Capturing.{HasLooked, HasTaken, IsStaged, StandsWith}
-
--- ---- which walk it is
-
-not_change : (i : ℕ) (c : Command) → ToCapture i ≡ ToChange c → ⊥
-not_change i c e = cc
-
-not_read : (i : ℕ) (r : read_type.Read) → ToCapture i ≡ ToRead r → ⊥
-not_read i r e = cc
-
-not_release : (i q : ℕ) (y : Reply) → ToCapture i ≡ ToRelease q y → ⊥
-not_release i q y e = cc
-
-not_sweep : (i j : ℕ) → ToCapture i ≡ ToSweep j → ⊥
-not_sweep i j e = cc
-
-same_stripe : (i j : ℕ) → ToCapture i ≡ ToCapture j → i ≡ j
-same_stripe i j e = cc
-
-by_change : (n : ℕ) (b : Record) (i : ℕ) (s : ChangeStage) (p : Record) → FitsStage n b (ToCapture i) (stage.Change s) p → ⊥
-by_change n b i (change.Begins new) p k = not_change i new.command k.task_is
-by_change n b i (change.HasTaken new t) p k = not_change i new.command k.0.task_is
-by_change n b i (change.IsAlive new t) p k = not_change i new.command k.0.task_is
-by_change n b i (change.IsReady new t prepared) p k = not_change i new.command k.0.task_is
-by_change n b i (change.HasDrawn t h) p k = not_change i k.command k.task_is
-
-by_read : (n : ℕ) (b : Record) (i : ℕ) (s : ReadStage) (p : Record) → FitsStage n b (ToCapture i) (stage.Read s) p → ⊥
-by_read n b i (read.Begins r) p k = not_read i r k.task_is
-by_read n b i (read.HasTaken r t) p k = not_read i r k.0.task_is
-by_read n b i (read.IsAlive r t) p k = not_read i r k.0.task_is
-by_read n b i (read.HasRead r t h) p k = not_read i r k.0.task_is
-
-by_release : (n : ℕ) (b : Record) (i : ℕ) (s : ReleaseStage) (p : Record) → FitsStage n b (ToCapture i) (stage.Release s) p → ⊥
-by_release n b i (release.Begins h) p k = not_release i h.position h.reply k.0
-by_release n b i (release.HasMissed h) p k = not_release i h.position h.reply k.0
-by_release n b i (release.FoundFailure h) p k = not_release i h.position h.reply k.0
-
-by_sweep : (n : ℕ) (b : Record) (i : ℕ) (s : SweepStage) (p : Record) → FitsStage n b (ToCapture i) (stage.Sweep s) p → ⊥
-by_sweep n b i (sweep.Begins alloc j) p k = not_sweep i j k.0.task_is
-by_sweep n b i (sweep.HasTaken alloc t) p k = not_sweep i t.stripe k.task_is
+use Rattle.checkpoint_walk.proofs.CaptureWalks.{same_stripe, by_change, by_read, by_release, by_sweep}
 
 -- ---- its steps
 

@@ -12,7 +12,7 @@ use Rattle.ticket_order.specs.declared.walk.Walk.{Walk}
 use Rattle.ticket_order.specs.Walks.{Fits, Give, Look, ToCapture, captured_of_walk, next_kind, refusal_of_walk}
 use Rattle.store_layout.specs.Checkpoints.{Section}
 use Rattle.checkpoint_file.specs.States.{AreKeysOf, CheckpointState, with_section}
-use Rattle.checkpoint_file.specs.Standing.{Stands}
+use Rattle.checkpoint_file.specs.CheckpointStates.{Stands}
 
 -- the walk of a capture of stripe i, which began at the record `begun`, has made its TAKE, and comes to its LOOK
 pub record HasTaken (n : ℕ) (begun : Record) (i : ℕ) (walk : Walk) (p : Record) : Type 0 where

@@ -12,7 +12,7 @@ use Rattle.gate_log.specs.States.{IsResting, LogState}
 use Rattle.store_layout.specs.declared.checkpoint_phase.CheckpointPhase.{CheckpointPhase}
 use Rattle.store_layout.specs.declared.checkpoint_phase.CheckpointPhase.TheVariants.{Idle, Opened}
 use Rattle.checkpoint_file.specs.States.{CheckpointState, TakesSeal, TakesSection, begun, call_in, state_after}
-use Rattle.checkpoint_file.specs.Standing as checkpoint
+use Rattle.checkpoint_file.specs.CheckpointStates as checkpoint
 use Rattle.flusher.specs.declared.keeper.Keeper.{Keeper}
 
 -- ---- a checkpoint is begun

@@ -17,7 +17,7 @@ use Rattle.ticket_order.specs.declared.record.StepMade.TheVariants.{FoundHeld}
 use Rattle.checkpoint_file.specs.States.{CheckpointState, with_section}
 use Rattle.flusher.specs.declared.keeper.Keeper.{Keeper}
 use Rattle.flusher.specs.Fitting.{Fits}
-use Rattle.flusher.specs.Keeping.{is_walking}
+use Rattle.flusher.specs.KeeperSteps.{is_walking}
 use Rattle.checkpoint_walk.specs.Capturing.{HasLooked, HasTaken, StandsWith}
 use Rattle.checkpoint_walk.specs.Checkpointing.{HasGiven, IsNextStripe}
 

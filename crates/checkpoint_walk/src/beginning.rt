@@ -4,7 +4,7 @@ ghost use Rattle.disk_model.specs.Files.{now, at_rest};
 ghost use Rattle.map_types.specs.declared.commands.Command.{Command};
 ghost use Rattle.ticket_order.specs.declared.record.Record.{Record};
 ghost use Rattle.checkpoint_file.specs.States.{begun};
-ghost use Rattle.checkpoint_file.specs.Standing.{Stands};
+ghost use Rattle.checkpoint_file.specs.CheckpointStates.{Stands};
 ghost use Rattle.store_layout.specs.Checkpoints.{is_to_close};
 ghost use Rattle.flusher.specs.Fitting.{Fits};
 ghost use Rattle.checkpoint_walk.specs.Checkpointing.{Begins, HasGiven, MayBegin};

@@ -2,7 +2,7 @@
 ghost use Rattle.std.specs.Prelude.{◌≡◌, ◌≢◌, ◌⊎◌, ◌↔◌, ℕ, List, None, Some, false, true, IfErr, IfOk};
 ghost use Rattle.map_types.specs.declared.commands.Command.{Command};
 ghost use Rattle.flusher.specs.Fitting.{Fits};
-ghost use Rattle.flusher.specs.Keeping.{is_walking};
+ghost use Rattle.flusher.specs.KeeperSteps.{is_walking};
 ghost use Rattle.disk_model.specs.Files.{now};
 ghost use Rattle.store_layout.specs.Checkpoints.{Section};
 ghost use Rattle.ticket_order.specs.Legality.{history_of};

@@ -5,7 +5,7 @@ ghost use Rattle.map_types.specs.declared.commands.Command.{Command};
 ghost use Rattle.ticket_order.specs.declared.record.Record.{Record};
 ghost use Rattle.store_layout.specs.Checkpoints.{Section};
 ghost use Rattle.checkpoint_file.specs.States.{TakesSeal};
-ghost use Rattle.checkpoint_file.specs.Standing as checkpoint;
+ghost use Rattle.checkpoint_file.specs.CheckpointStates as checkpoint;
 ghost use Rattle.disk_model.specs.Files.{File};
 ghost use Rattle.flusher.specs.Fitting.{Fits};
 ghost use Rattle.checkpoint_walk.specs.Checkpointing.{HasAllSections, HasGiven, IsMarkedAbove, sealing};

@@ -3,6 +3,7 @@ use Rattle.std.specs.Prelude.{◌≡◌, ◌⊎◌, ℕ, Bool, true, false, List
 use Rattle.std.specs.Str.{bytes_eq}
 use Rattle.call_text.specs.Names.{Text}
 use Rattle.call_text.specs.Whole.{parse_words}
+use Rattle.wire_frames.specs.declared.receiving.ReplyError.{ReplyError}
 use Rattle.cmd_text.specs.Naming.{IsNamed, IsPort}
 use Rattle.cmd_call.specs.Client.{CallsServer, IsNoPort, Known, PrintsMisuse}
 use Rattle.cmd_call.specs.Lines.{Ends}
@@ -15,8 +16,8 @@ asks_lines [] = false
 asks_lines (word ∷ []) = bytes_eq word (codes "-")
 asks_lines (word ∷ next ∷ words) = false
 
--- IsConnected says of a reader and a writer that they are the ends of a new connection to a port.
-module _ {R W : Type 0} (remaining : R → Known) (contents : W → Known) (IsConnected : ℕ → R → W → Type 0) where
+-- IsConnected says of a reader and a writer that they are the ends of a new connection to a port. Fails says that reading a reply ended with an error, of what the reader had left before and has left then.
+module _ {R W : Type 0} (Fails : Known → Known → ReplyError → Type 0) (remaining : R → Known) (contents : W → Known) (IsConnected : ℕ → R → W → Type 0) where
   -- a new connection to the port; or none, if no server can be reached
   abbrev pub Connects : ℕ → Ends → Type 0
   Connects port None = Unit {0}
@@ -27,7 +28,7 @@ module _ {R W : Type 0} (remaining : R → Known) (contents : W → Known) (IsCo
     pub ends : Ends
     pub result : Result ℕ Stop
     pub connects : Connects port ends
-    pub answers : AnswersInput i0 i1 ends o0 o1 result
+    pub answers : AnswersInput Fails i0 i1 ends o0 o1 result
     pub status_is : MatchResult result (λ first. status ≡ first) (λ stop. status ≡ 1)
 
   -- Where the port is none, nothing is read or printed, with status 2.

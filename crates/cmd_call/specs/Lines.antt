@@ -1,5 +1,5 @@
 -- Lines of calls: what they ask, and what comes of them.
-use Rattle.std.specs.Prelude.{◌≡◌, ◌≢◌, ℕ, List, [], ◌∷◌, ◌++◌, length, not, ◌==◌, if◌then◌else◌, codes, option_map, Option, None, Some, Result, Ok, Err}
+use Rattle.std.specs.Prelude.{◌≡◌, ◌≢◌, ◌⊎◌, ℕ, List, [], ◌∷◌, ◌++◌, length, not, ◌==◌, if◌then◌else◌, codes, option_map, Option, None, Some, Result, Ok, Err}
 use Rattle.std.specs.List.{AllByRecursion, AllZip, filter, flat_map, slice_split}
 use Rattle.std.specs.Str.{is_utf8}
 use Rattle.std.specs.Io.KnownBytes.{Appends, Consumes}
@@ -8,8 +8,11 @@ use Rattle.call_text.specs.Whole.{parse_words}
 use Rattle.call_text.specs.declared.bad_word.BadWord.{BadWord}
 use Rattle.call_text.specs.declared.called.Called.{Called}
 use Rattle.wire_frames.specs.declared.requests.Request.{Request}
-use Rattle.wire_frames.specs.Replies.{IsBeginning, reply_frame}
+use Rattle.wire_frames.specs.declared.receiving.ReplyError.{ReplyError}
+use Rattle.wire_frames.specs.declared.receiving.ReplyError.TheVariants as reply_error
+use Rattle.wire_frames.specs.Replies.{IsBeginning, IsCut, reply_frame}
 use Rattle.wire_frames.specs.Answers.{IsAnswered}
+use Rattle.wire_frames.specs.Receiving.{ReadsReply}
 use Rattle.cmd_call.specs.Client.{Known, IsReplyLine, request_frame, request_of}
 use Rattle.cmd_call.specs.declared.lines.BadLine.{BadLine}
 use Rattle.cmd_call.specs.declared.lines.BadLine.TheVariants.{NotText, Word}
@@ -123,29 +126,49 @@ pub record Unanswered (asked : List Asked) (outcomes : List Outcome) : Type 0 wh
   pub suit : AllZip Suits asked outcomes
   pub none : AllByRecursion HasNoAnswer outcomes
 
--- The connection was lost: the first lines have their replies, and none behind them has one. Of the requests of those a beginning was sent.
-pub record Loses (r0 w0 : Known) (asked : List Asked) (outcomes : List Outcome) : Type 0 where
-  pub first : List Asked
-  pub behind : List Asked
-  pub replied : List Outcome
-  pub lost : List Outcome
-  pub reader : Known
-  pub writer : Known
-  pub writer_after : Known
-  pub front : List ℕ
-  pub asked_are : asked ≡ first ++ behind
-  pub outcomes_are : outcomes ≡ replied ++ lost
-  pub have : Replied r0 reader w0 writer first replied
-  pub have_none : Unanswered behind lost
-  pub beginning : IsBeginning front (asked_frames behind)
-  pub sent : Appends writer writer_after front
+-- Fails says that reading a reply ended with an error, of what the reader had left before and has left then.
+module _ (Fails : Known → Known → ReplyError → Type 0) where
+  -- reading a reply ended with such an error, and memory wasn't wanting
+  pub record LosesReply (reader : Known) : Type 0 where
+    pub error : ReplyError
+    pub after : Known
+    pub fails : Fails reader after error
+    pub other : error ≢ reply_error.NoMemory
+    pub reads : ReadsReply reader after (Err error)
 
--- what came of these lines
-abbrev pub Exchanged : Ends → Ends → List Asked → List Outcome → Type 0
-Exchanged None None asked outcomes = Unanswered asked outcomes
-Exchanged None (Some new) asked outcomes = ⊥
-Exchanged (Some old) None asked outcomes = Loses old.0 old.1 asked outcomes
-Exchanged (Some old) (Some new) asked outcomes = Replied old.0 new.0 old.1 new.1 asked outcomes
+  -- the request of the first of these lines was sent whole, and no whole reply came
+  pub record IsUnread (reader : Known) (front : List ℕ) (asked : List Asked) : Type 0 where
+    pub request : Request
+    pub more : List Asked
+    pub asked_are : asked ≡ Ok request ∷ more
+    pub whole : IsBeginning (request_frame request) front
+    pub loses : LosesReply reader
+
+  -- The connection was lost: the first lines have their replies, and none behind them has one. Of the requests of those a beginning was sent. It isn't the
+  -- whole, as the writer failed; or no whole reply came to the first of them.
+  pub record Loses (r0 w0 : Known) (asked : List Asked) (outcomes : List Outcome) : Type 0 where
+    pub first : List Asked
+    pub behind : List Asked
+    pub replied : List Outcome
+    pub lost : List Outcome
+    pub reader : Known
+    pub writer : Known
+    pub writer_after : Known
+    pub front : List ℕ
+    pub asked_are : asked ≡ first ++ behind
+    pub outcomes_are : outcomes ≡ replied ++ lost
+    pub have : Replied r0 reader w0 writer first replied
+    pub have_none : Unanswered behind lost
+    pub beginning : IsBeginning front (asked_frames behind)
+    pub sent : Appends writer writer_after front
+    pub cause : IsCut front (asked_frames behind) ⊎ IsUnread reader front behind
+
+  -- what came of these lines
+  abbrev pub Exchanged : Ends → Ends → List Asked → List Outcome → Type 0
+  Exchanged None None asked outcomes = Unanswered asked outcomes
+  Exchanged None (Some new) asked outcomes = ⊥
+  Exchanged (Some old) None asked outcomes = Loses old.0 old.1 asked outcomes
+  Exchanged (Some old) (Some new) asked outcomes = Replied old.0 new.0 old.1 new.1 asked outcomes
 
 -- ---- what is printed
 
@@ -162,22 +185,24 @@ pub record Tells (outcomes : List Outcome) (text : List ℕ) : Type 0 where
   pub each : AllZip IsLineOf outcomes lines
   pub is : text ≡ flat_map (λ line. line) lines
 
--- what came of these lines was printed, and the status goes on with it
-pub record Answers (e0 e1 : Ends) (o0 o1 : Known) (asked : List Asked) (s0 s1 : ℕ) : Type 0 where
-  pub outcomes : List Outcome
-  pub text : List ℕ
-  pub exchanged : Exchanged e0 e1 asked outcomes
-  pub tells : Tells outcomes text
-  pub printed : Appends o0 o1 text
-  pub status_is : s1 ≡ first_of s0 (status_of_all outcomes)
+-- Fails says that reading a reply ended with an error, of what the reader had left before and has left then.
+module _ (Fails : Known → Known → ReplyError → Type 0) where
+  -- what came of these lines was printed, and the status goes on with it
+  pub record Answers (e0 e1 : Ends) (o0 o1 : Known) (asked : List Asked) (s0 s1 : ℕ) : Type 0 where
+    pub outcomes : List Outcome
+    pub text : List ℕ
+    pub exchanged : Exchanged Fails e0 e1 asked outcomes
+    pub tells : Tells outcomes text
+    pub printed : Appends o0 o1 text
+    pub status_is : s1 ≡ first_of s0 (status_of_all outcomes)
 
--- a beginning of what came of these lines was printed
-pub record BreaksOff (e0 : Ends) (o0 o1 : Known) (asked : List Asked) : Type 0 where
-  pub after : Ends
-  pub outcomes : List Outcome
-  pub text : List ℕ
-  pub front : List ℕ
-  pub exchanged : Exchanged e0 after asked outcomes
-  pub tells : Tells outcomes text
-  pub beginning : IsBeginning front text
-  pub printed : Appends o0 o1 front
+  -- a beginning of what came of these lines was printed
+  pub record BreaksOff (e0 : Ends) (o0 o1 : Known) (asked : List Asked) : Type 0 where
+    pub after : Ends
+    pub outcomes : List Outcome
+    pub text : List ℕ
+    pub front : List ℕ
+    pub exchanged : Exchanged Fails e0 after asked outcomes
+    pub tells : Tells outcomes text
+    pub beginning : IsBeginning front text
+    pub printed : Appends o0 o1 front

@@ -8,6 +8,7 @@ ghost use Rattle.cmd_call.specs.Inputs.{AnswersInput, Breaks, Gave, Reads, Stops
 
 use crate::lines::LINE_END;
 use crate::rounds::{MOST_ASKED, Round, Stop, answer_round};
+use crate::servers::Replies;
 use cmd_text::DONE;
 use std::alloc::{AllocError, Global};
 use std::io;
@@ -29,7 +30,7 @@ struct Lines {
 }
 
 /// The part becomes a line. If there are enough lines, they are answered.
-fn end_line<R: Read + Drop, W: Write + Drop, O: Write>(
+fn end_line<R: Replies + Drop, W: Write + Drop, O: Write>(
     alloc: Global,
     server: &mut Option<(R, W)>,
     lines: &mut Lines,
@@ -43,14 +44,14 @@ fn end_line<R: Read + Drop, W: Write + Drop, O: Write>(
     ensures part { OnOk result (lines.new.part.items ≡ []) }
     // What held of the connection and the output before holds with these lines, or bytes.
     ensures goes_on { OnOk result ((whole : List Text) (e : Ends) (o : Known)
-        → Underway e (ends_of R.remaining W.contents server.old) o (O.contents output.old)
+        → Underway R.fails e (ends_of R.remaining W.contents server.old) o (O.contents output.old)
         whole lines.old.round.asked.items lines.old.status
-        → Underway e (ends_of R.remaining W.contents server.new) o (O.contents output.new)
+        → Underway R.fails e (ends_of R.remaining W.contents server.new) o (O.contents output.new)
         (whole ++ lines.old.part.items ∷ []) lines.new.round.asked.items lines.new.status) }
     ensures breaks { OnErr result ((whole : List Text) (e : Ends) (o : Known)
-        → Underway e (ends_of R.remaining W.contents server.old) o (O.contents output.old)
+        → Underway R.fails e (ends_of R.remaining W.contents server.old) o (O.contents output.old)
         whole lines.old.round.asked.items lines.old.status
-        → Breaks e o (O.contents output.new) (whole ++ lines.old.part.items ∷ [])) }
+        → Breaks R.fails e o (O.contents output.new) (whole ++ lines.old.part.items ∷ [])) }
 {
     lines.round.add(alloc, &lines.part)?;
     lines.part.clear();
@@ -61,7 +62,7 @@ fn end_line<R: Read + Drop, W: Write + Drop, O: Write>(
 }
 
 /// Takes the next byte of the input.
-fn take_byte<R: Read + Drop, W: Write + Drop, O: Write>(
+fn take_byte<R: Replies + Drop, W: Write + Drop, O: Write>(
     alloc: Global,
     server: &mut Option<(R, W)>,
     lines: &mut Lines,
@@ -76,16 +77,16 @@ fn take_byte<R: Read + Drop, W: Write + Drop, O: Write>(
     // What held of the connection and the output before holds with these lines, or bytes.
     ensures goes_on { OnOk result
         ((bytes : List ℕ) (e : Ends) (o : Known)
-        → Reads bytes lines.old.part.items e (ends_of R.remaining W.contents server.old) o
+        → Reads R.fails bytes lines.old.part.items e (ends_of R.remaining W.contents server.old) o
         (O.contents output.old) lines.old.round.asked.items lines.old.status
-        → Reads (bytes ++ byte ∷ []) lines.new.part.items e
+        → Reads R.fails (bytes ++ byte ∷ []) lines.new.part.items e
         (ends_of R.remaining W.contents server.new) o (O.contents output.new)
         lines.new.round.asked.items lines.new.status) }
     ensures breaks { OnErr result
         ((bytes : List ℕ) (e : Ends) (o : Known)
-        → Reads bytes lines.old.part.items e (ends_of R.remaining W.contents server.old) o
+        → Reads R.fails bytes lines.old.part.items e (ends_of R.remaining W.contents server.old) o
         (O.contents output.old) lines.old.round.asked.items lines.old.status
-        → StopsAt (bytes ++ byte ∷ []) e o (O.contents output.new)) }
+        → StopsAt R.fails (bytes ++ byte ∷ []) e o (O.contents output.new)) }
 {
     if byte == LINE_END {
         return end_line(alloc, server, lines, output);
@@ -95,7 +96,7 @@ fn take_byte<R: Read + Drop, W: Write + Drop, O: Write>(
 }
 
 /// Takes the next bytes of the input.
-fn take_bytes<R: Read + Drop, W: Write + Drop, O: Write>(
+fn take_bytes<R: Replies + Drop, W: Write + Drop, O: Write>(
     alloc: Global,
     server: &mut Option<(R, W)>,
     lines: &mut Lines,
@@ -110,16 +111,16 @@ fn take_bytes<R: Read + Drop, W: Write + Drop, O: Write>(
     // What held of the connection and the output before holds with these lines, or bytes.
     ensures goes_on { OnOk result
         ((bytes : List ℕ) (e : Ends) (o : Known)
-        → Reads bytes lines.old.part.items e (ends_of R.remaining W.contents server.old) o
+        → Reads R.fails bytes lines.old.part.items e (ends_of R.remaining W.contents server.old) o
         (O.contents output.old) lines.old.round.asked.items lines.old.status
-        → Reads (bytes ++ piece.now) lines.new.part.items e
+        → Reads R.fails (bytes ++ piece.now) lines.new.part.items e
         (ends_of R.remaining W.contents server.new) o (O.contents output.new)
         lines.new.round.asked.items lines.new.status) }
     ensures breaks { OnErr result
         ((bytes : List ℕ) (e : Ends) (o : Known)
-        → Reads bytes lines.old.part.items e (ends_of R.remaining W.contents server.old) o
+        → Reads R.fails bytes lines.old.part.items e (ends_of R.remaining W.contents server.old) o
         (O.contents output.old) lines.old.round.asked.items lines.old.status
-        → StopsAt (bytes ++ piece.now) e o (O.contents output.new)) }
+        → StopsAt R.fails (bytes ++ piece.now) e o (O.contents output.new)) }
 {
     for byte in piece {
         take_byte(alloc, server, lines, output, *byte)?;
@@ -128,7 +129,7 @@ fn take_bytes<R: Read + Drop, W: Write + Drop, O: Write>(
 }
 
 /// Takes the next bytes of the input, and answers each whole line in hand.
-fn take_piece<R: Read + Drop, W: Write + Drop, O: Write>(
+fn take_piece<R: Replies + Drop, W: Write + Drop, O: Write>(
     alloc: Global,
     server: &mut Option<(R, W)>,
     lines: &mut Lines,
@@ -143,16 +144,16 @@ fn take_piece<R: Read + Drop, W: Write + Drop, O: Write>(
     // What held of the connection and the output before holds with these lines, or bytes.
     ensures goes_on { OnOk result
         ((bytes : List ℕ) (e : Ends) (o : Known)
-        → Reads bytes lines.old.part.items e (ends_of R.remaining W.contents server.old) o
+        → Reads R.fails bytes lines.old.part.items e (ends_of R.remaining W.contents server.old) o
         (O.contents output.old) lines.old.round.asked.items lines.old.status
-        → Reads (bytes ++ piece.now) lines.new.part.items e
+        → Reads R.fails (bytes ++ piece.now) lines.new.part.items e
         (ends_of R.remaining W.contents server.new) o (O.contents output.new)
         lines.new.round.asked.items lines.new.status) }
     ensures breaks { OnErr result
         ((bytes : List ℕ) (e : Ends) (o : Known)
-        → Reads bytes lines.old.part.items e (ends_of R.remaining W.contents server.old) o
+        → Reads R.fails bytes lines.old.part.items e (ends_of R.remaining W.contents server.old) o
         (O.contents output.old) lines.old.round.asked.items lines.old.status
-        → StopsAt (bytes ++ piece.now) e o (O.contents output.new)) }
+        → StopsAt R.fails (bytes ++ piece.now) e o (O.contents output.new)) }
 {
     take_bytes(alloc, server, lines, output, piece)?;
     answer_round(alloc, server, &mut lines.round, &mut lines.status, output)
@@ -160,7 +161,7 @@ fn take_piece<R: Read + Drop, W: Write + Drop, O: Write>(
 
 /// Answers what is left at the end of the input. What stands behind the last whole line is a line
 /// too.
-fn finish<R: Read + Drop, W: Write + Drop, O: Write>(
+fn finish<R: Replies + Drop, W: Write + Drop, O: Write>(
     alloc: Global,
     server: &mut Option<(R, W)>,
     lines: &mut Lines,
@@ -171,14 +172,14 @@ fn finish<R: Read + Drop, W: Write + Drop, O: Write>(
 
     // Each line was answered; or of the first ones a beginning was printed.
     ensures answers { OnOk result ((whole : List Text) (e : Ends) (o : Known)
-        → Underway e (ends_of R.remaining W.contents server.old) o (O.contents output.old)
+        → Underway R.fails e (ends_of R.remaining W.contents server.old) o (O.contents output.old)
         whole lines.old.round.asked.items lines.old.status
-        → Answers e (ends_of R.remaining W.contents server.new) o (O.contents output.new)
+        → Answers R.fails e (ends_of R.remaining W.contents server.new) o (O.contents output.new)
         (map asked_in (whole ++ last_line lines.old.part.items)) 0 lines.new.status) }
     ensures breaks { OnErr result ((whole : List Text) (e : Ends) (o : Known)
-        → Underway e (ends_of R.remaining W.contents server.old) o (O.contents output.old)
+        → Underway R.fails e (ends_of R.remaining W.contents server.old) o (O.contents output.old)
         whole lines.old.round.asked.items lines.old.status
-        → Breaks e o (O.contents output.new) (whole ++ last_line lines.old.part.items)) }
+        → Breaks R.fails e o (O.contents output.new) (whole ++ last_line lines.old.part.items)) }
 {
     let part = lines.part.as_slice();
     if part.is_empty() {
@@ -213,13 +214,13 @@ fn read_piece<I: Read>(input: &mut I, room: &mut [u8]) -> Result<usize, Stop>
 
 /// Asks what the lines of an input ask, and prints a line for each: the status of the first that
 /// isn't a reply, or 0.
-pub(crate) fn answer_input<I: Read, R: Read + Drop, W: Write + Drop, O: Write>(
+pub(crate) fn answer_input<I: Read, R: Replies + Drop, W: Write + Drop, O: Write>(
     alloc: Global,
     server: &mut Option<(R, W)>,
     input: &mut I,
     output: &mut O,
 ) -> Result<u8, Stop>
-    ensures { AnswersInput (I.remaining input.old) (I.remaining input.new)
+    ensures { AnswersInput R.fails (I.remaining input.old) (I.remaining input.new)
         (ends_of R.remaining W.contents server.old)
         (O.contents output.old) (O.contents output.new) result }
 {

@@ -12,4 +12,4 @@ pub mod servers;
 
 pub use calling::{call_lines, make_calls};
 pub use client::{ask, call};
-pub use servers::Servers;
+pub use servers::{Replies, Servers};

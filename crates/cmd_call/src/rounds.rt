@@ -7,9 +7,10 @@ ghost use Rattle.cmd_call.specs.Rounds.{Comes, Receives, Sends, TellsRound};
 
 use crate::lines::{BadLine, asked_in};
 use crate::outcomes::{Outcome, first_of, put_line, status_of};
+use crate::servers::Replies;
 use std::alloc::{AllocError, AllocFailed, Global};
-use std::io::{Read, Write};
-use wire_frames::{ReplyError, Request, read_reply, request_frame, write_whole};
+use std::io::Write;
+use wire_frames::{ReplyError, Request, request_frame, write_whole};
 
 /// The most lines that are asked together.
 pub(crate) const MOST_ASKED: usize = 64;
@@ -80,7 +81,7 @@ impl Round {
 }
 
 /// Sends the frames. If not all of them can be written, the connection is given up.
-fn send<R: Read + Drop, W: Write + Drop>(server: &mut Option<(R, W)>, frames: &[u8])
+fn send<R: Replies + Drop, W: Write + Drop>(server: &mut Option<(R, W)>, frames: &[u8])
     ensures { Sends (ends_of R.remaining W.contents server.old)
         (ends_of R.remaining W.contents server.new) frames.now }
 {
@@ -92,17 +93,17 @@ fn send<R: Read + Drop, W: Write + Drop>(server: &mut Option<(R, W)>, frames: &[
 }
 
 /// Reads the next reply. If no whole one comes, the connection is given up.
-fn receive<R: Read + Drop, W: Write + Drop>(
+fn receive<R: Replies + Drop, W: Write + Drop>(
     alloc: Global,
     server: &mut Option<(R, W)>,
 ) -> Result<Outcome, Stop>
-    ensures { IfOk result (λ outcome. Receives (ends_of R.remaining W.contents server.old)
+    ensures { IfOk result (λ outcome. Receives R.fails (ends_of R.remaining W.contents server.old)
         (ends_of R.remaining W.contents server.new) outcome) }
 {
     let Some((reader, _)) = server else {
         return Ok(Outcome::NoReply);
     };
-    match read_reply(alloc, reader) {
+    match reader.next_reply(alloc) {
         Ok(answer) => Ok(Outcome::Answered(answer)),
         Err(ReplyError::NoMemory) => Err(Stop::NoMemory),
         Err(_) => {
@@ -113,12 +114,12 @@ fn receive<R: Read + Drop, W: Write + Drop>(
 }
 
 /// What comes of a line.
-fn outcome_of<R: Read + Drop, W: Write + Drop>(
+fn outcome_of<R: Replies + Drop, W: Write + Drop>(
     alloc: Global,
     server: &mut Option<(R, W)>,
     asked: &Result<Request, BadLine>,
 ) -> Result<Outcome, Stop>
-    ensures { IfOk result (λ outcome. Comes (ends_of R.remaining W.contents server.old)
+    ensures { IfOk result (λ outcome. Comes R.fails (ends_of R.remaining W.contents server.old)
         (ends_of R.remaining W.contents server.new) asked.now outcome) }
 {
     match asked {
@@ -128,14 +129,14 @@ fn outcome_of<R: Read + Drop, W: Write + Drop>(
 }
 
 /// Puts a line for each of these at the end of the text, and goes on with the status.
-fn tell_round<R: Read + Drop, W: Write + Drop>(
+fn tell_round<R: Replies + Drop, W: Write + Drop>(
     alloc: Global,
     server: &mut Option<(R, W)>,
     asked: &[Result<Request, BadLine>],
     text: &mut String,
     status: &mut u8,
 ) -> Result<(), Stop>
-    ensures { OnOk result (TellsRound (ends_of R.remaining W.contents server.old)
+    ensures { OnOk result (TellsRound R.fails (ends_of R.remaining W.contents server.old)
         (ends_of R.remaining W.contents server.new)
         (string_bytes text.old) (string_bytes text.new) asked.now status.old status.new) }
 {
@@ -148,7 +149,7 @@ fn tell_round<R: Read + Drop, W: Write + Drop>(
 }
 
 /// Asks what the lines of a round ask, and prints what comes of them. The round is empty then.
-pub(crate) fn answer_round<R: Read + Drop, W: Write + Drop, O: Write>(
+pub(crate) fn answer_round<R: Replies + Drop, W: Write + Drop, O: Write>(
     alloc: Global,
     server: &mut Option<(R, W)>,
     round: &mut Round,
@@ -159,7 +160,7 @@ pub(crate) fn answer_round<R: Read + Drop, W: Write + Drop, O: Write>(
     requires { round.old.frames.items ≡ asked_frames round.old.asked.items }
 
     // What came of the lines was printed, and the round is empty.
-    ensures answers { OnOk result (Answers (ends_of R.remaining W.contents server.old)
+    ensures answers { OnOk result (Answers R.fails (ends_of R.remaining W.contents server.old)
         (ends_of R.remaining W.contents server.new) (O.contents output.old) (O.contents output.new)
         round.old.asked.items status.old status.new) }
     ensures asked { OnOk result (round.new.asked.items ≡ []) }
@@ -168,7 +169,7 @@ pub(crate) fn answer_round<R: Read + Drop, W: Write + Drop, O: Write>(
     // Or nothing was printed, or a beginning of it.
     ensures breaks { OnErr result
         ((O.contents output.new ≡ O.contents output.old)
-        ⊎ BreaksOff (ends_of R.remaining W.contents server.old) (O.contents output.old)
+        ⊎ BreaksOff R.fails (ends_of R.remaining W.contents server.old) (O.contents output.old)
         (O.contents output.new) round.old.asked.items) }
 {
     send(server, &round.frames);

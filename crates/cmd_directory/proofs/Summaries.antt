@@ -1,15 +1,13 @@
 -- The numbers of a directory.
-use Rattle.std.proofs.Common.{◌≡◌, ℕ, zero, suc, ◌%◌, ◌==◌, ◌∙◌, cond, true, false, None, List, [], ◌∷◌, map, sum_by, inl, inr, ap, sum, subst, sym, refl, arith}
-use Rattle.std.proofs.lemmas.Bool.{eqb-true}
+use Rattle.std.proofs.Common.{◌≡◌, ℕ, ◌%◌, ◌∙◌, true, None, List, [], ◌∷◌, map, sum_by, inl, inr, ap, sum, subst, sym, refl, arith}
 use Rattle.std.proofs.lemmas.List.Sums.{sum-map}
-use mathlib.Core.Path.{fun_ext}
 use Rattle.std.specs.FinMap as finite
 use Rattle.map_types.specs.declared.refusals.Refusal.{Refusal}
 use Rattle.map_model.specs.Maps.{Map}
 use Rattle.map_model.specs.Parts.{parts_of}
 use Rattle.atomic_methods.specs.PartState.{PartState}
 use Rattle.disk_model.specs.Calls.{Looks}
-use Rattle.disk_model.specs.Files.{Files, now, synced, with_file}
+use Rattle.disk_model.specs.Files.{Files}
 use Rattle.log_records.specs.Layout.{IsLayout, first_layout}
 use Rattle.store_layout.specs.Checkpoints.{Checkpoint, IsCheckpoint, is_sealed}
 use Rattle.store_layout.specs.Faults.{head_fault}
@@ -20,6 +18,7 @@ use Rattle.gate_log.proofs.Scanning.{looks_on, same_now}
 use Rattle.recovery.specs.Dividing.{IsDivided}
 use Rattle.recovery.specs.LogReading.{contents_of}
 use Rattle.recovery.specs.Syncing.{SyncsAndLooks, states_synced}
+use Rattle.recovery.proofs.SyncingLemmas.{seen_now, seen_synced}
 
 -- ---- entries
 
@@ -56,22 +55,6 @@ module _ (contents : Contents) (found : Opened) (generation : ℕ) (same : found
   is_loadable refusal (inr bad) = never_bad first_layout first_is_layout (generation % 2) (contents (generation % 2)) found.checkpoint refusal checkpoint bad.2
 
 -- ---- looking on
-
-abbrev seen_now : List Files → Contents
-seen_now past = λ number. (now past number).seen
-
-seen_once : (n : ℕ) (files : Files) (m : ℕ) → (with_file n (synced (files n)) files m).seen ≡ (files m).seen
-seen_once n files m = elim (m == n) as (λ b. (m == n) ≡ b → (cond b (synced (files n)) (files m)).seen ≡ (files m).seen) [
-  | true ↦ λ e. ap (λ i. (files i).seen) (sym (eqb-true _ _ e))
-  | false ↦ λ e. refl
-] refl
-
--- after syncs each file reads as before
-seen_synced : (count : ℕ) (past : List Files) → seen_now (states_synced count past) ≡ seen_now past
-seen_synced zero past = refl
-seen_synced (suc n) past =
-    let once : seen_now (states_synced (suc n) past) ≡ seen_now (states_synced n past) = fun_ext (λ m. seen_once n (now (states_synced n past)) m) in
-    once ∙ seen_synced n past
 
 module _ {D : Type 0} (states : D → List Files) (failures : D → ℕ) (honest : D → Type 0) where
   pub same_after : (old new : D) → SyncsAndLooks states failures honest 4 0 old new → contents_of states new ≡ contents_of states old

@@ -2,6 +2,7 @@
 use Rattle.std.specs.Prelude.{◌≡◌, ◌≢◌, ◌⊎◌, ℕ, ◌+◌, ◌-◌, ◌^◌, min, List, ◌++◌, Option, None, Some, codes, decimal}
 use Rattle.std.specs.FinMap as finite
 use Rattle.std.specs.List.{sum_by}
+use Rattle.std.specs.declared.io.Error.{Error}
 use Rattle.map_model.specs.Maps.{Map}
 use Rattle.map_model.specs.Parts.{parts_of}
 use Rattle.map_types.specs.declared.refusals.Refusal.{Refusal}
@@ -103,8 +104,13 @@ Checks states failures honest old new w0 w1 status =
 
 -- ---- a directory that was opened
 
--- IsOpened says that a disk has the files of a directory, as they were when it was opened.
-module _ {D : Type 0} (states : D → List Files) (failures : D → ℕ) (honest : D → Type 0) (IsOpened : List ℕ → D → Type 0) (directory : List ℕ) where
+-- IsOpened says that a disk has the files of a directory, as they were when it was opened. IsRefused says that a directory couldn't be opened, for an error.
+module _ {D : Type 0} (states : D → List Files) (failures : D → ℕ) (honest : D → Type 0) (IsOpened : List ℕ → D → Type 0) (IsRefused : List ℕ → Error → Type 0)
+    (directory : List ℕ) where
+  -- the directory couldn't be opened, and nothing was printed
+  abbrev pub CannotOpen : Option (List ℕ) → Option (List ℕ) → ℕ → Type 0
+  CannotOpen w0 w1 status = (error : Error) × IsRefused directory error × PrintsNothing w0 w1 status
+
   -- a disk of the directory was formatted for so many stripes, or that was refused
   pub record FormatsDirectory (stripes : ℕ) (w0 w1 : Option (List ℕ)) (status : ℕ) : Type 0 where
     pub old : D
@@ -116,7 +122,7 @@ module _ {D : Type 0} (states : D → List Files) (failures : D → ℕ) (honest
   -- printed, with status 2.
   abbrev pub Inits : List ℕ → Option (List ℕ) → Option (List ℕ) → ℕ → Type 0
   Inits word w0 w1 status =
-      ((stripes : ℕ) × IsNamed IsStripeCount word (Some stripes) × (FormatsDirectory stripes w0 w1 status ⊎ PrintsNothing w0 w1 status))
+      ((stripes : ℕ) × IsNamed IsStripeCount word (Some stripes) × (FormatsDirectory stripes w0 w1 status ⊎ CannotOpen w0 w1 status))
       ⊎ (IsNamed IsStripeCount word None × (w1 ≡ w0) × (status ≡ 2))
 
   -- a disk of the directory was checked
@@ -128,4 +134,4 @@ module _ {D : Type 0} (states : D → List Files) (failures : D → ℕ) (honest
 
   -- the directory was checked, or couldn't be opened
   abbrev pub Inspects : Option (List ℕ) → Option (List ℕ) → ℕ → Type 0
-  Inspects w0 w1 status = ChecksDirectory w0 w1 status ⊎ PrintsNothing w0 w1 status
+  Inspects w0 w1 status = ChecksDirectory w0 w1 status ⊎ CannotOpen w0 w1 status

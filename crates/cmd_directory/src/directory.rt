@@ -60,8 +60,8 @@ pub fn init<M: Directories, W: Write, E: Write>(
     output: &mut W,
     error: &mut E,
 ) -> u8
-    ensures { Inits M.Opened.states M.Opened.failures M.Opened.honest M.is_opened directory.now
-        stripes.now (W.contents output.old) (W.contents output.new) result }
+    ensures { Inits M.Opened.states M.Opened.failures M.Opened.honest M.is_created M.is_refused
+        directory.now stripes.now (W.contents output.old) (W.contents output.new) result }
 {
     let Some(stripes) = stripes_named(stripes) else {
         say(error, "S is a power of two from 1 to 256\n");
@@ -81,8 +81,8 @@ pub fn check<M: Directories, W: Write, E: Write>(
     output: &mut W,
     error: &mut E,
 ) -> u8
-    ensures { Inspects M.Opened.states M.Opened.failures M.Opened.honest M.is_opened directory.now
-        (W.contents output.old) (W.contents output.new) result }
+    ensures { Inspects M.Opened.states M.Opened.failures M.Opened.honest M.is_opened M.is_refused
+        directory.now (W.contents output.old) (W.contents output.new) result }
 {
     match machine.open_files(alloc, directory) {
         Ok(disk) => {

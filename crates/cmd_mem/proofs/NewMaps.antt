@@ -1,5 +1,5 @@
 -- A disk that was made that of an empty map, and was opened or not.
-use Rattle.std.proofs.Common.{◌≡◌, inl, inr, ℕ, ◌+◌, List, Ok, Err, IfOk, IfErr, Result, refl, sym, ap, subst, ◌∙◌, arith}
+use Rattle.std.proofs.Common.{◌≡◌, inl, inr, ℕ, ◌+◌, List, Ok, Err, IfOk, IfErr, Result, sym, ap, subst, ◌∙◌, arith}
 use Rattle.std.specs.FinMap as finite
 use Rattle.disk_model.specs.Files.{Files}
 use Rattle.map_types.specs.declared.refusals.Refusal.{Refusal}
@@ -9,9 +9,6 @@ use Rattle.gate_log.specs.Scan.{failed_in}
 use Rattle.recovery.specs.Formatting.{IsNew}
 use Rattle.recovery.specs.LogReading.{RefusesFor, contents_of}
 use Rattle.recovery.specs.Syncing.{Stopped}
-use Rattle.ticket_order.specs.declared.record.Opening.{Opening}
-use Rattle.stripe_locks.specs.Plays.{joining}
-use Rattle.flusher.specs.Fitting.{IsUnused}
 use Rattle.cmd_mem.specs.Maps.{CannotOpen, failed, forgotten}
 
 module _ {D : Type 0} (states : D → List Files) (failures : D → ℕ) (honest : D → Type 0) (stripes : ℕ) (disk mid left : D) where
@@ -35,7 +32,3 @@ if_ok P Q (Err e) f p = tt
 pub if_err : {X E : Type 0} (P Q R : E → Type 0) (r : Result X E) → ((e : E) → P e → Q e → R e) → IfErr r P → IfErr r Q → IfErr r R
 if_err P Q R (Ok x) f p q = tt
 if_err P Q R (Err e) f p q = f e p q
-
--- the first pass has made no step
-pub unused : (o : Opening) → IsUnused o.first (joining o 0)
-unused o = record { opening = refl; keeper = refl; free = refl; none_taken = refl; published = refl; works = refl }

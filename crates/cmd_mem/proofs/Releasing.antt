@@ -16,7 +16,7 @@ use Rattle.gate_log.specs.States.{LogState}
 use Rattle.flusher.specs.declared.keeper.Keeper.{Keeper}
 use Rattle.flusher.specs.Fitting.{IsTakenFront, WereTaken}
 use Rattle.store_layout.specs.Hands.{FitsBatch, Hand, IsLongest}
-use Rattle.flusher.specs.Keeping.{is_too_long}
+use Rattle.flusher.specs.KeeperSteps.{is_too_long}
 use Rattle.wire_frames.specs.declared.requests.Request.{Request}
 use Rattle.connections.specs.Dialogue.{Answer}
 use Rattle.cmd_mem.specs.Served.{AreTaken, Begins, CannotCommit, Ends, IsCommitted, IsGivenOut, IsIdle, IsSwept, IsWithheld, Makes, Refuses, fails}

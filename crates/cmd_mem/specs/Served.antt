@@ -18,7 +18,7 @@ use Rattle.gate_log.specs.States.{LogState, IsResting}
 use Rattle.flusher.specs.declared.keeper.Keeper.{Keeper}
 use Rattle.flusher.specs.Fitting.{Fits, HasSeenMore, IsQuiet, IsTakenFront, WereTaken}
 use Rattle.store_layout.specs.Hands.{FitsBatch}
-use Rattle.flusher.specs.Keeping.{is_too_long, is_walking}
+use Rattle.flusher.specs.KeeperSteps.{is_too_long, is_walking}
 use Rattle.wire_frames.specs.declared.requests.Request.{Request}
 use Rattle.wire_frames.specs.declared.requests.Request.TheVariants.{Change, Read, Bulk}
 use Rattle.connections.specs.Dialogue.{Answer}

@@ -3,7 +3,7 @@ ghost use Rattle.std.specs.Prelude.{◌≡◌, ◌≢◌, ◌≤◌, IfOk, IfErr
 ghost use Rattle.ticket_order.specs.declared.record.Record.{Record};
 ghost use Rattle.gate_log.specs.States.{IsResting, log_after};
 ghost use Rattle.flusher.specs.Fitting.{HasSeenMore, IsQuiet};
-ghost use Rattle.flusher.specs.Keeping.{is_walking};
+ghost use Rattle.flusher.specs.KeeperSteps.{is_walking};
 ghost use Rattle.cmd_mem.specs.Served.{AreTaken, CannotCommit, IsCommitted, IsGivenOut, IsIdle, IsKept, IsWithheld};
 
 use disk_model::Disk;

@@ -19,3 +19,5 @@ pub record AreNamed (words : ServerWords) (settings : Settings) : Type 0 where
   pub bytes_fit : settings.bytes < 2 ^ 64
   pub idle : Spells words.idle.now settings.idle
   pub idle_fits : settings.idle < 2 ^ 32
+  pub ahead : Spells words.ahead.now settings.ahead
+  pub ahead_fits : settings.ahead < 2 ^ 32

@@ -42,6 +42,7 @@ pub struct ServerWords<'a> {
     pub workers: &'a str,
     pub bytes: &'a str,
     pub idle: &'a str,
+    pub ahead: &'a str,
 }
 
 /// What a server is to do.
@@ -56,6 +57,8 @@ pub(crate) struct Settings {
     pub bytes: u64,
     /// For how many seconds a client may be idle; 0 is for ever.
     pub idle: u32,
+    /// How many zeros are written ahead of a batch in a long log; with 0 none are.
+    pub ahead: u32,
 }
 
 fn workers_named(word: &str) -> Option<usize>
@@ -87,12 +90,16 @@ fn settings_named(words: &ServerWords<'_>) -> Result<Settings, &'static str>
     let Ok(idle) = words.idle.parse::<u32>() else {
         return Err("N is a number from 0 to 4294967295\n");
     };
+    let Ok(ahead) = words.ahead.parse::<u32>() else {
+        return Err("A is a number from 0 to 4294967295\n");
+    };
     Ok(Settings {
         port,
         stripes,
         workers,
         bytes,
         idle,
+        ahead,
     })
 }
 
@@ -283,7 +290,8 @@ fn host<
     }
 }
 
-/// Opens the disk, and serves its map. `first_error` tells of the disk.
+/// Opens the disk, and serves its map, whose log is written ahead as the settings say. `first_error`
+/// tells of the disk.
 pub(crate) fn serve_disk<
     D: Disk + Drop + Send,
     W: Write,
@@ -304,6 +312,9 @@ pub(crate) fn serve_disk<
     match open_parts(alloc, disk, settings.stripes) {
         Ok((keeper, parts, first)) => match DurableMap::new(alloc, keeper, parts, first) {
             Ok(map) => {
+                if let Err(refusal) = map.set_log_ahead(rt, settings.ahead as usize) {
+                    return refuse(alloc, refusal, error);
+                }
                 let server = Server::new(alloc, map, settings, first_error);
                 host(rt, alloc, &server, first, settings, output, error)
             }
@@ -333,7 +344,7 @@ pub fn serve<
     W: Write,
     E: Write,
 >(rt: &R, machine: &M, alloc: Global, words: &ServerWords<'_>, output: &mut W, error: &mut E) -> u8
-    ensures { ServesOn M.Opened.states M.Opened.failures M.Opened.honest M.is_opened words.now
+    ensures { ServesOn M.Opened.states M.Opened.failures M.Opened.honest M.is_created words.now
         (W.contents output.old) (W.contents output.new) result }
 {
     let settings = match settings_named(words) {

@@ -68,6 +68,7 @@ pub(crate) fn settings(port: u16) -> Result<Settings, Fail> {
         workers: 4,
         bytes: NO_CHECKPOINT,
         idle: 0,
+        ahead: 0,
     })
 }
 

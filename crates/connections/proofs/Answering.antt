@@ -8,12 +8,12 @@ use Rattle.std.proofs.lemmas.List.Concat.{flat_map-append}
 use Rattle.map_types.specs.declared.refusals.Refusal.{Refusal}
 use Rattle.wire_frames.specs.declared.requests.Request.{Request}
 use Rattle.wire_frames.specs.Replies.{IsCut, Writes, reply_frame}
+use Rattle.wire_frames.proofs.Sent.{Appends-nil, Appends-then}
 use Rattle.connections.specs.declared.row.Place.{Place}
 use Rattle.connections.specs.Dialogue.{Answer, ends}
 use Rattle.connections.specs.Connection.{GoesOn}
 use Rattle.connections.specs.Moves.{Move, Answers, GivesUp, Makes, Leads}
 use Rattle.connections.specs.Progress.{EndsAt, LastEnds, Sends, Replied, FinishesRow, AnswersRow, answer_moves, give_up_moves, answered_in, answers_in, replies_in}
-use Rattle.connections.proofs.Streams.{Appends-nil, Appends-then}
 use Rattle.connections.proofs.MoveLists.{leads_then}
 
 -- ---- bytes

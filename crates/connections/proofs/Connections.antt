@@ -1,23 +1,19 @@
 -- A whole connection.
-use Rattle.std.proofs.Common.{◌≡◌, ◌≤◌, ℕ, List, [], ◌++◌, length, take, drop, Bool, false, Option, Result, Err, refl, ap, subst, ◌∙◌, arith, inl}
+use Rattle.std.proofs.Common.{◌≡◌, ◌≤◌, ℕ, List, [], ◌++◌, length, take, Bool, false, Option, Result, Err, refl, ap, subst, ◌∙◌, arith, inl}
 use Rattle.std.specs.Io.KnownBytes.{Consumes}
-use Rattle.std.proofs.lemmas.List.{take_at}
 use Rattle.map_types.specs.declared.refusals.Refusal.{Refusal}
 use Rattle.wire_frames.specs.declared.requests.Request.{Request}
 use Rattle.wire_frames.specs.Messages.{IsPartial}
 use Rattle.connections.specs.Dialogue.{Answer, replies}
 use Rattle.wire_frames.specs.Held.{Feed, fed, bytes_then}
+use Rattle.wire_frames.proofs.Received.{Consumes-then}
 use Rattle.connections.specs.declared.connection.ConnectionError.{ConnectionError}
 use Rattle.connections.specs.declared.connection.ConnectionError.TheVariants.{Reader, Writer, NoMemory}
 use Rattle.connections.specs.Connection.{EndedByReply, AllAnswered, CutOff, Connection}
 use Rattle.connections.specs.Progress.{Gave, Progress, Last, Stopped, Turned}
-use Rattle.connections.proofs.Streams.{Consumes-then, Consumes-nil, Consumes-kept}
+use Rattle.connections.proofs.Streams.{Consumes-nil, Consumes-kept}
 use Rattle.connections.proofs.Rows.{full_goes_on, full_dialogue}
 use Rattle.connections.proofs.Parts.{progress_none, progress_feed, progress_then, last_then, stopped_then}
-
--- what a read left in the front of the room
-pub piece_is : (read items : List ℕ) (size len : ℕ) → length read ≡ size → take len (take size (read ++ drop (length read) items)) ≡ take len read
-piece_is read items size len e = ap (λ (bytes : List ℕ). take len bytes) (take_at read (drop (length read) items) size e)
 
 -- a piece behind what an open feeder held
 pub fed_open : (old new : Feed) (piece read : List ℕ) → new ≡ fed old piece → old.ended ≡ false → piece ≡ read → new ≡ record { left = old.left ++ read; ended = false }

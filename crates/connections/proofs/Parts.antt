@@ -2,9 +2,10 @@
 use Rattle.std.proofs.Common.{ℕ, List, Result, [], ◌∷◌, ◌++◌, Option, sym, ap, ◌∙◌, append_assoc}
 use Rattle.map_types.specs.declared.refusals.Refusal.{Refusal}
 use Rattle.wire_frames.specs.declared.requests.Request.{Request}
+use Rattle.wire_frames.proofs.Sent.{Appends-nil, Appends-then}
 use Rattle.connections.specs.Dialogue.{Answer, row, replies}
 use Rattle.connections.specs.Progress.{Progress, Last, Stopped}
-use Rattle.connections.proofs.Streams.{Appends-nil, Appends-then, begins_none, begins_then, begins_feed, first_then}
+use Rattle.connections.proofs.Streams.{begins_none, begins_then, begins_feed, first_then}
 use Rattle.connections.proofs.Rows.{full_then, front_then, replies_more, ended_more}
 use Rattle.connections.proofs.MoveLists.{runs_none, runs_then, steady_then}
 

@@ -11,12 +11,12 @@ use Rattle.wire_frames.specs.declared.requests.Request.{Request}
 use Rattle.wire_frames.specs.Messages.{Message, Begins, FirstMessages, IsBody, IsPartial, Says, frame}
 use Rattle.wire_frames.specs.Replies.{reply_frame}
 use Rattle.wire_frames.specs.Held.{Feed}
+use Rattle.wire_frames.proofs.Sent.{Appends-nil}
 use Rattle.connections.specs.declared.row.Place.{Place}
 use Rattle.connections.specs.Dialogue.{Answer, row, replies, IsEnded}
 use Rattle.connections.specs.Connection.{GoesOn}
 use Rattle.connections.specs.Moves.{IsRow, Leads, calls_of, left_answer}
 use Rattle.connections.specs.Progress.{BeginsRow, AnswersRow, EndsAt, Gives, Progress, Last, Stopped, begin_moves, answer_moves, give_up_moves, messages_in, places_in, answered_in, answers_in, replies_in}
-use Rattle.connections.proofs.Streams.{Appends-nil}
 use Rattle.connections.proofs.MoveLists.{runs_none}
 use Rattle.connections.proofs.Turns.{Fits, came_of, row_fits, row_runs, row_full, row_goes, row_last, last_is_ended, full_of, front_of, none_bad, steady_row}
 use Rattle.connections.proofs.Answering.{Cut, cut_more}

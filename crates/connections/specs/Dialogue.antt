@@ -1,16 +1,11 @@
 -- The replies to messages, given what each call answered.
-use Rattle.std.specs.Prelude.{◌≡◌, ◌⊎◌, ℕ, Bool, true, false, cond, List, [], ◌∷◌, ◌++◌, length, map, Option, Some, None, Result, Ok, Err}
+use Rattle.std.specs.Prelude.{◌≡◌, ◌⊎◌, ℕ, Bool, true, false, cond, List, [], ◌∷◌, ◌++◌, length, map, Option, Some, None, Ok, Err}
 use Rattle.std.specs.List.{flat_map}
-use Rattle.map_types.specs.declared.refusals.Refusal.{Refusal}
 use Rattle.map_types.specs.declared.refusals.Refusal.TheVariants.{NullValue, KeyTooLong, ValueTooLong, UnknownMethod, UnknownFunction, BadFrame, NoMemory, Busy, Failed, TicketsSpent, NotFormatted, Damaged, WrongVersion, LogFull, AlreadyFormatted, WrongPhase, TooEarly, NotText, SeatsSpent}
-use Rattle.map_types.specs.declared.commands.Reply.{Reply}
 use Rattle.wire_frames.specs.declared.requests.Request.{Request}
+pub use Rattle.wire_frames.specs.Answers.{Answer}
 use Rattle.wire_frames.specs.Messages.{Message}
 use Rattle.wire_frames.specs.Replies.{reply_frame}
-
--- what is answered to a message
-abbrev pub Answer : Type 0
-Answer = Result Reply Refusal
 
 -- a call that was made, and what it answered, or that it has no answer yet
 pub record Call : Type 0 where

@@ -1,7 +1,8 @@
 -- What a write makes of a file, and that what isn't pending stays as it was.
 use Rattle.std.proofs.Common.{Bool, true, false, ◌||◌, ◌==◌, nat_le, ◌≡◌, ◌≢◌, ◌⊎◌, inl, inr, ⊎_elim, ℕ, ◌+◌, ◌-◌, ◌<◌, ◌≤◌, max, min, List, [], ◌∷◌, ◌++◌, length, take, drop, if◌then◌else◌, refl, sym, ◌∙◌, ap, subst, arith, length-append, length-take, length-drop}
-use Rattle.std.proofs.lemmas.List.{get_or-take, get_or-drop, get_or_append_left, get_or-append_right, get_or_past}
-use Rattle.std.proofs.lemmas.Bool.{cases_lt}
+use mathlib.Core.Path.{fun_ext}
+use Rattle.std.proofs.lemmas.List.{ext_get_or, get_or-take, get_or-drop, get_or_append_left, get_or-append_right, get_or_past}
+use Rattle.std.proofs.lemmas.Bool.{cases_eq, cases_lt}
 use Rattle.std.proofs.lemmas.Bool.Decides.{nat_tests}
 use Rattle.disk_model.specs.Files.{File, Files, AreBytes, byte_at, is_in, is_written, is_pending, overwritten, reached, written, at_rest, now, with_file, IsCoherent, AreCoherent, AllCoherent, IsTorn, MayLeave}
 
@@ -102,6 +103,12 @@ with_same number file files = grind (arith, nat_tests)
 pub with_other : (number : ℕ) (file : File) (files : Files) (n : ℕ) → n ≢ number → with_file number file files n ≡ files n
 with_other number file files n other = grind (arith, nat_tests)
 
+pub with_itself : (number : ℕ) (files : Files) → with_file number (files number) files ≡ files
+with_itself number files = fun_ext (λ n. ⊎_elim {C = with_file number (files number) files n ≡ files n}
+    (λ is. ap (λ k. with_file number (files number) files k) is ∙ with_same number (files number) files ∙ ap files (sym is))
+    (λ other. with_other number (files number) files n other)
+    (cases_eq n number))
+
 pub coherent_with : (number : ℕ) (file : File) (files : Files) → AreCoherent files → IsCoherent file → AreCoherent (with_file number file files)
 coherent_with number file files are h n below = elim (n == number) as (λ b. IsCoherent (if b then file else files n)) [ true ↦ h | false ↦ are n below ]
 
@@ -112,3 +119,11 @@ now_coherent (files ∷ past) all = all.0
 -- what is read is among what a stop may leave
 pub seen_may_stay : (file : File) → IsCoherent file → MayLeave file file.seen
 seen_may_stay file h = record { no_shorter = h.no_shorter; no_longer = h.no_longer; bytes = h.bytes; same = λ i clear. refl }
+
+-- a file at rest leaves its content
+pub rest_leaves : (old content : List ℕ) → MayLeave (at_rest old) content → content ≡ old
+rest_leaves old content left =
+    let size : length content ≡ length old = omega (arith, left.no_shorter, left.no_longer) in
+    ext_get_or 0 content old size (λ i h.
+    let below : i < length old = omega (arith, size, h) in
+    left.same i (grind (arith, nat_tests)))

@@ -2,7 +2,7 @@
 use Rattle.std.proofs.Common.{◌≡◌, ℕ, zero, suc, ◌+◌, ◌<◌, ⊎_elim, List, [], ◌∷◌, length, get_or, set, refl, sym, ◌∙◌, ap, subst, arith, get_or-set_same, get_or-set_other, length-set}
 use Rattle.std.proofs.lemmas.Bool.{cases_eq}
 use Rattle.disk_model.specs.Files.{File, Files, AreBytes, IsCoherent, AllCoherent, now, reached, written, synced, at_rest, with_file}
-use Rattle.disk_model.specs.Kept.{IsKept, AreKept}
+use Rattle.disk_model.specs.KeptFiles.{IsKept, AreKept}
 use Rattle.disk_model.specs.Events.{Event, tore, wrote, synced_file, states_of}
 use Rattle.disk_model.specs.Fills.{pending_before, pending_below, length_left, byte_left, bytes_by, after_stop}
 use Rattle.disk_model.specs.declared.fill.Fill.{Fill}

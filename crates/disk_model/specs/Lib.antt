@@ -1,6 +1,6 @@
 pub mod Files
 pub mod Fills
-pub mod Kept
+pub mod KeptFiles
 pub mod Plans
 pub mod Events
 pub mod Memory

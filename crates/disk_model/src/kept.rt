@@ -26,7 +26,7 @@ pub(crate) struct Kept {
 }
 
 impl Kept {
-    ghost use Rattle.disk_model.specs.Kept.{IsKept};
+    ghost use Rattle.disk_model.specs.KeptFiles.{IsKept};
 
     pub(crate) fn new(alloc: Global) -> Kept
         ensures { IsKept result (at_rest []) }

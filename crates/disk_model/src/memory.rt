@@ -2,7 +2,7 @@
 ghost use Rattle.std.specs.Prelude.{◌≡◌, ℕ, ◌+◌, ◌-◌, ◌<◌, ◌≤◌, ◌⊎◌, true, false, IsTrue, List, [], ◌∷◌, length, min, take, drop, slice_index_or, Option, IfSome, IfNone, IfOk, OnOk, OnErr, is_ok};
 ghost use Rattle.disk_model.specs.Files.{File, Files, now, written, synced, with_file, empty_files, IsTorn, Leaves, AreCoherent, AllCoherent, AllCoherent-prop};
 ghost use Rattle.disk_model.specs.Fills.{torn, left_by, after_stop};
-ghost use Rattle.disk_model.specs.Kept.{AreKept};
+ghost use Rattle.disk_model.specs.KeptFiles.{AreKept};
 ghost use Rattle.disk_model.specs.declared.kept.Kept.{Kept};
 ghost use Rattle.disk_model.specs.Plans.{due_of};
 ghost use Rattle.disk_model.specs.Events.{states_of, tore};

@@ -21,7 +21,7 @@ use Rattle.flusher.proofs.OwnCalls.{call_goes_on, read_goes_on, then}
 use Rattle.stripe_locks.specs.Holding.{position_of, reply_of}
 use Rattle.stripe_locks.specs.declared.held.Held.{Held}
 use Rattle.stripe_locks.specs.Waits.{MakesCallInTime, MakesReadInTime, Waits}
-use Rattle.durable_map.specs.Durable.{Adds, AnswersCall, Begins, Completes, CompletesAmong, EndsWith, Finishes, FollowEachOther, GoesOnWith, GrewBy, GrewByCall, RefusesCall}
+use Rattle.durable_map.specs.Durable.{Adds, AnswersCall, Begins, Completes, CompletesAmong, EndsWith, Finishes, FollowEachOther, GoesOnWith, GrewBy, GrewByCall, IsMadeFirst, RefusesCall}
 use Rattle.durable_map.proofs.Growing.{ends_after, fails_after, grew_on}
 
 pub waited : (i : ℕ) (v w : Record) → Waits i v w → GoesOnByCalls v w
@@ -32,17 +32,17 @@ waited i v w k =
 pub change_begun : (n : ℕ) (v : Record) (c : Command) (held : Held) (u : Record) → MakesCallInTime n v c (position_of held) (reply_of held) u → Begins v (Changing c) (Ok held) u
 change_begun n v c held u k = record {
   goes_on = then v k.waited u (waited _ v k.waited k.waits) (call_goes_on n k.waited c (position_of held) (reply_of held) u k.made);
-  adds = record { grew = k.grew; later = k.later; legal = k.made.legal };
+  adds = record { grew = k.grew; stripes = n; made = k; later = k.later; legal = k.made.legal };
 }
 
 pub read_begun : (n : ℕ) (v : Record) (r : Read) (held : Held) (u : Record) → MakesReadInTime n v r (position_of held) (reply_of held) u → Begins v (Reading r) (Ok held) u
 read_begun n v r held u k = record {
   goes_on = then v k.waited u (waited _ v k.waited k.waits) (read_goes_on n k.waited r (position_of held) (reply_of held) u k.made);
-  adds = record { grew = k.grew; later = k.later; legal = k.made.legal };
+  adds = record { grew = k.grew; stripes = n; made = k; later = k.later; legal = k.made.legal };
 }
 
 -- what is legal stays so while the pass sees more
-legal_on : (u w : Record) (asked : Asked) (position : ℕ) (reply : Reply) → IsBeside u w → IsLegal (history_of u) position asked reply → IsLegal (history_of w) position asked reply
+pub legal_on : (u w : Record) (asked : Asked) (position : ℕ) (reply : Reply) → IsBeside u w → IsLegal (history_of u) position asked reply → IsLegal (history_of w) position asked reply
 legal_on u w asked position reply k legal =
     subst (λ (o : Opening). IsLegal (history_from o w.seen) position asked reply) (sym k.opening)
     (subst (λ (xs : List Command). IsLegal (history_from u.opening xs) position asked reply) (sym k.seen.is) (legal_longer u.opening u.seen k.seen.more position asked reply legal))
@@ -52,13 +52,17 @@ legal_on u w asked position reply k legal =
 -- how a call ends, seen from before the steps that led there
 ends_on : (v u w : Record) (position : ℕ) (reply : Reply) (answer : Result Reply Refusal) (a : List StepMade) → GrewBy v a u → EndsWith u position reply answer w → EndsWith v position reply answer w
 ends_on v u w position reply (Ok given) a grew ends = (ends.0, ends_after v u w position a grew ends.1)
-ends_on v u w position reply (Err refusal) a grew ends = (ends.0, fails_after v u w a grew ends.1)
+ends_on v u w position reply (Err refusal) a grew ends = (ends.0, fails_after v u w position a grew ends.1)
 
 -- what a whole call adds, by how it ended
-added : (v : Record) (asked : Asked) (position : ℕ) (reply : Reply) (w : Record) (answer : Result Reply Refusal) → GrewByCall v position asked reply w → Follows (reach v) asked position
-    → IsLegal (history_of w) position asked reply → EndsWith v position reply answer w → Adds v asked answer w
-added v asked position reply w (Ok given) grew later legal ends = subst (λ (r : Reply). AnswersCall v asked r w) (sym ends.0) (record { position = position; grew = grew; later = later; legal = legal; durable = ends.1 })
-added v asked position reply w (Err refusal) grew later legal ends = subst (λ (r : Refusal). RefusesCall v asked r w) (sym ends.0) (ends.1, inr (position, reply, grew))
+added : (v : Record) (asked : Asked) (position : ℕ) (reply : Reply) (w : Record) (answer : Result Reply Refusal) → GrewByCall v position asked reply w → IsMadeFirst v asked position reply w
+    → Follows (reach v) asked position → IsLegal (history_of w) position asked reply → EndsWith v position reply answer w → Adds v asked answer w
+added v asked position reply w (Ok given) grew made later legal ends = subst (λ (r : Reply). AnswersCall v asked r w) (sym ends.0) (record { position = position; grew = grew; made = made; later = later; legal = legal; durable = ends.1 })
+added v asked position reply w (Err refusal) grew made later legal ends = subst (λ (r : Refusal). RefusesCall v asked r w) (sym ends.0) (inr (record { position = position; reply = reply; grew = grew; made = made; failed = ends.1 }))
+
+-- a call that was begun was made first, whatever came after
+made_first : (v u w : Record) (asked : Asked) (held : Held) (after : List StepMade) → Begins v asked (Ok held) u → GrewBy u after w → IsMadeFirst v asked (position_of held) (reply_of held) w
+made_first v u w asked held after begun steps = record { stripes = begun.adds.stripes; at = u; made = begun.adds.made; after = after; steps = steps }
 
 -- a call that was begun, and then finished, is a whole call
 pub completes : (v u w : Record) (asked : Asked) (held : Held) (answer : Result Reply Refusal) → Begins v asked (Ok held) u → Finishes u held answer w → Completes v asked answer w
@@ -66,7 +70,11 @@ completes v u w asked held answer begun ended =
     let made = begun.goes_on.beside in
     let legal = legal_on u w asked (position_of held) (reply_of held) ended.beside.goes_on.beside begun.adds.legal in
     let ends = ends_on v u w (position_of held) (reply_of held) answer made.made made.steps ended.ends in
-    record { goes_on = then v u w begun.goes_on ended.beside.goes_on; adds = added v asked (position_of held) (reply_of held) w answer (ended.beside.calls ∙ begun.adds.grew) begun.adds.later legal ends }
+    let since = ended.beside.goes_on.beside in
+    record {
+      goes_on = then v u w begun.goes_on ended.beside.goes_on;
+      adds = added v asked (position_of held) (reply_of held) w answer (ended.beside.calls ∙ begun.adds.grew) (made_first v u w asked held since.made begun since.steps) begun.adds.later legal ends;
+    }
 
 -- a call that was refused when it was begun is a whole call that was refused
 pub refused : (v w : Record) (asked : Asked) (refusal : Refusal) → Begins v asked (Err refusal) w → Completes v asked (Err refusal) w
@@ -76,25 +84,27 @@ refused v w asked refusal begun = record { goes_on = begun.goes_on; adds = begun
 pub among : (v u x w : Record) (asked : Asked) (held : Held) (others : List Call) (answer : Result Reply Refusal) → Begins v asked (Ok held) u → GoesOnWith u others x → Finishes x held answer w → CompletesAmong v asked answer w
 among v u x w asked held others answer begun between ended =
     let made = begun.goes_on.beside in
+    let since = ended.beside.goes_on.beside in
     let here = legal_on u x asked (position_of held) (reply_of held) between.beside begun.adds.legal in
     record {
       position = position_of held;
       reply = reply_of held;
       others = others;
       grew = ended.beside.calls ∙ (between.calls ∙ (ap (λ (calls : List Call). calls ++ others) begun.adds.grew ∙ append_assoc v.calls (call (position_of held) asked (reply_of held) ∷ []) others));
+      made = made_first v u w asked held (between.beside.made ++ since.made) begun (grew_on u x w between.beside.made since.made between.beside.steps since.steps);
       later = begun.adds.later;
-      legal = legal_on x w asked (position_of held) (reply_of held) ended.beside.goes_on.beside here;
+      legal = legal_on x w asked (position_of held) (reply_of held) since here;
       ends = ends_on v x w (position_of held) (reply_of held) answer (made.made ++ between.beside.made) (grew_on v u x made.made between.beside.made made.steps between.beside.steps) ended.ends;
     }
 
 -- ---- two calls, one after the other
 
 -- a call that is legal is one of what was seen
-reached : (u : Record) (asked : Asked) (position : ℕ) (reply : Reply) → IsLegal (history_of u) position asked reply → position ≤ reach u
+pub reached : (u : Record) (asked : Asked) (position : ℕ) (reply : Reply) → IsLegal (history_of u) position asked reply → position ≤ reach u
 reached u (Changing c) position reply legal = omega (arith, legal.position_is, legal.from_first, slice_get_within u.seen (legal.ticket - u.opening.first) c legal.command)
 reached u (Reading r) position reply legal = legal.within
 
-follows_more : (p q : ℕ) (asked : Asked) (position : ℕ) → p ≤ q → Follows q asked position → Follows p asked position
+pub follows_more : (p q : ℕ) (asked : Asked) (position : ℕ) → p ≤ q → Follows q asked position → Follows p asked position
 follows_more p q (Changing c) position low follows = omega (arith, low, follows)
 follows_more p q (Reading r) position low follows = omega (arith, low, follows)
 

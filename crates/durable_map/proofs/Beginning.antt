@@ -1,13 +1,11 @@
 -- A keeper that has done nothing yet, with a pass that has made no step.
-use Rattle.std.proofs.Common.{◌≡◌, ℕ, refl, sym, subst}
+use Rattle.std.proofs.Common.{◌≡◌, ℕ, sym, subst}
 use Rattle.ticket_order.specs.declared.record.Opening.{Opening}
 use Rattle.ticket_order.specs.declared.record.Record.{Record}
 use Rattle.ticket_order.specs.StepRules.{AllLegalSections}
 use Rattle.stripe_locks.specs.Plays.{joining}
 use Rattle.flusher.specs.Fitting.{IsUnused}
-
-unused : (o : Opening) → IsUnused o.first (joining o 0)
-unused o = record { opening = refl; keeper = refl; free = refl; none_taken = refl; published = refl; works = refl }
+use Rattle.recovery.proofs.FirstPasses.{unused}
 
 -- the first pass of stripes that were begun so
 pub unused_at : (o begun : Opening) (p : Record) → p ≡ joining begun 0 → begun ≡ o → IsUnused o.first p

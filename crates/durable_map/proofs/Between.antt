@@ -13,10 +13,10 @@ use Rattle.store_layout.specs.declared.log_phase.Phase.TheVariants.{Header, Head
 use Rattle.gate_log.specs.States.{LogState}
 use Rattle.flusher.specs.declared.keeper.Keeper.{Keeper}
 use Rattle.flusher.specs.declared.sweeper.Sweeper.{Sweeper}
-use Rattle.flusher.specs.Keeping.{IsPast, SweepsOnce, is_walking}
+use Rattle.flusher.specs.KeeperSteps.{IsPast, SweepsOnce, is_walking}
 use Rattle.checkpoint_walk.specs.Checkpointing.{sealing}
 use Rattle.checkpoint_walk.specs.Walking.{AfterRefusal, GivesSection, MissesStripe, PutsBack, StaysAt}
-use Rattle.durable_map.specs.Keeping.{KeepsSealed}
+use Rattle.durable_map.specs.LockedKeepers.{KeepsSealed}
 use Rattle.durable_map.proofs.Sections.{CapturesNone, missed, not_captured, not_swept, stay_legal}
 use Rattle.durable_map.proofs.Sections as sections
 

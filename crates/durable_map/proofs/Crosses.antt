@@ -10,10 +10,11 @@ use Rattle.atomic_table.proofs.shared.Seat.TheSendSync as seat
 use Rattle.atomic_table.proofs.send_lease.SendLease.TheSendSync as lease
 use Rattle.stripe_locks.specs.contracts.stripes.Stripes as Stripes
 use Rattle.stripe_locks.specs.contracts.rule.Pass as Pass
-use Rattle.durable_map.specs.contracts.desk.Desk as Desk
-use Rattle.durable_map.specs.contracts.desk.Desk.TheInside as Inside
+use Rattle.stripe_locks.proofs.Crosses.{stripe_send, stripes_sync}
+use Rattle.durable_map.specs.contracts.locked_keeper.LockedKeeper as LockedKeeper
+use Rattle.durable_map.specs.contracts.locked_keeper.LockedKeeper.TheInside as Inside
 use Rattle.durable_map.specs.contracts.map.DurableMap as DurableMap
-use Rattle.atomic_methods.proofs.Crosses.{part_send, prepared_send}
+use Rattle.atomic_methods.proofs.Crosses.{prepared_send}
 use Rattle.map_types.proofs.commands.Reply.TheSendSync as reply
 use Rattle.map_types.proofs.commands.Read.TheSendSync as read
 use Rattle.map_types.proofs.keys.Key.TheSendSync as key
@@ -26,12 +27,12 @@ use Rattle.ticket_order.specs.contracts.change_walk.ChangeStage as ChangeStage
 use Rattle.ticket_order.specs.contracts.read_walk.ReadStage as ReadStage
 use Rattle.ticket_order.specs.contracts.sweep_walk.SweepStage as SweepStage
 use Rattle.ticket_order.specs.contracts.capture_walk.CaptureStage as CaptureStage
-use Rattle.ticket_order.specs.contracts.stripe.Stripe as Stripe
 use Rattle.ticket_order.proofs.stripe.Entry.TheSendSync as entry
 use Rattle.flusher.specs.contracts.sweeper.Sweeper as Sweeper
 use Rattle.flusher.specs.contracts.sweeper.Walking as Walking
 use Rattle.flusher.specs.contracts.keeper.Keeper as Keeper
 use Rattle.flusher.proofs.in_hand.InHand.TheSendSync as hand
+use Rattle.flusher.proofs.spare.Spare.TheSendSync as spare
 use Rattle.flusher.proofs.sweeper.Sweep.TheSendSync as sweep
 use Rattle.gate_log.proofs.log.GateLog.TheSendSync as log
 use Rattle.gate_log.proofs.zeros.Zeros.TheSendSync as zeros
@@ -44,11 +45,8 @@ use Rattle.ticket_order.proofs.release_walk.ReleaseStage.TheSendSync as release
 
 ruleset leaves = (reply.the_send, reply.the_field_send, read.the_send, read.the_field_send, key.the_send, value.the_send, value.the_field_send, refusal.the_send, refusal.the_field_send, entry.the_send, entry.the_field_send, held.the_send, held.the_field_send, captured.the_send, captured.the_field_send, new_change.the_send, new_change.the_field_send, release.the_send, release.the_field_send, heap.send, Vec-send, Box-send)
 
-stripe : IsSend (Stripe.the_field).row
-stripe = search (part_send, leaves, sendable) depth 20
-
 taken : IsSend (Taken.the_field).row
-taken = search (stripe, sendable) depth 20
+taken = search (stripe_send, sendable) depth 20
 
 change : IsSend (ChangeStage.the_field).row
 change = search (taken, prepared_send, leaves, sendable) depth 20
@@ -72,16 +70,13 @@ walking : IsSend (Walking.the_field).row
 walking = search (stage, leaves, sendable) depth 20
 
 sweeper : IsSend (Sweeper.the_field).row
-sweeper = search (walking, hand.the_send, sweep.the_send, leaves, sendable) depth 20
+sweeper = search (walking, hand.the_send, spare.the_send, sweep.the_send, leaves, sendable) depth 20
 
 pass : IsSend (Pass.the_field).row
-pass = search (stripe, seat.the_send, sendable) depth 20
+pass = search (stripe_send, seat.the_send, sendable) depth 20
 
 stripes_send : IsSend (Stripes.the_row)
-stripes_send = search (stripe, shared.the_send, lease.the_send, heap.frees, count.the_field_send, leaves, crosses, sendable) depth 20
-
-stripes_sync : IsSync (Stripes.the_row)
-stripes_sync = search (stripe, shared.the_sync, lease.the_sync, heap.frees, count.the_field_sync, leaves, crosses, sendable) depth 20
+stripes_send = search (stripe_send, shared.the_send, lease.the_send, heap.frees, count.the_field_send, leaves, crosses, sendable) depth 20
 
 module _ (D : RattleType) where
   keeper : IsSend D → IsSend (Keeper.the_field D).row
@@ -89,19 +84,19 @@ module _ (D : RattleType) where
 
   module _ (g : Ghosts D.Denot) where
     fields : IsSend D → AllSend (shape (Inside.the_type D g)).fields
-    fields s = (heap.Arc-send Stripes.the_row stripes_send stripes_sync, (keeper s, (pass, tt)))
+    fields s = (heap.Arc-send Stripes.the_row stripes_send stripes_sync, (keeper s, (pass, ((search sendable), tt))))
 
     inside : IsSend D → IsSend (Inside.the_row D g)
     inside s = recorded_send _ _ _ (Inside.the_type D g).to_one (struct_send (shape (Inside.the_type D g)) (fields s))
 
-    desk : IsSend D → IsSend (Desk.the_row D g)
-    desk s = search (inside s, view_send)
+    locked : IsSend D → IsSend (LockedKeeper.the_row D g)
+    locked s = search (inside s, view_send)
 
     map_fields_send : IsSend D → AllSend (shape (DurableMap.the_type D g)).fields
-    map_fields_send s = (heap.Arc-send Stripes.the_row stripes_send stripes_sync, ((search (desk s, crosses)), tt))
+    map_fields_send s = (heap.Arc-send Stripes.the_row stripes_send stripes_sync, ((search (locked s, crosses)), tt))
 
     map_fields_sync : IsSend D → AllSync (shape (DurableMap.the_type D g)).fields
-    map_fields_sync s = (heap.Arc-sync Stripes.the_row stripes_send stripes_sync, ((search (desk s, crosses)), tt))
+    map_fields_sync s = (heap.Arc-sync Stripes.the_row stripes_send stripes_sync, ((search (locked s, crosses)), tt))
 
     pub map_send : IsSend D → IsSend (DurableMap.the_row D g)
     map_send s = recorded_send _ _ _ (DurableMap.the_type D g).to_one (struct_send (shape (DurableMap.the_type D g)) (map_fields_send s))

@@ -1,12 +1,12 @@
 -- How a record grows by the steps of a call.
-use Rattle.std.proofs.Common.{◌⊎◌, inl, inr, ℕ, List, [], ◌∷◌, ◌++◌, append-nil, append_assoc, Bool, false, refl, sym, ap, ◌∙◌}
+use Rattle.std.proofs.Common.{◌≡◌, ◌⊎◌, inl, inr, ℕ, List, [], ◌∷◌, ◌++◌, append-nil, append_assoc, Bool, false, refl, sym, ap, ◌∙◌}
 use Rattle.ticket_order.specs.declared.record.Record.{Record}
 use Rattle.ticket_order.specs.declared.record.StepMade.{StepMade}
 use Rattle.ticket_order.specs.declared.record.StepMade.TheVariants.{FoundAlive, Saw}
 use Rattle.ticket_order.specs.StepRules.{Lives, Sees}
 use Rattle.ticket_order.specs.Calls.{Misses, MissesAlive, Reaches, SeesAgain}
 use Rattle.flusher.proofs.OwnCalls.{lives, none_goes_on, sees, then}
-use Rattle.durable_map.specs.Durable.{EndsDurable, FoundFailure, GrewBy, MakesNoCall}
+use Rattle.durable_map.specs.Durable.{EndsDurable, EndsFailed, GrewBy, MakesNoCall}
 
 pub grew_on : (v u w : Record) (a b : List StepMade) → GrewBy v a u → GrewBy u b w → GrewBy v (a ++ b) w
 grew_on v u w a b e f = f ∙ (ap (λ l. l ++ b) e ∙ append_assoc v.steps a b)
@@ -40,25 +40,45 @@ released p v w (inr s) =
     let first = missed p false v s.between s.first in
     (goes_on v s.between w first (sees_none s.between w s.second.durable s.second.sees), ends_behind v s.between w p first.goes_on.beside.made first.goes_on.beside.steps s.second)
 
-pub failed : (p : ℕ) (v w : Record) → SeesAgain p v (Misses p) w → MakesNoCall v w × FoundFailure v w
+-- a SEE, an ALIVE and a SEE, behind other steps
+pub three_more : (l m : List StepMade) (x y z : StepMade) → (((l ++ m) ++ x ∷ []) ++ y ∷ []) ++ z ∷ [] ≡ l ++ (m ++ x ∷ y ∷ z ∷ [])
+three_more l m x y z =
+    append_assoc ((l ++ m) ++ x ∷ []) (y ∷ []) (z ∷ []) ∙ (append_assoc (l ++ m) (x ∷ []) (y ∷ z ∷ []) ∙ append_assoc l m (x ∷ y ∷ z ∷ []))
+
+-- a release that found the failure, behind other steps
+pub fails_behind : (v u w : Record) (p : ℕ) (a : List StepMade) → GrewBy v a u → SeesAgain p u (Misses p) w → EndsFailed v p w
+fails_behind v u w p a e k =
+    let one = k.first.misses in
+    let two = k.second in
+    let first = Saw one.durable in
+    let dead = FoundAlive false in
+    let second = Saw two.durable in record {
+      before = a;
+      first = one.durable;
+      second = two.durable;
+      steps = ap (λ (r : Record). r.steps) two.sees.is ∙ (ap (λ (r : Record). r.steps ++ second ∷ []) k.first.lives.is
+          ∙ (ap (λ (r : Record). (r.steps ++ dead ∷ []) ++ second ∷ []) one.sees.is
+          ∙ (ap (λ (l : List StepMade). ((l ++ first ∷ []) ++ dead ∷ []) ++ second ∷ []) e ∙ three_more v.steps a first dead second)));
+      missed = one.missed;
+      missed_again = two.missed;
+    }
+
+pub failed : (p : ℕ) (v w : Record) → SeesAgain p v (Misses p) w → MakesNoCall v w × EndsFailed v p w
 failed p v w s =
-    let at = s.first.between in
-    let first = s.first.misses in
-    let seen = ap (λ (x : Record). x.steps) first.sees.is in
-    let dead = ap (λ (x : Record). x.steps) s.first.lives.is in
-    let again = ap (λ (x : Record). x.steps) s.second.sees.is in (
-      goes_on v s.between w (missed p false v s.between s.first) (sees_none s.between w s.second.durable s.second.sees),
-      record {
-        before = Saw first.durable ∷ [];
-        after = Saw s.second.durable ∷ [];
-        steps = grew_on v at w (Saw first.durable ∷ []) (FoundAlive false ∷ Saw s.second.durable ∷ []) seen (grew_on at s.between w (FoundAlive false ∷ []) (Saw s.second.durable ∷ []) dead again);
-      },
-    )
+    (goes_on v s.between w (missed p false v s.between s.first) (sees_none s.between w s.second.durable s.second.sees), fails_behind v v w p [] (sym (append-nil v.steps)) s)
 
 -- ---- the same, seen from before the steps that led there
 
 pub ends_after : (v u w : Record) (p : ℕ) (a : List StepMade) → GrewBy v a u → EndsDurable u p w → EndsDurable v p w
 ends_after v u w p a e k = record { before = a ++ k.before; durable = k.durable; steps = grew_on v u w a (k.before ++ Saw k.durable ∷ []) e k.steps ∙ ap (λ l. v.steps ++ l) (sym (append_assoc a k.before (Saw k.durable ∷ []))); reached = k.reached }
 
-pub fails_after : (v u w : Record) (a : List StepMade) → GrewBy v a u → FoundFailure u w → FoundFailure v w
-fails_after v u w a e k = record { before = a ++ k.before; after = k.after; steps = grew_on v u w a (k.before ++ FoundAlive false ∷ k.after) e k.steps ∙ ap (λ l. v.steps ++ l) (sym (append_assoc a k.before (FoundAlive false ∷ k.after))) }
+pub fails_after : (v u w : Record) (p : ℕ) (a : List StepMade) → GrewBy v a u → EndsFailed u p w → EndsFailed v p w
+fails_after v u w p a e k =
+    let last = Saw k.first ∷ FoundAlive false ∷ Saw k.second ∷ [] in record {
+      before = a ++ k.before;
+      first = k.first;
+      second = k.second;
+      steps = grew_on v u w a (k.before ++ last) e k.steps ∙ ap (λ l. v.steps ++ l) (sym (append_assoc a k.before last));
+      missed = k.missed;
+      missed_again = k.missed_again;
+    }

@@ -1,11 +1,12 @@
-mod Growing
-mod Answering
+pub mod Growing
+pub mod Answering
 mod Refusing
 mod Beginning
-mod Kept
+mod KeeperLaws
 mod Sections
 mod Between
 mod Sealed
 mod Ahead
+mod Causes
 pub mod Viewing
 pub mod Crosses

@@ -62,7 +62,7 @@ refuses_change n v c w refusal.UnknownFunction k = absurd k.refused
 refuses_change n v c w refusal.BadFrame k = absurd k.refused
 refuses_change n v c w refusal.NoMemory k = twice (k.refused.0.same_calls ∙ ap (λ (r : Record). r.calls) k.waits.is)
 refuses_change n v c w (refusal.Busy x0) k = absurd (k.not_busy x0 refl)
-refuses_change n v c w refusal.Failed k = let same = k.refused.same_calls ∙ ap (λ (r : Record). r.calls) k.waits.is in ((finds_failure _ v k.waited w k.waits k.refused, inl same), same)
+refuses_change n v c w refusal.Failed k = let same = k.refused.same_calls ∙ ap (λ (r : Record). r.calls) k.waits.is in (inl (record { failure = finds_failure _ v k.waited w k.waits k.refused; calls = same }), same)
 refuses_change n v c w refusal.TicketsSpent k = let same = k.refused.0.same_calls ∙ ap (λ (r : Record). r.calls) k.waits.is in ((tt, finds_spent _ v k.waited w k.waits k.refused.0 k.refused.1, same), same)
 refuses_change n v c w refusal.NotFormatted k = absurd k.refused
 refuses_change n v c w (refusal.Damaged x0 x1) k = absurd k.refused
@@ -84,7 +84,7 @@ refuses_read n v c w refusal.UnknownFunction k = absurd k.refused
 refuses_read n v c w refusal.BadFrame k = absurd k.refused
 refuses_read n v c w refusal.NoMemory k = twice (k.refused.same_calls ∙ ap (λ (r : Record). r.calls) k.waits.is)
 refuses_read n v c w (refusal.Busy x0) k = absurd (k.not_busy x0 refl)
-refuses_read n v c w refusal.Failed k = let same = k.refused.same_calls ∙ ap (λ (r : Record). r.calls) k.waits.is in ((finds_failure _ v k.waited w k.waits k.refused, inl same), same)
+refuses_read n v c w refusal.Failed k = let same = k.refused.same_calls ∙ ap (λ (r : Record). r.calls) k.waits.is in (inl (record { failure = finds_failure _ v k.waited w k.waits k.refused; calls = same }), same)
 refuses_read n v c w refusal.TicketsSpent k = absurd k.refused
 refuses_read n v c w refusal.NotFormatted k = absurd k.refused
 refuses_read n v c w (refusal.Damaged x0 x1) k = absurd k.refused

@@ -13,13 +13,13 @@ use Rattle.store_layout.specs.declared.log_phase.Phase.TheVariants.{Idle}
 use Rattle.gate_log.specs.States.{LogState}
 use Rattle.store_layout.specs.declared.checkpoint_phase.CheckpointPhase.{CheckpointPhase}
 use Rattle.checkpoint_file.specs.States.{CheckpointState}
-use Rattle.store_invariant.specs.Standing.{IsSealedIn}
+use Rattle.store_invariant.specs.StoreStates.{IsSealedIn}
 use Rattle.flusher.specs.declared.keeper.Keeper.{Keeper}
 use Rattle.flusher.specs.HandSteps.{SameEntries}
-use Rattle.flusher.specs.Keeping.{committed_by}
+use Rattle.flusher.specs.KeeperSteps.{committed_by}
 use Rattle.flusher.specs.Rotating.{StepsLogs, due_of, logs_of}
 use Rattle.checkpoint_walk.specs.Checkpointing.{Checkpoints, StepsCheckpoint, call_due, phase_of}
-use Rattle.durable_map.specs.Keeping.{IsSealedWithin, KeepsSealed}
+use Rattle.durable_map.specs.LockedKeepers.{IsSealedWithin, KeepsSealed}
 
 untouched : (number : ℕ) (file : File) (files : Files) (n : ℕ) → n ≢ number → with_file number file files n ≡ files n
 untouched number file files n other = grind (arith, nat_tests)

@@ -13,7 +13,7 @@ use Rattle.ticket_order.specs.Calls.{CapturesStripe, HasLookedAt, RefusesCapture
 use Rattle.ticket_order.specs.Legality.{IsLegalSection, history_of}
 use Rattle.ticket_order.specs.Records.{failing, giving, looking, missing, publishing, reach, taking}
 use Rattle.ticket_order.specs.StepRules.{AllLegalSections}
-use Rattle.one_history.proofs.Legal.{sections_both, sections_longer}
+use Rattle.ticket_order.proofs.Longer.{sections_both, sections_longer}
 use Rattle.flusher.specs.Fitting.{HasSeenMore}
 
 -- The pass captured nothing more, and may have seen more.

@@ -1,5 +1,5 @@
 -- What a call leaves of the record of its pass that answers once its position is durable.
-use Rattle.std.specs.Prelude.{◌≡◌, ◌⊎◌, ℕ, ◌≤◌, List, [], ◌∷◌, ◌++◌, false, Result, Ok, Err}
+use Rattle.std.specs.Prelude.{◌≡◌, ◌⊎◌, ℕ, ◌<◌, ◌≤◌, List, [], ◌∷◌, ◌++◌, false, Result, Ok, Err}
 use Rattle.map_types.specs.declared.commands.Reply.{Reply}
 use Rattle.map_types.specs.declared.refusals.Refusal.{Refusal}
 use Rattle.map_types.specs.declared.refusals.Refusal.TheVariants.{Failed, NoMemory, TicketsSpent}
@@ -17,6 +17,7 @@ use Rattle.ticket_order.specs.Walks.{Kind, kind_of}
 use Rattle.one_history.specs.OneHistory.{Follows}
 use Rattle.stripe_locks.specs.Holding.{position_of, reply_of}
 use Rattle.stripe_locks.specs.declared.held.Held.{Held}
+use Rattle.stripe_locks.specs.Waits.{MakesCallInTime, MakesReadInTime}
 use Rattle.flusher.specs.Fitting.{GoesOnByCalls, IsBeside}
 use Rattle.durable_map.specs.declared.map.DurableMap.{DurableMap}
 use Rattle.durable_map.specs.Maps.{IsHeldOf, stripe_count}
@@ -44,6 +45,15 @@ pub record EndsDurable (v : Record) (position : ℕ) (w : Record) : Type 0 where
   pub steps : GrewBy v (before ++ Saw durable ∷ []) w
   pub reached : position ≤ durable
 
+-- the last steps are a SEE below the position, an ALIVE that said no, and one more SEE below the position
+pub record EndsFailed (v : Record) (position : ℕ) (w : Record) : Type 0 where
+  pub before : List StepMade
+  pub first : ℕ
+  pub second : ℕ
+  pub steps : GrewBy v (before ++ Saw first ∷ FoundAlive false ∷ Saw second ∷ []) w
+  pub missed : first < position
+  pub missed_again : second < position
+
 -- an ALIVE that was made said no
 pub record FoundFailure (v w : Record) : Type 0 where
   pub before : List StepMade
@@ -62,38 +72,63 @@ pub record FoundSpent (v w : Record) : Type 0 where
 abbrev pub GrewByCall : Record → ℕ → Asked → Reply → Record → Type 0
 GrewByCall v position asked reply w = w.calls ≡ v.calls ++ call position asked reply ∷ []
 
--- The record grew by this call alone: a change's position is past all that the pass had seen, and a read's is no less; the reply is legal there,
--- and the position was durable when the call answered.
+-- The steps of a call of n stripes, and no others: it waited for its stripe, TAKE, ALIVE that said yes, LOOK, TICKET if it is a change, GIVE.
+abbrev pub MakesInTime : ℕ → Record → Asked → ℕ → Reply → Record → Type 0
+MakesInTime n v (Changing command) position reply w = MakesCallInTime n v command position reply w
+MakesInTime n v (Reading read) position reply w = MakesReadInTime n v read position reply w
+
+-- The first of the steps are those that made the call.
+pub record IsMadeFirst (v : Record) (asked : Asked) (position : ℕ) (reply : Reply) (w : Record) : Type 0 where
+  pub stripes : ℕ
+  pub at : Record
+  pub made : MakesInTime stripes v asked position reply at
+  pub after : List StepMade
+  pub steps : GrewBy at after w
+
+-- The record grew by this call alone, which was made by its steps: a change's position is past all that the pass had seen, and a read's is no less;
+-- the reply is legal there, and the position was durable when the call answered.
 pub record AnswersCall (v : Record) (asked : Asked) (reply : Reply) (w : Record) : Type 0 where
   pub position : ℕ
   pub grew : GrewByCall v position asked reply w
+  pub made : IsMadeFirst v asked position reply w
   pub later : Follows (reach v) asked position
   pub legal : IsLegal (history_of w) position asked reply
   pub durable : EndsDurable v position w
 
--- no call was added, or this one alone
-abbrev pub GrewAtMost : Record → Asked → Record → Type 0
-GrewAtMost v asked w = (w.calls ≡ v.calls) ⊎ ((position : ℕ) × (reply : Reply) × GrewByCall v position asked reply w)
+-- An ALIVE said no, and no call was added.
+pub record MakesNone (v w : Record) : Type 0 where
+  pub failure : FoundFailure v w
+  pub calls : w.calls ≡ v.calls
+
+-- The record grew by this call alone, which was made by its steps. The store has failed before its position became durable.
+pub record LosesCall (v : Record) (asked : Asked) (w : Record) : Type 0 where
+  pub position : ℕ
+  pub reply : Reply
+  pub grew : GrewByCall v position asked reply w
+  pub made : IsMadeFirst v asked position reply w
+  pub failed : EndsFailed v position w
 
 -- whether a call may be refused because the tickets are spent
 abbrev pub DrawsTicket : Asked → Type 0
 DrawsTicket (Changing command) = Unit {0}
 DrawsTicket (Reading read) = ⊥
 
--- What a refused call leaves. Its stripe was never the cause. After `Failed` an ALIVE of this call said no, and the call was made or not; after any
--- other refusal no call was added.
+-- What a refused call leaves. Its stripe was never the cause. After `Failed` an ALIVE of this call said no: either no call was added, or the call was
+-- made, and ended as a release does. After any other refusal no call was added.
 abbrev pub RefusesCall : Record → Asked → Refusal → Record → Type 0
 RefusesCall v asked NoMemory w = w.calls ≡ v.calls
 RefusesCall v asked TicketsSpent w = DrawsTicket asked × FoundSpent v w × (w.calls ≡ v.calls)
-RefusesCall v asked Failed w = FoundFailure v w × GrewAtMost v asked w
+RefusesCall v asked Failed w = MakesNone v w ⊎ LosesCall v asked w
 RefusesCall v asked other w = ⊥
 
 -- ---- calls that are begun, and finished later
 
--- A call was made, and its reply is held. The record grew by this call alone: a change's position is past all that the pass had seen, and a read's
--- is no less; the reply is legal there.
+-- A call was made by its steps, and its reply is held. The record grew by this call alone: a change's position is past all that the pass had seen,
+-- and a read's is no less; the reply is legal there.
 pub record HoldsCall (v : Record) (asked : Asked) (held : Held) (w : Record) : Type 0 where
   pub grew : GrewByCall v (position_of held) asked (reply_of held) w
+  pub stripes : ℕ
+  pub made : MakesInTime stripes v asked (position_of held) (reply_of held) w
   pub later : Follows (reach v) asked (position_of held)
   pub legal : IsLegal (history_of w) (position_of held) asked (reply_of held)
 
@@ -107,10 +142,11 @@ pub record Begins (v : Record) (asked : Asked) (result : Result Held Refusal) (w
   pub goes_on : GoesOnByCalls v w
   pub adds : AddsBegun v asked result w
 
--- How a call ends that was made with this reply: it is given out once its position was found durable; or the answer is `Failed`, and an ALIVE said no.
+-- How a call ends that was made with this reply: it is given out once its position was found durable; or the answer is `Failed`, once the store has
+-- failed before that.
 abbrev pub EndsWith : Record → ℕ → Reply → Result Reply Refusal → Record → Type 0
 EndsWith v position reply (Ok given) w = (given ≡ reply) × EndsDurable v position w
-EndsWith v position reply (Err refusal) w = (refusal ≡ Failed) × FoundFailure v w
+EndsWith v position reply (Err refusal) w = (refusal ≡ Failed) × EndsFailed v position w
 
 -- what the end of a call that was begun leaves
 pub record Finishes (v : Record) (held : Held) (answer : Result Reply Refusal) (w : Record) : Type 0 where
@@ -122,13 +158,14 @@ pub record GoesOnWith (v : Record) (others : List Call) (w : Record) : Type 0 wh
   pub beside : IsBeside v w
   pub calls : w.calls ≡ v.calls ++ others
 
--- A call was begun, and finished with other calls of its pass between: it was made, its reply is legal at its position in all that the pass has
--- seen, and it ended with this answer.
+-- A call was begun, and finished with other calls of its pass between: it was made by its steps, its reply is legal at its position in all that the
+-- pass has seen, and it ended with this answer.
 pub record CompletesAmong (v : Record) (asked : Asked) (answer : Result Reply Refusal) (w : Record) : Type 0 where
   pub position : ℕ
   pub reply : Reply
   pub others : List Call
   pub grew : w.calls ≡ v.calls ++ call position asked reply ∷ others
+  pub made : IsMadeFirst v asked position reply w
   pub later : Follows (reach v) asked position
   pub legal : IsLegal (history_of w) position asked reply
   pub ends : EndsWith v position reply answer w

@@ -1,3 +1,3 @@
-pub mod Keeping
+pub mod LockedKeepers
 pub mod Durable
 pub mod Maps

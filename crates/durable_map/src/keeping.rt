@@ -1,11 +1,11 @@
 //! What holds of every keeper that neither sweeps nor captures, and is kept by each of its calls.
-ghost use Rattle.std.specs.Prelude.{◌≡◌, ◌<◌, ℕ, List, None, true, false};
+ghost use Rattle.std.specs.Prelude.{◌≡◌, ◌⊎◌, ◌<◌, ℕ, List, None, Bool, true, false, IfErr};
 ghost use Rattle.map_types.specs.declared.commands.Command.{Command};
 ghost use Rattle.ticket_order.specs.declared.record.Record.{Record};
 ghost use Rattle.ticket_order.specs.StepRules.{AllLegalSections};
 ghost use Rattle.flusher.specs.Fitting.{Fits};
-ghost use Rattle.flusher.specs.Keeping.{is_walking};
-ghost use Rattle.durable_map.specs.Keeping.{Keeps, KeepsSealed};
+ghost use Rattle.flusher.specs.KeeperSteps.{is_walking};
+ghost use Rattle.durable_map.specs.LockedKeepers.{HasCause, Keeps, KeepsSealed};
 
 use checkpoint_file::CheckpointPhase;
 use checkpoint_walk::try_capture;
@@ -35,6 +35,7 @@ pub(crate) fn sweep<D: Disk, S: Steps>(keeper: &mut Keeper<D>, stripe: usize, st
     requires within { stripe < S.stripe_count steps.old }
     ensures keeps { Keeps D.states D.honest (S.stripe_count steps.new) keeper.new
         (S.recorded steps.new) }
+    ensures cause { (is_full : Bool) → HasCause is_full keeper.old → HasCause is_full keeper.new }
     ensures place { S.place steps.new ≡ S.place steps.old }
     ensures stripes { S.stripe_count steps.new ≡ S.stripe_count steps.old }
 {
@@ -47,6 +48,7 @@ pub(crate) fn stage<D: Disk>(keeper: &mut Keeper<D>, most: u32) -> Result<u32, R
     requires keeps { (n : ℕ) × (p : Record) × Keeps D.states D.honest n keeper.old p }
     ensures keeps { (n : ℕ) (p : Record) → Keeps D.states D.honest n keeper.old p
         → Keeps D.states D.honest n keeper.new p }
+    ensures cause { (is_full : Bool) → HasCause is_full keeper.old → HasCause is_full keeper.new }
 {
     let staged = keeper.stage_batch(most);
     what_is_kept(keeper);
@@ -58,6 +60,7 @@ pub(crate) fn write_ahead<D: Disk>(keeper: &mut Keeper<D>) -> Result<(), Refusal
     requires keeps { (n : ℕ) × (p : Record) × Keeps D.states D.honest n keeper.old p }
     ensures keeps { (n : ℕ) (p : Record) → Keeps D.states D.honest n keeper.old p
         → Keeps D.states D.honest n keeper.new p }
+    ensures cause { (is_full : Bool) → HasCause is_full keeper.old → HasCause is_full keeper.new }
 {
     let written = keeper.write_ahead();
     what_is_kept(keeper);
@@ -69,6 +72,7 @@ pub(crate) fn advance_logs<D: Disk>(keeper: &mut Keeper<D>) -> Result<Phase, Ref
     requires keeps { (n : ℕ) × (p : Record) × Keeps D.states D.honest n keeper.old p }
     ensures keeps { (n : ℕ) (p : Record) → Keeps D.states D.honest n keeper.old p
         → Keeps D.states D.honest n keeper.new p }
+    ensures cause { (is_full : Bool) → HasCause is_full keeper.old → HasCause is_full keeper.new }
 {
     let stepped = keeper.advance();
     what_is_kept(keeper);
@@ -81,6 +85,7 @@ pub(crate) fn publish<D: Disk, S: Steps>(keeper: &mut Keeper<D>, steps: &mut S)
         (S.recorded steps.old) }
     ensures keeps { Keeps D.states D.honest (S.stripe_count steps.new) keeper.new
         (S.recorded steps.new) }
+    ensures cause { (is_full : Bool) → HasCause is_full keeper.old → HasCause is_full keeper.new }
     ensures place { S.place steps.new ≡ S.place steps.old }
     ensures stripes { S.stripe_count steps.new ≡ S.stripe_count steps.old }
 {
@@ -94,6 +99,8 @@ pub(crate) fn fail<D: Disk, S: Steps>(keeper: &mut Keeper<D>, steps: &mut S)
         (S.recorded steps.old) }
     ensures keeps { Keeps D.states D.honest (S.stripe_count steps.new) keeper.new
         (S.recorded steps.new) }
+    ensures cause { (is_full : Bool) → (keeper.old.is_broken ≡ true) ⊎ (is_full ≡ true)
+        → HasCause is_full keeper.new }
     ensures place { S.place steps.new ≡ S.place steps.old }
     ensures stripes { S.stripe_count steps.new ≡ S.stripe_count steps.old }
 {
@@ -106,6 +113,7 @@ pub(crate) fn begin<D: Disk>(keeper: &mut Keeper<D>) -> Result<(), Refusal>
     requires keeps { (n : ℕ) × (p : Record) × Keeps D.states D.honest n keeper.old p }
     ensures keeps { (n : ℕ) (p : Record) → Keeps D.states D.honest n keeper.old p
         → Keeps D.states D.honest n keeper.new p }
+    ensures cause { (is_full : Bool) → HasCause is_full keeper.old → HasCause is_full keeper.new }
 {
     let begun = checkpoint_walk::begin(keeper);
     what_is_kept(keeper);
@@ -122,6 +130,7 @@ pub(crate) fn capture<D: Disk, S: Steps>(
         (S.recorded steps.old) }
     ensures keeps { Keeps D.states D.honest (S.stripe_count steps.new) keeper.new
         (S.recorded steps.new) }
+    ensures cause { (is_full : Bool) → HasCause is_full keeper.old → HasCause is_full keeper.new }
     ensures place { S.place steps.new ≡ S.place steps.old }
     ensures stripes { S.stripe_count steps.new ≡ S.stripe_count steps.old }
 {
@@ -135,6 +144,7 @@ pub(crate) fn seal<D: Disk>(keeper: &mut Keeper<D>) -> Result<(), Refusal>
     requires keeps { (n : ℕ) × (p : Record) × Keeps D.states D.honest n keeper.old p }
     ensures keeps { (n : ℕ) (p : Record) → Keeps D.states D.honest n keeper.old p
         → Keeps D.states D.honest n keeper.new p }
+    ensures cause { (is_full : Bool) → HasCause is_full keeper.old → HasCause is_full keeper.new }
 {
     let sealed = checkpoint_walk::seal(keeper);
     what_is_kept(keeper);
@@ -148,8 +158,21 @@ pub(crate) fn advance_checkpoint<D: Disk>(
     requires keeps { (n : ℕ) × (p : Record) × Keeps D.states D.honest n keeper.old p }
     ensures keeps { (n : ℕ) (p : Record) → Keeps D.states D.honest n keeper.old p
         → Keeps D.states D.honest n keeper.new p }
+    ensures cause { (is_full : Bool) → HasCause is_full keeper.old → HasCause is_full keeper.new }
 {
     let stepped = checkpoint_walk::advance(keeper);
     what_is_kept(keeper);
     stepped
+}
+
+/// From now on this many zeros are written ahead at a time; with 0 none are.
+pub(crate) fn set_ahead<D: Disk>(keeper: &mut Keeper<D>, count: usize) -> Result<(), Refusal>
+    ensures keeps { (n : ℕ) (p : Record) → Keeps D.states D.honest n keeper.old p
+        → Keeps D.states D.honest n keeper.new p }
+    ensures cause { (is_full : Bool) → HasCause is_full keeper.old → HasCause is_full keeper.new }
+    ensures err { IfErr result (λ refusal. refusal ≡ Refusal.NoMemory) }
+{
+    let set = keeper.set_ahead(count);
+    what_is_kept(keeper);
+    set
 }

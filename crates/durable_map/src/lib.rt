@@ -3,9 +3,9 @@
 
 mod calls;
 mod changes;
-mod desk;
 mod keeping;
 pub mod laws;
+mod locked_keeper;
 mod loops;
 mod map;
 mod reads;

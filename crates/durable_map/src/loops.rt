@@ -1,7 +1,7 @@
 //! The loops that commit, and that write checkpoints, each on a thread of its own.
 ghost use Rattle.std.specs.Prelude.{◌≡◌, ◌⊎◌, IsTrue, IfErr};
 
-use crate::desk::Turn;
+use crate::locked_keeper::Turn;
 use crate::map::DurableMap;
 use crossbeam_utils::Backoff;
 use disk_model::Disk;
@@ -29,18 +29,18 @@ fn is_final(refusal: Refusal) -> bool
 
 impl<D: Disk + Drop> DurableMap<D> {
     fn fail<R: Wait>(&self, rt: &R) {
-        self.desk.lock(rt).fail();
+        self.locked.lock(rt).fail();
     }
 
     // A turn of the log, with the count that is committed after it.
-    pub(crate) fn flush<R: Wait>(&self, rt: &R) -> (Result<Turn, Refusal>, u64) {
-        let mut desk = self.desk.lock(rt);
-        let turn = desk.flush();
-        (turn, desk.committed())
+    pub(crate) fn flush<R: Wait>(&self, rt: &R, sweeps_all: bool) -> (Result<Turn, Refusal>, u64) {
+        let mut locked = self.locked.lock(rt);
+        let turn = locked.flush(sweeps_all);
+        (turn, locked.committed())
     }
 
     fn checkpoint<R: Wait>(&self, rt: &R, bytes: u64) -> Result<Turn, Refusal> {
-        self.desk.lock(rt).checkpoint(bytes)
+        self.locked.lock(rt).checkpoint(bytes)
     }
 
     // Returns after a moment, which grows with the number of turns in which nothing was done.
@@ -87,7 +87,8 @@ pub fn flush_loop<D: Disk + Drop, E: Ends, R: Wait>(
         if ends.has_ended() {
             return Ok(());
         }
-        match map.flush(rt) {
+        let has_waited = backoff.is_completed();
+        match map.flush(rt, has_waited) {
             (Ok(Turn::Worked), _) => backoff.reset(),
             (Ok(Turn::Rested | Turn::Awaited), committed) => map.rest(rt, &backoff, committed),
             (Err(refusal), committed) => {

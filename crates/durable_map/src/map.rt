@@ -13,14 +13,14 @@ ghost use Rattle.recovery.specs.Opening.{IsAtStart};
 ghost use Rattle.recovery.specs.Dividing.{ArePartsOf};
 ghost use Rattle.durable_map.specs.Maps.{IsHeldOf, IsPassOf, IsReady, opening_of, stripe_count, StaysHeldOf};
 
-use crate::desk::Desk;
 use crate::keeping::what_is_kept;
+use crate::locked_keeper::LockedKeeper;
 use atomic_methods::Part;
 use disk_model::Disk;
 use flusher::Keeper;
 use map_types::Refusal;
 use std::alloc::Global;
-use std::sync::{Arc, Mutex};
+use std::sync::{Arc, Mutex, Wait};
 use stripe_locks::{Held, Pass, Released, Stripes};
 use ticket_order::Position;
 
@@ -29,7 +29,7 @@ use ticket_order::Position;
 #[derive(Drop)]
 pub struct DurableMap<D: Disk + Drop> {
     pub(crate) stripes: Arc<Stripes, Global>,
-    pub(crate) desk: Mutex<Desk<D>>,
+    pub(crate) locked: Mutex<LockedKeeper<D>>,
 }
 
 impl<D: Disk + Drop> DurableMap<D> {
@@ -66,10 +66,10 @@ impl<D: Disk + Drop> DurableMap<D> {
             return Err((keeper.into_disk(), Refusal::NoMemory));
         };
         what_is_kept(&keeper);
-        let desk = Desk::new(shared, keeper, pass);
+        let locked = LockedKeeper::new(shared, keeper, pass);
         Ok(DurableMap {
             stripes,
-            desk: Mutex::new(desk),
+            locked: Mutex::new(locked),
         })
     }
 
@@ -118,5 +118,14 @@ impl<D: Disk + Drop> DurableMap<D> {
         ensures same { IsSamePass pass.old pass.new }
     {
         self.stripes.release(pass, held)
+    }
+
+    /// From now on this many zeros are written ahead of a batch at a time, once a log has 65,536 bytes, so
+    /// that most batches don't lengthen its file. With 0, as at first, none are. Their memory is got here.
+    /// Refused with `NoMemory`, and then nothing is changed.
+    pub fn set_log_ahead<R: Wait>(&self, rt: &R, count: usize) -> Result<(), Refusal>
+        ensures { IfErr result (λ refusal. refusal ≡ Refusal.NoMemory) }
+    {
+        self.locked.lock(rt).set_ahead(count)
     }
 }

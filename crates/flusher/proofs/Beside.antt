@@ -20,7 +20,7 @@ use Rattle.flusher.specs.declared.sweeper.Walking.TheVariants.{Rests, SweepTakes
 use Rattle.store_layout.specs.Hands.{Hand}
 use Rattle.flusher.specs.Gathering.{Accounts, AreTaken, Gathers, HasSweptBelow}
 use Rattle.flusher.specs.Sweeping.{StandsBy}
-use Rattle.flusher.specs.Keeping.{is_walking}
+use Rattle.flusher.specs.KeeperSteps.{is_walking}
 use Rattle.flusher.specs.Fitting.{Fits, IsBeside}
 use Rattle.ticket_order.proofs.Entries.{grown, shrunk}
 use Rattle.flusher.proofs.Storing.{stores_seen}

@@ -10,11 +10,11 @@ use Rattle.ticket_order.specs.declared.record.Record.{Record}
 use Rattle.ticket_order.specs.Legality.{entries_from, history_of}
 use Rattle.log_records.specs.Layout.{first_layout}
 use Rattle.store_layout.specs.Logs.{Batch, frame, log_file}
-use Rattle.store_layout.specs.Standing.{IsNextOf}
+use Rattle.store_layout.specs.SectionsAndLog.{IsNextOf}
 use Rattle.checkpoint_file.specs.States.{CheckpointState}
 use Rattle.store_layout.specs.declared.log_phase.Phase.TheVariants.{Staged, Opened}
 use Rattle.gate_log.specs.States.{LogState, batch_of, commands_of, log_after}
-use Rattle.gate_log.specs.Standing as gate_log
+use Rattle.gate_log.specs.LogStates as gate_log
 use Rattle.store_invariant.specs.States.{StoreState, newest_batches}
 use Rattle.store_invariant.specs.Laws.{BatchIsStaged, StoresStop}
 use Rattle.flusher.specs.declared.keeper.Keeper.{Keeper}
@@ -23,14 +23,14 @@ use Rattle.store_layout.specs.Hands.{Hand, IsRun}
 use Rattle.flusher.specs.HandSteps.{SameEntries}
 use Rattle.flusher.specs.Gathering.{Accounts, Gathers}
 use Rattle.flusher.specs.Sweeping.{Stands}
-use Rattle.flusher.specs.Keeping.{MayStage, Stages, passed}
+use Rattle.flusher.specs.KeeperSteps.{MayStage, Stages, passed}
 use Rattle.flusher.specs.Rotating.{MayRotate}
 use Rattle.flusher.specs.Fitting.{Fits, HoldsFor, HoldsFront, IsEmptyIn, IsUnbroken, StopsFit, Stores, batches_of, store_of}
 use Rattle.flusher.proofs.Staging.{accounts_staged, commands_there}
 use Rattle.ticket_order.proofs.Entries.{length-entries}
 use Rattle.flusher.proofs.Passing.{accounts_same, accounts_passed}
 use Rattle.flusher.proofs.Quiet.{stands_moved}
-use Rattle.flusher.proofs.Keeping.{Knows, fits_moved, knows_by}
+use Rattle.flusher.proofs.FittingKeepers.{Knows, fits_moved, knows_by}
 use Rattle.flusher.proofs.StoreSteps.{log_in, stops_now}
 
 pub two_ways : (x : Bool) → x ≡ true → x ≡ false → ⊥

@@ -15,7 +15,7 @@ use Rattle.flusher.specs.declared.sweeper.Swept.TheVariants.{More, Held, Done}
 use Rattle.flusher.specs.declared.sweeper.Walking.{Walking}
 use Rattle.flusher.specs.declared.sweeper.Walking.TheVariants.{Rests, SweepTakes, SweepGives}
 use Rattle.flusher.specs.Sweeping.{BeginsSweep, StepsOn, next_kind}
-use Rattle.flusher.specs.Keeping.{AreOfSweep, MakesSweep, looks_of}
+use Rattle.flusher.specs.KeeperSteps.{AreOfSweep, MakesSweep, looks_of}
 
 looks_more : (xs ys : List StepMade) → looks_of (xs ++ ys) ≡ looks_of xs ++ looks_of ys
 looks_more [] ys = refl

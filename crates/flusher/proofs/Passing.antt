@@ -12,7 +12,7 @@ use Rattle.ticket_order.specs.Legality.{entries_from}
 use Rattle.store_layout.specs.Hands.{Hand, Holds}
 use Rattle.flusher.specs.HandSteps.{SameEntries}
 use Rattle.flusher.specs.Gathering.{Accounts, Gathers, Collects}
-use Rattle.flusher.specs.Keeping.{passed}
+use Rattle.flusher.specs.KeeperSteps.{passed}
 use Rattle.ticket_order.proofs.Entries.{IsAt, found, there_is, same_command, at_ticket}
 
 pub accounts_same : (old new : Hand) (gone : List Command) (first : ℕ) (taken : List Entry) (seen : List Command) → SameEntries old new → Accounts old gone first taken seen → Accounts new gone first taken seen

@@ -11,7 +11,7 @@ use Rattle.log_records.specs.Spelling.{record_bytes}
 use Rattle.store_layout.specs.Logs.{frame, records_bytes}
 use Rattle.store_layout.proofs.LogLemmas.{length-frame, records_push}
 use Rattle.gate_log.specs.States.{LogState}
-use Rattle.flusher.specs.Keeping.{IsFull}
+use Rattle.flusher.specs.KeeperSteps.{IsFull}
 use Rattle.store_layout.specs.Hands.{Hand, most_from, IsRun, FitsBatch, IsLongest}
 
 -- of two runs one is a front of the other

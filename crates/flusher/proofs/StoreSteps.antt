@@ -1,6 +1,5 @@
 -- What a step of the logs leaves of the store.
-use Rattle.std.proofs.Common.{◌≡◌, ◌≢◌, ℕ, ◌+◌, List, [], ◌∷◌, length, replicate, Bool, Option, Some, None, Result, Ok, append-nil, refl, sym, ◌∙◌, ap, subst, arith}
-use Rattle.std.proofs.lemmas.Bool.Decides.{nat_tests}
+use Rattle.std.proofs.Common.{◌≡◌, ◌≢◌, ℕ, ◌+◌, List, [], ◌∷◌, length, replicate, Bool, Option, Some, None, Result, Ok, append-nil, refl, sym, ◌∙◌, ap, subst}
 use Rattle.std.proofs.lemmas.List.{length-map}
 use Rattle.disk_model.specs.Calls.{Makes}
 use Rattle.disk_model.specs.Files.{File, Files, now, with_file}
@@ -10,16 +9,17 @@ use Rattle.map_types.specs.declared.commands.Command.{Command}
 use Rattle.map_types.specs.declared.refusals.Refusal.{Refusal}
 use Rattle.map_model.specs.Histories.{History}
 use Rattle.ticket_order.specs.declared.stripe.Entry.{Entry}
+use Rattle.disk_model.proofs.FileLemmas.{with_same}
 use Rattle.store_layout.specs.Checkpoints.{Checkpoint, is_to_close}
 use Rattle.store_layout.specs.Logs.{Batch, commands_in, log_file}
 use Rattle.store_layout.specs.declared.log_phase.Phase.{Phase}
 use Rattle.store_layout.specs.declared.log_phase.Phase.TheVariants.{Idle, Header, HeaderWritten, Staged, Written, Synced, Opened}
 use Rattle.gate_log.specs.States.{LogState, commands_of, log_after}
-use Rattle.gate_log.specs.Standing as gate_log
-use Rattle.gate_log.specs.Advancing.{Advances, committed_after, staged_after}
+use Rattle.gate_log.specs.LogStates as gate_log
+use Rattle.gate_log.specs.LogSteps.{Advances, committed_after, staged_after}
 use Rattle.gate_log.specs.Ahead.{WritesAhead}
 use Rattle.store_invariant.specs.States.{Held, StoreState, newest_batches}
-use Rattle.store_invariant.specs.Standing as store
+use Rattle.store_invariant.specs.StoreStates as store
 use Rattle.store_invariant.specs.Laws.{EndStepsOn, LogEnds, LogStays, LogStepsOn, LogStepsStop, NextIsReady, NextStepsOn, NextStepsStop, StoresStop, stepped}
 use Rattle.flusher.specs.Fitting.{HoldsFront, batches_of}
 use Rattle.flusher.proofs.Moments.{moments_so}
@@ -87,9 +87,6 @@ next_moments {D} states failures honest h state es must_close next log old new r
     (λ files kept. counted h state es k.held files k.staged_is (law h state k.held next start files k.stands is moves kept)) (a.any_moment [] [] (next_in h state k.held next start k.stands is))
 
 -- ---- one device call
-
-with_same : (number : ℕ) (file : File) (files : Files) → with_file number file files number ≡ file
-with_same number file files = grind (arith, nat_tests)
 
 file_is : {D : Type 0} (states : D → List Files) (failures : D → ℕ) (number : ℕ) (call : Call) (old new : D) → Makes states failures number call old new → now (states new) number ≡ called call (now (states old) number)
 file_is {D} states failures number call old new m = ap (λ (xs : List Files). now xs number) m.state ∙ with_same number (called call (now (states old) number)) (now (states old))

@@ -9,10 +9,10 @@ use Rattle.ticket_order.specs.declared.record.Record.{Record}
 use Rattle.ticket_order.specs.Legality.{history_from, history_of}
 use Rattle.store_layout.specs.Checkpoints.{checkpoint_file, is_to_close}
 use Rattle.store_layout.specs.OpeningLaws.{FrontStays}
-use Rattle.store_layout.specs.Standing as layout
+use Rattle.store_layout.specs.SectionsAndLog as layout
 use Rattle.gate_log.specs.States.{LogState, resumed}
 use Rattle.store_invariant.specs.States.{StoreState}
-use Rattle.store_invariant.specs.Standing as store
+use Rattle.store_invariant.specs.StoreStates as store
 use Rattle.store_invariant.specs.Laws.{OpenedStands, StandingStays}
 use Rattle.flusher.specs.declared.keeper.Keeper.{Keeper}
 use Rattle.flusher.specs.Fitting.{HasSeenMore, HoldsFor, HoldsFront, IsFoundFor, StopsFit, Stores, store_of}

@@ -32,13 +32,13 @@ use Rattle.store_layout.specs.Hands.{Hand}
 use Rattle.flusher.specs.HandSteps.{SameEntries}
 use Rattle.flusher.specs.Gathering.{Accounts, Gathers, HasSweptBelow, Collects}
 use Rattle.flusher.specs.Sweeping.{Stands, StandsBy, StepsOn}
-use Rattle.flusher.specs.Keeping.{SweepsOnce, StaysAt, is_walking}
+use Rattle.flusher.specs.KeeperSteps.{SweepsOnce, StaysAt, is_walking}
 use Rattle.flusher.specs.Fitting.{Fits}
 use Rattle.ticket_order.proofs.Entries.{grown}
 use Rattle.flusher.proofs.Gathered.{accounts_more, accounts_later, taken_later, taken_of_history, low_enough}
 use Rattle.flusher.proofs.Passing.{collects_same}
 use Rattle.flusher.proofs.Quiet.{sweeps_quiet, refuses_quiet}
-use Rattle.flusher.proofs.Keeping.{fits_swept}
+use Rattle.flusher.proofs.FittingKeepers.{fits_swept}
 
 -- What a sweep of one stripe leaves of what the pass's sweeps took.
 pub record Brings (n : ℕ) (old new : Hand) (gone : List Command) (p w : Record) : Type 0 where

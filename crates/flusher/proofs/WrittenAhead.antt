@@ -15,7 +15,10 @@ use Rattle.store_invariant.specs.Laws.{LogStays, LogStepsStop, StoresStop}
 use Rattle.flusher.specs.declared.keeper.Keeper.{Keeper}
 use Rattle.flusher.specs.Rotating.{MayRotate}
 use Rattle.flusher.specs.Fitting.{Fits, HoldsFor, IsEmptyIn, IsUnbroken, StopsFit, store_of}
-use Rattle.flusher.proofs.Advancing.{log_fails, same_hand, still_moments, stores_on, turn_same}
+use Rattle.flusher.proofs.LogsAfter.{stores_on}
+use Rattle.flusher.proofs.NewestSteps.{log_fails}
+use Rattle.flusher.proofs.EndSteps.{turn_same}
+use Rattle.flusher.proofs.Advancing.{same_hand, still_moments}
 use Rattle.flusher.proofs.Committing.{IsSame, fits_gone, stops_by}
 use Rattle.flusher.proofs.StoreSteps.{ahead_goes, kept_moments}
 

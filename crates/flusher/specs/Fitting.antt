@@ -15,9 +15,9 @@ use Rattle.store_layout.specs.Opening.{Opened as FoundStore, Holds, map_of, newe
 use Rattle.store_layout.specs.declared.log_phase.Phase.{Phase}
 use Rattle.store_layout.specs.declared.log_phase.Phase.TheVariants.{Idle, Header, HeaderWritten, Staged, Written, Synced, Opened}
 use Rattle.gate_log.specs.States.{LogState, batch_of, commands_of}
-use Rattle.gate_log.specs.Standing as gate_log
+use Rattle.gate_log.specs.LogStates as gate_log
 use Rattle.store_invariant.specs.States.{StoreState, Held}
-use Rattle.store_invariant.specs.Standing as store
+use Rattle.store_invariant.specs.StoreStates as store
 use Rattle.flusher.specs.declared.keeper.Keeper.{Keeper}
 use Rattle.flusher.specs.Sweeping.{Stands}
 use Rattle.flusher.specs.Rotating.{MayRotate}

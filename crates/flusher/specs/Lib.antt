@@ -1,6 +1,6 @@
 pub mod HandSteps
 pub mod Gathering
 pub mod Sweeping
-pub mod Keeping
+pub mod KeeperSteps
 pub mod Rotating
 pub mod Fitting

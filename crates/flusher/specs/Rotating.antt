@@ -10,8 +10,8 @@ use Rattle.store_layout.specs.Logs.{log_file}
 use Rattle.store_layout.specs.declared.log_phase.Phase.{Phase}
 use Rattle.store_layout.specs.declared.log_phase.Phase.TheVariants.{Idle, Header, HeaderWritten, Staged, Opened}
 use Rattle.gate_log.specs.States.{LogState, begun, call_in, log_after}
-use Rattle.gate_log.specs.Standing.{IsReady}
-use Rattle.store_invariant.specs.Standing.{IsTurn}
+use Rattle.gate_log.specs.LogStates.{IsReady}
+use Rattle.store_invariant.specs.StoreStates.{IsTurn}
 use Rattle.flusher.specs.declared.keeper.Keeper.{Keeper}
 
 -- the newest log, and during a rotation the one that is to follow it

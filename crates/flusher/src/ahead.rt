@@ -4,7 +4,7 @@ ghost use Rattle.disk_model.specs.Moments.{AtEachMoment};
 ghost use Rattle.map_types.specs.declared.commands.Command.{Command};
 ghost use Rattle.ticket_order.specs.declared.record.Record.{Record};
 ghost use Rattle.ticket_order.specs.Legality.{history_of};
-ghost use Rattle.gate_log.specs.Advancing.{MayAdvance};
+ghost use Rattle.gate_log.specs.LogSteps.{MayAdvance};
 ghost use Rattle.gate_log.specs.Ahead.{WritesAhead};
 ghost use Rattle.flusher.specs.Fitting.{Fits, StopsFit};
 

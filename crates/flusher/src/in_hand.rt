@@ -15,11 +15,8 @@ use std::alloc::{AllocError, Global};
 use std::collections::VecDeque;
 use std::marker::Model;
 use std::mem;
-use store_layout::{MOST_FRAME_BYTES, MOST_RECORDS};
+use store_layout::{FRAME_HEAD_BYTES, MOST_FRAME_BYTES, MOST_RECORDS};
 use ticket_order::{Entry, Ticket};
-
-/// The kind, the length, the first ticket and the count of a batch stand before its records.
-const FRAME_HEAD_BYTES: usize = 17;
 
 /// A run of commands from the first place on.
 #[derive(Clone, Copy)]
@@ -103,13 +100,21 @@ impl InHand {
         }
     }
 
+    /// Moves each of the entries into its place, and leaves the vector empty. It takes no memory.
+    pub fn append(&mut self, entries: &mut Vec<Entry>)
+        ensures { Gains self.old entries.old.items self.new }
+    {
+        for entry in entries.drain(..) {
+            self.put(entry);
+        }
+    }
+
     /// Puts each of the entries into its place. It takes no memory.
     pub fn insert(&mut self, entries: Vec<Entry>)
         ensures { Gains self.old entries.items self.new }
     {
-        for entry in entries {
-            self.put(entry);
-        }
+        let mut entries = entries;
+        self.append(&mut entries);
     }
 
     // The command in this place.

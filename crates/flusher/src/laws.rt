@@ -8,7 +8,7 @@ ghost use Rattle.ticket_order.specs.Legality.{entries_from, history_of};
 ghost use Rattle.disk_model.specs.Files.{now};
 ghost use Rattle.flusher.specs.Fitting.{Fits, IsBeside, IsTakenFront, StopsFit, WereTaken};
 ghost use Rattle.store_layout.specs.Hands.{IsRun};
-ghost use Rattle.flusher.specs.Keeping.{is_walking};
+ghost use Rattle.flusher.specs.KeeperSteps.{is_walking};
 
 use crate::keeper::Keeper;
 use disk_model::Disk;

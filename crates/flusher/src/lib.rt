@@ -3,10 +3,14 @@
 #![tactic(auto)]
 
 mod ahead;
+mod batching;
 mod in_hand;
 mod keeper;
 mod laws;
+mod logs;
+mod spare;
 mod sweeper;
+mod sweeping;
 
 pub use in_hand::{InHand, Run};
 pub use keeper::Keeper;

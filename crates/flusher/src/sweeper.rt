@@ -5,11 +5,13 @@ ghost use Rattle.ticket_order.specs.declared.record.Record.{Record};
 ghost use Rattle.ticket_order.specs.Records.{reach, missing};
 ghost use Rattle.ticket_order.specs.Calls.{SweepsStripe, RefusesSweep};
 ghost use Rattle.ticket_order.specs.Walks.{MakesOne, Look, Take, Give, entries_of_walk, refusal_of_walk};
+ghost use Rattle.flusher.specs.HandSteps.{Gains};
 ghost use Rattle.flusher.specs.Gathering.{Collects};
-ghost use Rattle.flusher.specs.Keeping.{SweepsOnce};
+ghost use Rattle.flusher.specs.KeeperSteps.{SweepsOnce};
 ghost use Rattle.flusher.specs.Sweeping.{AfterGive, AfterTake, BeginsSweep, HasNone, IsBetween, IsHolding, IsDone, IsReady, IsSwept, Stands, StepsOn, next_kind};
 
 use crate::in_hand::InHand;
+use crate::spare::Spare;
 use map_types::Refusal;
 use std::alloc::Global;
 use std::mem;
@@ -49,6 +51,8 @@ pub enum Swept {
 #[derive(Drop)]
 pub struct Sweeper {
     alloc: Global,
+    // The next stripe that is swept gets it for its outbox.
+    spare: Spare,
     pub in_hand: InHand,
     pub sweep: Option<Sweep>,
     pub walking: Walking,
@@ -62,6 +66,7 @@ impl Sweeper {
     {
         Sweeper {
             alloc,
+            spare: Spare::new(alloc),
             in_hand: InHand::new(alloc, next),
             sweep: None,
             walking: Walking::Rests,
@@ -109,17 +114,28 @@ impl Sweeper {
         ensures place { S.place steps.new ≡ S.place steps.old }
         ensures stripes { S.stripe_count steps.new ≡ S.stripe_count steps.old }
     {
-        let Some(walk) = hold(self.alloc, stripe, steps) else {
+        let spare = self.spare.take(self.alloc);
+        let Some(walk) = hold(spare, stripe, steps) else {
             return Err(Refusal::Busy { stripe });
         };
         let walk = with_room(&mut self.in_hand, walk);
         match hand_out(walk, steps) {
             Some(entries) => {
-                self.in_hand.insert(entries);
+                self.keep_in_hand(entries);
                 Ok(())
             }
             None => Err(Refusal::NoMemory),
         }
+    }
+
+    // Puts the entries in hand, and keeps their vector for a stripe that is swept later.
+    fn keep_in_hand(&mut self, entries: Vec<Entry>)
+        ensures hand { Gains self.old.in_hand entries.items self.new.in_hand }
+        ensures same { self.new ≡ record self.old { in_hand = self.new.in_hand } }
+    {
+        let mut entries = entries;
+        self.in_hand.append(&mut entries);
+        self.spare.keep(entries);
     }
 
     fn set_walking(&mut self, walking: Walking)
@@ -160,7 +176,8 @@ impl Sweeper {
         ensures place { S.place steps.new ≡ S.place steps.old }
         ensures stripes { S.stripe_count steps.new ≡ S.stripe_count steps.old }
     {
-        match hold(self.alloc, sweep.stripe, steps) {
+        let spare = self.spare.take(self.alloc);
+        match hold(spare, sweep.stripe, steps) {
             Some(walk) => {
                 self.set_walking(Walking::SweepGives(walk));
                 Ok(Swept::More)
@@ -194,7 +211,7 @@ impl Sweeper {
         let walk = with_room(&mut self.in_hand, walk);
         match hand_out(walk, steps) {
             Some(entries) => {
-                self.in_hand.insert(entries);
+                self.keep_in_hand(entries);
                 Ok(self.go_on(sweep, steps.stripes().get()))
             }
             None => Err(Refusal::NoMemory),
@@ -241,8 +258,9 @@ fn with_room(in_hand: &mut InHand, walk: Walk) -> Walk
     }
 }
 
-// TAKE of a stripe for a sweep, which has then only its GIVE left; `None` where another holds it.
-fn hold<S: Steps>(alloc: Global, stripe: usize, steps: &mut S) -> Option<Walk>
+// TAKE of a stripe for a sweep, which has then only its GIVE left and gives the stripe this vector for
+// its outbox; `None` where another holds it.
+fn hold<S: Steps>(spare: Vec<Entry>, stripe: usize, steps: &mut S) -> Option<Walk>
     requires free { (S.recorded steps.old).holding ≡ None }
     requires within { stripe < S.stripe_count steps.old }
     requires keeper { (S.recorded steps.old).keeper ≡ true }
@@ -254,7 +272,7 @@ fn hold<S: Steps>(alloc: Global, stripe: usize, steps: &mut S) -> Option<Walk>
     ensures place { S.place steps.new ≡ S.place steps.old }
     ensures stripes { S.stripe_count steps.new ≡ S.stripe_count steps.old }
 {
-    match Walk::sweep(alloc, stripe).step(steps) {
+    match Walk::sweep(spare, stripe).step(steps) {
         Stepped::More(walk) => Some(walk),
         other => {
             drop(other);

@@ -11,8 +11,8 @@ use Rattle.store_layout.specs.Logs.{Batch, log_file}
 use Rattle.store_layout.specs.declared.log_phase.Phase.{Phase}
 use Rattle.store_layout.specs.declared.log_phase.Phase.TheVariants.{Idle, Header, HeaderWritten, Staged, Written, Synced, Opened}
 use Rattle.gate_log.specs.States.{LogState, call_in, log_after}
-use Rattle.gate_log.specs.Standing.{Stands, IsReady, IsKept, MayRead}
-use Rattle.gate_log.specs.Advancing.{Advances, MayAdvance, committed_after, staged_after}
+use Rattle.gate_log.specs.LogStates.{Stands, IsReady, IsKept, MayRead}
+use Rattle.gate_log.specs.LogSteps.{Advances, MayAdvance, committed_after, staged_after}
 use Rattle.gate_log.proofs.StandingLemmas.{reads_in, placed, goes_to, called_reads, failed_reads}
 
 cases_idle : (phase : Phase) → (phase ≡ Idle) ⊎ (phase ≢ Idle)

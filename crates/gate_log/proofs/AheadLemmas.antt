@@ -8,8 +8,8 @@ use Rattle.map_types.specs.declared.refusals.Refusal.TheVariants.{Failed}
 use Rattle.store_layout.specs.Logs.{Batch, log_file}
 use Rattle.store_layout.specs.declared.log_phase.Phase.TheVariants.{Staged}
 use Rattle.gate_log.specs.States.{LogState}
-use Rattle.gate_log.specs.Standing.{AtPhase, Stands, front_of}
-use Rattle.gate_log.specs.Advancing.{MayAdvance}
+use Rattle.gate_log.specs.LogStates.{AtPhase, Stands, front_of}
+use Rattle.gate_log.specs.LogSteps.{MayAdvance}
 use Rattle.gate_log.specs.Ahead.{IsAheadDue, WritesAhead}
 use Rattle.gate_log.proofs.StandingLemmas.{reads_in}
 use Rattle.gate_log.proofs.AdvanceLemmas.{file_after, moved}

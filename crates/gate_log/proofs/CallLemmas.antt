@@ -1,19 +1,11 @@
 -- The device call that is due, where it is a sync.
-use Rattle.std.proofs.Common.{◌≡◌, ◌⊎◌, inl, inr, ⊎_elim, ℕ, ◌+◌, List, ◌∷◌, Option, None, Some, Result, Ok, Err, OnErr, refl, sym, ◌∙◌, ap, subst}
-use mathlib.Core.Path.{fun_ext}
-use Rattle.std.proofs.lemmas.Bool.{cases_eq}
+use Rattle.std.proofs.Common.{◌≡◌, ◌⊎◌, inl, inr, ℕ, ◌+◌, List, ◌∷◌, Option, None, Some, Result, Ok, Err, OnErr, refl, sym, ◌∙◌, ap, subst}
 use Rattle.disk_model.specs.Calls.{Fails}
-use Rattle.disk_model.specs.Files.{Files, now, with_file}
+use Rattle.disk_model.specs.Files.{Files, now}
 use Rattle.disk_model.specs.Gates.{Call, syncs}
-use Rattle.disk_model.proofs.FileLemmas.{with_same, with_other}
+use Rattle.disk_model.proofs.FileLemmas.{with_itself}
 use Rattle.store_layout.specs.declared.log_phase.Phase.TheVariants.{HeaderWritten, Written, Opened}
 use Rattle.gate_log.specs.States.{LogState, call_in}
-
-with_itself : (number : ℕ) (files : Files) → with_file number (files number) files ≡ files
-with_itself number files = fun_ext (λ n. ⊎_elim {C = with_file number (files number) files n ≡ files n}
-    (λ is. ap (λ k. with_file number (files number) files k) is ∙ with_same number (files number) files ∙ ap files (sym is))
-    (λ other. with_other number (files number) files n other)
-    (cases_eq n number))
 
 sync_due : (log : LogState) → (log.phase ≡ HeaderWritten) ⊎ ((log.phase ≡ Written) ⊎ (log.phase ≡ Opened)) → call_in log.phase log ≡ Some syncs
 sync_due log (inl is) = ap (λ p. call_in p log) is

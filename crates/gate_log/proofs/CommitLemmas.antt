@@ -8,8 +8,8 @@ use Rattle.store_layout.specs.Logs.{Batch, log_file}
 use Rattle.store_layout.specs.declared.log_phase.Phase.{Phase}
 use Rattle.store_layout.specs.declared.log_phase.Phase.TheVariants.{Idle, Header, HeaderWritten, Staged, Written, Synced, Opened}
 use Rattle.gate_log.specs.States.{LogState, log_after}
-use Rattle.gate_log.specs.Standing.{Stands, IsReady, IsKept, IsDone, IsBeforeOrAfter, MayRead}
-use Rattle.gate_log.specs.Advancing.{Advances, committed_after, staged_after}
+use Rattle.gate_log.specs.LogStates.{Stands, IsReady, IsKept, IsDone, IsBeforeOrAfter, MayRead}
+use Rattle.gate_log.specs.LogSteps.{Advances, committed_after, staged_after}
 use Rattle.gate_log.proofs.AdvanceLemmas.{kept_at_start}
 
 -- before the last step but one, and before the last

@@ -11,8 +11,8 @@ use Rattle.store_layout.proofs.LogLemmas.{front_push, commands_push, run_push, l
 use Rattle.store_layout.specs.declared.log_phase.Phase.{Phase}
 use Rattle.store_layout.specs.declared.log_phase.Phase.TheVariants.{Idle, Header, HeaderWritten, Staged, Written, Synced, Opened}
 use Rattle.gate_log.specs.States.{LogState, bytes_staged, call_in, log_after}
-use Rattle.gate_log.specs.Standing.{front_of, HasCommitted, IsNext, HasNone, HasNext, AtRest, AtPhase, Stands, IsReady, IsDone, MayRead}
-use Rattle.gate_log.specs.Advancing.{committed_after, staged_after}
+use Rattle.gate_log.specs.LogStates.{front_of, HasCommitted, IsNext, HasNone, HasNext, AtRest, AtPhase, Stands, IsReady, IsDone, MayRead}
+use Rattle.gate_log.specs.LogSteps.{committed_after, staged_after}
 
 -- ---- a log that begins
 

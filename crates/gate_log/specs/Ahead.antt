@@ -9,7 +9,7 @@ use Rattle.map_types.specs.declared.refusals.Refusal.TheVariants.{Failed}
 use Rattle.store_layout.specs.Logs.{Batch, log_file}
 use Rattle.store_layout.specs.declared.log_phase.Phase.TheVariants.{Staged}
 use Rattle.gate_log.specs.States.{LogState}
-use Rattle.gate_log.specs.Standing.{Stands, IsKept}
+use Rattle.gate_log.specs.LogStates.{Stands, IsKept}
 
 -- A batch is staged in a long log, and doesn't reach past this many zeros; these end within the greatest length of a log.
 pub record IsAheadDue (count : ℕ) (log : LogState) : Type 0 where

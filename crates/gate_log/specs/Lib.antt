@@ -1,6 +1,6 @@
 pub mod States
-pub mod Standing
-pub mod Advancing
+pub mod LogStates
+pub mod LogSteps
 pub mod Scan
 pub mod ScanParts
 pub mod Ahead

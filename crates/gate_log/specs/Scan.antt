@@ -1,5 +1,5 @@
 -- What a scan of a log file finds. The relations speak of the file's content, and of the batches before the gate that the scan is at.
-use Rattle.std.specs.Prelude.{◌≡◌, ◌≢◌, ◌⊎◌, ◌≤◌, ℕ, ◌+◌, List, [], ◌∷◌, ◌++◌, length, Result, Err}
+use Rattle.std.specs.Prelude.{◌≡◌, ◌≢◌, ◌⊎◌, ◌≤◌, ℕ, ◌+◌, List, [], ◌∷◌, ◌++◌, length}
 use Rattle.disk_model.specs.Files.{Files, now}
 use Rattle.file_pieces.specs.Pieces.{ReaderState, Holds}
 use Rattle.map_types.specs.declared.refusals.Refusal.{Refusal}
@@ -7,6 +7,7 @@ use Rattle.map_types.specs.declared.refusals.Refusal.TheVariants.{Failed, NoMemo
 use Rattle.log_records.specs.Layout.{Layout}
 use Rattle.ticket_order.specs.declared.stripe.Entry.{Entry}
 use Rattle.store_layout.specs.Logs.{Batch, IsBatch, IsLog, IsClosed, IsEnded, commands_in, end_frame, frame, log_file, log_front}
+pub use Rattle.store_layout.specs.Failures.{failed_in}
 use Rattle.gate_log.specs.States.{AreFrom, batch_of}
 use Rattle.gate_log.specs.declared.scan.Found.{Found}
 use Rattle.gate_log.specs.declared.scan.Found.TheVariants.{Batch as found_batch, Ended, Closed}
@@ -84,8 +85,3 @@ RefusesFor scan Reason refusal = RefusesAt scan.generation scan.gate Reason refu
 -- what a read gives of the file that has the log of this generation
 abbrev pub log_bytes : {D : Type 0} → (D → List Files) → D → ℕ → List ℕ
 log_bytes states disk generation = (now (states disk) (log_file generation)).seen
-
--- how many device calls failed
-abbrev pub failed_in : {X : Type 0} → Result X Refusal → ℕ
-failed_in (Err Failed) = 1
-failed_in _ = 0

@@ -4,7 +4,7 @@ ghost use Rattle.disk_model.specs.Files.{now};
 ghost use Rattle.disk_model.specs.Moments.{AtEachMoment};
 ghost use Rattle.store_layout.specs.Logs.{Batch, log_file};
 ghost use Rattle.gate_log.specs.States.{log_after};
-ghost use Rattle.gate_log.specs.Standing.{Stands, IsKept};
+ghost use Rattle.gate_log.specs.LogStates.{Stands, IsKept};
 
 use crate::log::GateLog;
 use disk_model::Disk;

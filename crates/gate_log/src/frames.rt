@@ -9,7 +9,7 @@ ghost use Rattle.gate_log.specs.States.{batch_of, commands_of};
 use log_records::{encode, put_number, record_len};
 use map_types::Refusal;
 use std::alloc::Global;
-use store_layout::{BATCH_KIND, CLOSED_GATE, END_KIND, VERSION};
+use store_layout::{BATCH_KIND, CLOSED_GATE, END_KIND, FRAME_HEAD_BYTES, NUMBERS_BYTES, VERSION};
 use ticket_order::Entry;
 
 /// A log's header, and a closed gate.
@@ -50,7 +50,7 @@ pub(crate) fn frame_len(entries: &[Entry]) -> usize
     requires { length entries.now ≤ 65536 }
     ensures { (first : ℕ) → result ≡ length (frame first_layout (batch_of first entries.now)) }
 {
-    17 + records_len(entries)
+    FRAME_HEAD_BYTES + records_len(entries)
 }
 
 /// Puts the records of the entries at the end, or some of them where no memory is found.
@@ -66,7 +66,7 @@ fn append_records(entries: &[Entry], out: &mut Vec<u8>) -> Result<(), Refusal>
     Ok(())
 }
 
-/// The frame of a batch, and a closed gate.
+/// The frame of a batch, and a closed gate. Its memory is got at once.
 pub(crate) fn batch_frame(alloc: Global, first: u64, entries: &[Entry]) -> Result<Vec<u8>, Refusal>
     requires { length entries.now ≤ 65536 }
     ensures ok { IfOk result (λ bytes.
@@ -74,9 +74,10 @@ pub(crate) fn batch_frame(alloc: Global, first: u64, entries: &[Entry]) -> Resul
     ensures fits { OnOk result (AllByRecursion (IsCommand first_layout) (commands_of entries.now)) }
     ensures err { IfErr result (λ refusal. refusal ≡ Refusal.NoMemory) }
 {
-    let mut bytes = Vec::new(alloc);
+    let records = records_len(entries);
+    let mut bytes = Vec::with_capacity(alloc, FRAME_HEAD_BYTES + records + 1)?;
     bytes.push(BATCH_KIND)?;
-    put_number(4, 12 + records_len(entries) as u64, &mut bytes)?;
+    put_number(4, (NUMBERS_BYTES + records) as u64, &mut bytes)?;
     put_number(8, first, &mut bytes)?;
     put_number(4, entries.len() as u64, &mut bytes)?;
     append_records(entries, &mut bytes)?;

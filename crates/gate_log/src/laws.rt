@@ -3,7 +3,7 @@ ghost use Rattle.std.specs.Prelude.{ℕ, List};
 ghost use Rattle.disk_model.specs.Files.{File, MayLeave};
 ghost use Rattle.store_layout.specs.Logs.{Batch};
 ghost use Rattle.gate_log.specs.States.{LogState};
-ghost use Rattle.gate_log.specs.Standing.{Stands, IsReady, MayRead};
+ghost use Rattle.gate_log.specs.LogStates.{Stands, IsReady, MayRead};
 
 /// Once the header is on the disk, each content that a stop may leave has the committed batches, or
 /// what is staged too.

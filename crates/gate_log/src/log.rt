@@ -6,8 +6,8 @@ ghost use Rattle.disk_model.specs.Gates.{Call, IsPlaced};
 ghost use Rattle.log_records.specs.Layout.{first_layout};
 ghost use Rattle.store_layout.specs.Logs.{Batch, IsClosed, commands_in, frame, log_file, log_front};
 ghost use Rattle.gate_log.specs.States.{AreFrom, IsResting, batch_of, begun, bytes_staged, call_in, log_after, resumed};
-ghost use Rattle.gate_log.specs.Standing.{Stands};
-ghost use Rattle.gate_log.specs.Advancing.{Advances, MayAdvance};
+ghost use Rattle.gate_log.specs.LogStates.{Stands};
+ghost use Rattle.gate_log.specs.LogSteps.{Advances, MayAdvance};
 ghost use Rattle.gate_log.specs.Ahead.{IsAheadDue, WritesAhead};
 
 use crate::frames::{batch_frame, end_frame_and_gate, frame_len, header_and_gate};

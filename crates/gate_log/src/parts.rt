@@ -14,14 +14,13 @@ use byteorder::{BigEndian, ByteOrder};
 use log_records::decode;
 use map_types::{Command, Refusal};
 use std::alloc::Global;
-use store_layout::{BATCH_KIND, END_KIND, HEADER_BYTES, MOST_FRAME_BYTES, MOST_RECORDS, VERSION};
+use store_layout::{
+    BATCH_KIND, END_KIND, HEADER_BYTES, MOST_FRAME_BYTES, MOST_RECORDS, NUMBERS_BYTES, VERSION,
+};
 use ticket_order::{Entry, Ticket};
 
 /// Kind and length stand at the front of a frame.
 pub(crate) const HEAD_BYTES: usize = 5;
-
-/// First ticket and count stand before the records of a batch.
-const NUMBERS_BYTES: usize = 12;
 
 /// The number of a generation stands behind the length of an end frame.
 pub(crate) const END_BYTES: usize = 8;

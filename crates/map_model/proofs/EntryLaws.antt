@@ -40,7 +40,7 @@ below_from_rising : (k : List ℕ) (es : List (List ℕ × Value)) → AllByRecu
 below_from_rising k [] rising = tt
 below_from_rising k (e ∷ es) (here, rising) = both _ _ (rw here tt) (below_from_rising k es rising)
 
-sorted_from_rising : (es : List (List ℕ × Value)) → IsStrictlySortedBy (slice_cmp nat_cmp) (keys_of es) → T (finite.is_sorted (slice_cmp nat_cmp) es)
+pub sorted_from_rising : (es : List (List ℕ × Value)) → IsStrictlySortedBy (slice_cmp nat_cmp) (keys_of es) → T (finite.is_sorted (slice_cmp nat_cmp) es)
 unfolding IsStrictlySortedBy
 sorted_from_rising [] rising = tt
 sorted_from_rising (e ∷ es) (below, rising) = both _ _ (below_from_rising e.0 es below) (sorted_from_rising es rising)

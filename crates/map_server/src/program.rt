@@ -61,6 +61,9 @@ const BYTES: &str = "67108864";
 /// For how many seconds a client may be idle if no other number is asked for: for ever.
 const IDLE: &str = "0";
 
+/// How many zeros are written ahead of a batch in a long log if no other number is asked for.
+const AHEAD: &str = "1048576";
+
 /// The argument that names a directory.
 fn directory<'a>(alloc: Global) -> Arg<'a>
     ensures rule { rule_of result ≡ directory_rule }
@@ -192,6 +195,12 @@ fn serve_line<'a>(alloc: Global) -> Result<Command<'a>, AllocError>
         "N",
         "For how long a client may send no request and take no reply: 0, for ever, if left out",
     );
+    let ahead = option(
+        alloc,
+        "log-ahead",
+        "A",
+        "How many zeros are written ahead of a batch in a long log: 1048576 if left out, 0 for none",
+    );
     Command::new(alloc, "serve")
         .about("Opens a directory, and serves its map to this machine until it is ended")
         .arg(directory(alloc))?
@@ -199,7 +208,8 @@ fn serve_line<'a>(alloc: Global) -> Result<Command<'a>, AllocError>
         .arg(stripes(alloc))?
         .arg(workers)?
         .arg(bytes)?
-        .arg(idle)
+        .arg(idle)?
+        .arg(ahead)
 }
 
 /// The command that makes one call of a server.
@@ -278,6 +288,7 @@ fn server_in<'a>(matches: &ArgMatches<'a>) -> ServerWords<'a>
         workers: word_or(matches, "workers", WORKERS),
         bytes: word_or(matches, "checkpoint-bytes", BYTES),
         idle: word_or(matches, "idle-seconds", IDLE),
+        ahead: word_or(matches, "log-ahead", AHEAD),
     }
 }
 
@@ -391,9 +402,10 @@ pub fn dchm<T: Host, M: Directories + Servers, R: Read, W: Write, E: Write>(
     output: &mut W,
     error: &mut E,
 ) -> u8
-    ensures { Ran M.Opened.states M.Opened.failures M.Opened.honest M.is_opened M.Reader.remaining
-        M.Writer.contents M.is_connected (map string_bytes words.now) (R.remaining input.old)
-        (R.remaining input.new) (W.contents output.old) (W.contents output.new) result }
+    ensures { Ran M.Opened.states M.Opened.failures M.Opened.honest M.is_opened M.is_created
+        M.is_refused M.Reader.fails M.Reader.remaining M.Writer.contents M.is_connected
+        (map string_bytes words.now) (R.remaining input.old) (R.remaining input.new)
+        (W.contents output.old) (W.contents output.new) result }
 {
     match order_of(alloc, words) {
         Ok(Order::Mem) => mem(rt, alloc, input, output, error),

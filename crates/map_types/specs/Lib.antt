@@ -1,3 +1,4 @@
 pub mod Numbers
+pub mod Reducing
 pub mod Refusals
 pub mod ValueEq

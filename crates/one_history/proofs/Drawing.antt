@@ -19,15 +19,16 @@ use Rattle.ticket_order.specs.declared.record.Record.{Record}
 use Rattle.ticket_order.specs.Records.{reach, call, entry, drawing, drawing_at, part_held}
 use Rattle.ticket_order.specs.Legality.{IsContent, history_of}
 use Rattle.ticket_order.specs.StepRules.{MayDraw, Draws}
+use Rattle.ticket_order.proofs.Longer.{sections_longer}
 use Rattle.one_history.specs.declared.book.Book.{Book}
 use Rattle.one_history.specs.declared.slot.Slot.{Slot}
 use Rattle.one_history.specs.declared.slot.Slot.TheVariants.{Home, HeldBy}
 use Rattle.one_history.specs.Turns.{record_of, words_of, unseen, drew}
 use Rattle.one_history.specs.OneHistory.{IsFront, IsUpTo, Holds, Knows, AreOf, IsOneHistory, changes_by, stripe_in}
 use Rattle.one_history.specs.Moves.{BookMoves}
-use Rattle.one_history.specs.Kept.{slot_of, Lies, draws_left, IsKept}
+use Rattle.one_history.specs.SharedWords.{slot_of, Lies, draws_left, IsKept}
 use Rattle.one_history.proofs.Fronts.{front_refl, front_trans, front_one}
-use Rattle.one_history.proofs.Legal.{calls_longer, calls_both, sections_longer}
+use Rattle.one_history.proofs.Legal.{calls_longer, calls_both}
 use Rattle.one_history.proofs.Contents.{content_drawn, content_other, own_reply}
 use Rattle.one_history.proofs.Orders.{order_push, push_change, own_more, other_more}
 use Rattle.one_history.proofs.Knowing.{up_to_more, done_same}
@@ -61,10 +62,10 @@ module _ (n t durable : ℕ) (has_failed : Bool) (slots : List Slot) (b : Book) 
   abbrev h' : List Command
   h' = b.history ++ c ∷ []
 
-  here : Knows b.opening b.stripes b.history b.authors b.deeds j (record_of j b)
+  here : Knows b.opening b.stripes b.history b.authors b.effects j (record_of j b)
   here = kept.one.passes j within
 
-  holds_it : Holds b.opening b.stripes b.history b.authors b.deeds (record_of j b) may.held
+  holds_it : Holds b.opening b.stripes b.history b.authors b.effects (record_of j b) may.held
   unfolding here
   holds_it = here.held may.held may.holding
 
@@ -87,7 +88,7 @@ module _ (n t durable : ℕ) (has_failed : Bool) (slots : List Slot) (b : Book) 
   reply_is : (step (part_held r.holding) c).reply ≡ (step (map_after r.opening.map (r.seen ++ between)) c).reply
   reply_is =
       ap (λ m. (step m c).reply) part_is
-      ∙ (own_reply b.opening b.stripes b.history b.deeds.taken may.held.stripe may.held.part may.held.outbox c own holds_it.content
+      ∙ (own_reply b.opening b.stripes b.history b.effects.taken may.held.stripe may.held.part may.held.outbox c own holds_it.content
       ∙ sym (ap (λ (o : Opening). (step (map_after o.map (r.seen ++ between)) c).reply) opening_is ∙ ap (λ (cs : List Command). (step (map_after b.opening.map cs) c).reply) seen_all))
 
   legal_here : IsLegalChange (history_of w) (r.opening.first + length (r.seen ++ between) + 1) c (step (part_held r.holding) c).reply
@@ -108,7 +109,7 @@ module _ (n t durable : ℕ) (has_failed : Bool) (slots : List Slot) (b : Book) 
   longer_is : w.seen ≡ r.seen ++ (between ++ c ∷ [])
   longer_is = append_assoc r.seen between (c ∷ [])
 
-  knows_drawn : Knows b.opening b.stripes h' (b.authors ++ j ∷ []) b.deeds j w
+  knows_drawn : Knows b.opening b.stripes h' (b.authors ++ j ∷ []) b.effects j w
   unfolding here
   knows_drawn =
       let q : ℕ = r.opening.first + length (r.seen ++ between) + 1 in
@@ -127,13 +128,13 @@ module _ (n t durable : ℕ) (has_failed : Bool) (slots : List Slot) (b : Book) 
         seen = All-push (IsUpTo (reach w)) r.calls new (up_to_more (reach r) (reach w) r.calls (omega (arith, reach_is)) here.seen) (omega (arith, reach_is));
         sections = sections_longer b.stripes r w (between ++ c ∷ []) refl longer_is r.sections here.sections;
         keeper = here.keeper;
-        done = done_same b.opening b.deeds r w refl refl refl refl here.done;
+        done = done_same b.opening b.effects r w refl refl refl refl here.done;
         held = λ d e.
             let t' : ℕ = r.opening.first + length (r.seen ++ between) in
             let is = held_drawn t' c r.holding may.held d may.holding e in
-            subst (Holds b.opening b.stripes h' (b.authors ++ j ∷ []) b.deeds w) is (record {
+            subst (Holds b.opening b.stripes h' (b.authors ++ j ∷ []) b.effects w) is (record {
               within = holds_it.within;
-              content = subst (λ p. IsContent b.opening b.stripes h' b.deeds.taken may.held.stripe (step may.held.part c).map (may.held.outbox ++ entry p c ∷ [])) (sym ticket_is) (content_drawn b.opening b.stripes b.history b.deeds.taken may.held.stripe may.held.part may.held.outbox c own holds_it.content);
+              content = subst (λ p. IsContent b.opening b.stripes h' b.effects.taken may.held.stripe (step may.held.part c).map (may.held.outbox ++ entry p c ∷ [])) (sym ticket_is) (content_drawn b.opening b.stripes b.history b.effects.taken may.held.stripe may.held.part may.held.outbox c own holds_it.content);
               looked = λ q f. absurd (let no : None ≡ Some q = f in cc);
             });
       }
@@ -145,7 +146,7 @@ module _ (n t durable : ℕ) (has_failed : Bool) (slots : List Slot) (b : Book) 
   other_stripe : (l : ℕ) → l ≢ may.held.stripe → is_in_stripe b.stripes l c.key ≡ false
   other_stripe l ne = ne_eqb _ l (λ e. ne (sym e ∙ may.stripe_is))
 
-  knows_other : (l : ℕ) → l < length b.passes → l ≢ j → Knows b.opening b.stripes h' (b.authors ++ j ∷ []) b.deeds l (record_of l b)
+  knows_other : (l : ℕ) → l < length b.passes → l ≢ j → Knows b.opening b.stripes h' (b.authors ++ j ∷ []) b.effects l (record_of l b)
   knows_other l lt ne =
       let x = kept.one.passes l lt in
       record {
@@ -164,7 +165,7 @@ module _ (n t durable : ℕ) (has_failed : Bool) (slots : List Slot) (b : Book) 
             let apart : d.stripe ≢ may.held.stripe = λ s. (let f : HeldBy l ≡ HeldBy j = sym theirs ∙ (ap (λ u. slot_of u slots) s ∙ slot_here) in ne (cc)) in
             record {
               within = was.within;
-              content = content_other b.opening b.stripes b.history b.deeds.taken d.stripe d.part d.outbox c (other_stripe d.stripe apart) was.content;
+              content = content_other b.opening b.stripes b.history b.effects.taken d.stripe d.part d.outbox c (other_stripe d.stripe apart) was.content;
               looked = was.looked;
             };
       }
@@ -176,10 +177,10 @@ module _ (n t durable : ℕ) (has_failed : Bool) (slots : List Slot) (b : Book) 
   one_drew =
       let words : AreOf b (words_of b) = kept.one.words in
       let counted : (words_of b).tickets ≡ b.opening.first + length b.history = words.tickets in
-      one_turned b j s w h' (b.authors ++ j ∷ []) b.deeds kept.one within
+      one_turned b j s w h' (b.authors ++ j ∷ []) b.effects kept.one within
       (let was : length b.authors ≡ length b.history = kept.one.authors in omega (arith, more_by_one, length-append b.authors (j ∷ [])))
       (All-push (λ u. u < length b.passes) b.authors j kept.one.by_passes within) refl kept.one.begun
-      (let was : b.deeds.durable ≤ b.opening.first + length b.history = kept.one.reached in omega (arith, more_by_one))
+      (let was : b.effects.durable ≤ b.opening.first + length b.history = kept.one.reached in omega (arith, more_by_one))
       knows_drawn knows_other
       (record {
         recorded = refl;
@@ -193,8 +194,8 @@ module _ (n t durable : ℕ) (has_failed : Bool) (slots : List Slot) (b : Book) 
   lies : (l : ℕ) (x : Slot) → slot_of l slots ≡ x → Lies b l x → Lies (drew j c b) l x
   lies l (Home content) is k =
       let apart : l ≢ may.held.stripe = λ s. (let f : Home content ≡ HeldBy j = sym is ∙ (ap (λ u. slot_of u slots) s ∙ slot_here) in cc) in
-      content_other b.opening b.stripes b.history b.deeds.taken l content.part.map content.outbox.items c (other_stripe l apart) k
-  lies l (HeldBy u) is k = holds_still b l j u s w h' (b.authors ++ j ∷ []) b.deeds within same k
+      content_other b.opening b.stripes b.history b.effects.taken l content.part.map content.outbox.items c (other_stripe l apart) k
+  lies l (HeldBy u) is k = holds_still b l j u s w h' (b.authors ++ j ∷ []) b.effects within same k
 
   pub kept_drew : IsKept n (t + 1) durable has_failed slots (drew j c b)
   kept_drew = record {
@@ -204,15 +205,15 @@ module _ (n t durable : ℕ) (has_failed : Bool) (slots : List Slot) (b : Book) 
     durable_is = kept.durable_is;
     failed_is = kept.failed_is;
     few = (let was : length b.passes ≤ 65536 = kept.few in omega (arith, length-set b.passes j w));
-    room = room_drawn b j s w c (b.authors ++ j ∷ []) b.deeds within one_left refl more_by_one kept.room;
+    room = room_drawn b j s w c (b.authors ++ j ∷ []) b.effects within one_left refl more_by_one kept.room;
     one = one_drew;
     each_slot = λ l lt. lies l (slot_of l slots) refl (kept.each_slot l lt);
-    carried = λ i l x. kept.carried i l (held_before b i j l s w h' (b.authors ++ j ∷ []) b.deeds within same x);
-    holders = holders_turned b j s w h' (b.authors ++ j ∷ []) b.deeds slots refl kept.holders;
+    carried = λ i l x. kept.carried i l (held_before b i j l s w h' (b.authors ++ j ∷ []) b.effects within same x);
+    holders = holders_turned b j s w h' (b.authors ++ j ∷ []) b.effects slots refl kept.holders;
   }
 
   same_now : record_of j (drew j c b) ≡ w
-  same_now = same_record b j s w h' (b.authors ++ j ∷ []) b.deeds within
+  same_now = same_record b j s w h' (b.authors ++ j ∷ []) b.effects within
 
   t_is : t ≡ r.opening.first + length (r.seen ++ between)
   t_is = kept.counted ∙ sym ticket_is
@@ -225,13 +226,13 @@ module _ (n t durable : ℕ) (has_failed : Bool) (slots : List Slot) (b : Book) 
     opening = refl;
     stripes = refl;
     passes = length-set b.passes j w;
-    others = λ l ne. other_records b j l s w h' (b.authors ++ j ∷ []) b.deeds ne;
+    others = λ l ne. other_records b j l s w h' (b.authors ++ j ∷ []) b.effects ne;
     words = record {
       command = c;
       reply = (step (part_held r.holding) c).reply;
       history = refl;
       authors = refl;
-      deeds = refl;
+      effects = refl;
       ticket_is = kept.counted;
       calls = rw same_now (ap (λ p. r.calls ++ call (p + 1) (Changing c) (step (part_held r.holding) c).reply ∷ []) (sym t_is));
     };

@@ -25,16 +25,17 @@ use Rattle.ticket_order.specs.declared.record.Record.{Record}
 use Rattle.ticket_order.specs.Records.{reach, call, stripe_held, giving, calls_for, answered, sections_for, captured, swept_by, outbox_for}
 use Rattle.ticket_order.specs.Legality.{IsContent, history_of}
 use Rattle.ticket_order.specs.StepRules.{MayGive, Suits, Gives, AllLegalCalls, AllLegalSections}
+use Rattle.ticket_order.proofs.Longer.{sections_longer, sections_both}
 use Rattle.one_history.specs.declared.book.Book.{Book}
-use Rattle.one_history.specs.declared.book.Deeds.{Deeds}
+use Rattle.one_history.specs.declared.book.KeeperEffects.{KeeperEffects}
 use Rattle.one_history.specs.declared.slot.Slot.{Slot}
 use Rattle.one_history.specs.declared.slot.Slot.TheVariants.{Home, HeldBy}
 use Rattle.one_history.specs.Interleaving.{Words, with_holder}
 use Rattle.one_history.specs.Turns.{record_of, words_of, gave}
 use Rattle.one_history.specs.OneHistory.{IsUpTo, HasDone, HasSeen, Holds, Knows, AreOf, IsOneHistory, HoldsStripe, AreInOrder, changes_in, stripe_in}
 use Rattle.one_history.specs.Moves.{BookMoves}
-use Rattle.one_history.specs.Kept.{slot_of, holder_in, Lies, IsKept}
-use Rattle.one_history.proofs.Legal.{calls_longer, calls_both, sections_longer, sections_both, read_of_section}
+use Rattle.one_history.specs.SharedWords.{slot_of, holder_in, Lies, IsKept}
+use Rattle.one_history.proofs.Legal.{calls_longer, calls_both, read_of_section}
 use Rattle.one_history.proofs.Contents.{content_swept, content_unswept}
 use Rattle.one_history.proofs.Orders.{order_push, push_read}
 use Rattle.one_history.proofs.Knowing.{nothing_more, watches, only_keeper, done_by_none}
@@ -54,23 +55,23 @@ content_kept o n h taken d (Answer r) l m es apart own k = subst (λ ts. IsConte
 content_kept o n h taken d Sweep l m es apart own k = content_unswept o n h taken d.stripe l d.part m d.outbox es (λ e. apart (sym e)) own k
 content_kept o n h taken d Capture l m es apart own k = subst (λ ts. IsContent o n h ts l m es) (sym (append-nil taken)) k
 
--- the deeds of another pass
-done_other : (o : Opening) (n : ℕ) (k : Deeds) (v r : Record) (d : Holding) (p : Purpose) (j l : ℕ) → v.keeper ≡ (j == k.keeper) → r.keeper ≡ (l == k.keeper) → l ≢ j → Suits n v d p → HasDone o k r r.keeper → HasDone o (record k { taken = k.taken ++ swept_by p (Some d) }) r r.keeper
+-- the effects of another pass
+done_other : (o : Opening) (n : ℕ) (k : KeeperEffects) (v r : Record) (d : Holding) (p : Purpose) (j l : ℕ) → v.keeper ≡ (j == k.keeper) → r.keeper ≡ (l == k.keeper) → l ≢ j → Suits n v d p → HasDone o k r r.keeper → HasDone o (record k { taken = k.taken ++ swept_by p (Some d) }) r r.keeper
 done_other o n k v r d Nothing j l vk rk ne suits done = subst (λ es. HasDone o (record k { taken = es }) r r.keeper) (sym (append-nil k.taken)) done
 done_other o n k v r d (Answer q) j l vk rk ne suits done = subst (λ es. HasDone o (record k { taken = es }) r r.keeper) (sym (append-nil k.taken)) done
 done_other o n k v r d Sweep j l vk rk ne suits done = done_by_none o k (record k { taken = k.taken ++ d.outbox }) r (only_keeper j l k v r vk rk suits.0 ne) done
 done_other o n k v r d Capture j l vk rk ne suits done = subst (λ es. HasDone o (record k { taken = es }) r r.keeper) (sym (append-nil k.taken)) done
 
--- the deeds of this pass
-done_true : (o : Opening) (k : Deeds) (v w : Record) (es : List Entry) (x : Bool) → x ≡ true → w.taken ≡ v.taken ++ es → w.published ≡ v.published → w.failed ≡ v.failed → HasDone o k v x → HasDone o (record k { taken = k.taken ++ es }) w x
+-- the effects of this pass
+done_true : (o : Opening) (k : KeeperEffects) (v w : Record) (es : List Entry) (x : Bool) → x ≡ true → w.taken ≡ v.taken ++ es → w.published ≡ v.published → w.failed ≡ v.failed → HasDone o k v x → HasDone o (record k { taken = k.taken ++ es }) w x
 done_true o k v w es true e wt wp wf d = (wt ∙ ap (λ ts. ts ++ es) d.0, wp ∙ d.1, wf ∙ d.2)
 done_true o k v w es false e wt wp wf d = absurd (let no : false ≡ true = e in cc)
 
-done_nil : (o : Opening) (k : Deeds) (v w : Record) (x : Bool) → w.taken ≡ v.taken ++ [] → w.published ≡ v.published → w.failed ≡ v.failed → HasDone o k v x → HasDone o (record k { taken = k.taken ++ [] }) w x
+done_nil : (o : Opening) (k : KeeperEffects) (v w : Record) (x : Bool) → w.taken ≡ v.taken ++ [] → w.published ≡ v.published → w.failed ≡ v.failed → HasDone o k v x → HasDone o (record k { taken = k.taken ++ [] }) w x
 done_nil o k v w true wt wp wf d = (wt ∙ ap (λ ts. ts ++ []) d.0, wp ∙ d.1, wf ∙ d.2)
 done_nil o k v w false wt wp wf d = (wt ∙ ap (λ ts. ts ++ []) d.0, wp ∙ d.1, wf ∙ d.2)
 
-done_own : (o : Opening) (n : ℕ) (k : Deeds) (v w : Record) (d : Holding) (p : Purpose) → Suits n v d p → w.keeper ≡ v.keeper → w.taken ≡ v.taken ++ swept_by p (Some d) → w.published ≡ v.published → w.failed ≡ v.failed → HasDone o k v v.keeper → HasDone o (record k { taken = k.taken ++ swept_by p (Some d) }) w w.keeper
+done_own : (o : Opening) (n : ℕ) (k : KeeperEffects) (v w : Record) (d : Holding) (p : Purpose) → Suits n v d p → w.keeper ≡ v.keeper → w.taken ≡ v.taken ++ swept_by p (Some d) → w.published ≡ v.published → w.failed ≡ v.failed → HasDone o k v v.keeper → HasDone o (record k { taken = k.taken ++ swept_by p (Some d) }) w w.keeper
 done_own o n k v w d Nothing suits wk wt wp wf done = subst (HasDone o (record k { taken = k.taken ++ [] }) w) (sym wk) (done_nil o k v w v.keeper wt wp wf done)
 done_own o n k v w d (Answer q) suits wk wt wp wf done = subst (HasDone o (record k { taken = k.taken ++ [] }) w) (sym wk) (done_nil o k v w v.keeper wt wp wf done)
 done_own o n k v w d Sweep suits wk wt wp wf done = subst (HasDone o (record k { taken = k.taken ++ d.outbox }) w) (sym wk) (done_true o k v w d.outbox v.keeper suits.0 wt wp wf done)
@@ -133,20 +134,20 @@ module _ (n t durable : ℕ) (has_failed : Bool) (slots : List Slot) (b : Book) 
   abbrev s : StepMade
   s = made.Gave (stripe_held (record_of j b).holding)
 
-  abbrev k' : Deeds
-  k' = record b.deeds { taken = b.deeds.taken ++ swept_by p (record_of j b).holding }
+  abbrev k' : KeeperEffects
+  k' = record b.effects { taken = b.effects.taken ++ swept_by p (record_of j b).holding }
 
-  -- the deeds, said by the holding
-  abbrev k'' : Deeds
-  k'' = record b.deeds { taken = b.deeds.taken ++ swept_by p (Some may.held) }
+  -- the effects, said by the holding
+  abbrev k'' : KeeperEffects
+  k'' = record b.effects { taken = b.effects.taken ++ swept_by p (Some may.held) }
 
-  deeds_are : k'' ≡ k'
-  deeds_are = ap (λ (x : Option Holding). record b.deeds { taken = b.deeds.taken ++ swept_by p x }) (sym may.holding)
+  effects_are : k'' ≡ k'
+  effects_are = ap (λ (x : Option Holding). record b.effects { taken = b.effects.taken ++ swept_by p x }) (sym may.holding)
 
-  here : Knows b.opening b.stripes b.history b.authors b.deeds j (record_of j b)
+  here : Knows b.opening b.stripes b.history b.authors b.effects j (record_of j b)
   here = kept.one.passes j within
 
-  holds_it : Holds b.opening b.stripes b.history b.authors b.deeds (record_of j b) may.held
+  holds_it : Holds b.opening b.stripes b.history b.authors b.effects (record_of j b) may.held
   unfolding here
   holds_it = here.held may.held may.holding
 
@@ -168,7 +169,7 @@ module _ (n t durable : ℕ) (has_failed : Bool) (slots : List Slot) (b : Book) 
     seen = calls_added.up_to;
     sections = sections_longer b.stripes r w [] refl (sym (append-nil r.seen)) (r.sections ++ sections_for p r.holding) (sections_both b.stripes r r.sections (sections_for p r.holding) here.sections sections_added);
     keeper = here.keeper;
-    done = subst (λ k. HasDone b.opening k w w.keeper) deeds_are (done_own b.opening b.stripes b.deeds r w d p may.suits refl (ap (λ (x : Option Holding). r.taken ++ swept_by p x) may.holding) refl refl here.done);
+    done = subst (λ k. HasDone b.opening k w w.keeper) effects_are (done_own b.opening b.stripes b.effects r w d p may.suits refl (ap (λ (x : Option Holding). r.taken ++ swept_by p x) may.holding) refl refl here.done);
     held = λ e f. absurd (let no : None ≡ Some e = f in cc);
   }
 
@@ -183,15 +184,15 @@ module _ (n t durable : ℕ) (has_failed : Bool) (slots : List Slot) (b : Book) 
   unfolding here
   knows_other l lt ne =
       let x = kept.one.passes l lt in let u : Record = record_of l b in
-      watches b.opening b.stripes b.history b.authors b.deeds k' l u u [] x (nothing_more u u refl refl refl) x.front refl refl refl
-      (subst (λ k. HasDone b.opening k u u.keeper) deeds_are (done_other b.opening b.stripes b.deeds r u d p j l here.keeper x.keeper ne may.suits x.done))
+      watches b.opening b.stripes b.history b.authors b.effects k' l u u [] x (nothing_more u u refl refl refl) x.front refl refl refl
+      (subst (λ k. HasDone b.opening k u u.keeper) effects_are (done_other b.opening b.stripes b.effects r u d p j l here.keeper x.keeper ne may.suits x.done))
       (λ e f.
       let was = x.held e f in
       let theirs : slot_of e.stripe slots ≡ HeldBy l = kept.carried e.stripe l (record { within = lt; has = ap stripe_in f }) in
       let apart : e.stripe ≢ d.stripe = λ s. (let g : HeldBy l ≡ HeldBy j = sym theirs ∙ (ap (λ y. slot_of y slots) s ∙ slot_here) in ne (cc)) in
       record {
         within = was.within;
-        content = subst (λ k. IsContent b.opening b.stripes b.history k.taken e.stripe e.part e.outbox) deeds_are (content_kept b.opening b.stripes b.history b.deeds.taken d p e.stripe e.part e.outbox apart holds_it.content was.content);
+        content = subst (λ k. IsContent b.opening b.stripes b.history k.taken e.stripe e.part e.outbox) effects_are (content_kept b.opening b.stripes b.history b.effects.taken d p e.stripe e.part e.outbox apart holds_it.content was.content);
         looked = was.looked;
       })
 
@@ -219,16 +220,16 @@ module _ (n t durable : ℕ) (has_failed : Bool) (slots : List Slot) (b : Book) 
 
   back : IsContent b.opening b.stripes b.history k'.taken i content.part.map content.outbox.items
   back =
-      let k : IsContent b.opening b.stripes b.history k''.taken d.stripe d.part (outbox_for p d) = content_back b.opening b.stripes b.history b.deeds.taken d p holds_it.content in
-      let k1 : IsContent b.opening b.stripes b.history k'.taken d.stripe d.part (outbox_for p d) = subst (λ x. IsContent b.opening b.stripes b.history x.taken d.stripe d.part (outbox_for p d)) deeds_are k in
+      let k : IsContent b.opening b.stripes b.history k''.taken d.stripe d.part (outbox_for p d) = content_back b.opening b.stripes b.history b.effects.taken d p holds_it.content in
+      let k1 : IsContent b.opening b.stripes b.history k'.taken d.stripe d.part (outbox_for p d) = subst (λ x. IsContent b.opening b.stripes b.history x.taken d.stripe d.part (outbox_for p d)) effects_are k in
       let k2 : IsContent b.opening b.stripes b.history k'.taken i d.part (outbox_for p d) = subst (λ u. IsContent b.opening b.stripes b.history k'.taken u d.part (outbox_for p d)) may.stripe_is k1 in
       let k3 : IsContent b.opening b.stripes b.history k'.taken i content.part.map (outbox_for p d) = subst (λ m. IsContent b.opening b.stripes b.history k'.taken i m (outbox_for p d)) (sym may.part_is) k2 in
       subst (λ es. IsContent b.opening b.stripes b.history k'.taken i content.part.map es) (sym may.outbox_is) k3
 
   lies : (l : ℕ) (x : Slot) → l ≢ i → slot_of l slots ≡ x → Lies b l x → Lies (gave j p b) l x
   lies l (Home c) apart is k =
-      subst (λ y. IsContent b.opening b.stripes b.history y.taken l c.part.map c.outbox.items) deeds_are
-      (content_kept b.opening b.stripes b.history b.deeds.taken d p l c.part.map c.outbox.items (λ e. apart (e ∙ may.stripe_is)) holds_it.content k)
+      subst (λ y. IsContent b.opening b.stripes b.history y.taken l c.part.map c.outbox.items) effects_are
+      (content_kept b.opening b.stripes b.history b.effects.taken d p l c.part.map c.outbox.items (λ e. apart (e ∙ may.stripe_is)) holds_it.content k)
   lies l (HeldBy u) apart is k =
       let other : u ≢ j = λ e. (let has : stripe_in r.holding ≡ Some l = subst (λ y. stripe_in (record_of y b).holding ≡ Some l) e k.has in let own : Some d.stripe ≡ Some l = sym (ap stripe_in may.holding) ∙ has in let same : l ≡ d.stripe = (cc) in apart (same ∙ may.stripe_is)) in
       other_holds b l j u s w b.history b.authors k' other k
@@ -285,5 +286,5 @@ module _ (n t durable : ℕ) (has_failed : Bool) (slots : List Slot) (b : Book) 
     stripes = refl;
     passes = length-set b.passes j w;
     others = λ l ne. other_records b j l s w b.history b.authors k' ne;
-    words = (record { history = refl; authors = refl }, record { entries = swept_by p r.holding; deeds = refl; taken = ap (λ (y : Record). y.taken) same_now });
+    words = (record { history = refl; authors = refl }, record { entries = swept_by p r.holding; effects = refl; taken = ap (λ (y : Record). y.taken) same_now });
   }

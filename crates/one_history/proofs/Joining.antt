@@ -15,7 +15,7 @@ use Rattle.one_history.specs.declared.slot.Slot.{Slot}
 use Rattle.one_history.specs.declared.slot.Slot.TheVariants.{Home, HeldBy}
 use Rattle.one_history.specs.Turns.{record_of, joined}
 use Rattle.one_history.specs.OneHistory.{Knows, IsOneHistory, HoldsStripe, changes_by, changes_in, stripe_in}
-use Rattle.one_history.specs.Kept.{slot_of, Lies, draws_left, HasRoom, IsKept}
+use Rattle.one_history.specs.SharedWords.{slot_of, Lies, draws_left, HasRoom, IsKept}
 use Rattle.one_history.proofs.Interleavings.{none_more}
 
 -- a pass that comes after all authors made no change of the history
@@ -41,7 +41,7 @@ module _ (n t durable : ℕ) (has_failed : Bool) (slots : List Slot) (b : Book) 
   pub joined_last : record_of (length b.passes) (joined b) ≡ w
   joined_last = get_or-append_seam b.passes w [] (newcomer b.opening)
 
-  knows_last : Knows b.opening b.stripes b.history b.authors b.deeds (length b.passes) w
+  knows_last : Knows b.opening b.stripes b.history b.authors b.effects (length b.passes) w
   unfolding changes_in
   knows_last = record {
     opening = refl;
@@ -51,7 +51,7 @@ module _ (n t durable : ℕ) (has_failed : Bool) (slots : List Slot) (b : Book) 
     order = tt;
     seen = All-nil _;
     sections = tt;
-    keeper = (let lt : b.deeds.keeper < length b.passes = kept.one.keeper in sym (ne_eqb (length b.passes) b.deeds.keeper (λ e. omega arith)));
+    keeper = (let lt : b.effects.keeper < length b.passes = kept.one.keeper in sym (ne_eqb (length b.passes) b.effects.keeper (λ e. omega arith)));
     done = (refl, refl, refl);
     held = λ d e. absurd (let no : None ≡ Some d = e in cc);
   }
@@ -60,14 +60,14 @@ module _ (n t durable : ℕ) (has_failed : Bool) (slots : List Slot) (b : Book) 
   one_joined = record {
     authors = kept.one.authors;
     by_passes = All-weaker (λ j. j < length b.passes) (λ j. j < length (joined b).passes) (λ j lt. omega (arith, joined_count)) b.authors kept.one.by_passes;
-    keeper = (let lt : b.deeds.keeper < length b.passes = kept.one.keeper in omega (arith, joined_count));
+    keeper = (let lt : b.effects.keeper < length b.passes = kept.one.keeper in omega (arith, joined_count));
     begun = kept.one.begun;
     reached = kept.one.reached;
     passes = λ j lt. elim (cases_lt j (length b.passes)) [
-      | inl l ↦ subst (Knows b.opening b.stripes b.history b.authors b.deeds j) (sym (joined_before j l)) (kept.one.passes j l)
+      | inl l ↦ subst (Knows b.opening b.stripes b.history b.authors b.effects j) (sym (joined_before j l)) (kept.one.passes j l)
       | inr l ↦
           let e : length b.passes ≡ j = omega (arith, joined_count) in
-          subst (λ i. Knows b.opening b.stripes b.history b.authors b.deeds i (record_of i (joined b))) e (subst (Knows b.opening b.stripes b.history b.authors b.deeds (length b.passes)) (sym joined_last) knows_last)
+          subst (λ i. Knows b.opening b.stripes b.history b.authors b.effects i (record_of i (joined b))) e (subst (Knows b.opening b.stripes b.history b.authors b.effects (length b.passes)) (sym joined_last) knows_last)
     ];
     steps = λ j. none_more b.passes w (newcomer b.opening) j refl ∙ kept.one.steps j;
     found = kept.one.found;

@@ -14,9 +14,10 @@ use Rattle.ticket_order.specs.declared.record.Record.{Record}
 use Rattle.ticket_order.specs.Records.{reach}
 use Rattle.ticket_order.specs.Legality.{history_from, IsContent}
 use Rattle.ticket_order.specs.StepRules.{AllLegalCalls, AllLegalSections}
-use Rattle.one_history.specs.declared.book.Deeds.{Deeds}
+use Rattle.ticket_order.proofs.Longer.{section_longer, sections_longer}
+use Rattle.one_history.specs.declared.book.KeeperEffects.{KeeperEffects}
 use Rattle.one_history.specs.OneHistory.{IsFront, changes_in, IsUpTo, AreInOrder, HasDone, HasSeen, Holds, Knows}
-use Rattle.one_history.proofs.Legal.{section_longer, calls_longer, sections_longer}
+use Rattle.one_history.proofs.Legal.{calls_longer}
 
 -- the record w has seen more than v, and made no other call
 pub record SeesMore (v w : Record) (more : List Command) : Type 0 where
@@ -40,7 +41,7 @@ seen_longer n v w more d q s k = record {
   calls = subst (All (IsUpTo q)) (sym s.calls) k.calls;
 }
 
-module _ (o : Opening) (n : ℕ) (h : List Command) (authors : List ℕ) (k : Deeds) where
+module _ (o : Opening) (n : ℕ) (h : List Command) (authors : List ℕ) (k : KeeperEffects) where
   -- what is held stays as it was
   pub holds_longer : (v w : Record) (more : List Command) (d : Holding) → SeesMore v w more → Holds o n h authors k v d → Holds o n h authors k w d
   holds_longer v w more d s x = record { within = x.within; content = x.content; looked = λ q e. seen_longer n v w more d q s (x.looked q e) }
@@ -60,8 +61,8 @@ module _ (o : Opening) (n : ℕ) (h : List Command) (authors : List ℕ) (k : De
         };
   }
 
-  -- a record that has seen more of the history, with the deeds as they are now
-  pub watches : (k' : Deeds) (j : ℕ) (v w : Record) (more : List Command) → Knows o n h authors k j v → SeesMore v w more → IsFront w.seen h → w.sections ≡ v.sections → w.keeper ≡ v.keeper → k'.keeper ≡ k.keeper
+  -- a record that has seen more of the history, with the effects as they are now
+  pub watches : (k' : KeeperEffects) (j : ℕ) (v w : Record) (more : List Command) → Knows o n h authors k j v → SeesMore v w more → IsFront w.seen h → w.sections ≡ v.sections → w.keeper ≡ v.keeper → k'.keeper ≡ k.keeper
       → HasDone o k' w w.keeper → ((d : Holding) → w.holding ≡ Some d → Holds o n h authors k' w d) → Knows o n h authors k' j w
   watches k' j v w more x s front sections keeper same done held = record {
     opening = s.opening ∙ x.opening;
@@ -76,22 +77,22 @@ module _ (o : Opening) (n : ℕ) (h : List Command) (authors : List ℕ) (k : De
     held = held;
   }
 
--- the record's deeds are as before
-pub done_same : (o : Opening) (k : Deeds) (v w : Record) → w.keeper ≡ v.keeper → w.taken ≡ v.taken → w.published ≡ v.published → w.failed ≡ v.failed → HasDone o k v v.keeper → HasDone o k w w.keeper
+-- the record's effects are as before
+pub done_same : (o : Opening) (k : KeeperEffects) (v w : Record) → w.keeper ≡ v.keeper → w.taken ≡ v.taken → w.published ≡ v.published → w.failed ≡ v.failed → HasDone o k v v.keeper → HasDone o k w w.keeper
 done_same o k v w wk wt wp wf d =
     let by : (x : Bool) → HasDone o k v x → HasDone o k w x = elim [ true ↦ λ e. (wt ∙ e.0, wp ∙ e.1, wf ∙ e.2) | false ↦ λ e. (wt ∙ e.0, wp ∙ e.1, wf ∙ e.2) ] in
     subst (HasDone o k w) (sym wk) (by v.keeper d)
 
 -- what was not done by the keeper's pass stays so
-pub done_by_none : (o : Opening) (k k' : Deeds) (v : Record) → v.keeper ≡ false → HasDone o k v v.keeper → HasDone o k' v v.keeper
+pub done_by_none : (o : Opening) (k k' : KeeperEffects) (v : Record) → v.keeper ≡ false → HasDone o k v v.keeper → HasDone o k' v v.keeper
 done_by_none o k k' v not d = subst (HasDone o k' v) (sym not) (subst (HasDone o k v) not d)
 
 -- only one pass is the keeper's
-pub only_keeper : (j l : ℕ) (k : Deeds) (v w : Record) → v.keeper ≡ (j == k.keeper) → w.keeper ≡ (l == k.keeper) → v.keeper ≡ true → l ≢ j → w.keeper ≡ false
+pub only_keeper : (j l : ℕ) (k : KeeperEffects) (v w : Record) → v.keeper ≡ (j == k.keeper) → w.keeper ≡ (l == k.keeper) → v.keeper ≡ true → l ≢ j → w.keeper ≡ false
 only_keeper j l k v w vk wk is apart = wk ∙ ne_eqb l k.keeper (λ e. apart (e ∙ sym (eqb-true j k.keeper (sym vk ∙ is))))
 
 -- the record of another pass than the keeper's, when the keeper published or failed
-pub stands_by : (o : Opening) (n : ℕ) (h : List Command) (authors : List ℕ) (k k' : Deeds) (l : ℕ) (v : Record) → Knows o n h authors k l v → k'.keeper ≡ k.keeper → k'.taken ≡ k.taken → v.keeper ≡ false → Knows o n h authors k' l v
+pub stands_by : (o : Opening) (n : ℕ) (h : List Command) (authors : List ℕ) (k k' : KeeperEffects) (l : ℕ) (v : Record) → Knows o n h authors k l v → k'.keeper ≡ k.keeper → k'.taken ≡ k.taken → v.keeper ≡ false → Knows o n h authors k' l v
 stands_by o n h authors k k' l v x same taken not =
     watches o n h authors k k' l v v [] x (nothing_more v v refl refl refl) x.front refl refl same
     (done_by_none o k k' v not x.done)

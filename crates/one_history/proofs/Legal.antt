@@ -1,13 +1,12 @@
 -- What is legal in a history is legal in each longer one.
 use Rattle.std.proofs.Common.{ℕ, ◌≡◌, ◌+◌, ◌-◌, ◌<◌, ◌≤◌, ◌++◌, List, [], ◌∷◌, length, Some, None, slice_get, suc, zero, true, arith, sym, ◌∙◌, ap, length-append}
-use Rattle.std.proofs.lemmas.List.{take-append-le}
 use Rattle.std.proofs.lemmas.Option.{slice_get_within}
 use Rattle.map_types.specs.declared.commands.Command.{Command}
 use Rattle.map_types.specs.declared.commands.Read.{Read}
 use Rattle.map_types.specs.declared.commands.Reply.{Reply}
 use Rattle.map_model.specs.Maps.{Map}
-use Rattle.map_model.specs.Parts.{part_of, is_in_stripe}
-use Rattle.map_model.specs.Steps.{step, answer, map_after}
+use Rattle.map_model.specs.Parts.{is_in_stripe}
+use Rattle.map_model.specs.Steps.{step, answer}
 use Rattle.map_model.specs.Histories.{History, fold_to, IsLegalRead}
 use Rattle.map_model.proofs.MapLaws.{answer-part_of}
 use Rattle.ticket_order.specs.declared.record.Opening.{Opening}
@@ -17,10 +16,8 @@ use Rattle.ticket_order.specs.declared.record.Call.{Call}
 use Rattle.ticket_order.specs.declared.record.Section.{Section}
 use Rattle.ticket_order.specs.declared.record.Record.{Record}
 use Rattle.ticket_order.specs.Legality.{history_from, IsLegal, IsLegalSection}
-use Rattle.ticket_order.specs.StepRules.{AllLegalCalls, AllLegalSections}
-
-fold_longer : (o : Opening) (h more : List Command) (q : ℕ) → q ≤ o.first + length h → fold_to (history_from o (h ++ more)) q ≡ fold_to (history_from o h) q
-fold_longer o h more q l = ap (map_after o.map) (take-append-le (q - o.first) h more (omega arith))
+use Rattle.ticket_order.specs.StepRules.{AllLegalCalls}
+use Rattle.ticket_order.proofs.Longer.{fold_longer}
 
 get_longer : (h more : List Command) (i : ℕ) (c : Command) → slice_get h i ≡ Some c → slice_get (h ++ more) i ≡ Some c
 get_longer [] more i c e = let no : None ≡ Some c = e in cc
@@ -43,13 +40,6 @@ legal_longer o h more position (Reading r) reply l = record {
   reply_is = l.reply_is ∙ ap (λ (m : Map). answer m r) (sym (fold_longer o h more position l.within));
 }
 
-pub section_longer : (o : Opening) (n : ℕ) (h more : List Command) (x : Section) → IsLegalSection n (history_from o h) x → IsLegalSection n (history_from o (h ++ more)) x
-section_longer o n h more x l = record {
-  from_first = l.from_first;
-  within = omega (arith, l.within, length-append h more);
-  part_is = ap (part_of n x.stripe) (fold_longer o h more x.mark l.within) ∙ l.part_is;
-}
-
 -- all calls stay legal when the record sees more
 pub calls_longer : (v w : Record) (more : List Command) → w.opening ≡ v.opening → w.seen ≡ v.seen ++ more → (xs : List Call) → AllLegalCalls v xs → AllLegalCalls w xs
 calls_longer v w more o s [] l = tt
@@ -58,14 +48,6 @@ calls_longer v w more o s (x ∷ xs) l = (rw (o, s) (legal_longer v.opening v.se
 pub calls_both : (v : Record) (xs ys : List Call) → AllLegalCalls v xs → AllLegalCalls v ys → AllLegalCalls v (xs ++ ys)
 calls_both v [] ys l k = k
 calls_both v (x ∷ xs) ys l k = (l.0, calls_both v xs ys l.1 k)
-
-pub sections_longer : (n : ℕ) (v w : Record) (more : List Command) → w.opening ≡ v.opening → w.seen ≡ v.seen ++ more → (xs : List Section) → AllLegalSections n v xs → AllLegalSections n w xs
-sections_longer n v w more o s [] l = tt
-sections_longer n v w more o s (x ∷ xs) l = (rw (o, s) (section_longer v.opening n v.seen more x l.0), sections_longer n v w more o s xs l.1)
-
-pub sections_both : (n : ℕ) (v : Record) (xs ys : List Section) → AllLegalSections n v xs → AllLegalSections n v ys → AllLegalSections n v (xs ++ ys)
-sections_both n v [] ys l k = k
-sections_both n v (x ∷ xs) ys l k = (l.0, sections_both n v xs ys l.1 k)
 
 -- a read of a key of the stripe is legal where the part was looked at
 pub read_of_section : (n : ℕ) (h : History) (x : Section) (r : Read) → is_in_stripe n x.stripe r.key ≡ true → IsLegalSection n h x → IsLegalRead h x.mark r (answer x.part r)

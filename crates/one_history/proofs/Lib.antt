@@ -10,5 +10,6 @@ pub mod Taking
 pub mod Drawing
 pub mod Giving
 pub mod Starts
+pub mod GivenParts
 pub mod Joining
 pub mod Staying

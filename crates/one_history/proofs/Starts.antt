@@ -20,13 +20,13 @@ use Rattle.ticket_order.specs.declared.record.Opening.{Opening}
 use Rattle.ticket_order.specs.declared.record.Record.{Record}
 use Rattle.ticket_order.specs.Records.{newcomer, keeper_at_start, enrolling}
 use Rattle.one_history.specs.declared.book.Book.{Book}
-use Rattle.one_history.specs.declared.book.Deeds.{Deeds}
+use Rattle.one_history.specs.declared.book.KeeperEffects.{KeeperEffects}
 use Rattle.one_history.specs.declared.slot.Slot.{Slot}
 use Rattle.one_history.specs.declared.slot.Slot.TheVariants.{Home, HeldBy}
 use Rattle.one_history.specs.Interleaving.{words_after, AreFound, steps_by}
 use Rattle.one_history.specs.Turns.{record_of, words_of, maps_of, opening_of, started, at_start}
 use Rattle.one_history.specs.OneHistory.{Knows, IsOneHistory, HoldsStripe, AreParts, changes_by, changes_in, stripe_in}
-use Rattle.one_history.specs.Kept.{slot_of, holder_in, Lies, draws_left, IsKept, IsPlaced, ArePlaced, AreEmpty, no_part}
+use Rattle.one_history.specs.SharedWords.{slot_of, holder_in, Lies, draws_left, IsKept, IsPlaced, ArePlaced, AreEmpty, no_part}
 use Rattle.one_history.proofs.Fronts.{front_refl}
 use Rattle.one_history.proofs.Interleavings.{none_made}
 
@@ -54,7 +54,7 @@ placed_push parts slots p x k here = record {
 abbrev worker : Opening → ℕ → Record
 worker o n = enrolling (newcomer o) n
 
-abbrev keeper : Opening → ℕ → Record
+abbrev pub keeper : Opening → ℕ → Record
 keeper o n = enrolling (keeper_at_start o) n
 
 worker_at : (o : Opening) (stripes n j : ℕ) → j < n → record_of j (started o stripes n) ≡ worker o (n + 1)
@@ -62,7 +62,7 @@ worker_at o stripes n j lt =
     get_or_append_left (replicate n (worker o (n + 1))) (keeper o (n + 1) ∷ []) (newcomer o) j (omega (arith, length-replicate n (worker o (n + 1))))
     ∙ get_or-replicate n j (worker o (n + 1)) (newcomer o) lt
 
-keeper_at : (o : Opening) (stripes n : ℕ) → record_of n (started o stripes n) ≡ keeper o (n + 1)
+pub keeper_at : (o : Opening) (stripes n : ℕ) → record_of n (started o stripes n) ≡ keeper o (n + 1)
 keeper_at o stripes n =
     let zero_left : n - n ≡ 0 = omega arith in
     get_or-append_right (replicate n (worker o (n + 1))) (keeper o (n + 1) ∷ []) n n (newcomer o) (length-replicate n (worker o (n + 1))) (omega arith)
@@ -71,7 +71,7 @@ keeper_at o stripes n =
 pub count_at_start : (o : Opening) (stripes n : ℕ) → length (started o stripes n).passes ≡ n + 1
 count_at_start o stripes n = omega (arith, length-append (replicate n (worker o (n + 1))) (keeper o (n + 1) ∷ []), length-replicate n (worker o (n + 1)))
 
-knows_worker : (o : Opening) (stripes n j : ℕ) (k : Deeds) → j ≢ k.keeper → Knows o stripes [] [] k j (worker o (n + 1))
+knows_worker : (o : Opening) (stripes n j : ℕ) (k : KeeperEffects) → j ≢ k.keeper → Knows o stripes [] [] k j (worker o (n + 1))
 unfolding changes_by changes_in
 knows_worker o stripes n j k ne = record {
   opening = refl;

@@ -71,7 +71,7 @@ module _ (b : Book) where
   holders_moved j Failed w had there = λ k l is. had k l is
   holders_moved j (FoundAlive is_alive) w had there = λ k l is. had k l is
 
-  stays : (j : ℕ) (s : StepMade) (w : Words) → w.durable ≤ b.deeds.durable → (w.failed ≡ true → b.deeds.failed ≡ true) → HaveTaken w → Finds j s w → StaysSo b j s
+  stays : (j : ℕ) (s : StepMade) (w : Words) → w.durable ≤ b.effects.durable → (w.failed ≡ true → b.effects.failed ≡ true) → HaveTaken w → Finds j s w → StaysSo b j s
   stays j (Took i outbox) w low failed had f = tt
   stays j (FoundHeld i) w low failed had f = let x = had i f.other f.is in record { taker = f.other; outbox = x.0; apart = f.apart; took = x.1 }
   stays j (Gave i) w low failed had f = tt
@@ -82,7 +82,7 @@ module _ (b : Book) where
   stays j Failed w low failed had f = tt
   stays j (FoundAlive is_alive) w low failed had f = λ no. failed (not-false w.failed (sym f ∙ no))
 
-  all_stay : (j : ℕ) (w : Words) (xs : List PassStep) → AreFound w xs → (words_after w xs).durable ≡ b.deeds.durable → (words_after w xs).failed ≡ b.deeds.failed → HaveTaken w → All (Contains b.interleaving) xs → All (StaysSo b j) (steps_by j xs)
+  all_stay : (j : ℕ) (w : Words) (xs : List PassStep) → AreFound w xs → (words_after w xs).durable ≡ b.effects.durable → (words_after w xs).failed ≡ b.effects.failed → HaveTaken w → All (Contains b.interleaving) xs → All (StaysSo b j) (steps_by j xs)
   unfolding words_after AreFound steps_by
   all_stay j w [] found durable failed had there = All-nil (StaysSo b j)
   all_stay j w (s ∷ xs) found durable failed had there =

@@ -23,7 +23,7 @@ use Rattle.one_history.specs.Interleaving.{Words, with_holder}
 use Rattle.one_history.specs.Turns.{record_of, words_of, unseen_to, took}
 use Rattle.one_history.specs.OneHistory.{HasDone, Holds, Knows, AreOf, IsOneHistory, HoldsStripe, stripe_in}
 use Rattle.one_history.specs.Moves.{BookMoves, IsFree}
-use Rattle.one_history.specs.Kept.{slot_of, holder_in, Lies, IsKept}
+use Rattle.one_history.specs.SharedWords.{slot_of, holder_in, Lies, IsKept}
 use Rattle.one_history.proofs.Fronts.{SeesTo, sees_to}
 use Rattle.one_history.proofs.Contents.{past_within}
 use Rattle.one_history.proofs.Knowing.{SeesMore, watches, done_same}
@@ -42,15 +42,15 @@ module _ (n t durable : ℕ) (has_failed : Bool) (slots : List Slot) (b : Book) 
   abbrev w : Record
   w = taking (record_of j b) i m es between
 
-  here : Knows b.opening b.stripes b.history b.authors b.deeds j (record_of j b)
+  here : Knows b.opening b.stripes b.history b.authors b.effects j (record_of j b)
   here = kept.one.passes j within
 
-  at_home : IsContent b.opening b.stripes b.history b.deeds.taken i m es
+  at_home : IsContent b.opening b.stripes b.history b.effects.taken i m es
   at_home = subst (λ x. Lies b i x) home (kept.each_slot i lt)
 
   sees_outbox : SeesTo (record_of j b).opening.first (past es) (record_of j b).seen between b.history
   unfolding here
-  sees_outbox = sees_to (record_of j b).opening.first (past es) (record_of j b).seen b.history here.front (omega (arith, ap (λ (o : Opening). o.first) here.opening, past_within b.opening b.stripes b.history b.deeds.taken i m es at_home))
+  sees_outbox = sees_to (record_of j b).opening.first (past es) (record_of j b).seen b.history here.front (omega (arith, ap (λ (o : Opening). o.first) here.opening, past_within b.opening b.stripes b.history b.effects.taken i m es at_home))
 
   abbrev s : StepMade
   s = made.Took i content.outbox.items
@@ -73,12 +73,12 @@ module _ (n t durable : ℕ) (has_failed : Bool) (slots : List Slot) (b : Book) 
   one_took =
       let r : Record = record_of j b in let sees : SeesMore r w between = record { opening = refl; seen = refl; calls = refl } in
       let words : AreOf b (words_of b) = kept.one.words in
-      one_turned b j s w b.history b.authors b.deeds kept.one within kept.one.authors kept.one.by_passes refl kept.one.begun kept.one.reached
-      (watches b.opening b.stripes b.history b.authors b.deeds b.deeds j r w between here sees sees_outbox.front refl refl refl (done_same b.opening b.deeds r w refl refl refl refl here.done)
+      one_turned b j s w b.history b.authors b.effects kept.one within kept.one.authors kept.one.by_passes refl kept.one.begun kept.one.reached
+      (watches b.opening b.stripes b.history b.authors b.effects b.effects j r w between here sees sees_outbox.front refl refl refl (done_same b.opening b.effects r w refl refl refl refl here.done)
       (λ d e.
       let new : Holding = record { stripe = i; part = m; outbox = es; has_drawn = false; looked = None } in
       let is : new ≡ d = (let f : Some new ≡ Some d = e in cc) in
-      subst (Holds b.opening b.stripes b.history b.authors b.deeds w) is (record { within = lt; content = at_home; looked = λ q f. absurd (let no : None ≡ Some q = f in cc) })))
+      subst (Holds b.opening b.stripes b.history b.authors b.effects w) is (record { within = lt; content = at_home; looked = λ q f. absurd (let no : None ≡ Some q = f in cc) })))
       (λ l ll ne. kept.one.passes l ll)
       (record { recorded = refl; finds = kept.holders i lt ∙ ap holder_in home; words = record { tickets = words.tickets; durable = words.durable; failed = words.failed } })
 
@@ -88,10 +88,10 @@ module _ (n t durable : ℕ) (has_failed : Bool) (slots : List Slot) (b : Book) 
 
   lies : (l : ℕ) (x : Slot) → Lies b l x → Lies (took j i content b) l x
   lies l (Home c) k = record { part_is = k.part_is; outbox_is = k.outbox_is }
-  lies l (HeldBy u) k = other_holds b l j u s w b.history b.authors b.deeds (apart u l k) k
+  lies l (HeldBy u) k = other_holds b l j u s w b.history b.authors b.effects (apart u l k) k
 
   holds_now : HoldsStripe (took j i content b) j i
-  holds_now = record { within = omega (arith, length-set b.passes j w); has = ap (λ (r : Record). stripe_in r.holding) (same_record b j s w b.history b.authors b.deeds within) }
+  holds_now = record { within = omega (arith, length-set b.passes j w); has = ap (λ (r : Record). stripe_in r.holding) (same_record b j s w b.history b.authors b.effects within) }
 
   carried_now : (k l : ℕ) → HoldsStripe (took j i content b) l k → slot_of k (set slots i (HeldBy j)) ≡ HeldBy l
   carried_now k l x = elim (cases_eq l j) [
@@ -101,14 +101,14 @@ module _ (n t durable : ℕ) (has_failed : Bool) (slots : List Slot) (b : Book) 
         let is : k ≡ i = (cc) in
         rw (is, e) set_here
     | inr ne ↦
-        let was : slot_of k slots ≡ HeldBy l = kept.carried k l (other_held b k j l s w b.history b.authors b.deeds ne x) in
+        let was : slot_of k slots ≡ HeldBy l = kept.carried k l (other_held b k j l s w b.history b.authors b.effects ne x) in
         let other : k ≢ i = λ e. (let f : Home content ≡ HeldBy l = sym home ∙ subst (λ u. slot_of u slots ≡ HeldBy l) e was in cc) in
         set_there k other ∙ was
   ]
 
   holders_now : (k : ℕ) → k < b.stripes → (words_of (took j i content b)).holders k ≡ holder_in (slot_of k (set slots i (HeldBy j)))
   holders_now k ll =
-      let after : (words_of (took j i content b)).holders k ≡ with_holder i (Some j) (words_of b).holders k = ap (λ (x : Words). x.holders k) (words_turned b j s w b.history b.authors b.deeds) in
+      let after : (words_of (took j i content b)).holders k ≡ with_holder i (Some j) (words_of b).holders k = ap (λ (x : Words). x.holders k) (words_turned b j s w b.history b.authors b.effects) in
       elim (cases_eq k i) [
         | inl e ↦ after ∙ (ap (λ t. if t then Some j else (words_of b).holders k) (eq-eqb k i e) ∙ sym (ap holder_in (ap (λ u. slot_of u (set slots i (HeldBy j))) e ∙ set_here)))
         | inr ne ↦ after ∙ (ap (λ t. if t then Some j else (words_of b).holders k) (ne_eqb k i ne) ∙ (kept.holders k ll ∙ sym (ap holder_in (set_there k ne))))
@@ -122,7 +122,7 @@ module _ (n t durable : ℕ) (has_failed : Bool) (slots : List Slot) (b : Book) 
     durable_is = kept.durable_is;
     failed_is = kept.failed_is;
     few = (let was : length b.passes ≤ 65536 = kept.few in omega (arith, length-set b.passes j w));
-    room = room_turned b j s w b.deeds within (omega arith) kept.room;
+    room = room_turned b j s w b.effects within (omega arith) kept.room;
     one = one_took;
     each_slot = λ l ll. elim (cases_eq l i) [
       | inl e ↦ subst (λ u. Lies (took j i content b) u (slot_of u (set slots i (HeldBy j)))) (sym e) (subst (λ x. Lies (took j i content b) i x) (sym set_here) holds_now)
@@ -132,7 +132,7 @@ module _ (n t durable : ℕ) (has_failed : Bool) (slots : List Slot) (b : Book) 
     holders = holders_now;
   }
 
-  keeper_done : (x : Bool) → HasDone b.opening b.deeds (record_of j b) x → x ≡ true → (record_of j b).taken ≡ b.deeds.taken
+  keeper_done : (x : Bool) → HasDone b.opening b.effects (record_of j b) x → x ≡ true → (record_of j b).taken ≡ b.effects.taken
   keeper_done true d e = d.0
   keeper_done false d e = absurd (let no : false ≡ true = e in cc)
 
@@ -149,13 +149,13 @@ module _ (n t durable : ℕ) (has_failed : Bool) (slots : List Slot) (b : Book) 
       }
 
   pub takes_stripe : TakesStripe b.stripes (record_of j b) i content (record_of j (took j i content b))
-  takes_stripe = rw (same_record b j s w b.history b.authors b.deeds within) (record { between = between; is = refl; rises = sees_outbox.rises; collects = collects })
+  takes_stripe = rw (same_record b j s w b.history b.authors b.effects within) (record { between = between; is = refl; rises = sees_outbox.rises; collects = collects })
 
   pub moves_took : BookMoves j (made.Took i es) b (took j i content b)
   moves_took = record {
     opening = refl;
     stripes = refl;
     passes = length-set b.passes j w;
-    others = λ l ne. other_records b j l s w b.history b.authors b.deeds ne;
-    words = (record { same = record { history = refl; authors = refl }; deeds = refl }, free_before);
+    others = λ l ne. other_records b j l s w b.history b.authors b.effects ne;
+    words = (record { same = record { history = refl; authors = refl }; effects = refl }, free_before);
   }

@@ -1,5 +1,5 @@
 pub mod Interleaving
 pub mod Turns
 pub mod OneHistory
-pub mod Kept
+pub mod SharedWords
 pub mod Moves

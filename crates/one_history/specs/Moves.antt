@@ -28,7 +28,7 @@ pub record SameHistory (b b' : Book) : Type 0 where
 -- no word changes but a stripe's
 pub record SameWords (b b' : Book) : Type 0 where
   pub same : SameHistory b b'
-  pub deeds : b'.deeds ≡ b.deeds
+  pub effects : b'.effects ≡ b.effects
 
 -- the history gains at its end the change of this call, which is the pass's next
 pub record GainsOne (j t : ℕ) (b b' : Book) : Type 0 where
@@ -36,14 +36,14 @@ pub record GainsOne (j t : ℕ) (b b' : Book) : Type 0 where
   pub reply : Reply
   pub history : b'.history ≡ b.history ++ command ∷ []
   pub authors : b'.authors ≡ b.authors ++ j ∷ []
-  pub deeds : b'.deeds ≡ b.deeds
+  pub effects : b'.effects ≡ b.effects
   pub ticket_is : t ≡ b.opening.first + length b.history
   pub calls : (record_of j b').calls ≡ (record_of j b).calls ++ call (t + 1) (Changing command) reply ∷ []
 
 -- the entries that this GIVE kept for a sweep are those that the pass's record gained
 pub record GainsTaken (j : ℕ) (b b' : Book) : Type 0 where
   pub entries : List Entry
-  pub deeds : b'.deeds ≡ record b.deeds { taken = b.deeds.taken ++ entries }
+  pub effects : b'.effects ≡ record b.effects { taken = b.effects.taken ++ entries }
   pub taken : (record_of j b').taken ≡ (record_of j b).taken ++ entries
 
 abbrev pub WordsMove : ℕ → StepMade → Book → Book → Type 0
@@ -52,10 +52,10 @@ WordsMove j (FoundHeld i) b b' = SameWords b b' × IsHeldByAnother j i b
 WordsMove j (Gave i) b b' = SameHistory b b' × GainsTaken j b b'
 WordsMove j (Drew t) b b' = GainsOne j t b b'
 WordsMove j (Looked q) b b' = SameWords b b' × (q ≡ b.opening.first + length b.history)
-WordsMove j (Published x) b b' = SameHistory b b' × (b'.deeds ≡ record b.deeds { durable = max b.deeds.durable x })
-WordsMove j (Saw d) b b' = SameWords b b' × (d ≡ b.deeds.durable)
-WordsMove j Failed b b' = SameHistory b b' × (b'.deeds ≡ record b.deeds { failed = true })
-WordsMove j (FoundAlive is_alive) b b' = SameWords b b' × (is_alive ≡ not b.deeds.failed)
+WordsMove j (Published x) b b' = SameHistory b b' × (b'.effects ≡ record b.effects { durable = max b.effects.durable x })
+WordsMove j (Saw d) b b' = SameWords b b' × (d ≡ b.effects.durable)
+WordsMove j Failed b b' = SameHistory b b' × (b'.effects ≡ record b.effects { failed = true })
+WordsMove j (FoundAlive is_alive) b b' = SameWords b b' × (is_alive ≡ not b.effects.failed)
 
 -- one step of the pass j
 pub record BookMoves (j : ℕ) (made : StepMade) (b b' : Book) : Type 0 where

@@ -17,7 +17,7 @@ use Rattle.ticket_order.specs.Records.{reach}
 use Rattle.ticket_order.specs.Legality.{history_of, IsLegalSection, IsContent}
 use Rattle.ticket_order.specs.StepRules.{AllLegalCalls, AllLegalSections}
 use Rattle.one_history.specs.declared.book.Book.{Book}
-use Rattle.one_history.specs.declared.book.Deeds.{Deeds}
+use Rattle.one_history.specs.declared.book.KeeperEffects.{KeeperEffects}
 use Rattle.one_history.specs.Interleaving.{Words, words_at, AreFound, steps_by}
 use Rattle.one_history.specs.Turns.{record_of, pass_step, words_of, maps_of}
 
@@ -58,7 +58,7 @@ AreInOrder [] = Unit {0}
 AreInOrder (x ∷ xs) = All (StandsAfter x.position) xs × AreInOrder xs
 
 -- the keeper's record says what the keeper did; no other pass sweeps, publishes or fails
-abbrev pub HasDone : Opening → Deeds → Record → Bool → Type 0
+abbrev pub HasDone : Opening → KeeperEffects → Record → Bool → Type 0
 HasDone o k v true = (v.taken ≡ k.taken) × (v.published ≡ k.durable) × (v.failed ≡ k.failed)
 HasDone o k v false = (v.taken ≡ []) × (v.published ≡ o.first) × (v.failed ≡ false)
 
@@ -67,7 +67,7 @@ pub record HasSeen (n : ℕ) (v : Record) (d : Holding) (q : ℕ) : Type 0 where
   pub section : IsLegalSection n (history_of v) (record { stripe = d.stripe; mark = q; part = d.part })
   pub calls : All (IsUpTo q) v.calls
 
-module _ (o : Opening) (n : ℕ) (h : List Command) (authors : List ℕ) (k : Deeds) where
+module _ (o : Opening) (n : ℕ) (h : List Command) (authors : List ℕ) (k : KeeperEffects) where
   -- a stripe that is held has the content that its holder's record says
   pub record Holds (v : Record) (d : Holding) : Type 0 where
     pub within : d.stripe < n
@@ -87,21 +87,21 @@ module _ (o : Opening) (n : ℕ) (h : List Command) (authors : List ℕ) (k : De
     pub done : HasDone o k v v.keeper
     pub held : (d : Holding) → v.holding ≡ Some d → Holds v d
 
--- the words hold what the history and the deeds say
+-- the words hold what the history and the effects say
 pub record AreOf (b : Book) (w : Words) : Type 0 where
   pub tickets : w.tickets ≡ b.opening.first + length b.history
-  pub durable : w.durable ≡ b.deeds.durable
-  pub failed : w.failed ≡ b.deeds.failed
+  pub durable : w.durable ≡ b.effects.durable
+  pub failed : w.failed ≡ b.effects.failed
 
 -- Each change of the history is a pass's, and the records of all passes agree with it. The steps that they recorded are those of one interleaving, in
 -- which each step finds what the steps before it left in the words.
 pub record IsOneHistory (b : Book) : Type 0 where
   pub authors : length b.authors ≡ length b.history
   pub by_passes : All (λ j. j < length b.passes) b.authors
-  pub keeper : b.deeds.keeper < length b.passes
-  pub begun : b.opening.first ≤ b.deeds.durable
-  pub reached : b.deeds.durable ≤ b.opening.first + length b.history
-  pub passes : (j : ℕ) → j < length b.passes → Knows b.opening b.stripes b.history b.authors b.deeds j (record_of j b)
+  pub keeper : b.effects.keeper < length b.passes
+  pub begun : b.opening.first ≤ b.effects.durable
+  pub reached : b.effects.durable ≤ b.opening.first + length b.history
+  pub passes : (j : ℕ) → j < length b.passes → Knows b.opening b.stripes b.history b.authors b.effects j (record_of j b)
   pub steps : (j : ℕ) → (record_of j b).steps ≡ steps_by j b.interleaving
   pub found : AreFound (words_at b.opening) b.interleaving
   pub words : AreOf b (words_of b)
@@ -116,8 +116,8 @@ pub record IsTakenByAnother (b : Book) (j i : ℕ) : Type 0 where
 -- What stays so once the pass j made this step: a SEE found no more than the durable count, an ALIVE says no only after a FAIL, and a TAKE finds its
 -- stripe held only after another pass took it.
 abbrev pub StaysSo : Book → ℕ → StepMade → Type 0
-StaysSo b j (Saw d) = d ≤ b.deeds.durable
-StaysSo b j (FoundAlive is_alive) = is_alive ≡ false → b.deeds.failed ≡ true
+StaysSo b j (Saw d) = d ≤ b.effects.durable
+StaysSo b j (FoundAlive is_alive) = is_alive ≡ false → b.effects.failed ≡ true
 StaysSo b j (FoundHeld i) = IsTakenByAnother b j i
 StaysSo b j step = Unit {0}
 

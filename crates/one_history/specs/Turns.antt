@@ -50,7 +50,7 @@ found_held j i b = with_step_by j (made.FoundHeld i) (missing (record_of j b) i)
 
 -- GIVE
 abbrev pub gave : ℕ → Purpose → Book → Book
-gave j p b = record (with_step_by j (made.Gave (stripe_held (record_of j b).holding)) (giving p (record_of j b)) b) { deeds = record b.deeds { taken = b.deeds.taken ++ swept_by p (record_of j b).holding } }
+gave j p b = record (with_step_by j (made.Gave (stripe_held (record_of j b).holding)) (giving p (record_of j b)) b) { effects = record b.effects { taken = b.effects.taken ++ swept_by p (record_of j b).holding } }
 
 -- TICKET: the change stands at the end of the history
 abbrev pub drew : ℕ → Command → Book → Book
@@ -66,19 +66,19 @@ looked j b =
 
 -- DURABLE
 abbrev pub published : ℕ → ℕ → Book → Book
-published j n b = record (with_step_by j (made.Published n) (publishing (record_of j b) n) b) { deeds = record b.deeds { durable = max b.deeds.durable n } }
+published j n b = record (with_step_by j (made.Published n) (publishing (record_of j b) n) b) { effects = record b.effects { durable = max b.effects.durable n } }
 
 -- SEE
 abbrev pub saw : ℕ → Book → Book
-saw j b = with_step_by j (made.Saw b.deeds.durable) (seeing (record_of j b) b.deeds.durable (unseen_to b.deeds.durable (record_of j b) b.history)) b
+saw j b = with_step_by j (made.Saw b.effects.durable) (seeing (record_of j b) b.effects.durable (unseen_to b.effects.durable (record_of j b) b.history)) b
 
 -- FAIL
 abbrev pub failed : ℕ → Book → Book
-failed j b = record (with_step_by j made.Failed (failing (record_of j b)) b) { deeds = record b.deeds { failed = true } }
+failed j b = record (with_step_by j made.Failed (failing (record_of j b)) b) { effects = record b.effects { failed = true } }
 
 -- ALIVE
 abbrev pub found_alive : ℕ → Book → Book
-found_alive j b = with_step_by j (made.FoundAlive (not b.deeds.failed)) (living (record_of j b) (not b.deeds.failed)) b
+found_alive j b = with_step_by j (made.FoundAlive (not b.effects.failed)) (living (record_of j b) (not b.effects.failed)) b
 
 -- one more pass, which has made no step
 abbrev pub joined : Book → Book
@@ -92,7 +92,7 @@ started o stripes workers = record {
   history = [];
   authors = [];
   passes = replicate workers (enrolling (newcomer o) (workers + 1)) ++ enrolling (keeper_at_start o) (workers + 1) ∷ [];
-  deeds = record { keeper = workers; taken = []; durable = o.first; failed = false };
+  effects = record { keeper = workers; taken = []; durable = o.first; failed = false };
   interleaving = [];
 }
 

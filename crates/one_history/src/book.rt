@@ -4,7 +4,7 @@ use std::collections::LinkedList;
 use ticket_order::{Entry, Opening, Record, StepMade};
 
 /// What the keeper's pass has done.
-pub struct Deeds {
+pub struct KeeperEffects {
     /// The number of the keeper's pass.
     pub keeper: usize,
     /// The entries that its sweeps took, in the order of the sweeps.
@@ -34,5 +34,5 @@ pub struct Book {
     pub passes: LinkedList<Record>,
     /// The steps of all passes, in one order in which they find what they found.
     pub interleaving: LinkedList<PassStep>,
-    pub deeds: Deeds,
+    pub effects: KeeperEffects,
 }

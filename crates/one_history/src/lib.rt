@@ -6,6 +6,6 @@ pub mod book;
 pub mod parts;
 pub mod slot;
 
-pub use book::{Book, Deeds, PassStep};
+pub use book::{Book, KeeperEffects, PassStep};
 pub use parts::empty_parts;
 pub use slot::Slot;

@@ -1,6 +1,6 @@
 //! The parts of an empty map.
 ghost use Rattle.std.specs.Prelude.{◌≡◌, length, IfOk, IfErr};
-ghost use Rattle.one_history.specs.Kept.{AreEmpty};
+ghost use Rattle.one_history.specs.SharedWords.{AreEmpty};
 
 use atomic_methods::Part;
 use java_hash::StripeCount;

@@ -2,7 +2,7 @@
 #![tactic(auto)]
 
 pub mod at;
-mod chronicle;
+mod ghost_book;
 pub mod words;
 
 pub use at::At;

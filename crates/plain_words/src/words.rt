@@ -6,9 +6,9 @@ ghost use Rattle.ticket_order.specs.StepRules.{Takes, take_made, Looks, MayDraw,
 ghost use Rattle.one_history.specs.Turns.{record_of, started, at_start};
 ghost use Rattle.one_history.specs.OneHistory.{IsOneHistory, HoldApart, AreParts};
 ghost use Rattle.one_history.specs.Moves.{BookMoves};
-ghost use Rattle.one_history.specs.Kept.{ArePlaced};
+ghost use Rattle.one_history.specs.SharedWords.{ArePlaced};
 
-use crate::chronicle::{Chronicle, Turn};
+use crate::ghost_book::{GhostBook, Turn};
 use atomic_methods::Part;
 use java_hash::StripeCount;
 use map_types::{Command, Refusal};
@@ -27,22 +27,22 @@ pub struct PlainWords {
     durable: u64,
     failed: bool,
     slots: Vec<Slot>,
-    chronicle: Chronicle,
+    ghost_book: GhostBook,
 }
 
 impl Model for PlainWords {
     ghost use Rattle.one_history.specs.contracts.book.Book as book_type;
     ghost use Rattle.one_history.specs.declared.book.Book.{Book};
-    ghost use Rattle.one_history.specs.Kept.{IsKept};
+    ghost use Rattle.one_history.specs.SharedWords.{IsKept};
 
     ghost Value = { Book };
 
     ghost coded = { book_type.the_row.coded };
 
-    ghost view = { λ words. words.chronicle.book };
+    ghost view = { λ words. words.ghost_book.book };
 
     ghost invariant = { λ words. IsKept words.stripes.count words.tickets words.durable words.failed
-        words.slots.items words.chronicle.book };
+        words.slots.items words.ghost_book.book };
 }
 
 // The stripes with these parts, at home.
@@ -73,7 +73,7 @@ impl PlainWords {
         ensures ok { IfOk result (λ words. words ≡ at_start first parts.items workers) }
         ensures err { IfErr result (λ refusal. refusal ≡ Refusal.NoMemory) }
     {
-        let chronicle = Chronicle::new(first, &parts, workers);
+        let ghost_book = GhostBook::new(first, &parts, workers);
         let slots = place_all(alloc, parts)?;
         Ok(PlainWords {
             stripes,
@@ -81,7 +81,7 @@ impl PlainWords {
             durable: first,
             failed: false,
             slots,
-            chronicle,
+            ghost_book,
         })
     }
 
@@ -120,7 +120,7 @@ impl PlainWords {
         let place = &mut self.slots[stripe];
         match mem::replace(place, Slot::HeldBy(pass)) {
             Slot::Home(content) => {
-                self.chronicle.note(
+                self.ghost_book.note(
                     pass,
                     &Turn::Took {
                         stripe,
@@ -131,7 +131,7 @@ impl PlainWords {
             }
             Slot::HeldBy(holder) => {
                 *place = Slot::HeldBy(holder);
-                self.chronicle.note(pass, &Turn::FoundHeld { stripe });
+                self.ghost_book.note(pass, &Turn::FoundHeld { stripe });
                 None
             }
         }
@@ -145,7 +145,7 @@ impl PlainWords {
             (record_of pass self.new) }
         ensures moved { BookMoves pass (made.Gave stripe) self.old self.new }
     {
-        self.chronicle.note(pass, &Turn::Gave { purpose });
+        self.ghost_book.note(pass, &Turn::Gave { purpose });
         self.slots[stripe] = Slot::Home(content);
     }
 
@@ -157,7 +157,7 @@ impl PlainWords {
         ensures moved { BookMoves pass (made.Drew result) self.old self.new }
     {
         let ticket = Ticket::new(self.tickets);
-        self.chronicle.note(pass, &Turn::Drew { command });
+        self.ghost_book.note(pass, &Turn::Drew { command });
         self.tickets += 1;
         ticket
     }
@@ -168,7 +168,7 @@ impl PlainWords {
         ensures moved { BookMoves pass (made.Looked result) self.old self.new }
     {
         let count = self.tickets;
-        self.chronicle.note(pass, &Turn::Looked);
+        self.ghost_book.note(pass, &Turn::Looked);
         count
     }
 
@@ -178,7 +178,7 @@ impl PlainWords {
         ensures step { Publishes (record_of pass self.old) number (record_of pass self.new) }
         ensures moved { BookMoves pass (made.Published number) self.old self.new }
     {
-        self.chronicle.note(pass, &Turn::Published { number });
+        self.ghost_book.note(pass, &Turn::Published { number });
         self.durable = self.durable.max(number);
     }
 
@@ -188,7 +188,7 @@ impl PlainWords {
         ensures moved { BookMoves pass (made.Saw result) self.old self.new }
     {
         let durable = self.durable;
-        self.chronicle.note(pass, &Turn::Saw);
+        self.ghost_book.note(pass, &Turn::Saw);
         durable
     }
 
@@ -198,7 +198,7 @@ impl PlainWords {
         ensures step { Fails (record_of pass self.old) (record_of pass self.new) }
         ensures moved { BookMoves pass made.Failed self.old self.new }
     {
-        self.chronicle.note(pass, &Turn::Failed);
+        self.ghost_book.note(pass, &Turn::Failed);
         self.failed = true;
     }
 
@@ -207,7 +207,7 @@ impl PlainWords {
         ensures step { Lives (record_of pass self.old) result (record_of pass self.new) }
         ensures moved { BookMoves pass (made.FoundAlive result) self.old self.new }
     {
-        self.chronicle.note(pass, &Turn::FoundAlive);
+        self.ghost_book.note(pass, &Turn::FoundAlive);
         !self.failed
     }
 }

@@ -12,7 +12,7 @@ use Rattle.map_model.specs.Steps.{step, map_after}
 use Rattle.map_model.proofs.FoldLaws.{map_after-append}
 use Rattle.ticket_order.specs.declared.stripe.Entry.{Entry}
 use Rattle.store_layout.specs.Checkpoints.{Section, greatest_mark}
-use Rattle.store_layout.specs.Standing.{counted}
+use Rattle.store_layout.specs.SectionsAndLog.{counted}
 use Rattle.gate_log.specs.States.{AreFrom, commands_of}
 use Rattle.checkpoint_file.specs.declared.loading.LoadedSection.{LoadedSection}
 use Rattle.checkpoint_file.specs.Loads.{AreRising, sections_of}

@@ -1,7 +1,5 @@
 -- What an opening finds, as a keeper is begun with it.
-use Rattle.std.proofs.Common.{◌≡◌, ℕ, ◌+◌, ◌<◌, Bool, true, Option, None, Some, List, [], ◌∷◌, length, refl, sym, ap, subst, ◌∙◌, arith, length-append}
-use Rattle.std.proofs.lemmas.Bool.Decides.{nat_tests}
-use Rattle.java_hash.specs.Stripes.{is_stripe_count}
+use Rattle.std.proofs.Common.{◌≡◌, ℕ, ◌+◌, ◌<◌, Bool, Option, None, Some, List, [], ◌∷◌, length, refl, sym, ap, subst, ◌∙◌, arith, length-append}
 use Rattle.disk_model.specs.Files.{Files, at_rest}
 use Rattle.disk_model.specs.Gates.{IsShut}
 use Rattle.map_model.specs.Laws.{PartsMakeTheMap}
@@ -16,15 +14,12 @@ use Rattle.store_layout.specs.Checkpoints.{Checkpoint, checkpoint_file, is_to_cl
 use Rattle.store_layout.specs.Logs.{Batch, IsClosed, commands_in, log_file, log_front}
 use Rattle.store_layout.specs.Opening.{Contents, FoundLog, AreLogs, map_of, newest_by, newest_of, StandsFor}
 use Rattle.gate_log.specs.States.{LogState, resumed}
-use Rattle.gate_log.specs.Standing as log
+use Rattle.gate_log.specs.LogStates as log
 use Rattle.flusher.specs.Fitting.{IsFoundFor}
 use Rattle.flusher.specs.declared.keeper.Keeper.{Keeper}
 use Rattle.recovery.specs.declared.opening.Restored.{Restored}
 use Rattle.recovery.specs.LogReading.{GoesOnFrom, IsResumed}
 use Rattle.recovery.specs.Opening.{IsOpened, IsOpenedAs}
-
-pub some_stripes : (n : ℕ) → is_stripe_count n ≡ true → 0 < n
-some_stripes n e = grind (arith, nat_tests)
 
 -- the newest log is closed behind its batches
 newest_closed : (contents : Contents) (k : Checkpoint) (first : List Batch) (second : Option (List Batch)) → AreLogs contents k first second

@@ -5,7 +5,7 @@ use Rattle.std.proofs.lemmas.Bool.{eqb-true}
 use Rattle.disk_model.specs.Calls.{Looks}
 use Rattle.disk_model.specs.Files.{AllCoherent, AreCoherent, Contents, File, Files, IsCoherent, Leaves, MayLeave, at_rest, now, synced, with_file}
 use Rattle.disk_model.specs.Moments.{AtEachMoment}
-use Rattle.disk_model.proofs.FileLemmas.{coherent_at_rest, coherent_with, now_coherent, seen_may_stay}
+use Rattle.disk_model.proofs.FileLemmas.{coherent_at_rest, coherent_with, now_coherent, seen_may_stay, rest_leaves}
 use Rattle.disk_model.proofs.MomentLemmas.{goes_on, in_the_end, weaker}
 use Rattle.store_layout.specs.Checkpoints.{is_sealed}
 use Rattle.gate_log.proofs.Scanning.{same_now}
@@ -13,7 +13,6 @@ use Rattle.recovery.specs.Formatting.{AtStops, IsClear, IsNewOrUnformatted, IsUn
 use Rattle.recovery.specs.LogReading.{contents_of}
 use Rattle.recovery.specs.Syncing.{AfterSyncs, StoppedSyncing, states_synced}
 use Rattle.recovery.proofs.NewStoreLemmas.{rest_unsealed}
-use Rattle.recovery.proofs.SyncingLemmas.{rest_leaves}
 
 -- ---- a sync leaves less
 

@@ -6,7 +6,7 @@ use Rattle.map_types.specs.declared.refusals.Refusal.TheVariants.{Failed, NotFor
 use Rattle.store_layout.specs.Checkpoints.{is_sealed}
 use Rattle.store_layout.specs.Faults.{generation_in, head_fault}
 use Rattle.store_layout.specs.Opening.{Contents, first_fault, heads_fault}
-use Rattle.store_layout.proofs.Openings.{heads_by, newest_of_two}
+use Rattle.store_layout.proofs.Openings.{heads_by, newest_of_two, no_faults, unsealed_head}
 use Rattle.checkpoint_file.specs.declared.head.Head.{Head}
 use Rattle.checkpoint_file.specs.Heads.{IsHead}
 use Rattle.recovery.specs.Heads.{IsUsed}
@@ -21,12 +21,6 @@ fault_by false rest r e = absurd (none_some r e)
 fault_sealed : (file : ℕ) (content : List ℕ) (r : Refusal) → head_fault file content ≡ Some r → is_sealed content ≡ true
 fault_sealed file content r e = fault_by (is_sealed content) _ r e
 
-unsealed_by : (s : Bool) (rest : Option Refusal) → s ≡ false → cond (not s) None rest ≡ None
-unsealed_by s rest e = ap (λ x. cond (not x) None rest) e
-
-unsealed_head : (file : ℕ) (content : List ℕ) → is_sealed content ≡ false → head_fault file content ≡ None
-unsealed_head file content e = unsealed_by (is_sealed content) _ e
-
 first_by : (s t : Bool) (a b : Option Refusal) (r : Refusal) → s ≡ true → a ≡ Some r → heads_by s t a b ≡ Some r
 first_by true t a b r e f = ap (λ x. first_fault x b) f
 first_by false t a b r e f = absurd cc
@@ -35,11 +29,6 @@ second_by : (s t : Bool) (a b : Option Refusal) (r : Refusal) → t ≡ true →
 second_by true t a b r e f h = ap (λ x. first_fault x b) f ∙ h
 second_by false true a b r e f h = ap (λ x. first_fault x b) f ∙ h
 second_by false false a b r e f h = absurd cc
-
-no_faults : (s t : Bool) (a b : Option Refusal) → (s ≡ true) ⊎ (t ≡ true) → a ≡ None → b ≡ None → heads_by s t a b ≡ None
-no_faults s t a b (inl e) p q = ap (λ x. heads_by x t a b) e ∙ ap (λ x. first_fault x b) p ∙ q
-no_faults true t a b (inr e) p q = ap (λ x. first_fault x b) p ∙ q
-no_faults false t a b (inr e) p q = ap (λ x. heads_by false x a b) e ∙ ap (λ x. first_fault x b) p ∙ q
 
 module _ (contents : Contents) where
   abbrev s : Bool

@@ -7,7 +7,7 @@ mod LogReadingLemmas
 mod HeadsLemmas
 mod OpeningLemmas
 mod CallLemmas
-mod SyncingLemmas
+pub mod SyncingLemmas
 mod FirstBytes
 mod OneFileLemmas
 mod NewStoreLemmas
@@ -18,3 +18,4 @@ mod Making
 mod NewFiles
 mod FormattingLemmas
 pub mod Finding
+pub mod FirstPasses

@@ -11,8 +11,8 @@ use Rattle.store_layout.specs.Logs.{Batch, IsClosed, header}
 use Rattle.store_layout.specs.declared.log_phase.Phase.{Phase}
 use Rattle.store_layout.specs.declared.log_phase.Phase.TheVariants.{Header, HeaderWritten, Idle}
 use Rattle.gate_log.specs.States.{LogState, begun, call_in, log_after}
-use Rattle.gate_log.specs.Standing.{IsBeforeOrAfter, IsKept, Stands}
-use Rattle.gate_log.specs.Advancing.{Advances, committed_after, staged_after}
+use Rattle.gate_log.specs.LogStates.{IsBeforeOrAfter, IsKept, Stands}
+use Rattle.gate_log.specs.LogSteps.{Advances, committed_after, staged_after}
 use Rattle.gate_log.proofs.StandingLemmas.{reads_in}
 use Rattle.recovery.specs.Formatting.{Becomes}
 use Rattle.store_layout.specs.FirstFiles.{first_log}

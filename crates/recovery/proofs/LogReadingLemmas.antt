@@ -11,7 +11,7 @@ use Rattle.store_layout.specs.Checkpoints.{Checkpoint}
 use Rattle.store_layout.specs.Logs.{commands_in, log_file}
 use Rattle.store_layout.specs.Readings.{IsBadHeader}
 use Rattle.store_layout.specs.Opening.{Contents, AreBadLogs, bad_header, bad_frame, bad_next_header, bad_next_frame, second_end}
-use Rattle.store_layout.specs.Standing.{counted}
+use Rattle.store_layout.specs.SectionsAndLog.{counted}
 use Rattle.store_layout.proofs.Growing.{counted-append}
 use Rattle.gate_log.specs.Scan.{HasRead, ScanState}
 use Rattle.gate_log.specs.States.{LogState, resumed}

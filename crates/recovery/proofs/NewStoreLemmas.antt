@@ -5,11 +5,10 @@ use Rattle.std.proofs.lemmas.Bool.Decides.{nat_tests}
 use Rattle.disk_model.specs.Files.{File, MayLeave, at_rest, synced, written}
 use Rattle.disk_model.specs.Files.{IsTorn}
 use Rattle.disk_model.specs.Gates.{IsOpening, IsShut}
-use Rattle.disk_model.proofs.FileLemmas.{length-overwritten}
+use Rattle.disk_model.proofs.FileLemmas.{length-overwritten, rest_leaves}
 use Rattle.disk_model.proofs.GateLemmas.{closed_synced, gate_written, left_open, left_opening, left_shut, open_synced, opening_synced, opening_torn, opening_written, overwritten_at, shut_synced, shut_torn, shut_written}
 use Rattle.store_layout.specs.Checkpoints.{is_sealed, is_to_close}
 use Rattle.recovery.specs.Formatting.{IsSealedWith}
-use Rattle.recovery.proofs.SyncingLemmas.{rest_leaves}
 
 abbrev pub Unsealed : List ℕ → Type 0
 Unsealed content = is_sealed content ≡ false

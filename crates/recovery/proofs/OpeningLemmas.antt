@@ -11,11 +11,10 @@ use Rattle.log_records.specs.Layout.{first_layout}
 use Rattle.store_layout.specs.Checkpoints.{Checkpoint, IsCheckpoint, greatest_mark}
 use Rattle.store_layout.specs.Faults.{IsBadCheckpoint}
 use Rattle.store_layout.specs.Logs.{Batch, commands_in, log_file}
-use Rattle.store_layout.specs.Standing.{counted, restored}
+use Rattle.store_layout.specs.SectionsAndLog.{counted, restored}
 use Rattle.store_layout.specs.Opening.{Contents, Opened, AreBadLogs, Refuses, bad_checkpoint, bad_logs, below_mark, logged_by, newest_by}
 use Rattle.store_layout.proofs.Openings.{used_is_held}
 use Rattle.checkpoint_file.specs.declared.loading.LoadedCheckpoint.{LoadedCheckpoint}
-use Rattle.checkpoint_file.specs.Heads.{failed_in as heads_failed_in}
 use Rattle.checkpoint_file.specs.Loads.{AreRising, IsUnloadable, checkpoint_of, sections_of}
 use Rattle.gate_log.specs.Scan.{failed_in}
 use Rattle.gate_log.specs.States.{LogState}
@@ -108,7 +107,7 @@ module _ (contents : Contents) (file : ℕ) (used : IsUsed contents file) where
 
 -- ---- counts of failures
 
-pub same_failed : (X Y : Type 0) (r : Refusal) → heads_failed_in {X = X} (Err r) ≡ failed_in {X = Y} (Err r)
+pub same_failed : (X Y : Type 0) (r : Refusal) → failed_in {X = X} (Err r) ≡ failed_in {X = Y} (Err r)
 same_failed X Y refusal.NullValue = refl
 same_failed X Y refusal.KeyTooLong = refl
 same_failed X Y refusal.ValueTooLong = refl

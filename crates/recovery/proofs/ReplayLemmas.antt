@@ -14,7 +14,7 @@ use Rattle.log_records.specs.Layout.{first_layout}
 use Rattle.ticket_order.specs.declared.stripe.Entry.{Entry}
 use Rattle.store_layout.specs.Logs.{Batch, commands_in, frame, header, log_file, log_front, opened}
 use Rattle.store_layout.specs.Readings.{IsBroken}
-use Rattle.store_layout.specs.Standing.{counted}
+use Rattle.store_layout.specs.SectionsAndLog.{counted}
 use Rattle.store_layout.proofs.Growing.{counted-append}
 use Rattle.gate_log.specs.States.{batch_of, commands_of}
 use Rattle.gate_log.specs.Scan as scanning

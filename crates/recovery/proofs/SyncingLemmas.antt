@@ -1,23 +1,15 @@
 -- Files that are synced one after the other.
 use Rattle.std.proofs.Common.{◌≡◌, ℕ, zero, suc, ◌+◌, ◌==◌, ◌<◌, true, false, cond, List, [], ◌∷◌, length, refl, sym, ap, subst, arith, ◌∙◌}
-use Rattle.std.proofs.lemmas.List.{ext_get_or}
 use Rattle.std.proofs.lemmas.Bool.{eqb-true}
 use Rattle.std.proofs.lemmas.Bool.Decides.{nat_tests}
 use mathlib.Core.Path.{fun_ext}
 use Rattle.disk_model.specs.Files.{AllCoherent, File, Files, Leaves, MayLeave, at_rest, now, synced, with_file}
+use Rattle.disk_model.proofs.FileLemmas.{rest_leaves}
 use Rattle.file_pieces.specs.Counting.{Made, MadeAtMost}
 use Rattle.store_layout.specs.Opening.{Contents}
 use Rattle.gate_log.proofs.Scanning.{same_now}
 use Rattle.recovery.specs.LogReading.{contents_of}
 use Rattle.recovery.specs.Syncing.{AfterSyncs, LeavesOnly, StoppedSyncing, SyncsAndLooks, states_synced}
-
--- a file at rest leaves its content
-pub rest_leaves : (old content : List ℕ) → MayLeave (at_rest old) content → content ≡ old
-rest_leaves old content left =
-    let size : length content ≡ length old = omega (arith, left.no_shorter, left.no_longer) in
-    ext_get_or 0 content old size (λ i h.
-    let below : i < length old = omega (arith, size, h) in
-    left.same i (grind (arith, nat_tests)))
 
 seen_once : (n : ℕ) (files : Files) (m : ℕ) → (with_file n (synced (files n)) files m).seen ≡ (files m).seen
 seen_once n files m = elim (m == n) as (λ b. (m == n) ≡ b → (cond b (synced (files n)) (files m)).seen ≡ (files m).seen) [
@@ -32,7 +24,7 @@ read_is_left (files ∷ past) all number below =
     let h = all.0 number below in
     record { no_shorter = h.no_shorter; no_longer = h.no_longer; bytes = h.bytes; same = λ i clear. refl }
 
-abbrev seen_now : List Files → Contents
+abbrev pub seen_now : List Files → Contents
 seen_now past = λ number. (now past number).seen
 
 -- each file reads as before

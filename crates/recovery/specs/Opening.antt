@@ -8,7 +8,7 @@ use Rattle.log_records.specs.Layout.{first_layout}
 use Rattle.store_layout.specs.Calls.{checkpoint_calls, logs_calls}
 use Rattle.store_layout.specs.Checkpoints.{Checkpoint, greatest_mark, sections_bytes}
 use Rattle.store_layout.specs.Logs.{Batch}
-use Rattle.store_layout.specs.Standing.{restored}
+use Rattle.store_layout.specs.SectionsAndLog.{restored}
 use Rattle.store_layout.specs.Opening.{Contents, Opened, Holds, AreLogs, logged_by, map_of, newest_by, newest_of, prefix_of}
 use Rattle.recovery.specs.declared.opening.Restored.{Restored}
 use Rattle.recovery.specs.Dividing.{IsDivided}

@@ -4,7 +4,7 @@ use Rattle.map_types.specs.declared.commands.Command.{Command}
 use Rattle.map_model.specs.Maps.{Map}
 use Rattle.map_model.specs.Steps.{map_after}
 use Rattle.store_layout.specs.Checkpoints.{Section}
-use Rattle.store_layout.specs.Standing.{counted}
+use Rattle.store_layout.specs.SectionsAndLog.{counted}
 use Rattle.recovery.specs.declared.restoring.Restoring.{Restoring}
 use Rattle.recovery.specs.Dividing.{IsDivided}
 

@@ -57,7 +57,7 @@ impl Divided {
         let stripe = stripe_of(command.key.as_str(), self.stripes);
         let part = &mut self.parts[stripe];
         let prepared = part.prepare(alloc, command)?;
-        part.act(prepared);
+        part.act(&command.key, prepared);
         Ok(())
     }
 }

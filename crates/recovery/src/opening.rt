@@ -183,6 +183,7 @@ pub fn open_parts<D: Disk>(
         → Holds (contents_of D.states disk) found
         → MadeAtMost D.states (opening_calls found) disk x.0) }
     ensures start { IfOk result (λ x. IsAtStart stripes x.2 x.0) }
+    ensures ahead { IfOk result (λ x. x.0.zeros ≡ 0) }
     ensures parts { IfOk result (λ x. ArePartsOf stripes.count x.1.items) }
     ensures ok { IfOk result (λ x. D.honest x.0.disk
         → D.honest disk × IsOpenedAs (contents_of D.states disk) stripes.count x.0 x.1.items x.2) }
@@ -222,6 +223,7 @@ pub fn open<D: Disk>(
         → Holds (contents_of D.states disk) found
         → MadeAtMost D.states (opening_calls found) disk x.0) }
     ensures start { IfOk result (λ x. IsAtStart stripes (begun_with x.1).first x.0) }
+    ensures ahead { IfOk result (λ x. x.0.zeros ≡ 0) }
     ensures stripes { IfOk result (λ x. stripe_count x.1 ≡ stripes.count) }
     ensures ok { IfOk result (λ x. D.honest x.0.disk
         → D.honest disk × StandsFor (contents_of D.states disk) (begun_with x.1).first

@@ -24,7 +24,7 @@ fn changed(
     command: &Command,
 ) -> Result<String, Refusal> {
     let prepared = part.prepare(alloc, command)?;
-    let reply = part.act(prepared);
+    let reply = part.act(&command.key, prepared);
     let expected = reference.change(alloc, command)?;
     reply_of(alloc, &expected, &reply)
 }

@@ -13,8 +13,8 @@ use Rattle.disk_model.proofs.MomentLemmas.{in_the_end}
 use Rattle.map_types.specs.declared.texts.Value.{Value}
 use Rattle.map_model.specs.Maps.{Map}
 use Rattle.store_layout.specs.Checkpoints.{Section, checkpoint_file, is_to_close}
-use Rattle.checkpoint_file.specs.Advancing.{MayAdvance}
-use Rattle.checkpoint_file.specs.Standing.{Stands}
+use Rattle.checkpoint_file.specs.CheckpointSteps.{MayAdvance}
+use Rattle.checkpoint_file.specs.CheckpointStates.{Stands}
 use Rattle.checkpoint_file.specs.States.{CheckpointState, AreKeysOf, idle, with_section}
 
 -- two entries whose keys rise

@@ -2,7 +2,7 @@
 ghost use Rattle.std.specs.Prelude.{◌≡◌, ◌<◌};
 ghost use Rattle.disk_model.specs.Memory.{memory_states};
 ghost use Rattle.checkpoint_file.specs.States.{idle};
-ghost use Rattle.checkpoint_file.specs.Advancing.{MayAdvance};
+ghost use Rattle.checkpoint_file.specs.CheckpointSteps.{MayAdvance};
 
 use crate::disks::content;
 use crate::fills::{failure_of, stop};

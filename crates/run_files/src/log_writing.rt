@@ -3,8 +3,8 @@ ghost use Rattle.std.specs.Prelude.{◌≡◌, ◌<◌, List, IfOk, false};
 ghost use Rattle.disk_model.specs.Files.{File};
 ghost use Rattle.disk_model.specs.Memory.{memory_states};
 ghost use Rattle.store_layout.specs.Logs.{Batch};
-ghost use Rattle.gate_log.specs.Advancing.{MayAdvance};
-ghost use Rattle.gate_log.specs.Standing.{Stands};
+ghost use Rattle.gate_log.specs.LogSteps.{MayAdvance};
+ghost use Rattle.gate_log.specs.LogStates.{Stands};
 
 use crate::disks::content;
 use crate::fills::{failure_of, stop};

@@ -13,7 +13,7 @@ use Rattle.sim_workers.specs.Doings.{Doing}
 use Rattle.sim_workers.specs.Laws.{KeeperSteps}
 use Rattle.sim_workers.specs.Workers.{WorkersStand}
 use Rattle.sim_keeper.specs.Laws.{CountsAreTold, StripeIsTold}
-use Rattle.sim_keeper.specs.Standing.{KeeperStands}
+use Rattle.sim_keeper.specs.KeeperInWorld.{KeeperStands}
 use Rattle.schedule_sim.specs.declared.traced.Traced.{Traced}
 use Rattle.schedule_sim.specs.Tracing.{traced_states, traced_honest}
 use Rattle.schedule_sim.specs.Watching.{MakesStep}

@@ -19,7 +19,7 @@ use Rattle.one_history.specs.declared.book.Book.{Book}
 use Rattle.one_history.specs.OneHistory.{HoldApart, IsOneHistory, Knows}
 use Rattle.one_history.specs.Turns.{record_of}
 use Rattle.flusher.specs.declared.keeper.Keeper.{Keeper}
-use Rattle.flusher.specs.Keeping.{is_walking}
+use Rattle.flusher.specs.KeeperSteps.{is_walking}
 use Rattle.checkpoint_walk.specs.Capturing.{IsCauseOf}
 use Rattle.checkpoint_walk.specs.Walking.{AfterStep, AfterTake, FitsBy, FitsWalking, IsCapturing, kind_next}
 use Rattle.sim_rules.specs.declared.event.Event.TheVariants as event
@@ -37,7 +37,7 @@ use Rattle.sim_keeper.specs.Laws.{CaptureAnswers, CaptureRefuses, CaptureStepAns
 use Rattle.sim_keeper.specs.Laws.{PassHolds, StripeIsTold, TooManyAreTooLarge, WalkIsTold}
 use Rattle.sim_keeper.specs.Promises.{StepsCapture}
 use Rattle.sim_keeper.specs.Showing.{capture_shown, walk_by}
-use Rattle.sim_keeper.specs.Standing.{Answers, HasKeeper, KeeperStands}
+use Rattle.sim_keeper.specs.KeeperInWorld.{Answers, HasKeeper, KeeperStands}
 use Rattle.sim_keeper.specs.Telling as telling
 use Rattle.schedule_sim.specs.declared.traced.Traced.{Traced}
 use Rattle.schedule_sim.specs.declared.job.Job.{Job}
@@ -45,13 +45,13 @@ use Rattle.schedule_sim.specs.declared.life.Life as sim
 use Rattle.schedule_sim.specs.Living.{Did, IsLife, IsLifeOf}
 use Rattle.schedule_sim.specs.Tracing.{traced_states, traced_honest}
 use Rattle.schedule_sim.specs.Watching.{MakesStep}
-use Rattle.schedule_sim.specs.Words.{watched_moves, watched_place, watched_record, watched_stripes}
+use Rattle.schedule_sim.specs.WatchedWords.{watched_moves, watched_place, watched_record, watched_stripes}
 use Rattle.schedule_sim.specs.Workers.{doings_of}
 use Rattle.schedule_sim.specs.declared.watched.Watched.{Watched}
 use Rattle.schedule_sim.proofs.Captures.{StaysForWorkers, workers_after}
 use Rattle.schedule_sim.proofs.KeeperTold.{DrawsNoTicket, step_told}
 use Rattle.schedule_sim.proofs.Doing.{did, did_skip}
-use Rattle.schedule_sim.proofs.Kept.{Parts, fits_now, life_there}
+use Rattle.schedule_sim.proofs.LivesParts.{Parts, fits_now, life_there}
 use Rattle.schedule_sim.proofs.Telling.{no_step_untold, second_same, step_made, told_capture}
 
 -- the laws of captures, and of what a step of the keeper leaves
@@ -243,7 +243,7 @@ capture_holds b p i many = record {
 }
 
 -- the part that the pass holds is the one at the mark
-part_at : (book : Book) (begun : Record) (i : ℕ) → Knows book.opening book.stripes book.history book.authors book.deeds 64 (record_of 64 book)
+part_at : (book : Book) (begun : Record) (i : ℕ) → Knows book.opening book.stripes book.history book.authors book.effects 64 (record_of 64 book)
     → (many : HasTooMany begun i (record_of 64 book))
     → part_of book.stripes i (fold_to (history_of (record_of 64 book)) (reach (record_of 64 book))) ≡ many.at.part
 unfolding capture_holds

@@ -10,7 +10,7 @@ use Rattle.disk_model.specs.declared.fill.Fill.TheVariants.{New}
 use Rattle.store_layout.specs.declared.checkpoint_phase.CheckpointPhase.{CheckpointPhase}
 use Rattle.flusher.specs.declared.keeper.Keeper.{Keeper}
 use Rattle.flusher.specs.Fitting.{Fits}
-use Rattle.flusher.specs.Keeping.{is_walking}
+use Rattle.flusher.specs.KeeperSteps.{is_walking}
 use Rattle.sim_rules.specs.declared.event.Ending.{Ending}
 use Rattle.sim_rules.specs.declared.event.Ending.TheVariants as ending
 use Rattle.sim_rules.specs.declared.event.Event.TheVariants as event
@@ -33,7 +33,7 @@ use Rattle.schedule_sim.specs.Tracing.{traced_states, traced_honest}
 use Rattle.schedule_sim.proofs.DeviceEnds.{ends_call}
 use Rattle.schedule_sim.proofs.Devices.{can_call, checkpoint_made, noted, planned_fits}
 use Rattle.schedule_sim.proofs.Doing.{did, did_skip}
-use Rattle.schedule_sim.proofs.Kept.{fits_now, life_there}
+use Rattle.schedule_sim.proofs.LivesParts.{fits_now, life_there}
 use Rattle.schedule_sim.proofs.Quiet.{rests_told, walks_skip}
 
 -- ---- which calls are made

@@ -1,14 +1,14 @@
 -- The end of a life, and a stop between lives.
-use Rattle.std.proofs.Common.{◌≡◌, ℕ, ◌≤◌, ◌<◌, List, ◌∷◌, length, Option, None, Some, MatchBool, Result, Ok, Err, IfOk, true, refl, sym, ◌∙◌, ap, subst, arith}
-use Rattle.std.proofs.lemmas.List.{ext_get_or, length-append}
-use Rattle.std.proofs.lemmas.Bool.Decides.{nat_tests}
-use Rattle.disk_model.specs.Files.{Contents, Files, Leaves, MayLeave, at_rest, now}
+use Rattle.std.proofs.Common.{◌≡◌, ℕ, ◌≤◌, List, ◌∷◌, length, Option, None, Some, MatchBool, Result, Ok, Err, IfOk, true, refl, sym, ◌∙◌, ap, subst, arith}
+use Rattle.std.proofs.lemmas.List.{length-append}
+use Rattle.disk_model.specs.Files.{Contents, Files, Leaves, MayLeave, now}
 use Rattle.disk_model.specs.Fills.{after_stop, left_by}
 use Rattle.disk_model.specs.declared.fill.Fill.{Fill}
 use Rattle.ticket_order.specs.Legality.{history_of}
 use Rattle.one_history.specs.declared.book.Book.{Book}
 use Rattle.one_history.specs.Turns.{record_of}
-use Rattle.store_invariant.specs.Standing.{StopsStand}
+use Rattle.disk_model.proofs.FileLemmas.{rest_leaves}
+use Rattle.store_invariant.specs.StoreStates.{StopsStand}
 use Rattle.flusher.specs.declared.keeper.Keeper.{Keeper}
 use Rattle.flusher.specs.Fitting.{StopsFit}
 use Rattle.sim_rules.specs.declared.event.Event.{Event}
@@ -36,7 +36,7 @@ use Rattle.schedule_sim.specs.Workers.{doings_of}
 use Rattle.schedule_sim.specs.Living.{IsLife, IsLifeOf}
 use Rattle.schedule_sim.specs.Storing.{DidStore, IsClosed, IsDurable, IsInterrupted, IsNext, IsStore, LiesOn, StopsWithin}
 use Rattle.schedule_sim.proofs.Doing.{goes_on, meets_inside}
-use Rattle.schedule_sim.proofs.Kept.{life_there}
+use Rattle.schedule_sim.proofs.LivesParts.{life_there}
 use Rattle.schedule_sim.proofs.Stopping.{above_stands, life_stops}
 use Rattle.schedule_sim.proofs.Stores.{nothing}
 
@@ -97,14 +97,6 @@ interrupted_within w least s old call disk life durable stopped contents leaves 
     (stopped.stops there.0 there.1.life contents (subst (λ files. Leaves files contents) (sym stopped.state) leaves))
 
 -- ---- a stop
-
--- a file at rest leaves its content
-rest_leaves : (old content : List ℕ) → MayLeave (at_rest old) content → content ≡ old
-rest_leaves old content left =
-    let size : length content ≡ length old = omega (arith, left.no_shorter, left.no_longer) in
-    ext_get_or 0 content old size (λ i h.
-    let below : i < length old = omega (arith, size, h) in
-    left.same i (grind (arith, nat_tests)))
 
 -- what a stop leaves of the files that a stop left could be left before
 stops_again : (w : World) (least : ℕ) (fill : Fill) (files : Files) → Leaves files (left_by fill files) → StopsStand (whole w.history) least (length w.history) files

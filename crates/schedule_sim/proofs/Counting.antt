@@ -11,7 +11,7 @@ use Rattle.one_history.specs.OneHistory.{HoldApart, HoldsStripe, IsOneHistory}
 use Rattle.one_history.specs.Turns.{record_of}
 use Rattle.flusher.specs.declared.keeper.Keeper.{Keeper}
 use Rattle.flusher.specs.Fitting.{Fits}
-use Rattle.flusher.specs.Keeping.{is_walking}
+use Rattle.flusher.specs.KeeperSteps.{is_walking}
 use Rattle.checkpoint_walk.specs.Walking.{FitsWalking}
 use Rattle.sim_rules.specs.declared.event.Event.TheVariants as event
 use Rattle.sim_rules.specs.declared.outcome.Outcome.TheVariants as outcome
@@ -21,14 +21,14 @@ use Rattle.sim_rules.specs.Fitting.{fits_inside, fits_with}
 use Rattle.sim_workers.specs.Laws.{KeeperSteps}
 use Rattle.sim_workers.specs.Workers.{DrawsNone, WorkersStand}
 use Rattle.sim_keeper.specs.Laws.{CountsAreTold, FailAnswers, PublishAnswers, WalkIsTold}
-use Rattle.sim_keeper.specs.Standing.{HasKeeper}
+use Rattle.sim_keeper.specs.KeeperInWorld.{HasKeeper}
 use Rattle.schedule_sim.specs.declared.traced.Traced.{Traced}
 use Rattle.schedule_sim.specs.declared.job.Job.{Job}
 use Rattle.schedule_sim.specs.declared.life.Life as sim
 use Rattle.schedule_sim.specs.Tracing.{traced_states, traced_honest}
 use Rattle.schedule_sim.specs.Living.{Did, IsLife, IsLifeOf}
 use Rattle.schedule_sim.specs.Workers.{doings_of}
-use Rattle.schedule_sim.proofs.Kept.{fits_now, life_there}
+use Rattle.schedule_sim.proofs.LivesParts.{fits_now, life_there}
 use Rattle.schedule_sim.proofs.Doing.{did, did_skip}
 use Rattle.schedule_sim.proofs.KeeperTold.{undrawn}
 use Rattle.schedule_sim.proofs.Quiet.{fits_between, none_held, rests_told}

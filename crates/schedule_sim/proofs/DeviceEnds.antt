@@ -7,7 +7,7 @@ use Rattle.one_history.specs.Turns.{record_of}
 use Rattle.disk_model.specs.Files.{Files}
 use Rattle.flusher.specs.declared.keeper.Keeper.{Keeper}
 use Rattle.flusher.specs.Fitting.{Fits}
-use Rattle.flusher.specs.Keeping.{is_walking}
+use Rattle.flusher.specs.KeeperSteps.{is_walking}
 use Rattle.checkpoint_walk.specs.Walking.{FitsWalking}
 use Rattle.sim_rules.specs.declared.event.Ending.{Ending}
 use Rattle.sim_rules.specs.declared.event.Event.{Event}
@@ -21,7 +21,7 @@ use Rattle.sim_rules.specs.After.{after_inside, called, checkpoint_called, faile
 use Rattle.sim_workers.specs.Laws.{KeeperRests}
 use Rattle.sim_workers.specs.Workers.{ConcernsNone}
 use Rattle.sim_keeper.specs.Laws.{CheckpointCallIsTold, LogCallIsTold, WalkIsTold}
-use Rattle.sim_keeper.specs.Standing.{Answers, HasKeeper, KeeperStands, StandsIn}
+use Rattle.sim_keeper.specs.KeeperInWorld.{Answers, HasKeeper, KeeperStands, StandsIn}
 use Rattle.schedule_sim.specs.declared.traced.Traced.{Traced}
 use Rattle.schedule_sim.specs.declared.job.Job.{Job}
 use Rattle.schedule_sim.specs.declared.life.Life as sim
@@ -31,7 +31,7 @@ use Rattle.schedule_sim.specs.Tracing.{traced_states, traced_honest}
 use Rattle.schedule_sim.specs.Workers.{doings_of}
 use Rattle.schedule_sim.proofs.Devices.{due_told, planned_fits, planned_stands}
 use Rattle.schedule_sim.proofs.Doing.{did}
-use Rattle.schedule_sim.proofs.Kept.{Parts, life_there}
+use Rattle.schedule_sim.proofs.LivesParts.{Parts, life_there}
 use Rattle.schedule_sim.proofs.Quiet.{fits_between, none_held}
 
 -- ---- the event fits

@@ -23,7 +23,7 @@ use Rattle.store_layout.specs.declared.log_phase.Phase.TheVariants as log_phase
 use Rattle.gate_log.specs.States.{LogState, call_in}
 use Rattle.flusher.specs.declared.keeper.Keeper.{Keeper}
 use Rattle.flusher.specs.Fitting.{Fits, StopsFit}
-use Rattle.flusher.specs.Keeping.{is_walking}
+use Rattle.flusher.specs.KeeperSteps.{is_walking}
 use Rattle.flusher.specs.Rotating.{Logs, StepsLogs, due_of, logs_of}
 use Rattle.sim_rules.specs.declared.event.Event.TheVariants as event
 use Rattle.sim_rules.specs.declared.event.Side.{Side}
@@ -36,7 +36,7 @@ use Rattle.sim_rules.specs.Cases.{IsPossible, IsThere}
 use Rattle.sim_rules.specs.Due.{due_file}
 use Rattle.sim_rules.specs.Laws.{EnteredAsFailed, KnownStands}
 use Rattle.sim_keeper.specs.Laws.{CheckpointCallIsTold, LogCallIsTold, WalkIsTold}
-use Rattle.sim_keeper.specs.Standing.{KeeperStands}
+use Rattle.sim_keeper.specs.KeeperInWorld.{KeeperStands}
 use Rattle.schedule_sim.specs.declared.traced.Traced.{Traced}
 use Rattle.schedule_sim.specs.declared.job.Job.{Job}
 use Rattle.schedule_sim.specs.Calling.{MayCall, is_due}
@@ -44,7 +44,7 @@ use Rattle.schedule_sim.specs.Living.{IsLifeOf}
 use Rattle.schedule_sim.specs.Noting.{WasLast, left}
 use Rattle.schedule_sim.specs.Storing.{IsInterrupted}
 use Rattle.schedule_sim.specs.Tracing.{traced_states, traced_honest}
-use Rattle.schedule_sim.proofs.Kept.{fits_now, life_there, rests}
+use Rattle.schedule_sim.proofs.LivesParts.{fits_now, life_there, rests}
 use Rattle.schedule_sim.proofs.Stopping.{life_keeps}
 use Rattle.schedule_sim.proofs.TracedCalls.{HasOneMore}
 

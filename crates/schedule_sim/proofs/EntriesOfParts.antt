@@ -1,8 +1,8 @@
 -- The entries of all parts, sorted by their keys, are those of the whole map.
-use Rattle.std.proofs.Common.{◌≡◌, ℕ, zero, suc, ◌+◌, ◌<◌, ◌≤◌, Bool, true, false, Option, None, Some, List, [], ◌∷◌, ◌++◌, length, map, refl, sym, ap, subst, ◌∙◌, Ordering, Less, Equal, Greater, arith}
+use Rattle.std.proofs.Common.{◌≡◌, ℕ, zero, suc, ◌+◌, ◌<◌, ◌≤◌, Bool, true, false, Option, None, Some, List, [], ◌∷◌, ◌++◌, length, map, refl, sym, ap, subst, ◌∙◌, arith}
 use Rattle.std.specs.Prelude.{pos}
 use lib.ListN.{get_or}
-use Rattle.std.specs.Ordering.{nat_cmp, eq_by_cmp, is_lt, is_eq, ordering_reverse}
+use Rattle.std.specs.Ordering.{nat_cmp, eq_by_cmp, is_lt}
 use Rattle.std.specs.Cmp.Lexicographic.{slice_cmp, nat_list_cmp_total}
 use Rattle.std.specs.FinMap as finite
 use Rattle.std.specs.List.{IsDistinct, AllByRecursion, Contains, flat_map, range_with_len}
@@ -15,18 +15,16 @@ use Rattle.std.proofs.lemmas.Map.Views.{Contains-from_lookup, lookup-from_Contai
 use Rattle.java_hash.specs.Stripes.{stripe_of}
 use Rattle.map_types.specs.declared.texts.Value.{Value}
 use Rattle.map_types.specs.declared.texts.Value.TheVariants.{Int}
-use Rattle.map_model.specs.Maps.{Map}
+use Rattle.map_model.specs.Maps.{Map, Entries}
 use Rattle.map_model.specs.Parts.{part_of, parts_of, union_of}
 use Rattle.map_model.proofs.EntryLaws.{map_of, get-map_of, entries-map_of}
 use Rattle.map_model.proofs.MapLaws.{same_gets}
+use Rattle.map_model.proofs.KeyLaws.{less_from}
 use Rattle.store_layout.proofs.EntryRows.{rising_from_sorted}
 use Rattle.checkpoint_file.specs.States.{AreKeysOf}
 use Rattle.checkpoint_walk.proofs.Keys.{keys_of_part}
 use Rattle.sim_rules.specs.declared.outcome.MapEntry.{MapEntry}
 use Rattle.sim_rules.specs.Cases.{entry_of}
-
-abbrev Entries : Type 0
-Entries = List (List ℕ × Value)
 
 abbrev is_same_key : List ℕ → List ℕ → Bool
 is_same_key q k = eq_by_cmp (slice_cmp nat_cmp) q k
@@ -119,11 +117,6 @@ found-permutation q es fs one two moved =
         | None ↦ λ is. refl
       ] refl
     ] refl
-
-less_from : (r s : Ordering) → s ≡ ordering_reverse r → is_lt s ≡ false → is_eq r ≡ false → r ≡ Less
-less_from Less s is below apart = refl
-less_from Equal s is below apart = cc
-less_from Greater s is below apart = let no : true ≡ false = ap is_lt (sym is) ∙ below in cc
 
 no_entry : MapEntry
 no_entry = record { key = []; value = Int (pos 0) }

@@ -3,6 +3,7 @@ use Rattle.std.proofs.Common.{◌≡◌, ℕ, ◌≤◌, List, length, Option, N
 use Rattle.disk_model.specs.Files.{AreCoherent, Contents, Leaves, now}
 use Rattle.ticket_order.specs.Legality.{history_of}
 use Rattle.one_history.specs.Turns.{record_of}
+use Rattle.disk_model.proofs.FileLemmas.{now_coherent}
 use Rattle.store_layout.specs.Opening.{StandsForFront}
 use Rattle.flusher.specs.Fitting.{StopsFit}
 use Rattle.sim_rules.specs.Laws.{KnownStands}
@@ -18,8 +19,8 @@ use Rattle.schedule_sim.specs.declared.traced.Traced.{Traced}
 use Rattle.schedule_sim.specs.Living.{IsLife}
 use Rattle.schedule_sim.specs.Storing.{IsClosed, IsDurable, IsStore, StandsNow}
 use Rattle.schedule_sim.specs.Tracing.{traced_honest, traced_states}
-use Rattle.schedule_sim.proofs.Kept.{life_there}
-use Rattle.schedule_sim.proofs.OpenedStores.{leaves_seen, now_coherent, seen_stands}
+use Rattle.schedule_sim.proofs.LivesParts.{life_there}
+use Rattle.schedule_sim.proofs.OpenedStores.{leaves_seen, seen_stands}
 use Rattle.schedule_sim.proofs.Stopping.{life_keeps}
 
 -- between lives

@@ -28,7 +28,7 @@ use Rattle.sim_rules.specs.Due.{checkpoint_call, due_call, due_file, log_call}
 use Rattle.sim_rules.specs.Laws.{KnownStands}
 use Rattle.sim_keeper.specs.Laws.{CallsAreTold, CheckpointAnswers, CheckpointCallIsTold, FilesAreTold, LogAnswers, LogCallIsTold, StagedIsTold, file_due}
 use Rattle.sim_keeper.specs.Promises.{IsMade, TriesCheckpoint, TriesLog}
-use Rattle.sim_keeper.specs.Standing.{KeeperStands}
+use Rattle.sim_keeper.specs.KeeperInWorld.{KeeperStands}
 use Rattle.sim_keeper.proofs.SameCall.{known_call}
 use Rattle.schedule_sim.specs.declared.job.Job.{Job}
 use Rattle.schedule_sim.specs.declared.traced.Traced.{Traced}
@@ -38,7 +38,7 @@ use Rattle.schedule_sim.specs.Noting.{WasLast}
 use Rattle.schedule_sim.specs.Storing.{IsInterrupted}
 use Rattle.schedule_sim.specs.Tracing.{traced_honest, traced_states}
 use Rattle.schedule_sim.proofs.Devices.{Leaves, checkpoint_made, due_told, has_due, log_made, newest_has, noted, phase_due, planned_fits, planned_stands}
-use Rattle.schedule_sim.proofs.Kept.{fits_now, life_there}
+use Rattle.schedule_sim.proofs.LivesParts.{fits_now, life_there}
 use Rattle.schedule_sim.proofs.Stopping.{life_keeps}
 use Rattle.schedule_sim.proofs.TracedCalls.{HasOneMore}
 

@@ -15,16 +15,17 @@ use Rattle.flusher.specs.declared.keeper.Keeper.{Keeper}
 use Rattle.checkpoint_walk.specs.Walking.{FitsWalking}
 use Rattle.sim_rules.specs.declared.outcome.Made.{Made}
 use Rattle.sim_rules.specs.World.{World, Life}
+use Rattle.sim_rules.specs.Told.{told_of}
 use Rattle.sim_workers.specs.Doings.{Doing}
 use Rattle.sim_workers.specs.Laws.{FreeIsTold, HeldIsTold}
-use Rattle.sim_workers.specs.Words.{WordsStand}
+use Rattle.sim_workers.specs.WordsInWorld.{WordsStand}
 use Rattle.sim_workers.specs.Workers.{DrawsNone, KeeperMoves, WorkersStand}
 use Rattle.sim_keeper.specs.Laws.{CountsAreTold, FrontIsSeen, PassHolds, StripeIsTold}
-use Rattle.sim_keeper.specs.Standing.{KeeperStands, SeesHistory}
+use Rattle.sim_keeper.specs.KeeperInWorld.{KeeperStands, SeesHistory}
 use Rattle.sim_keeper.specs.Telling as telling
 use Rattle.schedule_sim.specs.declared.traced.Traced.{Traced}
 use Rattle.schedule_sim.specs.Tracing.{traced_states, traced_honest}
-use Rattle.schedule_sim.specs.Watching.{MakesStep, told_of}
+use Rattle.schedule_sim.specs.Watching.{MakesStep}
 
 -- ---- a step that draws no ticket
 
@@ -60,17 +61,6 @@ history_kept (FoundAlive is_alive) b b' none moved = moved.0.same.history
 
 -- ---- as it is told
 
-pub told_there : (s : StepMade) (m : Made) → told_of s ≡ Some m → telling.told_of s ≡ Some m
-told_there (Took i outbox) m e = e
-told_there (FoundHeld i) m e = e
-told_there (Gave i) m e = e
-told_there (Drew t) m e = e
-told_there (Looked q) m e = e
-told_there (Published x) m e = absurd cc
-told_there (Saw d) m e = e
-told_there Failed m e = absurd cc
-told_there (FoundAlive is_alive) m e = e
-
 some_same : {A : Type 0} {a b : A} → Some a ≡ Some b → a ≡ b
 some_same e = cc
 
@@ -99,7 +89,7 @@ pub sees_after : FrontIsSeen → (b b' : Book) (w : World) (l : Life) (doings : 
     → SeesHistory (record_of 64 b') w l
 sees_after sees b b' w l doings kind m stand made none one =
     let words = stand.words in
-    let knows : Knows b'.opening b'.stripes b'.history b'.authors b'.deeds 64 (record_of 64 b') = one.passes 64 (omega (arith, stand.passes, made.moved.passes)) in
+    let knows : Knows b'.opening b'.stripes b'.history b'.authors b'.effects 64 (record_of 64 b') = one.passes 64 (omega (arith, stand.passes, made.moved.passes)) in
     let kept : b'.history ≡ b.history = history_kept made.step b b' (undrawn made.step kind made.kind_is none) made.moved.words in
     sees (record_of 64 b') w l words.before b.history knows.front.rest words.history (words.count ∙ sym words.first)
     (ap (λ o. o.first) (knows.opening ∙ made.moved.opening) ∙ sym words.first) (ap (λ o. o.map) (knows.opening ∙ made.moved.opening) ∙ words.map)
@@ -112,7 +102,7 @@ step_told free held sees b b' w l doings kind m stand made none one = record {
   step = made.step;
   steps = made.steps;
   kind_is = made.kind_is;
-  told_is = told_there made.step m made.told_is;
+  told_is = made.told_is;
   agrees = agrees free held b b' w l doings made.step m stand made.moved.words made.told_is;
   history = sees_after sees b b' w l doings kind m stand made none one;
 }

@@ -1,5 +1,5 @@
 pub mod Telling
-pub mod Kept
+pub mod LivesParts
 pub mod Doing
 pub mod Workers
 pub mod KeeperTold

@@ -27,7 +27,7 @@ use Rattle.schedule_sim.specs.Noting.{WasLast}
 use Rattle.schedule_sim.specs.Tracing.{traced_states, traced_honest}
 use Rattle.schedule_sim.proofs.DeviceEnds.{ends_call}
 use Rattle.schedule_sim.proofs.Devices.{log_made, noted, planned_fits}
-use Rattle.schedule_sim.proofs.Kept.{fits_now}
+use Rattle.schedule_sim.proofs.LivesParts.{fits_now}
 
 -- The keeper's fit goes on with the call.
 abbrev pub Refits : sim.Life → Traced → Keeper Traced → Result Phase Refusal → Type 0

@@ -1,5 +1,5 @@
 -- What an opening leaves of a store.
-use Rattle.std.proofs.Common.{◌≡◌, ◌⊎◌, inl, inr, ℕ, ◌+◌, ◌-◌, ◌<◌, ◌≤◌, ◌&&◌, ◌==◌, nat_lt, nat_le, if◌then◌else◌, List, [], ◌∷◌, length, map, take, Bool, true, false, Option, None, Some, MatchBool, Vec, Global, refl, sym, ◌∙◌, ap, subst, arith}
+use Rattle.std.proofs.Common.{◌≡◌, ◌⊎◌, inl, inr, ℕ, ◌+◌, ◌-◌, ◌≤◌, nat_lt, nat_le, if◌then◌else◌, List, length, map, take, Bool, true, false, Option, None, Some, MatchBool, Vec, Global, refl, sym, ◌∙◌, ap, subst, arith}
 use Rattle.std.specs.FinMap as finite
 use Rattle.std.proofs.lemmas.Bool.Decides.{nat_tests}
 use Rattle.std.proofs.lemmas.List.{ext_get_or, length-take-le}
@@ -9,10 +9,12 @@ use Rattle.map_model.specs.Laws.{PartsMakeTheMap}
 use Rattle.map_model.specs.Parts.{union_of}
 use Rattle.map_model.specs.Steps.{fold_of}
 use Rattle.java_hash.specs.declared.stripe_count.StripeCount.{StripeCount}
+use Rattle.java_hash.proofs.StripeLaws.{some_stripe}
 use Rattle.atomic_methods.specs.PartState.{PartState}
 use Rattle.one_history.specs.Turns.{maps_of}
-use Rattle.disk_model.specs.Files.{AllCoherent, AreCoherent, Contents, File, Files, IsCoherent, Leaves, MayLeave, at_rest, empty_coherent, now, synced}
+use Rattle.disk_model.specs.Files.{AreCoherent, Contents, File, Files, IsCoherent, Leaves, MayLeave, at_rest, now, synced}
 use Rattle.disk_model.specs.Memory.{memory_failures}
+use Rattle.disk_model.proofs.FileLemmas.{now_coherent}
 use Rattle.file_pieces.specs.Counting.{Made, MadeAtMost}
 use Rattle.store_layout.specs.Calls.{opening_calls}
 use Rattle.store_layout.specs.Opening.{Holds, Opened, Refuses, StandsForFront, map_of, prefix_of}
@@ -39,7 +41,6 @@ use Rattle.schedule_sim.specs.Opening.{LastFails}
 use Rattle.schedule_sim.specs.Storing.{DidStore, IsClosed, IsOpening}
 use Rattle.schedule_sim.specs.Tracing.{traced_honest, traced_states}
 use Rattle.schedule_sim.proofs.OpenedFiles.{HasFailed, Synced, all_synced, at_least, failed_leaves, syncs_and_looks}
-use Rattle.schedule_sim.proofs.Openings.{some_stripes}
 use Rattle.schedule_sim.proofs.Stores.{nothing}
 
 -- ---- what a stop leaves of files that were synced
@@ -57,10 +58,6 @@ before_by false file content is may = may
 
 leaves_before : (n : ℕ) (files : Files) (contents : Contents) → AreCoherent files → Leaves (synced_below n files) contents → Leaves files contents
 leaves_before n files contents are leaves number low = before_by (nat_lt number n) (files number) (contents number) (are number low) (leaves number low)
-
-pub now_coherent : (states : List Files) → AllCoherent states → AreCoherent (now states)
-now_coherent [] all = empty_coherent
-now_coherent (files ∷ past) all = all.0
 
 closed_coherent : (w : World) (least : ℕ) (old : Traced) → IsClosed w least old → AreCoherent w.files
 closed_coherent w least old closed = subst AreCoherent (sym closed.files) (now_coherent (traced_states old) old.disk.coherent)
@@ -184,7 +181,7 @@ opened_did laws w least stripes fails_at calls old keeper parts first entries li
     let found = opened.found in
     let holds = subst (λ files. Holds (seen_of files) found) (sym closed.files) opened.holds in
     let front : IsFront w least found = laws.front w least (length w.history) found holds (seen_stands w least old closed) in
-    let union : union_of (maps_of parts) ≡ map_of found = ap union_of opened.divided.maps ∙ laws.parts stripes.count (map_of found) (some_stripes stripes.count stripes.allowed) in
+    let union : union_of (maps_of parts) ≡ map_of found = ap union_of opened.divided.maps ∙ laws.parts stripes.count (map_of found) (some_stripe stripes.count stripes.allowed) in
     let finds : Finds w found first entries.items = record { holds = holds; prefix_is = opened.first_is; entries_are = entries_are ∙ ap (λ m. finite.entries m) union } in
     let leaves = after_opened w found stripes fails_at calls first entries closed.life in
     let synced : Synced (traced_states old) (traced_states keeper.disk) = syncs_and_looks traced_states (λ (traced : Traced). memory_failures traced.disk) traced_honest 0 old keeper.disk syncs in

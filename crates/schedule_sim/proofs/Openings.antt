@@ -1,19 +1,17 @@
 -- A life at its beginning.
-use Rattle.std.proofs.Common.{◌≡◌, ℕ, ◌+◌, ◌-◌, ◌<◌, List, [], ◌∷◌, length, replicate, get_or, None, Some, Option, refl, sym, ◌∙◌, ap, subst, true, arith}
-use Rattle.std.proofs.lemmas.Bool.Decides.{nat_tests}
-use Rattle.std.proofs.lemmas.List.{get_or-replicate, length-replicate, length-append, get_or-append_right}
+use Rattle.std.proofs.Common.{◌≡◌, ℕ, ◌+◌, ◌-◌, ◌<◌, List, [], length, replicate, None, Some, Option, refl, sym, ◌∙◌, ap, subst, arith}
+use Rattle.std.proofs.lemmas.List.{get_or-replicate, length-replicate, length-append}
 use Rattle.java_hash.specs.declared.stripe_count.StripeCount.{StripeCount}
-use Rattle.java_hash.specs.Stripes.{is_stripe_count}
 use Rattle.map_model.specs.Laws.{PartsMakeTheMap}
 use Rattle.map_model.specs.Parts.{union_of}
 use Rattle.map_model.specs.Steps.{fold_of}
 use Rattle.atomic_methods.specs.PartState.{PartState}
 use Rattle.ticket_order.specs.declared.record.Opening.{Opening}
 use Rattle.ticket_order.specs.declared.record.Record.{Record}
-use Rattle.ticket_order.specs.Records.{enrolling, keeper_at_start, newcomer}
 use Rattle.one_history.specs.declared.book.Book.{Book}
 use Rattle.one_history.specs.OneHistory.{HoldApart, IsOneHistory}
-use Rattle.one_history.specs.Turns.{at_start, maps_of, opening_of, record_of, started}
+use Rattle.one_history.specs.Turns.{at_start, maps_of, opening_of, record_of}
+use Rattle.one_history.proofs.Starts.{keeper as keepers, keeper_at}
 use Rattle.flusher.specs.declared.keeper.Keeper.{Keeper}
 use Rattle.flusher.specs.Fitting.{Fits, IsUnused}
 use Rattle.checkpoint_walk.specs.Walking.{FitsBy}
@@ -28,7 +26,7 @@ use Rattle.recovery.specs.Opening.{IsAtStart}
 use Rattle.sim_rules.specs.World.{World, start}
 use Rattle.sim_workers.specs.Laws.{LifeBegins}
 use Rattle.sim_keeper.specs.Laws.{OpeningStands}
-use Rattle.sim_keeper.specs.Standing.{HasKeeper}
+use Rattle.sim_keeper.specs.KeeperInWorld.{HasKeeper}
 use Rattle.schedule_sim.specs.declared.traced.Traced.{Traced}
 use Rattle.schedule_sim.specs.declared.job.Job.{Job}
 use Rattle.schedule_sim.specs.declared.job.Job.TheVariants.{Idle}
@@ -36,21 +34,6 @@ use Rattle.schedule_sim.specs.Tracing.{traced_states, traced_honest}
 use Rattle.schedule_sim.specs.Workers.{doing_of, doings_of}
 use Rattle.schedule_sim.specs.Living.{IsLifeOf}
 use Rattle.schedule_sim.specs.Storing.{IsClosed, IsOpening}
-
-pub some_stripes : (n : ℕ) → is_stripe_count n ≡ true → 0 < n
-some_stripes n e = grind (arith, nat_tests)
-
-abbrev worker : Opening → ℕ → Record
-worker o n = enrolling (newcomer o) n
-
-abbrev keepers : Opening → ℕ → Record
-keepers o n = enrolling (keeper_at_start o) n
-
-keeper_at : (o : Opening) (stripes n : ℕ) → record_of n (started o stripes n) ≡ keepers o (n + 1)
-keeper_at o stripes n =
-    let zero_left : n - n ≡ 0 = omega arith in
-    get_or-append_right (replicate n (worker o (n + 1))) (keepers o (n + 1) ∷ []) n n (newcomer o) (length-replicate n (worker o (n + 1))) (omega arith)
-    ∙ ap (λ i. get_or (keepers o (n + 1) ∷ []) i (newcomer o)) zero_left
 
 unused : (o : Opening) (n : ℕ) → IsUnused o.first (keepers o n)
 unused o n = record { opening = refl; keeper = refl; free = refl; none_taken = refl; published = refl; works = refl }

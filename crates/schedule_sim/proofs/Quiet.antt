@@ -6,7 +6,7 @@ use Rattle.one_history.specs.declared.book.Book.{Book}
 use Rattle.one_history.specs.Turns.{record_of}
 use Rattle.flusher.specs.declared.keeper.Keeper.{Keeper}
 use Rattle.flusher.specs.Fitting.{Fits}
-use Rattle.flusher.specs.Keeping.{is_walking}
+use Rattle.flusher.specs.KeeperSteps.{is_walking}
 use Rattle.checkpoint_walk.specs.Walking.{FitsBy, FitsWalking}
 use Rattle.sim_rules.specs.declared.event.Event.{Event}
 use Rattle.sim_rules.specs.declared.event.Event.TheVariants as event
@@ -18,14 +18,14 @@ use Rattle.sim_workers.specs.Laws.{KeeperRests}
 use Rattle.sim_workers.specs.Workers.{ConcernsNone, WorkersStand}
 use Rattle.sim_keeper.specs.Laws.{BeginAnswers, SealAnswers, WalkIsTold, begun_as, sealing_as}
 use Rattle.sim_keeper.specs.Promises.{TriesBegin, TriesSeal}
-use Rattle.sim_keeper.specs.Standing.{Answers, HasKeeper}
+use Rattle.sim_keeper.specs.KeeperInWorld.{Answers, HasKeeper}
 use Rattle.schedule_sim.specs.declared.traced.Traced.{Traced}
 use Rattle.schedule_sim.specs.declared.job.Job.{Job}
 use Rattle.schedule_sim.specs.declared.life.Life as sim
 use Rattle.schedule_sim.specs.Tracing.{traced_states, traced_honest}
 use Rattle.schedule_sim.specs.Living.{Did, IsLife, IsLifeOf}
 use Rattle.schedule_sim.specs.Workers.{doings_of}
-use Rattle.schedule_sim.proofs.Kept.{fits_now, life_there}
+use Rattle.schedule_sim.proofs.LivesParts.{fits_now, life_there}
 use Rattle.schedule_sim.proofs.Doing.{did, did_skip}
 
 -- ---- whether the keeper walks

@@ -8,18 +8,18 @@ use Rattle.one_history.specs.OneHistory.{HasDone}
 use Rattle.one_history.specs.Turns.{record_of}
 use Rattle.flusher.specs.declared.keeper.Keeper.{Keeper}
 use Rattle.flusher.specs.Fitting.{Fits}
-use Rattle.flusher.specs.Keeping.{is_walking}
+use Rattle.flusher.specs.KeeperSteps.{is_walking}
 use Rattle.checkpoint_walk.specs.Walking.{FitsWalking}
 use Rattle.sim_rules.specs.declared.event.Event.TheVariants as event
 use Rattle.sim_rules.specs.declared.outcome.Outcome.TheVariants as outcome
 use Rattle.sim_rules.specs.World.{World, Life, rests}
 use Rattle.sim_rules.specs.After.{staged_by, with_life}
 use Rattle.sim_workers.specs.Laws.{KeeperRests}
-use Rattle.sim_workers.specs.Words.{IsOfLife, IsTaken}
+use Rattle.sim_workers.specs.WordsInWorld.{IsOfLife, IsTaken}
 use Rattle.sim_workers.specs.Workers.{ConcernsNone, WorkersStand}
 use Rattle.sim_keeper.specs.Laws.{StageAnswers, WalkIsTold, staged_as}
 use Rattle.sim_keeper.specs.Promises.{TriesStage}
-use Rattle.sim_keeper.specs.Standing.{Answers, TellsPlaces}
+use Rattle.sim_keeper.specs.KeeperInWorld.{Answers, TellsPlaces}
 use Rattle.sim_workers.specs.Doings.{Doing}
 use Rattle.schedule_sim.specs.declared.traced.Traced.{Traced}
 use Rattle.schedule_sim.specs.declared.job.Job.{Job}
@@ -27,22 +27,22 @@ use Rattle.schedule_sim.specs.declared.life.Life as sim
 use Rattle.schedule_sim.specs.Tracing.{traced_states, traced_honest}
 use Rattle.schedule_sim.specs.Living.{Did, IsLife, IsLifeOf}
 use Rattle.schedule_sim.specs.Workers.{doings_of}
-use Rattle.schedule_sim.proofs.Kept.{fits_now, life_there}
+use Rattle.schedule_sim.proofs.LivesParts.{fits_now, life_there}
 use Rattle.schedule_sim.proofs.Doing.{did}
 use Rattle.schedule_sim.proofs.Quiet.{fits_between, goes_quietly, none_held, rests_told, stays}
 
 -- ---- the places of the tickets
 
 -- what sweeps took is what the keeper's record says
-pub taken_told : (b : Book) (w : World) (l : Life) (doings : ℕ → Doing) → WorkersStand b w l doings → (record_of 64 b).taken ≡ b.deeds.taken
+pub taken_told : (b : Book) (w : World) (l : Life) (doings : ℕ → Doing) → WorkersStand b w l doings → (record_of 64 b).taken ≡ b.effects.taken
 taken_told b w l doings k =
     let knows = k.words.one.passes 64 (omega (arith, k.passes)) in
     let by_keeper : (record_of 64 b).keeper ≡ true = knows.keeper ∙ ap (λ j. 64 == j) k.keeper in
-    (subst (λ v. HasDone b.opening b.deeds (record_of 64 b) v) by_keeper knows.done).0
+    (subst (λ v. HasDone b.opening b.effects (record_of 64 b) v) by_keeper knows.done).0
 
 pub tells_places : (b : Book) (w : World) (l : Life) (doings : ℕ → Doing) → WorkersStand b w l doings → TellsPlaces (record_of 64 b) l
 tells_places b w l doings k =
-    let same : (record_of 64 b).taken ≡ b.deeds.taken = taken_told b w l doings k in
+    let same : (record_of 64 b).taken ≡ b.effects.taken = taken_told b w l doings k in
     record {
       taken = λ e has.
           let was : IsTaken b e.ticket = (e, subst (λ es. Contains es e) same has, refl) in

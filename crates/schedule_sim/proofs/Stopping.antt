@@ -10,8 +10,8 @@ use Rattle.one_history.specs.declared.book.Book.{Book}
 use Rattle.one_history.specs.Turns.{record_of}
 use Rattle.disk_model.specs.Files.{Contents, Files, Leaves}
 use Rattle.store_layout.specs.Opening.{StandsForFront}
-use Rattle.store_layout.specs.Standing.{reach}
-use Rattle.store_invariant.specs.Standing.{StopsStand}
+use Rattle.store_layout.specs.SectionsAndLog.{reach}
+use Rattle.store_invariant.specs.StoreStates.{StopsStand}
 use Rattle.flusher.specs.declared.keeper.Keeper.{Keeper}
 use Rattle.flusher.specs.Fitting.{StopsFit}
 use Rattle.checkpoint_walk.specs.Walking.{FitsBy}
@@ -21,12 +21,12 @@ use Rattle.sim_rules.specs.Runs.{least_of, most_of, staged_in}
 use Rattle.sim_rules.specs.Sound.{AreAbove, IsKnownOf}
 use Rattle.sim_rules.specs.Laws.{KnownStands}
 use Rattle.sim_keeper.specs.Laws.{StagedIsTold}
-use Rattle.sim_keeper.specs.Standing.{SeesHistory}
+use Rattle.sim_keeper.specs.KeeperInWorld.{SeesHistory}
 use Rattle.schedule_sim.specs.declared.traced.Traced.{Traced}
 use Rattle.schedule_sim.specs.declared.job.Job.{Job}
 use Rattle.schedule_sim.specs.Tracing.{traced_states, traced_honest}
 use Rattle.schedule_sim.specs.Living.{IsLifeOf}
-use Rattle.schedule_sim.proofs.Kept.{life_there}
+use Rattle.schedule_sim.proofs.LivesParts.{life_there}
 
 -- what the pass has seen is a front of the world's history
 known : (p : Record) (w : World) (l : Life) → SeesHistory p w l → IsKnownOf (history_of p) w.history

@@ -11,7 +11,7 @@ use Rattle.sim_rules.specs.declared.outcome.MapEntry.{MapEntry}
 use Rattle.sim_workers.specs.Doings.{Doing}
 use Rattle.sim_workers.specs.Workers.{StandWith}
 use Rattle.schedule_sim.specs.Workers.{doings_of}
-use Rattle.schedule_sim.proofs.Kept.{life_there}
+use Rattle.schedule_sim.proofs.LivesParts.{life_there}
 use Rattle.sim_rules.specs.declared.event.Event.{Event}
 use Rattle.sim_rules.specs.declared.event.Event.TheVariants as event
 use Rattle.sim_rules.specs.declared.outcome.Outcome.{Outcome}

@@ -14,7 +14,7 @@ use Rattle.flusher.specs.declared.sweeper.Swept.TheVariants.{More, Held, Done}
 use Rattle.flusher.specs.declared.sweeper.Walking.{Walking}
 use Rattle.flusher.specs.declared.sweeper.Walking.TheVariants as walking
 use Rattle.flusher.specs.Fitting.{Fits}
-use Rattle.flusher.specs.Keeping.{is_walking}
+use Rattle.flusher.specs.KeeperSteps.{is_walking}
 use Rattle.flusher.specs.Sweeping.{AfterGive, DrainsStripe, IsHolding, StandsBy, StepsOn, next_kind}
 use Rattle.gate_log.specs.States.{commands_of}
 use Rattle.checkpoint_walk.specs.Walking.{FitsBy, FitsWalking}
@@ -30,7 +30,7 @@ use Rattle.sim_workers.specs.Workers as workers
 use Rattle.sim_keeper.specs.Laws.{CountsAreTold, FrontIsSeen, NoneTaken, PassHolds, StripeIsTold, SweepAnswers, SweepStepAnswers, SweepTakesNone, SweepTakesOutbox, WalkIsTold}
 use Rattle.sim_keeper.specs.Promises.{StepsSweep}
 use Rattle.sim_keeper.specs.Showing.{sweep_shown, walk_by, walking_shown}
-use Rattle.sim_keeper.specs.Standing.{Answers, KeeperStands}
+use Rattle.sim_keeper.specs.KeeperInWorld.{Answers, KeeperStands}
 use Rattle.sim_keeper.specs.Telling as telling
 use Rattle.sim_keeper.specs.Telling.{sweep_end}
 use Rattle.schedule_sim.specs.declared.life.Life as sim
@@ -39,10 +39,10 @@ use Rattle.schedule_sim.specs.Living.{Did, IsLifeOf}
 use Rattle.schedule_sim.specs.Tracing.{traced_states, traced_honest}
 use Rattle.schedule_sim.specs.declared.watched.Watched.{Watched}
 use Rattle.schedule_sim.specs.Watching.{MakesStep}
-use Rattle.schedule_sim.specs.Words.{watched_moves, watched_place, watched_record, watched_stripes}
+use Rattle.schedule_sim.specs.WatchedWords.{watched_moves, watched_place, watched_record, watched_stripes}
 use Rattle.schedule_sim.specs.Workers.{doings_of}
 use Rattle.schedule_sim.proofs.Doing.{did}
-use Rattle.schedule_sim.proofs.Kept.{Parts, fits_now}
+use Rattle.schedule_sim.proofs.LivesParts.{Parts, fits_now}
 use Rattle.schedule_sim.proofs.Telling.{second_same, step_made}
 use Rattle.schedule_sim.proofs.KeeperTold.{DrawsNoTicket, SameWorkers, keeper_moves, step_told}
 

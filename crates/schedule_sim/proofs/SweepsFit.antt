@@ -4,7 +4,7 @@ use Rattle.ticket_order.specs.declared.walk.Walk.{Walk}
 use Rattle.one_history.specs.declared.book.Book.{Book}
 use Rattle.one_history.specs.Turns.{record_of}
 use Rattle.flusher.specs.declared.keeper.Keeper.{Keeper}
-use Rattle.flusher.specs.Keeping.{is_walking}
+use Rattle.flusher.specs.KeeperSteps.{is_walking}
 use Rattle.sim_rules.specs.declared.event.Event.TheVariants as event
 use Rattle.sim_rules.specs.World.{World}
 use Rattle.sim_rules.specs.Fitting.{fits, fits_with}
@@ -13,7 +13,7 @@ use Rattle.schedule_sim.specs.declared.traced.Traced.{Traced}
 use Rattle.schedule_sim.specs.declared.job.Job.{Job}
 use Rattle.schedule_sim.specs.Tracing.{traced_states}
 use Rattle.schedule_sim.specs.Living.{IsLifeOf}
-use Rattle.schedule_sim.proofs.Kept.{life_there}
+use Rattle.schedule_sim.proofs.LivesParts.{life_there}
 
 -- a sweep may begin where no walk is under way
 pub sweep_fits : WalkIsTold traced_states → (w : World) (keeper : Keeper Traced) (b : Book) (jobs : List Job) (walks : Bool) → IsLifeOf w keeper b jobs

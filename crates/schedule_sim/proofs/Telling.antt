@@ -18,9 +18,10 @@ use Rattle.flusher.specs.Sweeping as sweeping
 use Rattle.checkpoint_walk.specs.Walking as capturing
 use Rattle.sim_rules.specs.declared.outcome.Made.{Made}
 use Rattle.one_history.specs.declared.book.Book.{Book}
+use Rattle.sim_rules.specs.Told.{told_of}
 use Rattle.schedule_sim.specs.declared.watched.Watched.{Watched}
-use Rattle.schedule_sim.specs.Watching.{IsTold, MakesStep, told_of}
-use Rattle.schedule_sim.specs.Words.{watched_record, watched_moves}
+use Rattle.schedule_sim.specs.Watching.{IsTold, MakesStep}
+use Rattle.schedule_sim.specs.WatchedWords.{watched_record, watched_moves}
 
 -- a step of a kind that is told is told
 pub told : (s : StepMade) → IsTold (kind_of s) → (made : Made) × (told_of s ≡ Some made)

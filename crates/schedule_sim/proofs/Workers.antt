@@ -8,8 +8,6 @@ use Rattle.ticket_order.specs.declared.held.Held.{Held}
 use Rattle.ticket_order.specs.declared.held.Released.TheVariants as answer
 use Rattle.ticket_order.specs.declared.record.Asked.TheVariants.{Changing, Reading}
 use Rattle.ticket_order.specs.declared.record.Record.{Record}
-use Rattle.ticket_order.specs.declared.record.StepMade.{StepMade}
-use Rattle.ticket_order.specs.declared.record.StepMade.TheVariants.{Took, FoundHeld, Gave, Drew, Looked, Published, Saw, Failed, FoundAlive}
 use Rattle.ticket_order.specs.declared.walk.Walk.{Walk}
 use Rattle.ticket_order.specs.declared.walk.Stepped.{Stepped}
 use Rattle.ticket_order.specs.declared.walk.Stepped.TheVariants as stepped
@@ -31,17 +29,17 @@ use Rattle.sim_workers.specs.Doings as doings
 use Rattle.sim_workers.specs.Laws.{KeepsStanding, ChangeFits, ReadFits, StepFits, ReleaseFits, ChangeBegins, ReadBegins, ReleaseBegins, CallSteps, CallsLeave, ReleaseSteps, ReleasesLeave, WalksAreUnderWay}
 use Rattle.sim_workers.specs.Workers as states
 use Rattle.sim_keeper.specs.Laws.{WorkersLeaveKeeper}
-use Rattle.sim_keeper.specs.Standing.{HasKeeper}
+use Rattle.sim_keeper.specs.KeeperInWorld.{HasKeeper}
 use Rattle.schedule_sim.specs.declared.traced.Traced.{Traced}
 use Rattle.schedule_sim.specs.declared.job.Job.{Job}
 use Rattle.schedule_sim.specs.declared.job.Job.TheVariants.{Idle, Calling, Waiting, Releasing}
 use Rattle.schedule_sim.specs.declared.life.Life.{Life}
 use Rattle.schedule_sim.specs.Living.{Did, IsLife, IsLifeOf, is_of_life}
 use Rattle.schedule_sim.specs.Tracing.{traced_states}
-use Rattle.schedule_sim.specs.Watching.{MakesStep, told_of}
+use Rattle.schedule_sim.specs.Watching.{MakesStep}
 use Rattle.schedule_sim.specs.Workers.{IsOfCall, IsOfRelease, called_of, doing_of, doings_of, job_of, released_of}
 use Rattle.schedule_sim.proofs.Doing.{IsNoSkip, did_skip, goes_on}
-use Rattle.schedule_sim.proofs.Kept.{life_there}
+use Rattle.schedule_sim.proofs.LivesParts.{life_there}
 
 -- ---- the jobs
 
@@ -180,23 +178,12 @@ release_did begins leaves w keeper b jobs j held walk life a lt waits fits same_
 
 -- ---- a walk makes its next step
 
-told_so : (step : StepMade) → doings.told_of step ≡ told_of step
-told_so (Took i outbox) = refl
-told_so (FoundHeld i) = refl
-told_so (Gave i) = refl
-told_so (Drew t) = refl
-told_so (Looked q) = refl
-told_so (Published x) = refl
-told_so (Saw d) = refl
-told_so Failed = refl
-told_so (FoundAlive is_alive) = refl
-
 makes_one : (j : ℕ) (kind : Kind) (b b' : Book) (m : Made) → MakesStep j kind b b' m → IsOneHistory b' → HoldApart b' → states.MakesStep j b b' m
 makes_one j kind b b' m s one apart = record {
   step = s.step;
   steps = s.steps;
   moved = s.moved;
-  told = told_so s.step ∙ s.told_is;
+  told = s.told_is;
   one = one;
   apart = apart;
 }

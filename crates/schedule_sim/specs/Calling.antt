@@ -4,7 +4,7 @@ use Rattle.disk_model.specs.Gates.{Call, writes, syncs}
 use Rattle.store_layout.specs.Logs.{log_file}
 use Rattle.gate_log.specs.States.{call_in}
 use Rattle.flusher.specs.declared.keeper.Keeper.{Keeper}
-use Rattle.flusher.specs.Keeping.{is_walking}
+use Rattle.flusher.specs.KeeperSteps.{is_walking}
 use Rattle.flusher.specs.Rotating.{due_of, logs_of}
 use Rattle.checkpoint_walk.specs.Checkpointing.{call_due}
 use Rattle.sim_keeper.specs.Laws.{file_due}

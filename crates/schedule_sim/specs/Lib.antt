@@ -1,7 +1,7 @@
 pub mod Calling
 pub mod Noting
 pub mod Watching
-pub mod Words
+pub mod WatchedWords
 pub mod Tracing
 pub mod Workers
 pub mod Living

@@ -14,7 +14,7 @@ use Rattle.sim_rules.specs.After.{after}
 use Rattle.sim_rules.specs.Cases.{Meets}
 use Rattle.sim_rules.specs.Sound.{AnswersLegally}
 use Rattle.sim_workers.specs.Workers.{Stand}
-use Rattle.sim_keeper.specs.Standing.{HasKeeper}
+use Rattle.sim_keeper.specs.KeeperInWorld.{HasKeeper}
 use Rattle.schedule_sim.specs.declared.traced.Traced.{Traced}
 use Rattle.schedule_sim.specs.declared.job.Job.{Job}
 use Rattle.schedule_sim.specs.declared.job.Job.TheVariants.{Idle}

@@ -9,7 +9,7 @@ use Rattle.recovery.specs.LogReading.{GoesOnFrom}
 use Rattle.store_layout.specs.Opening.{Opened, map_of, newest_of, prefix_of}
 use Rattle.sim_rules.specs.declared.event.Side.{Side}
 use Rattle.sim_rules.specs.declared.outcome.DeviceCall.{DeviceCall}
-use Rattle.store_invariant.specs.Standing.{StopsStand}
+use Rattle.store_invariant.specs.StoreStates.{StopsStand}
 use Rattle.sim_rules.specs.declared.event.Event.{Event}
 use Rattle.sim_rules.specs.declared.event.Event.TheVariants as event
 use Rattle.sim_rules.specs.declared.outcome.Outcome.{Outcome}

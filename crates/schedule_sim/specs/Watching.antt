@@ -1,25 +1,12 @@
 -- The steps of a walk, as they are told.
-use Rattle.std.specs.Prelude.{◌≡◌, ℕ, ◌++◌, ◌∷◌, [], Option, None, Some}
+use Rattle.std.specs.Prelude.{◌≡◌, ℕ, ◌++◌, ◌∷◌, [], Option, Some}
 use Rattle.ticket_order.specs.declared.record.StepMade.{StepMade}
-use Rattle.ticket_order.specs.declared.record.StepMade.TheVariants.{Took, FoundHeld, Gave, Drew, Looked, Published, Saw, Failed, FoundAlive}
 use Rattle.ticket_order.specs.Walks.{Kind, Durable, Fail, Take, Give, Ticket, Look, See, Alive, kind_of}
 use Rattle.sim_rules.specs.declared.outcome.Made.{Made}
-use Rattle.sim_rules.specs.declared.outcome.Made.TheVariants as told
 use Rattle.one_history.specs.declared.book.Book.{Book}
 use Rattle.one_history.specs.Moves.{BookMoves}
 use Rattle.one_history.specs.Turns.{record_of}
-
--- the step as it is told; a DURABLE and a FAIL are the keeper's alone, and no walk makes them
-abbrev pub told_of : StepMade → Option Made
-told_of (Took i outbox) = Some (told.Took i)
-told_of (FoundHeld i) = Some (told.FoundHeld i)
-told_of (Gave i) = Some (told.Gave i)
-told_of (Drew t) = Some (told.Drew t)
-told_of (Looked q) = Some (told.Looked q)
-told_of (Published x) = None
-told_of (Saw d) = Some (told.Saw d)
-told_of Failed = None
-told_of (FoundAlive is_alive) = Some (told.FoundAlive is_alive)
+use Rattle.sim_rules.specs.Told.{told_of}
 
 -- one step of the pass j was made, and it was told
 pub record Moves (j : ℕ) (made : StepMade) (old new : Book) (last : Option Made) : Type 0 where

@@ -1,7 +1,7 @@
 //! What the keeper of a life does between its walks and its device calls.
 ghost use Rattle.std.specs.Prelude.{◌≡◌, Some, None, false, true, IfOk};
 ghost use Rattle.sim_keeper.specs.Telling.{capture_end, sweep_end};
-ghost use Rattle.flusher.specs.Keeping.{is_walking};
+ghost use Rattle.flusher.specs.KeeperSteps.{is_walking};
 ghost use Rattle.ticket_order.specs.declared.walk.Walk.{Walk};
 ghost use Rattle.sim_rules.specs.World.{World, Life as TheLife};
 ghost use Rattle.sim_rules.specs.Fitting.{fits, has_call};

@@ -17,7 +17,7 @@ pub(crate) struct Watched<'a> {
 }
 
 impl Steps for Watched<'_> {
-    ghost use Rattle.schedule_sim.specs.Words.{watched_record, watched_stripes, watched_place, watched_moves};
+    ghost use Rattle.schedule_sim.specs.WatchedWords.{watched_record, watched_stripes, watched_place, watched_moves};
 
     ghost recorded = { watched_record };
 

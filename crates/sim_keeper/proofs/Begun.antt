@@ -8,10 +8,11 @@ use Rattle.ticket_order.specs.declared.record.Record.{Record}
 use Rattle.disk_model.specs.Files.{File, Files, at_rest, now}
 use Rattle.store_layout.specs.Checkpoints.{checkpoint_file, is_to_close}
 use Rattle.store_layout.specs.declared.log_phase.Phase.TheVariants as log_phase
+use Rattle.store_layout.proofs.CheckpointReading.{both_true}
 use Rattle.gate_log.specs.States.{LogState, begun as log_begun}
 use Rattle.checkpoint_file.specs.States.{CheckpointState, begun, first_phase}
 use Rattle.store_invariant.specs.States.{Held, StoreState}
-use Rattle.store_invariant.specs.Standing.{WriterStands}
+use Rattle.store_invariant.specs.StoreStates.{WriterStands}
 use Rattle.flusher.specs.declared.keeper.Keeper.{Keeper}
 use Rattle.flusher.specs.Fitting.{Fits, store_of}
 use Rattle.flusher.specs.Rotating.{MayRotate, due_in}
@@ -24,8 +25,8 @@ use Rattle.sim_rules.specs.Cases.{BeginsCheckpoint, may_begin}
 use Rattle.sim_keeper.specs.Laws.{BeginAnswers, begun_as}
 use Rattle.sim_keeper.specs.Promises.{TriesBegin}
 use Rattle.sim_keeper.specs.Showing.{calls_left, clears_left, committing, is_waiting_in, running_shown, seals_left, work_by}
-use Rattle.sim_keeper.specs.Standing.{Answers, BeginsBoth, HasKeeper, IsWritten, KeeperStands}
-use Rattle.sim_keeper.proofs.Deciding.{and_true, both_true, either, is_less, is_other, is_same, less_is, not_false, not_true, resting_idle, same_is, two_ways}
+use Rattle.sim_keeper.specs.KeeperInWorld.{Answers, BeginsBoth, HasKeeper, IsWritten, KeeperStands}
+use Rattle.sim_keeper.proofs.Deciding.{and_true, either, is_less, is_other, is_same, less_is, not_false, not_true, resting_idle, same_is, two_ways}
 use Rattle.sim_keeper.proofs.Moved.{inside, same_history}
 
 -- ---- when it may be

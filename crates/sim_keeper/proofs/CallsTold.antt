@@ -13,7 +13,7 @@ use Rattle.flusher.specs.Fitting.{Fits}
 use Rattle.sim_rules.specs.World.{World, Life, Running}
 use Rattle.sim_rules.specs.Due.{checkpoint_call}
 use Rattle.sim_keeper.specs.Laws.{CallsAreTold}
-use Rattle.sim_keeper.specs.Standing.{IsWritten, KeeperStands}
+use Rattle.sim_keeper.specs.KeeperInWorld.{IsWritten, KeeperStands}
 use Rattle.sim_keeper.proofs.CheckpointDue.{checkpoint_due}
 use Rattle.sim_keeper.proofs.LogDue.{log_due}
 

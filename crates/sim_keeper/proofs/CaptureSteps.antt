@@ -25,7 +25,7 @@ use Rattle.checkpoint_file.specs.States.{CheckpointState}
 use Rattle.flusher.specs.declared.keeper.Keeper.{Keeper}
 use Rattle.flusher.specs.declared.sweeper.Walking.{Walking}
 use Rattle.flusher.specs.declared.sweeper.Walking.TheVariants as walking
-use Rattle.flusher.specs.Keeping.{is_walking}
+use Rattle.flusher.specs.KeeperSteps.{is_walking}
 use Rattle.checkpoint_walk.specs.Capturing.{HasLooked, HasTaken}
 use Rattle.checkpoint_walk.specs.Checkpointing.{HasGiven, IsNextStripe}
 use Rattle.checkpoint_walk.specs.Walking.{AfterStep, AfterWalk, FitsBy, GivesPart, GivesPartIn, GivesSection, IsCapturing, LooksAt, PutsBack}
@@ -37,7 +37,7 @@ use Rattle.sim_rules.specs.After.{capture_gives, keeper_stepped, section_at, wit
 use Rattle.sim_rules.specs.Cases.{GivesCaptured, StepsKeeper, section_size}
 use Rattle.sim_keeper.specs.Laws.{CaptureStepAnswers}
 use Rattle.sim_keeper.specs.Showing.{capture_shown, clears_left, running_shown, seals_left, walk_by, walking_shown}
-use Rattle.sim_keeper.specs.Standing.{BeginsBoth, HasKeeper, IsWritten, KeeperStands, KnowsStore, SeesHistory}
+use Rattle.sim_keeper.specs.KeeperInWorld.{BeginsBoth, HasKeeper, IsWritten, KeeperStands, KnowsStore, SeesHistory}
 use Rattle.sim_keeper.specs.Telling.{AgreesWith, MakesStep, capture_end}
 use Rattle.sim_keeper.proofs.Moved.{same_history}
 use Rattle.sim_keeper.proofs.Captured.{same_fold, same_mark}

@@ -13,7 +13,7 @@ use Rattle.ticket_order.specs.Calls.{CapturesStripe}
 use Rattle.ticket_order.specs.Legality.{history_of}
 use Rattle.ticket_order.specs.Records.{reach}
 use Rattle.sim_rules.specs.World.{World, Life}
-use Rattle.sim_keeper.specs.Standing.{SeesHistory}
+use Rattle.sim_keeper.specs.KeeperInWorld.{SeesHistory}
 use Rattle.sim_keeper.proofs.WalkSteps.{LooksLast}
 
 take_none : {A : Type 0} (n : ℕ) → (let xs : List A = [] in take n xs ≡ xs)

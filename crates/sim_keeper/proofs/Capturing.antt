@@ -25,7 +25,7 @@ use Rattle.sim_rules.specs.Cases.{BeginsCapture, TakesForCall, may_capture}
 use Rattle.sim_keeper.specs.Laws.{CaptureAnswers, CaptureRefuses}
 use Rattle.sim_keeper.specs.Promises.{StepsCapture}
 use Rattle.sim_keeper.specs.Showing.{capture_shown}
-use Rattle.sim_keeper.specs.Standing.{Answers, HasKeeper, KeeperStands, SeesHistory}
+use Rattle.sim_keeper.specs.KeeperInWorld.{Answers, HasKeeper, KeeperStands, SeesHistory}
 use Rattle.sim_keeper.specs.Telling.{AgreesWith, MakesStep, capture_end}
 use Rattle.sim_keeper.proofs.Deciding.{two_ways}
 use Rattle.sim_keeper.proofs.Moved.{inside, same_history, same_walk}

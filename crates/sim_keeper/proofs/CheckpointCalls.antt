@@ -13,6 +13,7 @@ use Rattle.flusher.specs.declared.keeper.Keeper.{Keeper}
 use Rattle.flusher.specs.Fitting.{Fits}
 use Rattle.checkpoint_walk.specs.Checkpointing.{Checkpoints, HasGiven, StepsCheckpoint, call_due, checkpoints_of, kept_in}
 use Rattle.store_layout.specs.UsedCheckpoint.{UsesCheckpoint}
+use Rattle.store_layout.proofs.CheckpointReading.{both_true}
 use Rattle.sim_rules.specs.declared.event.Ending.TheVariants as ending
 use Rattle.sim_rules.specs.declared.event.Event.TheVariants as event
 use Rattle.sim_rules.specs.declared.event.Side.TheVariants as side
@@ -26,11 +27,11 @@ use Rattle.sim_rules.specs.Cases.{IsDue, IsPossible, UsesRunning, is_last_call, 
 use Rattle.sim_keeper.specs.Laws.{CheckpointAnswers, CheckpointFails, file_due}
 use Rattle.sim_keeper.specs.Promises.{IsMade, TriesCheckpoint}
 use Rattle.sim_keeper.specs.Showing.{running_in, running_shown, sweep_shown, walk_by, work_by}
-use Rattle.sim_keeper.specs.Standing.{Answers, BeginsBoth, IsWritten, KeeperStands, KnowsStore}
+use Rattle.sim_keeper.specs.KeeperInWorld.{Answers, BeginsBoth, IsWritten, KeeperStands, KnowsStore}
 use Rattle.sim_keeper.proofs.StagedTold.{staged_told}
 use Rattle.sim_keeper.proofs.CheckpointDue.{checkpoint_due}
 use Rattle.sim_keeper.proofs.FilesTold.{files_are_told}
-use Rattle.sim_keeper.proofs.Deciding.{both_true, not_true, two_ways}
+use Rattle.sim_keeper.proofs.Deciding.{not_true, two_ways}
 use Rattle.sim_keeper.proofs.Moved.{same_history}
 use Rattle.sim_keeper.proofs.SameCall.{known_call}
 use Rattle.sim_keeper.proofs.Sealing.{stripes_by}

@@ -8,7 +8,7 @@ use Rattle.log_records.specs.Layout.{first_layout}
 use Rattle.store_layout.specs.Checkpoints.{Section, checkpoint_header, greatest_mark, section_bytes, sections_bytes}
 use Rattle.store_layout.specs.declared.checkpoint_phase.CheckpointPhase.{CheckpointPhase}
 use Rattle.store_layout.specs.declared.checkpoint_phase.CheckpointPhase.TheVariants.{Idle, Gate, GateWritten, GateSynced, Ready, Staged, Header, HeaderWritten, HeaderSynced, Opened, Sealed}
-use Rattle.checkpoint_file.specs.Standing as checkpoint
+use Rattle.checkpoint_file.specs.CheckpointStates as checkpoint
 use Rattle.checkpoint_file.specs.States.{CheckpointState, call_in}
 use Rattle.sim_rules.specs.World.{Life}
 use Rattle.sim_rules.specs.Due.{running_call, section_call}

@@ -6,7 +6,7 @@ use Rattle.flusher.specs.declared.keeper.Keeper.{Keeper}
 use Rattle.sim_rules.specs.declared.event.Event.TheVariants as event
 use Rattle.sim_rules.specs.declared.outcome.Outcome.TheVariants as outcome
 use Rattle.sim_keeper.specs.Laws.{FailAnswers, PublishAnswers}
-use Rattle.sim_keeper.specs.Standing.{Answers}
+use Rattle.sim_keeper.specs.KeeperInWorld.{Answers}
 use Rattle.sim_keeper.proofs.Moved.{same_walk}
 
 pub publish_answers : {D : Type 0} (states : D → List Files) (honest : D → Type 0) → PublishAnswers states honest

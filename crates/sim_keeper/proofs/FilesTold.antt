@@ -7,9 +7,9 @@ use Rattle.store_layout.specs.Logs.{log_file}
 use Rattle.store_layout.specs.declared.log_phase.Phase.{Phase}
 use Rattle.store_layout.specs.declared.log_phase.Phase.TheVariants.{Idle, Header, HeaderWritten, Staged, Written, Synced, Opened}
 use Rattle.checkpoint_file.specs.States.{CheckpointState}
-use Rattle.gate_log.specs.Standing as log
+use Rattle.gate_log.specs.LogStates as log
 use Rattle.gate_log.specs.States.{LogState, begun}
-use Rattle.store_invariant.specs.Standing.{IsTurn}
+use Rattle.store_invariant.specs.StoreStates.{IsTurn}
 use Rattle.flusher.specs.declared.keeper.Keeper.{Keeper}
 use Rattle.flusher.specs.Fitting.{Fits}
 use Rattle.flusher.specs.Rotating.{MayRotate, due_by, due_in, due_of, logs_of}
@@ -18,7 +18,7 @@ use Rattle.sim_rules.specs.Due.{checkpoint_number, due_file, log_number}
 use Rattle.sim_rules.specs.declared.event.Side.TheVariants as side
 use Rattle.sim_keeper.specs.Laws.{FilesAreTold, file_due}
 use Rattle.sim_keeper.specs.Showing.{calls_left, committing, work_by}
-use Rattle.sim_keeper.specs.Standing.{IsWritten, KeeperStands}
+use Rattle.sim_keeper.specs.KeeperInWorld.{IsWritten, KeeperStands}
 
 -- ---- the log
 

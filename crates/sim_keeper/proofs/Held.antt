@@ -27,13 +27,13 @@ use Rattle.flusher.proofs.Quiet as swept
 use Rattle.gate_log.specs.States.{commands_of}
 use Rattle.checkpoint_walk.specs.Capturing.{HasLooked, HasTaken}
 use Rattle.checkpoint_walk.specs.Walking.{FitsBy}
+use Rattle.checkpoint_walk.proofs.CaptureWalks.{same_stripe, by_change, by_read, by_release, by_sweep}
 use Rattle.sim_rules.specs.World.{World, Life, keeper_holds, next_section, sweep_or}
 use Rattle.sim_keeper.specs.Laws.{PassHolds, StripeIsTold}
 use Rattle.sim_keeper.specs.Showing.{capture_shown, sweep_shown, walk_by, walking_shown}
-use Rattle.sim_keeper.specs.Standing.{KeeperStands}
+use Rattle.sim_keeper.specs.KeeperInWorld.{KeeperStands}
 use Rattle.sim_keeper.proofs.CaptureSteps.{next_is}
 use Rattle.sim_keeper.proofs.Deciding.{is_same, same_is}
-use Rattle.sim_keeper.proofs.WalkSteps.{by_change, by_read, by_release, by_sweep, same_capture}
 
 content_held : (p : Record) (held : Holding) (i : ℕ) → p.holding ≡ Some held → held.stripe ≡ i → PassHolds p i
 content_held p held i is same = record { held = held; holding = is; stripe_is = same }
@@ -78,9 +78,9 @@ captured_stage n b i (stage.Sweep s) p k next = absurd (by_sweep n b i s p k)
 captured_stage n b i (stage.Capture (capture.Begins alloc j)) p k (inl next) = absurd cc
 captured_stage n b i (stage.Capture (capture.Begins alloc j)) p k (inr next) = absurd cc
 captured_stage n b i (stage.Capture (capture.HasTaken alloc t)) p k next =
-    subst (λ (x : Record). PassHolds x i) (sym k.1.is) (record { held = _; holding = refl; stripe_is = sym (same_capture i t.stripe k.0) })
+    subst (λ (x : Record). PassHolds x i) (sym k.1.is) (record { held = _; holding = refl; stripe_is = sym (same_stripe i t.stripe k.0) })
 captured_stage n b i (stage.Capture (capture.HasLooked t z)) p k next =
-    subst (λ (x : Record). PassHolds x i) (sym k.1.is) (record { held = _; holding = refl; stripe_is = sym (same_capture i t.stripe k.0) })
+    subst (λ (x : Record). PassHolds x i) (sym k.1.is) (record { held = _; holding = refl; stripe_is = sym (same_stripe i t.stripe k.0) })
 captured_stage n b i (stage.GivingBack t e) p k (inl next) = absurd cc
 captured_stage n b i (stage.GivingBack t e) p k (inr next) = content_held p k.content.held i k.content.holding (k.content.stripe_is ∙ same_give next)
   where

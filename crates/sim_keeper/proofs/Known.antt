@@ -10,14 +10,14 @@ use Rattle.log_records.specs.Layout.{first_layout}
 use Rattle.store_layout.specs.Logs.{Batch, frame, log_file}
 use Rattle.store_layout.specs.declared.log_phase.Phase.TheVariants.{Opened}
 use Rattle.gate_log.specs.States.{batch_of, commands_of}
-use Rattle.gate_log.specs.Standing as log
+use Rattle.gate_log.specs.LogStates as log
 use Rattle.store_invariant.specs.States.{newest_batches}
 use Rattle.flusher.specs.declared.keeper.Keeper.{Keeper}
 use Rattle.flusher.specs.Fitting.{Fits, batches_of, store_of}
-use Rattle.flusher.proofs.Keeping.{knows_by}
+use Rattle.flusher.proofs.FittingKeepers.{knows_by}
 use Rattle.flusher.proofs.StoreSteps.{log_in}
 use Rattle.sim_rules.specs.World.{World, Life, gate_after, next_batch, next_commands}
-use Rattle.sim_keeper.specs.Standing.{KeeperStands}
+use Rattle.sim_keeper.specs.KeeperInWorld.{KeeperStands}
 use Rattle.sim_keeper.proofs.Lists.{part_after}
 
 module _ {D : Type 0} (states : D → List Files) (honest : D → Type 0) (n : ℕ) (done : List Command) (keeper : Keeper D) (p : Record) (w : World) (l : Life) (f : Fits states honest n done keeper p) (s : KeeperStands states keeper p w l) where

@@ -16,7 +16,7 @@ use Rattle.sim_rules.specs.World.{World, Life, Job, Walks, begun_by}
 use Rattle.sim_rules.specs.After.{history_after, with_job, with_life, worker_stepped}
 use Rattle.sim_keeper.specs.Laws.{FrontIsSeen, OpeningStands, WorkersLeaveKeeper}
 use Rattle.sim_keeper.specs.Showing.{committing, sweep_shown, walk_by, walking_shown, work_by}
-use Rattle.sim_keeper.specs.Standing.{BeginsBoth, HasKeeper, IsWritten, KeeperStands, SeesHistory, StandsIn}
+use Rattle.sim_keeper.specs.KeeperInWorld.{BeginsBoth, HasKeeper, IsWritten, KeeperStands, SeesHistory, StandsIn}
 use Rattle.checkpoint_file.specs.States.{CheckpointState}
 use Rattle.sim_keeper.proofs.Deciding.{two_ways}
 use Rattle.sim_keeper.proofs.Lists.{drop_front, take_front}

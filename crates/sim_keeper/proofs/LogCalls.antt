@@ -25,7 +25,7 @@ use Rattle.sim_rules.specs.Cases.{IsDue, IsPossible, MakesCall}
 use Rattle.sim_keeper.specs.Laws.{BrokenAnswers, LogAnswers, LogFails}
 use Rattle.sim_keeper.specs.Promises.{IsMade, TriesLog}
 use Rattle.sim_keeper.specs.Showing.{sweep_shown, walk_by, work_shown}
-use Rattle.sim_keeper.specs.Standing.{Answers, BeginsBoth, IsWritten, KeeperStands, KnowsStore}
+use Rattle.sim_keeper.specs.KeeperInWorld.{Answers, BeginsBoth, IsWritten, KeeperStands, KnowsStore}
 use Rattle.sim_keeper.proofs.Deciding.{not_true, two_ways}
 use Rattle.sim_keeper.proofs.FilesTold.{files_are_told}
 use Rattle.sim_keeper.proofs.Known.{staged_gate}

@@ -11,8 +11,8 @@ use Rattle.store_layout.specs.Logs.{end_frame, frame, header, log_file}
 use Rattle.store_layout.specs.declared.log_phase.Phase.{Phase}
 use Rattle.store_layout.specs.declared.log_phase.Phase.TheVariants.{Idle, Header, HeaderWritten, Staged, Written, Synced, Opened}
 use Rattle.gate_log.specs.States.{LogState, batch_of, begun, bytes_staged, call_in}
-use Rattle.gate_log.specs.Standing as log
-use Rattle.store_invariant.specs.Standing.{IsTurn}
+use Rattle.gate_log.specs.LogStates as log
+use Rattle.store_invariant.specs.StoreStates.{IsTurn}
 use Rattle.store_invariant.specs.States.{newest_batches}
 use Rattle.flusher.specs.declared.keeper.Keeper.{Keeper}
 use Rattle.flusher.specs.Fitting.{Fits, batches_of, store_of}
@@ -21,7 +21,7 @@ use Rattle.flusher.proofs.StoreSteps.{log_in}
 use Rattle.sim_rules.specs.World.{World, Life, Rotating, next_batch, next_commands}
 use Rattle.sim_rules.specs.Due.{log_call, log_number}
 use Rattle.sim_keeper.specs.Showing.{calls_left, committing, work_by}
-use Rattle.sim_keeper.specs.Standing.{KeeperStands, KnowsStore}
+use Rattle.sim_keeper.specs.KeeperInWorld.{KeeperStands, KnowsStore}
 use Rattle.sim_keeper.proofs.Known.{staged_next}
 
 one_staged : (committed : ℕ) (es : List Entry) (lg : LogState) → log.HasNext None lg (batches_of committed es) → lg.frame ≡ frame first_layout (batch_of committed es) ++ 0 ∷ []

@@ -7,19 +7,19 @@ use Rattle.store_layout.specs.Logs.{log_file}
 use Rattle.store_layout.specs.declared.log_phase.Phase.{Phase}
 use Rattle.store_layout.specs.declared.log_phase.Phase.TheVariants.{Idle, Header, HeaderWritten, Staged, Written, Synced, Opened}
 use Rattle.gate_log.specs.States.{LogState, begun, log_after}
-use Rattle.gate_log.specs.Standing.{IsReady}
+use Rattle.gate_log.specs.LogStates.{IsReady}
 use Rattle.checkpoint_file.specs.States.{CheckpointState}
-use Rattle.checkpoint_file.specs.Standing as checkpoint
-use Rattle.store_invariant.specs.Standing.{IsTurn}
+use Rattle.checkpoint_file.specs.CheckpointStates as checkpoint
+use Rattle.store_invariant.specs.StoreStates.{IsTurn}
 use Rattle.store_invariant.proofs.Places.{checkpoint_is_no_log, elsewhere}
 use Rattle.flusher.specs.declared.sweeper.Sweeper.{Sweeper}
-use Rattle.flusher.specs.Keeping.{IsPast}
+use Rattle.flusher.specs.KeeperSteps.{IsPast}
 use Rattle.flusher.specs.Rotating.{Logs, MayRotate, due_by, due_in, ended_in, rotated_in, stepped_by}
 use Rattle.sim_rules.specs.World.{World, Life, LogWork, Committing, Rotating, Running, gate_after, is_resting}
 use Rattle.sim_rules.specs.After.{log_called}
 use Rattle.sim_rules.specs.Cases.{phase_of_log}
 use Rattle.sim_keeper.specs.Showing.{calls_left, committing, work_by}
-use Rattle.sim_keeper.specs.Standing.{BeginsBoth, IsWritten}
+use Rattle.sim_keeper.specs.KeeperInWorld.{BeginsBoth, IsWritten}
 use Rattle.sim_keeper.proofs.Deciding.{two_ways}
 
 -- the world's log after a call is as the keeper's logs, of which so many commands are staged

@@ -11,7 +11,7 @@ use Rattle.sim_rules.specs.After.{after, after_with}
 use Rattle.sim_rules.specs.Cases.{HappensInside, HappensWith, Meets}
 use Rattle.sim_rules.specs.Laws.{SkippedWhereUnfit}
 use Rattle.sim_keeper.specs.Laws.{AnswersAreMet}
-use Rattle.sim_keeper.specs.Standing.{HasKeeper}
+use Rattle.sim_keeper.specs.KeeperInWorld.{HasKeeper}
 use Rattle.sim_keeper.proofs.Deciding.{two_ways}
 
 where_true : (b : Bool) (A B : Type 0) → b ≡ true → A → MatchBool b A B

@@ -10,7 +10,7 @@ use Rattle.flusher.specs.declared.keeper.Keeper.{Keeper}
 use Rattle.flusher.specs.declared.sweeper.Walking.{Walking}
 use Rattle.sim_rules.specs.World.{World, Life}
 use Rattle.sim_keeper.specs.Showing.{capture_shown, walk_by}
-use Rattle.sim_keeper.specs.Standing.{HasKeeper, KeeperStands, SeesHistory, StandsIn}
+use Rattle.sim_keeper.specs.KeeperInWorld.{HasKeeper, KeeperStands, SeesHistory, StandsIn}
 
 pub same_walk : (n : ℕ) (walks : Walking) (o : Option Walk) (p q : Record) → reach p ≡ reach q → walk_by n walks o p ≡ walk_by n walks o q
 same_walk n walks None p q e = refl

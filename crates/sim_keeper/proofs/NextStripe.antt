@@ -5,15 +5,16 @@ use Rattle.store_layout.specs.Checkpoints.{Section, checkpoint_file}
 use Rattle.gate_log.specs.States.{LogState}
 use Rattle.store_layout.specs.declared.checkpoint_phase.CheckpointPhase.{CheckpointPhase}
 use Rattle.store_layout.specs.declared.checkpoint_phase.CheckpointPhase.TheVariants.{Idle, Gate, GateWritten, GateSynced, Ready, Staged, Header, HeaderWritten, HeaderSynced, Opened, Sealed}
-use Rattle.checkpoint_file.specs.Standing as checkpoint
+use Rattle.store_layout.proofs.CheckpointReading.{both_true}
+use Rattle.checkpoint_file.specs.CheckpointStates as checkpoint
 use Rattle.checkpoint_file.specs.States.{CheckpointState, first_phase}
-use Rattle.store_invariant.specs.Standing.{IsUnderWay}
+use Rattle.store_invariant.specs.StoreStates.{IsUnderWay}
 use Rattle.checkpoint_walk.specs.Checkpointing.{HasGiven, IsNextStripe}
 use Rattle.sim_rules.specs.World.{Life, Running}
 use Rattle.sim_rules.specs.Cases.{may_capture}
 use Rattle.sim_keeper.specs.Showing.{clears_left, is_waiting_in, running_shown}
-use Rattle.sim_keeper.specs.Standing.{BeginsBoth, IsWritten}
-use Rattle.sim_keeper.proofs.Deciding.{and_true, both_true, is_less, is_same, less_is, not_true, same_is, two_ways}
+use Rattle.sim_keeper.specs.KeeperInWorld.{BeginsBoth, IsWritten}
+use Rattle.sim_keeper.proofs.Deciding.{and_true, is_less, is_same, less_is, not_true, same_is, two_ways}
 
 -- no write is left, and not all sections were given
 takes_section : (w : CheckpointState) (old : List ℕ) (sections : List Section) (file : File) (phase : CheckpointPhase) (next : Option LogState) → w.phase ≡ phase → IsUnderWay phase next → checkpoint.AtPhase phase w old sections file

@@ -1,6 +1,7 @@
 -- A checkpoint goes on to its seal.
 use Rattle.std.proofs.Common.{◌≡◌, ◌⊎◌, inl, inr, ℕ, ◌+◌, ◌<◌, ◌≤◌, List, [], length, Option, Some, None, IfSome, Bool, true, false, ◌&&◌, ◌==◌, not, Result, Ok, Err, refl, sym, ◌∙◌, ap, subst, arith}
 use Rattle.std.proofs.lemmas.Bool.{false_from_ne_true, true_from_ne_false}
+use Rattle.java_hash.proofs.StripeLaws.{some_stripe}
 use Rattle.map_types.specs.declared.commands.Command.{Command}
 use Rattle.map_types.specs.declared.refusals.Refusal.{Refusal}
 use Rattle.map_types.specs.declared.refusals.Refusal.TheVariants as refusal
@@ -10,11 +11,11 @@ use Rattle.store_layout.specs.Checkpoints.{Section, checkpoint_file}
 use Rattle.gate_log.specs.States.{LogState}
 use Rattle.store_layout.specs.declared.checkpoint_phase.CheckpointPhase.{CheckpointPhase}
 use Rattle.store_layout.specs.declared.checkpoint_phase.CheckpointPhase.TheVariants.{Idle, Gate, GateWritten, GateSynced, Ready, Staged, Header, HeaderWritten, HeaderSynced, Opened, Sealed}
-use Rattle.checkpoint_file.specs.Standing as checkpoint
+use Rattle.store_layout.proofs.CheckpointReading.{both_true}
+use Rattle.checkpoint_file.specs.CheckpointStates as checkpoint
 use Rattle.checkpoint_file.specs.States.{CheckpointState, TakesSeal, first_phase}
 use Rattle.store_invariant.specs.States.{Held, StoreState}
-use Rattle.store_invariant.specs.Standing.{IsUnderWay, WriterStands}
-use Rattle.store_invariant.proofs.Contents.{some_stripes}
+use Rattle.store_invariant.specs.StoreStates.{IsUnderWay, WriterStands}
 use Rattle.flusher.specs.declared.keeper.Keeper.{Keeper}
 use Rattle.flusher.specs.Fitting.{Fits, HasStripes, store_of}
 use Rattle.checkpoint_walk.specs.Checkpointing.{HasAllSections, HasGiven, IsMarkedAbove, sealing}
@@ -26,8 +27,8 @@ use Rattle.sim_rules.specs.Cases.{BeginsSeal, mark_of, may_seal}
 use Rattle.sim_keeper.specs.Laws.{SealAnswers, sealing_as}
 use Rattle.sim_keeper.specs.Promises.{TriesSeal}
 use Rattle.sim_keeper.specs.Showing.{clears_left, is_waiting_in, running_shown, seals_left}
-use Rattle.sim_keeper.specs.Standing.{Answers, BeginsBoth, HasKeeper, IsWritten, KeeperStands}
-use Rattle.sim_keeper.proofs.Deciding.{and_true, both_true, is_same, not_less, not_true, same_is, two_ways}
+use Rattle.sim_keeper.specs.KeeperInWorld.{Answers, BeginsBoth, HasKeeper, IsWritten, KeeperStands}
+use Rattle.sim_keeper.proofs.Deciding.{and_true, is_same, not_less, not_true, same_is, two_ways}
 use Rattle.sim_keeper.proofs.Moved.{inside, same_history}
 
 -- ---- the phases of a checkpoint that runs
@@ -68,7 +69,7 @@ module _ (l : Life) (o : Option CheckpointState) (files : Files) (n : ℕ) (stri
       let a = both_true (length sections == l.stripes) (not (is_waiting_in w.phase) && (seals_left w.phase == 0)) e in
       let b = both_true (not (is_waiting_in w.phase)) (seals_left w.phase == 0) a.1 in
       let long : length sections ≡ l.stripes = is_same (length sections) l.stripes a.0 in
-      let many : 0 < w.stripes = some_stripes w.stripes given.1.knows.allowed in (
+      let many : 0 < w.stripes = some_stripe w.stripes given.1.knows.allowed in (
         only_ready w given.0 sections (files (checkpoint_file w.generation)) w.phase next refl way given.1.stands
             (λ none_. omega (arith, none_given sections none_, long, stripes, theirs, many)) (not_true (is_waiting_in w.phase) b.0) (is_same (seals_left w.phase) 0 b.1),
         given.1.knows.count ∙ long ∙ stripes ∙ sym theirs,

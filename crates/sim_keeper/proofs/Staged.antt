@@ -10,7 +10,7 @@ use Rattle.disk_model.specs.Files.{Files, now}
 use Rattle.gate_log.specs.States.{LogState}
 use Rattle.flusher.specs.declared.keeper.Keeper.{Keeper}
 use Rattle.flusher.specs.Fitting.{Fits}
-use Rattle.flusher.specs.Keeping.{MayStage, Stages, is_walking}
+use Rattle.flusher.specs.KeeperSteps.{MayStage, Stages, is_walking}
 use Rattle.ticket_order.proofs.Entries.{length-entries}
 use Rattle.sim_rules.specs.declared.event.Event.TheVariants as event
 use Rattle.sim_rules.specs.declared.outcome.Outcome.TheVariants as outcome
@@ -20,7 +20,7 @@ use Rattle.sim_rules.specs.Cases.{IsLongestRun, IsPastFull, StagesRun}
 use Rattle.sim_keeper.specs.Laws.{StageAnswers, staged_as}
 use Rattle.sim_keeper.specs.Promises.{TriesStage}
 use Rattle.sim_keeper.specs.Showing.{committing, sweep_shown, walk_shown, work_by}
-use Rattle.sim_keeper.specs.Standing.{Answers, HasKeeper, KeeperStands, KnowsStore, StandsIn, TellsPlaces}
+use Rattle.sim_keeper.specs.KeeperInWorld.{Answers, HasKeeper, KeeperStands, KnowsStore, StandsIn, TellsPlaces}
 use Rattle.sim_keeper.proofs.Deciding.{other_is, two_ways}
 use Rattle.sim_keeper.proofs.Moved.{same_history}
 use Rattle.sim_keeper.proofs.Staging.{full_past, longest, may_rest, no_walk, past_full, rest_may}

@@ -16,7 +16,7 @@ use Rattle.sim_rules.specs.World.{World, Life}
 use Rattle.sim_rules.specs.Runs.{staged_in}
 use Rattle.sim_keeper.specs.Laws.{StagedIsTold}
 use Rattle.sim_keeper.specs.Showing.{committing, work_by}
-use Rattle.sim_keeper.specs.Standing.{KeeperStands}
+use Rattle.sim_keeper.specs.KeeperInWorld.{KeeperStands}
 
 -- where the log rests nothing is
 in_phase : (phase : Phase) (staged : List Entry) → IsEmptyIn phase staged → staged_in (committing phase (length staged)) ≡ length staged

@@ -19,16 +19,16 @@ use Rattle.flusher.specs.declared.sweeper.Walking.TheVariants as walking
 use Rattle.flusher.specs.Fitting.{Fits, IsEmptyIn}
 use Rattle.flusher.specs.Gathering.{Accounts}
 use Rattle.store_layout.specs.Hands.{FitsBatch, IsLongest, IsRun}
-use Rattle.flusher.specs.Keeping.{IsFull, MayStage, is_walking}
+use Rattle.flusher.specs.KeeperSteps.{IsFull, MayStage, is_walking}
 use Rattle.flusher.specs.Rotating.{MayRotate}
 use Rattle.ticket_order.proofs.Entries.{at_ticket, found}
-use Rattle.flusher.proofs.Keeping.{is_free}
+use Rattle.flusher.proofs.FittingKeepers.{is_free}
 use Rattle.flusher.proofs.Passing.{front_of_all}
 use Rattle.flusher.proofs.Staging.{accounts_staged, taken_in_hand}
 use Rattle.sim_rules.specs.World.{World, Life, WithWorker, InHand, gate_after, is_resting, next_batch, next_commands, place_of, rests}
 use Rattle.sim_rules.specs.Cases.{CanStage, IsLongestRun, IsPastFull}
 use Rattle.sim_keeper.specs.Showing.{capture_shown, committing, walk_by, walking_shown, work_by}
-use Rattle.sim_keeper.specs.Standing.{KeeperStands, TellsPlaces}
+use Rattle.sim_keeper.specs.KeeperInWorld.{KeeperStands, TellsPlaces}
 use Rattle.sim_keeper.proofs.Deciding.{resting_idle, two_ways}
 use Rattle.sim_keeper.proofs.Lists.{part_after}
 

@@ -19,7 +19,7 @@ use Rattle.flusher.specs.declared.sweeper.Swept.TheVariants.{More, Held, Done}
 use Rattle.flusher.specs.declared.sweeper.Walking.{Walking}
 use Rattle.flusher.specs.declared.sweeper.Walking.TheVariants as walking
 use Rattle.flusher.specs.Fitting.{Fits}
-use Rattle.flusher.specs.Keeping.{is_walking}
+use Rattle.flusher.specs.KeeperSteps.{is_walking}
 use Rattle.flusher.specs.Sweeping.{AfterGive, AfterTake, BeginsSweep as Begins, StandsBy, StepsOn, next_kind}
 use Rattle.sim_rules.specs.declared.outcome.End.TheVariants as ends
 use Rattle.sim_rules.specs.declared.outcome.Made.{Made}
@@ -29,7 +29,7 @@ use Rattle.sim_rules.specs.After.{keeper_stepped, sweep_begins, sweep_gives, swe
 use Rattle.sim_rules.specs.Cases.{BeginsSweep, GivesSwept, StepsKeeper, TakesForSweep}
 use Rattle.sim_keeper.specs.Laws.{SweepAnswers, SweepStepAnswers}
 use Rattle.sim_keeper.specs.Showing.{sweep_shown, walk_by, walking_shown}
-use Rattle.sim_keeper.specs.Standing.{HasKeeper, KeeperStands, SeesHistory}
+use Rattle.sim_keeper.specs.KeeperInWorld.{HasKeeper, KeeperStands, SeesHistory}
 use Rattle.sim_keeper.specs.Telling.{AgreesWith, MakesStep, sweep_end}
 use Rattle.sim_keeper.proofs.Moved.{same_history}
 use Rattle.sim_keeper.proofs.Staging.{no_walk}

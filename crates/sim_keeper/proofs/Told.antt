@@ -14,16 +14,16 @@ use Rattle.store_layout.specs.declared.checkpoint_phase.CheckpointPhase.{Checkpo
 use Rattle.store_layout.specs.declared.checkpoint_phase.CheckpointPhase.TheVariants.{Idle, Gate, GateWritten, GateSynced, Ready, Staged, Header, HeaderWritten, HeaderSynced, Opened, Sealed}
 use Rattle.checkpoint_file.specs.States as checkpoint
 use Rattle.checkpoint_file.specs.States.{CheckpointState}
-use Rattle.store_invariant.specs.Standing.{IsTurn}
+use Rattle.store_invariant.specs.StoreStates.{IsTurn}
 use Rattle.flusher.specs.declared.sweeper.Walking.{Walking}
 use Rattle.flusher.specs.declared.sweeper.Walking.TheVariants as walking
-use Rattle.flusher.specs.Keeping.{is_walking}
+use Rattle.flusher.specs.KeeperSteps.{is_walking}
 use Rattle.flusher.specs.Rotating.{MayRotate, due_by, due_in}
 use Rattle.checkpoint_walk.specs.Checkpointing.{call_due}
 use Rattle.sim_rules.specs.World.{Running, has_checkpoint_call, is_resting, is_rotating, rests}
 use Rattle.sim_keeper.specs.Laws.{CheckpointCallIsTold, LogCallIsTold, WalkIsTold}
 use Rattle.sim_keeper.specs.Showing.{committing, running_in, walk_by, work_by}
-use Rattle.sim_keeper.specs.Standing.{IsWritten}
+use Rattle.sim_keeper.specs.KeeperInWorld.{IsWritten}
 use Rattle.sim_keeper.proofs.Staging.{capture_walks}
 
 -- ---- its walk

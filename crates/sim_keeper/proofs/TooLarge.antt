@@ -16,7 +16,7 @@ use Rattle.checkpoint_walk.specs.Walking.{FitsBy, IsCapturing}
 use Rattle.sim_rules.specs.World.{World, Life, Running, next_section}
 use Rattle.sim_rules.specs.Cases.{section_size}
 use Rattle.sim_keeper.specs.Laws.{TooManyAreTooLarge}
-use Rattle.sim_keeper.specs.Standing.{IsWritten, SeesHistory}
+use Rattle.sim_keeper.specs.KeeperInWorld.{IsWritten, SeesHistory}
 use Rattle.sim_keeper.proofs.Captured.{same_fold}
 use Rattle.sim_keeper.proofs.CaptureSteps.{next_is}
 use Rattle.sim_keeper.proofs.Held.{captured_holds, same_held}

@@ -2,18 +2,9 @@
 use Rattle.std.proofs.Common.{◌≡◌, ◌⊎◌, inl, inr, ℕ, ◌+◌, List, [], ◌∷◌, ◌++◌, length, Some, refl, sym, ◌∙◌, ap, subst, arith}
 use Rattle.std.proofs.lemmas.List.{length_push, same_from_push}
 use Rattle.map_types.specs.declared.commands.Command.{Command}
-use Rattle.map_types.specs.declared.commands.Read as read_type
-use Rattle.map_types.specs.declared.commands.Reply.{Reply}
 use Rattle.map_types.specs.declared.refusals.Refusal.{Refusal}
 use Rattle.map_types.specs.declared.refusals.Refusal.TheVariants as refusal
 use Rattle.ticket_order.specs.declared.capture_walk.CaptureStage.TheVariants as capture
-use Rattle.ticket_order.specs.declared.change_walk.ChangeStage.{ChangeStage}
-use Rattle.ticket_order.specs.declared.change_walk.ChangeStage.TheVariants as change
-use Rattle.ticket_order.specs.declared.read_walk.ReadStage.{ReadStage}
-use Rattle.ticket_order.specs.declared.read_walk.ReadStage.TheVariants as read
-use Rattle.ticket_order.specs.declared.release_walk.ReleaseStage.{ReleaseStage}
-use Rattle.ticket_order.specs.declared.release_walk.ReleaseStage.TheVariants as release
-use Rattle.ticket_order.specs.declared.sweep_walk.SweepStage.{SweepStage}
 use Rattle.ticket_order.specs.declared.sweep_walk.SweepStage.TheVariants as sweep
 use Rattle.ticket_order.specs.declared.walk.Stage.{Stage}
 use Rattle.ticket_order.specs.declared.walk.Stage.TheVariants as stage
@@ -25,14 +16,15 @@ use Rattle.ticket_order.specs.declared.record.StepMade.TheVariants.{Took, FoundH
 use Rattle.ticket_order.specs.declared.record.Record.{Record}
 use Rattle.ticket_order.specs.Records.{giving, looking, reach, stripe_held, taking}
 use Rattle.ticket_order.specs.Calls.{RefusesSweep}
-use Rattle.ticket_order.specs.Walks.{FitsStage, Take, Give, Look, ToCapture, ToChange, ToRead, ToRelease, ToSweep, kind_of, next_of_stage}
+use Rattle.ticket_order.specs.Walks.{FitsStage, Take, Give, Look, ToCapture, ToSweep, kind_of, next_of_stage}
 use Rattle.flusher.specs.Sweeping.{IsSwept}
 use Rattle.flusher.proofs.Quiet as swept
 use Rattle.checkpoint_walk.specs.Capturing.{HasLooked, HasTaken}
 use Rattle.checkpoint_walk.proofs.Walked.{third_put_back}
+use Rattle.checkpoint_walk.proofs.CaptureWalks.{same_stripe, by_change, by_read, by_release, by_sweep}
 use Rattle.sim_rules.specs.declared.outcome.Made.{Made}
 use Rattle.sim_rules.specs.declared.outcome.Made.TheVariants as told
-use Rattle.sim_keeper.specs.Telling.{told_of}
+use Rattle.sim_rules.specs.Told.{told_of}
 
 -- ---- how steps are told
 
@@ -122,43 +114,6 @@ swept_took n b i walk p k = swept_stage n b i walk.stage p k.fits k.one_made
 
 -- ---- the walk of a capture
 
-not_change : (i : ℕ) (c : Command) → ToCapture i ≡ ToChange c → ⊥
-not_change i c e = cc
-
-not_read : (i : ℕ) (r : read_type.Read) → ToCapture i ≡ ToRead r → ⊥
-not_read i r e = cc
-
-not_release : (i q : ℕ) (y : Reply) → ToCapture i ≡ ToRelease q y → ⊥
-not_release i q y e = cc
-
-not_sweep : (i j : ℕ) → ToCapture i ≡ ToSweep j → ⊥
-not_sweep i j e = cc
-
-pub same_capture : (i j : ℕ) → ToCapture i ≡ ToCapture j → i ≡ j
-same_capture i j e = cc
-
-pub by_change : (n : ℕ) (b : Record) (i : ℕ) (s : ChangeStage) (p : Record) → FitsStage n b (ToCapture i) (stage.Change s) p → ⊥
-by_change n b i (change.Begins new) p k = not_change i new.command k.task_is
-by_change n b i (change.HasTaken new t) p k = not_change i new.command k.0.task_is
-by_change n b i (change.IsAlive new t) p k = not_change i new.command k.0.task_is
-by_change n b i (change.IsReady new t prepared) p k = not_change i new.command k.0.task_is
-by_change n b i (change.HasDrawn t h) p k = not_change i k.command k.task_is
-
-pub by_read : (n : ℕ) (b : Record) (i : ℕ) (s : ReadStage) (p : Record) → FitsStage n b (ToCapture i) (stage.Read s) p → ⊥
-by_read n b i (read.Begins r) p k = not_read i r k.task_is
-by_read n b i (read.HasTaken r t) p k = not_read i r k.0.task_is
-by_read n b i (read.IsAlive r t) p k = not_read i r k.0.task_is
-by_read n b i (read.HasRead r t h) p k = not_read i r k.0.task_is
-
-pub by_release : (n : ℕ) (b : Record) (i : ℕ) (s : ReleaseStage) (p : Record) → FitsStage n b (ToCapture i) (stage.Release s) p → ⊥
-by_release n b i (release.Begins h) p k = not_release i h.position h.reply k.0
-by_release n b i (release.HasMissed h) p k = not_release i h.position h.reply k.0
-by_release n b i (release.FoundFailure h) p k = not_release i h.position h.reply k.0
-
-pub by_sweep : (n : ℕ) (b : Record) (i : ℕ) (s : SweepStage) (p : Record) → FitsStage n b (ToCapture i) (stage.Sweep s) p → ⊥
-by_sweep n b i (sweep.Begins alloc j) p k = not_sweep i j k.0.task_is
-by_sweep n b i (sweep.HasTaken alloc t) p k = not_sweep i t.stripe k.task_is
-
 taken_stage : (n : ℕ) (b : Record) (i : ℕ) (s : Stage) (p : Record) → FitsStage n b (ToCapture i) s p → next_of_stage n s ≡ Look → (es : List Entry) × (p.steps ≡ b.steps ++ Took i es ∷ [])
 taken_stage n b i (stage.Change s) p k look = absurd (by_change n b i s p k)
 taken_stage n b i (stage.Read s) p k look = absurd (by_read n b i s p k)
@@ -166,7 +121,7 @@ taken_stage n b i (stage.Release s) p k look = absurd (by_release n b i s p k)
 taken_stage n b i (stage.Sweep s) p k look = absurd (by_sweep n b i s p k)
 taken_stage n b i (stage.Capture (capture.Begins alloc j)) p k look = absurd cc
 taken_stage n b i (stage.Capture (capture.HasTaken alloc t)) p k look =
-    (t.content.outbox.items, ap (λ (x : Record). x.steps) k.1.is ∙ ap (λ j. b.steps ++ Took j t.content.outbox.items ∷ []) (sym (same_capture i t.stripe k.0)))
+    (t.content.outbox.items, ap (λ (x : Record). x.steps) k.1.is ∙ ap (λ j. b.steps ++ Took j t.content.outbox.items ∷ []) (sym (same_stripe i t.stripe k.0)))
 taken_stage n b i (stage.Capture (capture.HasLooked t z)) p k look = absurd cc
 taken_stage n b i (stage.GivingBack t e) p k look = absurd cc
 

@@ -27,7 +27,7 @@ use Rattle.flusher.specs.declared.sweeper.Swept.{Swept}
 use Rattle.flusher.specs.declared.sweeper.Walking.{Walking}
 use Rattle.flusher.specs.declared.sweeper.Walking.TheVariants as walking
 use Rattle.flusher.specs.Fitting.{Fits}
-use Rattle.flusher.specs.Keeping.{is_walking}
+use Rattle.flusher.specs.KeeperSteps.{is_walking}
 use Rattle.flusher.specs.Sweeping.{next_kind}
 use Rattle.sim_rules.specs.declared.event.Ending.{Ending}
 use Rattle.sim_rules.specs.declared.event.Ending.TheVariants as ending
@@ -54,7 +54,7 @@ use Rattle.sim_rules.specs.Runs.{staged_in}
 use Rattle.checkpoint_walk.specs.Walking.{FitsWalking}
 use Rattle.sim_keeper.specs.Promises.{IsLost, IsMade, StepsCapture, StepsSweep, TriesBegin, TriesCheckpoint, TriesLog, TriesSeal, TriesStage}
 use Rattle.sim_keeper.specs.Telling.{MakesStep, capture_end, sweep_end}
-use Rattle.sim_keeper.specs.Standing.{Answers, HasKeeper, IsAtOpening, KeeperStands, SeesHistory, TellsPlaces}
+use Rattle.sim_keeper.specs.KeeperInWorld.{Answers, HasKeeper, IsAtOpening, KeeperStands, SeesHistory, TellsPlaces}
 
 -- ---- the counts
 

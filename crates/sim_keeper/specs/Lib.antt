@@ -1,5 +1,5 @@
 pub mod Showing
-pub mod Standing
+pub mod KeeperInWorld
 pub mod Telling
 pub mod Promises
 pub mod Laws

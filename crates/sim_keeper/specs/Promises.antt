@@ -14,14 +14,14 @@ use Rattle.store_layout.specs.declared.log_phase.Phase.{Phase}
 use Rattle.store_layout.specs.declared.log_phase.Phase.TheVariants as log_phase
 use Rattle.store_layout.specs.declared.checkpoint_phase.CheckpointPhase.{CheckpointPhase}
 use Rattle.store_layout.specs.declared.checkpoint_phase.CheckpointPhase.TheVariants as checkpoint_phase
-use Rattle.checkpoint_file.specs.Standing.{checkpoint_of}
+use Rattle.checkpoint_file.specs.CheckpointStates.{checkpoint_of}
 use Rattle.checkpoint_file.specs.States.{CheckpointState}
 use Rattle.flusher.specs.Fitting.{Fits}
 use Rattle.flusher.specs.declared.sweeper.Swept.{Swept}
 use Rattle.flusher.specs.Sweeping.{StepsOn}
 use Rattle.store_layout.specs.Hands.{IsLongest}
 use Rattle.flusher.specs.HandSteps.{SameEntries}
-use Rattle.flusher.specs.Keeping.{IsFull, IsPast, MayStage, Stages, committed_by}
+use Rattle.flusher.specs.KeeperSteps.{IsFull, IsPast, MayStage, Stages, committed_by}
 use Rattle.flusher.specs.Rotating.{StepsLogs, due_of, logs_of}
 use Rattle.sim_rules.specs.declared.outcome.DeviceCall.{DeviceCall}
 use Rattle.sim_rules.specs.After.{called, failed}

@@ -3,7 +3,6 @@ use Rattle.std.specs.Prelude.{◌≡◌, ℕ, [], ◌∷◌, ◌++◌, Option, N
 use Rattle.map_types.specs.declared.refusals.Refusal.{Refusal}
 use Rattle.ticket_order.specs.declared.record.Record.{Record}
 use Rattle.ticket_order.specs.declared.record.StepMade.{StepMade}
-use Rattle.ticket_order.specs.declared.record.StepMade.TheVariants.{Took, FoundHeld, Gave, Drew, Looked, Published, Saw, Failed, FoundAlive}
 use Rattle.ticket_order.specs.Walks.{Kind, kind_of}
 use Rattle.flusher.specs.declared.sweeper.Swept.{Swept}
 use Rattle.flusher.specs.declared.sweeper.Swept.TheVariants.{More, Held, Done}
@@ -12,19 +11,8 @@ use Rattle.sim_rules.specs.declared.outcome.End.TheVariants as ends
 use Rattle.sim_rules.specs.declared.outcome.Made.{Made}
 use Rattle.sim_rules.specs.declared.outcome.Made.TheVariants as told
 use Rattle.sim_rules.specs.World.{World, Life, count, is_held}
-use Rattle.sim_keeper.specs.Standing.{SeesHistory}
-
--- a DURABLE and a FAIL aren't told as steps
-abbrev pub told_of : StepMade → Option Made
-told_of (Took i outbox) = Some (told.Took i)
-told_of (FoundHeld i) = Some (told.FoundHeld i)
-told_of (Gave i) = Some (told.Gave i)
-told_of (Drew t) = Some (told.Drew t)
-told_of (Looked q) = Some (told.Looked q)
-told_of (Published x) = None
-told_of (Saw d) = Some (told.Saw d)
-told_of Failed = None
-told_of (FoundAlive is_alive) = Some (told.FoundAlive is_alive)
+use Rattle.sim_rules.specs.Told.{told_of}
+use Rattle.sim_keeper.specs.KeeperInWorld.{SeesHistory}
 
 -- What the words gave the step is what the world has.
 abbrev pub AgreesWith : World → Life → Made → Type 0

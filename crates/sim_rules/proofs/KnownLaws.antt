@@ -14,7 +14,7 @@ use Rattle.ticket_order.specs.declared.record.Asked.{Asked}
 use Rattle.ticket_order.specs.declared.record.Asked.TheVariants.{Changing, Reading}
 use Rattle.ticket_order.specs.Legality.{IsLegal}
 use Rattle.store_layout.specs.Opening.{StandsFor}
-use Rattle.store_layout.specs.Standing.{reach}
+use Rattle.store_layout.specs.SectionsAndLog.{reach}
 use Rattle.sim_rules.specs.Laws.{KnownFolds, KnownIsLegal, KnownStands}
 use Rattle.sim_rules.specs.Machine.{whole}
 use Rattle.sim_rules.specs.Sound.{IsKnownOf}

@@ -1,18 +1,16 @@
 -- A new store is opened.
-use Rattle.std.proofs.Common.{◌≡◌, ℕ, zero, suc, ◌+◌, ◌*◌, inl, None, Some, List, [], ◌∷◌, length, map, refl, sym, ap, ◌∙◌, arith}
+use Rattle.std.proofs.Common.{◌≡◌, ℕ, zero, suc, ◌+◌, ◌*◌, inl, None, Some, List, [], length, map, refl, sym, ap, ◌∙◌, arith}
 use Rattle.std.proofs.lemmas.List.{length-append}
 use Rattle.std.specs.List.{range_with_len}
 use Rattle.std.specs.FinMap as finite
-use Rattle.std.specs.Ordering.{nat_cmp}
-use Rattle.std.specs.Cmp.Lexicographic.{slice_cmp}
-use Rattle.map_types.specs.declared.texts.Value.{Value}
 use Rattle.map_model.specs.Maps.{Map}
 use Rattle.log_records.specs.Layout.{first_layout}
 use Rattle.store_layout.specs.Calls.{checkpoint_calls, logs_calls, opening_calls}
-use Rattle.store_layout.specs.Checkpoints.{entries_bytes, marked_bytes, section_bytes, sections_bytes}
+use Rattle.store_layout.specs.Checkpoints.{section_bytes, sections_bytes}
 use Rattle.store_layout.specs.Logs.{header}
 use Rattle.store_layout.specs.Opening.{Holds, StandsFor, empty_section, first_checkpoint, map_of}
 use Rattle.store_layout.specs.OpeningLaws.{FirstIsWhole, FirstStands, OneStanding}
+use Rattle.store_layout.proofs.NewStores.{no_entries, section_size}
 use Rattle.sim_rules.specs.declared.outcome.MapEntry.{MapEntry}
 use Rattle.sim_rules.specs.World.{begun_by, seen_of, start}
 use Rattle.sim_rules.specs.After.{after, synced_below}
@@ -23,13 +21,6 @@ use Rattle.sim_rules.proofs.FileLaws.{begins_empty, first_closed, first_sealed}
 abbrev nothing : Map
 nothing = finite.empty
 
-none_from_length : (entries : List (List ℕ × Value)) → length entries ≡ 0 → entries ≡ []
-none_from_length [] none = refl
-none_from_length (entry ∷ entries) none = absurd (omega (arith, none))
-
-no_entries : finite.entries nothing ≡ []
-no_entries = none_from_length (finite.entries nothing) (sym (finite.len-entries nothing) ∙ finite.len-empty (slice_cmp nat_cmp) Value)
-
 pub new_holds : FirstIsWhole → Holds (seen_of start.files) new_store
 unfolding start
 new_holds whole = record { checkpoint = first_sealed whole; other = inl refl; logs = first_closed; reaches = omega arith }
@@ -38,12 +29,6 @@ pub new_map : FirstIsWhole → FirstStands → OneStanding → map_of new_store 
 new_map whole stands one =
     let found : StandsFor (seen_of start.files) 0 (map_of new_store) = record { found = new_store; holds = new_holds whole; prefix = refl; map = refl } in
     (one (seen_of start.files) 0 0 (map_of new_store) nothing found (begins_empty whole stands)).1
-
-section_size : length (section_bytes first_layout empty_section) ≡ 12
-unfolding marked_bytes
-section_size =
-    let size : length (entries_bytes first_layout (finite.entries nothing)) ≡ 0 = ap (λ (es : List (List ℕ × Value)). length (entries_bytes first_layout es)) no_entries in
-    omega (arith, size)
 
 body_size : (from count : ℕ) → length (sections_bytes first_layout (map (λ stripe. empty_section) (range_with_len from count))) ≡ 12 * count
 body_size from zero = refl

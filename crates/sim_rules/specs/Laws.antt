@@ -11,7 +11,7 @@ use Rattle.ticket_order.specs.Legality.{IsLegalCall}
 use Rattle.disk_model.specs.Files.{Files}
 use Rattle.disk_model.specs.declared.fill.Fill.TheVariants.{New}
 use Rattle.store_layout.specs.Opening.{Contents, Holds, Opened, StandsFor, StandsForFront}
-use Rattle.store_layout.specs.Standing.{reach}
+use Rattle.store_layout.specs.SectionsAndLog.{reach}
 use Rattle.store_layout.specs.Hands.{Hand, IsLongest}
 use Rattle.sim_rules.specs.declared.event.Event.{Event}
 use Rattle.sim_rules.specs.declared.outcome.DeviceCall.{DeviceCall}

@@ -1,4 +1,5 @@
 pub mod Machine
+pub mod Told
 pub mod World
 pub mod Fitting
 pub mod After

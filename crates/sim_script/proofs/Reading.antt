@@ -4,7 +4,7 @@ use Rattle.std.proofs.lemmas.List.{append-nil, append_assoc, at_drop_all, at_dro
 use Rattle.std.specs.Prelude.{filter, if◌then◌else◌}
 use Rattle.call_text.specs.Names.{Text}
 use Rattle.std.proofs.lemmas.Bool.{false≢true}
-use Rattle.sim_script.specs.Words.{Gives}
+use Rattle.sim_script.specs.LineWords.{Gives}
 use Rattle.sim_script.specs.declared.bad_line.BadLine.{BadLine}
 use Rattle.sim_script.specs.declared.bad_line.BadLine.TheVariants.{Unknown}
 use Rattle.sim_script.specs.declared.bad_line.LineError.{LineError}

@@ -1,4 +1,4 @@
-pub mod Words
+pub mod LineWords
 pub mod Lines
 pub mod Scripts
 pub mod Spans

@@ -18,7 +18,7 @@ use Rattle.sim_script.specs.declared.bad_line.BadLine.TheVariants.{Unknown, Call
 use Rattle.sim_script.specs.declared.line.Form.{Form}
 use Rattle.sim_script.specs.declared.line.Form.TheVariants.{Single, Start, Step, Go, Release, Sweep, Capture}
 use Rattle.sim_script.specs.declared.line.Line.{Line}
-use Rattle.sim_script.specs.Words.{fill_of, number_word, stripes_of, worker_of}
+use Rattle.sim_script.specs.LineWords.{fill_of, number_word, stripes_of, worker_of}
 
 abbrev pub line : Form → Event → Line
 line form event = record { form = form; event = event }

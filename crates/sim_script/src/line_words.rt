@@ -1,6 +1,6 @@
 //! The words of a line.
 ghost use Rattle.std.specs.Prelude.{[], map};
-ghost use Rattle.sim_script.specs.Words.{Gives};
+ghost use Rattle.sim_script.specs.LineWords.{Gives};
 ghost use Rattle.sim_script.specs.Lines.{alone, capture_of, device_of, ending_of, go_of, line_of, only_worker, open_of, release_of, side_of, stage_of, start_of, step_of, stop_in_of, stop_of, sweep_of};
 
 use crate::bad_line::{BadLine, LineError};

@@ -1,6 +1,6 @@
 //! Scripts as they are written.
 ghost use Rattle.std.specs.Prelude.{◌≡◌, map, IfOk};
-ghost use Rattle.sim_script.specs.Words.{Gives};
+ghost use Rattle.sim_script.specs.LineWords.{Gives};
 ghost use Rattle.sim_script.specs.Scripts.{lines_of, read_line, script_of, words_of, Reads};
 
 use crate::bad_line::{LineError, ScriptError};

@@ -1,6 +1,6 @@
 //! The words of script lines, but for those of calls.
 ghost use Rattle.std.specs.Prelude.{◌≡◌, ◌<◌, IfSome};
-ghost use Rattle.sim_script.specs.Words.{byte_of, fill_of, hexadecimal_digit, number_of, stripes_of, worker_of, Gives};
+ghost use Rattle.sim_script.specs.LineWords.{byte_of, fill_of, hexadecimal_digit, number_of, stripes_of, worker_of, Gives};
 
 use crate::bad_line::{BadLine, LineError};
 use disk_model::Fill;
@@ -34,7 +34,7 @@ pub(crate) fn usize_of(word: &str) -> Option<usize>
 }
 
 /// The number of a worker.
-#[tactic(auto, unfolding(crate::specs::Words::worker_of))]
+#[tactic(auto, unfolding(crate::specs::LineWords::worker_of))]
 pub(crate) fn worker_of(word: &str) -> Result<usize, LineError>
     ensures { Gives (λ worker. worker) result (worker_of word.now) }
 {
@@ -45,7 +45,7 @@ pub(crate) fn worker_of(word: &str) -> Result<usize, LineError>
 }
 
 /// A number of stripes.
-#[tactic(auto, unfolding(crate::specs::Words::stripes_of))]
+#[tactic(auto, unfolding(crate::specs::LineWords::stripes_of))]
 pub(crate) fn stripes_of(word: &str) -> Result<StripeCount, LineError>
     ensures { Gives (λ stripes. stripes) result (stripes_of word.now) }
 {
@@ -82,7 +82,7 @@ fn byte_of(word: &[u8]) -> Option<u8>
 }
 
 /// What is left of what wasn't synced.
-#[tactic(auto, unfolding(crate::specs::Words::fill_of))]
+#[tactic(auto, unfolding(crate::specs::LineWords::fill_of))]
 pub(crate) fn fill_of(word: &str) -> Result<Fill, LineError>
     ensures { Gives (λ fill. fill) result (fill_of word.now) }
 {

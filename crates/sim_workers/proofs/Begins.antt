@@ -15,10 +15,10 @@ use Rattle.sim_rules.specs.declared.outcome.Outcome.TheVariants as outcome
 use Rattle.sim_rules.specs.World.{Life, Job, Idle, Walks, Keeps, Releasing, Begins, FirstSees, job_of}
 use Rattle.sim_rules.specs.After.{after, job_releasing}
 use Rattle.sim_workers.specs.Doings.{Doing, Rests, Calls, Waits, Releases, IsCalling, IsKeeping, IsReleasing, JobStands, asking_of, stage_of, task_of}
-use Rattle.sim_workers.specs.Words.{WordsStand, drawn_by}
+use Rattle.sim_workers.specs.WordsInWorld.{WordsStand, drawn_by}
 use Rattle.sim_workers.specs.Workers.{IsNowDoing, WorkersStand}
 use Rattle.sim_workers.specs.Laws.{ChangeBegins, KeepsStanding, ReadBegins, ReleaseBegins}
-use Rattle.sim_workers.proofs.Standing.{changed, each_job, fitting, in_life, is_one, job_changed, places_kept, world_of}
+use Rattle.sim_workers.proofs.WorkersInWorld.{changed, each_job, fitting, in_life, is_one, job_changed, places_kept, world_of}
 
 -- the words stand as they did, whatever the jobs are
 words_same : (b : Book) (files : Files) (history : List Command) (l : Life) (j : ℕ) (job : Job) → WordsStand b (world_of files history l) l → WordsStand b (world_of files history (changed l j job l.places)) (changed l j job l.places)

@@ -36,17 +36,18 @@ use Rattle.sim_rules.specs.After.{after, history_after, job_after, places_after,
 use Rattle.sim_rules.specs.Cases.{StepsCall, StepsJob}
 use Rattle.sim_rules.specs.Runs.{move_of}
 use Rattle.sim_rules.specs.Sound.{ReleasesLegal}
-use Rattle.sim_workers.specs.Doings.{Doing, Calls, CallLeaves, IsCalling, IsKeeping, JobStands, stage_from, stage_of, stage_with, task_of, told_of}
-use Rattle.sim_workers.specs.Words.{PlacesStand, drawn_at, drawn_by}
+use Rattle.sim_rules.specs.Told.{told_of}
+use Rattle.sim_workers.specs.Doings.{Doing, Calls, CallLeaves, IsCalling, IsKeeping, JobStands, stage_from, stage_of, stage_with, task_of}
+use Rattle.sim_workers.specs.WordsInWorld.{PlacesStand, drawn_at, drawn_by}
 use Rattle.sim_workers.specs.Workers.{IsNowDoing, MakesStep, StepsWalk, WorkersStand}
 use Rattle.sim_workers.specs.Laws.{CallSteps, KeepsStanding}
 use Rattle.sim_workers.proofs.Lists.{ends_same, onto}
 use Rattle.sim_workers.proofs.Ways.{steps_on}
 use Rattle.sim_workers.proofs.Turns.{Turn, Takes, Misses, FindsAlive, FindsDead, GivesUp, Looks, GivesSpent, GivesStarved, DrawsTicket, GivesRead, GivesChange, IsTurn, Tells, before, end_of, step_of, told_by, turn_of}
-use Rattle.sim_workers.proofs.Standing.{changed, each_job, fitting, in_life, is_one, job_changed, places_kept, world_of}
+use Rattle.sim_workers.proofs.WorkersInWorld.{changed, each_job, fitting, in_life, is_one, job_changed, places_kept, world_of}
 use Rattle.sim_workers.proofs.Holding.{held_by_another, held_by_none}
 use Rattle.sim_workers.proofs.Places.{places_drawn, places_given}
-use Rattle.sim_workers.proofs.Moving.{KeepsDeeds, counted, deeds_kept, words_moved}
+use Rattle.sim_workers.proofs.Moving.{KeepsEffects, counted, effects_kept, words_moved}
 
 no_change : (r : read_type.Read) (c : Command) → Reading r ≡ Changing c → ⊥
 no_change r c e = cc
@@ -168,7 +169,7 @@ grew b b' history asked stage j i (GivesChange es q t) words tells = quiet_grew 
 Placed : Book → Life → ℕ → Asked → Stage → Made → End → Type 0
 Placed b l j asked stage m end = PlacesStand b (changed l j (job_after (Walks asked stage) m end) (places_after l (Walks asked stage) m))
 
-module _ (b b' : Book) (l : Life) (j : ℕ) (stand : PlacesStand b l) (within : j < length l.jobs) (first : l.first ≡ b.opening.first) (begins : b'.opening.first ≡ b.opening.first) (taken : b'.deeds.taken ≡ b.deeds.taken) where
+module _ (b b' : Book) (l : Life) (j : ℕ) (stand : PlacesStand b l) (within : j < length l.jobs) (first : l.first ≡ b.opening.first) (begins : b'.opening.first ≡ b.opening.first) (taken : b'.effects.taken ≡ b.effects.taken) where
   -- no ticket was drawn, and none given
   quiet : (job : Job) → length b'.history ≡ length b.history → drawn_by (job_of l j) ≡ None → drawn_by job ≡ None → PlacesStand b' (changed l j job l.places)
   quiet job many before now = places_kept b b' l (changed l j job l.places) begins many taken refl refl
@@ -258,14 +259,14 @@ module _ (b b' : Book) (files : Files) (history : List Command) (l : Life) (doin
       subst (λ x. StepsJob (world_of files history l) l x m end) (sym job_is)
       (subst (λ n. StepsCall (world_of files history l) l (stripe_asked n asked) asked stage m end) (sym stand.words.stripes) at)
 
-  deeds : KeepsDeeds b b'
-  deeds = deeds_kept b b' (world_of files history l) l doings j m stand worker made
+  effects : KeepsEffects b b'
+  effects = effects_kept b b' (world_of files history l) l doings j m stand worker made
 
   placed_so : Placed b' l j asked stage m end
   placed_so =
       let was : drawn_by (job_of l j) ≡ drawn_at (stage_of (steps_on stripe (before turned.turn))) = ap drawn_by job_is ∙ ap drawn_at stage_is in
       let own : Placed b' l j asked (stage_of (steps_on stripe (before turned.turn))) (told_by stripe turned.turn) (end_of stripe turned.turn) =
-      placed b b' l j stand.places (omega (arith, worker, stand.jobs)) stand.words.first (ap (λ o. o.first) made.moved.opening) deeds.taken asked stripe turned.turn (record_of j b') words_move turned.tells was in
+      placed b b' l j stand.places (omega (arith, worker, stand.jobs)) stand.words.first (ap (λ o. o.first) made.moved.opening) effects.taken asked stripe turned.turn (record_of j b') words_move turned.tells was in
       subst (λ x. Placed b' l j asked x m end) (sym stage_is)
       (subst (λ x. Placed b' l j asked (stage_of (steps_on stripe (before turned.turn))) x end) (sym told_is)
       (subst (λ x. Placed b' l j asked (stage_of (steps_on stripe (before turned.turn))) (told_by stripe turned.turn) x) (sym turned.end_is) own))
@@ -282,9 +283,9 @@ module _ (b b' : Book) (files : Files) (history : List Command) (l : Life) (doin
       let stands : JobStands b.stripes (record_of j b') doing job =
       job_stands b.stripes calling.begun calling.made made.step m (record_of j b) (record_of j b') calling.steps made.steps made.told calling.free stage calling.stage_is asked s doing end allowed leaves in
       job_changed b b' (world_of files history l) (world_of files (history_after history (Walks asked stage) m) (changed l j job places)) l doings doings' j doing job places stand worker
-      made.moved.stripes made.moved.passes deeds.keeper made.moved.others goes
+      made.moved.stripes made.moved.passes effects.keeper made.moved.others goes
       (subst (λ n. JobStands n (record_of j b') doing job) (sym made.moved.stripes) stands)
-      (words_moved b b' files history (history_after history (Walks asked stage) m) grew_so.more l j job places stand.words made.one made.apart made.moved.opening made.moved.stripes deeds grew_so.book grew_so.world)
+      (words_moved b b' files history (history_after history (Walks asked stage) m) grew_so.more l j job places stand.words made.one made.apart made.moved.opening made.moved.stripes effects grew_so.book grew_so.world)
       placed_so
 
   call_goes_on : (found : Opened) → KeepsStanding (world_of files history l) found (event.Step j) (outcome.Stepped m end) b' doings'

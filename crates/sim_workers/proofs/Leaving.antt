@@ -18,7 +18,7 @@ use Rattle.sim_rules.specs.World.{World, Job, Idle, Walks, Keeps, Releasing, job
 use Rattle.sim_workers.specs.Doings.{Doing, Rests, Calls, Waits, Releases, CallLeaves, JobStands, ReleaseLeaves, task_of}
 use Rattle.sim_workers.specs.Workers.{Stand, StepsWalk}
 use Rattle.sim_workers.specs.Laws.{CallsLeave, ReleasesLeave, WalksAreUnderWay}
-use Rattle.sim_workers.proofs.Standing.{in_life}
+use Rattle.sim_workers.proofs.WorkersInWorld.{in_life}
 
 -- a worker's job in a world that stands
 standing : (b : Book) (w : World) (doings : ℕ → Doing) (j : ℕ) → Stand b w doings → j < 64 → (job : Job) × JobStands b.stripes (record_of j b) (doings j) job

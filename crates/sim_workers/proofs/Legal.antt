@@ -24,7 +24,7 @@ use Rattle.one_history.specs.OneHistory.{Knows}
 use Rattle.one_history.proofs.Legal.{legal_longer}
 use Rattle.sim_rules.specs.World.{World, Life}
 use Rattle.sim_rules.specs.Machine.{whole}
-use Rattle.sim_workers.specs.Words.{WordsStand}
+use Rattle.sim_workers.specs.WordsInWorld.{WordsStand}
 
 -- one of the calls of a record
 pub of_calls : (v : Record) (xs : List Call) (x : Call) → AllLegalCalls v xs → Contains xs x → IsLegalCall (history_of v) x
@@ -69,7 +69,7 @@ module _ (o : Opening) (h before : List Command) (count : length before ≡ o.fi
 pub legal_in_book : (b : Book) (w : World) (l : Life) (j : ℕ) (x : Call) → WordsStand b w l → j < length b.passes → Contains (record_of j b).calls x → IsLegalCall (history_from b.opening b.history) x
 legal_in_book b w l j x words within has =
     let v : Record = record_of j b in
-    let knows : Knows b.opening b.stripes b.history b.authors b.deeds j v = words.one.passes j within in
+    let knows : Knows b.opening b.stripes b.history b.authors b.effects j v = words.one.passes j within in
     let own : IsLegalCall (history_of v) x = of_calls v v.calls x knows.calls has in
     let seen : IsLegal (history_from b.opening v.seen) x.position x.asked x.reply = subst (λ (o : Opening). IsLegal (history_from o v.seen) x.position x.asked x.reply) knows.opening own in
     let longer : IsLegal (history_from b.opening (v.seen ++ knows.front.rest)) x.position x.asked x.reply = legal_longer b.opening v.seen knows.front.rest x.position x.asked x.reply seen in

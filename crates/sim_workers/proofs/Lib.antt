@@ -1,7 +1,7 @@
 pub mod Lists
 pub mod Ways
 pub mod Asks
-pub mod Standing
+pub mod WorkersInWorld
 pub mod Begins
 pub mod Holding
 pub mod Legal

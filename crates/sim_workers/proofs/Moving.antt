@@ -9,75 +9,76 @@ use Rattle.ticket_order.specs.declared.record.StepMade.{StepMade}
 use Rattle.ticket_order.specs.declared.record.StepMade.TheVariants.{Took, FoundHeld, Gave, Drew, Looked, Published, Saw, Failed, FoundAlive}
 use Rattle.ticket_order.specs.declared.record.Record.{Record}
 use Rattle.one_history.specs.declared.book.Book.{Book}
-use Rattle.one_history.specs.declared.book.Deeds.{Deeds}
+use Rattle.one_history.specs.declared.book.KeeperEffects.{KeeperEffects}
 use Rattle.one_history.specs.Turns.{record_of}
 use Rattle.one_history.specs.OneHistory.{HasDone, HoldApart, IsOneHistory, Knows}
 use Rattle.one_history.specs.Moves.{BookMoves, GainsTaken}
 use Rattle.sim_rules.specs.declared.outcome.Made.{Made}
 use Rattle.sim_rules.specs.World.{World, Life, Job, Place}
-use Rattle.sim_workers.specs.Doings.{Doing, told_of}
-use Rattle.sim_workers.specs.Words.{WordsStand}
+use Rattle.sim_rules.specs.Told.{told_of}
+use Rattle.sim_workers.specs.Doings.{Doing}
+use Rattle.sim_workers.specs.WordsInWorld.{WordsStand}
 use Rattle.sim_workers.specs.Workers.{MakesStep, WorkersStand}
-use Rattle.sim_workers.proofs.Standing.{changed, world_of}
+use Rattle.sim_workers.proofs.WorkersInWorld.{changed, world_of}
 
 -- a worker changes none of what the keeper did
-pub record KeepsDeeds (b b' : Book) : Type 0 where
-  pub keeper : b'.deeds.keeper ≡ b.deeds.keeper
-  pub durable : b'.deeds.durable ≡ b.deeds.durable
-  pub failed : b'.deeds.failed ≡ b.deeds.failed
-  pub taken : b'.deeds.taken ≡ b.deeds.taken
+pub record KeepsEffects (b b' : Book) : Type 0 where
+  pub keeper : b'.effects.keeper ≡ b.effects.keeper
+  pub durable : b'.effects.durable ≡ b.effects.durable
+  pub failed : b'.effects.failed ≡ b.effects.failed
+  pub taken : b'.effects.taken ≡ b.effects.taken
 
-same_deeds : (b b' : Book) → b'.deeds ≡ b.deeds → KeepsDeeds b b'
-same_deeds b b' is = record {
-  keeper = ap (λ (k : Deeds). k.keeper) is;
-  durable = ap (λ (k : Deeds). k.durable) is;
-  failed = ap (λ (k : Deeds). k.failed) is;
-  taken = ap (λ (k : Deeds). k.taken) is;
+same_effects : (b b' : Book) → b'.effects ≡ b.effects → KeepsEffects b b'
+same_effects b b' is = record {
+  keeper = ap (λ (k : KeeperEffects). k.keeper) is;
+  durable = ap (λ (k : KeeperEffects). k.durable) is;
+  failed = ap (λ (k : KeeperEffects). k.failed) is;
+  taken = ap (λ (k : KeeperEffects). k.taken) is;
 }
 
 -- no other pass than the keeper's took entries
-none_taken : (o : Opening) (k : Deeds) (v : Record) → v.keeper ≡ false → HasDone o k v v.keeper → v.taken ≡ []
+none_taken : (o : Opening) (k : KeeperEffects) (v : Record) → v.keeper ≡ false → HasDone o k v v.keeper → v.taken ≡ []
 none_taken o k v not done = (subst (HasDone o k v) not done).0
 
 no_entries : (xs ys : List Entry) → xs ++ ys ≡ [] → ys ≡ []
 no_entries [] ys is = is
 no_entries (x ∷ xs) ys is = absurd (omega (arith, ap length is, length-append xs ys))
 
-gave_deeds : (b b' : Book) (j : ℕ) → IsOneHistory b' → length b'.passes ≡ 65 → b.deeds.keeper ≡ 64 → j < 64 → GainsTaken j b b' → KeepsDeeds b b'
-gave_deeds b b' j one passes keeper worker gains =
-    let same : b'.deeds.keeper ≡ b.deeds.keeper = ap (λ (k : Deeds). k.keeper) gains.deeds in
-    let knows : Knows b'.opening b'.stripes b'.history b'.authors b'.deeds j (record_of j b') = one.passes j (omega (arith, worker, passes)) in
-    let other : (record_of j b').keeper ≡ false = knows.keeper ∙ ne_eqb j b'.deeds.keeper (λ e. omega (arith, e, same, keeper, worker)) in
-    let none : gains.entries ≡ [] = no_entries (record_of j b).taken gains.entries (sym gains.taken ∙ none_taken b'.opening b'.deeds (record_of j b') other knows.done) in
+gave_effects : (b b' : Book) (j : ℕ) → IsOneHistory b' → length b'.passes ≡ 65 → b.effects.keeper ≡ 64 → j < 64 → GainsTaken j b b' → KeepsEffects b b'
+gave_effects b b' j one passes keeper worker gains =
+    let same : b'.effects.keeper ≡ b.effects.keeper = ap (λ (k : KeeperEffects). k.keeper) gains.effects in
+    let knows : Knows b'.opening b'.stripes b'.history b'.authors b'.effects j (record_of j b') = one.passes j (omega (arith, worker, passes)) in
+    let other : (record_of j b').keeper ≡ false = knows.keeper ∙ ne_eqb j b'.effects.keeper (λ e. omega (arith, e, same, keeper, worker)) in
+    let none : gains.entries ≡ [] = no_entries (record_of j b).taken gains.entries (sym gains.taken ∙ none_taken b'.opening b'.effects (record_of j b') other knows.done) in
     record {
       keeper = same;
-      durable = ap (λ (k : Deeds). k.durable) gains.deeds;
-      failed = ap (λ (k : Deeds). k.failed) gains.deeds;
-      taken = ap (λ (k : Deeds). k.taken) gains.deeds ∙ (ap (λ es. b.deeds.taken ++ es) none ∙ append-nil b.deeds.taken);
+      durable = ap (λ (k : KeeperEffects). k.durable) gains.effects;
+      failed = ap (λ (k : KeeperEffects). k.failed) gains.effects;
+      taken = ap (λ (k : KeeperEffects). k.taken) gains.effects ∙ (ap (λ es. b.effects.taken ++ es) none ∙ append-nil b.effects.taken);
     }
 
 never_told : (m : Made) → None ≡ Some m → ⊥
 never_told m e = cc
 
-deeds_by : (step : StepMade) (m : Made) (b b' : Book) (j : ℕ) → told_of step ≡ Some m → BookMoves j step b b' → IsOneHistory b' → length b.passes ≡ 65 → b.deeds.keeper ≡ 64 → j < 64 → KeepsDeeds b b'
-deeds_by (Took i es) m b b' j told moved one passes keeper worker = same_deeds b b' moved.words.0.deeds
-deeds_by (FoundHeld i) m b b' j told moved one passes keeper worker = same_deeds b b' moved.words.0.deeds
-deeds_by (Gave i) m b b' j told moved one passes keeper worker = gave_deeds b b' j one (moved.passes ∙ passes) keeper worker moved.words.1
-deeds_by (Drew t) m b b' j told moved one passes keeper worker = same_deeds b b' moved.words.deeds
-deeds_by (Looked q) m b b' j told moved one passes keeper worker = same_deeds b b' moved.words.0.deeds
-deeds_by (Published x) m b b' j told moved one passes keeper worker = absurd (never_told m told)
-deeds_by (Saw d) m b b' j told moved one passes keeper worker = same_deeds b b' moved.words.0.deeds
-deeds_by Failed m b b' j told moved one passes keeper worker = absurd (never_told m told)
-deeds_by (FoundAlive is_alive) m b b' j told moved one passes keeper worker = same_deeds b b' moved.words.0.deeds
+effects_by : (step : StepMade) (m : Made) (b b' : Book) (j : ℕ) → told_of step ≡ Some m → BookMoves j step b b' → IsOneHistory b' → length b.passes ≡ 65 → b.effects.keeper ≡ 64 → j < 64 → KeepsEffects b b'
+effects_by (Took i es) m b b' j told moved one passes keeper worker = same_effects b b' moved.words.0.effects
+effects_by (FoundHeld i) m b b' j told moved one passes keeper worker = same_effects b b' moved.words.0.effects
+effects_by (Gave i) m b b' j told moved one passes keeper worker = gave_effects b b' j one (moved.passes ∙ passes) keeper worker moved.words.1
+effects_by (Drew t) m b b' j told moved one passes keeper worker = same_effects b b' moved.words.effects
+effects_by (Looked q) m b b' j told moved one passes keeper worker = same_effects b b' moved.words.0.effects
+effects_by (Published x) m b b' j told moved one passes keeper worker = absurd (never_told m told)
+effects_by (Saw d) m b b' j told moved one passes keeper worker = same_effects b b' moved.words.0.effects
+effects_by Failed m b b' j told moved one passes keeper worker = absurd (never_told m told)
+effects_by (FoundAlive is_alive) m b b' j told moved one passes keeper worker = same_effects b b' moved.words.0.effects
 
-pub deeds_kept : (b b' : Book) (w : World) (l : Life) (doings : ℕ → Doing) (j : ℕ) (m : Made) → WorkersStand b w l doings → j < 64 → MakesStep j b b' m → KeepsDeeds b b'
-deeds_kept b b' w l doings j m stand worker made = deeds_by made.step m b b' j made.told made.moved made.one stand.passes stand.keeper worker
+pub effects_kept : (b b' : Book) (w : World) (l : Life) (doings : ℕ → Doing) (j : ℕ) (m : Made) → WorkersStand b w l doings → j < 64 → MakesStep j b b' m → KeepsEffects b b'
+effects_kept b b' w l doings j m stand worker made = effects_by made.step m b b' j made.told made.moved made.one stand.passes stand.keeper worker
 
 -- the words stand as they should, with a history that grew by these commands
 pub words_moved : (b b' : Book) (files : Files) (history history' more : List Command) (l : Life) (j : ℕ) (job : Job) (places : List Place) → WordsStand b (world_of files history l) l → IsOneHistory b' → HoldApart b'
-    → b'.opening ≡ b.opening → b'.stripes ≡ b.stripes → KeepsDeeds b b' → b'.history ≡ b.history ++ more → history' ≡ history ++ more
+    → b'.opening ≡ b.opening → b'.stripes ≡ b.stripes → KeepsEffects b b' → b'.history ≡ b.history ++ more → history' ≡ history ++ more
     → WordsStand b' (world_of files history' (changed l j job places)) (changed l j job places)
-words_moved b b' files history history' more l j job places words one apart opening stripes deeds grew grows = record {
+words_moved b b' files history history' more l j job places words one apart opening stripes effects grew grows = record {
   one = one;
   apart = apart;
   stripes = words.stripes ∙ sym stripes;
@@ -86,8 +87,8 @@ words_moved b b' files history history' more l j job places words one apart open
   count = words.count ∙ ap (λ (o : Opening). o.first) (sym opening);
   map = ap (λ (o : Opening). o.map) opening ∙ words.map;
   history = grows ∙ (ap (λ h. h ++ more) words.history ∙ (append_assoc words.before b.history more ∙ ap (λ h. words.before ++ h) (sym grew)));
-  durable = words.durable ∙ sym deeds.durable;
-  has_failed = words.has_failed ∙ sym deeds.failed;
+  durable = words.durable ∙ sym effects.durable;
+  has_failed = words.has_failed ∙ sym effects.failed;
 }
 
 -- how many commands the world has

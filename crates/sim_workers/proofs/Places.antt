@@ -7,8 +7,8 @@ use Rattle.std.proofs.lemmas.Bool.{cases_eq}
 use Rattle.std.proofs.lemmas.List.{get_or-set_same, get_or-set_other}
 use Rattle.one_history.specs.declared.book.Book.{Book}
 use Rattle.sim_rules.specs.World.{Life, Job, Idle, Place, WithWorker, InOutbox, InHand, job_of, place_of}
-use Rattle.sim_workers.specs.Words.{IsDrawn, IsOfLife, IsTaken, PlacesStand, drawn_by}
-use Rattle.sim_workers.proofs.Standing.{changed}
+use Rattle.sim_workers.specs.WordsInWorld.{IsDrawn, IsOfLife, IsTaken, PlacesStand, drawn_by}
+use Rattle.sim_workers.proofs.WorkersInWorld.{changed}
 
 -- the places differ from each other
 in_outbox_not_with : InOutbox ≡ WithWorker → ⊥
@@ -35,12 +35,12 @@ module _ (l : Life) (j : ℕ) (job : Job) (places : List Place) (within : j < le
   drawn_there i ne = ap drawn_by (get_or-set_other l.jobs j i job Idle ne)
 
 -- a taken entry is one still, where the sweeps took nothing more
-still_taken : (b b' : Book) (t : ℕ) → b'.deeds.taken ≡ b.deeds.taken → IsTaken b t → IsTaken b' t
+still_taken : (b b' : Book) (t : ℕ) → b'.effects.taken ≡ b.effects.taken → IsTaken b t → IsTaken b' t
 still_taken b b' t taken is = (is.0, rw taken is.1, is.2)
 
 -- the worker drew the ticket that is the next
 module _ (b b' : Book) (l : Life) (j t : ℕ) (job : Job) (stand : PlacesStand b l) (within : j < length l.jobs) (first : l.first ≡ b.opening.first) (begins : b'.opening.first ≡ b.opening.first)
-    (many : length b'.history ≡ length b.history + 1) (taken : b'.deeds.taken ≡ b.deeds.taken) (next : t ≡ b.opening.first + length b.history) (before : drawn_by (job_of l j) ≡ None) (now : drawn_by job ≡ Some t) where
+    (many : length b'.history ≡ length b.history + 1) (taken : b'.effects.taken ≡ b.effects.taken) (next : t ≡ b.opening.first + length b.history) (before : drawn_by (job_of l j) ≡ None) (now : drawn_by job ≡ Some t) where
   abbrev drew : Life
   drew = changed l j job (l.places ++ WithWorker ∷ [])
 
@@ -145,7 +145,7 @@ module _ (b b' : Book) (l : Life) (j t : ℕ) (job : Job) (stand : PlacesStand b
 
 -- the worker gave back the stripe of the ticket that it had drawn
 module _ (b b' : Book) (l : Life) (j t : ℕ) (job : Job) (stand : PlacesStand b l) (within : j < length l.jobs) (first : l.first ≡ b.opening.first) (begins : b'.opening.first ≡ b.opening.first)
-    (many : length b'.history ≡ length b.history) (taken : b'.deeds.taken ≡ b.deeds.taken) (before : drawn_by (job_of l j) ≡ Some t) (now : drawn_by job ≡ None) where
+    (many : length b'.history ≡ length b.history) (taken : b'.effects.taken ≡ b.effects.taken) (before : drawn_by (job_of l j) ≡ Some t) (now : drawn_by job ≡ None) where
   abbrev gave : Life
   gave = changed l j job (slice_set l.places (t - l.first) InOutbox)
 

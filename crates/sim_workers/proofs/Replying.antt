@@ -35,16 +35,17 @@ use Rattle.sim_rules.specs.After.{after, asking_after, history_after, job_after,
 use Rattle.sim_rules.specs.Cases.{StepsJob, StepsRelease}
 use Rattle.sim_rules.specs.Runs.{move_of}
 use Rattle.sim_rules.specs.Sound.{ReleasesLegal}
+use Rattle.sim_rules.specs.Told.{told_of}
 use Rattle.sim_workers.specs.Doings as doings_of
-use Rattle.sim_workers.specs.Doings.{Doing, AnswerLeaves, IsKeeping, IsReleasing, JobStands, ReleaseLeaves, asking_from, asking_of, asking_with, told_of}
-use Rattle.sim_workers.specs.Words.{drawn_by}
+use Rattle.sim_workers.specs.Doings.{Doing, AnswerLeaves, IsKeeping, IsReleasing, JobStands, ReleaseLeaves, asking_from, asking_of, asking_with}
+use Rattle.sim_workers.specs.WordsInWorld.{drawn_by}
 use Rattle.sim_workers.specs.Workers.{IsNowDoing, MakesStep, StepsWalk, WorkersStand}
 use Rattle.sim_workers.specs.Laws.{KeepsStanding, ReleaseSteps}
 use Rattle.sim_workers.proofs.Lists.{ends_same, never_empty, onto, same_rest}
 use Rattle.sim_workers.proofs.Asks.{Way, Starts, Missed, Asked as AskedAlive, SawAgain, GoesBy, IsOpen, StandsBy, missed_alive, release_goes, saw, saw_again, steps_of}
-use Rattle.sim_workers.proofs.Standing.{changed, each_job, fitting, in_life, is_one, job_changed, places_kept, world_of}
+use Rattle.sim_workers.proofs.WorkersInWorld.{changed, each_job, fitting, in_life, is_one, job_changed, places_kept, world_of}
 use Rattle.sim_workers.proofs.Legal.{legal_in_world}
-use Rattle.sim_workers.proofs.Moving.{KeepsDeeds, deeds_kept, words_moved}
+use Rattle.sim_workers.proofs.Moving.{KeepsEffects, effects_kept, words_moved}
 
 -- A step of a release: from where it was made, what it was, and how the release went on or ended.
 data Turn : Type 0 where
@@ -158,7 +159,7 @@ module _ (position : ℕ) (b : Record) (made : List StepMade) (step : StepMade) 
 
 -- ---- the case of the step
 
-step_meets : (b b' : Book) (l : Life) (j position : ℕ) (turn : Turn) → l.durable ≡ b.deeds.durable → l.has_failed ≡ b.deeds.failed → WordsMove j (step_of turn) b b' → Tells position turn
+step_meets : (b b' : Book) (l : Life) (j position : ℕ) (turn : Turn) → l.durable ≡ b.effects.durable → l.has_failed ≡ b.effects.failed → WordsMove j (step_of turn) b b' → Tells position turn
     → StepsRelease l position (asking_of (steps_of (before turn))) (told_by turn) (end_of position turn)
 unfolding asking_from
 step_meets b b' l j position (IsBelow d) durable failed words tells = (words.1 ∙ sym durable, tells)
@@ -286,8 +287,8 @@ module _ (b b' : Book) (files : Files) (history : List Command) (l : Life) (doin
       (subst (λ x. StepsRelease l position (asking_of (steps_of (before turned.turn))) (told_by turned.turn) x) (sym turned.end_is) own)) in
       subst (λ x. StepsJob (world_of files history l) l x m end) (sym job_is) at
 
-  deeds : KeepsDeeds b b'
-  deeds = deeds_kept b b' (world_of files history l) l doings j m stand worker made
+  effects : KeepsEffects b b'
+  effects = effects_kept b b' (world_of files history l) l doings j m stand worker made
 
   same_books : b'.history ≡ b.history
   same_books = same_history b b' j turned.turn words_move
@@ -299,10 +300,10 @@ module _ (b b' : Book) (files : Files) (history : List Command) (l : Life) (doin
       let stands : JobStands b.stripes (record_of j b') doing job =
       job_stands b.stripes (record_of j b) (record_of j b') walk asked position asking r made.step m made.steps made.told turned.holding turned.calls s doing end allowed leaves in
       job_changed b b' (world_of files history l) (world_of files history (changed l j job l.places)) l doings doings' j doing job l.places stand worker
-      made.moved.stripes made.moved.passes deeds.keeper made.moved.others goes
+      made.moved.stripes made.moved.passes effects.keeper made.moved.others goes
       (subst (λ n. JobStands n (record_of j b') doing job) (sym made.moved.stripes) stands)
-      (words_moved b b' files history history [] l j job l.places stand.words made.one made.apart made.moved.opening made.moved.stripes deeds (same_books ∙ sym (append-nil b.history)) (sym (append-nil history)))
-      (places_kept b b' l (changed l j job l.places) (ap (λ o. o.first) made.moved.opening) (ap length same_books) deeds.taken refl refl
+      (words_moved b b' files history history [] l j job l.places stand.words made.one made.apart made.moved.opening made.moved.stripes effects (same_books ∙ sym (append-nil b.history)) (sym (append-nil history)))
+      (places_kept b b' l (changed l j job l.places) (ap (λ o. o.first) made.moved.opening) (ap length same_books) effects.taken refl refl
       (each_job (λ i x. drawn_by x ≡ drawn_by (job_of l i)) l.jobs j job (omega (arith, worker, stand.jobs)) none (λ i ne. refl)) stand.places)
 
   legal_reply : IsLegalCall (whole history) (call position asked r.reply)

@@ -17,10 +17,10 @@ use Rattle.one_history.specs.Turns.{at_start, maps_of, opening_of, record_of}
 use Rattle.one_history.specs.OneHistory.{HoldApart, HoldsStripe, IsOneHistory}
 use Rattle.sim_rules.specs.World.{World, Life, Idle, begun_by, job_of}
 use Rattle.sim_workers.specs.Doings.{Doing, Rests}
-use Rattle.sim_workers.specs.Words.{IsDrawn, IsOfLife, IsTaken, PlacesStand, WordsStand, drawn_by}
+use Rattle.sim_workers.specs.WordsInWorld.{IsDrawn, IsOfLife, IsTaken, PlacesStand, WordsStand, drawn_by}
 use Rattle.sim_workers.specs.Workers.{Stand, WorkersStand}
 use Rattle.sim_workers.specs.Laws.{LifeBegins}
-use Rattle.sim_workers.proofs.Standing.{world_of}
+use Rattle.sim_workers.proofs.WorkersInWorld.{world_of}
 
 -- all are idle
 idle_at : (j : ℕ) → slice_index_or (replicate 64 Idle) j Idle ≡ Idle

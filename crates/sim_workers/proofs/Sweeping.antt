@@ -22,20 +22,20 @@ use Rattle.ticket_order.specs.declared.record.StepMade.TheVariants.{Took, FoundH
 use Rattle.ticket_order.specs.Records.{call, entry}
 use Rattle.ticket_order.specs.Legality.{entries_from, entries_of, history_from}
 use Rattle.one_history.specs.declared.book.Book.{Book}
-use Rattle.one_history.specs.declared.book.Deeds.{Deeds}
+use Rattle.one_history.specs.declared.book.KeeperEffects.{KeeperEffects}
 use Rattle.one_history.specs.Turns.{record_of}
 use Rattle.one_history.specs.OneHistory.{HasDone, Holds, HoldsStripe, IsOneHistory, Knows, stripe_in}
 use Rattle.one_history.specs.Moves.{WordsMove}
 use Rattle.sim_rules.specs.World.{World, Life, Job, Idle, Walks, Keeps, Releasing, Place, WithWorker, InOutbox, InHand, job_of, place_of, stripe_asked}
 use Rattle.sim_rules.specs.After.{swept_places}
 use Rattle.sim_workers.specs.Doings.{Doing, Rests, Calls, Waits, Releases, JobStands, stage_from, stage_of}
-use Rattle.sim_workers.specs.Words.{IsDrawn, IsOfLife, IsTaken, PlacesStand, WordsStand, drawn_at, drawn_by}
+use Rattle.sim_workers.specs.WordsInWorld.{IsDrawn, IsOfLife, IsTaken, PlacesStand, WordsStand, drawn_at, drawn_by}
 use Rattle.sim_workers.specs.Workers.{DrawsNone, Gathers, KeeperMoves, Swept, WorkersStand}
 use Rattle.sim_workers.specs.Laws.{KeeperRests, KeeperSteps}
 use Rattle.sim_workers.proofs.Ways.{Way, Starts, HasStripe, Lives, FindsNone, Sees, Draws, GoesBy, Knows as KnowsWay, steps_on, stripe_on}
 use Rattle.sim_workers.proofs.Holding.{stage_by, way_of}
 use Rattle.sim_workers.proofs.Legal.{legal_in_book}
-use Rattle.sim_workers.proofs.Standing.{places_kept}
+use Rattle.sim_workers.proofs.WorkersInWorld.{places_kept}
 
 -- ---- a worker that has drawn a ticket
 
@@ -144,25 +144,25 @@ same_history (Saw d) b b' none words = words.0.same.history
 same_history Failed b b' none words = words.0.history
 same_history (FoundAlive is_alive) b b' none words = words.0.same.history
 
-same_keeper : (step : StepMade) (b b' : Book) → DrawsNone step → WordsMove 64 step b b' → b'.deeds.keeper ≡ b.deeds.keeper
-same_keeper (Took i es) b b' none words = ap (λ (k : Deeds). k.keeper) words.0.deeds
-same_keeper (FoundHeld i) b b' none words = ap (λ (k : Deeds). k.keeper) words.0.deeds
-same_keeper (Gave i) b b' none words = ap (λ (k : Deeds). k.keeper) words.1.deeds
+same_keeper : (step : StepMade) (b b' : Book) → DrawsNone step → WordsMove 64 step b b' → b'.effects.keeper ≡ b.effects.keeper
+same_keeper (Took i es) b b' none words = ap (λ (k : KeeperEffects). k.keeper) words.0.effects
+same_keeper (FoundHeld i) b b' none words = ap (λ (k : KeeperEffects). k.keeper) words.0.effects
+same_keeper (Gave i) b b' none words = ap (λ (k : KeeperEffects). k.keeper) words.1.effects
 same_keeper (Drew t) b b' none words = absurd none
-same_keeper (Looked q) b b' none words = ap (λ (k : Deeds). k.keeper) words.0.deeds
-same_keeper (Published x) b b' none words = ap (λ (k : Deeds). k.keeper) words.1
-same_keeper (Saw d) b b' none words = ap (λ (k : Deeds). k.keeper) words.0.deeds
-same_keeper Failed b b' none words = ap (λ (k : Deeds). k.keeper) words.1
-same_keeper (FoundAlive is_alive) b b' none words = ap (λ (k : Deeds). k.keeper) words.0.deeds
+same_keeper (Looked q) b b' none words = ap (λ (k : KeeperEffects). k.keeper) words.0.effects
+same_keeper (Published x) b b' none words = ap (λ (k : KeeperEffects). k.keeper) words.1
+same_keeper (Saw d) b b' none words = ap (λ (k : KeeperEffects). k.keeper) words.0.effects
+same_keeper Failed b b' none words = ap (λ (k : KeeperEffects). k.keeper) words.1
+same_keeper (FoundAlive is_alive) b b' none words = ap (λ (k : KeeperEffects). k.keeper) words.0.effects
 
 -- the record of the keeper's pass says what the keeper did
-knows_keeper : (b : Book) → IsOneHistory b → length b.passes ≡ 65 → Knows b.opening b.stripes b.history b.authors b.deeds 64 (record_of 64 b)
+knows_keeper : (b : Book) → IsOneHistory b → length b.passes ≡ 65 → Knows b.opening b.stripes b.history b.authors b.effects 64 (record_of 64 b)
 knows_keeper b one passes = one.passes 64 (omega (arith, passes))
 
-keeper_done : (b : Book) → IsOneHistory b → length b.passes ≡ 65 → b.deeds.keeper ≡ 64 → HasDone b.opening b.deeds (record_of 64 b) true
+keeper_done : (b : Book) → IsOneHistory b → length b.passes ≡ 65 → b.effects.keeper ≡ 64 → HasDone b.opening b.effects (record_of 64 b) true
 keeper_done b one passes keeper =
-    let knows : Knows b.opening b.stripes b.history b.authors b.deeds 64 (record_of 64 b) = knows_keeper b one passes in
-    subst (HasDone b.opening b.deeds (record_of 64 b)) (knows.keeper ∙ eq-eqb 64 b.deeds.keeper (sym keeper)) knows.done
+    let knows : Knows b.opening b.stripes b.history b.authors b.effects 64 (record_of 64 b) = knows_keeper b one passes in
+    subst (HasDone b.opening b.effects (record_of 64 b)) (knows.keeper ∙ eq-eqb 64 b.effects.keeper (sym keeper)) knows.done
 
 other_place : InOutbox ≡ InHand → ⊥
 other_place e = cc
@@ -170,7 +170,7 @@ other_place e = cc
 -- ---- the places after a sweep's GIVE
 
 module _ (b b' : Book) (w : World) (l l' : Life) (doings : ℕ → Doing) (stand : WorkersStand b w l doings) (i : ℕ) (swept : Swept b b' w l l' i) (history : b'.history ≡ b.history) (opening : b'.opening.first ≡ b.opening.first)
-    (taken : b'.deeds.taken ≡ b.deeds.taken ++ swept.held.outbox) (begins : l'.first ≡ l.first) (jobs : l'.jobs ≡ l.jobs) where
+    (taken : b'.effects.taken ≡ b.effects.taken ++ swept.held.outbox) (begins : l'.first ≡ l.first) (jobs : l'.jobs ≡ l.jobs) where
   all_commands : drop l.first w.history ≡ b.history
   all_commands =
       let at : l.first ≡ length stand.words.before = stand.words.first ∙ sym stand.words.count in
@@ -179,11 +179,11 @@ module _ (b b' : Book) (w : World) (l l' : Life) (doings : ℕ → Doing) (stand
   places_are : l'.places ≡ swept_places b.stripes i b.history l.places
   places_are = swept.places ∙ (ap (λ n. swept_places n i (drop l.first w.history) l.places) stand.words.stripes ∙ ap (λ cs. swept_places b.stripes i cs l.places) all_commands)
 
-  holds_content : Holds b.opening b.stripes b.history b.authors b.deeds (record_of 64 b) swept.held
+  holds_content : Holds b.opening b.stripes b.history b.authors b.effects (record_of 64 b) swept.held
   holds_content = (knows_keeper b stand.words.one stand.passes).held swept.held swept.holding
 
-  all_is : entries_of b.stripes i (entries_from b.opening.first b.history) ≡ entries_of b.stripes i b.deeds.taken ++ swept.held.outbox
-  all_is = subst (λ k. entries_of b.stripes k (entries_from b.opening.first b.history) ≡ entries_of b.stripes k b.deeds.taken ++ swept.held.outbox) swept.stripe_is holds_content.content.outbox_is
+  all_is : entries_of b.stripes i (entries_from b.opening.first b.history) ≡ entries_of b.stripes i b.effects.taken ++ swept.held.outbox
+  all_is = subst (λ k. entries_of b.stripes k (entries_from b.opening.first b.history) ≡ entries_of b.stripes k b.effects.taken ++ swept.held.outbox) swept.stripe_is holds_content.content.outbox_is
 
   keeper_holds_it : HoldsStripe b 64 i
   keeper_holds_it = record { within = omega (arith, stand.passes); has = ap stripe_in swept.holding ∙ ap (λ k. Some k) swept.stripe_is }
@@ -207,7 +207,7 @@ module _ (b b' : Book) (w : World) (l l' : Life) (doings : ℕ → Doing) (stand
 
   -- those of the outbox are entries of the stripe
   in_outbox : (e : Entry) → Contains swept.held.outbox e → Contains (entries_of b.stripes i (entries_from b.opening.first b.history)) e
-  in_outbox e has = subst (λ es. Contains es e) (sym all_is) (Contains-append_right (entries_of b.stripes i b.deeds.taken) swept.held.outbox e has)
+  in_outbox e has = subst (λ es. Contains es e) (sym all_is) (Contains-append_right (entries_of b.stripes i b.effects.taken) swept.held.outbox e has)
 
   at_of_outbox : (e : Entry) → Contains swept.held.outbox e → IsAt b.opening.first b.history e
   at_of_outbox e has = found b.opening.first b.history e (filtered (λ (x : Entry). is_in_stripe b.stripes i x.command.key) (entries_from b.opening.first b.history) e (in_outbox e has))
@@ -234,10 +234,10 @@ module _ (b b' : Book) (w : World) (l l' : Life) (doings : ℕ → Doing) (stand
   ]
 
   taken_still : (t : ℕ) → IsTaken b t → IsTaken b' t
-  taken_still t is = (is.0, subst (λ es. Contains es is.0) (sym taken) (Contains-append_left b.deeds.taken swept.held.outbox is.0 is.1), is.2)
+  taken_still t is = (is.0, subst (λ es. Contains es is.0) (sym taken) (Contains-append_left b.effects.taken swept.held.outbox is.0 is.1), is.2)
 
   taken_now : (e : Entry) → Contains swept.held.outbox e → IsTaken b' e.ticket
-  taken_now e has = (e, subst (λ es. Contains es e) (sym taken) (Contains-append_right b.deeds.taken swept.held.outbox e has), refl)
+  taken_now e has = (e, subst (λ es. Contains es e) (sym taken) (Contains-append_right b.effects.taken swept.held.outbox e has), refl)
 
   -- what is taken was taken before, or lay in the outbox
   TakenFrom : ℕ → Type 0
@@ -245,7 +245,7 @@ module _ (b b' : Book) (w : World) (l l' : Life) (doings : ℕ → Doing) (stand
 
   taken_or : (t : ℕ) → IsTaken b' t → IsTaken b t ⊎ TakenFrom t
   unfolding TakenFrom
-  taken_or t is = elim (Contains-append_cases b.deeds.taken swept.held.outbox is.0 (subst (λ es. Contains es is.0) taken is.1)) [
+  taken_or t is = elim (Contains-append_cases b.effects.taken swept.held.outbox is.0 (subst (λ es. Contains es is.0) taken is.1)) [
     | inl old ↦ inl (is.0, old, is.2)
     | inr new ↦ inr (is.0, new, is.2)
   ]
@@ -272,10 +272,10 @@ module _ (b b' : Book) (w : World) (l l' : Life) (doings : ℕ → Doing) (stand
       elim (swept_hand own (place_of l t) (sym (place_at (entry t e.0) (found b.opening.first b.history (entry t e.0) e.1)) ∙ at)) [
         | inl old ↦ taken_still t ((stand.places.in_hand t is).0 old)
         | inr new ↦
-            let in_all : Contains (entries_of b.stripes i b.deeds.taken ++ swept.held.outbox) (entry t e.0) =
+            let in_all : Contains (entries_of b.stripes i b.effects.taken ++ swept.held.outbox) (entry t e.0) =
             subst (λ es. Contains es (entry t e.0)) all_is (passes (λ (x : Entry). is_in_stripe b.stripes i x.command.key) (entries_from b.opening.first b.history) (entry t e.0) e.1 new.1) in
-            elim (Contains-append_cases (entries_of b.stripes i b.deeds.taken) swept.held.outbox (entry t e.0) in_all) [
-              | inl k ↦ (let was : place_of l t ≡ InHand = (stand.places.in_hand t is).1 (entry t e.0, filtered (λ (x : Entry). is_in_stripe b.stripes i x.command.key) b.deeds.taken (entry t e.0) k, refl) in absurd (other_place (sym new.0 ∙ was)))
+            elim (Contains-append_cases (entries_of b.stripes i b.effects.taken) swept.held.outbox (entry t e.0) in_all) [
+              | inl k ↦ (let was : place_of l t ≡ InHand = (stand.places.in_hand t is).1 (entry t e.0, filtered (λ (x : Entry). is_in_stripe b.stripes i x.command.key) b.effects.taken (entry t e.0) k, refl) in absurd (other_place (sym new.0 ∙ was)))
               | inr k ↦ taken_now (entry t e.0) k
             ]
       ]
@@ -323,13 +323,13 @@ module _ (b b' : Book) (w w' : World) (l l' : Life) (doings : ℕ → Doing) (st
   history_same : b'.history ≡ b.history
   history_same = same_history moves.step b b' moves.undrawn moves.moved.words
 
-  keeper_same : b'.deeds.keeper ≡ 64
+  keeper_same : b'.effects.keeper ≡ 64
   keeper_same = same_keeper moves.step b b' moves.undrawn moves.moved.words ∙ stand.keeper
 
-  done_before : HasDone b.opening b.deeds (record_of 64 b) true
+  done_before : HasDone b.opening b.effects (record_of 64 b) true
   done_before = keeper_done b stand.words.one stand.passes stand.keeper
 
-  done_after : HasDone b'.opening b'.deeds (record_of 64 b') true
+  done_after : HasDone b'.opening b'.effects (record_of 64 b') true
   done_after = keeper_done b' moves.one (moves.moved.passes ∙ stand.passes) keeper_same
 
   words_after : WordsStand b' w' l'

@@ -8,7 +8,6 @@ use Rattle.ticket_order.specs.declared.held.Released.TheVariants as answer
 use Rattle.ticket_order.specs.declared.record.Asked.{Asked}
 use Rattle.ticket_order.specs.declared.record.Asked.TheVariants.{Changing, Reading}
 use Rattle.ticket_order.specs.declared.record.StepMade.{StepMade}
-use Rattle.ticket_order.specs.declared.record.StepMade.TheVariants.{Took, FoundHeld, Gave, Drew, Looked, Published, Saw, Failed, FoundAlive}
 use Rattle.ticket_order.specs.declared.record.Record.{Record}
 use Rattle.ticket_order.specs.declared.walk.Walk.{Walk}
 use Rattle.ticket_order.specs.declared.walk.Stepped.{Stepped}
@@ -18,23 +17,11 @@ use Rattle.ticket_order.specs.Walks.{Task, ToChange, ToRead, ToRelease, Fits}
 use Rattle.sim_rules.specs.declared.outcome.End.{End}
 use Rattle.sim_rules.specs.declared.outcome.End.TheVariants as ends
 use Rattle.sim_rules.specs.declared.outcome.Made.{Made}
-use Rattle.sim_rules.specs.declared.outcome.Made.TheVariants as told
 use Rattle.sim_rules.specs.World.{Job, Idle, Walks, Keeps, Releasing, Stage, Begins, Asking, FirstSees}
 use Rattle.sim_rules.specs.After.{asking_after, stage_after}
+use Rattle.sim_rules.specs.Told.{told_of}
 
 -- ---- steps, as they are told
-
--- The step as it is told. A DURABLE and a FAIL are the keeper's alone, and no walk makes them.
-abbrev pub told_of : StepMade → Option Made
-told_of (Took i outbox) = Some (told.Took i)
-told_of (FoundHeld i) = Some (told.FoundHeld i)
-told_of (Gave i) = Some (told.Gave i)
-told_of (Drew t) = Some (told.Drew t)
-told_of (Looked q) = Some (told.Looked q)
-told_of (Published x) = None
-told_of (Saw d) = Some (told.Saw d)
-told_of Failed = None
-told_of (FoundAlive is_alive) = Some (told.FoundAlive is_alive)
 
 abbrev pub stage_with : Stage → Option Made → Stage
 stage_with stage None = stage

@@ -1,4 +1,4 @@
 pub mod Doings
-pub mod Words
+pub mod WordsInWorld
 pub mod Workers
 pub mod Laws

@@ -14,14 +14,15 @@ use Rattle.one_history.specs.Moves.{BookMoves}
 use Rattle.sim_rules.specs.declared.outcome.Made.{Made}
 use Rattle.sim_rules.specs.World.{World, Life, job_of, keeper_holds}
 use Rattle.sim_rules.specs.After.{places_swept}
-use Rattle.sim_workers.specs.Doings.{Doing, JobStands, told_of}
-use Rattle.sim_workers.specs.Words.{WordsStand, PlacesStand}
+use Rattle.sim_rules.specs.Told.{told_of}
+use Rattle.sim_workers.specs.Doings.{Doing, JobStands}
+use Rattle.sim_workers.specs.WordsInWorld.{WordsStand, PlacesStand}
 
 -- What each worker does is its job, in a life of this world. The workers have the passes 0 to 63, and the keeper has the one after them.
 pub record WorkersStand (b : Book) (w : World) (l : Life) (doings : ℕ → Doing) : Type 0 where
   pub words : WordsStand b w l
   pub passes : length b.passes ≡ 65
-  pub keeper : b.deeds.keeper ≡ 64
+  pub keeper : b.effects.keeper ≡ 64
   pub jobs : length l.jobs ≡ 64
   pub each : (j : ℕ) → j < 64 → JobStands b.stripes (record_of j b) (doings j) (job_of l j)
   pub places : PlacesStand b l

@@ -6,20 +6,20 @@ use Rattle.map_types.specs.declared.commands.Command.{Command}
 use Rattle.map_model.specs.Histories.{History}
 use Rattle.map_model.specs.Maps.{Map}
 use Rattle.log_records.specs.Layout.{first_layout}
+use Rattle.disk_model.proofs.FileLemmas.{rest_leaves}
 use Rattle.store_layout.specs.Checkpoints.{Section, Checkpoint, checkpoint_file}
 use Rattle.store_layout.specs.Laws.{LogsAreOpened, LogsStay, MarksWiden, NextStays, PartsStay, RestoringStays}
 use Rattle.store_layout.specs.Logs.{Batch, IsEnded, commands_in, log_file}
 use Rattle.store_layout.specs.Opening.{AreLogs, Opened, history_of, log_of, logged_by, map_of, newest_by, prefix_of}
 use Rattle.store_layout.specs.OpeningLaws.{FoundRestores}
-use Rattle.store_layout.specs.Standing.{AreMarks, Restores, grown, reach}
+use Rattle.store_layout.specs.SectionsAndLog.{AreMarks, Restores, grown, reach}
 use Rattle.checkpoint_file.specs.States.{CheckpointState}
-use Rattle.gate_log.specs.Standing as log
+use Rattle.gate_log.specs.LogStates as log
 use Rattle.gate_log.specs.States.{LogState, IsResting}
 use Rattle.store_invariant.specs.Laws.{OpenedStands, StandingStays}
 use Rattle.store_invariant.specs.States.{low_after}
-use Rattle.store_invariant.specs.Standing.{LogsStand, MayCapture, NextLogIsOf}
+use Rattle.store_invariant.specs.StoreStates.{LogsStand, MayCapture, NextLogIsOf}
 use Rattle.store_invariant.proofs.LogSteps.{committed_is}
-use Rattle.store_invariant.proofs.Contents.{rest_leaves}
 use Rattle.store_invariant.proofs.Places.{checkpoint_low, log_low}
 
 -- ---- a history that grows

@@ -1,28 +1,30 @@
 -- How a store stands after a step of its checkpoint.
 use Rattle.std.proofs.Common.{◌≡◌, ◌≢◌, ℕ, ◌+◌, ◌≤◌, max, Bool, true, false, List, [], ◌∷◌, ◌++◌, length, Option, None, Some, refl, sym, ◌∙◌, ap, subst, arith}
+use Rattle.java_hash.proofs.StripeLaws.{some_stripe}
 use Rattle.disk_model.specs.Files.{File, Files, at_rest, with_file}
 use Rattle.map_model.specs.Histories.{History, fold_to}
 use Rattle.map_model.specs.Parts.{part_of}
 use Rattle.log_records.specs.Layout.{first_layout}
+use Rattle.disk_model.proofs.FileLemmas.{with_other}
 use Rattle.store_layout.specs.Checkpoints.{Section, Checkpoint, checkpoint_file, greatest_mark}
 use Rattle.store_layout.specs.Laws.{LogsBegin, MarksGoOn, PartsAndLogRestore, PartsGoOn}
 use Rattle.store_layout.specs.Logs.{Batch, commands_in, log_file}
 use Rattle.store_layout.specs.Opening.{IsOlder, log_of}
 use Rattle.store_layout.specs.OpeningLaws.{OlderCheckpoint}
-use Rattle.store_layout.specs.Standing.{AreMarks, AreParts, IsLogOf, reach}
-use Rattle.checkpoint_file.specs.Standing as checkpoint
+use Rattle.store_layout.specs.SectionsAndLog.{AreMarks, AreParts, IsLogOf, reach}
+use Rattle.checkpoint_file.specs.CheckpointStates as checkpoint
 use Rattle.checkpoint_file.specs.States as checkpoint_states
 use Rattle.checkpoint_file.specs.States.{CheckpointState, state_after}
 use Rattle.store_layout.specs.declared.checkpoint_phase.CheckpointPhase.{CheckpointPhase}
 use Rattle.store_layout.specs.declared.checkpoint_phase.CheckpointPhase.TheVariants as checkpoint_phase
-use Rattle.gate_log.specs.Standing as log
+use Rattle.gate_log.specs.LogStates as log
 use Rattle.gate_log.specs.States.{LogState, begun}
 use Rattle.store_invariant.specs.Laws.{CheckpointBegins, CheckpointIsSealed, RotationBegins, SealBegins, SectionIsGiven, WriterStepsOn}
 use Rattle.store_invariant.specs.States.{StoreState, Held, low_after, next_batches}
-use Rattle.store_invariant.specs.Standing.{Follows, HasEnded, HasNextLog, IsCapture, IsReached, IsSealedIn, IsUnderWay, LogsStand, MayCapture, NextLogIsOf, NextStands, Stands, WriterStands, Writes}
-use Rattle.store_invariant.proofs.Contents.{marks_below, some_stripes}
+use Rattle.store_invariant.specs.StoreStates.{Follows, HasEnded, HasNextLog, IsCapture, IsReached, IsSealedIn, IsUnderWay, LogsStand, MayCapture, NextLogIsOf, NextStands, Stands, WriterStands, Writes}
+use Rattle.store_invariant.proofs.Contents.{marks_below}
 use Rattle.store_invariant.proofs.LogSteps.{committed_is}
-use Rattle.store_invariant.proofs.Places.{checkpoint_again, checkpoint_before, elsewhere, here, log_is_no_checkpoint, next_checkpoint, with_other}
+use Rattle.store_invariant.proofs.Places.{checkpoint_again, checkpoint_before, elsewhere, here, log_is_no_checkpoint, next_checkpoint}
 
 -- ---- the files of the logs stay
 
@@ -272,7 +274,7 @@ checkpoint_is_sealed restore older h store held w start file stands is alone ope
       of_history = record {
         restores = restore h w.stripes w.low held.sections (commands_in (next_batches second)) capture.parts
             (subst (λ n. AreMarks (max h.first w.low) n held.sections) committed (marks_below (max h.first w.low) (reach h) store.log.committed held.sections capture.marks reached))
-            (sym stand.knows.count ∙ stand.stands.0) (some_stripes w.stripes stand.knows.allowed)
+            (sym stand.knows.count ∙ stand.stands.0) (some_stripe w.stripes stand.knows.allowed)
             (subst (λ n. IsLogOf h n (commands_in (next_batches second))) (sym low)
             (log_there h second store.log.low has (subst (λ o. NextLogIsOf h o second (low_after store.log o)) alone stands.of_history.next_log)));
         next = stands.of_history.next;

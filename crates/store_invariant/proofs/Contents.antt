@@ -1,9 +1,6 @@
 -- What four contents stand for that hold a checkpoint, and logs of its history.
-use Rattle.std.proofs.Common.{◌≡◌, ◌⊎◌, inl, inr, ℕ, ◌+◌, ◌<◌, ◌≤◌, true, List, [], ◌∷◌, ◌++◌, length, Option, refl, sym, ◌∙◌, ap, subst, arith, append_assoc, length-append}
-use Rattle.std.proofs.lemmas.List.{ext_get_or}
-use Rattle.std.proofs.lemmas.Bool.Decides.{nat_tests}
-use Rattle.disk_model.specs.Files.{Contents, MayLeave, at_rest}
-use Rattle.java_hash.specs.Stripes.{is_stripe_count}
+use Rattle.std.proofs.Common.{◌≡◌, ◌⊎◌, inl, inr, ℕ, ◌+◌, ◌≤◌, List, [], ◌∷◌, ◌++◌, length, Option, refl, sym, ◌∙◌, ap, subst, arith, append_assoc, length-append}
+use Rattle.disk_model.specs.Files.{Contents}
 use Rattle.map_types.specs.declared.commands.Command.{Command}
 use Rattle.map_model.specs.Histories.{History}
 use Rattle.log_records.specs.Layout.{first_layout}
@@ -12,7 +9,7 @@ use Rattle.store_layout.specs.Logs.{Batch, commands_in}
 use Rattle.store_layout.specs.Opening.{AreLogs, Holds, IsOlder, Opened, StandsForFront, log_of, logged_by, prefix_of}
 use Rattle.store_layout.specs.OpeningLaws.{RestoredStands}
 use Rattle.store_layout.specs.Laws.{RestoringGoesOn}
-use Rattle.store_layout.specs.Standing.{AreMarks, IsNextOf, Restores}
+use Rattle.store_layout.specs.SectionsAndLog.{AreMarks, IsNextOf, Restores}
 
 -- ---- marks and files
 
@@ -27,17 +24,6 @@ greatest_below low high (section ∷ sections) marks = omega (arith, marks.1, gr
 pub marks_below : (low high reached : ℕ) (sections : List Section) → AreMarks low high sections → greatest_mark sections ≤ reached → AreMarks low reached sections
 marks_below low high reached [] marks below = tt
 marks_below low high reached (section ∷ sections) marks below = (marks.0, omega (arith, below), marks_below low high reached sections marks.2 (omega (arith, below)))
-
-pub some_stripes : (n : ℕ) → is_stripe_count n ≡ true → 0 < n
-some_stripes n is = grind (arith, nat_tests)
-
--- a file at rest leaves its content
-pub rest_leaves : (old content : List ℕ) → MayLeave (at_rest old) content → content ≡ old
-rest_leaves old content left =
-    let size : length content ≡ length old = omega (arith, left.no_shorter, left.no_longer) in
-    ext_get_or 0 content old size (λ i h.
-    let below : i < length old = omega (arith, size, h) in
-    left.same i (grind (arith, nat_tests)))
 
 -- ---- four contents
 

@@ -4,5 +4,6 @@ pub mod Logs
 pub mod Stops
 pub mod Moments
 pub mod LogSteps
+pub mod NextLogSteps
 pub mod Beginnings
 pub mod CheckpointSteps

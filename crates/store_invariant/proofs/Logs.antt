@@ -9,13 +9,13 @@ use Rattle.log_records.specs.Layout.{first_layout}
 use Rattle.store_layout.specs.Checkpoints.{Checkpoint}
 use Rattle.store_layout.specs.Logs.{Batch, IsClosed, IsEnded, commands_in, log_file}
 use Rattle.store_layout.specs.Opening.{logged_by, next_low}
-use Rattle.store_layout.specs.Standing.{IsLogOf}
-use Rattle.gate_log.specs.Standing as log
+use Rattle.store_layout.specs.SectionsAndLog.{IsLogOf}
+use Rattle.gate_log.specs.LogStates as log
 use Rattle.gate_log.specs.States.{LogState}
 use Rattle.store_layout.specs.declared.log_phase.Phase.{Phase}
 use Rattle.store_layout.specs.declared.log_phase.Phase.TheVariants.{Idle, Header, HeaderWritten, Staged, Written, Synced, Opened}
 use Rattle.store_invariant.specs.States.{low_after, newest_batches}
-use Rattle.store_invariant.specs.Standing.{HasNextLog, IsTurn, LogsStand, NextLogIsOf, NextStands}
+use Rattle.store_invariant.specs.StoreStates.{HasNextLog, IsTurn, LogsStand, NextLogIsOf, NextStands}
 use Rattle.store_invariant.proofs.Contents.{LogsRead, commands_append}
 
 -- ---- what one log's content may be

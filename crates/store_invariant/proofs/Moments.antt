@@ -3,18 +3,18 @@ use Rattle.std.proofs.Common.{◌≡◌, ◌≢◌, inl, inr, ℕ, ◌+◌, ◌<
 use Rattle.disk_model.specs.Files.{Contents, Files, Leaves, MayLeave}
 use Rattle.map_model.specs.Histories.{History}
 use Rattle.log_records.specs.Layout.{first_layout}
+use Rattle.disk_model.proofs.FileLemmas.{rest_leaves}
 use Rattle.store_layout.specs.Checkpoints.{Checkpoint, IsCheckpoint, checkpoint_file}
 use Rattle.store_layout.specs.Logs.{Batch, log_file}
 use Rattle.store_layout.specs.Opening.{prefix_of}
-use Rattle.checkpoint_file.specs.Standing as checkpoint
+use Rattle.checkpoint_file.specs.CheckpointStates as checkpoint
 use Rattle.checkpoint_file.specs.States.{CheckpointState}
-use Rattle.gate_log.specs.Standing as log
+use Rattle.gate_log.specs.LogStates as log
 use Rattle.gate_log.specs.States.{LogState}
 use Rattle.store_layout.specs.declared.log_phase.Phase.{Phase}
 use Rattle.store_layout.specs.declared.log_phase.Phase.TheVariants.{Idle, Header, HeaderWritten, Staged, Written, Synced, Opened}
 use Rattle.store_invariant.specs.States.{StoreState, Held, newest_batches}
-use Rattle.store_invariant.specs.Standing.{Follows, IsTurn, LogsStand, NextStands, Stands, WriterStands}
-use Rattle.store_invariant.proofs.Contents.{rest_leaves}
+use Rattle.store_invariant.specs.StoreStates.{Follows, IsTurn, LogsStand, NextStands, Stands, WriterStands}
 use Rattle.store_invariant.proofs.Logs.{EndedReads, NextReads, committed_is, goes_on}
 use Rattle.store_invariant.proofs.Stops.{CheckpointsStop, LogsStop, MayHold, WriterReads}
 

@@ -1,17 +1,11 @@
 -- Which files differ.
 use Rattle.std.proofs.Common.{◌≡◌, ◌≢◌, ℕ, ◌+◌, ◌<◌, sym, subst, arith}
-use Rattle.std.proofs.lemmas.Bool.Decides.{nat_tests}
 use Rattle.disk_model.specs.Files.{File, Files, with_file}
+use Rattle.disk_model.proofs.FileLemmas.{with_same, with_other}
 use Rattle.store_layout.specs.Checkpoints.{checkpoint_file}
 use Rattle.store_layout.specs.Logs.{log_file}
 
 -- ---- one file changed
-
-pub with_same : (number : ℕ) (file : File) (files : Files) → with_file number file files number ≡ file
-with_same number file files = grind (arith, nat_tests)
-
-pub with_other : (number : ℕ) (file : File) (files : Files) (n : ℕ) → n ≢ number → with_file number file files n ≡ files n
-with_other number file files n other = grind (arith, nat_tests)
 
 -- what holds of a file that is not changed, and of the one that is
 pub elsewhere : (P : File → Type 0) (number : ℕ) (file : File) (files : Files) (n : ℕ) → n ≢ number → P (files n) → P (with_file number file files n)

@@ -1,5 +1,6 @@
 -- What a stop leaves of a store, now and at each moment of a step, stands for a front of its history.
 use Rattle.std.proofs.Common.{◌≡◌, ◌⊎◌, inl, inr, ℕ, ◌+◌, ◌≤◌, max, false, List, length, Option, None, Some, refl, sym, ◌∙◌, ap, subst, arith}
+use Rattle.java_hash.proofs.StripeLaws.{some_stripe}
 use Rattle.disk_model.specs.Files.{Contents, File, Files, MayLeave}
 use Rattle.map_model.specs.Histories.{History}
 use Rattle.log_records.specs.Layout.{first_layout}
@@ -8,17 +9,17 @@ use Rattle.store_layout.specs.Logs.{Batch, commands_in, log_file}
 use Rattle.store_layout.specs.Opening.{Holds, IsOlder, Opened, StandsForFront, log_of, prefix_of}
 use Rattle.store_layout.specs.OpeningLaws.{OlderCheckpoint, RestoredStands}
 use Rattle.store_layout.specs.Laws.{PartsAndLogRestore, RestoringGoesOn}
-use Rattle.store_layout.specs.Standing.{IsNextOf, Restores, reach}
-use Rattle.checkpoint_file.specs.Standing as checkpoint
+use Rattle.store_layout.specs.SectionsAndLog.{IsNextOf, Restores, reach}
+use Rattle.checkpoint_file.specs.CheckpointStates as checkpoint
 use Rattle.checkpoint_file.specs.States.{CheckpointState}
 use Rattle.store_layout.specs.declared.checkpoint_phase.CheckpointPhase.{CheckpointPhase}
 use Rattle.store_layout.specs.declared.checkpoint_phase.CheckpointPhase.TheVariants.{Idle, Gate, GateWritten, GateSynced, Ready, Staged, Header, HeaderWritten, HeaderSynced, Opened as gate_opened, Sealed}
-use Rattle.gate_log.specs.Standing as log
+use Rattle.gate_log.specs.LogStates as log
 use Rattle.gate_log.specs.States.{LogState}
 use Rattle.store_invariant.specs.States.{StoreState, Held, newest_batches}
-use Rattle.store_invariant.specs.Standing.{IsCapture, IsReached, IsUnderWay, MayCapture, Stands, Writes, WriterStands, staged_count}
+use Rattle.store_invariant.specs.StoreStates.{IsCapture, IsReached, IsUnderWay, MayCapture, Stands, Writes, WriterStands, staged_count}
 use Rattle.store_invariant.specs.Laws.{IsUnsealing}
-use Rattle.store_invariant.proofs.Contents.{HasCheckpoint, LogsRead, holds_found, marks_below, some_stripes, stands_for_front}
+use Rattle.store_invariant.proofs.Contents.{HasCheckpoint, LogsRead, holds_found, marks_below, stands_for_front}
 use Rattle.store_invariant.proofs.Logs.{EndedReads, NewLog, NextReads, committed_is, logs_read, new_log}
 
 -- ---- the laws of the parts
@@ -167,7 +168,7 @@ module _ (older : OlderCheckpoint) (restore : PartsAndLogRestore) (goes_on : Res
     restores_new =
         restore h w.stripes w.low held.sections (commands_in log_new.batches) s.capture.parts
         (marks_below (max h.first w.low) (reach h) (w.low + length (commands_in log_new.batches)) held.sections s.capture.marks (omega (arith, s.reached, log_new.committed_is)))
-        (sym s.writes.stands.knows.count ∙ s.all) (some_stripes w.stripes s.writes.stands.knows.allowed) log_new.of_history
+        (sym s.writes.stands.knows.count ∙ s.all) (some_stripe w.stripes s.writes.stands.knows.allowed) log_new.of_history
 
     next_new : IsNextOf h (w.low + length (commands_in log_new.batches)) (commands_in held.staged)
     next_new = subst (λ n. IsNextOf h n (commands_in held.staged)) log_new.committed_is stands.of_history.next

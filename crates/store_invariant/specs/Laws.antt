@@ -8,18 +8,18 @@ use Rattle.map_model.specs.Parts.{part_of}
 use Rattle.store_layout.specs.Checkpoints.{Section, checkpoint_file, greatest_mark}
 use Rattle.store_layout.specs.Logs.{Batch, log_file}
 use Rattle.store_layout.specs.Opening.{Opened, Holds, map_of, newest_of, prefix_of}
-use Rattle.store_layout.specs.Standing.{IsNextOf, grown, reach}
-use Rattle.checkpoint_file.specs.Standing as checkpoint
+use Rattle.store_layout.specs.SectionsAndLog.{IsNextOf, grown, reach}
+use Rattle.checkpoint_file.specs.CheckpointStates as checkpoint
 use Rattle.checkpoint_file.specs.States as checkpoint_states
 use Rattle.checkpoint_file.specs.States.{CheckpointState, state_after}
 use Rattle.store_layout.specs.declared.checkpoint_phase.CheckpointPhase.TheVariants as checkpoint_phase
-use Rattle.gate_log.specs.Standing as log
+use Rattle.gate_log.specs.LogStates as log
 use Rattle.gate_log.specs.States.{LogState, IsResting, begun, log_after}
-use Rattle.gate_log.specs.Advancing.{committed_after, staged_after}
+use Rattle.gate_log.specs.LogSteps.{committed_after, staged_after}
 use Rattle.store_layout.specs.declared.log_phase.Phase.{Phase}
 use Rattle.store_layout.specs.declared.log_phase.Phase.TheVariants.{Idle, Header, HeaderWritten, Staged, Written, Synced, Opened as log_opened}
 use Rattle.store_invariant.specs.States.{StoreState, Held, newest_batches, next_batches, with_batches}
-use Rattle.store_invariant.specs.Standing.{Stands, StopsStand, staged_count}
+use Rattle.store_invariant.specs.StoreStates.{Stands, StopsStand, staged_count}
 
 -- ---- what a stop leaves
 

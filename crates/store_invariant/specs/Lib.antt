@@ -1,3 +1,3 @@
 pub mod Laws
-pub mod Standing
+pub mod StoreStates
 pub mod States

@@ -9,6 +9,7 @@ use Rattle.byteorder.specs.Endian.{big_number, big_bytes}
 use Rattle.map_types.specs.declared.refusals.Refusal.{Refusal}
 use Rattle.map_types.specs.declared.refusals.Refusal.TheVariants.{Damaged}
 use Rattle.map_types.specs.declared.texts.Value.{Value}
+use Rattle.map_model.specs.Maps.{Entries}
 use Rattle.map_model.proofs.EntryLaws.{entries-map_of}
 use Rattle.log_records.specs.Layout.{Layout, IsLayout}
 use Rattle.log_records.specs.Agreement.{IsBytes}
@@ -18,9 +19,6 @@ use Rattle.store_layout.specs.Faults.{AreEntries, IsFault, no_head, bad_entry, l
 use Rattle.store_layout.proofs.EntryRows.{section_parts}
 use Rattle.store_layout.proofs.CheckpointReading.{next_field, number_fits, fields_make}
 use Rattle.store_layout.proofs.Looking.{More, read_entries}
-
-abbrev Entries : Type 0
-Entries = List (List ℕ × Value)
 
 module _ (layout : Layout) (room : IsLayout layout) (stripes : ℕ) where
   -- ---- a section

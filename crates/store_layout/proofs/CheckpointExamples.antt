@@ -10,7 +10,7 @@ use Rattle.java_hash.specs.Hash.{hash_of, weighted_sum}
 use Rattle.java_hash.specs.Stripes.{stripe_of}
 use Rattle.java_hash.specs.Units.{units_of}
 use Rattle.map_types.specs.declared.texts.Value.{Value}
-use Rattle.map_model.specs.Maps.{Map}
+use Rattle.map_model.specs.Maps.{Map, Entries}
 use Rattle.map_model.proofs.EntryLaws.{entries-map_of}
 use Rattle.map_model.proofs.MapLaws.{ties, same_from_ties, same_gets}
 use Rattle.log_records.specs.Layout.{first_layout}
@@ -26,9 +26,6 @@ use Rattle.store_layout.proofs.FirstExamples.{put_at, is_command, a_is_text, b_i
 
 abbrev one : List ℕ → ℕ → Map
 one key n = finite.from_entries ((key, number n) ∷ [])
-
-abbrev Entries : Type 0
-Entries = List (List ℕ × Value)
 
 one_entry : (key : List ℕ) (n : ℕ) → finite.entries (one key n) ≡ (key, number n) ∷ []
 unfolding IsStrictlySortedBy

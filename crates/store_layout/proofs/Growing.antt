@@ -9,7 +9,7 @@ use Rattle.map_model.specs.Steps.{map_after}
 use Rattle.map_model.specs.Histories.{History, fold_to}
 use Rattle.map_model.proofs.FoldLaws.{map_after-append}
 use Rattle.store_layout.specs.Checkpoints.{Section}
-use Rattle.store_layout.specs.Standing.{counts, counted, restored, AreMarks, IsNextOf}
+use Rattle.store_layout.specs.SectionsAndLog.{counts, counted, restored, AreMarks, IsNextOf}
 use Rattle.store_layout.specs.Laws.{PartsAndLogRestore, RestoringGoesOn, RestoringStays, OpeningRestores, LogsBegin, LogsAreOpened, LogsGoOn, LogsStay, NextStays, PartsStay, PartsGoOn, MarksGoOn, MarksWiden}
 use Rattle.store_layout.proofs.Restoring.{restored_is_fold, mark_between, has_section, take_past}
 

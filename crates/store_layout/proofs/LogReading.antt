@@ -3,14 +3,12 @@ use Rattle.std.proofs.Common.{◌≡◌, ◌≢◌, ◌⊎◌, inl, inr, ◌≤�
 use Rattle.std.proofs.lemmas.Bool.{cases_lt, eqb-true, eqb-false}
 use Rattle.std.proofs.lemmas.Bool.Decides.{nat_tests}
 use Rattle.std.proofs.lemmas.List.{length-append, drop_at, take_at}
-use Rattle.std.specs.Cmp.{tied_itself}
-use Rattle.std.specs.Ordering.{is_eq}
-use Rattle.std.specs.Cmp.Lexicographic.{nat_list_cmp_total}
 use Rattle.byteorder.specs.Endian.{big_number, big_bytes}
 use Rattle.map_types.specs.declared.refusals.Refusal.{Refusal}
 use Rattle.map_types.specs.declared.refusals.Refusal.TheVariants.{Damaged, WrongVersion}
 use Rattle.map_types.specs.declared.commands.Command.{Command}
 use Rattle.map_model.proofs.MapLaws.{ties, same_from_ties}
+use Rattle.map_model.proofs.KeyLaws.{ties_itself}
 use Rattle.log_records.specs.Layout.{Layout, IsLayout}
 use Rattle.log_records.specs.Agreement.{IsBytes}
 use Rattle.log_records.proofs.Digits.{IsBytes-rest, IsBytes-drop}
@@ -246,9 +244,6 @@ record AtEnd (next : ℕ) (bytes : List ℕ) : Type 0 where
 
 abbrev NoEnd : ℕ → List ℕ → Type 0
 NoEnd next bytes = (after : ℕ) (behind : List ℕ) → next < 2 ^ 64 → bytes ≡ end_frame next ++ after ∷ behind → ⊥
-
-ties_itself : (q : List ℕ) → ties q q ≡ true
-ties_itself q = ap is_eq (tied_itself nat_list_cmp_total q)
 
 read_end : (next : ℕ) (bytes : List ℕ) → AtEnd next bytes ⊎ NoEnd next bytes
 read_end next bytes = by (drop 13 bytes) (nat_lt next (2 ^ 64)) (ties (take 13 bytes) (end_frame next)) refl refl refl

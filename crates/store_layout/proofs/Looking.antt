@@ -1,19 +1,17 @@
 -- Of any bytes it can be told whether something well-formed stands at their front: entries and records.
-use Rattle.std.proofs.Common.{◌≡◌, ◌⊎◌, inl, inr, ◌<◌, ℕ, zero, suc, Bool, true, false, ◌&&◌, ◌==◌, Ordering, Less, List, [], ◌∷◌, ◌++◌, length, Some, Result, Ok, Err, refl, sym, ap, subst, ◌∙◌, append_assoc, arith}
+use Rattle.std.proofs.Common.{◌≡◌, ◌⊎◌, inl, inr, ◌<◌, ℕ, zero, suc, Bool, true, false, ◌==◌, List, [], ◌∷◌, ◌++◌, length, Some, Result, Ok, Err, refl, sym, ap, subst, ◌∙◌, append_assoc, arith}
 use Rattle.std.proofs.lemmas.Bool.{eqb-true, eqb-false}
 use Rattle.std.proofs.lemmas.List.{append-nil}
 use Rattle.std.specs.Prelude.{T}
 use Rattle.std.specs.List.{AllByRecursion}
-use Rattle.std.specs.List.Sorted.{IsStrictlySortedBy}
-use Rattle.std.specs.Map.{keys_of}
-use Rattle.std.specs.Ordering.{nat_cmp, is_lt}
+use Rattle.std.specs.Ordering.{nat_cmp}
 use Rattle.std.specs.Cmp.Lexicographic.{slice_cmp}
 use Rattle.std.specs.FinMap as finite
-use Rattle.std.specs.FinMap.Entries.{below_all}
 use Rattle.java_hash.specs.Stripes.{stripe_of}
 use Rattle.map_types.specs.declared.refusals.Refusal.{Refusal}
 use Rattle.map_types.specs.declared.texts.Value.{Value}
 use Rattle.map_types.specs.declared.commands.Command.{Command}
+use Rattle.map_model.proofs.EntryLaws.{sorted_from_rising}
 use Rattle.log_records.specs.Layout.{Layout, IsLayout}
 use Rattle.log_records.specs.Spelling.{IsText, IsValue, IsCommand, key_bytes, value_bytes, record_bytes}
 use Rattle.log_records.specs.Reading.{key_at, some_value_at, record_at, both_at}
@@ -57,24 +55,11 @@ IsWellFormed layout entry = IsText layout.key_limit entry.0 × IsValue entry.1
 entry_agrees : (layout : Layout) → IsLayout layout → Agrees (both_at (key_at layout) some_value_at) (entry_bytes layout) (IsWellFormed layout)
 entry_agrees layout room = both_agree (key_at layout) some_value_at (key_bytes layout) (λ v. value_bytes (Some v)) (IsText layout.key_limit) IsValue (key_agrees layout room) some_value_agrees
 
-both_t : (a b : Bool) → T a → T b → T (a && b)
-both_t true b p q = q
-both_t false b p q = p
-
-below_from_all : (k : List ℕ) (es : List (List ℕ × Value)) → AllByRecursion (λ q. slice_cmp nat_cmp k q ≡ Less) (keys_of es) → T (below_all (slice_cmp nat_cmp) k es)
-below_from_all k [] all = tt
-below_from_all k (e ∷ es) all = both_t _ _ (subst (λ (r : Ordering). T (is_lt r)) (sym all.0) tt) (below_from_all k es all.1)
-
-sorted_from_rising : (es : List (List ℕ × Value)) → IsStrictlySortedBy (slice_cmp nat_cmp) (keys_of es) → T (finite.is_sorted (slice_cmp nat_cmp) es)
-unfolding IsStrictlySortedBy
-sorted_from_rising [] rising = tt
-sorted_from_rising (e ∷ es) rising = both_t _ _ (below_from_all e.0 es rising.0) (sorted_from_rising es rising.1)
-
-all_push : {A : Type 0} (P : A → Type 0) (xs : List A) (x : A) → AllByRecursion P xs → P x → AllByRecursion P (xs ++ x ∷ [])
+pub all_push : {A : Type 0} (P : A → Type 0) (xs : List A) (x : A) → AllByRecursion P xs → P x → AllByRecursion P (xs ++ x ∷ [])
 all_push P [] x all p = (p, tt)
 all_push P (y ∷ xs) x all p = (all.0, all_push P xs x all.1 p)
 
-all_last : {A : Type 0} (P : A → Type 0) (xs : List A) (x : A) → AllByRecursion P (xs ++ x ∷ []) → P x
+pub all_last : {A : Type 0} (P : A → Type 0) (xs : List A) (x : A) → AllByRecursion P (xs ++ x ∷ []) → P x
 all_last P [] x all = all.0
 all_last P (y ∷ xs) x all = all_last P xs x all.1
 

@@ -8,7 +8,7 @@ use Rattle.std.specs.List.{AllByRecursion, flat_map, range_with_len}
 use Rattle.std.specs.FinMap as finite
 use Rattle.java_hash.specs.Stripes.{is_stripe_count}
 use Rattle.map_types.specs.declared.texts.Value.{Value}
-use Rattle.map_model.specs.Maps.{Map}
+use Rattle.map_model.specs.Maps.{Map, Entries}
 use Rattle.map_model.specs.Parts.{union_of}
 use Rattle.map_model.proofs.MapLaws.{same_gets}
 use Rattle.log_records.specs.Layout.{first_layout}
@@ -20,9 +20,6 @@ use Rattle.store_layout.specs.OpeningLaws.{FirstIsWhole, FirstStands}
 
 abbrev nothing : Map
 nothing = finite.empty
-
-abbrev Entries : Type 0
-Entries = List (List ℕ × Value)
 
 none_from_length : (es : Entries) → length es ≡ 0 → es ≡ []
 none_from_length [] e = refl

@@ -3,7 +3,7 @@ use Rattle.std.proofs.Common.{◌≡◌, ◌⊎◌, inl, inr, ◌≤◌, ◌<◌
 use Rattle.std.proofs.lemmas.Bool.{eqb-true, ne_eqb}
 use Rattle.std.proofs.lemmas.Bool.Decides.{nat_tests}
 use Rattle.std.proofs.lemmas.List.{take-append-le}
-use Rattle.java_hash.specs.Stripes.{is_stripe_count}
+use Rattle.java_hash.proofs.StripeLaws.{some_stripe}
 use Rattle.map_types.specs.declared.refusals.Refusal.{Refusal}
 use Rattle.map_types.specs.declared.refusals.Refusal.TheVariants.{Damaged, NotFormatted, WrongVersion}
 use Rattle.map_model.specs.Maps.{Map}
@@ -12,7 +12,7 @@ use Rattle.map_model.specs.Histories.{History, fold_to}
 use Rattle.log_records.specs.Layout.{first_layout}
 use Rattle.store_layout.specs.Logs.{Batch}
 use Rattle.store_layout.specs.Checkpoints.{Section, Checkpoint, IsCheckpoint, checkpoint_file, greatest_mark, AreMarkedFrom, is_sealed}
-use Rattle.store_layout.specs.Standing.{grown, AreMarks, Restores}
+use Rattle.store_layout.specs.SectionsAndLog.{grown, AreMarks, Restores}
 use Rattle.store_layout.specs.Faults.{generation_in, head_fault, version_in}
 use Rattle.store_layout.specs.Opening.{Contents, Opened, log_of, prefix_of, map_of, history_of, IsOlder, Holds, StandsFor, StandsForFront, first_fault, heads_fault, newest_file, Refuses, bad_heads, bad_checkpoint, bad_logs, Opens}
 use Rattle.store_layout.specs.OpeningLaws.{FrontStays, OlderCheckpoint, ShutIsUnsealed, UsedIsHeld}
@@ -28,7 +28,7 @@ heads_by s t a b = cond (not s && not t) (Some NotFormatted) (first_fault a b)
 abbrev pub newest_of_two : Bool → Bool → Bool → ℕ
 newest_of_two s t less = cond (not t) 0 (cond (not s) 1 (cond less 0 1))
 
-no_faults : (s t : Bool) (a b : Option Refusal) → (s ≡ true) ⊎ (t ≡ true) → a ≡ None → b ≡ None → heads_by s t a b ≡ None
+pub no_faults : (s t : Bool) (a b : Option Refusal) → (s ≡ true) ⊎ (t ≡ true) → a ≡ None → b ≡ None → heads_by s t a b ≡ None
 no_faults s t a b (inl e) p q = ap (λ x. heads_by x t a b) e ∙ ap (λ x. first_fault x b) p ∙ q
 no_faults true t a b (inr e) p q = ap (λ x. first_fault x b) p ∙ q
 no_faults false t a b (inr e) p q = ap (λ x. heads_by false x a b) e ∙ ap (λ x. first_fault x b) p ∙ q
@@ -36,7 +36,7 @@ no_faults false t a b (inr e) p q = ap (λ x. heads_by false x a b) e ∙ ap (λ
 unsealed_by : (s : Bool) (rest : Option Refusal) → s ≡ false → cond (not s) None rest ≡ None
 unsealed_by s rest e = ap (λ x. cond (not x) None rest) e
 
-unsealed_head : (file : ℕ) (content : List ℕ) → is_sealed content ≡ false → head_fault file content ≡ None
+pub unsealed_head : (file : ℕ) (content : List ℕ) → is_sealed content ≡ false → head_fault file content ≡ None
 unsealed_head file content e = unsealed_by (is_sealed content) _ e
 
 older_head : (generation file : ℕ) (content : List ℕ) → IsOlder generation file content → head_fault file content ≡ None
@@ -180,15 +180,12 @@ marks_between : (low high : ℕ) (sections : List Section) → AreMarkedFrom low
 marks_between low high [] marks up = tt
 marks_between low high (x ∷ xs) marks up = (marks.0, omega (arith, up), marks_between low high xs marks.1 (omega (arith, up)))
 
-some_stripes : (n : ℕ) → is_stripe_count n ≡ true → 0 < n
-some_stripes n e = grind (arith, nat_tests)
-
 pub opened_restores : (contents : Contents) (found : Opened) → Holds contents found
     → Restores (history_of found) found.checkpoint.stripes found.checkpoint.sections found.checkpoint.low (log_of found)
 opened_restores contents found holds =
     let k = found.checkpoint in
     let whole = holds.checkpoint.whole in
-    restores_opened k.stripes k.low k.sections (log_of found) (marks_between k.low (prefix_of found) k.sections whole.marks holds.reaches) whole.one_each (some_stripes k.stripes whole.stripes)
+    restores_opened k.stripes k.low k.sections (log_of found) (marks_between k.low (prefix_of found) k.sections whole.marks holds.reaches) whole.one_each (some_stripe k.stripes whole.stripes)
 
 pub restored_stands : (h : History) (contents : Contents) (found : Opened) → Holds contents found → Restores h found.checkpoint.stripes found.checkpoint.sections found.checkpoint.low (log_of found)
     → StandsForFront h (prefix_of found) (prefix_of found) contents

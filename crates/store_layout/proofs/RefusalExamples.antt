@@ -5,6 +5,7 @@ use Rattle.std.specs.FinMap as finite
 use Rattle.std.specs.List.Sorted.{IsStrictlySortedBy}
 use Rattle.byteorder.specs.Endian.{big_bytes}
 use Rattle.map_types.specs.declared.texts.Value.{Value}
+use Rattle.map_model.specs.Maps.{Entries}
 use Rattle.log_records.specs.Layout.{first_layout}
 use Rattle.log_records.specs.Spelling.{key_bytes, value_bytes}
 use Rattle.store_layout.specs.Logs.{Batch, IsClosed, end_frame, frame, header}
@@ -16,9 +17,6 @@ use Rattle.store_layout.specs.Examples.{eight, four, MissingEntry, ByteLeftOver,
 use Rattle.store_layout.proofs.NewStores.{no_entries, sections, section_size}
 use Rattle.store_layout.proofs.FirstExamples.{new_sealed}
 use Rattle.store_layout.proofs.CheckpointExamples.{next_sealed, next_k}
-
-abbrev Entries : Type 0
-Entries = List (List ℕ × Value)
 
 -- ---- the sections
 

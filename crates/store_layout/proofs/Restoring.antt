@@ -1,10 +1,9 @@
 -- The map that sections and a log give, when both are of one history.
-use Rattle.std.proofs.Common.{◌≡◌, ℕ, zero, suc, ◌+◌, ◌-◌, ◌≤◌, ◌<◌, max, Bool, true, false, cond, Option, None, Some, List, [], ◌∷◌, ◌++◌, length, take, drop, map, nat_le, refl, sym, ◌∙◌, ap, ap₂, subst, arith, append_assoc, length-drop, take-append-drop}
+use Rattle.std.proofs.Common.{◌≡◌, ℕ, zero, suc, ◌+◌, ◌-◌, ◌≤◌, ◌<◌, max, Bool, true, false, cond, None, List, [], ◌∷◌, ◌++◌, length, take, drop, map, nat_le, refl, sym, ◌∙◌, ap, ap₂, subst, arith, append_assoc, length-drop, take-append-drop}
 use Rattle.std.proofs.lemmas.Bool.{ne_eqb, eqb-true}
 use Rattle.std.proofs.lemmas.Bool.Decides.{nat_tests}
 use Rattle.std.proofs.lemmas.List.{drop_all, drop-drop, take_at, take-append-le}
-use Rattle.std.specs.Ordering.{nat_cmp, eq_by_cmp}
-use Rattle.std.specs.Cmp.Lexicographic.{slice_cmp, nat_list_cmp_total}
+use Rattle.std.specs.Cmp.Lexicographic.{nat_list_cmp_total}
 use Rattle.std.specs.List.{flat_map}
 use Rattle.std.specs.FinMap as finite
 use Rattle.java_hash.specs.Stripes.{stripe_of}
@@ -17,9 +16,9 @@ use Rattle.map_model.specs.Steps.{map_after}
 use Rattle.map_model.specs.Histories.{History, fold_to}
 use Rattle.map_model.proofs.MapLaws.{same_gets, get-part_of}
 use Rattle.map_model.proofs.FoldLaws.{map_after-append, part_of-map_after}
-use Rattle.map_model.proofs.UnionLaws.{or_else}
+use Rattle.map_model.proofs.UnionLaws.{or_else, find_in, find-append, or_else-none}
 use Rattle.store_layout.specs.Checkpoints.{Section}
-use Rattle.store_layout.specs.Standing.{mark_of, counts, counted, restored, AreParts, AreMarks, IsLogOf}
+use Rattle.store_layout.specs.SectionsAndLog.{mark_of, counts, counted, restored, AreParts, AreMarks, IsLogOf}
 
 -- ---- the commands that count, stripe by stripe
 
@@ -74,24 +73,6 @@ module _ (n : ℕ) (xs : List Section) (s : ℕ) where
   counted_left t (c ∷ cs) = one_more t c cs (counted n xs (t + 1) cs) (is_in_stripe n s c.key) (counts n xs t c) refl refl (counted_left (t + 1) cs)
 
 -- ---- the union of the sections
-
-find_in : List ℕ → List (List ℕ × Value) → Option Value
-find_in q es = finite.find (slice_cmp nat_cmp) q es
-
-or_else-cond : (b : Bool) (v : Value) (x y : Option Value) → cond b (Some v) (or_else x y) ≡ or_else (cond b (Some v) x) y
-or_else-cond true v x y = refl
-or_else-cond false v x y = refl
-
-or_else-none : (o : Option Value) → or_else o None ≡ o
-or_else-none None = refl
-or_else-none (Some v) = refl
-
-find-append : (q : List ℕ) (xs ys : List (List ℕ × Value)) → find_in q (xs ++ ys) ≡ or_else (find_in q xs) (find_in q ys)
-unfolding find_in
-find-append q [] ys = refl
-find-append q (x ∷ xs) ys =
-    ap (cond (eq_by_cmp (slice_cmp nat_cmp) q x.0) (Some x.1)) (find-append q xs ys)
-    ∙ or_else-cond (eq_by_cmp (slice_cmp nat_cmp) q x.0) x.1 (find_in q xs) (find_in q ys)
 
 abbrev maps_of : List Section → List Map
 maps_of sections = map (λ section. section.map) sections

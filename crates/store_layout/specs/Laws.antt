@@ -4,7 +4,7 @@ use Rattle.map_types.specs.declared.commands.Command.{Command}
 use Rattle.map_model.specs.Parts.{part_of}
 use Rattle.map_model.specs.Histories.{History, fold_to}
 use Rattle.store_layout.specs.Checkpoints.{Section}
-use Rattle.store_layout.specs.Standing.{restored, reach, grown, AreParts, AreMarks, IsLogOf, IsNextOf, Restores}
+use Rattle.store_layout.specs.SectionsAndLog.{restored, reach, grown, AreParts, AreMarks, IsLogOf, IsNextOf, Restores}
 
 -- Sections that are parts of the history at their marks, and a log of the same history that reaches the marks, give the map where the log ends.
 abbrev pub PartsAndLogRestore : Type 0

@@ -1,5 +1,6 @@
 pub mod Checkpoints
 pub mod Examples
+pub mod Failures
 pub mod Faults
 pub mod FirstFiles
 pub mod Hands
@@ -9,5 +10,5 @@ pub mod Opening
 pub mod Calls
 pub mod OpeningLaws
 pub mod Readings
-pub mod Standing
+pub mod SectionsAndLog
 pub mod UsedCheckpoint

@@ -11,7 +11,7 @@ use Rattle.log_records.specs.Layout.{first_layout}
 use Rattle.store_layout.specs.Logs.{Batch, IsClosed, IsEnded, commands_in, log_file}
 use Rattle.store_layout.specs.Checkpoints.{Section, Checkpoint, IsCheckpoint, checkpoint_file, greatest_mark, is_sealed}
 use Rattle.store_layout.specs.Readings.{IsBadHeader, ended, broken, Reads, gate_behind}
-use Rattle.store_layout.specs.Standing.{reach, restored}
+use Rattle.store_layout.specs.SectionsAndLog.{reach, restored}
 use Rattle.store_layout.specs.Faults.{generation_in, head_fault, IsBadCheckpoint}
 
 -- what each of the four files holds

@@ -10,7 +10,7 @@ use Rattle.log_records.specs.Layout.{Layout, IsLayout, first_layout}
 use Rattle.log_records.specs.Agreement.{IsBytes}
 use Rattle.store_layout.specs.Logs.{IsClosed}
 use Rattle.store_layout.specs.Checkpoints.{Section, Checkpoint, AreSections, AreMarkedFrom, IsWhole, IsCheckpoint, checkpoint_bytes, sections_bytes, checkpoint_file, greatest_mark, is_sealed}
-use Rattle.store_layout.specs.Standing.{grown, Restores}
+use Rattle.store_layout.specs.SectionsAndLog.{grown, Restores}
 use Rattle.store_layout.specs.Faults.{generation_in, low_in, greatest_in, stripes_in, body_in, checkpoint_in, head_fault, size_fault, IsBadCheckpoint}
 use Rattle.store_layout.specs.Opening.{Contents, Opened, log_of, prefix_of, history_of, IsOlder, AreLogs, Holds, StandsFor, StandsForFront, first_checkpoint, heads_fault, newest_file, Refuses, Opens}
 

@@ -25,6 +25,12 @@ pub const CLOSED_GATE: u8 = 0;
 /// Version, generation and low ticket stand before a log's first gate.
 pub const HEADER_BYTES: usize = 17;
 
+/// Kind, length, first ticket and count stand before the records of a batch's frame.
+pub const FRAME_HEAD_BYTES: usize = 17;
+
+/// First ticket and count stand before the records of a batch, behind its frame's length.
+pub const NUMBERS_BYTES: usize = 12;
+
 /// The kind of a frame with records.
 pub const BATCH_KIND: u8 = 1;
 

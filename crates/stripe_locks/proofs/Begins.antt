@@ -14,7 +14,7 @@ use Rattle.one_history.specs.declared.slot.Slot.{Slot}
 use Rattle.one_history.specs.declared.slot.Slot.TheVariants.{Home, HeldBy}
 use Rattle.one_history.specs.Turns.{opening_of, at_start}
 use Rattle.one_history.specs.OneHistory.{AreParts}
-use Rattle.one_history.specs.Kept.{slot_of, IsPlaced, IsKept, no_part}
+use Rattle.one_history.specs.SharedWords.{slot_of, IsPlaced, IsKept, no_part}
 use Rattle.one_history.proofs.Starts.{kept_at_start, count_at_start}
 use Rattle.stripe_locks.specs.Rule.{Stands, Sits, Kept}
 use Rattle.stripe_locks.specs.Placed.{slot_with, AreStored}

@@ -37,7 +37,7 @@ pub commands_are : (t : ℕ) (cs : List Command) → commands_of (entries_from t
 commands_are t [] = refl
 commands_are t (c ∷ cs) = ap (λ l. c ∷ l) (commands_are (t + 1) cs)
 
-borne_out : (b : Book) (j : ℕ) (w : Record) (s : StepMade) → w.published ≡ b.deeds.durable → w.failed ≡ b.deeds.failed → StaysSo b j s → BearsOut w.published w.failed s
+borne_out : (b : Book) (j : ℕ) (w : Record) (s : StepMade) → w.published ≡ b.effects.durable → w.failed ≡ b.effects.failed → StaysSo b j s → BearsOut w.published w.failed s
 borne_out b j w (Took i outbox) durable failed x = tt
 borne_out b j w (FoundHeld i) durable failed x = tt
 borne_out b j w (Gave i) durable failed x = tt
@@ -49,7 +49,7 @@ borne_out b j w Failed durable failed x = tt
 borne_out b j w (FoundAlive is_alive) durable failed x = λ no. failed ∙ x no
 
 -- what the keeper did bears out each pass's steps
-borne_out_by : (b : Book) (j : ℕ) (v w : Record) (keeper : Bool) → HasDone b.opening b.deeds w keeper → All (StaysSo b j) v.steps → All (BearsOut w.published w.failed) (if keeper then v.steps else [])
+borne_out_by : (b : Book) (j : ℕ) (v w : Record) (keeper : Bool) → HasDone b.opening b.effects w keeper → All (StaysSo b j) v.steps → All (BearsOut w.published w.failed) (if keeper then v.steps else [])
 borne_out_by b j v w true done stays = All-weaker (StaysSo b j) (BearsOut w.published w.failed) (λ s x. borne_out b j w s done.1 done.2 x) v.steps stays
 borne_out_by b j v w false done stays = All-nil _
 
@@ -60,8 +60,8 @@ joins o id v other w is_pass is_pass' s k at apart at' =
     let q' = seated o s k other w there is_pass' in
     let front : IsFront v.seen k.book.history = subst (λ (r : Record). IsFront r.seen k.book.history) q.view_is (k.kept.one.passes q.place (in_book o s k id v at is_pass)).front in
     let front' : IsFront w.seen k.book.history = subst (λ (r : Record). IsFront r.seen k.book.history) q'.view_is (k.kept.one.passes q'.place (in_book o s k other w there is_pass')).front in
-    let knows : Knows k.book.opening k.book.stripes k.book.history k.book.authors k.book.deeds q'.place w =
-    subst (Knows k.book.opening k.book.stripes k.book.history k.book.authors k.book.deeds q'.place) q'.view_is (k.kept.one.passes q'.place (in_book o s k other w there is_pass')) in
+    let knows : Knows k.book.opening k.book.stripes k.book.history k.book.authors k.book.effects q'.place w =
+    subst (Knows k.book.opening k.book.stripes k.book.history k.book.authors k.book.effects q'.place) q'.view_is (k.kept.one.passes q'.place (in_book o s k other w there is_pass')) in
     let stays : All (StaysSo k.book q.place) v.steps = subst (λ (r : Record). All (StaysSo k.book q.place) r.steps) q.view_is (steps_stay k.book k.kept.one q.place) in
     let borne_by : All (BearsOut w.published w.failed) (if w.keeper then v.steps else []) = borne_out_by k.book q.place v w w.keeper knows.done stays in
     record {

@@ -7,3 +7,4 @@ pub mod Misses
 pub mod Naming
 pub mod Comparing
 pub mod Refuted
+pub mod Crosses

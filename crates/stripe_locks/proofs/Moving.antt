@@ -20,7 +20,7 @@ use Rattle.one_history.specs.declared.slot.Slot.{Slot}
 use Rattle.one_history.specs.declared.slot.Slot.TheVariants.{Home, HeldBy}
 use Rattle.one_history.specs.Turns.{record_of}
 use Rattle.one_history.specs.Turns as turns
-use Rattle.one_history.specs.Kept.{slot_of}
+use Rattle.one_history.specs.SharedWords.{slot_of}
 use Rattle.one_history.proofs.Fronts.{front_refl}
 use Rattle.one_history.proofs.Watching.{kept_found_held, misses, moves_found_held}
 use Rattle.one_history.proofs.Taking.{kept_took, takes_stripe, moves_took}

@@ -70,14 +70,14 @@ module _ (o : Opening) (s : St) (k : Kept o s) (id : ℕ) (me : M) (at : get_ele
 
   pub sees_no_more : (before : List StepMade) (d : ℕ) → w.steps ≡ before ++ made.Saw d ∷ [] → get_or s.words 1 0 < d → ⊥
   sees_no_more before d is low =
-      let at_most : d ≤ kept.book.deeds.durable = stays before (made.Saw d) is in
-      let durable : get_or s.words 1 0 ≡ kept.book.deeds.durable = ap (λ (ws : List ℕ). get_or ws 1 0) (sym words_are) ∙ kept.kept.durable_is in
+      let at_most : d ≤ kept.book.effects.durable = stays before (made.Saw d) is in
+      let durable : get_or s.words 1 0 ≡ kept.book.effects.durable = ap (λ (ws : List ℕ). get_or ws 1 0) (sym words_are) ∙ kept.kept.durable_is in
       omega arith
 
   pub says_no_only_after_fail : (before : List StepMade) → w.steps ≡ before ++ made.FoundAlive false ∷ [] → get_or s.words 2 0 ≡ 0 → ⊥
   says_no_only_after_fail before is unfailed =
-      let failed : kept.book.deeds.failed ≡ true = stays before (made.FoundAlive false) is refl in
-      let word : get_or s.words 2 0 ≡ bit kept.book.deeds.failed = ap (λ (ws : List ℕ). get_or ws 2 0) (sym words_are) ∙ kept.failure in
+      let failed : kept.book.effects.failed ≡ true = stays before (made.FoundAlive false) is refl in
+      let word : get_or s.words 2 0 ≡ bit kept.book.effects.failed = ap (λ (ws : List ℕ). get_or ws 2 0) (sym words_are) ∙ kept.failure in
       let one : get_or s.words 2 0 ≡ 1 = word ∙ ap bit failed in
       omega (arith, one, unfailed)
 

@@ -13,7 +13,7 @@ use Rattle.ticket_order.specs.declared.record.Record.{Record}
 use Rattle.ticket_order.specs.Records.{newcomer, enrolling, meeting}
 use Rattle.one_history.specs.declared.book.Book.{Book}
 use Rattle.one_history.specs.Turns.{record_of, joined}
-use Rattle.one_history.specs.Kept.{slot_of, IsKept}
+use Rattle.one_history.specs.SharedWords.{slot_of, IsKept}
 use Rattle.one_history.proofs.Joining.{joined_count, joined_before, joined_last, kept_joined}
 use Rattle.stripe_locks.specs.Rule.{bit, IsUnseated, Sits, Kept}
 use Rattle.stripe_locks.specs.Plays.{sat, enrolled, joining}
@@ -66,16 +66,16 @@ module _ (o : Opening) (n id : ℕ) (me : M) (old number : ℕ) (few : old < 409
   mine_before = subst (Sits k.seats k.book (get_or s.words 3 0) id me.0) no_pass (k.each_seat id me.0 at)
 
   -- the book b' has the pass at its end, at the place `old`
-  sits_down : (b' : Book) (w : Record) → get_or s.words 3 0 ≡ old → w ≡ joining o old → b'.opening ≡ k.book.opening → b'.history ≡ k.book.history → b'.deeds ≡ k.book.deeds → length b'.passes ≡ old + 1 → record_of old b' ≡ w
-      → ((l : ℕ) → l < old → record_of l b' ≡ record_of l k.book) → IsKept (length s.homes) (get_or s.words 0 0) (get_or s.words 1 0) k.book.deeds.failed k.slots b' → Kept o (stepped s 3 number id me.1 w keeps)
-  sits_down b' w hit w_is opening history deeds count last before kept' =
+  sits_down : (b' : Book) (w : Record) → get_or s.words 3 0 ≡ old → w ≡ joining o old → b'.opening ≡ k.book.opening → b'.history ≡ k.book.history → b'.effects ≡ k.book.effects → length b'.passes ≡ old + 1 → record_of old b' ≡ w
+      → ((l : ℕ) → l < old → record_of l b' ≡ record_of l k.book) → IsKept (length s.homes) (get_or s.words 0 0) (get_or s.words 1 0) k.book.effects.failed k.slots b' → Kept o (stepped s 3 number id me.1 w keeps)
+  sits_down b' w hit w_is opening history effects count last before kept' =
       let words' : List ℕ = set s.words 3 number in
       let seats' : ℕ → ℕ = put k.seats old id in
       let n4 : length s.words ≡ length s.homes + 4 = k.wide in
       let three : get_or words' 3 0 ≡ old + 1 = get_or-set_same s.words 3 number 0 (omega arith) ∙ next in
       let zero_on : get_or words' 0 0 ≡ get_or s.words 0 0 = get_or-set_other s.words 3 0 number 0 (λ e. omega arith) in
       let one_on : get_or words' 1 0 ≡ get_or s.words 1 0 = get_or-set_other s.words 3 1 number 0 (λ e. omega arith) in
-      let low : IsKept (length s.homes) (get_or words' 0 0) (get_or words' 1 0) k.book.deeds.failed k.slots b' = rw (zero_on, one_on) kept' in
+      let low : IsKept (length s.homes) (get_or words' 0 0) (get_or words' 1 0) k.book.effects.failed k.slots b' = rw (zero_on, one_on) kept' in
       let other : (l : ℕ) (u : Record) (e : Bool) → l ≢ id → Sits k.seats k.book (get_or s.words 3 0) l u e → Sits seats' b' (get_or words' 3 0) l u e =
       λ l u. elim [
         | true ↦ λ ne x.
@@ -91,11 +91,11 @@ module _ (o : Opening) (n id : ℕ) (me : M) (old number : ℕ) (few : old < 409
         seats = seats';
         opening = opening ∙ k.opening;
         wide = length-set s.words 3 number ∙ k.wide;
-        kept = subst (λ x. IsKept (length s.homes) (get_or words' 0 0) (get_or words' 1 0) x k.slots b') (sym (ap (λ d. d.failed) deeds)) low;
-        failure = get_or-set_other s.words 3 2 number 0 (λ e. omega arith) ∙ (k.failure ∙ ap (λ d. bit d.failed) (sym deeds));
+        kept = subst (λ x. IsKept (length s.homes) (get_or words' 0 0) (get_or words' 1 0) x k.slots b') (sym (ap (λ d. d.failed) effects)) low;
+        failure = get_or-set_other s.words 3 2 number 0 (λ e. omega arith) ∙ (k.failure ∙ ap (λ d. bit d.failed) (sym effects));
         few = omega arith;
         joined = omega arith;
-        keeper = ap (λ d. d.keeper) deeds ∙ k.keeper;
+        keeper = ap (λ d. d.keeper) effects ∙ k.keeper;
         unjoined = λ e. absurd (omega arith);
         each_stripe = λ i lt. stands_on s.words s.homes 3 i number (omega arith) (slot_of i k.slots) (k.each_stripe i lt);
         each_seat = seats_set (λ l u. Sits seats' b' (get_or words' 3 0) l u u.enrolled) s.views id w

@@ -14,7 +14,7 @@ use Rattle.one_history.specs.declared.slot.Slot.{Slot}
 use Rattle.one_history.specs.declared.slot.Slot.TheVariants.{Home, HeldBy}
 use Rattle.one_history.specs.Turns.{record_of}
 use Rattle.one_history.specs.Turns as turns
-use Rattle.one_history.specs.Kept.{slot_of}
+use Rattle.one_history.specs.SharedWords.{slot_of}
 use Rattle.one_history.proofs.Fronts.{front_refl, front_one}
 use Rattle.one_history.proofs.Watching.{kept_looked, looks, moves_looked, kept_saw, sees, moves_saw, kept_found_alive, lives, moves_found_alive, kept_published, publishes, moves_published, kept_failed, fails, moves_failed}
 use Rattle.one_history.proofs.Drawing.{kept_drew, draws, moves_drew, small}
@@ -52,10 +52,10 @@ pub allows_alive : (o : Opening) (n id : ℕ) (me : M) → me.0.enrolled ≡ tru
 allows_alive o n id me is_pass s k wide at range =
     let q = seated o s k id me.0 at is_pass in let j : ℕ = q.place in let in_it = in_book o s k id me.0 at is_pass in
     let w : Record = record_of j (turns.found_alive j k.book) in
-    let law : Lives me.0 (not k.book.deeds.failed) w = subst (λ v. Lives v (not k.book.deeds.failed) w) q.view_is (lives _ _ _ _ _ k.book j k.kept in_it) in
-    let told : Lives me.0 (eqb (get_or s.words 2 0) 0) w = subst (λ x. Lives me.0 x w) (sym (alive_is k.book.deeds.failed (get_or s.words 2 0) k.failure)) law in
+    let law : Lives me.0 (not k.book.effects.failed) w = subst (λ v. Lives v (not k.book.effects.failed) w) q.view_is (lives _ _ _ _ _ k.book j k.kept in_it) in
+    let told : Lives me.0 (eqb (get_or s.words 2 0) 0) w = subst (λ x. Lives me.0 x w) (sym (alive_is k.book.effects.failed (get_or s.words 2 0) k.failure)) law in
     let same : IsSameOne me.0 w = record { enrolled = ap (λ (r : Record). r.enrolled) law.is; passes = ap (λ (r : Record). r.passes) law.is; keeper = ap (λ (r : Record). r.keeper) law.is } in
-    (w, keeps, tt, reread o s k id me.0 at is_pass (made.FoundAlive (not k.book.deeds.failed)) (turns.found_alive j k.book) 2 me.1 (moves_found_alive _ _ _ _ _ k.book j k.kept in_it) refl refl same (kept_found_alive _ _ _ _ _ k.book j k.kept in_it), (refl, told))
+    (w, keeps, tt, reread o s k id me.0 at is_pass (made.FoundAlive (not k.book.effects.failed)) (turns.found_alive j k.book) 2 me.1 (moves_found_alive _ _ _ _ _ k.book j k.kept in_it) refl refl same (kept_found_alive _ _ _ _ _ k.book j k.kept in_it), (refl, told))
 
 pub allows_publish : (o : Opening) (n id : ℕ) (me : M) (x : ℕ) → me.0.enrolled ≡ true → MayPublish me.0 x → Allows (Kept o) n id me 1 (λ z. max z x) (published (step n 1 x 0 none) me)
 allows_publish o n id me x is_pass may s k wide at range =

@@ -15,7 +15,7 @@ use Rattle.one_history.specs.declared.slot.Slot.{Slot}
 use Rattle.one_history.specs.Turns.{record_of}
 use Rattle.one_history.specs.OneHistory.{IsFront}
 use Rattle.one_history.specs.Moves.{BookMoves}
-use Rattle.one_history.specs.Kept.{slot_of, IsKept}
+use Rattle.one_history.specs.SharedWords.{slot_of, IsKept}
 use Rattle.one_history.proofs.Fronts.{front_trans}
 use Rattle.stripe_locks.specs.Rule.{bit, Stands, IsSeated, Sits, Kept}
 use Rattle.stripe_locks.specs.Plays.{IsSameOne}
@@ -57,8 +57,8 @@ module _ (o : Opening) (s : St) (k : Kept o s) (id : ℕ) (v : Record) (at : get
     borne_out = x.borne_out;
   }
 
-  pub turned : (made : StepMade) (b' : Book) (slots' : List Slot) (words' : List ℕ) (homes' : Homes) → BookMoves seated.place made k.book b' → b'.deeds.keeper ≡ k.book.deeds.keeper → IsFront k.book.history b'.history → IsSameOne v (record_of seated.place b')
-      → IsKept (length s.homes) (get_or words' 0 0) (get_or words' 1 0) b'.deeds.failed slots' b' → length words' ≡ length s.words → length homes' ≡ length s.homes → get_or words' 2 0 ≡ bit b'.deeds.failed → get_or words' 3 0 ≡ get_or s.words 3 0
+  pub turned : (made : StepMade) (b' : Book) (slots' : List Slot) (words' : List ℕ) (homes' : Homes) → BookMoves seated.place made k.book b' → b'.effects.keeper ≡ k.book.effects.keeper → IsFront k.book.history b'.history → IsSameOne v (record_of seated.place b')
+      → IsKept (length s.homes) (get_or words' 0 0) (get_or words' 1 0) b'.effects.failed slots' b' → length words' ≡ length s.words → length homes' ≡ length s.homes → get_or words' 2 0 ≡ bit b'.effects.failed → get_or words' 3 0 ≡ get_or s.words 3 0
       → ((i : ℕ) → i < length s.homes → Stands words' homes' i (slot_of i slots'))
       → Kept o record { words = words'; homes = homes'; views = set s.views id (record_of seated.place b') }
   turned made b' slots' words' homes' moves keeper grows same kept long as_long failure three stands = record {
@@ -67,7 +67,7 @@ module _ (o : Opening) (s : St) (k : Kept o s) (id : ℕ) (v : Record) (at : get
     seats = k.seats;
     opening = moves.opening ∙ k.opening;
     wide = long ∙ (k.wide ∙ ap (λ (n : ℕ). n + 4) (sym as_long));
-    kept = subst (λ (n : ℕ). IsKept n (get_or words' 0 0) (get_or words' 1 0) b'.deeds.failed slots' b') (sym as_long) kept;
+    kept = subst (λ (n : ℕ). IsKept n (get_or words' 0 0) (get_or words' 1 0) b'.effects.failed slots' b') (sym as_long) kept;
     failure = failure;
     few = (let le : get_or s.words 3 0 ≤ 4096 = k.few in omega arith);
     joined = moves.passes ∙ (k.joined ∙ ap (max 1) (sym three));
@@ -86,8 +86,8 @@ module _ (o : Opening) (s : St) (k : Kept o s) (id : ℕ) (v : Record) (at : get
   }
 
   -- a step that changes no word
-  pub reread : (made : StepMade) (b' : Book) (i : ℕ) (cs : List (ℕ × Option Stripe)) → BookMoves seated.place made k.book b' → b'.deeds ≡ k.book.deeds → b'.history ≡ k.book.history → IsSameOne v (record_of seated.place b')
-      → IsKept (length s.homes) (get_or s.words 0 0) (get_or s.words 1 0) b'.deeds.failed k.slots b'
+  pub reread : (made : StepMade) (b' : Book) (i : ℕ) (cs : List (ℕ × Option Stripe)) → BookMoves seated.place made k.book b' → b'.effects ≡ k.book.effects → b'.history ≡ k.book.history → IsSameOne v (record_of seated.place b')
+      → IsKept (length s.homes) (get_or s.words 0 0) (get_or s.words 1 0) b'.effects.failed k.slots b'
       → Kept o (stepped s i (get_or s.words i 0) id cs (record_of seated.place b') keeps)
-  reread made b' i cs moves deeds history same kept = subst (λ (ws : List ℕ). Kept o record { words = ws; homes = s.homes; views = set s.views id (record_of seated.place b') }) (sym (set-get_or s.words i 0))
-      (turned made b' k.slots s.words s.homes moves (ap (λ d. d.keeper) deeds) (record { rest = []; is = history ∙ sym (append-nil k.book.history) }) same kept refl refl (k.failure ∙ ap (λ d. bit d.failed) (sym deeds)) refl k.each_stripe)
+  reread made b' i cs moves effects history same kept = subst (λ (ws : List ℕ). Kept o record { words = ws; homes = s.homes; views = set s.views id (record_of seated.place b') }) (sym (set-get_or s.words i 0))
+      (turned made b' k.slots s.words s.homes moves (ap (λ d. d.keeper) effects) (record { rest = []; is = history ∙ sym (append-nil k.book.history) }) same kept refl refl (k.failure ∙ ap (λ d. bit d.failed) (sym effects)) refl k.each_stripe)

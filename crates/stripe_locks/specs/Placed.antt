@@ -4,7 +4,7 @@ use Rattle.atomic_methods.specs.PartState.{PartState}
 use Rattle.ticket_order.specs.declared.stripe.Stripe.{Stripe}
 use Rattle.one_history.specs.declared.slot.Slot.{Slot}
 use Rattle.one_history.specs.declared.slot.Slot.TheVariants.{Home, HeldBy}
-use Rattle.one_history.specs.Kept.{ArePlaced}
+use Rattle.one_history.specs.SharedWords.{ArePlaced}
 
 -- what a stored content is as a place of a stripe
 abbrev pub slot_with : Option Stripe → Slot

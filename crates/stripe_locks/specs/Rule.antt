@@ -19,7 +19,7 @@ use Rattle.one_history.specs.declared.slot.Slot.{Slot}
 use Rattle.one_history.specs.declared.slot.Slot.TheVariants.{Home, HeldBy}
 use Rattle.one_history.specs.Turns.{record_of}
 use Rattle.one_history.specs.OneHistory.{IsFront}
-use Rattle.one_history.specs.Kept.{slot_of, IsKept}
+use Rattle.one_history.specs.SharedWords.{slot_of, IsKept}
 
 abbrev pub bit : Bool → ℕ
 bit true = 1
@@ -47,7 +47,7 @@ BearsOut published failed (Saw d) = d ≤ published
 BearsOut published failed (FoundAlive is_alive) = is_alive ≡ false → failed ≡ true
 BearsOut published failed step = Unit {0}
 
--- The seat is no pass's. What its view has of the history are two fronts; its steps are borne out by what it has of the keeper's deeds.
+-- The seat is no pass's. What its view has of the history are two fronts; its steps are borne out by what it has of the keeper's effects.
 pub record IsUnseated (b : Book) (joined : ℕ) (v : Record) : Type 0 where
   pub few : v.passes ≤ joined
   pub front : IsFront v.seen b.history
@@ -65,11 +65,11 @@ pub record Kept (o : Opening) (s : State (Option Stripe) Record) : Type 0 where
   pub seats : ℕ → ℕ
   pub opening : book.opening ≡ o
   pub wide : length s.words ≡ length s.homes + 4
-  pub kept : IsKept (length s.homes) (slice_index s.words 0) (slice_index s.words 1) book.deeds.failed slots book
-  pub failure : slice_index s.words 2 ≡ bit book.deeds.failed
+  pub kept : IsKept (length s.homes) (slice_index s.words 0) (slice_index s.words 1) book.effects.failed slots book
+  pub failure : slice_index s.words 2 ≡ bit book.effects.failed
   pub few : slice_index s.words 3 ≤ 4096
   pub joined : length book.passes ≡ max 1 (slice_index s.words 3)
-  pub keeper : book.deeds.keeper ≡ 0
+  pub keeper : book.effects.keeper ≡ 0
   pub unjoined : slice_index s.words 3 ≡ 0 → record_of 0 book ≡ enrolling (keeper_at_start o) 1
   pub each_stripe : (i : ℕ) → i < length s.homes → Stands s.words s.homes i (slot_of i slots)
   pub each_seat : (id : ℕ) (v : Record) → get_elem? s.views id ≡ some v → Sits seats book (slice_index s.words 3) id v v.enrolled

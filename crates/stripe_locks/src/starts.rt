@@ -8,6 +8,7 @@ ghost use Rattle.stripe_locks.specs.Passes.{recorded, stripe_count, begun_with, 
 ghost use Rattle.stripe_locks.specs.Plays.{joining};
 
 use crate::beginning::Beginning;
+use crate::marks::no_marks;
 use crate::plays::{Enroll, Sit};
 use crate::rule::Pass;
 use crate::stripes::{DURABLE, FIRST_STRIPE, PASSES, Stripes, TICKETS};
@@ -72,6 +73,7 @@ impl Stripes {
                 sleepers: AtomicU64::new(0),
                 waiters: AtomicU64::new(0),
                 resting: AtomicU64::new(0),
+                marks: no_marks(),
                 alloc,
             }),
             Err(_) => Err(Refusal::NoMemory),

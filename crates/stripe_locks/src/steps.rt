@@ -67,7 +67,11 @@ impl Stripes {
             (recorded pass.new) }
         ensures same { IsSamePass pass.old pass.new }
     {
+        let has_entries = !content.outbox.is_empty();
         self.give_as::<Brand>(pass, stripe, content, purpose);
+        if has_entries {
+            self.mark(stripe);
+        }
         if self.sleepers.load(Ordering::SeqCst) != 0 {
             self.table.shared.wake_all(stripe + FIRST_STRIPE);
         }

@@ -2,6 +2,7 @@
 ghost use Rattle.std.specs.Prelude.{◌≡◌, ◌+◌};
 
 use crate::beginning::Beginning;
+use crate::marks::MARK_WORDS;
 use crate::rule::StripeRule;
 use atomic_table::Table;
 use java_hash::StripeCount;
@@ -33,6 +34,8 @@ pub struct Stripes {
     pub(crate) waiters: AtomicU64,
     // 1 while the keeper sleeps until changes come, else 0.
     pub(crate) resting: AtomicU64,
+    // A bit for each stripe: whether it has entries for the next sweep.
+    pub(crate) marks: [AtomicU64; MARK_WORDS],
     pub(crate) alloc: Global,
     ghost words: { table.shared.table_id.words ≡ count.count + 4 },
     ghost slots: { table.shared.table_id.slots ≡ count.count },

@@ -34,13 +34,20 @@ pub(crate) fn number_of(value: Option<&Value>) -> Option<i64> {
     }
 }
 
-fn store(growing: &mut Growing, node: Box<Node>) -> Option<i64> {
-    let spread = spread_of(&node.key);
-    if growing.get(spread, &node.key).is_none() {
-        growing.add(spread, node);
-        return None;
-    }
-    number_of(growing.set(spread, node).as_ref())
+fn store(
+    growing: &mut Growing,
+    alloc: Global,
+    key: Key,
+    number: i64,
+) -> Result<Option<i64>, Refusal> {
+    let spread = spread_of(&key);
+    let Some(old) = growing.get(spread, &key) else {
+        growing.add(spread, Node::new(alloc, key, Value::Int(number))?);
+        return Ok(None);
+    };
+    let old = number_of(Some(old));
+    growing.replace(spread, &key, Value::Int(number));
+    Ok(old)
 }
 
 /// Maps the key to the number, and answers the old one.
@@ -50,9 +57,9 @@ pub(crate) fn put(
     text: &str,
     number: i64,
 ) -> Result<Option<i64>, Refusal> {
-    let node = node(alloc, text, number)?;
+    let key = Key::new(alloc, text)?;
     let _is_put_off = growing.grow(alloc);
-    Ok(store(growing, node))
+    store(growing, alloc, key, number)
 }
 
 /// Unmaps the key, and answers its number.

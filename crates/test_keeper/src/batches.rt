@@ -37,14 +37,14 @@ fn longest_change(alloc: Global) -> Result<Change, Refusal> {
 }
 
 // A change whose record takes 8,455 bytes, the most that there is.
-fn longest(alloc: Global) -> Result<Command, Refusal> {
+pub(crate) fn longest(alloc: Global) -> Result<Command, Refusal> {
     let key = longest_key(alloc)?;
     let change = longest_change(alloc)?;
     Ok(Command { key, change })
 }
 
 // Makes the change so many times.
-fn make_often(
+pub(crate) fn make_often(
     stripes: &Stripes,
     worker: &mut Pass,
     command: &Command,

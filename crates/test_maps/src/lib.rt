@@ -6,6 +6,8 @@ mod functions;
 #[cfg(test)]
 mod hashes;
 #[cfg(test)]
+mod marks;
+#[cfg(test)]
 mod parts;
 #[cfg(test)]
 mod stripes;

@@ -46,7 +46,7 @@ fn command(alloc: Global, key: &str, step: Step) -> Result<Command, Refusal> {
 fn change(part: &mut Part, alloc: Global, step: Step) -> Result<Reply, Refusal> {
     let command = command(alloc, "k", step)?;
     let prepared = part.prepare(alloc, &command)?;
-    Ok(part.act(prepared))
+    Ok(part.act(&command.key, prepared))
 }
 
 /// What comes of a text that is joined by another.

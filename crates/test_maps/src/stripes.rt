@@ -40,7 +40,7 @@ fn get(alloc: Global, key: &str) -> Result<Read, Refusal> {
 
 /// What came of a call that was tried.
 #[derive(Clone, Copy, PartialEq, Eq)]
-enum Tried {
+pub(crate) enum Tried {
     Held,
     Busy(usize),
     Spent,
@@ -56,7 +56,8 @@ fn outcome_of(answer: Result<Held, Refusal>) -> Tried {
     }
 }
 
-fn try_put(stripes: &Stripes, pass: &mut Pass, alloc: Global, key: &str) -> Tried
+// What comes of a change of this key.
+pub(crate) fn try_put(stripes: &Stripes, pass: &mut Pass, alloc: Global, key: &str) -> Tried
     requires own { IsPassOf stripes.now pass.old }
     requires empty_handed { (recorded pass.old).holding ≡ None }
     ensures own { IsPassOf stripes.now pass.new }
@@ -68,7 +69,8 @@ fn try_put(stripes: &Stripes, pass: &mut Pass, alloc: Global, key: &str) -> Trie
     }
 }
 
-fn try_get(stripes: &Stripes, pass: &mut Pass, alloc: Global, key: &str) -> Tried
+// What comes of a read of this key.
+pub(crate) fn try_get(stripes: &Stripes, pass: &mut Pass, alloc: Global, key: &str) -> Tried
     requires own { IsPassOf stripes.now pass.old }
     requires empty_handed { (recorded pass.old).holding ≡ None }
     ensures own { IsPassOf stripes.now pass.new }

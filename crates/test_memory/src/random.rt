@@ -52,7 +52,7 @@ fn requests_to_the_map_in_memory(rt: HostRuntime) -> Result<(), Refusal> {
 
 fn act_on(part: &mut Part, alloc: Global, command: &Command) -> Result<Reply, Refusal> {
     let prepared = part.prepare(alloc, command)?;
-    Ok(part.act(prepared))
+    Ok(part.act(&command.key, prepared))
 }
 
 // Whether both are replies, and the same one.

@@ -38,7 +38,11 @@ impl Ends for Flag {
     }
 }
 
-fn open<R: Abort>(rt: &R, alloc: Global, disk: MemDisk) -> Result<DurableMap<MemDisk>, Refusal> {
+pub(crate) fn open<R: Abort>(
+    rt: &R,
+    alloc: Global,
+    disk: MemDisk,
+) -> Result<DurableMap<MemDisk>, Refusal> {
     let count = StripeCount::new(16).expect(rt, "16 is a count of stripes");
     let mut disk = disk;
     format(alloc, &mut disk, count)?;
@@ -51,17 +55,17 @@ fn open<R: Abort>(rt: &R, alloc: Global, disk: MemDisk) -> Result<DurableMap<Mem
     }
 }
 
-fn key(alloc: Global, text: &str) -> Result<Key, Refusal> {
+pub(crate) fn key(alloc: Global, text: &str) -> Result<Key, Refusal> {
     Key::new(alloc, text)
 }
 
 // Whether nothing was there before.
-fn was_absent(reply: Result<Reply, Refusal>) -> bool {
+pub(crate) fn was_absent(reply: Result<Reply, Refusal>) -> bool {
     matches!(reply, Ok(Reply::Was(None)))
 }
 
 // Whether this number was there before.
-fn was(reply: Result<Reply, Refusal>, wanted: i64) -> bool {
+pub(crate) fn was(reply: Result<Reply, Refusal>, wanted: i64) -> bool {
     match reply {
         Ok(Reply::Was(Some(Value::Int(number)))) => number == wanted,
         _ => false,
@@ -69,7 +73,7 @@ fn was(reply: Result<Reply, Refusal>, wanted: i64) -> bool {
 }
 
 // Whether this number is there now.
-fn is_now(reply: Result<Reply, Refusal>, wanted: i64) -> bool {
+pub(crate) fn is_now(reply: Result<Reply, Refusal>, wanted: i64) -> bool {
     match reply {
         Ok(Reply::Now(Some(Value::Int(number)))) => number == wanted,
         _ => false,
@@ -267,6 +271,14 @@ impl Ends for Turns {
     }
 }
 
+// Commits one batch: a turn takes up what was changed, and the batch has four device calls.
+pub(crate) fn commit_batch<R: Wait>(rt: &R, map: &DurableMap<MemDisk>) {
+    let turns = Turns {
+        left: AtomicU32::new(5),
+    };
+    let _end = flush_loop(rt, map, &turns);
+}
+
 // What is held, which isn't durable.
 fn still_held(map: &DurableMap<MemDisk>, pass: &mut Pass, held: Held) -> Result<Held, Refusal>
     requires ready { IsReady map.now pass.old }
@@ -288,11 +300,7 @@ fn try_all<R: Wait>(rt: &R, map: &DurableMap<MemDisk>, alloc: Global) -> Result<
     let (got, default) = try_reads(map, &mut pass, alloc)?;
     let learned = map.learn(&mut pass, got.position());
     let got = still_held(map, &mut pass, got)?;
-    // (a batch has four device calls, and a turn before them takes up what was changed)
-    let turns = Turns {
-        left: AtomicU32::new(5),
-    };
-    let _end = flush_loop(rt, map, &turns);
+    commit_batch(rt, map);
     let gave = gives(map, &mut pass, got, 8) && gives(map, &mut pass, default, 6);
     Ok(changed && computed && learned && gave)
 }

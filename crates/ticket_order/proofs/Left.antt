@@ -35,8 +35,8 @@ release_left (release.HasMissed h) = omega arith
 release_left (release.FoundFailure h) = omega arith
 
 sweep_left : (s : SweepStage) → 1 ≤ left_of_sweep s
-sweep_left (sweep.Begins alloc i) = omega arith
-sweep_left (sweep.HasTaken alloc t) = omega arith
+sweep_left (sweep.Begins spare i) = omega arith
+sweep_left (sweep.HasTaken spare t) = omega arith
 
 capture_left : (s : CaptureStage) → 1 ≤ left_of_capture s
 capture_left (capture.Begins alloc i) = omega arith
@@ -55,8 +55,8 @@ pub some_left : (w : Walk) → 1 ≤ steps_left w
 some_left w = stage_left w.stage
 
 sweep_empty : (s : SweepStage) → holds_of_sweep s ≡ false → entries_of_sweep s ≡ []
-sweep_empty (sweep.Begins alloc i) h = refl
-sweep_empty (sweep.HasTaken alloc t) h = cc
+sweep_empty (sweep.Begins spare i) h = refl
+sweep_empty (sweep.HasTaken spare t) h = cc
 
 stage_empty : (s : Stage) → holds_of_stage s ≡ false → entries_of_stage s ≡ []
 stage_empty (stage.Change s) h = refl

@@ -1,4 +1,5 @@
 mod Apart
+pub mod Longer
 pub mod Taking
 pub mod Walking
 pub mod Left

@@ -114,7 +114,7 @@ may_capture n b p t z k =
       suits = (q, refl);
     }
 
-section_at : ℕ → ℕ → Map → Section
+unfoldable pub section_at : ℕ → ℕ → Map → Section
 section_at i q m = record { stripe = i; mark = q; part = m }
 
 pub captured_stripe : (n : ℕ) (b p w : Record) (t : Taken) (z : Captured) → HasCopied b t z p → Gives n Capture p w → CapturesStripe n b t.stripe z.mark z.entries.items w

@@ -87,8 +87,8 @@ next_of_release (release.HasMissed h) = Alive
 next_of_release (release.FoundFailure h) = See
 
 abbrev pub next_of_sweep : SweepStage → Kind
-next_of_sweep (sweep.Begins alloc i) = Take i
-next_of_sweep (sweep.HasTaken alloc t) = Give t.stripe
+next_of_sweep (sweep.Begins spare i) = Take i
+next_of_sweep (sweep.HasTaken spare t) = Give t.stripe
 
 abbrev pub next_of_capture : CaptureStage → Kind
 next_of_capture (capture.Begins alloc i) = Take i
@@ -126,8 +126,8 @@ left_of_release (release.HasMissed h) = 2
 left_of_release (release.FoundFailure h) = 1
 
 abbrev pub left_of_sweep : SweepStage → ℕ
-left_of_sweep (sweep.Begins alloc i) = 2
-left_of_sweep (sweep.HasTaken alloc t) = 1
+left_of_sweep (sweep.Begins spare i) = 2
+left_of_sweep (sweep.HasTaken spare t) = 1
 
 abbrev pub left_of_capture : CaptureStage → ℕ
 left_of_capture (capture.Begins alloc i) = 3
@@ -152,8 +152,8 @@ HasFewerLeft k end = Unit {0}
 
 -- the entries that a sweep has taken and not handed out yet
 abbrev pub entries_of_sweep : SweepStage → List Entry
-entries_of_sweep (sweep.Begins alloc i) = []
-entries_of_sweep (sweep.HasTaken alloc t) = t.content.outbox.items
+entries_of_sweep (sweep.Begins spare i) = []
+entries_of_sweep (sweep.HasTaken spare t) = t.content.outbox.items
 
 abbrev pub entries_of_stage : Stage → List Entry
 entries_of_stage (stage.Sweep s) = entries_of_sweep s
@@ -199,7 +199,7 @@ KeepsRefusal (Some e) end = end ≡ stepped.Refused e
 
 -- a sweep or a capture that has only its GIVE left
 abbrev pub holds_of_sweep : SweepStage → Bool
-holds_of_sweep (sweep.HasTaken alloc t) = true
+holds_of_sweep (sweep.HasTaken spare t) = true
 holds_of_sweep s = false
 
 abbrev pub holds_of_capture : CaptureStage → Bool
@@ -309,8 +309,8 @@ pub record HasSwept (n : ℕ) (b : Record) (task : Task) (t : Taken) (p : Record
   pub took : TakesStripe n b t.stripe t.content p
 
 abbrev pub FitsSweep : ℕ → Record → Task → SweepStage → Record → Type 0
-FitsSweep n b task (sweep.Begins alloc i) p = HasBegun b task (ToSweep i) p × (i < n) × (b.keeper ≡ true)
-FitsSweep n b task (sweep.HasTaken alloc t) p = HasSwept n b task t p
+FitsSweep n b task (sweep.Begins spare i) p = HasBegun b task (ToSweep i) p × (i < n) × (b.keeper ≡ true)
+FitsSweep n b task (sweep.HasTaken spare t) p = HasSwept n b task t p
 
 -- since b: TAKE, and LOOK at the mark, and the entries of the part were copied
 pub record HasCopied (b : Record) (t : Taken) (z : Captured) (p : Record) : Type 0 where

@@ -65,7 +65,7 @@ impl Stripe {
             ∷ [] }
         ensures reply { result ≡ (step self.old.part.map command).reply }
     {
-        let reply = self.part.act(prepared);
+        let reply = self.part.act(&command.key, prepared);
         if let Err(_) = self.outbox.push(Entry { ticket, command }) {
             return reply;
         }

@@ -5,17 +5,17 @@ ghost use Rattle.ticket_order.specs.Walks.{Task, FitsSweep, Next, MakesOne, next
 
 use crate::record::Purpose;
 use crate::steps::Steps;
+use crate::stripe::Entry;
 use crate::walk::{Stage, Stepped, Taken, Walk};
 use map_types::Refusal;
-use std::alloc::Global;
 use std::mem;
 
 /// How far a sweep has come.
 #[derive(Drop)]
 pub(crate) enum SweepStage {
-    /// Of this stripe.
-    Begins(Global, usize),
-    HasTaken(Global, Taken),
+    /// Of this stripe, which is to get this vector for its outbox.
+    Begins(Vec<Entry>, usize),
+    HasTaken(Vec<Entry>, Taken),
 }
 
 impl SweepStage {
@@ -40,16 +40,17 @@ impl SweepStage {
         ensures stripes { S.stripe_count steps.new ≡ S.stripe_count steps.old }
     {
         match self {
-            SweepStage::Begins(alloc, stripe) => match steps.take(stripe) {
-                Some(content) => SweepStage::HasTaken(alloc, Taken { stripe, content }).more(),
+            SweepStage::Begins(spare, stripe) => match steps.take(stripe) {
+                Some(content) => SweepStage::HasTaken(spare, Taken { stripe, content }).more(),
                 None => Stepped::Refused(Refusal::Busy { stripe }),
             },
-            SweepStage::HasTaken(alloc, taken) => {
+            SweepStage::HasTaken(mut spare, taken) => {
                 let Taken {
                     stripe,
                     mut content,
                 } = taken;
-                let entries = mem::replace(&mut content.outbox, Vec::new(alloc));
+                spare.clear();
+                let entries = mem::replace(&mut content.outbox, spare);
                 steps.give(stripe, content, Purpose::Sweep);
                 Stepped::Swept(entries)
             }
@@ -65,7 +66,7 @@ impl SweepStage {
     {
         match self {
             SweepStage::HasTaken(_, taken) => Stage::GivingBack(taken, Refusal::NoMemory),
-            SweepStage::Begins(alloc, stripe) => Stage::Sweep(SweepStage::Begins(alloc, stripe)),
+            SweepStage::Begins(spare, stripe) => Stage::Sweep(SweepStage::Begins(spare, stripe)),
         }
     }
 }

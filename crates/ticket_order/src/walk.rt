@@ -111,15 +111,17 @@ impl Walk {
         }
     }
 
-    /// A sweep of the stripe, by the pass that sweeps: TAKE, GIVE.
-    pub fn sweep(alloc: Global, stripe: usize) -> Walk
+    /// A sweep of the stripe, by the pass that sweeps: TAKE, GIVE. The stripe gets `spare`, emptied,
+    /// for its outbox, so that its next changes find the memory that `spare` has. Where the sweep is
+    /// refused, `spare` is let go.
+    pub fn sweep(spare: Vec<Entry>, stripe: usize) -> Walk
         ensures fits { (n : ℕ) (b : Record) → b.holding ≡ None → stripe < n → b.keeper ≡ true
             → Fits n b (ToSweep stripe) result b }
         ensures first { (n : ℕ) → next_kind n result ≡ Take stripe }
         ensures left { steps_left result ≡ 2 }
     {
         Walk {
-            stage: Stage::Sweep(SweepStage::Begins(alloc, stripe)),
+            stage: Stage::Sweep(SweepStage::Begins(spare, stripe)),
         }
     }
 

@@ -16,8 +16,9 @@ use Rattle.ticket_order.specs.declared.record.Record.{Record}
 use Rattle.ticket_order.specs.Records.{reach, missing, taking, looking, giving, seeing, living, sections_for, stripe_held}
 use Rattle.ticket_order.specs.StepRules.{AllLegalSections, TakesStripe, Looks, Gives, MayGive, Sees, Lives}
 use Rattle.ticket_order.specs.Calls.{Misses, MissesAlive}
+use Rattle.ticket_order.proofs.Taking.{section_at}
+use Rattle.ticket_order.proofs.Longer.{sections_longer, sections_both}
 use Rattle.view_walk.specs.Viewing.{greatest_mark, Rising, Shows, Views, Holds, HasAdded, HasCopied, ViewsAll, After, IsDone, IsStarved, IsFailed}
-use Rattle.view_walk.proofs.Longer.{sections_longer, sections_both}
 
 -- one step, which adds nothing but itself and what is seen
 record Goes (p w : Record) : Type 0 where
@@ -170,9 +171,6 @@ may_give_back n p i j content same h = record {
   outbox_is = refl;
   suits = tt;
 }
-
-section_at : ℕ → ℕ → Map → Section
-section_at i q m = record { stripe = i; mark = q; part = m }
 
 stripe_given : (p w : Record) (i : ℕ) (content : Stripe) → Holds i content (Some (reach p)) p → w ≡ giving Capture p → w.steps ≡ p.steps ++ Gave i ∷ []
 stripe_given p w i content h is = ap (λ (y : Record). y.steps) is ∙ ap (λ held. p.steps ++ Gave (stripe_held held) ∷ []) h

@@ -1,8 +1,8 @@
 -- What was read so far of a frame.
-use Rattle.std.proofs.Common.{◌≡◌, ℕ, ◌+◌, ◌-◌, ◌*◌, ◌/◌, ◌%◌, ◌<◌, ◌≤◌, List, [], ◌∷◌, ◌++◌, length, take, slice_range, Option, Some, None, Ok, Err, sym, ap, subst, ◌∙◌, append_assoc, le_refl, drop_at, length-take-le, arith}
+use Rattle.std.proofs.Common.{◌≡◌, ℕ, ◌+◌, ◌-◌, ◌*◌, ◌/◌, ◌%◌, ◌<◌, ◌≤◌, List, [], ◌∷◌, ◌++◌, length, take, drop, slice_range, Option, Some, None, Ok, Err, sym, ap, subst, ◌∙◌, append_assoc, le_refl, drop_at, length-take-le, arith}
 use Rattle.std.specs.Io.KnownBytes.{Consumes}
 use Rattle.std.specs.Int.{w16, to_be_bytes}
-use Rattle.std.proofs.lemmas.List.{append-nil}
+use Rattle.std.proofs.lemmas.List.{append-nil, take_at}
 use Rattle.std.proofs.lemmas.Nat.{from_be_bytes-to_be_bytes_2}
 use Rattle.std.proofs.lemmas.Slice.{take-put_mid_below}
 use borrow.Rule.Slice.PartMut.{put_mid, post_of}
@@ -40,6 +40,10 @@ range_of_mid a k n xs ys within fits =
     let same : (a + n) - a ≡ n = omega arith in
     let after = post_of a k xs in
     ap (take ((a + n) - a)) (drop_at (take a xs) (ys ++ after) a (length-take-le a xs within)) ∙ ap (λ m. take m (ys ++ after)) same ∙ take-append-le n ys after fits
+
+-- what a read left in the front of the room
+pub piece_is : (read items : List ℕ) (size len : ℕ) → length read ≡ size → take len (take size (read ++ drop (length read) items)) ≡ take len read
+piece_is read items size len e = ap (λ (bytes : List ℕ). take len bytes) (take_at read (drop (length read) items) size e)
 
 -- what was read into the rest of the room stands behind what it held
 pub filled_then : (a b c : Option (List ℕ)) (room rest : List ℕ) (at n : ℕ) → at ≤ length room → n ≤ length rest → Consumes a b (take at room) → Consumes b c (take n rest)

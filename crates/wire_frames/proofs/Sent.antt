@@ -9,7 +9,7 @@ pub record Sent (old new : Option (List ℕ)) (bytes rest : List ℕ) : Type 0 w
   pub parts : bytes ≡ front ++ rest
   pub grown : Appends old new front
 
-Appends-nil : (a : Option (List ℕ)) → Appends a a []
+pub Appends-nil : (a : Option (List ℕ)) → Appends a a []
 Appends-nil None = tt
 Appends-nil (Some xs) = sym (append-nil xs)
 

@@ -1,11 +1,11 @@
 -- The grammar of requests, behind the length of their frame.
-use Rattle.std.specs.Prelude.{◌≡◌, ◌<◌, ◌^◌, ℕ, Bool, true, false, List, [], ◌∷◌, ◌++◌, Some, Result, Ok, Err, ◌==◌, if◌then◌else◌}
+use Rattle.std.specs.Prelude.{◌≡◌, ◌<◌, ◌^◌, ℕ, true, List, [], ◌∷◌, ◌++◌, Some, Result, Ok, Err, ◌==◌, if◌then◌else◌}
 use Rattle.byteorder.specs.Endian.{big_bytes}
 use Rattle.map_types.specs.Numbers.{func_number}
 use Rattle.map_types.specs.declared.refusals.Refusal.{Refusal}
 use Rattle.map_types.specs.declared.refusals.Refusal.TheVariants.{BadFrame, UnknownFunction}
+pub use Rattle.map_types.specs.Reducing.{reduces}
 use Rattle.map_types.specs.declared.commands.Func.{Func}
-use Rattle.map_types.specs.declared.commands.Func.TheVariants.{Sum, Max, Min}
 use Rattle.map_types.specs.declared.commands.Question.{Question}
 use Rattle.map_types.specs.declared.commands.Question.TheVariants.{Get, GetOrDefault, ContainsKey}
 use Rattle.log_records.specs.Agreement.{IsBytes}
@@ -71,13 +71,6 @@ abbrev pub IsQuestion : Question → Type 0
 IsQuestion Get = Unit {0}
 IsQuestion (GetOrDefault value) = IsValue value
 IsQuestion ContainsKey = Unit {0}
-
--- the functions that a map is reduced by
-abbrev pub reduces : Func → Bool
-reduces Sum = true
-reduces Max = true
-reduces Min = true
-reduces _ = false
 
 abbrev pub IsThreshold : ℕ → Type 0
 IsThreshold threshold = threshold < 2 ^ 64

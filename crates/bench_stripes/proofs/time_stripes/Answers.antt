@@ -1,6 +1,6 @@
 use denote.Param.Send.{sendable}
 use Rattle.std.proofs.Crossing.{crosses}
-use Rattle.bench_stripes.proofs.Crosses.{stripes_sync}
+use Rattle.stripe_locks.proofs.Crosses.{stripes_sync}
 use Rattle.bench_stripes.proofs.time_stripes.Goals as goal
 
 pub map_indices-requires-sync-F : goal.map_indices-requires-sync-F

@@ -1,8 +1,9 @@
 use Rattle.std.proofs.Common.{refl, sym, ◌∙◌}
 use Rattle.ticket_order.specs.Legality.{history_of}
+use Rattle.disk_model.proofs.FileLemmas.{now_coherent}
 use Rattle.flusher.specs.Fitting.{StopsFit}
-use Rattle.checkpoint_walk.proofs.Advanced.{none_made, now_coherent, stops_now}
-use Rattle.checkpoint_walk.proofs.Standing.{none_there}
+use Rattle.checkpoint_walk.proofs.Advanced.{none_made, stops_now}
+use Rattle.checkpoint_walk.proofs.ChangedKeepers.{none_there}
 use Rattle.checkpoint_walk.proofs.Stepped.{Made, made_fits, made_given, made_moments, made_steps, made_uses}
 use Rattle.checkpoint_walk.proofs.advancing.advance.Goals as goal
 

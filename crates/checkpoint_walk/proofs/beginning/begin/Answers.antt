@@ -3,7 +3,7 @@ use Rattle.gate_log.specs.States.{IsResting, LogState}
 use Rattle.gate_log.specs.States as log_states
 use Rattle.checkpoint_file.specs.States.{begun}
 use Rattle.checkpoint_walk.proofs.Begun.{fits_begun, fits_rotating, given_begun}
-use Rattle.checkpoint_walk.proofs.Standing.{none_there}
+use Rattle.checkpoint_walk.proofs.ChangedKeepers.{none_there}
 use Rattle.checkpoint_walk.proofs.beginning.begin.Goals as goal
 
 pub returns-then-generation-keeper-clause-given : goal.returns-then-generation-keeper-clause-given

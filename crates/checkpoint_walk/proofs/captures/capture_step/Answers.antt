@@ -2,7 +2,7 @@ use Rattle.std.proofs.Common.{◌≡◌, ℕ, Option, None, Some, sym, subst, �
 use Rattle.ticket_order.specs.declared.walk.Walk.{Walk}
 use Rattle.checkpoint_walk.specs.Walking.{AfterStep, FitsBy, FitsWalking}
 use Rattle.checkpoint_walk.proofs.Given.{none_taken, walk_moved, walked_fits, walked_part}
-use Rattle.checkpoint_walk.proofs.Standing.{fits_capture}
+use Rattle.checkpoint_walk.proofs.ChangedKeepers.{fits_capture}
 use Rattle.checkpoint_walk.proofs.captures.capture_step.Goals as goal
 
 pub go_on-requires-clause-walked : goal.go_on-requires-clause-walked

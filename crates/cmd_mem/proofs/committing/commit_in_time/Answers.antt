@@ -1,7 +1,7 @@
 use Rattle.std.proofs.Common.{◌≡◌, ◌∙◌, OnErr, Result, ap, subst, sym, false}
 use Rattle.std.proofs.lemmas.Result.{err_from_is_err_and}
 use Rattle.map_types.specs.declared.refusals.Refusal.{Refusal}
-use Rattle.flusher.specs.Keeping.{is_walking}
+use Rattle.flusher.specs.KeeperSteps.{is_walking}
 use Rattle.cmd_mem.specs.Served.{CannotCommit}
 use Rattle.flusher.proofs.Quiet.{quiet_then}
 use Rattle.flusher.proofs.Seeing.{sees_then}

@@ -5,7 +5,7 @@ pub returns-in-Ok-first_error : goal.returns-in-Ok-first_error
 returns-in-Ok-first_error g c = inl (record {
   settings = c.in-Ok.settings;
   named = c.in-Ok.ensures.ok;
-  ends = inl (record { disk = c.in-Ok-create_files.disk; opened = c.in-Ok-create_files.ensures; hosts = c.serve_disk.ensures });
+  ends = inl (record { disk = c.in-Ok-create_files.disk; opened = c.in-Ok-create_files.ensures.created; hosts = c.serve_disk.ensures });
 })
 
 pub returns-in-Err-first_error : goal.returns-in-Err-first_error

@@ -2,7 +2,8 @@ use Rattle.std.proofs.Common.{◌≡◌, ◌<◌, ◌≤◌, length, take, refl,
 use Rattle.std.specs.declared.io.ErrorKind.TheVariants.{Interrupted, TimedOut}
 use Rattle.std.proofs.lemmas.List.{length-take}
 use Rattle.std.proofs.lemmas.Result.{err_from_is_err_and}
-use Rattle.connections.proofs.Connections.{piece_is, fed_open, carried_none, carried_more, ended_last, answered_all, answered_but, answered_so_far, broken_start, broken_read, broken_reply}
+use Rattle.wire_frames.proofs.Received.{piece_is}
+use Rattle.connections.proofs.Connections.{fed_open, carried_none, carried_more, ended_last, answered_all, answered_but, answered_so_far, broken_start, broken_read, broken_reply}
 use Rattle.connections.proofs.connection.serve_connection.Goals as goal
 
 pub returns-in_err-room : goal.returns-in_err-room

@@ -1,4 +1,4 @@
-use Rattle.durable_map.proofs.Kept.{keeps}
+use Rattle.durable_map.proofs.KeeperLaws.{keeps}
 use Rattle.durable_map.proofs.keeping.what_is_kept.Goals as goal
 
 pub returns : goal.returns

@@ -1,4 +1,4 @@
-use Rattle.flusher.proofs.Keeping.{each_taken, taken_front}
+use Rattle.flusher.proofs.FittingKeepers.{each_taken, taken_front}
 use Rattle.flusher.proofs.laws.committed_were_taken.Goals as goal
 
 pub returns-clause-front : goal.returns-clause-front

@@ -1,5 +1,5 @@
 use Rattle.flusher.proofs.Beside.{fits_beside}
-use Rattle.flusher.proofs.Keeping.{is_free}
+use Rattle.flusher.proofs.FittingKeepers.{is_free}
 use Rattle.flusher.proofs.laws.pass_goes_on.Goals as goal
 
 pub returns-clause-free : goal.returns-clause-free

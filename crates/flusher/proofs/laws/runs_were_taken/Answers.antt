@@ -1,4 +1,4 @@
-use Rattle.flusher.proofs.Keeping.{run_taken}
+use Rattle.flusher.proofs.FittingKeepers.{run_taken}
 use Rattle.flusher.proofs.laws.runs_were_taken.Goals as goal
 
 pub returns : goal.returns

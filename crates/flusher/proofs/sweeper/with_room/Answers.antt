@@ -2,7 +2,7 @@ use Rattle.std.proofs.Common.{subst, sym}
 use Rattle.store_layout.specs.Hands.{Hand}
 use Rattle.flusher.specs.HandSteps.{MakesRoom}
 use Rattle.flusher.specs.Sweeping.{IsReady}
-use Rattle.flusher.proofs.Standing.{ready, not_ready}
+use Rattle.flusher.proofs.SweepStates.{ready, not_ready}
 use Rattle.flusher.proofs.sweeper.with_room.Goals as goal
 
 pub returns-in-Ok : goal.returns-in-Ok

@@ -14,7 +14,8 @@ returns-clause-app c =
     let three = with_argument _ _ _ _ (option_rule (codes "stripes")) c.in_ok-arg-3.ensures c.stripes.ensures.local c.stripes.ensures.rule two in
     let four = with_argument _ _ _ _ (option_rule (codes "workers")) c.in_ok-arg-4.ensures c.option-workers.ensures.local c.option-workers.ensures.rule three in
     let five = with_argument _ _ _ _ (option_rule (codes "checkpoint-bytes")) c.in_ok-arg-5.ensures c.option-bytes.ensures.local c.option-bytes.ensures.rule four in
-    IfOk-weaker c.arg-6.result _ _ (λ command h. with_argument _ _ _ _ (option_rule (codes "idle-seconds")) h c.option-idle.ensures.local c.option-idle.ensures.rule five) c.arg-6.ensures
+    let six = with_argument _ _ _ _ (option_rule (codes "idle-seconds")) c.in_ok-arg-6.ensures c.option-idle.ensures.local c.option-idle.ensures.rule five in
+    IfOk-weaker c.arg-7.result _ _ (λ command h. with_argument _ _ _ _ (option_rule (codes "log-ahead")) h c.option-ahead.ensures.local c.option-ahead.ensures.rule six) c.arg-7.ensures
 
 pub returns-clause-local : goal.returns-clause-local
 returns-clause-local c =
@@ -24,4 +25,5 @@ returns-clause-local c =
     let three = stays_local _ _ _ c.in_ok-arg-3.ensures c.stripes.ensures.local two in
     let four = stays_local _ _ _ c.in_ok-arg-4.ensures c.option-workers.ensures.local three in
     let five = stays_local _ _ _ c.in_ok-arg-5.ensures c.option-bytes.ensures.local four in
-    IfOk-weaker c.arg-6.result _ _ (λ command h. stays_local _ _ _ h c.option-idle.ensures.local five) c.arg-6.ensures
+    let six = stays_local _ _ _ c.in_ok-arg-6.ensures c.option-idle.ensures.local five in
+    IfOk-weaker c.arg-7.result _ _ (λ command h. stays_local _ _ _ h c.option-ahead.ensures.local six) c.arg-7.ensures

@@ -1,5 +1,5 @@
 use Rattle.std.proofs.Common.{◌≡◌, length}
-use Rattle.one_history.specs.Kept.{AreEmpty}
+use Rattle.one_history.specs.SharedWords.{AreEmpty}
 use Rattle.one_history.proofs.parts.empty_parts.Given as goal
 
 abbrev pub invariant-loop-stripe : goal.invariant-loop-stripe

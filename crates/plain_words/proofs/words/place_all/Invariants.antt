@@ -1,4 +1,4 @@
-use Rattle.one_history.specs.Kept.{ArePlaced}
+use Rattle.one_history.specs.SharedWords.{ArePlaced}
 use Rattle.plain_words.proofs.words.place_all.Given as goal
 
 abbrev pub invariant-loop-part : goal.invariant-loop-part

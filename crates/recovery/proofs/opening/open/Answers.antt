@@ -1,14 +1,15 @@
 use Rattle.std.proofs.Common.{◌∙◌}
+use Rattle.java_hash.proofs.StripeLaws.{some_stripe}
 use Rattle.store_layout.specs.Opening.{Contents}
 use Rattle.stripe_locks.specs.Passes.{begun_with}
 use Rattle.recovery.specs.LogReading.{contents_of}
-use Rattle.recovery.proofs.Finding.{some_stripes, stands_for}
+use Rattle.recovery.proofs.Finding.{stands_for}
 use Rattle.recovery.proofs.opening.open.Goals as goal
 
 pub returns-in-Ok-clause-ok : goal.returns-in-Ok-clause-ok
 returns-in-Ok-clause-ok g c = λ honest.
     let contents : Contents = contents_of g.D.Disk.states c.args.disk in
-    let some = some_stripes c.args.stripes.count c.args.stripes.allowed in
+    let some = some_stripe c.args.stripes.count c.args.stripes.allowed in
     let found = c.in_ok-keeper.ensures.ok honest in
     (found.0, stands_for c.laws_of_parts.ensures.union contents c.args.stripes.count some c.in_ok-keeper.keeper c.in_ok-keeper.parts.items c.in_ok-keeper.first (begun_with c.in-Ok.shared) found.1 c.in-Ok.ensures.opening)
 

@@ -1,8 +1,9 @@
 use Rattle.std.proofs.Common.{◌∙◌, sym, ap}
+use Rattle.java_hash.proofs.StripeLaws.{some_stripe}
 use Rattle.disk_model.specs.Files.{now}
 use Rattle.store_layout.specs.Opening.{Contents}
 use Rattle.recovery.specs.LogReading.{contents_of}
-use Rattle.recovery.proofs.Finding.{found_for, some_stripes}
+use Rattle.recovery.proofs.Finding.{found_for}
 use Rattle.gate_log.specs.States.{LogState}
 use Rattle.recovery.proofs.SyncingLemmas.{left_as_read, settled}
 use Rattle.recovery.proofs.opening.open_parts.Goals as goal
@@ -37,7 +38,7 @@ returns-in-Ok-clause-start g c =
 pub returns-in-Ok-clause-fits : goal.returns-in-Ok-clause-fits
 returns-in-Ok-clause-fits g c = λ p opening unused.
     let contents : Contents = contents_of g.D.Disk.states c.args.disk in
-    let some = some_stripes c.args.stripes.count c.args.stripes.allowed in
+    let some = some_stripe c.args.stripes.count c.args.stripes.allowed in
     let log = c.in-Ok.restored.log in
     c.opened-keeper.ensures.fits p c.in-Ok.ensures.resumed (rw c.committed-first.ensures at unused)
     (λ honest. found_for c.laws_of_parts.ensures.union contents c.args.stripes.count some c.in-Ok.restored (c.in-Ok.ensures.ok honest) p

@@ -1,4 +1,4 @@
-use Rattle.checkpoint_file.specs.Advancing.{MayAdvance}
+use Rattle.checkpoint_file.specs.CheckpointSteps.{MayAdvance}
 use Rattle.run_files.proofs.checkpoint_writing.advance_times.Given as goal
 
 abbrev pub invariant-loop : goal.invariant-loop

@@ -1,4 +1,4 @@
-use Rattle.gate_log.specs.Advancing.{MayAdvance}
+use Rattle.gate_log.specs.LogSteps.{MayAdvance}
 use Rattle.run_files.proofs.log_writing.write_batches.Given as goal
 
 abbrev pub invariant-loop : goal.invariant-loop

@@ -1,7 +1,7 @@
 use Rattle.std.proofs.Common.{subst, ap, map, ◌∙◌}
 use Rattle.sim_script.specs.Lines.{line_of}
 use Rattle.sim_script.specs.Scripts.{read_line}
-use Rattle.sim_script.specs.Words.{Gives}
+use Rattle.sim_script.specs.LineWords.{Gives}
 use Rattle.sim_script.proofs.parsing.read_line.Goals as goal
 
 pub returns : goal.returns

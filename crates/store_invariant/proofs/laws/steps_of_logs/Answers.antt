@@ -1,4 +1,5 @@
-use Rattle.store_invariant.proofs.LogSteps.{end_steps_on, log_ends, log_stays, log_steps_on, next_is_ready, next_steps_on}
+use Rattle.store_invariant.proofs.LogSteps.{end_steps_on, log_stays, log_steps_on}
+use Rattle.store_invariant.proofs.NextLogSteps.{log_ends, next_is_ready, next_steps_on}
 use Rattle.store_invariant.proofs.laws.steps_of_logs.Goals as goal
 
 pub returns-clause-log : goal.returns-clause-log

@@ -1,6 +1,6 @@
 use denote.Param.Send.{sendable}
 use Rattle.std.proofs.Crossing.{crosses}
-use Rattle.test_maps.proofs.Crosses.{stripes_sync}
+use Rattle.stripe_locks.proofs.Crosses.{stripes_sync}
 use Rattle.test_maps.proofs.stripes.eight_threads_add_to_one_key.Goals as goal
 
 pub map_indices-requires-sync-F : goal.map_indices-requires-sync-F

@@ -1,6 +1,6 @@
 use denote.Param.Send.{sendable}
 use Rattle.std.proofs.Crossing.{crosses}
-use Rattle.test_maps.proofs.Crosses.{stripes_sync}
+use Rattle.stripe_locks.proofs.Crosses.{stripes_sync}
 use Rattle.test_maps.proofs.stripes.two_threads_draw_each_ticket_once.Goals as goal
 
 pub join-one-requires-send-F : goal.join-one-requires-send-F

@@ -3,7 +3,7 @@ use Rattle.ticket_order.specs.declared.record.Record.{Record}
 use Rattle.stripe_locks.specs.Passes.{begun_with, recorded}
 use Rattle.stripe_locks.specs.Plays.{joining}
 use Rattle.flusher.specs.Fitting.{IsUnused}
-use Rattle.cmd_mem.proofs.NewMaps.{unused}
+use Rattle.recovery.proofs.FirstPasses.{unused}
 use Rattle.cmd_mem.proofs.memory.Memory+MemDisk+R.new.Goals as goal
 
 pub invariant_of-result : goal.invariant_of-result

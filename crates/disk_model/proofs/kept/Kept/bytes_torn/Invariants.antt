@@ -1,7 +1,7 @@
 use Rattle.std.proofs.Common.{◌≡◌}
 use Rattle.disk_model.specs.Files.{File}
 use Rattle.disk_model.specs.Fills.{byte_torn, bytes_by}
-use Rattle.disk_model.specs.Kept.{IsKept}
+use Rattle.disk_model.specs.KeptFiles.{IsKept}
 use Rattle.disk_model.proofs.kept.Kept.bytes_torn.Given as goal
 
 abbrev pub invariant-loop-i : goal.invariant-loop-i

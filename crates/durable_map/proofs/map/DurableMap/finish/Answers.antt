@@ -1,6 +1,6 @@
 use Rattle.std.proofs.Common.{rules, ◌∙◌, ℕ, refl, subst}
 use Rattle.stripe_locks.specs.Passes.{recorded}
-use Rattle.durable_map.specs.Durable.{EndsDurable}
+use Rattle.durable_map.specs.Durable.{EndsDurable, EndsFailed}
 use Rattle.durable_map.proofs.Growing.{ends_after, failed, fails_after, goes_on, released}
 use Rattle.durable_map.proofs.map.DurableMap.finish.Goals as goal
 
@@ -30,7 +30,10 @@ returns-in-Failed-clause-finishes g c =
     let k = failed _ _ _ c.in-Failed.ensures.released in
     record {
       beside = goes_on _ _ _ turn.beside k.0;
-      ends = (refl, fails_after _ _ _ turn.beside.goes_on.beside.made turn.beside.goes_on.beside.steps k.1);
+      ends = (
+        refl,
+        subst (λ (p : ℕ). EndsFailed (recorded c.args.pass.now) p (recorded c.release.new.pass)) turn.position_is (fails_after _ _ _ _ turn.beside.goes_on.beside.made turn.beside.goes_on.beside.steps k.1),
+      );
     }
 
 pub returns-in-Failed-clause-ready : goal.returns-in-Failed-clause-ready

@@ -2,7 +2,10 @@ use Rattle.std.proofs.Common.{◌≡◌, ◌≢◌, Some, None, ap, ◌∙◌, r
 use Rattle.store_layout.specs.declared.log_phase.Phase.TheVariants.{Idle}
 use Rattle.flusher.specs.declared.keeper.Keeper.{Keeper}
 use Rattle.flusher.proofs.Committing.{stops_by}
-use Rattle.flusher.proofs.Advancing.{count_after, fits_ended, fits_headed, fits_logged, log_at_moments, log_may, logged_moments, next_at_moments, same_hand, same_next, still_moments}
+use Rattle.flusher.proofs.NewestSteps.{fits_logged, log_at_moments, log_may}
+use Rattle.flusher.proofs.EndSteps.{fits_ended, next_at_moments}
+use Rattle.flusher.proofs.HeaderSteps.{fits_headed}
+use Rattle.flusher.proofs.Advancing.{count_after, logged_moments, same_hand, same_next, still_moments}
 use Rattle.flusher.proofs.keeper.Keeper.advance.Goals as goal
 
 pub returns-then-self-clause-any_moment : goal.returns-then-self-clause-any_moment

@@ -1,7 +1,7 @@
 use Rattle.std.proofs.Common.{ℕ, true, sym, subst}
 use Rattle.ticket_order.specs.declared.record.Record.{Record}
 use Rattle.flusher.specs.Fitting.{Fits}
-use Rattle.flusher.proofs.Keeping.{fits_failed}
+use Rattle.flusher.proofs.FittingKeepers.{fits_failed}
 use Rattle.flusher.proofs.keeper.Keeper.fail.Goals as goal
 
 pub returns-clause-fits : goal.returns-clause-fits

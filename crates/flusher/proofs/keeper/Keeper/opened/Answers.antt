@@ -1,6 +1,6 @@
 use Rattle.std.proofs.Common.{◌∙◌, ap, arith, refl, ℕ, []}
 use Rattle.store_layout.specs.Hands.{Hand}
-use Rattle.flusher.proofs.Keeping.{fits_opened}
+use Rattle.flusher.proofs.FittingKeepers.{fits_opened}
 use Rattle.flusher.proofs.keeper.Keeper.opened.Goals as goal
 
 pub returns-clause-fits : goal.returns-clause-fits

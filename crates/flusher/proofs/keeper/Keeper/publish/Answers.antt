@@ -3,7 +3,7 @@ use Rattle.ticket_order.specs.declared.record.Record.{Record}
 use Rattle.ticket_order.specs.Records.{publishing}
 use Rattle.ticket_order.specs.StepRules.{MayPublish}
 use Rattle.flusher.specs.Fitting.{Fits}
-use Rattle.flusher.proofs.Keeping.{may_publish, fits_published}
+use Rattle.flusher.proofs.FittingKeepers.{may_publish, fits_published}
 use Rattle.flusher.proofs.keeper.Keeper.publish.Goals as goal
 
 pub durable-requires : goal.durable-requires

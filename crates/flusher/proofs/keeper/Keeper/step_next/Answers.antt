@@ -2,7 +2,7 @@ use Rattle.std.proofs.Common.{◌≡◌, ◌≢◌, ℕ, Some, Result, Ok, Err, 
 use Rattle.map_types.specs.declared.refusals.Refusal.{Refusal}
 use Rattle.store_layout.specs.declared.log_phase.Phase.{Phase}
 use Rattle.store_layout.specs.declared.log_phase.Phase.TheVariants.{Idle, Staged}
-use Rattle.gate_log.specs.Advancing.{Advances}
+use Rattle.gate_log.specs.LogSteps.{Advances}
 use Rattle.flusher.specs.declared.keeper.Keeper.{Keeper}
 use Rattle.flusher.specs.Rotating.{IsTold}
 use Rattle.flusher.proofs.Advancing.{told_nothing}

@@ -4,7 +4,7 @@ use Rattle.flusher.specs.Sweeping.{Stands}
 use Rattle.flusher.specs.Fitting.{Fits}
 use Rattle.flusher.proofs.Quiet.{calm_step}
 use Rattle.flusher.proofs.Seeing.{sees_more}
-use Rattle.flusher.proofs.Keeping.{fits_swept}
+use Rattle.flusher.proofs.FittingKeepers.{fits_swept}
 use Rattle.flusher.proofs.keeper.Keeper.sweep_step.Goals as goal
 
 pub returns-clause-fits : goal.returns-clause-fits

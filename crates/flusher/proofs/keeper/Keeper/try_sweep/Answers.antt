@@ -1,7 +1,7 @@
 use Rattle.std.proofs.Common.{ℕ, sym, subst}
 use Rattle.flusher.specs.declared.sweeper.Sweeper.{Sweeper}
 use Rattle.flusher.specs.Fitting.{Fits}
-use Rattle.flusher.proofs.Keeping.{is_free}
+use Rattle.flusher.proofs.FittingKeepers.{is_free}
 use Rattle.flusher.proofs.Trying.{fits_tried, same_if_refused}
 use Rattle.flusher.proofs.keeper.Keeper.try_sweep.Goals as goal
 

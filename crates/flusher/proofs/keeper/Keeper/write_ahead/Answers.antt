@@ -1,5 +1,6 @@
 use Rattle.std.proofs.Common.{refl}
-use Rattle.flusher.proofs.Advancing.{log_may, still_moments}
+use Rattle.flusher.proofs.NewestSteps.{log_may}
+use Rattle.flusher.proofs.Advancing.{still_moments}
 use Rattle.flusher.proofs.Committing.{stops_by}
 use Rattle.flusher.proofs.WrittenAhead.{ahead_moments, fits_ahead}
 use Rattle.flusher.proofs.keeper.Keeper.write_ahead.Goals as goal

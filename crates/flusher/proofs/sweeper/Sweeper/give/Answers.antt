@@ -10,7 +10,7 @@ use Rattle.store_layout.specs.Hands.{Hand}
 use Rattle.flusher.specs.HandSteps.{Gains}
 use Rattle.flusher.specs.Gathering.{Collects}
 use Rattle.flusher.specs.Sweeping.{IsReady, IsSwept, Stands}
-use Rattle.flusher.proofs.Standing.{IsNext, go_on_next, after_drain, stands_drained, done_drained, stands_put_back}
+use Rattle.flusher.proofs.SweepStates.{IsNext, go_on_next, after_drain, stands_drained, done_drained, stands_put_back}
 use Rattle.flusher.proofs.HandedOut.{outbox_handed}
 use Rattle.flusher.proofs.sweeper.Sweeper.give.Goals as goal
 
@@ -38,12 +38,12 @@ returns-in-Some-clause-after g c =
     λ b k. subst (λ (es : List Entry). SweepsStripe n b i es w) is (c.in-Some.ensures.some b i (ready.swept n b i p k)) in
     let outbox : (b : Record) → IsSwept n b i c.args.walk p → entries_of_walk c.args.walk ≡ outbox_held p.holding =
     λ b k. sym (ready.entries c.in-Some.ensures.entries.1) ∙ outbox_handed n b i c.with_room-walk.result p (ready.swept n b i p k) c.in-Some.ensures.entries.1 in
-    let collects : Collects c.args.self.now.in_hand (entries_of_walk c.args.walk) c.insert.new.self =
-    ready.room c.in-Some.ensures.entries.1 c.insert.new.self (subst (λ (es : List Entry). Gains c.with_room-walk.new.in_hand es c.insert.new.self) is c.insert.ensures) in
+    let collects : Collects c.args.self.now.in_hand (entries_of_walk c.args.walk) c.keep_in_hand.new.self.in_hand =
+    ready.room c.in-Some.ensures.entries.1 c.keep_in_hand.new.self.in_hand (subst (λ (es : List Entry). Gains c.with_room-walk.new.in_hand es c.keep_in_hand.new.self.in_hand) is c.keep_in_hand.ensures.hand) in
     let same : c.get.result ≡ n = c.get.ensures.value ∙ c.stripes.ensures ∙ c.in-Some.ensures.stripes in
-    let next : IsNext n c.args.sweep c.insert.new.self c.go_on.new.self c.go_on.result =
-    go_on_next n c.get.result c.args.sweep (record c.set_walking.new.self { in_hand = c.insert.new.self }) c.go_on.new.self c.go_on.result same c.go_on.ensures.more c.go_on.ensures.last in
-    after_drain n c.args.sweep c.args.walk c.insert.new.self c.args.self.now.in_hand c.go_on.new.self p w c.go_on.result next c.requires.stands.1.between.within swept outbox collects
+    let next : IsNext n c.args.sweep c.keep_in_hand.new.self.in_hand c.go_on.new.self c.go_on.result =
+    go_on_next n c.get.result c.args.sweep c.keep_in_hand.new.self c.go_on.new.self c.go_on.result same c.go_on.ensures.more c.go_on.ensures.last in
+    after_drain n c.args.sweep c.args.walk c.keep_in_hand.new.self.in_hand c.args.self.now.in_hand c.go_on.new.self p w c.go_on.result next c.requires.stands.1.between.within swept outbox collects
 
 pub returns-in-Some-clause-stands : goal.returns-in-Some-clause-stands
 returns-in-Some-clause-stands g c = λ gone k.
@@ -56,12 +56,12 @@ returns-in-Some-clause-stands g c = λ gone k.
     let is : c.in-Some.entries.items ≡ entries_of_walk c.args.walk = c.in-Some.ensures.entries.0 ∙ ready.entries c.in-Some.ensures.entries.1 in
     let swept : (b : Record) → IsSwept n b i c.args.walk p → SweepsStripe n b i (entries_of_walk c.args.walk) w =
     λ b k. subst (λ (es : List Entry). SweepsStripe n b i es w) is (c.in-Some.ensures.some b i (ready.swept n b i p k)) in
-    let collects : Collects c.args.self.now.in_hand (entries_of_walk c.args.walk) c.insert.new.self =
-    ready.room c.in-Some.ensures.entries.1 c.insert.new.self (subst (λ (es : List Entry). Gains c.with_room-walk.new.in_hand es c.insert.new.self) is c.insert.ensures) in
+    let collects : Collects c.args.self.now.in_hand (entries_of_walk c.args.walk) c.keep_in_hand.new.self.in_hand =
+    ready.room c.in-Some.ensures.entries.1 c.keep_in_hand.new.self.in_hand (subst (λ (es : List Entry). Gains c.with_room-walk.new.in_hand es c.keep_in_hand.new.self.in_hand) is c.keep_in_hand.ensures.hand) in
     let same : c.get.result ≡ n = c.get.ensures.value ∙ c.stripes.ensures ∙ c.in-Some.ensures.stripes in
-    let next : IsNext n c.args.sweep c.insert.new.self c.go_on.new.self c.go_on.result =
-    go_on_next n c.get.result c.args.sweep (record c.set_walking.new.self { in_hand = c.insert.new.self }) c.go_on.new.self c.go_on.result same c.go_on.ensures.more c.go_on.ensures.last in
-    subst (λ (m : ℕ). Stands m c.go_on.new.self gone w) (sym c.in-Some.ensures.stripes) (stands_drained n c.args.sweep c.args.walk c.insert.new.self c.args.self.now.in_hand c.go_on.new.self p w c.go_on.result gone next k swept collects)
+    let next : IsNext n c.args.sweep c.keep_in_hand.new.self.in_hand c.go_on.new.self c.go_on.result =
+    go_on_next n c.get.result c.args.sweep c.keep_in_hand.new.self c.go_on.new.self c.go_on.result same c.go_on.ensures.more c.go_on.ensures.last in
+    subst (λ (m : ℕ). Stands m c.go_on.new.self gone w) (sym c.in-Some.ensures.stripes) (stands_drained n c.args.sweep c.args.walk c.keep_in_hand.new.self.in_hand c.args.self.now.in_hand c.go_on.new.self p w c.go_on.result gone next k swept collects)
 
 pub returns-in-Some-clause-done : goal.returns-in-Some-clause-done
 returns-in-Some-clause-done g c = λ gone k.
@@ -74,12 +74,12 @@ returns-in-Some-clause-done g c = λ gone k.
     let is : c.in-Some.entries.items ≡ entries_of_walk c.args.walk = c.in-Some.ensures.entries.0 ∙ ready.entries c.in-Some.ensures.entries.1 in
     let swept : (b : Record) → IsSwept n b i c.args.walk p → SweepsStripe n b i (entries_of_walk c.args.walk) w =
     λ b k. subst (λ (es : List Entry). SweepsStripe n b i es w) is (c.in-Some.ensures.some b i (ready.swept n b i p k)) in
-    let collects : Collects c.args.self.now.in_hand (entries_of_walk c.args.walk) c.insert.new.self =
-    ready.room c.in-Some.ensures.entries.1 c.insert.new.self (subst (λ (es : List Entry). Gains c.with_room-walk.new.in_hand es c.insert.new.self) is c.insert.ensures) in
+    let collects : Collects c.args.self.now.in_hand (entries_of_walk c.args.walk) c.keep_in_hand.new.self.in_hand =
+    ready.room c.in-Some.ensures.entries.1 c.keep_in_hand.new.self.in_hand (subst (λ (es : List Entry). Gains c.with_room-walk.new.in_hand es c.keep_in_hand.new.self.in_hand) is c.keep_in_hand.ensures.hand) in
     let same : c.get.result ≡ n = c.get.ensures.value ∙ c.stripes.ensures ∙ c.in-Some.ensures.stripes in
-    let next : IsNext n c.args.sweep c.insert.new.self c.go_on.new.self c.go_on.result =
-    go_on_next n c.get.result c.args.sweep (record c.set_walking.new.self { in_hand = c.insert.new.self }) c.go_on.new.self c.go_on.result same c.go_on.ensures.more c.go_on.ensures.last in
-    done_drained n c.args.sweep c.args.walk c.insert.new.self c.args.self.now.in_hand c.go_on.new.self p w c.go_on.result gone next k swept collects
+    let next : IsNext n c.args.sweep c.keep_in_hand.new.self.in_hand c.go_on.new.self c.go_on.result =
+    go_on_next n c.get.result c.args.sweep c.keep_in_hand.new.self c.go_on.new.self c.go_on.result same c.go_on.ensures.more c.go_on.ensures.last in
+    done_drained n c.args.sweep c.args.walk c.keep_in_hand.new.self.in_hand c.args.self.now.in_hand c.go_on.new.self p w c.go_on.result gone next k swept collects
 
 pub returns-in-None-clause-one : goal.returns-in-None-clause-one
 returns-in-None-clause-one g c = c.in-None.ensures.one _ _ (c.with_room-walk.ensures.swept _ _ _ _ c.requires.stands.1.taken)

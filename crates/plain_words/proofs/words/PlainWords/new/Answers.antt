@@ -5,4 +5,4 @@ use Rattle.plain_words.proofs.words.PlainWords.new.Goals as goal
 pub invariant_of-result : goal.invariant_of-result
 invariant_of-result c =
     let few : c.args.workers < 65536 = omega arith in
-    rw (c.new-chronicle.ensures, c.deref.ensures.value) (kept_at_start _ _ _ _ _ c.requires.count c.requires.parts c.in_ok-slots.ensures.ok few)
+    rw (c.new-ghost_book.ensures, c.deref.ensures.value) (kept_at_start _ _ _ _ _ c.requires.count c.requires.parts c.in_ok-slots.ensures.ok few)

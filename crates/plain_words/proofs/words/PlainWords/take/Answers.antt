@@ -1,14 +1,14 @@
 use Rattle.std.proofs.Common.{◌≡◌, ◌<◌, length, arith, sym, ◌∙◌}
 use Rattle.std.proofs.lemmas.List.{get_or_default, set-get_or}
 use Rattle.one_history.specs.declared.slot.Slot.TheVariants.{Home, HeldBy}
-use Rattle.one_history.specs.Kept.{slot_of}
+use Rattle.one_history.specs.SharedWords.{slot_of}
 use Rattle.one_history.proofs.Taking.{kept_took, takes_stripe, moves_took}
 use Rattle.one_history.proofs.Watching.{kept_found_held, misses, moves_found_held}
 use Rattle.plain_words.proofs.words.PlainWords.take.Goals as goal
 
 pub invariant_of-self : goal.invariant_of-self
 invariant_of-self c =
-    let lt : c.args.stripe < c.self.inside.chronicle.book.stripes = rw c.self.view_is c.requires.within in
+    let lt : c.args.stripe < c.self.inside.ghost_book.book.stripes = rw c.self.view_is c.requires.within in
     let fits : c.args.stripe < length c.self.inside.slots.items = omega (arith, c.self.invariant.stripes_are, c.self.invariant.sized) in
     let home : slot_of c.args.stripe c.self.inside.slots.items ≡ Home c.in-Home.content =
     get_or_default _ c.args.stripe _ _ fits ∙ (sym c.index_mut-place.ensures.value ∙ (sym c.replace.ensures.value ∙ c.in-Home.is)) in
@@ -16,7 +16,7 @@ invariant_of-self c =
 
 pub invariant_of-self-in-HeldBy : goal.invariant_of-self-in-HeldBy
 invariant_of-self-in-HeldBy c =
-    let lt : c.args.stripe < c.self.inside.chronicle.book.stripes = rw c.self.view_is c.requires.within in
+    let lt : c.args.stripe < c.self.inside.ghost_book.book.stripes = rw c.self.view_is c.requires.within in
     let fits : c.args.stripe < length c.self.inside.slots.items = omega (arith, c.self.invariant.stripes_are, c.self.invariant.sized) in
     let held_here : slot_of c.args.stripe c.self.inside.slots.items ≡ HeldBy c.in-HeldBy.holder =
     get_or_default _ c.args.stripe _ _ fits ∙ (sym c.index_mut-place.ensures.value ∙ (sym c.replace.ensures.value ∙ c.in-HeldBy.is)) in
@@ -25,7 +25,7 @@ invariant_of-self-in-HeldBy c =
 
 pub returns-in-Home-clause-step : goal.returns-in-Home-clause-step
 returns-in-Home-clause-step c =
-    let lt : c.args.stripe < c.self.inside.chronicle.book.stripes = rw c.self.view_is c.requires.within in
+    let lt : c.args.stripe < c.self.inside.ghost_book.book.stripes = rw c.self.view_is c.requires.within in
     let fits : c.args.stripe < length c.self.inside.slots.items = omega (arith, c.self.invariant.stripes_are, c.self.invariant.sized) in
     let home : slot_of c.args.stripe c.self.inside.slots.items ≡ Home c.in-Home.content =
     get_or_default _ c.args.stripe _ _ fits ∙ (sym c.index_mut-place.ensures.value ∙ (sym c.replace.ensures.value ∙ c.in-Home.is)) in
@@ -33,7 +33,7 @@ returns-in-Home-clause-step c =
 
 pub returns-in-Home-clause-moved : goal.returns-in-Home-clause-moved
 returns-in-Home-clause-moved c =
-    let lt : c.args.stripe < c.self.inside.chronicle.book.stripes = rw c.self.view_is c.requires.within in
+    let lt : c.args.stripe < c.self.inside.ghost_book.book.stripes = rw c.self.view_is c.requires.within in
     let fits : c.args.stripe < length c.self.inside.slots.items = omega (arith, c.self.invariant.stripes_are, c.self.invariant.sized) in
     let home : slot_of c.args.stripe c.self.inside.slots.items ≡ Home c.in-Home.content =
     get_or_default _ c.args.stripe _ _ fits ∙ (sym c.index_mut-place.ensures.value ∙ (sym c.replace.ensures.value ∙ c.in-Home.is)) in
@@ -44,7 +44,7 @@ returns-in-HeldBy-clause-step c = rw (c.note-in-HeldBy.ensures, ← c.self.view_
 
 pub returns-in-HeldBy-clause-moved : goal.returns-in-HeldBy-clause-moved
 returns-in-HeldBy-clause-moved c =
-    let lt : c.args.stripe < c.self.inside.chronicle.book.stripes = rw c.self.view_is c.requires.within in
+    let lt : c.args.stripe < c.self.inside.ghost_book.book.stripes = rw c.self.view_is c.requires.within in
     let fits : c.args.stripe < length c.self.inside.slots.items = omega (arith, c.self.invariant.stripes_are, c.self.invariant.sized) in
     let held : slot_of c.args.stripe c.self.inside.slots.items ≡ HeldBy c.in-HeldBy.holder =
     get_or_default _ c.args.stripe _ _ fits ∙ (sym c.index_mut-place.ensures.value ∙ (sym c.replace.ensures.value ∙ c.in-HeldBy.is)) in

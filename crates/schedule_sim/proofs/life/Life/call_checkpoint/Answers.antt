@@ -10,7 +10,7 @@ use Rattle.schedule_sim.specs.Living.{Did}
 use Rattle.schedule_sim.specs.Noting.{WasLast}
 use Rattle.schedule_sim.specs.Tracing.{traced_states}
 use Rattle.schedule_sim.proofs.Devices.{ok_of, planned_fits}
-use Rattle.schedule_sim.proofs.Kept.{fits_now}
+use Rattle.schedule_sim.proofs.LivesParts.{fits_now}
 use Rattle.schedule_sim.proofs.CheckpointEnds.{checkpoint_calls, checkpoint_fails}
 use Rattle.schedule_sim.proofs.life.Life.call_checkpoint.Goals as goal
 

@@ -1,5 +1,5 @@
 use Rattle.schedule_sim.proofs.CapturesMade.{capture_skips}
-use Rattle.schedule_sim.proofs.Kept.{rests}
+use Rattle.schedule_sim.proofs.LivesParts.{rests}
 use Rattle.schedule_sim.proofs.life.Life.capture.Goals as goal
 
 pub returns-then-is_walking : goal.returns-then-is_walking

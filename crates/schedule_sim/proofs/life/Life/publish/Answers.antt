@@ -2,7 +2,7 @@ use Rattle.std.proofs.Common.{ap, refl}
 use Rattle.ticket_order.specs.Records.{publishing}
 use Rattle.sim_rules.specs.declared.event.Event.TheVariants as event
 use Rattle.schedule_sim.proofs.Counting.{failed_skip, lent_fits, lent_moves, lent_record, publishes, undrawn_durable, unfit_walking}
-use Rattle.schedule_sim.proofs.Kept.{rests}
+use Rattle.schedule_sim.proofs.LivesParts.{rests}
 use Rattle.schedule_sim.proofs.Quiet.{walks_skip}
 use Rattle.schedule_sim.proofs.Telling.{second_same}
 use Rattle.schedule_sim.proofs.life.Life.publish.Goals as goal

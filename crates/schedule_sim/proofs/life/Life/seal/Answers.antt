@@ -1,7 +1,7 @@
 use Rattle.std.proofs.Common.{Ok, Err, refl}
 use Rattle.one_history.specs.Turns.{record_of}
 use Rattle.sim_rules.specs.declared.event.Event.TheVariants as event
-use Rattle.schedule_sim.proofs.Kept.{fits_now, rests}
+use Rattle.schedule_sim.proofs.LivesParts.{fits_now, rests}
 use Rattle.schedule_sim.proofs.Quiet.{seals, walks_skip}
 use Rattle.schedule_sim.proofs.life.Life.seal.Goals as goal
 

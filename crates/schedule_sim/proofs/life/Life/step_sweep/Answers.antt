@@ -1,5 +1,5 @@
 use Rattle.std.proofs.Common.{refl}
-use Rattle.schedule_sim.proofs.Kept.{life_there}
+use Rattle.schedule_sim.proofs.LivesParts.{life_there}
 use Rattle.schedule_sim.proofs.Sweeps.{Laws, Sweeps, begins_did, goes_on_did, sweeps}
 use Rattle.schedule_sim.proofs.life.Life.step_sweep.Goals as goal
 

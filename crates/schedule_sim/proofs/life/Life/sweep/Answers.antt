@@ -1,7 +1,7 @@
 use Rattle.std.proofs.Common.{not, ◌∙◌, ap}
 use Rattle.sim_rules.specs.declared.event.Event.TheVariants as event
 use Rattle.schedule_sim.proofs.Doing.{did_skip}
-use Rattle.schedule_sim.proofs.Kept.{rests}
+use Rattle.schedule_sim.proofs.LivesParts.{rests}
 use Rattle.schedule_sim.proofs.SweepsFit.{sweep_fits}
 use Rattle.schedule_sim.proofs.life.Life.sweep.Goals as goal
 

@@ -12,7 +12,7 @@ use Rattle.schedule_sim.specs.Storing.{IsInterrupted}
 use Rattle.schedule_sim.specs.Tracing.{traced_states}
 use Rattle.schedule_sim.proofs.Devices.{checkpoint_made, log_made, ok_of, planned_fits}
 use Rattle.schedule_sim.proofs.Interrupts.{checkpoint_written, interrupted_write, log_written}
-use Rattle.schedule_sim.proofs.Kept.{fits_now}
+use Rattle.schedule_sim.proofs.LivesParts.{fits_now}
 use Rattle.schedule_sim.proofs.life.Life.write.Goals as goal
 use Rattle.schedule_sim.proofs.life.Life.write.Goals.{in-Log+in-Ok, in-Checkpoint+in-Ok-advance}
 

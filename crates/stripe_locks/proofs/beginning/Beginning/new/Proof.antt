@@ -2,38 +2,33 @@
 use Rattle.std.proofs.Common.{List, [], ◌∷◌, refl, w64}
 use Rattle.std.proofs.raw_atomic.Walks.{proved}
 use mir.Syntax.{named}
-use mir.Val.{Val, vstruct, vcons, vnil}
+use mir.Val.{Val, vstruct, vnil}
 use base.Fml.{ftrue, flft}
 use contract.Running.{tables}
 use types.Kit.{‵, raw, ◌⊛◌, ◌$◌, ◌∵◌, !, qed, move, keep, split, join, suffices, done}
 use types.Run.{no_more, and_then, returns, enter}
 use types.Part.{agg}
 use types.ByLocal.{alloc_all, pass_all, free_all, look_at, get, sets}
-use denote.Builtin.{u64, SliceRefOf}
+use denote.Builtin.{u64}
 use denote.Exit.{yes}
 use denote.Plain.{uint_vals, uint_Tells}
 use denote.Shadow.{pure_i}
-use denote.Signature.{Slot, plain, types_at}
+use denote.Signature.{plain, types_at}
 use denote.RattleType.{owns}
 use denote.Slice.{shr_slice_vals, shr_slice_Tells}
 use denote.Steps.{nothing}
 use denote.Triple.Walked.{Stays, says, stay_dropped, Goes-dropped, ends_at}
 use Rattle.atomic_methods.specs.contracts.parts.Part as Part
 use Rattle.one_history.specs.Turns.{opening_of}
+use Rattle.one_history.proofs.GivenParts.{parts, nothing_in}
 use Rattle.stripe_locks.specs.declared.beginning.Beginning.{Beginning}
 use Rattle.stripe_locks.specs.contracts.beginning.Beginning.{the_row as R}
 use Rattle.stripe_locks.specs.contracts.beginning.Beginning.new as it
 use Rattle.stripe_locks.proofs.beginning.Beginning.new.Statement.{statement}
 use Rattle.stripe_locks.proofs.beginning.Beginning.new.Code as code
 
-abbrev parts : Slot 1
-parts = SliceRefOf (0 ∷ []) tt (plain (λ κs. Part.the_row)) (λ κs. tt)
-
 abbrev stayed : Stays it.ended.signature.params it.ended.kept
 stayed = (stay_dropped (plain (λ _. u64)) yes, (stay_dropped parts yes, tt))
-
-abbrev nothing_in : Val
-nothing_in = vstruct (vcons (vstruct vnil) vnil)
 
 pub new_spec : {M : Type 1} → statement M
 new_spec 𝓤 𝓛 𝓜 𝓡 wired =

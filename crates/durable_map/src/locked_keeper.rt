@@ -1,0 +1,235 @@
+//! The keeper, its pass and the shared stripes, one value under one lock.
+ghost use Rattle.std.specs.Prelude.{◌≡◌, ◌<◌, ◌≤◌, ℕ, List, None, Some, false, IfErr};
+ghost use Rattle.std.specs.Arc.{arc_value};
+ghost use Rattle.map_types.specs.declared.commands.Command.{Command};
+ghost use Rattle.ticket_order.specs.declared.record.Record.{Record};
+ghost use Rattle.stripe_locks.specs.Passes.{recorded, stripe_count, IsPassOf};
+ghost use Rattle.durable_map.specs.LockedKeepers.{HasCause, Keeps};
+
+use crate::keeping;
+use checkpoint_file::CheckpointPhase;
+use disk_model::Disk;
+use flusher::Keeper;
+use map_types::Refusal;
+use std::alloc::Global;
+use std::marker::Model;
+use std::sync::Arc;
+use stripe_locks::{Pass, Stripes};
+
+/// The longest batch.
+const MOST_COMMANDS: u32 = 65_536;
+
+/// What a turn of a loop came to.
+#[derive(Clone, Copy, Debug, PartialEq, Eq)]
+pub(crate) enum Turn {
+    /// Something was done, and there may be more to do.
+    Worked,
+    /// There was nothing to do.
+    Rested,
+    /// The turns of the other loop come first.
+    Awaited,
+}
+
+/// The keeper with its pass. It holds no stripe between its calls; each of them makes at most one
+/// device call.
+#[derive(Drop)]
+pub(crate) struct LockedKeeper<D: Disk> {
+    stripes: Arc<Stripes, Global>,
+    keeper: Keeper<D>,
+    pass: Pass,
+    // A file was found full: a batch would have carried the log past its greatest length, or a stripe has
+    // too many entries for a checkpoint.
+    is_full: bool,
+}
+
+impl<D: Disk> Model for LockedKeeper<D> {
+    ghost use Rattle.std.specs.Arc.{arc_value};
+    ghost use Rattle.ticket_order.specs.declared.record.Record.{Record};
+    ghost use Rattle.ticket_order.specs.contracts.record.Record as record_type;
+    ghost use Rattle.stripe_locks.specs.Passes.{recorded, stripe_count, IsPassOf};
+    ghost use Rattle.durable_map.specs.LockedKeepers.{HasCause, Keeps};
+
+    ghost Value = { Record };
+
+    ghost coded = { record_type.the_row.coded };
+
+    ghost view = { λ locked. recorded locked.pass };
+
+    ghost invariant = { λ locked. IsPassOf (arc_value locked.stripes) locked.pass
+        × Keeps D.states D.honest (stripe_count (arc_value locked.stripes)) locked.keeper
+        (recorded locked.pass)
+        × HasCause locked.is_full locked.keeper };
+}
+
+impl<D: Disk> LockedKeeper<D> {
+    /// The keeper of a directory that was opened, with the keeper's pass of these stripes.
+    pub(crate) fn new(
+        stripes: Arc<Stripes, Global>,
+        keeper: Keeper<D>,
+        pass: Pass,
+    ) -> LockedKeeper<D>
+        requires own { IsPassOf (arc_value stripes) pass }
+        requires keeps { Keeps D.states D.honest (stripe_count (arc_value stripes)) keeper
+            (recorded pass) }
+        requires cause { HasCause false keeper }
+        ensures { result ≡ recorded pass }
+    {
+        LockedKeeper {
+            stripes,
+            keeper,
+            pass,
+            is_full: false,
+        }
+    }
+
+    /// How many commands are committed.
+    pub(crate) fn committed(&self) -> u64 {
+        self.keeper.committed()
+    }
+
+    // Takes the entries of a stripe, unless another pass holds it or no memory is found.
+    fn sweep(&mut self, stripe: usize) {
+        if stripe >= self.stripes.stripes().get() {
+            return;
+        }
+        let mut steps = self.stripes.at(&mut self.pass);
+        keeping::sweep(&mut self.keeper, stripe, &mut steps);
+    }
+
+    // Takes the entries of each stripe that is marked, or of each at all, unless another pass holds it.
+    fn gather(&mut self, sweeps_all: bool) {
+        let marks = self.stripes.take_marks();
+        for stripe in 0..self.stripes.stripes().get() {
+            if sweeps_all || marks.contains(stripe) {
+                self.sweep(stripe);
+            }
+        }
+    }
+
+    // Stages the longest batch of what is in hand, and answers its length.
+    fn stage(&mut self) -> Result<u32, Refusal> {
+        let staged = keeping::stage(&mut self.keeper, MOST_COMMANDS);
+        if matches!(staged, Err(Refusal::LogFull)) {
+            self.is_full = true;
+        }
+        staged
+    }
+
+    // Writes zeros ahead of the staged batch, where that is due.
+    fn write_ahead(&mut self) -> Result<(), Refusal> {
+        keeping::write_ahead(&mut self.keeper)
+    }
+
+    // Makes the device call that is due in the logs.
+    fn advance_logs(&mut self) -> Result<(), Refusal> {
+        let _phase = keeping::advance_logs(&mut self.keeper)?;
+        Ok(())
+    }
+
+    // Whether no device call is due in the logs.
+    fn is_resting(&self) -> bool {
+        self.keeper.log.is_resting() && self.keeper.next.is_none()
+    }
+
+    // DURABLE with the committed count, and wakes those who wait for it, if any do.
+    fn publish(&mut self) {
+        let mut steps = self.stripes.at(&mut self.pass);
+        keeping::publish(&mut self.keeper, &mut steps);
+        self.stripes.wake_released();
+    }
+
+    /// FAIL, and wakes all who wait for it or for their positions. If no device call has failed and no
+    /// file was found full, it does nothing.
+    pub(crate) fn fail(&mut self) {
+        if self.keeper.is_broken || self.is_full {
+            let mut steps = self.stripes.at(&mut self.pass);
+            keeping::fail(&mut self.keeper, &mut steps);
+            self.stripes.wake_failed();
+        }
+    }
+
+    /// A turn of the log: where no device call is due, it takes what the marked stripes have, or what all
+    /// have, and stages a batch, ahead of which it may write zeros; else it makes the call, and publishes
+    /// what that committed.
+    pub(crate) fn flush(&mut self, sweeps_all: bool) -> Result<Turn, Refusal> {
+        if self.is_resting() {
+            self.gather(sweeps_all);
+            let count = self.stage()?;
+            if count == 0 {
+                return Ok(Turn::Rested);
+            }
+            self.write_ahead()?;
+            return Ok(Turn::Worked);
+        }
+        self.advance_logs()?;
+        if self.is_resting() {
+            self.publish();
+        }
+        Ok(Turn::Worked)
+    }
+
+    // Begins a checkpoint if the newest log has at least so many bytes, and wakes the loop of the log,
+    // which begins another log.
+    fn begin_checkpoint(&mut self, bytes: u64) -> Result<Turn, Refusal> {
+        let length = self.keeper.log.gate() as u64 + 1;
+        if length < bytes {
+            return Ok(Turn::Rested);
+        }
+        keeping::begin(&mut self.keeper)?;
+        self.stripes.wake_keeper();
+        Ok(Turn::Worked)
+    }
+
+    // Gives the checkpoint the section of this stripe, which is the next.
+    fn capture(&mut self, stripe: usize) -> Result<Turn, Refusal> {
+        let mut steps = self.stripes.at(&mut self.pass);
+        let captured = keeping::capture(&mut self.keeper, stripe, &mut steps);
+        if matches!(captured, Err(Refusal::LogFull)) {
+            self.is_full = true;
+        }
+        let _mark = captured?;
+        Ok(Turn::Worked)
+    }
+
+    fn seal_checkpoint(&mut self) -> Result<Turn, Refusal> {
+        keeping::seal(&mut self.keeper)?;
+        Ok(Turn::Worked)
+    }
+
+    // Makes the device call that is due in the file of the checkpoint.
+    fn advance_checkpoint(&mut self) -> Result<Turn, Refusal> {
+        let _phase = keeping::advance_checkpoint(&mut self.keeper)?;
+        Ok(Turn::Worked)
+    }
+
+    /// A turn of the checkpoints: where none runs, one is begun once the newest log has at least so many
+    /// bytes; else it makes the device call that is due in its file, captures its next stripe, or seals
+    /// it. While its log is begun it waits for the turns of the log. Refused with `Failed` once a device
+    /// call has failed or a FAIL was made.
+    pub(crate) fn checkpoint(&mut self, bytes: u64) -> Result<Turn, Refusal> {
+        if self.keeper.is_broken || self.keeper.has_failed {
+            return Err(Refusal::Failed);
+        }
+        let Some(writer) = &self.keeper.checkpoint else {
+            return self.begin_checkpoint(bytes);
+        };
+        if self.keeper.next.is_some() {
+            return Ok(Turn::Awaited);
+        }
+        if writer.phase() != CheckpointPhase::Ready {
+            return self.advance_checkpoint();
+        }
+        let stripe = writer.count() as usize;
+        if stripe < writer.stripes().get() {
+            return self.capture(stripe);
+        }
+        self.seal_checkpoint()
+    }
+
+    /// From now on this many zeros are written ahead of a batch at a time; with 0 none are.
+    pub(crate) fn set_ahead(&mut self, count: usize) -> Result<(), Refusal>
+        ensures { IfErr result (λ refusal. refusal ≡ Refusal.NoMemory) }
+    {
+        keeping::set_ahead(&mut self.keeper, count)
+    }
+}

@@ -1,0 +1,126 @@
+//! How a keeper brings entries in hand.
+ghost use Rattle.std.specs.Prelude.{◌≡◌, ◌+◌, ◌<◌, List, ◌++◌, false, Result, Ok, IfOk, IfErr, OnOk, OnErr, IfSome};
+ghost use Rattle.map_types.specs.declared.commands.Command.{Command};
+ghost use Rattle.ticket_order.specs.Calls.{RefusesSweep};
+ghost use Rattle.ticket_order.specs.Walks.{MakesOne};
+ghost use Rattle.gate_log.specs.States.{commands_of};
+ghost use Rattle.flusher.specs.HandSteps.{SameEntries};
+ghost use Rattle.flusher.specs.Sweeping.{HasGathered, IsDone, StepsOn, next_kind};
+ghost use Rattle.flusher.specs.KeeperSteps.{MakesSweep, StaysAt, SweepsOnce, is_walking};
+ghost use Rattle.flusher.specs.Fitting.{Fits, HasSeenMore, IsQuiet};
+
+use crate::keeper::Keeper;
+use crate::sweeper::Swept;
+use disk_model::Disk;
+use map_types::Refusal;
+use std::sync::Wait;
+use store_invariant::laws::beginnings_of_stores;
+use store_layout::laws::laws_of_found;
+use ticket_order::Steps;
+
+impl<D: Disk> Keeper<D> {
+    /// Makes exactly one step of the sweep that the keeper keeps: the LOOK that begins one, or TAKE or
+    /// GIVE of its next stripe. After `Held`, and where no memory was found, the next call tries that
+    /// stripe again.
+    pub fn sweep_step<S: Steps>(&mut self, steps: &mut S) -> Result<Swept, Refusal>
+        requires { (done : List Command)
+            × Fits D.states D.honest (S.stripe_count steps.old) done self.old
+            (S.recorded steps.old) }
+        ensures one { MakesOne S.recorded S.moves
+            (next_kind self.old.sweeper.sweep self.old.sweeper.walking) steps.old steps.new }
+        ensures steps_on { StepsOn (S.stripe_count steps.old) self.old.sweeper.sweep
+            self.old.sweeper.walking self.old.sweeper.in_hand self.new.sweeper
+            (S.recorded steps.old) (S.recorded steps.new) result }
+        ensures done { (done : List Command)
+            → Fits D.states D.honest (S.stripe_count steps.old) done self.old (S.recorded steps.old)
+            → IfOk result
+            (IsDone self.new.sweeper (done ++ commands_of self.old.staged.items)
+            (S.recorded steps.new)) }
+        ensures fits { (done : List Command)
+            → Fits D.states D.honest (S.stripe_count steps.old) done self.old (S.recorded steps.old)
+            → Fits D.states D.honest (S.stripe_count steps.new) done self.new
+            (S.recorded steps.new) }
+        ensures quiet { IsQuiet (S.recorded steps.old) (S.recorded steps.new) }
+        ensures seen { HasSeenMore (S.recorded steps.old) (S.recorded steps.new) }
+        ensures same { self.new ≡ record self.old { sweeper = self.new.sweeper } }
+        ensures place { S.place steps.new ≡ S.place steps.old }
+        ensures stripes { S.stripe_count steps.new ≡ S.stripe_count steps.old }
+    {
+        beginnings_of_stores();
+        laws_of_found();
+        self.sweeper.step(steps)
+    }
+
+    /// Goes on with the sweep that is begun, or makes a whole one, and answers the count that its LOOK
+    /// found. A stripe that another holds is tried again until it is free. Where no memory is found, the
+    /// stripes before that one are drained, and the next sweep goes on there.
+    pub fn sweep<R: Wait, S: Steps>(&mut self, rt: &R, steps: &mut S) -> Result<u64, Refusal>
+        requires { (done : List Command)
+            × Fits D.states D.honest (S.stripe_count steps.old) done self.old
+            (S.recorded steps.old) }
+        ensures done { (done : List Command)
+            → Fits D.states D.honest (S.stripe_count steps.old) done self.old (S.recorded steps.old)
+            → IfOk result (λ count.
+            HasGathered self.new.sweeper (done ++ commands_of self.old.staged.items) count
+            (S.recorded steps.new)) }
+        ensures count { IfOk result (λ count.
+            MakesSweep self.old.sweeper.sweep count (S.recorded steps.old) (S.recorded steps.new)) }
+        ensures err { IfErr result (λ refusal. (refusal ≡ Refusal.NoMemory)
+            × StaysAt (S.stripe_count steps.new) self.new.sweeper (S.recorded steps.new)) }
+        ensures stays { OnErr result
+            (IfSome self.new.sweeper.sweep (λ sweep.
+            MakesSweep self.old.sweeper.sweep sweep.count (S.recorded steps.old)
+            (S.recorded steps.new))) }
+        ensures rests { is_walking self.new.sweeper.walking ≡ false }
+        ensures fits { (done : List Command)
+            → Fits D.states D.honest (S.stripe_count steps.old) done self.old (S.recorded steps.old)
+            → Fits D.states D.honest (S.stripe_count steps.new) done self.new
+            (S.recorded steps.new) }
+        ensures quiet { IsQuiet (S.recorded steps.old) (S.recorded steps.new) }
+        ensures seen { HasSeenMore (S.recorded steps.old) (S.recorded steps.new) }
+        ensures same { self.new ≡ record self.old { sweeper = self.new.sweeper } }
+        ensures place { S.place steps.new ≡ S.place steps.old }
+        ensures stripes { S.stripe_count steps.new ≡ S.stripe_count steps.old }
+    {
+        for _step in rt.forever() {
+            let swept = match self.sweep_step(steps) {
+                Ok(swept) => swept,
+                Err(refusal) => return Err(refusal),
+            };
+            if let Swept::Done(count) = swept {
+                return Ok(count);
+            }
+        }
+        unreachable!()
+    }
+
+    /// Sweeps one stripe, by TAKE and GIVE, and doesn't wait for it. A sweep that is begun and not over
+    /// stays where it is.
+    pub fn try_sweep<S: Steps>(&mut self, stripe: usize, steps: &mut S) -> Result<(), Refusal>
+        requires fits { (done : List Command)
+            × Fits D.states D.honest (S.stripe_count steps.old) done self.old
+            (S.recorded steps.old) }
+        requires rests { is_walking self.old.sweeper.walking ≡ false }
+        requires within { stripe < S.stripe_count steps.old }
+        ensures ok { OnOk result
+            (SweepsOnce (S.stripe_count steps.old) stripe self.old.sweeper.in_hand
+            self.new.sweeper.in_hand (S.recorded steps.old) (S.recorded steps.new)) }
+        ensures err { IfErr result (λ refusal.
+            RefusesSweep (S.recorded steps.old) stripe refusal (S.recorded steps.new)) }
+        ensures kept { OnErr result
+            (SameEntries self.old.sweeper.in_hand self.new.sweeper.in_hand) }
+        ensures fits { (done : List Command)
+            → Fits D.states D.honest (S.stripe_count steps.old) done self.old (S.recorded steps.old)
+            → Fits D.states D.honest (S.stripe_count steps.new) done self.new
+            (S.recorded steps.new) }
+        ensures same { self.new ≡ record self.old {
+          sweeper = record self.old.sweeper { in_hand = self.new.sweeper.in_hand };
+        } }
+        ensures place { S.place steps.new ≡ S.place steps.old }
+        ensures stripes { S.stripe_count steps.new ≡ S.stripe_count steps.old }
+    {
+        beginnings_of_stores();
+        laws_of_found();
+        self.sweeper.sweep_stripe(stripe, steps)
+    }
+}
