@@ -1,4 +1,18 @@
 //! One checkpoint, and the device call that comes next in it.
+//!
+//! The phases, and what leads from each to the next. `advance` makes the device calls one by one:
+//!
+//! ```text
+//! begin:   Idle, Sealed --> Gate if it is to be closed first, else GateWritten
+//!          Gate -- close the gate --> GateWritten -- sync --> GateSynced
+//!          GateSynced -- write zeros over the header --> Ready
+//! section: Ready --> Staged -- write the section --> Ready
+//! seal:    Ready --> Header -- write the header --> HeaderWritten -- sync --> HeaderSynced
+//!          HeaderSynced -- open the gate --> Opened -- sync --> Sealed
+//! ```
+//!
+//! A call that fails breaks the writer, which makes no more. `checkpoint_walk` begins it, gives it
+//! the sections of the stripes in rising order, seals it and makes the calls.
 ghost use Rattle.std.specs.Prelude.{◌≡◌, ◌≢◌, ◌⊎◌, ◌↔◌, ℕ, ◌+◌, ◌-◌, ◌<◌, ◌≤◌, ◌^◌, ◌++◌, ◌∷◌, [], List, length, Option, None, Some, true, false, IfOk, IfErr, OnOk, OnErr};
 ghost use Rattle.std.specs.FinMap as finite;
 ghost use Rattle.disk_model.specs.Files.{File, now, at_rest};

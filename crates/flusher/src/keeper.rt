@@ -1,4 +1,18 @@
 //! The keeper of one store: its disk, its logs, and the entries in hand.
+//!
+//! What becomes of the entries of a stripe:
+//!
+//! ```text
+//! sweep        they are in hand, by their tickets          (`sweeping`)
+//! stage_batch  they are staged, and still in hand          (`batching`)
+//! advance      written, synced, gate opened, synced: committed, and no longer in hand (`logs`)
+//! publish      the durable count has them
+//! ```
+//!
+//! During a rotation `advance` also writes the header of the log that follows, and then ends the
+//! newest one. A device call that fails leaves the keeper broken (`is_broken`): it makes no more,
+//! and its owner calls `fail`. The loops of `durable_map` call it under one lock; `checkpoint_walk`
+//! writes checkpoints by it; `cmd_mem` and the simulator call it on one thread.
 ghost use Rattle.std.specs.Prelude.{◌≡◌, ◌||◌, ◌<◌, List, None, is_some, [], true, false};
 ghost use Rattle.map_types.specs.declared.commands.Command.{Command};
 ghost use Rattle.ticket_order.specs.declared.record.Record.{Record};

@@ -1,4 +1,14 @@
 //! The shared words and the stripes.
+//!
+//! ```text
+//! a stripe: free (its word is 0) -- TAKE --> held (the number of its pass) -- GIVE --> free
+//! tickets:  TICKET raises the count by one, under a held stripe; LOOK reads it
+//! durable:  DURABLE raises it to what the keeper has committed; SEE reads it
+//! failure:  FAIL sets it for good; ALIVE reads it
+//! ```
+//!
+//! Passes make the steps: those of workers by `try_call`, `call` and `release`, and that of the
+//! keeper, which `flusher` and `checkpoint_walk` step. To sleep and to wake is no step (`parking`).
 ghost use Rattle.std.specs.Prelude.{◌≡◌, ◌+◌};
 
 use crate::beginning::Beginning;
