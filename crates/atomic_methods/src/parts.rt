@@ -89,11 +89,16 @@ impl Part {
     /// growth that is due begins, or is put off if it finds no memory, and the one that runs is
     /// helped. If the change is refused, the growth stays as it is.
     pub fn prepare(&mut self, alloc: Global, command: &Command) -> Result<Prepared, Refusal>
+        // The change is prepared for the content, which stays.
         ensures ok { IfOk result (IsPrepared self.old.map command.now) }
         ensures content { self.new.map ≡ self.old.map }
         ensures stripes { self.new.growth.stripes ≡ self.old.growth.stripes }
+
+        // A growth that is due begins or is put off; if refused, it stays.
         ensures growth { OnOk result (HasGrown self.old self.new) }
         ensures unchanged { OnErr result (self.new.growth ≡ self.old.growth) }
+
+        // Refused for want of memory alone.
         ensures err { IfErr result (λ refusal. refusal ≡ Refusal.NoMemory) }
     {
         self.prepare_hashed(alloc, command, spread_of(command.key.as_str()))
@@ -106,12 +111,19 @@ impl Part {
         command: &Command,
         spread: u32,
     ) -> Result<Prepared, Refusal>
+        // The spread is that of the key's hash.
         requires { spread ≡ spread_of_key command.now.key }
+
+        // The change is prepared for the content, which stays.
         ensures ok { IfOk result (IsPrepared self.old.map command.now) }
         ensures content { self.new.map ≡ self.old.map }
         ensures stripes { self.new.growth.stripes ≡ self.old.growth.stripes }
+
+        // A growth that is due begins or is put off; if refused, it stays.
         ensures growth { OnOk result (HasGrown self.old self.new) }
         ensures unchanged { OnErr result (self.new.growth ≡ self.old.growth) }
+
+        // Refused for want of memory alone.
         ensures err { IfErr result (λ refusal. refusal ≡ Refusal.NoMemory) }
     {
         let old = self.table.get(spread, &command.key);
