@@ -26,23 +26,32 @@ use store_layout::laws::laws_of_checkpoints;
 /// After the last sync of a seal the checkpoint is the sealed one, and none runs. After a device
 /// failure no call is made. It takes no memory.
 pub fn advance<D: Disk>(keeper: &mut Keeper<D>) -> Result<CheckpointPhase, Refusal>
+    // The keeper's invariant holds.
     requires { (n : ℕ) × (done : List Command) × (p : Record)
         × Fits D.states D.honest n done keeper.old p }
+
+    // Refused after a failure; no call if none is due. Then nothing changes.
     ensures failed { keeper.old.is_broken ≡ true
         → (result ≡ Err Refusal.Failed) × (keeper.new ≡ keeper.old) }
     ensures rests { keeper.old.is_broken ≡ false
         → call_due keeper.old.next keeper.old.checkpoint ≡ None
         → (result ≡ Ok (phase_of keeper.old.checkpoint)) × (keeper.new ≡ keeper.old) }
+
+    // Else the due call is made in the checkpoint's file; a failure is noted.
     ensures steps { keeper.old.is_broken ≡ false → (call : Call) (w : CheckpointState)
         → call_due keeper.old.next keeper.old.checkpoint ≡ Some call
         → keeper.old.checkpoint ≡ Some w
         → StepsCheckpoint D.states D.failures D.honest call w keeper.old keeper.new result }
     ensures works { OnOk result (keeper.new.is_broken ≡ false) }
     ensures breaks { OnErr result (keeper.new.is_broken ≡ true) }
+
+    // On an honest disk no stop, at any moment, loses what was committed.
     ensures any_moment { (n : ℕ) (done : List Command) (p : Record)
         → Fits D.states D.honest n done keeper.old p → D.honest keeper.old.disk
         → AtEachMoment D.states keeper.old.disk keeper.new.disk
         (StopsFit (history_of p) keeper.old) }
+
+    // After `Ok` the sections are still given, or sealed. The invariant goes on.
     ensures given { (sections : List Section) (w : CheckpointState)
         → HasGiven keeper.old.checkpoint sections (now (D.states keeper.old.disk))
         → keeper.new.checkpoint ≡ Some w
@@ -85,17 +94,24 @@ fn step<D: Disk>(
     keeper: &mut Keeper<D>,
     mut writer: CheckpointWriter,
 ) -> Result<CheckpointPhase, Refusal>
+    // Nothing has failed, and an honest disk holds what the writer says.
     requires stands { MayAdvance D.states D.honest writer keeper.old.disk }
     requires works { (keeper.old.is_broken ≡ false) × (writer.is_broken ≡ false) }
+
+    // If no call is due none is made, and the keeper has the writer again.
     ensures rests { call_in writer.phase writer ≡ None
         → (result ≡ Ok writer.phase)
         × (keeper.new ≡ record keeper.old { checkpoint = Some writer }) }
+
+    // Else that call is made; after the last one the checkpoint is sealed.
     ensures advances { (call : Call) → call_in writer.phase writer ≡ Some call
         → (after : CheckpointState)
         × Advances D.states D.failures D.honest call writer after keeper.old.disk keeper.new.disk
         result
         × KeepsAfter result writer.phase after
         (record (checkpoints_of keeper.old) { writer = Some writer }) (checkpoints_of keeper.new) }
+
+    // A failed call is noted, and no other field changes.
     ensures ok { OnOk result (keeper.new.is_broken ≡ false) }
     ensures err { OnErr result (keeper.new.is_broken ≡ true) }
     ensures same { keeper.new ≡ record keeper.old {

@@ -20,19 +20,28 @@ use store_invariant::laws::steps_of_checkpoints;
 /// one, the log of the checkpoint is begun with it, and the keeper's next six calls of `advance` write
 /// its header and end the newest one. It makes no device call and takes no memory.
 pub fn begin<D: Disk>(keeper: &mut Keeper<D>) -> Result<(), Refusal>
+    // The keeper's invariant holds.
     requires { (n : ℕ) × (done : List Command) × (p : Record)
         × Fits D.states D.honest n done keeper.old p }
+
+    // Refused: after a device failure, or if no checkpoint may begin now.
     ensures failed { (result ≡ Err Refusal.Failed) ↔ (keeper.old.is_broken ≡ true) }
     ensures wrong_phase { (result ≡ Err Refusal.WrongPhase)
         ↔ ((keeper.old.is_broken ≡ false) × (MayBegin keeper.old → ⊥)) }
     ensures no_other { IfErr result (λ refusal. (refusal ≡ Refusal.Failed)
         ⊎ (refusal ≡ Refusal.WrongPhase)) }
+
+    // It begins with no section, beside the newest log or one begun with it.
     ensures ok { OnOk result (Begins keeper.old keeper.new) }
     ensures given { OnOk result
         ((n : ℕ) (done : List Command) (p : Record) → Fits D.states D.honest n done keeper.old p
         → D.honest keeper.old.disk
         → HasGiven keeper.new.checkpoint [] (now (D.states keeper.new.disk))) }
+
+    // A refusal changes nothing.
     ensures err { OnErr result (keeper.new ≡ keeper.old) }
+
+    // The invariant goes on, and no other field changes.
     ensures fits { (n : ℕ) (done : List Command) (p : Record)
         → Fits D.states D.honest n done keeper.old p → Fits D.states D.honest n done keeper.new p }
     ensures same { keeper.new ≡ record keeper.old {

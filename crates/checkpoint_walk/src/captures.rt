@@ -31,10 +31,13 @@ pub fn capture_step<D: Disk, S: Steps>(
     stripe: usize,
     steps: &mut S,
 ) -> Result<Option<u64>, Refusal>
+    // The invariant holds, or a capture runs; no sweep is between its steps.
     requires fits { (done : List Command)
         × FitsWalking D.states D.honest (S.stripe_count steps.old) done keeper.old
         (S.recorded steps.old) }
     requires rests { is_walking keeper.old.sweeper.walking ≡ false }
+
+    // Refused at its start: after a failure, or the stripe isn't next. All stays.
     ensures failed { (result ≡ Err Refusal.Failed)
         ↔ ((keeper.old.capture ≡ None) × (keeper.old.is_broken ≡ true)) }
     ensures wrong_phase { (result ≡ Err Refusal.WrongPhase)
@@ -42,6 +45,8 @@ pub fn capture_step<D: Disk, S: Steps>(
         × (IsNextStripe stripe keeper.old.next keeper.old.checkpoint → ⊥)) }
     ensures first { ((result ≡ Err Refusal.Failed) ⊎ (result ≡ Err Refusal.WrongPhase))
         → (steps.new ≡ steps.old) × (keeper.new ≡ keeper.old) }
+
+    // Else exactly one step: the next of the capture, with what that leaves.
     ensures one { (result ≢ Err Refusal.Failed) → (result ≢ Err Refusal.WrongPhase)
         → MakesOne S.recorded S.moves
         (kind_next (S.stripe_count steps.old) stripe keeper.old.capture) steps.old steps.new }
@@ -49,12 +54,16 @@ pub fn capture_step<D: Disk, S: Steps>(
         keeper.new (S.recorded steps.old) (S.recorded steps.new) result }
     ensures cause { (walk : TheWalk) → keeper.old.capture ≡ Some walk
         → IfErr result (IsCauseOf walk) }
+
+    // At its end the checkpoint has the stripe's part as its next section.
     ensures given { (done : List Command) (sections : List Section)
         → FitsWalking D.states D.honest (S.stripe_count steps.old) done keeper.old
         (S.recorded steps.old) → D.honest keeper.old.disk
         → HasGiven keeper.old.checkpoint sections (now (D.states keeper.old.disk))
         → GivesPartIn D.states (S.stripe_count steps.old) (history_of (S.recorded steps.new)) result
         sections keeper.new }
+
+    // That holds again, in the same pass over as many stripes.
     ensures fits { (done : List Command)
         → FitsWalking D.states D.honest (S.stripe_count steps.old) done keeper.old
         (S.recorded steps.old)
@@ -77,20 +86,27 @@ fn take<D: Disk, S: Steps>(
     stripe: usize,
     steps: &mut S,
 ) -> Result<Option<u64>, Refusal>
+    // The invariant holds; no sweep is between steps, no capture under way.
     requires fits { (done : List Command)
         × Fits D.states D.honest (S.stripe_count steps.old) done keeper.old (S.recorded steps.old) }
     requires rests { is_walking keeper.old.sweeper.walking ≡ false }
     requires over { keeper.old.capture ≡ None }
+
+    // Refused: after a failure, or if the stripe isn't next; nothing changes.
     ensures failed { (result ≡ Err Refusal.Failed) ↔ (keeper.old.is_broken ≡ true) }
     ensures wrong_phase { (result ≡ Err Refusal.WrongPhase)
         ↔ ((keeper.old.is_broken ≡ false)
         × (IsNextStripe stripe keeper.old.next keeper.old.checkpoint → ⊥)) }
     ensures first { ((result ≡ Err Refusal.Failed) ⊎ (result ≡ Err Refusal.WrongPhase))
         → (steps.new ≡ steps.old) × (keeper.new ≡ keeper.old) }
+
+    // Else one step, a TAKE: the stripe is held now, or another holds it.
     ensures one { (result ≢ Err Refusal.Failed) → (result ≢ Err Refusal.WrongPhase)
         → MakesOne S.recorded S.moves (Take stripe) steps.old steps.new }
     ensures after { AfterTake (S.stripe_count steps.old) stripe keeper.old keeper.new
         (S.recorded steps.old) (S.recorded steps.new) result }
+
+    // The invariant goes on, in the same pass over as many stripes.
     ensures fits { (done : List Command)
         → Fits D.states D.honest (S.stripe_count steps.old) done keeper.old (S.recorded steps.old)
         → FitsWalking D.states D.honest (S.stripe_count steps.new) done keeper.new
@@ -118,16 +134,21 @@ fn go_on<D: Disk, S: Steps>(
     walk: Walk,
     steps: &mut S,
 ) -> Result<Option<u64>, Refusal>
+    // A section is awaited; the walk has made its TAKE, perhaps its LOOK.
     requires next { (stripe : ℕ) × IsNextStripe stripe keeper.old.next keeper.old.checkpoint }
     requires walked { (b : Record) × (i : ℕ)
         × (HasTaken (S.stripe_count steps.old) b i walk (S.recorded steps.old)
         ⊎ HasLooked (S.stripe_count steps.old) b i walk (S.recorded steps.old)) }
     requires over { keeper.old.capture ≡ None }
+
+    // One step: a LOOK, or the GIVE that gives the section or is refused.
     ensures one { MakesOne S.recorded S.moves (next_kind (S.stripe_count steps.old) walk) steps.old
         steps.new }
     ensures after { AfterWalk (S.stripe_count steps.old) walk keeper.old keeper.new
         (S.recorded steps.old) (S.recorded steps.new) result }
     ensures cause { IfErr result (IsCauseOf walk) }
+
+    // It is the same pass, over as many stripes.
     ensures place { S.place steps.new ≡ S.place steps.old }
     ensures stripes { S.stripe_count steps.new ≡ S.stripe_count steps.old }
 {
@@ -156,22 +177,29 @@ pub fn try_capture<D: Disk, S: Steps>(
     stripe: usize,
     steps: &mut S,
 ) -> Result<u64, Refusal>
+    // The invariant holds; no sweep is between steps, no capture under way.
     requires fits { (done : List Command)
         × Fits D.states D.honest (S.stripe_count steps.old) done keeper.old (S.recorded steps.old) }
     requires rests { is_walking keeper.old.sweeper.walking ≡ false }
     requires over { keeper.old.capture ≡ None }
+
+    // Refused: after a failure, or if the stripe isn't next; nothing changes.
     ensures failed { (result ≡ Err Refusal.Failed) ↔ (keeper.old.is_broken ≡ true) }
     ensures wrong_phase { (result ≡ Err Refusal.WrongPhase)
         ↔ ((keeper.old.is_broken ≡ false)
         × (IsNextStripe stripe keeper.old.next keeper.old.checkpoint → ⊥)) }
     ensures first { ((result ≡ Err Refusal.Failed) ⊎ (result ≡ Err Refusal.WrongPhase))
         → (steps.new ≡ steps.old) × (keeper.new ≡ keeper.old) }
+
+    // Else the section is given; or another has the stripe, or it is put back.
     ensures ok { IfOk result (λ mark.
         GivesSection (S.stripe_count steps.old) (S.recorded steps.old) stripe mark keeper.old
         keeper.new (S.recorded steps.new)) }
     ensures err { IfErr result (λ refusal.
         AfterRefusal stripe keeper.old keeper.new (S.recorded steps.old) (S.recorded steps.new)
         refusal) }
+
+    // The section is the stripe's part of the map after `mark` commands.
     ensures given { (done : List Command) (sections : List Section)
         → Fits D.states D.honest (S.stripe_count steps.old) done keeper.old (S.recorded steps.old)
         → D.honest keeper.old.disk
@@ -179,6 +207,8 @@ pub fn try_capture<D: Disk, S: Steps>(
         → IfOk result (λ mark.
         GivesPart D.states (S.stripe_count steps.old) (history_of (S.recorded steps.new)) mark
         sections keeper.new) }
+
+    // The invariant goes on, in the same pass over as many stripes.
     ensures fits { (done : List Command)
         → Fits D.states D.honest (S.stripe_count steps.old) done keeper.old (S.recorded steps.old)
         → Fits D.states D.honest (S.stripe_count steps.new) done keeper.new (S.recorded steps.new) }
@@ -205,22 +235,29 @@ pub fn capture<D: Disk, R: Wait, S: Steps>(
     stripe: usize,
     steps: &mut S,
 ) -> Result<u64, Refusal>
+    // The invariant holds; no sweep is between steps, no capture under way.
     requires fits { (done : List Command)
         × Fits D.states D.honest (S.stripe_count steps.old) done keeper.old (S.recorded steps.old) }
     requires rests { is_walking keeper.old.sweeper.walking ≡ false }
     requires over { keeper.old.capture ≡ None }
+
+    // Refused: after a failure, or if the stripe isn't next; nothing changes.
     ensures failed { (result ≡ Err Refusal.Failed) ↔ (keeper.old.is_broken ≡ true) }
     ensures wrong_phase { (result ≡ Err Refusal.WrongPhase)
         ↔ ((keeper.old.is_broken ≡ false)
         × (IsNextStripe stripe keeper.old.next keeper.old.checkpoint → ⊥)) }
     ensures first { ((result ≡ Err Refusal.Failed) ⊎ (result ≡ Err Refusal.WrongPhase))
         → (steps.new ≡ steps.old) × (keeper.new ≡ keeper.old) }
+
+    // Else, after a wait, the section is given, or the stripe is put back.
     ensures ok { IfOk result (λ mark.
         GivesWaiting (S.stripe_count steps.old) (S.recorded steps.old) stripe mark keeper.old
         keeper.new (S.recorded steps.new)) }
     ensures err { IfErr result (λ refusal.
         AfterWaiting stripe keeper.old keeper.new (S.recorded steps.old) (S.recorded steps.new)
         refusal) }
+
+    // The section is the stripe's part of the map after `mark` commands.
     ensures given { (done : List Command) (sections : List Section)
         → Fits D.states D.honest (S.stripe_count steps.old) done keeper.old (S.recorded steps.old)
         → D.honest keeper.old.disk
@@ -228,6 +265,8 @@ pub fn capture<D: Disk, R: Wait, S: Steps>(
         → IfOk result (λ mark.
         GivesPart D.states (S.stripe_count steps.old) (history_of (S.recorded steps.new)) mark
         sections keeper.new) }
+
+    // The invariant goes on, in the same pass over as many stripes.
     ensures fits { (done : List Command)
         → Fits D.states D.honest (S.stripe_count steps.old) done keeper.old (S.recorded steps.old)
         → Fits D.states D.honest (S.stripe_count steps.new) done keeper.new (S.recorded steps.new) }

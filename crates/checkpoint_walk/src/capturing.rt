@@ -12,13 +12,18 @@ use ticket_order::{Captured, Stepped, Steps, Walk};
 
 // TAKE of the stripe; `None` where another holds it.
 pub(crate) fn hold<S: Steps>(alloc: Global, stripe: usize, steps: &mut S) -> Option<Walk>
+    // The pass holds no stripe, and there is this one.
     requires free { (S.recorded steps.old).holding ≡ None }
     requires within { stripe < S.stripe_count steps.old }
+
+    // One step, a TAKE: the stripe is held now, or another holds it.
     ensures one { MakesOne S.recorded S.moves (Take stripe) steps.old steps.new }
     ensures some { IfSome result (λ walk.
         HasTaken (S.stripe_count steps.old) (S.recorded steps.old) stripe walk
         (S.recorded steps.new)) }
     ensures none { IfNone result (S.recorded steps.new ≡ missing (S.recorded steps.old) stripe) }
+
+    // It is the same pass, over as many stripes.
     ensures place { S.place steps.new ≡ S.place steps.old }
     ensures stripes { S.stripe_count steps.new ≡ S.stripe_count steps.old }
 {
@@ -55,21 +60,30 @@ pub(crate) fn look<S: Steps>(walk: Walk, steps: &mut S) -> Walk
 
 // GIVE: what was copied, or the refusal for which the stripe is put back.
 pub(crate) fn hand_out<S: Steps>(walk: Walk, steps: &mut S) -> Result<Captured, Refusal>
+    // The walk of a capture has looked, and has its GIVE left.
     requires { (b : Record) × (i : ℕ)
         × HasLooked (S.stripe_count steps.old) b i walk (S.recorded steps.old) }
+
+    // One step is made, a GIVE of that stripe.
     ensures one { (b : Record) (i : ℕ)
         → HasLooked (S.stripe_count steps.old) b i walk (S.recorded steps.old)
         → MakesOne S.recorded S.moves (Give i) steps.old steps.new }
+
+    // What the walk has copied is handed out, the stripe's part at its mark.
     ensures captured { IfOk result (λ z. (captured_of_walk walk ≡ Some z)
         × (refusal_of_walk walk ≡ None)) }
     ensures ok { IfOk result (λ z. (b : Record) (i : ℕ)
         → HasLooked (S.stripe_count steps.old) b i walk (S.recorded steps.old)
         → CapturesStripe (S.stripe_count steps.old) b i z.mark z.entries.items
         (S.recorded steps.new)) }
+
+    // Or its refusal is, and the stripe is back as it was taken.
     ensures refused { IfErr result (λ refusal. refusal_of_walk walk ≡ Some refusal) }
     ensures err { IfErr result (λ refusal. (b : Record) (i : ℕ)
         → HasLooked (S.stripe_count steps.old) b i walk (S.recorded steps.old)
         → RefusesCapture b i refusal (S.recorded steps.new)) }
+
+    // It is the same pass, over as many stripes.
     ensures place { S.place steps.new ≡ S.place steps.old }
     ensures stripes { S.stripe_count steps.new ≡ S.stripe_count steps.old }
 {

@@ -20,8 +20,11 @@ use store_invariant::laws::steps_of_checkpoints;
 /// that was last published has reached the greatest of their marks. Until then it may be tried again.
 /// It makes no device call.
 pub fn seal<D: Disk>(keeper: &mut Keeper<D>) -> Result<(), Refusal>
+    // The keeper's invariant holds.
     requires { (n : ℕ) × (done : List Command) × (p : Record)
         × Fits D.states D.honest n done keeper.old p }
+
+    // Refused: after a failure, if no seal is due, with a mark unpublished.
     ensures failed { (result ≡ Err Refusal.Failed) ↔ (keeper.old.is_broken ≡ true) }
     ensures wrong_phase { (result ≡ Err Refusal.WrongPhase)
         ↔ ((keeper.old.is_broken ≡ false) × (HasAllSections keeper.old.checkpoint → ⊥)) }
@@ -30,11 +33,15 @@ pub fn seal<D: Disk>(keeper: &mut Keeper<D>) -> Result<(), Refusal>
         × IsMarkedAbove keeper.old.published keeper.old.checkpoint) }
     ensures no_other { IfErr result (λ refusal. (refusal ≡ Refusal.Failed)
         ⊎ (refusal ≡ Refusal.WrongPhase) ⊎ (refusal ≡ Refusal.TooEarly)) }
+
+    // It goes on to its header, and keeps the sections that it was given.
     ensures ok { OnOk result
         (keeper.new ≡ record keeper.old { checkpoint = sealing keeper.old.checkpoint }) }
     ensures given { (sections : List Section)
         → HasGiven keeper.old.checkpoint sections (now (D.states keeper.old.disk))
         → HasGiven keeper.new.checkpoint sections (now (D.states keeper.new.disk)) }
+
+    // A refusal changes nothing, and the invariant goes on.
     ensures err { OnErr result (keeper.new ≡ keeper.old) }
     ensures fits { (n : ℕ) (done : List Command) (p : Record)
         → Fits D.states D.honest n done keeper.old p → Fits D.states D.honest n done keeper.new p }
@@ -51,17 +58,22 @@ pub fn seal<D: Disk>(keeper: &mut Keeper<D>) -> Result<(), Refusal>
 
 // The same, where this many commands are published.
 fn seal_by(writer: &mut CheckpointWriter, published: u64) -> Result<(), Refusal>
+    // Refused: if no seal is due, or with a mark unpublished.
     ensures wrong_phase { (result ≡ Err Refusal.WrongPhase) ↔ (TakesSeal writer.old → ⊥) }
     ensures early { (result ≡ Err Refusal.TooEarly)
         ↔ (TakesSeal writer.old × (published < writer.old.greatest)) }
     ensures no_other { IfErr result (λ refusal. (refusal ≡ Refusal.WrongPhase)
         ⊎ (refusal ≡ Refusal.TooEarly)) }
+
+    // It goes on to the header, for which the file need not change.
     ensures ok { OnOk result (writer.new ≡ record writer.old { phase = CheckpointPhase.Header }) }
     ensures reached { OnOk result (writer.old.greatest ≤ published) }
     ensures stands { OnOk result
         ((old : List ℕ) (sections : List Section) (file : File)
         → checkpoint.Stands writer.old old sections file
         → checkpoint.Stands writer.new old sections file) }
+
+    // A refusal changes nothing.
     ensures err { OnErr result (writer.new ≡ writer.old) }
 {
     if writer.phase() != CheckpointPhase::Ready

@@ -70,13 +70,18 @@ pub(crate) fn give<D: Disk, S: Steps>(
     walk: Walk,
     steps: &mut S,
 ) -> Result<u64, Refusal>
+    // A section is awaited, and the walk of its capture has looked.
     requires next { (stripe : ℕ) × IsNextStripe stripe keeper.old.next keeper.old.checkpoint }
     requires looked { (b : Record) × (i : ℕ)
         × HasLooked (S.stripe_count steps.old) b i walk (S.recorded steps.old) }
     requires over { keeper.old.capture ≡ None }
+
+    // One step is made, a GIVE of that stripe.
     ensures one { (b : Record) (i : ℕ)
         → HasLooked (S.stripe_count steps.old) b i walk (S.recorded steps.old)
         → MakesOne S.recorded S.moves (Give i) steps.old steps.new }
+
+    // The section is given with its mark, or the stripe is put back.
     ensures given { IfOk result (λ mark. (b : Record) (i : ℕ)
         → HasLooked (S.stripe_count steps.old) b i walk (S.recorded steps.old)
         → GivesSection (S.stripe_count steps.old) b i mark keeper.old keeper.new
@@ -85,6 +90,8 @@ pub(crate) fn give<D: Disk, S: Steps>(
         → HasLooked (S.stripe_count steps.old) b i walk (S.recorded steps.old)
         → PutsBack b i refusal keeper.old keeper.new (S.recorded steps.new)) }
     ensures cause { IfErr result (IsCauseOf walk) }
+
+    // It is the same pass, over as many stripes.
     ensures place { S.place steps.new ≡ S.place steps.old }
     ensures stripes { S.stripe_count steps.new ≡ S.stripe_count steps.old }
 {
