@@ -18,17 +18,24 @@ const MOST_COMMANDS: u32 = 65_536;
 
 /// Makes the device call that is due in the log.
 fn advance<D: Disk>(keeper: &mut Keeper<D>) -> Result<(), Refusal>
+    // Nothing has failed, no log follows, a call is due, the invariant holds.
     requires working { keeper.old.is_broken ≡ false }
     requires alone { keeper.old.next ≡ None }
     requires due { keeper.old.log.phase ≢ Phase.Idle }
     requires kept { (n : ℕ) × (p : Record) × IsKept D.states D.honest n keeper.old p }
+
+    // The log goes on by that call, or has failed.
     ensures ok { OnOk result
         ((keeper.new.log ≡ log_after keeper.old.log.phase keeper.old.log)
         × (keeper.new.is_broken ≡ false)) }
     ensures err { OnErr result (keeper.new.log.is_broken ≡ true) }
+
+    // The invariant goes on, and still no log follows.
     ensures alone { keeper.new.next ≡ None }
     ensures kept { (n : ℕ) (p : Record) → IsKept D.states D.honest n keeper.old p
         → IsKept D.states D.honest n keeper.new p }
+
+    // The sweep's walk stays, and so does the note of a FAIL.
     ensures walking { keeper.new.sweeper.walking ≡ keeper.old.sweeper.walking }
     ensures has_failed { keeper.new.has_failed ≡ keeper.old.has_failed }
 {
@@ -38,16 +45,23 @@ fn advance<D: Disk>(keeper: &mut Keeper<D>) -> Result<(), Refusal>
 
 /// Makes the four device calls of the batch that is staged.
 fn commit_staged<D: Disk>(keeper: &mut Keeper<D>) -> Result<(), Refusal>
+    // A batch is staged, nothing has failed, and the invariant holds.
     requires staged { keeper.old.log.phase ≡ Phase.Staged }
     requires ends { keeper.old.log.ending ≡ None }
     requires working { keeper.old.is_broken ≡ false }
     requires alone { keeper.old.next ≡ None }
     requires kept { (n : ℕ) × (p : Record) × IsKept D.states D.honest n keeper.old p }
+
+    // The log rests again, or has failed.
     ensures ok { OnOk result (IsResting keeper.new.log × (keeper.new.is_broken ≡ false)) }
     ensures err { OnErr result (keeper.new.log.is_broken ≡ true) }
+
+    // The invariant goes on, and still no log follows.
     ensures alone { keeper.new.next ≡ None }
     ensures kept { (n : ℕ) (p : Record) → IsKept D.states D.honest n keeper.old p
         → IsKept D.states D.honest n keeper.new p }
+
+    // The sweep's walk stays, and so does the note of a FAIL.
     ensures walking { keeper.new.sweeper.walking ≡ keeper.old.sweeper.walking }
     ensures has_failed { keeper.new.has_failed ≡ keeper.old.has_failed }
 {
@@ -60,11 +74,16 @@ fn commit_staged<D: Disk>(keeper: &mut Keeper<D>) -> Result<(), Refusal>
 /// Commits the longest batch of what is in hand. Where there is none, or no memory is found, nothing is
 /// committed.
 fn commit_some<D: Disk>(keeper: &mut Keeper<D>) -> Result<(), Refusal>
+    // The keeper rests between two commits, and its invariant holds.
     requires idle { IsIdle keeper.old }
     requires kept { (n : ℕ) × (p : Record) × IsKept D.states D.honest n keeper.old p }
+
+    // It rests so again, or the log can take no further batch.
     ensures ok { OnOk result (IsIdle keeper.new) }
     ensures err { (n : ℕ) (p : Record) → IsKept D.states D.honest n keeper.old p
         → OnErr result (CannotCommit keeper.new.log p) }
+
+    // The invariant goes on, and the sweep's walk stays.
     ensures kept { (n : ℕ) (p : Record) → IsKept D.states D.honest n keeper.old p
         → IsKept D.states D.honest n keeper.new p }
     ensures walking { keeper.new.sweeper.walking ≡ keeper.old.sweeper.walking }
@@ -93,17 +112,24 @@ fn commit_in_time<S: Steps, D: Disk, R: Wait>(
     keeper: &mut Keeper<D>,
     position: Position,
 ) -> Result<(), Refusal>
+    // The keeper rests between two commits, and its invariant holds.
     requires idle { IsIdle keeper.old }
     requires kept { IsKept D.states D.honest (S.stripe_count steps.old) keeper.old
         (S.recorded steps.old) }
+
+    // All below the position is committed, or the log can take no more.
     ensures ok { OnOk result (IsIdle keeper.new × (position ≤ keeper.new.log.committed)) }
     ensures err { OnErr result
         (CannotCommit keeper.new.log (S.recorded steps.new)
         × (is_walking keeper.new.sweeper.walking ≡ false)) }
+
+    // The invariant goes on; calls, the published count and failure stay.
     ensures kept { IsKept D.states D.honest (S.stripe_count steps.new) keeper.new
         (S.recorded steps.new) }
     ensures quiet { IsQuiet (S.recorded steps.old) (S.recorded steps.new) }
     ensures seen { HasSeenMore (S.recorded steps.old) (S.recorded steps.new) }
+
+    // It is the same pass, over as many stripes.
     ensures place { S.place steps.new ≡ S.place steps.old }
     ensures stripes { S.stripe_count steps.new ≡ S.stripe_count steps.old }
 {
@@ -125,15 +151,22 @@ fn make_durable<S: Steps, D: Disk, R: Wait>(
     keeper: &mut Keeper<D>,
     position: Position,
 ) -> Result<(), Refusal>
+    // The keeper rests between two commits, and its invariant holds.
     requires idle { IsIdle keeper.old }
     requires kept { IsKept D.states D.honest (S.stripe_count steps.old) keeper.old
         (S.recorded steps.old) }
+
+    // All below the position was swept, is committed and is published.
     ensures ok { OnOk result
         (IsIdle keeper.new × IsCommitted position (S.recorded steps.old) (S.recorded steps.new)
         keeper.new.log) }
     ensures taken { OnOk result (AreTaken position (S.recorded steps.old) (S.recorded steps.new)) }
+
+    // Or it can't be committed, and a FAIL was made.
     ensures err { IfErr result (λ refusal. (refusal ≡ Refusal.Failed)
         × IsWithheld (S.recorded steps.old) (S.recorded steps.new) keeper.new.log) }
+
+    // The invariant goes on, in the same pass over as many stripes.
     ensures kept { IsKept D.states D.honest (S.stripe_count steps.new) keeper.new
         (S.recorded steps.new) }
     ensures place { S.place steps.new ≡ S.place steps.old }
@@ -160,13 +193,20 @@ pub(crate) fn give_out<S: Steps, D: Disk, R: Wait>(
     keeper: &mut Keeper<D>,
     held: Held,
 ) -> Result<Reply, Refusal>
+    // The keeper rests between two commits, and its invariant holds.
     requires idle { IsIdle keeper.old }
     requires kept { IsKept D.states D.honest (S.stripe_count steps.old) keeper.old
         (S.recorded steps.old) }
+
+    // The reply is given out, once its position is committed and durable.
     ensures ok { IfOk result (λ reply. (reply ≡ held.reply) × IsIdle keeper.new
         × IsGivenOut held.position (S.recorded steps.old) (S.recorded steps.new) keeper.new.log) }
+
+    // Or the position can't be committed, and a FAIL was made.
     ensures err { IfErr result (λ refusal. (refusal ≡ Refusal.Failed)
         × IsWithheld (S.recorded steps.old) (S.recorded steps.new) keeper.new.log) }
+
+    // The invariant goes on, in the same pass over as many stripes.
     ensures kept { IsKept D.states D.honest (S.stripe_count steps.new) keeper.new
         (S.recorded steps.new) }
     ensures place { S.place steps.new ≡ S.place steps.old }

@@ -66,13 +66,18 @@ impl<'a, D: Disk + Drop, R: Wait> Model for Memory<'a, D, R> {
 
 /// Makes the call of a request. A request of the whole map is refused as an unknown method.
 fn make<S: Steps>(steps: &mut S, alloc: Global, request: Request) -> Result<Held, Refusal>
+    // The pass holds no stripe.
     requires free { (S.recorded steps.old).holding ≡ None }
+
+    // The call is made, and the record grows by it; or it is refused.
     ensures ok { IfOk result (λ held.
         Makes (S.stripe_count steps.old) (S.recorded steps.old) request held.position held.reply
         (S.recorded steps.new)) }
     ensures err { IfErr result (λ refusal.
         Refuses (S.stripe_count steps.old) (S.recorded steps.old) request refusal
         (S.recorded steps.new)) }
+
+    // The pass holds no stripe again, and made no step of the keeper's.
     ensures free { (S.recorded steps.new).holding ≡ None }
     ensures beside { IsBeside (S.recorded steps.old) (S.recorded steps.new) }
     ensures place { S.place steps.new ≡ S.place steps.old }
@@ -92,6 +97,7 @@ fn begin_beside<S: Steps, D: Disk>(
     keeper: &Keeper<D>,
     request: Request,
 ) -> Result<Held, Refusal>
+    // The keeper rests between two commits, and its invariant holds.
     requires idle { IsIdle keeper.now }
     requires kept { IsKept D.states D.honest (S.stripe_count steps.old)
         keeper.now (S.recorded steps.old) }
@@ -119,6 +125,7 @@ fn end_beside<S: Steps, D: Disk, R: Wait>(
     keeper: &mut Keeper<D>,
     held: Held,
 ) -> Result<Reply, Refusal>
+    // The keeper rests between two commits, and its invariant holds.
     requires idle { IsIdle keeper.old }
     requires kept { IsKept D.states D.honest (S.stripe_count steps.old)
         keeper.old (S.recorded steps.old) }
@@ -147,13 +154,18 @@ pub fn begun_are_served()
 
 /// Makes the disk that of an empty map of 16 stripes, and opens it.
 fn open_new<D: Disk + Drop>(alloc: Global, disk: D) -> Result<(Keeper<D>, Stripes), (D, Refusal)>
+    // 16 stripes and a keeper at rest; on an honest disk the map is empty.
     ensures idle { IfOk result (λ x. IsIdle x.0) }
     ensures stripes { IfOk result (λ x. stripe_count x.1 ≡ 16) }
     ensures log { IfOk result (λ x. IsResumed x.0.log
         × (x.0.log.committed ≡ (begun_with x.1).first)) }
     ensures new { IfOk result (λ x. D.honest x.0.disk → begun_with x.1 ≡ nothing_yet) }
+
+    // The invariant begins, for a pass that made no call of the keeper.
     ensures kept { IfOk result (λ x. (p : Record) → p.opening ≡ begun_with x.1
         → IsUnused (begun_with x.1).first p → IsKept D.states D.honest 16 x.0 p) }
+
+    // No device call failed; or the refusal says why it was not opened.
     ensures failures { IfOk result (λ x. D.failures x.0.disk ≡ D.failures disk) }
     ensures err { IfErr result (λ x. D.honest x.0 → CannotOpen D.states D.failures disk x.1 x.0) }
 {
