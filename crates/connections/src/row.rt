@@ -241,6 +241,7 @@ pub(crate) fn answer_row<W: Write, C: Calls>(
     row: &mut VecDeque<Place<C::Held>>,
     out: &mut Vec<u8>,
 ) -> io::Result<bool>
+    // Nothing is left to be written, and what the row holds is of these calls.
     requires out_is_empty { out.old.items ≡ [] }
     requires owned { OwnsRow C.owns calls.old row.old.items }
 
