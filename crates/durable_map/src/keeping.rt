@@ -30,12 +30,17 @@ pub(crate) fn what_is_kept<D: Disk>(keeper: &Keeper<D>)
 
 /// Takes the entries of a stripe, unless another pass holds it or no memory is found.
 pub(crate) fn sweep<D: Disk, S: Steps>(keeper: &mut Keeper<D>, stripe: usize, steps: &mut S)
+    // The invariant holds, no walk is under way, and there is this stripe.
     requires keeps { Keeps D.states D.honest (S.stripe_count steps.old) keeper.old
         (S.recorded steps.old) }
     requires within { stripe < S.stripe_count steps.old }
+
+    // The same holds again, and a FAIL still has its cause.
     ensures keeps { Keeps D.states D.honest (S.stripe_count steps.new) keeper.new
         (S.recorded steps.new) }
     ensures cause { (is_full : Bool) → HasCause is_full keeper.old → HasCause is_full keeper.new }
+
+    // It is the same pass, over as many stripes.
     ensures place { S.place steps.new ≡ S.place steps.old }
     ensures stripes { S.stripe_count steps.new ≡ S.stripe_count steps.old }
 {

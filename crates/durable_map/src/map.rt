@@ -42,12 +42,17 @@ impl<D: Disk + Drop> DurableMap<D> {
         parts: Vec<Part>,
         first: u64,
     ) -> Result<DurableMap<D>, (D, Refusal)>
+        // The keeper has done nothing yet, and there is a part for each stripe.
         requires start { IsAtStart keeper.stripes first keeper }
         requires parts { ArePartsOf keeper.stripes.count parts.items }
         requires fits { (p : Record) → p.opening ≡ turns.opening_of first parts.items
             → IsUnused first p → Fits D.states D.honest keeper.stripes.count [] keeper p }
+
+        // The map has the keeper's stripes, and begins with these parts.
         ensures stripes { IfOk result (λ map. stripe_count map ≡ keeper.stripes.count) }
         ensures opening { IfOk result (λ map. opening_of map ≡ turns.opening_of first parts.items) }
+
+        // Refused: no memory, or no keeper's pass. The disk is handed back.
         ensures disk { IfErr result (λ x. x.0 ≡ keeper.disk) }
         ensures err { IfErr result (λ x. (x.1 ≡ Refusal.NoMemory) ⊎ (x.1 ≡ Refusal.SeatsSpent)) }
     {

@@ -21,6 +21,7 @@ impl<D: Disk + Drop> DurableMap<D> {
     /// `NoMemory` once the stripe that can't be copied is given back. `Failed` if the store has failed
     /// before the greatest mark became durable.
     pub fn view_step(&self, pass: &mut Pass, walk: ViewWalk) -> Result<Viewed, Refusal>
+        // The pass is of this map, and the view stands as its record says.
         requires own { IsPassOf self.now pass.old }
         requires fits { (b : Record) × Fits (stripe_count self.now) b walk (recorded pass.old) }
 
