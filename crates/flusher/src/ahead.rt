@@ -30,11 +30,16 @@ impl<D: Disk> Keeper<D> {
 
     // Has the newest log write the zeros, and notes whether the device call failed.
     fn write_zeros(&mut self) -> Result<(), Refusal>
+        // Nothing has failed, and an honest disk holds what the log says.
         requires stands { MayAdvance D.states D.honest self.old.log self.old.disk }
         requires works { (self.old.is_broken ≡ false) × (self.old.log.is_broken ≡ false) }
+
+        // Either nothing is done, or one call that is due writes the zeros.
         ensures ahead { ((result ≡ Ok tt) × (self.new ≡ self.old))
             ⊎ WritesAhead D.states D.failures D.honest self.old.zeros self.old.log self.new.log
             self.old.disk self.new.disk result }
+
+        // The only error is a failed call, which is noted; other fields stay.
         ensures ok { OnOk result (self.new.is_broken ≡ false) }
         ensures err { IfErr result (λ refusal. (refusal ≡ Refusal.Failed)
             × (self.new.is_broken ≡ true)) }
@@ -57,10 +62,15 @@ impl<D: Disk> Keeper<D> {
     /// that its frame doesn't lengthen the file. Where that isn't due it makes no device call. After a
     /// device failure no call is made. It takes no memory.
     pub fn write_ahead(&mut self) -> Result<(), Refusal>
+        // The keeper's invariant holds.
         requires { (n : ℕ) × (done : List Command) × (p : Record)
             × Fits D.states D.honest n done self.old p }
+
+        // After a device failure it is refused, and nothing changes.
         ensures failed { self.old.is_broken ≡ true
             → (result ≡ Err Refusal.Failed) × (self.new ≡ self.old) }
+
+        // Else one due call writes the zeros, or none; a failed one is noted.
         ensures ahead { self.old.is_broken ≡ false
             → ((result ≡ Ok tt) × (self.new ≡ self.old))
             ⊎ WritesAhead D.states D.failures D.honest self.old.zeros self.old.log self.new.log
@@ -68,9 +78,13 @@ impl<D: Disk> Keeper<D> {
         ensures works { OnOk result (self.new.is_broken ≡ false) }
         ensures err { IfErr result (λ refusal. (refusal ≡ Refusal.Failed)
             × (self.new.is_broken ≡ true)) }
+
+        // On an honest disk no stop, at any moment, loses what was committed.
         ensures any_moment { (n : ℕ) (done : List Command) (p : Record)
             → Fits D.states D.honest n done self.old p → D.honest self.old.disk
             → AtEachMoment D.states self.old.disk self.new.disk (StopsFit (history_of p) self.old) }
+
+        // The invariant goes on, and no other field changes.
         ensures fits { (n : ℕ) (done : List Command) (p : Record)
             → Fits D.states D.honest n done self.old p → Fits D.states D.honest n done self.new p }
         ensures same { self.new ≡ record self.old {

@@ -21,12 +21,15 @@ use store_layout::MOST_LOG_BYTES;
 impl<D: Disk> Keeper<D> {
     // Stages the first so many commands. Where that is refused the same entries are in hand.
     fn stage_run(&mut self, count: u32) -> Result<(), Refusal>
+        // `count` commands in hand may be the next batch, and the log rests.
         requires run { (commands : List Command) × IsRun self.old.sweeper.in_hand commands
             × (length commands ≡ count) × FitsBatch count self.old.log.committed commands
             × (is_too_long self.old.log commands → ⊥) }
         requires some { 1 ≤ count }
         requires next { self.old.sweeper.in_hand.next ≡ self.old.log.committed }
         requires resting { IsResting self.old.log }
+
+        // They are staged as one batch, for which the file need not change.
         ensures ok { OnOk result
             ((commands : List Command) → IsRun self.old.sweeper.in_hand commands
             → length commands ≡ count
@@ -36,10 +39,14 @@ impl<D: Disk> Keeper<D> {
             ((batches : List Batch) (file : File) → log.Stands self.old.log batches [] file
             → log.Stands self.new.log batches
             (batch_of self.old.log.committed self.new.staged.items ∷ []) file) }
+
+        // Refused for want of memory alone: the log, batch and entries stay.
         ensures no_other { IfErr result (λ refusal. refusal ≡ Refusal.NoMemory) }
         ensures err { OnErr result
             ((self.new.log ≡ self.old.log) × (self.new.staged ≡ self.old.staged)
             × SameEntries self.old.sweeper.in_hand self.new.sweeper.in_hand) }
+
+        // No other field changes.
         ensures same { self.new ≡ record self.old {
           log = self.new.log;
           sweeper = record self.old.sweeper { in_hand = self.new.sweeper.in_hand };
@@ -65,8 +72,11 @@ impl<D: Disk> Keeper<D> {
     /// Stages the longest run of tickets in hand, from the committed count on, that may be one batch
     /// of at most `most`, and answers its length. Where there is none, nothing is staged.
     pub fn stage_batch(&mut self, most: u32) -> Result<u32, Refusal>
+        // The keeper's invariant holds.
         requires { (n : ℕ) × (done : List Command) × (p : Record)
             × Fits D.states D.honest n done self.old p }
+
+        // Refused: it has failed, may not stage, its log is full, or no memory.
         ensures failed { (result ≡ Err Refusal.Failed) ↔ (self.old.is_broken ≡ true) }
         ensures wrong_phase { (result ≡ Err Refusal.WrongPhase)
             ↔ ((self.old.is_broken ≡ false) × (MayStage self.old.log self.old.next → ⊥)) }
@@ -76,14 +86,20 @@ impl<D: Disk> Keeper<D> {
         ensures no_other { IfErr result (λ refusal. (refusal ≡ Refusal.Failed)
             ⊎ (refusal ≡ Refusal.WrongPhase) ⊎ (refusal ≡ Refusal.LogFull)
             ⊎ (refusal ≡ Refusal.NoMemory)) }
+
+        // Else the longest run that fits a batch is staged, or nothing if none.
         ensures ok { IfOk result (λ count. (commands : List Command)
             × IsLongest most self.old.sweeper.in_hand commands × (count ≡ length commands)
             × (count ≡ 0 → self.new ≡ self.old)
             × (1 ≤ count → Stages commands self.old.log self.old.sweeper.in_hand self.new.log
             self.new.sweeper.in_hand self.new.staged.items)) }
+
+        // A refusal leaves the log, the staged batch and the entries in hand.
         ensures err { OnErr result
             ((self.new.log ≡ self.old.log) × (self.new.staged ≡ self.old.staged)
             × SameEntries self.old.sweeper.in_hand self.new.sweeper.in_hand) }
+
+        // The invariant goes on, and no other field changes.
         ensures fits { (n : ℕ) (done : List Command) (p : Record)
             → Fits D.states D.honest n done self.old p → Fits D.states D.honest n done self.new p }
         ensures same { self.new ≡ record self.old {

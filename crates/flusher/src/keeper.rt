@@ -76,17 +76,24 @@ impl<D: Disk> Keeper<D> {
         log: GateLog,
         must_close: bool,
     ) -> Keeper<D>
+        // It has what it was given; no rotation, checkpoint or capture runs.
         ensures disk { result.disk ≡ disk }
         ensures store { (result.sealed ≡ sealed) × (result.log ≡ log) × (result.next ≡ None)
             × (result.must_close ≡ must_close) }
         ensures checkpoint { (result.checkpoint ≡ None) × (result.capture ≡ None)
             × (result.stripes ≡ stripes) }
+
+        // No entry is in hand, no sweep begun, no batch staged, no zeros set.
         ensures hand { result.sweeper.in_hand ≡ record { next = log.committed; slots = [] } }
         ensures sweep { (result.sweeper.sweep ≡ None) × (result.sweeper.walking ≡ Walking.Rests) }
         ensures staged { result.staged.items ≡ [] }
         ensures zeros { result.zeros ≡ 0 }
+
+        // It hasn't failed, and all that is committed counts as published.
         ensures works { (result.is_broken ≡ false) × (result.has_failed ≡ false) }
         ensures published { result.published ≡ log.committed }
+
+        // The invariant begins, if the files were found so and the pass unused.
         ensures fits { (p : Record) → log ≡ resumed log.generation log.low log.gate log.committed
             → IsUnused log.committed p
             → (D.honest disk → IsFoundFor p sealed log must_close (now (D.states disk)))
@@ -130,17 +137,24 @@ impl<D: Disk> Keeper<D> {
 
     /// DURABLE with the committed count, which the pass has seen; no step where `fail` was called.
     pub fn publish<S: Steps>(&mut self, steps: &mut S)
+        // The invariant holds, and no sweep is between two of its steps.
         requires fits { (done : List Command)
             × Fits D.states D.honest (S.stripe_count steps.old) done self.old
             (S.recorded steps.old) }
         requires rests { is_walking self.old.sweeper.walking ≡ false }
+
+        // Before `fail` one step is made: DURABLE with the committed count.
         ensures one { self.old.has_failed ≡ false
             → MakesOne S.recorded S.moves Durable steps.old steps.new }
         ensures published { self.old.has_failed ≡ false
             → (S.recorded steps.new ≡ publishing (S.recorded steps.old) self.old.log.committed)
             × (self.new ≡ record self.old { published = self.old.log.committed }) }
+
+        // After `fail` no step is made, and nothing changes.
         ensures failed { self.old.has_failed ≡ true
             → (steps.new ≡ steps.old) × (self.new ≡ self.old) }
+
+        // The invariant goes on, in the same pass over as many stripes.
         ensures fits { (done : List Command)
             → Fits D.states D.honest (S.stripe_count steps.old) done self.old (S.recorded steps.old)
             → Fits D.states D.honest (S.stripe_count steps.new) done self.new
@@ -158,13 +172,18 @@ impl<D: Disk> Keeper<D> {
 
     /// FAIL. From now on nothing is published.
     pub fn fail<S: Steps>(&mut self, steps: &mut S)
+        // The invariant holds, and no sweep is between two of its steps.
         requires fits { (done : List Command)
             × Fits D.states D.honest (S.stripe_count steps.old) done self.old
             (S.recorded steps.old) }
         requires rests { is_walking self.old.sweeper.walking ≡ false }
+
+        // One step is made: FAIL. The keeper notes it.
         ensures one { MakesOne S.recorded S.moves Fail steps.old steps.new }
         ensures failed { (S.recorded steps.new ≡ failing (S.recorded steps.old))
             × (self.new ≡ record self.old { has_failed = true }) }
+
+        // The invariant goes on, in the same pass over as many stripes.
         ensures fits { (done : List Command)
             → Fits D.states D.honest (S.stripe_count steps.old) done self.old (S.recorded steps.old)
             → Fits D.states D.honest (S.stripe_count steps.new) done self.new

@@ -51,13 +51,20 @@ impl<D: Disk> Keeper<D> {
 
     // Makes the device call that is due in the newest log.
     fn step_newest(&mut self) -> Result<Phase, Refusal>
+        // Nothing has failed, and an honest disk holds what the log says.
         requires stands { MayAdvance D.states D.honest self.old.log self.old.disk }
         requires works { (self.old.is_broken ≡ false) × (self.old.log.is_broken ≡ false) }
+
+        // At rest no call is made.
         ensures rests { self.old.log.phase ≡ Phase.Idle
             → (result ≡ Ok Phase.Idle) × (self.new ≡ self.old) }
+
+        // Else the newest log makes the call that is due, and no other.
         ensures advances { self.old.log.phase ≢ Phase.Idle
             → Advances D.states D.failures D.honest self.old.log self.new.log self.old.disk
             self.new.disk result }
+
+        // A failed call is noted, and no other field changes.
         ensures ok { OnOk result (self.new.is_broken ≡ false) }
         ensures err { OnErr result (self.new.is_broken ≡ true) }
         ensures same { self.new ≡ record self.old {
@@ -72,21 +79,30 @@ impl<D: Disk> Keeper<D> {
 
     // Makes the device call that is due in the log, and lets the batch go that it commits.
     fn step_log(&mut self) -> Result<Phase, Refusal>
+        // Nothing has failed, an honest disk holds the log, the tickets fit.
         requires stands { MayAdvance D.states D.honest self.old.log self.old.disk }
         requires works { (self.old.is_broken ≡ false) × (self.old.log.is_broken ≡ false) }
         requires fits { self.old.sweeper.in_hand.next + length self.old.staged.items < 2 ^ 64 }
+
+        // At rest no call is made.
         ensures rests { self.old.log.phase ≡ Phase.Idle
             → (result ≡ Ok Phase.Idle) × (self.new ≡ self.old) }
+
+        // Else the due call is made; what it commits is no longer in hand.
         ensures advances { self.old.log.phase ≢ Phase.Idle
             → Advances D.states D.failures D.honest self.old.log self.new.log self.old.disk
             self.new.disk result }
         ensures hand { OnOk result
             (IsPast None self.old.log.phase self.old.sweeper self.old.staged.items self.new.sweeper
             self.new.staged.items) }
+
+        // A failed call is noted, and leaves the batch and the hand.
         ensures ok { OnOk result (self.new.is_broken ≡ false) }
         ensures err { OnErr result
             ((self.new.sweeper ≡ self.old.sweeper) × (self.new.staged ≡ self.old.staged)
             × (self.new.is_broken ≡ true)) }
+
+        // No other field changes.
         ensures same { self.new ≡ record self.old {
           disk = self.new.disk;
           log = self.new.log;
@@ -106,12 +122,17 @@ impl<D: Disk> Keeper<D> {
     // Makes the device call that is due in the end of the newest log. After the last one this log is
     // the newest.
     fn step_end(&mut self, next: GateLog) -> Result<Phase, Refusal>
+        // Nothing has failed, a call is due, and the keeper has no other log.
         requires stands { MayAdvance D.states D.honest self.old.log self.old.disk }
         requires works { (self.old.is_broken ≡ false) × (self.old.log.is_broken ≡ false) }
         requires moves { self.old.log.phase ≢ Phase.Idle }
         requires alone { self.old.next ≡ None }
+
+        // The call that is due in the newest log is made, and no other.
         ensures advances { (log : LogState) × Advances D.states D.failures D.honest self.old.log log
             self.old.disk self.new.disk result }
+
+        // The last call makes `next` the newest log; else it is to follow.
         ensures ok { OnOk result
             ((logs_of self.new ≡ ended_in self.old.log.phase self.old.log next)
             × (self.new.is_broken ≡ false)) }
@@ -120,6 +141,8 @@ impl<D: Disk> Keeper<D> {
               newest = record self.old.log { is_broken = true };
               next = Some next;
             }) × (self.new.is_broken ≡ true)) }
+
+        // No other field changes.
         ensures same { self.new ≡ record self.old {
           disk = self.new.disk;
           log = self.new.log;
@@ -159,17 +182,24 @@ impl<D: Disk> Keeper<D> {
     // Makes the device call that is due in this log, which is to follow the newest one. Once its
     // header is on the disk, the newest one is told to end.
     fn step_next(&mut self, mut next: GateLog) -> Result<Phase, Refusal>
+        // Nothing has failed, `next` has a call due, and the newest log rests.
         requires stands { MayAdvance D.states D.honest next self.old.disk }
         requires works { (self.old.is_broken ≡ false) × (next.is_broken ≡ false) }
         requires moves { next.phase ≢ Phase.Idle }
         requires resting { IsResting self.old.log }
+
+        // That call is made; after the last one the newest log is to end.
         ensures advances { (log : LogState) × (stepped : Result Phase Refusal)
             × (self.new.next ≡ Some log)
             × Advances D.states D.failures D.honest next log self.old.disk self.new.disk stepped
             × IsTold stepped next.generation self.old.log self.new.log result }
+
+        // The file of the newest log is still as that log says.
         ensures stands { (batches : List Batch) (staged : List Batch) (file : File)
             → log.Stands self.old.log batches staged file
             → log.Stands self.new.log batches staged file }
+
+        // A failed call is noted, and no other field changes.
         ensures ok { OnOk result (self.new.is_broken ≡ false) }
         ensures err { OnErr result (self.new.is_broken ≡ true) }
         ensures same { self.new ≡ record self.old {
@@ -194,12 +224,17 @@ impl<D: Disk> Keeper<D> {
     /// rotation the header of the log that follows is written, and then the newest one ends. After a
     /// device failure no call is made. It takes no memory.
     pub fn advance(&mut self) -> Result<Phase, Refusal>
+        // The keeper's invariant holds.
         requires { (n : ℕ) × (done : List Command) × (p : Record)
             × Fits D.states D.honest n done self.old p }
+
+        // After a failure it is refused; at rest no call is made. Nothing changes.
         ensures failed { self.old.is_broken ≡ true
             → (result ≡ Err Refusal.Failed) × (self.new ≡ self.old) }
         ensures rests { self.old.is_broken ≡ false → (due_of (logs_of self.old)).phase ≡ Phase.Idle
             → (result ≡ Ok Phase.Idle) × (self.new ≡ self.old) }
+
+        // Else the due call is made; a batch's last commits it, a failed one nothing.
         ensures steps { self.old.is_broken ≡ false → (due_of (logs_of self.old)).phase ≢ Phase.Idle
             → StepsLogs D.states D.failures D.honest (logs_of self.old) (logs_of self.new)
             self.old.disk self.new.disk result }
@@ -212,9 +247,13 @@ impl<D: Disk> Keeper<D> {
         ensures kept { OnErr result
             ((self.new.sweeper ≡ self.old.sweeper) × (self.new.staged ≡ self.old.staged)
             × (self.new.is_broken ≡ true)) }
+
+        // On an honest disk no stop, at any moment, loses what was committed.
         ensures any_moment { (n : ℕ) (done : List Command) (p : Record)
             → Fits D.states D.honest n done self.old p → D.honest self.old.disk
             → AtEachMoment D.states self.old.disk self.new.disk (StopsFit (history_of p) self.old) }
+
+        // The invariant goes on, and no other field changes.
         ensures fits { (n : ℕ) (done : List Command) (p : Record)
             → Fits D.states D.honest n done self.old p
             → Fits D.states D.honest n

@@ -75,18 +75,25 @@ impl Sweeper {
 
     /// Makes exactly one step: the LOOK that begins a sweep, or TAKE or GIVE of its next stripe.
     pub fn step<S: Steps>(&mut self, steps: &mut S) -> Result<Swept, Refusal>
+        // The sweep stands as the record of its pass says.
         requires { (gone : List Command)
             × Stands (S.stripe_count steps.old) self.old gone (S.recorded steps.old) }
+
+        // Exactly one step: the next of the sweep, with what that leaves.
         ensures one { MakesOne S.recorded S.moves (next_kind self.old.sweep self.old.walking)
             steps.old steps.new }
         ensures steps_on { StepsOn (S.stripe_count steps.old) self.old.sweep self.old.walking
             self.old.in_hand self.new (S.recorded steps.old) (S.recorded steps.new) result }
+
+        // The sweep stands so again; once done, it has gathered its tickets.
         ensures stands { (gone : List Command)
             → Stands (S.stripe_count steps.old) self.old gone (S.recorded steps.old)
             → Stands (S.stripe_count steps.new) self.new gone (S.recorded steps.new) }
         ensures done { (gone : List Command)
             → Stands (S.stripe_count steps.old) self.old gone (S.recorded steps.old)
             → IfOk result (IsDone self.new gone (S.recorded steps.new)) }
+
+        // It is the same pass, over as many stripes.
         ensures place { S.place steps.new ≡ S.place steps.old }
         ensures stripes { S.stripe_count steps.new ≡ S.stripe_count steps.old }
     {
@@ -101,15 +108,22 @@ impl Sweeper {
 
     /// Sweeps one stripe, and leaves the sweep that is begun where it is.
     pub fn sweep_stripe<S: Steps>(&mut self, stripe: usize, steps: &mut S) -> Result<(), Refusal>
+        // The keeper's pass holds no stripe, and there is this one.
         requires free { (S.recorded steps.old).holding ≡ None }
         requires within { stripe < S.stripe_count steps.old }
         requires keeper { (S.recorded steps.old).keeper ≡ true }
+
+        // The entries of the stripe's outbox are in hand.
         ensures ok { OnOk result
             (SweepsOnce (S.stripe_count steps.old) stripe self.old.in_hand self.new.in_hand
             (S.recorded steps.old) (S.recorded steps.new)) }
+
+        // Refused: another has it, or no memory; the same tickets are in hand.
         ensures err { IfErr result (λ refusal.
             RefusesSweep (S.recorded steps.old) stripe refusal (S.recorded steps.new)) }
         ensures kept { OnErr result (Collects self.old.in_hand [] self.new.in_hand) }
+
+        // Only the hand changes, in the same pass over as many stripes.
         ensures same { self.new ≡ record self.old { in_hand = self.new.in_hand } }
         ensures place { S.place steps.new ≡ S.place steps.old }
         ensures stripes { S.stripe_count steps.new ≡ S.stripe_count steps.old }
@@ -162,13 +176,18 @@ impl Sweeper {
     }
 
     fn take<S: Steps>(&mut self, sweep: Sweep, steps: &mut S) -> Result<Swept, Refusal>
+        // A sweep is begun, and holds no stripe.
         requires stands { (gone : List Command)
             × IsBetween (S.stripe_count steps.old) sweep self.old.in_hand gone
             (S.recorded steps.old) }
         requires sweep { self.old.sweep ≡ Some sweep }
+
+        // One step, a TAKE: the stripe is held now, or another holds it.
         ensures one { MakesOne S.recorded S.moves (Take sweep.stripe) steps.old steps.new }
         ensures after { AfterTake (S.stripe_count steps.old) sweep self.old.in_hand self.new
             (S.recorded steps.old) (S.recorded steps.new) result }
+
+        // The sweep stands as recorded, in the same pass over as many stripes.
         ensures stands { (gone : List Command)
             → IsBetween (S.stripe_count steps.old) sweep self.old.in_hand gone
             (S.recorded steps.old)
@@ -190,13 +209,18 @@ impl Sweeper {
     }
 
     fn give<S: Steps>(&mut self, sweep: Sweep, walk: Walk, steps: &mut S) -> Result<Swept, Refusal>
+        // A sweep is begun, and holds its stripe since a TAKE.
         requires stands { (gone : List Command)
             × IsHolding (S.stripe_count steps.old) sweep walk self.old.in_hand gone
             (S.recorded steps.old) }
         requires sweep { self.old.sweep ≡ Some sweep }
+
+        // One step, a GIVE: the outbox is in hand, or the stripe is put back.
         ensures one { MakesOne S.recorded S.moves (Give sweep.stripe) steps.old steps.new }
         ensures after { AfterGive (S.stripe_count steps.old) sweep walk self.old.in_hand self.new
             (S.recorded steps.old) (S.recorded steps.new) result }
+
+        // The sweep stands as recorded; once done, it has gathered its tickets.
         ensures stands { (gone : List Command)
             → IsHolding (S.stripe_count steps.old) sweep walk self.old.in_hand gone
             (S.recorded steps.old)
@@ -204,6 +228,8 @@ impl Sweeper {
         ensures done { (gone : List Command)
             → IsHolding (S.stripe_count steps.old) sweep walk self.old.in_hand gone
             (S.recorded steps.old) → IfOk result (IsDone self.new gone (S.recorded steps.new)) }
+
+        // It is the same pass, over as many stripes.
         ensures place { S.place steps.new ≡ S.place steps.old }
         ensures stripes { S.stripe_count steps.new ≡ S.stripe_count steps.old }
     {
@@ -261,14 +287,19 @@ fn with_room(in_hand: &mut InHand, walk: Walk) -> Walk
 // TAKE of a stripe for a sweep, which has then only its GIVE left and gives the stripe this vector for
 // its outbox; `None` where another holds it.
 fn hold<S: Steps>(spare: Vec<Entry>, stripe: usize, steps: &mut S) -> Option<Walk>
+    // The keeper's pass holds no stripe, and there is this one.
     requires free { (S.recorded steps.old).holding ≡ None }
     requires within { stripe < S.stripe_count steps.old }
     requires keeper { (S.recorded steps.old).keeper ≡ true }
+
+    // One step, a TAKE: the stripe is held now, or another holds it.
     ensures one { MakesOne S.recorded S.moves (Take stripe) steps.old steps.new }
     ensures some { IfSome result (λ walk.
         IsSwept (S.stripe_count steps.old) (S.recorded steps.old) stripe walk
         (S.recorded steps.new)) }
     ensures none { IfNone result (S.recorded steps.new ≡ missing (S.recorded steps.old) stripe) }
+
+    // It is the same pass, over as many stripes.
     ensures place { S.place steps.new ≡ S.place steps.old }
     ensures stripes { S.stripe_count steps.new ≡ S.stripe_count steps.old }
 {
@@ -284,11 +315,16 @@ fn hold<S: Steps>(spare: Vec<Entry>, stripe: usize, steps: &mut S) -> Option<Wal
 // GIVE of that stripe: the entries that were in its outbox, or `None` where it is put back as it was
 // taken.
 fn hand_out<S: Steps>(walk: Walk, steps: &mut S) -> Option<Vec<Entry>>
+    // The walk of a sweep holds its stripe, and has its GIVE left.
     requires { (b : Record) × (i : ℕ)
         × IsSwept (S.stripe_count steps.old) b i walk (S.recorded steps.old) }
+
+    // One step is made, a GIVE of that stripe.
     ensures one { (b : Record) (i : ℕ)
         → IsSwept (S.stripe_count steps.old) b i walk (S.recorded steps.old)
         → MakesOne S.recorded S.moves (Give i) steps.old steps.new }
+
+    // The outbox is handed out, or the stripe is put back for want of memory.
     ensures entries { IfSome result (λ entries. (entries.items ≡ entries_of_walk walk)
         × (refusal_of_walk walk ≡ None)) }
     ensures some { IfSome result (λ entries. (b : Record) (i : ℕ)
@@ -297,6 +333,8 @@ fn hand_out<S: Steps>(walk: Walk, steps: &mut S) -> Option<Vec<Entry>>
     ensures none { IfNone result
         ((b : Record) (i : ℕ) → IsSwept (S.stripe_count steps.old) b i walk (S.recorded steps.old)
         → RefusesSweep b i Refusal.NoMemory (S.recorded steps.new)) }
+
+    // It is the same pass, over as many stripes.
     ensures place { S.place steps.new ≡ S.place steps.old }
     ensures stripes { S.stripe_count steps.new ≡ S.stripe_count steps.old }
 {
