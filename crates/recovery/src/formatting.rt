@@ -35,13 +35,18 @@ fn is_formatted<D: Disk>(disk: &mut D) -> Result<bool, Refusal>
 
 // Makes the files those of a new store, with these bytes behind the gate of its checkpoint.
 fn make_store<D: Disk>(alloc: Global, disk: &mut D, bytes: &[u8]) -> Result<(), Refusal>
+    // An honest disk was so before. The only error is one failed call.
     ensures was_honest { D.honest disk.new → D.honest disk.old }
     ensures failed { IfErr result (λ refusal. refusal ≡ Refusal.Failed) }
     ensures failures { D.failures disk.new ≡ D.failures disk.old + failed_in result }
+
+    // On an honest disk without a seal any stop leaves none, or the new store.
     ensures moments { D.honest disk.new → (stripes : ℕ) → is_stripe_count stripes ≡ true
         → bytes.now ≡ checkpoint_bytes first_layout (first_checkpoint stripes)
         → IsClear (now (D.states disk.old))
         → AtEachMoment D.states disk.old disk.new (AtStops (IsNewOrUnformatted stripes)) }
+
+    // On an honest disk the store is then new, also as a stop leaves it.
     ensures ok { OnOk result
         (D.honest disk.new → (stripes : ℕ) → is_stripe_count stripes ≡ true
         → bytes.now ≡ checkpoint_bytes first_layout (first_checkpoint stripes)
@@ -59,8 +64,11 @@ fn make_store<D: Disk>(alloc: Global, disk: &mut D, bytes: &[u8]) -> Result<(), 
 /// Makes the directory that of an empty map, divided for so many stripes, if no checkpoint is sealed in
 /// it. All memory is taken before the first write.
 pub fn format<D: Disk>(alloc: Global, disk: &mut D, stripes: StripeCount) -> Result<(), Refusal>
+    // An honest disk was so before. A call failed exactly if it is `Failed`.
     ensures was_honest { D.honest disk.new → D.honest disk.old }
     ensures failures { D.failures disk.new ≡ D.failures disk.old + failed_in result }
+
+    // Refused by a failed call, or with nothing written: no memory, or a seal.
     ensures refusals { IfErr result (λ refusal. (refusal ≡ Refusal.Failed)
         ⊎ ((refusal ≡ Refusal.NoMemory) ⊎ (refusal ≡ Refusal.AlreadyFormatted))) }
     ensures formatted { IfErr result (λ refusal. refusal ≡ Refusal.AlreadyFormatted
@@ -69,8 +77,12 @@ pub fn format<D: Disk>(alloc: Global, disk: &mut D, stripes: StripeCount) -> Res
         → result ≢ Err Refusal.Failed → IsUnformatted (contents_of D.states disk.old) }
     ensures untouched { IfErr result (λ refusal. refusal ≢ Refusal.Failed
         → SyncsAndLooks D.states D.failures D.honest 2 0 disk.old disk.new) }
+
+    // On an honest disk without a seal any stop leaves none, or the new store.
     ensures moments { D.honest disk.new → AtStops IsUnformatted (now (D.states disk.old))
         → AtEachMoment D.states disk.old disk.new (AtStops (IsNewOrUnformatted stripes.count)) }
+
+    // On an honest disk it is then a new store, as read and after a stop.
     ensures ok { OnOk result
         (D.honest disk.new → AtStops (IsNew stripes.count) (now (D.states disk.new))) }
     ensures reads { OnOk result

@@ -14,11 +14,16 @@ use map_types::Refusal;
 /// The number of the file whose checkpoint is used: of those that are sealed the one with the greater
 /// generation. It reads both heads, and no more.
 pub(crate) fn newest_file<D: Disk>(disk: &mut D) -> Result<usize, Refusal>
+    // The disk is only looked at, in two calls, or at most two on an error.
     ensures looks { Looks D.states D.failures D.honest (failed_in result) disk.old disk.new }
     ensures called { OnOk result (Made D.states 2 disk.old disk.new) }
     ensures tried { OnErr result (MadeAtMost D.states 2 disk.old disk.new) }
+
+    // The file is 0 or 1; on an honest disk its checkpoint is the one used.
     ensures file { IfOk result (λ file. file < 2) }
     ensures ok { D.honest disk.new → IfOk result (IsUsed (contents_of D.states disk.old)) }
+
+    // Refused by a failed call, or for what is wrong with the heads.
     ensures err { IfErr result (λ refusal. (refusal ≡ Refusal.Failed)
         ⊎ (D.honest disk.new → heads_fault (contents_of D.states disk.old) ≡ Some refusal)) }
 {

@@ -36,16 +36,21 @@ fn read_log<D: Disk>(
     low: u64,
     restoring: &mut Restoring,
 ) -> Result<(End, GateLog), Refusal>
+    // The disk is only looked at: the file's length, and then its pieces.
     ensures looks { Looks D.states D.failures D.honest (failed_in result) disk.old disk.new }
     ensures called { IfOk result (λ x. Made D.states (log_calls (end_gate x.0 x.1.gate)) disk.old
         disk.new) }
     ensures tried { D.honest disk.new → (last : ℕ)
         → EndsAt generation low (log_bytes D.states disk.old generation) last
         → OnErr result (MadeAtMost D.states (log_calls last) disk.old disk.new) }
+
+    // On an honest disk its changes are made, and the log goes on behind them.
     ensures same { IsSameFrame restoring.old restoring.new }
     ensures resumed { IfOk result (λ x. IsResumed x.1) }
     ensures ok { D.honest disk.new → IfOk result (λ x. IsLogRead generation low
         (log_bytes D.states disk.old generation) restoring.old x.0 x.1 restoring.new) }
+
+    // On an honest disk, refused by a call, for memory, or for a damaged log.
     ensures err { D.honest disk.new → IfErr result (λ refusal. RefusesFor
         (IsBadLog generation low (log_bytes D.states disk.old generation) refusal) refusal) }
 {
@@ -64,6 +69,7 @@ pub(crate) fn read_logs<D: Disk>(
     low: u64,
     restoring: &mut Restoring,
 ) -> Result<GateLog, Refusal>
+    // The disk is only looked at: for each log its length, then its pieces.
     ensures looks { Looks D.states D.failures D.honest (failed_in result) disk.old disk.new }
     ensures called { D.honest disk.new → (stripes : ℕ) (sections : List Section)
         (first : List Batch) (second : Option (List Batch))
@@ -80,12 +86,16 @@ pub(crate) fn read_logs<D: Disk>(
         (MadeAtMost D.states
         (logs_calls (checkpoint_with generation low stripes sections) first second) disk.old
         disk.new) }
+
+    // On an honest disk the changes are made, and the newest log goes on.
     ensures same { IsSameFrame restoring.old restoring.new }
     ensures resumed { IfOk result IsResumed }
     ensures ok { D.honest disk.new → (stripes : ℕ) (sections : List Section)
         → IfOk result
         (AreReplayed (contents_of D.states disk.old)
         (checkpoint_with generation low stripes sections) restoring.old restoring.new) }
+
+    // On an honest disk, refused by a call, for memory, or for damaged logs.
     ensures err { D.honest disk.new → (stripes : ℕ) (sections : List Section)
         → IfErr result (λ refusal.
         RefusesFor

@@ -64,13 +64,18 @@ fn sync<D: Disk>(disk: &mut D) -> Result<(), Refusal>
 
 /// Closes the gate of file 0, where it reads open or there is none, and syncs the file.
 pub(crate) fn close_gate<D: Disk>(disk: &mut D) -> Result<(), Refusal>
+    // An honest disk was so before. The only error is one failed call.
     ensures was_honest { D.honest disk.new → D.honest disk.old }
     ensures failed { IfErr result (λ refusal. refusal ≡ Refusal.Failed) }
     ensures failures { D.failures disk.new ≡ D.failures disk.old + failed_in result }
+
+    // On an honest disk no stop leaves a seal where none was; other files stay.
     ensures moments { D.honest disk.new → (content : List ℕ)
         → now (D.states disk.old) 0 ≡ at_rest content → is_sealed content ≡ false
         → AtEachMoment D.states disk.old disk.new
         (OneFile 0 (λ left. is_sealed left ≡ false) (now (D.states disk.old))) }
+
+    // On an honest disk the gate is closed, the only byte of an empty file.
     ensures ok { OnOk result (D.honest disk.new → IsShut [] [] (now (D.states disk.new) 0)) }
     ensures left { OnOk result
         (D.honest disk.new → now (D.states disk.old) 0 ≡ at_rest []
@@ -85,11 +90,16 @@ pub(crate) fn close_gate<D: Disk>(disk: &mut D) -> Result<(), Refusal>
 
 /// Writes the header of the first log and a closed gate, and syncs them.
 pub(crate) fn begin_log<D: Disk>(alloc: Global, disk: &mut D) -> Result<(), Refusal>
+    // An honest disk was so before. The only error is one failed call.
     ensures was_honest { D.honest disk.new → D.honest disk.old }
     ensures failed { IfErr result (λ refusal. refusal ≡ Refusal.Failed) }
     ensures failures { D.failures disk.new ≡ D.failures disk.old + failed_in result }
+
+    // At every moment the other files are as they were.
     ensures others { AtEachMoment D.states disk.old disk.new (λ files. (n : ℕ) → n ≢ 2
         → files n ≡ now (D.states disk.old) n) }
+
+    // A stop leaves a log without batches; an empty file becomes just that.
     ensures ok { OnOk result
         ((content : List ℕ) → MayLeave (now (D.states disk.new) 2) content
         → IsClosed first_layout 0 0 [] content) }
@@ -105,13 +115,20 @@ pub(crate) fn begin_log<D: Disk>(alloc: Global, disk: &mut D) -> Result<(), Refu
 
 /// Writes the bytes behind the closed gate of file 0, syncs them, opens the gate and syncs that.
 pub(crate) fn seal<D: Disk>(disk: &mut D, bytes: &[u8]) -> Result<(), Refusal>
+    // On an honest disk the file has a gate.
     requires { D.honest disk.old → 1 ≤ length (now (D.states disk.old) 0).seen }
+
+    // An honest disk was so before. The only error is one failed call.
     ensures was_honest { D.honest disk.new → D.honest disk.old }
     ensures failed { IfErr result (λ refusal. refusal ≡ Refusal.Failed) }
     ensures failures { D.failures disk.new ≡ D.failures disk.old + failed_in result }
+
+    // From a closed gate a stop leaves it unsealed, or sealed with the bytes.
     ensures moments { IsShut [] [] (now (D.states disk.old) 0)
         → AtEachMoment D.states disk.old disk.new
         (OneFile 0 (IsSealedWith bytes.now) (now (D.states disk.old))) }
+
+    // Then a stop leaves it sealed, with these bytes behind the open gate.
     ensures ok { OnOk result
         (IsShut [] [] (now (D.states disk.old) 0) → (content : List ℕ)
         → MayLeave (now (D.states disk.new) 0) content

@@ -52,7 +52,10 @@ fn restore_from<D: Disk>(
     stripes: StripeCount,
     loaded: LoadedCheckpoint,
 ) -> Result<Restored, Refusal>
+    // The sections of the checkpoint were read, in order.
     requires { AreLoaded loaded.stripes.count loaded.sections.items }
+
+    // The disk is only looked at: for each log its length, then its pieces.
     ensures looks { Looks D.states D.failures D.honest (failed_in result) disk.old disk.new }
     ensures called { D.honest disk.new → (first : List Batch) (second : Option (List Batch))
         → AreLogs (contents_of D.states disk.old) (checkpoint_of loaded) first second
@@ -62,11 +65,15 @@ fn restore_from<D: Disk>(
         → AreLogs (contents_of D.states disk.old) (checkpoint_of loaded) first second
         → OnErr result
         (MadeAtMost D.states (logs_calls (checkpoint_of loaded) first second) disk.old disk.new) }
+
+    // On an honest disk the parts are of the map, and the newest log goes on.
     ensures resumed { IfOk result (λ found. IsResumed found.log) }
     ensures parts { IfOk result (λ found. ArePartsOf stripes.count found.parts.items) }
     ensures ok { D.honest disk.new → AreRising loaded.sections.items
         → IfOk result
         (IsRestored (contents_of D.states disk.old) (checkpoint_of loaded) stripes.count) }
+
+    // On an honest disk, refused by a call, for memory, or for damaged logs.
     ensures err { D.honest disk.new → IfErr result (λ refusal. RefusesFor
         (AreBadLogs (contents_of D.states disk.old) (checkpoint_of loaded) refusal) refusal) }
 {
@@ -87,6 +94,7 @@ fn restore_from<D: Disk>(
 // Restores the map that the files stand for, divided for so many stripes, and looks at the files
 // alone.
 fn restore<D: Disk>(alloc: Global, disk: &mut D, stripes: StripeCount) -> Result<Restored, Refusal>
+    // The disk is only looked at: `files_calls` times, at most if refused.
     ensures looks { Looks D.states D.failures D.honest (failed_in result) disk.old disk.new }
     ensures called { D.honest disk.new → (found : Opened)
         → Holds (contents_of D.states disk.old) found
@@ -94,10 +102,14 @@ fn restore<D: Disk>(alloc: Global, disk: &mut D, stripes: StripeCount) -> Result
     ensures tried { D.honest disk.new → (found : Opened)
         → Holds (contents_of D.states disk.old) found
         → OnErr result (MadeAtMost D.states (files_calls found) disk.old disk.new) }
+
+    // On an honest disk the parts are of its files' map; the log goes on.
     ensures resumed { IfOk result (λ found. IsResumed found.log) }
     ensures parts { IfOk result (λ found. ArePartsOf stripes.count found.parts.items) }
     ensures ok { D.honest disk.new
         → IfOk result (IsOpened (contents_of D.states disk.old) stripes.count) }
+
+    // On an honest disk, refused by a call, memory, or what its files hold.
     ensures err { D.honest disk.new → IfErr result (λ refusal. RefusesFor
         (Refuses (contents_of D.states disk.old) refusal) refusal) }
 {
@@ -115,6 +127,7 @@ fn read_files<D: Disk>(
     disk: &mut D,
     stripes: StripeCount,
 ) -> Result<(Restored, bool), Refusal>
+    // The disk is only looked at: `reading_calls` times, at most if refused.
     ensures looks { Looks D.states D.failures D.honest (failed_in result) disk.old disk.new }
     ensures called { D.honest disk.new → (found : Opened)
         → Holds (contents_of D.states disk.old) found
@@ -122,12 +135,16 @@ fn read_files<D: Disk>(
     ensures tried { D.honest disk.new → (found : Opened)
         → Holds (contents_of D.states disk.old) found
         → OnErr result (MadeAtMost D.states (reading_calls found) disk.old disk.new) }
+
+    // On an honest disk: the parts of its map, and if a gate is to be closed.
     ensures resumed { IfOk result (λ x. IsResumed x.0.log) }
     ensures parts { IfOk result (λ x. ArePartsOf stripes.count x.0.parts.items) }
     ensures ok { D.honest disk.new → IfOk result (λ x. IsOpened (contents_of D.states disk.old)
         stripes.count x.0) }
     ensures gate { D.honest disk.new → IfOk result (λ x. x.1 ≡ is_to_close
         (contents_of D.states disk.old (checkpoint_file (x.0.sealed + 1)))) }
+
+    // On an honest disk, refused by a call, memory, or what its files hold.
     ensures err { D.honest disk.new → IfErr result (λ refusal. RefusesFor
         (Refuses (contents_of D.states disk.old) refusal) refusal) }
 {
@@ -142,6 +159,7 @@ fn open_files<D: Disk>(
     disk: &mut D,
     stripes: StripeCount,
 ) -> Result<(Restored, bool), Refusal>
+    // Four syncs, then looks: `opening_calls` in all, at most that if refused.
     ensures calls { OnOk result (SyncsAndLooks D.states D.failures D.honest 4 0 disk.old disk.new) }
     ensures stopped { IfErr result (Stopped D.states D.failures D.honest 4 disk.old disk.new) }
     ensures made { D.honest disk.new → (found : Opened)
@@ -150,13 +168,19 @@ fn open_files<D: Disk>(
     ensures tried { D.honest disk.new → (found : Opened)
         → Holds (contents_of D.states disk.old) found
         → OnErr result (MadeAtMost D.states (opening_calls found) disk.old disk.new) }
+
+    // An honest disk was so before.
     ensures was_honest { D.honest disk.new → D.honest disk.old }
+
+    // On an honest disk: the parts of its map, and if a gate is to be closed.
     ensures resumed { IfOk result (λ x. IsResumed x.0.log) }
     ensures parts { IfOk result (λ x. ArePartsOf stripes.count x.0.parts.items) }
     ensures ok { D.honest disk.new → IfOk result (λ x. IsOpened (contents_of D.states disk.old)
         stripes.count x.0) }
     ensures gate { D.honest disk.new → IfOk result (λ x. x.1 ≡ is_to_close
         (contents_of D.states disk.old (checkpoint_file (x.0.sealed + 1)))) }
+
+    // On an honest disk, refused by a call, memory, or what its files hold.
     ensures err { D.honest disk.new → IfErr result (λ refusal. RefusesFor
         (Refuses (contents_of D.states disk.old) refusal) refusal) }
 {
@@ -173,6 +197,7 @@ pub fn open_parts<D: Disk>(
     mut disk: D,
     stripes: StripeCount,
 ) -> Result<(Keeper<D>, Vec<Part>, u64), (D, Refusal)>
+    // Four syncs, then looks: `opening_calls` in all, at most that if refused.
     ensures calls { IfOk result (λ x. SyncsAndLooks D.states D.failures D.honest 4 0 disk
         x.0.disk) }
     ensures stopped { IfErr result (λ x. Stopped D.states D.failures D.honest 4 disk x.0 x.1) }
@@ -182,15 +207,23 @@ pub fn open_parts<D: Disk>(
     ensures tried { IfErr result (λ x. D.honest x.0 → (found : Opened)
         → Holds (contents_of D.states disk) found
         → MadeAtMost D.states (opening_calls found) disk x.0) }
+
+    // The keeper has done nothing yet, and writes no zeros ahead.
     ensures start { IfOk result (λ x. IsAtStart stripes x.2 x.0) }
     ensures ahead { IfOk result (λ x. x.0.zeros ≡ 0) }
+
+    // On an honest disk the files give the parts, or the reason of a refusal.
     ensures parts { IfOk result (λ x. ArePartsOf stripes.count x.1.items) }
     ensures ok { IfOk result (λ x. D.honest x.0.disk
         → D.honest disk × IsOpenedAs (contents_of D.states disk) stripes.count x.0 x.1.items x.2) }
     ensures err { IfErr result (λ x. D.honest x.0
         → D.honest disk × RefusesFor (Refuses (contents_of D.states disk) x.1) x.1) }
+
+    // A stop now leaves exactly the files as they were read.
     ensures stops { IfOk result (λ x. LeavesOnly (now (D.states x.0.disk))
         (contents_of D.states disk)) }
+
+    // The invariant begins, for a pass that made no call of the keeper.
     ensures fits { IfOk result (λ x. (p : Record) → p.opening ≡ opening_of x.2 x.1.items
         → IsUnused x.2 p → Fits D.states D.honest stripes.count [] x.0 p) }
 {
@@ -213,6 +246,7 @@ pub fn open<D: Disk>(
     disk: D,
     stripes: StripeCount,
 ) -> Result<(Keeper<D>, Stripes), (D, Refusal)>
+    // Four syncs, then looks: `opening_calls` in all, at most that if refused.
     ensures calls { IfOk result (λ x. SyncsAndLooks D.states D.failures D.honest 4 0 disk
         x.0.disk) }
     ensures stopped { IfErr result (λ x. Stopped D.states D.failures D.honest 4 disk x.0 x.1) }
@@ -222,16 +256,24 @@ pub fn open<D: Disk>(
     ensures tried { IfErr result (λ x. D.honest x.0 → (found : Opened)
         → Holds (contents_of D.states disk) found
         → MadeAtMost D.states (opening_calls found) disk x.0) }
+
+    // The keeper has done nothing yet, and writes no zeros ahead.
     ensures start { IfOk result (λ x. IsAtStart stripes (begun_with x.1).first x.0) }
     ensures ahead { IfOk result (λ x. x.0.zeros ≡ 0) }
+
+    // On an honest disk the files give the map, or the reason of a refusal.
     ensures stripes { IfOk result (λ x. stripe_count x.1 ≡ stripes.count) }
     ensures ok { IfOk result (λ x. D.honest x.0.disk
         → D.honest disk × StandsFor (contents_of D.states disk) (begun_with x.1).first
         (begun_with x.1).map) }
     ensures err { IfErr result (λ x. D.honest x.0
         → D.honest disk × RefusesFor (Refuses (contents_of D.states disk) x.1) x.1) }
+
+    // A stop now leaves exactly the files as they were read.
     ensures stops { IfOk result (λ x. LeavesOnly (now (D.states x.0.disk))
         (contents_of D.states disk)) }
+
+    // The invariant begins, for a pass that made no call of the keeper.
     ensures fits { IfOk result (λ x. (p : Record) → p.opening ≡ begun_with x.1
         → IsUnused (begun_with x.1).first p → Fits D.states D.honest stripes.count [] x.0 p) }
 {

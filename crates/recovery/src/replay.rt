@@ -43,8 +43,11 @@ pub(crate) fn replay<D: Disk>(
     scan: &mut Scan,
     restoring: &mut Restoring,
 ) -> Result<End, Refusal>
+    // The scan is of this log, and has read as far as its next gate.
     requires generation { scan.old.generation ≡ generation }
     requires reached { pieces_in (scan.old.gate + 1) ≤ pieces_in (end_of scan.old.reader) }
+
+    // The disk is only looked at, in one call for each piece that is read.
     ensures looks { Looks D.states D.failures D.honest (failed_in result) disk.old disk.new }
     ensures called { OnOk result
         (ReadsPieces D.states disk.old disk.new scan.old.reader scan.new.reader) }
@@ -56,12 +59,16 @@ pub(crate) fn replay<D: Disk>(
         (max (end_of scan.old.reader) (last + 1))) }
     ensures pieces { IfOk result (λ end. pieces_in (end_of scan.new.reader)
         ≡ max (pieces_in (end_of scan.old.reader)) (pieces_in (end_gate end scan.new.gate + 1))) }
+
+    // On an honest disk all changes that no section has are made, to the end.
     ensures same { IsSameFrame restoring.old restoring.new }
     ensures ok { D.honest disk.new → (low : ℕ)
         → HasRead first_layout low [] scan.old (log_bytes D.states disk.old generation)
         → IfOk result (λ end.
         IsReplayed generation low (log_bytes D.states disk.old generation) restoring.old end
         scan.new restoring.new) }
+
+    // Refused by a call, for memory, or for a frame that may not stand there.
     ensures err { IfErr result (λ refusal.
         RefusesFor
         (D.honest disk.new → (low : ℕ)

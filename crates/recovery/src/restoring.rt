@@ -56,13 +56,18 @@ impl Restoring {
         stripes: StripeCount,
         loaded: LoadedCheckpoint,
     ) -> Result<Restoring, Refusal>
+        // The sections of the checkpoint were read, in order.
         requires { AreLoaded loaded.stripes.count loaded.sections.items }
+
+        // The map of the sections, divided anew, beside their stripes and marks.
         ensures map { IfOk result (λ restoring.
             HasMap restoring (finite.from_entries (entries_in loaded.sections.items))) }
         ensures stripes { IfOk result (λ restoring. restoring.divided.stripes ≡ stripes) }
         ensures of { IfOk result (λ restoring. restoring.of ≡ loaded.stripes) }
         ensures marks { IfOk result (λ restoring.
             restoring.marks.items ≡ marks_in loaded.sections.items) }
+
+        // Refused for want of memory alone.
         ensures err { IfErr result (λ refusal. refusal ≡ Refusal.NoMemory) }
     {
         let marks = marks_of(alloc, &loaded.sections)?;
