@@ -52,12 +52,19 @@ pub fn laws_of_captures<D: Disk>()
 /// What the world says of the keeper's walk, of its pass, of the device calls that are due, and of how
 /// much is staged.
 pub fn laws_of_telling<D: Disk>()
+    // The world says if the keeper walks, and which stripe it holds.
     ensures walk { WalkIsTold D.states }
     ensures stripe { StripeIsTold D.states D.honest }
+
+    // It says what is durable, and whether a FAIL was made.
     ensures counts { CountsAreTold D.states D.honest }
+
+    // It says for which side a device call is due, and how much is staged.
     ensures log { LogCallIsTold D.states D.honest }
     ensures checkpoint { CheckpointCallIsTold D.states }
     ensures staged { StagedIsTold D.states D.honest }
+
+    // It says which file that call is of, and which call it is.
     ensures files { FilesAreTold D.states D.honest }
     ensures calls { CallsAreTold D.states D.honest }
 {}
