@@ -5,10 +5,15 @@ use store_layout::laws::{laws_of_new_stores, laws_of_opening};
 
 /// The store is opened, a change is made, swept and staged.
 pub fn one_change()
+    // The opening takes 12 calls, fails only within them, and alone is a run.
     ensures opened { NewStoreOpens }
     ensures fails { FailsAmongThem }
     ensures run { OpeningIsRun }
+
+    // While the stripe is held, another worker's change is refused.
     ensures refused { OtherIsRefused }
+
+    // The entry is staged once it is swept, and not before.
     ensures not_yet { NotYetInHand }
     ensures staged { ChangeIsStaged }
 {
@@ -19,9 +24,14 @@ pub fn one_change()
 /// Its frame is written and its reply released; or the machine stops before that; or nothing is written,
 /// and it isn't committed.
 pub fn one_commit()
+    // Its frame is written, its reply is released, and all of it is a run.
     ensures released { ChangeIsReleased }
     ensures run { ScheduleIsRun }
+
+    // Syncs of another file in place of the writes make no run.
     ensures unwritten { UnwrittenIsNoRun }
+
+    // After a stop the change stands if the gate is open, else it is gone.
     ensures before { StoppedBefore }
     ensures within_open { StoppedOpen }
     ensures within_shut { StoppedShut }

@@ -48,11 +48,16 @@ pub fn steps_of_a_life()
 
 /// What it keeps at the beginning and between lives, up to the opening of the next; and what that finds.
 pub fn steps_between_lives()
+    // What the loop keeps holds at the beginning.
     ensures start { SoundAtStart }
+
+    // Between lives each event keeps it, up to the next opening.
     ensures stops { StopsOutside }
     ensures quiet { QuietOutside }
     ensures opens { OpensOutside }
     ensures goes_on { NextLifeBegins }
+
+    // An opening finds a front of the history, unless memory or a call fails.
     ensures front { FrontIsFound }
     ensures well { StandingFilesOpen }
 {
