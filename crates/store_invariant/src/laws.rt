@@ -10,11 +10,16 @@ use store_layout::laws::{
 /// Whatever a stop leaves of a store, now and at each moment of a step, stands for a front of its history
 /// that has the committed commands, and no more than the staged ones besides.
 pub fn stops_of_a_store()
+    // A stop at rest, or at any moment of a step, loses nothing committed.
     ensures rests { StoresStop }
     ensures log { LogStepsStop }
     ensures next { NextStepsStop }
     ensures writer { WriterStepsStop }
+
+    // While no seal is under way, a stop uses the sealed checkpoint.
     ensures checkpoint { StopsUseCheckpoint }
+
+    // The committed count is that of what the files hold.
     ensures committed { CommittedAreFound }
 {
     stops_of_a_log();
@@ -37,11 +42,18 @@ pub fn beginnings_of_stores()
 
 /// A store after a step of its logs.
 pub fn steps_of_logs()
+    // A batch is staged.
     ensures staged { BatchIsStaged }
+
+    // The newest log makes a step, or its file changes as it may.
     ensures log { LogStepsOn }
     ensures stays { LogStays }
+
+    // A rotation: the header of the log that follows is written and synced.
     ensures next { NextStepsOn }
     ensures ready { NextIsReady }
+
+    // Then the newest log ends, and the one that follows takes its place.
     ensures end { EndStepsOn }
     ensures ends { LogEnds }
 {
@@ -52,9 +64,14 @@ pub fn steps_of_logs()
 
 /// A store after a step of its checkpoint.
 pub fn steps_of_checkpoints()
+    // A checkpoint begins, with the newest log or with a new one.
     ensures begins { CheckpointBegins }
     ensures rotates { RotationBegins }
+
+    // It is given one more section.
     ensures section { SectionIsGiven }
+
+    // It goes on to its seal, makes a step, and is sealed by the last one.
     ensures seals { SealBegins }
     ensures steps { WriterStepsOn }
     ensures sealed { CheckpointIsSealed }
