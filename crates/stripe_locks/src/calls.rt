@@ -33,15 +33,22 @@ impl Stripes {
     /// Makes a change, unless another pass holds the stripe of its key: TAKE, ALIVE, LOOK, TICKET,
     /// GIVE.
     pub fn try_call(&self, pass: &mut Pass, command: Command) -> Result<Held, Refusal>
+        // The pass is of these stripes, and holds none.
         requires own { IsPassOf self.now pass.old }
         requires empty_handed { (recorded pass.old).holding ≡ None }
+
+        // The record grows by this call alone, whose reply is held.
         ensures made { IfOk result (λ held.
             MakesCall (stripe_count self.now) (recorded pass.old) command (position_of held)
             (reply_of held) (recorded pass.new)) }
         ensures held { IfOk result (IsHeldOf self.now) }
+
+        // Or it is refused, perhaps as busy, and no call is added.
         ensures refused { IfErr result (λ refusal.
             RefusesChange (recorded pass.old) (stripe_of (stripe_count self.now) command.key)
             refusal (recorded pass.new)) }
+
+        // It is the same pass, and holds no stripe again.
         ensures empty_handed { (recorded pass.new).holding ≡ None }
         ensures same { IsSamePass pass.old pass.new }
     {
@@ -56,15 +63,22 @@ impl Stripes {
 
     /// Makes a read, unless another pass holds the stripe of its key: TAKE, ALIVE, LOOK, GIVE.
     pub fn try_read(&self, pass: &mut Pass, read: Read) -> Result<Held, Refusal>
+        // The pass is of these stripes, and holds none.
         requires own { IsPassOf self.now pass.old }
         requires empty_handed { (recorded pass.old).holding ≡ None }
+
+        // The record grows by this call alone, whose reply is held.
         ensures made { IfOk result (λ held.
             MakesRead (stripe_count self.now) (recorded pass.old) read (position_of held)
             (reply_of held) (recorded pass.new)) }
         ensures held { IfOk result (IsHeldOf self.now) }
+
+        // Or it is refused, perhaps as busy, and no call is added.
         ensures refused { IfErr result (λ refusal.
             RefusesRead (recorded pass.old) (stripe_of (stripe_count self.now) read.key) refusal
             (recorded pass.new)) }
+
+        // It is the same pass, and holds no stripe again.
         ensures empty_handed { (recorded pass.new).holding ≡ None }
         ensures same { IsSamePass pass.old pass.new }
     {

@@ -71,10 +71,13 @@ impl Stripes {
         spread: u32,
         content: Stripe,
     ) -> Result<Held, Refusal>
+        // The pass has taken the stripe of the key, with this content.
         requires own { IsPassOf self.now pass.old }
         requires spread { spread ≡ spread_of (hash_of command.key) }
         requires found { (b : Record) × HasFound b (stripe_of (stripe_count self.now) command.key)
             content (recorded pass.old) }
+
+        // The record grows by this call; or it is refused, but not as busy.
         ensures made { (b : Record) → HasFound b (stripe_of (stripe_count self.now) command.key)
             content (recorded pass.old)
             → IfOk result (λ held.
@@ -87,6 +90,8 @@ impl Stripes {
             (recorded pass.new)) }
         ensures held { IfOk result (IsHeldOf self.now) }
         ensures not_busy { IfErr result IsNotBusy }
+
+        // It is the same pass.
         ensures same { IsSamePass pass.old pass.new }
     {
         let mut board = Board {
@@ -105,10 +110,13 @@ impl Stripes {
         spread: u32,
         content: Stripe,
     ) -> Result<Held, Refusal>
+        // The pass has taken the stripe of the key, with this content.
         requires own { IsPassOf self.now pass.old }
         requires spread { spread ≡ spread_of (hash_of read.key) }
         requires found { (b : Record) × HasFound b (stripe_of (stripe_count self.now) read.key)
             content (recorded pass.old) }
+
+        // The record grows by this call; or it is refused, but not as busy.
         ensures made { (b : Record) → HasFound b (stripe_of (stripe_count self.now) read.key)
             content (recorded pass.old)
             → IfOk result (λ held.
@@ -121,6 +129,8 @@ impl Stripes {
             (recorded pass.new)) }
         ensures held { IfOk result (IsHeldOf self.now) }
         ensures not_busy { IfErr result IsNotBusy }
+
+        // It is the same pass.
         ensures same { IsSamePass pass.old pass.new }
     {
         let mut board = Board {
@@ -135,15 +145,22 @@ impl Stripes {
     /// Makes a change, once the stripe of its key is free: TAKE as often as it takes, ALIVE, LOOK,
     /// TICKET, GIVE. A thread that waits sleeps after some tries.
     pub fn call<R: Wait>(&self, rt: &R, pass: &mut Pass, command: Command) -> Result<Held, Refusal>
+        // The pass is of these stripes, and holds none.
         requires own { IsPassOf self.now pass.old }
         requires empty_handed { (recorded pass.old).holding ≡ None }
+
+        // After a wait the record grows by this call, whose reply is held.
         ensures made { IfOk result (λ held.
             MakesCallInTime (stripe_count self.now) (recorded pass.old) command (position_of held)
             (reply_of held) (recorded pass.new)) }
         ensures held { IfOk result (IsHeldOf self.now) }
+
+        // Or it is refused after a wait, but not as busy.
         ensures refused { IfErr result (λ refusal.
             RefusesChangeInTime (recorded pass.old) (stripe_of (stripe_count self.now) command.key)
             refusal (recorded pass.new)) }
+
+        // It is the same pass, and holds no stripe again.
         ensures empty_handed { (recorded pass.new).holding ≡ None }
         ensures same { IsSamePass pass.old pass.new }
     {
@@ -155,15 +172,22 @@ impl Stripes {
 
     /// Makes a read, once the stripe of its key is free: TAKE as often as it takes, ALIVE, LOOK, GIVE.
     pub fn read<R: Wait>(&self, rt: &R, pass: &mut Pass, read: Read) -> Result<Held, Refusal>
+        // The pass is of these stripes, and holds none.
         requires own { IsPassOf self.now pass.old }
         requires empty_handed { (recorded pass.old).holding ≡ None }
+
+        // After a wait the record grows by this call, whose reply is held.
         ensures made { IfOk result (λ held.
             MakesReadInTime (stripe_count self.now) (recorded pass.old) read (position_of held)
             (reply_of held) (recorded pass.new)) }
         ensures held { IfOk result (IsHeldOf self.now) }
+
+        // Or it is refused after a wait, but not as busy.
         ensures refused { IfErr result (λ refusal.
             RefusesReadInTime (recorded pass.old) (stripe_of (stripe_count self.now) read.key)
             refusal (recorded pass.new)) }
+
+        // It is the same pass, and holds no stripe again.
         ensures empty_handed { (recorded pass.new).holding ≡ None }
         ensures same { IsSamePass pass.old pass.new }
     {
