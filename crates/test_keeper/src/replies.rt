@@ -51,9 +51,12 @@ fn hold_once(
     command: &Command,
     all: &mut Vec<Held>,
 ) -> Result<(), Refusal>
+    // The worker holds no stripe, and the replies are of these stripes.
     requires own { IsPassOf stripes.now worker.old }
     requires free { (recorded worker.old).holding ≡ None }
     requires all { All (IsHeldOf stripes.now) all.old.items }
+
+    // The same holds again.
     ensures own { IsPassOf stripes.now worker.new }
     ensures all { All (IsHeldOf stripes.now) all.new.items }
     ensures free { (recorded worker.new).holding ≡ None }
@@ -71,9 +74,12 @@ fn make_times(
     times: u64,
     all: &mut Vec<Held>,
 ) -> Result<(), Refusal>
+    // The worker holds no stripe, and the replies are of these stripes.
     requires own { IsPassOf stripes.now worker.old }
     requires free { (recorded worker.old).holding ≡ None }
     requires all { All (IsHeldOf stripes.now) all.old.items }
+
+    // The same holds again.
     ensures own { IsPassOf stripes.now worker.new }
     ensures all { All (IsHeldOf stripes.now) all.new.items }
     ensures free { (recorded worker.new).holding ≡ None }
@@ -266,11 +272,14 @@ fn make_ten<D: Disk, R: Wait, S: Steps>(
     command: &Command,
     all: &mut Vec<Held>,
 ) -> Result<(), Refusal>
+    // The invariant holds, the worker is free, the replies are of its stripes.
     requires kept { (done : List Command)
         × Fits D.states D.honest (S.stripe_count steps.old) done keeper.old (S.recorded steps.old) }
     requires own { IsPassOf stripes.now worker.old }
     requires free { (recorded worker.old).holding ≡ None }
     requires all { All (IsHeldOf stripes.now) all.old.items }
+
+    // The invariant goes on, and the replies are of these stripes.
     ensures own { IsPassOf stripes.now worker.new }
     ensures all { All (IsHeldOf stripes.now) all.new.items }
     ensures kept { (done : List Command)
