@@ -95,20 +95,27 @@ pub fn call_on<S: Steps>(
     spread: u32,
     content: Stripe,
 ) -> Result<Held, Refusal>
+    // The spread is the key's, whose stripe was taken with this content.
     requires spread { spread ≡ spread_of (hash_of command.key) }
     requires found { (b : Record) × HasFound b (stripe_of (S.stripe_count steps.old) command.key)
         content (S.recorded steps.old) }
+
+    // The change is made, and the record grows by this call alone.
     ensures made { (b : Record) → HasFound b (stripe_of (S.stripe_count steps.old) command.key)
         content (S.recorded steps.old)
         → IfOk result (λ held.
         MakesCall (S.stripe_count steps.old) b command held.position held.reply
         (S.recorded steps.new)) }
+
+    // Or it is refused, but not as busy, and no call is added.
     ensures refused { (b : Record) → HasFound b (stripe_of (S.stripe_count steps.old) command.key)
         content (S.recorded steps.old)
         → IfErr result (λ refusal.
         RefusesChange b (stripe_of (S.stripe_count steps.old) command.key) refusal
         (S.recorded steps.new)) }
     ensures not_busy { IfErr result IsNotBusy }
+
+    // It is the same pass, over as many stripes.
     ensures place { S.place steps.new ≡ S.place steps.old }
     ensures stripes { S.stripe_count steps.new ≡ S.stripe_count steps.old }
 {
@@ -129,20 +136,27 @@ pub fn read_on<S: Steps>(
     spread: u32,
     content: Stripe,
 ) -> Result<Held, Refusal>
+    // The spread is the key's, whose stripe was taken with this content.
     requires spread { spread ≡ spread_of (hash_of read.key) }
     requires found { (b : Record) × HasFound b (stripe_of (S.stripe_count steps.old) read.key)
         content (S.recorded steps.old) }
+
+    // The read is made, and the record grows by this call alone.
     ensures made { (b : Record) → HasFound b (stripe_of (S.stripe_count steps.old) read.key) content
         (S.recorded steps.old)
         → IfOk result (λ held.
         MakesRead (S.stripe_count steps.old) b read held.position held.reply
         (S.recorded steps.new)) }
+
+    // Or it is refused, but not as busy, and no call is added.
     ensures refused { (b : Record) → HasFound b (stripe_of (S.stripe_count steps.old) read.key)
         content (S.recorded steps.old)
         → IfErr result (λ refusal.
         RefusesRead b (stripe_of (S.stripe_count steps.old) read.key) refusal
         (S.recorded steps.new)) }
     ensures not_busy { IfErr result IsNotBusy }
+
+    // It is the same pass, over as many stripes.
     ensures place { S.place steps.new ≡ S.place steps.old }
     ensures stripes { S.stripe_count steps.new ≡ S.stripe_count steps.old }
 {
@@ -157,16 +171,23 @@ fn change_on<S: Steps>(
     spread: u32,
     mut taken: Taken,
 ) -> Result<Held, Refusal>
+    // The spread is the key's, whose stripe was taken with this content.
     requires spread { spread ≡ spread_of (hash_of new.command.key) }
     requires stripe { taken.stripe ≡ stripe_of (S.stripe_count steps.old) new.command.key }
     requires found { (b : Record) × HasFound b taken.stripe taken.content (S.recorded steps.old) }
+
+    // The change is made, and the record grows by this call alone.
     ensures made { (b : Record) → HasFound b taken.stripe taken.content (S.recorded steps.old) →
         IfOk result (λ held. MakesCall (S.stripe_count steps.old) b new.command
         held.position held.reply (S.recorded steps.new)) }
+
+    // Or it is refused, but not as busy, and no call is added.
     ensures refused { (b : Record) → HasFound b taken.stripe taken.content (S.recorded steps.old) →
         IfErr result (λ refusal. RefusesChange b
         (stripe_of (S.stripe_count steps.old) new.command.key) refusal (S.recorded steps.new)) }
     ensures not_busy { IfErr result IsNotBusy }
+
+    // It is the same pass, over as many stripes.
     ensures place { S.place steps.new ≡ S.place steps.old }
     ensures stripes { S.stripe_count steps.new ≡ S.stripe_count steps.old }
 {
@@ -206,16 +227,23 @@ fn read_from<S: Steps>(
     spread: u32,
     taken: Taken,
 ) -> Result<Held, Refusal>
+    // The spread is the key's, whose stripe was taken with this content.
     requires spread { spread ≡ spread_of (hash_of read.key) }
     requires stripe { taken.stripe ≡ stripe_of (S.stripe_count steps.old) read.key }
     requires found { (b : Record) × HasFound b taken.stripe taken.content (S.recorded steps.old) }
+
+    // The read is made, and the record grows by this call alone.
     ensures made { (b : Record) → HasFound b taken.stripe taken.content (S.recorded steps.old) →
         IfOk result (λ held. MakesRead (S.stripe_count steps.old) b read
         held.position held.reply (S.recorded steps.new)) }
+
+    // Or it is refused, but not as busy, and no call is added.
     ensures refused { (b : Record) → HasFound b taken.stripe taken.content (S.recorded steps.old) →
         IfErr result (λ refusal. RefusesRead b
         (stripe_of (S.stripe_count steps.old) read.key) refusal (S.recorded steps.new)) }
     ensures not_busy { IfErr result IsNotBusy }
+
+    // It is the same pass, over as many stripes.
     ensures place { S.place steps.new ≡ S.place steps.old }
     ensures stripes { S.stripe_count steps.new ≡ S.stripe_count steps.old }
 {

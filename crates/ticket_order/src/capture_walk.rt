@@ -39,14 +39,21 @@ impl CaptureStage {
     }
 
     pub(crate) fn step<S: Steps>(self, steps: &mut S) -> Stepped
+        // The capture stands as the record of its pass says.
         requires { (b : Record) × (task : Task)
             × FitsCapture (S.stripe_count steps.old) b task self (S.recorded steps.old) }
+
+        // One step is made, the next; the capture stands so again, or is over.
         ensures one { MakesOne S.recorded S.moves (next_of_capture self) steps.old steps.new }
         ensures next { (b : Record) (task : Task)
             → FitsCapture (S.stripe_count steps.old) b task self (S.recorded steps.old)
             → Next (S.stripe_count steps.old) b task result (S.recorded steps.new) }
+
+        // Fewer steps are left, and the last hands out what was copied.
         ensures shorter { HasFewerLeft (left_of_capture self) result }
         ensures captured { KeepsCaptured (captured_of_capture self) result }
+
+        // It is the same pass, over as many stripes.
         ensures place { S.place steps.new ≡ S.place steps.old }
         ensures stripes { S.stripe_count steps.new ≡ S.stripe_count steps.old }
     {

@@ -65,14 +65,19 @@ impl ChangeStage {
     }
 
     pub(crate) fn step<S: Steps>(self, steps: &mut S) -> Stepped
+        // The change stands as the record of its pass says.
         requires { (b : Record) × (task : Task)
             × FitsChange (S.stripe_count steps.old) b task self (S.recorded steps.old) }
+
+        // One step is made, the next; fewer are left, or the change is over.
         ensures one { MakesOne S.recorded S.moves (next_of_change (S.stripe_count steps.old) self)
             steps.old steps.new }
         ensures next { (b : Record) (task : Task)
             → FitsChange (S.stripe_count steps.old) b task self (S.recorded steps.old)
             → Next (S.stripe_count steps.old) b task result (S.recorded steps.new) }
         ensures shorter { HasFewerLeft (left_of_change self) result }
+
+        // It is the same pass, over as many stripes.
         ensures place { S.place steps.new ≡ S.place steps.old }
         ensures stripes { S.stripe_count steps.new ≡ S.stripe_count steps.old }
     {

@@ -30,14 +30,19 @@ impl ReadStage {
     }
 
     pub(crate) fn step<S: Steps>(self, steps: &mut S) -> Stepped
+        // The read stands as the record of its pass says.
         requires { (b : Record) × (task : Task)
             × FitsRead (S.stripe_count steps.old) b task self (S.recorded steps.old) }
+
+        // One step is made, the next; fewer are left, or the read is over.
         ensures one { MakesOne S.recorded S.moves (next_of_read (S.stripe_count steps.old) self)
             steps.old steps.new }
         ensures next { (b : Record) (task : Task)
             → FitsRead (S.stripe_count steps.old) b task self (S.recorded steps.old)
             → Next (S.stripe_count steps.old) b task result (S.recorded steps.new) }
         ensures shorter { HasFewerLeft (left_of_read self) result }
+
+        // It is the same pass, over as many stripes.
         ensures place { S.place steps.new ≡ S.place steps.old }
         ensures stripes { S.stripe_count steps.new ≡ S.stripe_count steps.old }
     {

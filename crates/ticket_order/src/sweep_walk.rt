@@ -28,14 +28,21 @@ impl SweepStage {
     }
 
     pub(crate) fn step<S: Steps>(self, steps: &mut S) -> Stepped
+        // The sweep stands as the record of its pass says.
         requires { (b : Record) × (task : Task)
             × FitsSweep (S.stripe_count steps.old) b task self (S.recorded steps.old) }
+
+        // One step is made, the next; the sweep stands so again, or is over.
         ensures one { MakesOne S.recorded S.moves (next_of_sweep self) steps.old steps.new }
         ensures next { (b : Record) (task : Task)
             → FitsSweep (S.stripe_count steps.old) b task self (S.recorded steps.old)
             → Next (S.stripe_count steps.old) b task result (S.recorded steps.new) }
+
+        // Fewer steps are left, and the last hands out the outbox.
         ensures shorter { HasFewerLeft (left_of_sweep self) result }
         ensures entries { KeepsEntries (entries_of_sweep self) result }
+
+        // It is the same pass, over as many stripes.
         ensures place { S.place steps.new ≡ S.place steps.old }
         ensures stripes { S.stripe_count steps.new ≡ S.stripe_count steps.old }
     {

@@ -66,13 +66,18 @@ impl Taken {
 
     // Gives the stripe back as it was taken, since the call is refused.
     pub(crate) fn give_back<S: Steps>(self, refusal: Refusal, steps: &mut S) -> Refusal
+        // The stripe is held, and a GIVE of it refuses the task.
         requires { (b : Record) × (task : Task)
             × IsRefusing (S.stripe_count steps.old) b task self refusal (S.recorded steps.old) }
+
+        // One step, that GIVE; the task is refused, with the same refusal.
         ensures one { MakesOne S.recorded S.moves (Give self.stripe) steps.old steps.new }
         ensures refused { (b : Record) (task : Task)
             → IsRefusing (S.stripe_count steps.old) b task self refusal (S.recorded steps.old)
             → Refuses (S.stripe_count steps.old) b task refusal (S.recorded steps.new) }
         ensures same { result ≡ refusal }
+
+        // It is the same pass, over as many stripes.
         ensures place { S.place steps.new ≡ S.place steps.old }
         ensures stripes { S.stripe_count steps.new ≡ S.stripe_count steps.old }
     {
@@ -197,16 +202,23 @@ impl Walk {
 
     /// Makes exactly one step.
     pub fn step<S: Steps>(self, steps: &mut S) -> Stepped
+        // The walk of some task stands as the record of its pass says.
         requires { IsUnderWay (S.stripe_count steps.old) self (S.recorded steps.old) }
+
+        // One step is made, the next; fewer are left, or the task is over.
         ensures one { MakesOne S.recorded S.moves (next_kind (S.stripe_count steps.old) self)
             steps.old steps.new }
         ensures next { (b : Record) (task : Task)
             → Fits (S.stripe_count steps.old) b task self (S.recorded steps.old)
             → Next (S.stripe_count steps.old) b task result (S.recorded steps.new) }
         ensures shorter { HasFewerLeft (steps_left self) result }
+
+        // What was taken, copied or refused before is what the walk ends with.
         ensures entries { KeepsEntries (entries_of_walk self) result }
         ensures captured { KeepsCaptured (captured_of_walk self) result }
         ensures refused { KeepsRefusal (refusal_of_walk self) result }
+
+        // It is the same pass, over as many stripes.
         ensures place { S.place steps.new ≡ S.place steps.old }
         ensures stripes { S.stripe_count steps.new ≡ S.stripe_count steps.old }
     {
