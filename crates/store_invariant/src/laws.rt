@@ -45,7 +45,7 @@ pub fn steps_of_logs()
     // A batch is staged.
     ensures staged { BatchIsStaged }
 
-    // The newest log makes a step, or its file changes as it may.
+    // The newest log makes a step, or its file changes and still fits it.
     ensures log { LogStepsOn }
     ensures stays { LogStays }
 
