@@ -202,6 +202,7 @@ impl GateLog {
 
     /// Stages the changes of the next tickets as one batch.
     pub fn stage(&mut self, entries: &[Entry]) -> Result<(), Refusal>
+        // The changes have the next tickets, and may be one batch of a log.
         requires in_order { AreFrom self.old.committed entries.now }
         requires fits { self.old.committed + length entries.now < 2 ^ 64 }
         requires some { 1 ≤ length entries.now }
@@ -209,6 +210,7 @@ impl GateLog {
         requires short { length (frame first_layout (batch_of self.old.committed entries.now))
             ≤ 1048576 }
 
+        // Their frame is staged behind what is committed, and the file stays.
         ensures ok { OnOk result
             (self.new ≡ record self.old {
               phase = Phase.Staged;
@@ -219,6 +221,8 @@ impl GateLog {
             ((batches : List Batch) (staged : List Batch) (file : File)
             → Stands self.old batches staged file
             → Stands self.new batches (batch_of self.old.committed entries.now ∷ []) file) }
+
+        // Refused: at a wrong time, in a full log, or without memory. Nothing changes.
         ensures wrong_phase { (result ≡ Err Refusal.WrongPhase) ↔ (IsResting self.old → ⊥) }
         ensures full { (result ≡ Err Refusal.LogFull)
             ↔ (IsResting self.old

@@ -48,17 +48,24 @@ impl Place {
         reader: &mut FileReader,
         end: usize,
     ) -> Result<(), Refusal>
+        // Only what the file has is asked for.
         requires inside { end ≤ reader.old.len }
+
+        // The disk is only looked at; the reader goes forward and lets nothing go.
         ensures looks { Looks D.states D.failures D.honest (failed_in result) disk.old disk.new }
         ensures file { IsSameFile reader.old reader.new }
         ensures from { reader.new.from ≡ reader.old.from }
         ensures forward { end_of reader.old ≤ end_of reader.new }
+
+        // It reads the pieces up to this place and no more, each by one call.
         ensures reaches { OnOk result (end ≤ end_of reader.new) }
         ensures pieces { OnOk result (pieces_in (end_of reader.new)
             ≡ max (pieces_in (end_of reader.old)) (pieces_in end)) }
         ensures called { OnOk result
             (ReadsPieces D.states disk.old disk.new reader.old reader.new) }
         ensures tried { OnErr result (ReadsAtMost D.states disk.old disk.new reader.old end) }
+
+        // If the disk is honest: the file's bytes, and only a call or memory can fail.
         ensures holds { D.honest disk.new
             → Holds (bytes_of D.states disk.old reader.old) reader.old
             → Holds (bytes_of D.states disk.old reader.old) reader.new }
@@ -75,16 +82,23 @@ impl Place {
 
     // The kind and the length behind an open gate, behind which the file has `behind` bytes.
     fn head(self, reader: &FileReader, behind: usize) -> Result<Ahead, Refusal>
+        // The five bytes of kind and length are held, and a byte stands behind them.
         requires room { self.gate + 1 + behind < 2 ^ 64 }
         requires long { 5 < behind }
         requires held { reader.now.from ≤ self.gate }
         requires reached { self.gate + 6 ≤ end_of reader.now }
+
+        // The gate behind the frame is in the file, and behind kind and length.
         ensures fits { IfOk result (FitsAhead self.gate) }
         ensures inside { IfOk result (λ ahead. behind_frame self.gate ahead ≤ self.gate + behind) }
         ensures some { IfOk result (λ ahead. self.gate + 6 ≤ behind_frame self.gate ahead) }
+
+        // A frame of that kind and length stands behind the gate, whole.
         ensures ahead { (content rest : List ℕ) → Holds content reader.now
             → drop (self.gate + 1) content ≡ rest → length rest ≡ behind
             → IfOk result (ComesAhead 165 rest) }
+
+        // Refused as damaged if no frame stands there that may come next; never as Failed.
         ensures err { IfErr result (RefusesAt self.generation self.gate ((content rest : List ℕ)
             → Holds content reader.now → drop (self.gate + 1) content ≡ rest → length rest ≡ behind
             → HasNoFrame first_layout self.expected (self.generation + 1) rest)) }
@@ -115,9 +129,12 @@ impl Place {
 
     // Reads the frame behind an open gate, with the gate behind it.
     fn read_frame<D: Disk>(self, disk: &mut D, reader: &mut FileReader) -> Result<Ahead, Refusal>
+        // The gate is in the file, and the reader has not let go of it.
         requires held { reader.old.from ≤ self.gate }
         requires inside { self.gate < reader.old.len }
         requires room { reader.old.len < 2 ^ 64 }
+
+        // The disk is only looked at. The frame and the gate behind it are read.
         ensures looks { Looks D.states D.failures D.honest (failed_in result) disk.old disk.new }
         ensures file { IsSameFile reader.old reader.new }
         ensures from { reader.new.from ≡ reader.old.from }
@@ -126,6 +143,8 @@ impl Place {
         ensures reaches { IfOk result (λ ahead.
             behind_frame self.gate ahead + 1 ≤ end_of reader.new) }
         ensures inside { IfOk result (λ ahead. behind_frame self.gate ahead < reader.old.len) }
+
+        // Device calls: one for each piece up to that gate; how many at most if refused.
         ensures pieces { IfOk result (λ ahead. pieces_in (end_of reader.new)
             ≡ max (pieces_in (end_of reader.old)) (pieces_in (behind_frame self.gate ahead + 1))) }
         ensures called { OnOk result
@@ -138,6 +157,8 @@ impl Place {
             → ReadsAtGate first_layout (165 ∷ rest) size
             → OnErr result (ReadsAtMost D.states disk.old disk.new reader.old
             (max (end_of reader.old) (self.gate + size))) }
+
+        // If the disk is honest: the file's bytes, and such a frame stands there.
         ensures holds { D.honest disk.new
             → Holds (bytes_of D.states disk.old reader.old) reader.old
             → Holds (bytes_of D.states disk.old reader.old) reader.new }
@@ -145,6 +166,8 @@ impl Place {
             → Holds (bytes_of D.states disk.old reader.old) reader.old
             → drop (self.gate + 1) (bytes_of D.states disk.old reader.old) ≡ rest
             → IfOk result (ComesAhead 165 rest) }
+
+        // Refused: a failed call, no memory, or no frame that may come next.
         ensures err { IfErr result
             (RefusesAt self.generation self.gate
             (D.honest disk.new → (rest : List ℕ)
@@ -168,10 +191,13 @@ impl Place {
         disk: &mut D,
         reader: &mut FileReader,
     ) -> Result<Ahead, Refusal>
+        // The gate was read and is held.
         requires held { reader.old.from ≤ self.gate }
         requires reached { self.gate + 1 ≤ end_of reader.old }
         requires inside { self.gate < reader.old.len }
         requires room { reader.old.len < 2 ^ 64 }
+
+        // The disk is only looked at. Behind an open gate the whole frame is read.
         ensures looks { Looks D.states D.failures D.honest (failed_in result) disk.old disk.new }
         ensures file { IsSameFile reader.old reader.new }
         ensures from { reader.new.from ≡ reader.old.from }
@@ -180,6 +206,8 @@ impl Place {
         ensures reaches { IfOk result (λ ahead.
             behind_frame self.gate ahead + 1 ≤ end_of reader.new) }
         ensures inside { IfOk result (λ ahead. behind_frame self.gate ahead < reader.old.len) }
+
+        // Device calls: one for each piece up to the last gate; how many at most if refused.
         ensures pieces { IfOk result (λ ahead. pieces_in (end_of reader.new)
             ≡ max (pieces_in (end_of reader.old)) (pieces_in (behind_frame self.gate ahead + 1))) }
         ensures called { OnOk result
@@ -192,6 +220,8 @@ impl Place {
             → ReadsAtGate first_layout (byte ∷ rest) size
             → OnErr result (ReadsAtMost D.states disk.old disk.new reader.old
             (max (end_of reader.old) (self.gate + size))) }
+
+        // If the disk is honest: the file's bytes, and what is found stands there.
         ensures holds { D.honest disk.new
             → Holds (bytes_of D.states disk.old reader.old) reader.old
             → Holds (bytes_of D.states disk.old reader.old) reader.new }
@@ -199,6 +229,8 @@ impl Place {
             → Holds (bytes_of D.states disk.old reader.old) reader.old
             → drop self.gate (bytes_of D.states disk.old reader.old) ≡ byte ∷ rest
             → IfOk result (ComesAhead byte rest) }
+
+        // Refused: a failed call, no memory, or no frame that may come next.
         ensures err { IfErr result (RefusesAt self.generation self.gate (D.honest disk.new
             → (byte : ℕ) (rest : List ℕ) → Holds (bytes_of D.states disk.old reader.old) reader.old
             → drop self.gate (bytes_of D.states disk.old reader.old) ≡ byte ∷ rest
@@ -213,12 +245,17 @@ impl Place {
 
     /// Whether the end frame at the gate, which was read, names the next generation.
     pub(crate) fn check_end(self, reader: &FileReader) -> Result<(), Refusal>
+        // The end frame behind the gate was read and is held.
         requires held { reader.now.from ≤ self.gate }
         requires reached { self.gate + 14 ≤ end_of reader.now }
         requires room { self.gate + 15 < 2 ^ 64 }
+
+        // It names the next generation.
         ensures ok { (content rest : List ℕ) → Holds content reader.now
             → drop (self.gate + 1) content ≡ rest → HasFrame 2 8 rest
             → OnOk result (IsAtEnd (self.generation + 1) rest) }
+
+        // Refused as damaged if it names another; never as Failed.
         ensures err { IfErr result (RefusesAt self.generation self.gate ((content rest : List ℕ)
             → Holds content reader.now → drop (self.gate + 1) content ≡ rest → HasFrame 2 8 rest
             → HasNoFrame first_layout self.expected (self.generation + 1) rest)) }
@@ -240,15 +277,20 @@ impl Place {
         reader: &FileReader,
         len: usize,
     ) -> Result<Vec<Entry>, Refusal>
+        // The frame was read and is held, and its length is one that a batch may have.
         requires low { 12 ≤ len }
         requires high { len ≤ 1048571 }
         requires held { reader.now.from ≤ self.gate }
         requires reached { self.gate + 6 + len ≤ end_of reader.now }
         requires room { self.gate + 7 + len < 2 ^ 64 }
+
+        // The changes are a batch of the next tickets, and its frame stands there.
         ensures fits { IfOk result (λ entries. FitsBatch self.expected len entries.items) }
         ensures ok { (content rest : List ℕ) → Holds content reader.now
             → drop (self.gate + 1) content ≡ rest → HasFrame 1 len rest
             → IfOk result (λ entries. IsAtBatch (batch_of self.expected entries.items) rest) }
+
+        // Refused: no memory, or no batch that may come next; never as Failed.
         ensures err { IfErr result (RefusesAt self.generation self.gate ((content rest : List ℕ)
             → Holds content reader.now → drop (self.gate + 1) content ≡ rest → HasFrame 1 len rest
             → HasNoFrame first_layout self.expected (self.generation + 1) rest)) }

@@ -57,12 +57,19 @@ impl Model for Scan {
 
 // Begins to read the file.
 fn begin_file<D: Disk>(alloc: Global, disk: &mut D, file: usize) -> Result<FileReader, Refusal>
+    // One of the four files.
     requires { file < 4 }
+
+    // One device call, which only looks.
     ensures looks { Looks D.states D.failures D.honest (failed_in result) disk.old disk.new }
     ensures called { Made D.states 1 disk.old disk.new }
+
+    // The reader is at the file's beginning, holds no byte, and knows its length.
     ensures file { IfOk result (λ reader. reader.file ≡ file) }
     ensures none_held { IfOk result (λ reader. (reader.from ≡ 0) × (reader.held ≡ [])) }
     ensures holds { D.honest disk.new → IfOk result (Holds (now (D.states disk.old) file).seen) }
+
+    // Refused: the call failed.
     ensures err { IfErr result (λ refusal. refusal ≡ Refusal.Failed) }
 {
     match FileReader::begin(alloc, disk, file) {
@@ -80,14 +87,21 @@ impl Scan {
         generation: u64,
         low: u64,
     ) -> Result<Scan, Refusal>
+        // The disk is only looked at, and the scan is at the first gate.
         ensures looks { Looks D.states D.failures D.honest (failed_in result) disk.old disk.new }
         ensures ok { IfOk result (λ scan. (scan.generation ≡ generation) × (scan.gate ≡ 17)
             × (scan.expected ≡ low)) }
+
+        // Two device calls, for the length and the first piece; at most two if refused.
         ensures called { OnOk result (Made D.states 2 disk.old disk.new) }
         ensures pieces { IfOk result (λ scan. pieces_in (end_of scan.reader) ≡ 1) }
         ensures tried { OnErr result (MadeAtMost D.states 2 disk.old disk.new) }
+
+        // If the disk is honest: the header was read, and a gate stands behind it.
         ensures read { D.honest disk.new → IfOk result (λ scan. HasRead first_layout low [] scan
             (log_bytes D.states disk.old generation)) }
+
+        // Refused: a failed call, no memory, or the first fault of the header.
         ensures refused { D.honest disk.new → IfErr result (λ refusal. (refusal ≡ Refusal.Failed)
             ⊎ ((refusal ≡ Refusal.NoMemory)
             ⊎ IsBadHeader generation low (log_bytes D.states disk.old generation) refusal)) }
@@ -122,8 +136,11 @@ impl Scan {
     /// Reads what stands at the gate, and goes on to the next gate if it is a batch. After a refusal,
     /// and at the end and a closed gate, the scan is at the same gate, so the same call may follow.
     pub fn next_frame<D: Disk>(&mut self, alloc: Global, disk: &mut D) -> Result<Found, Refusal>
+        // The disk is only looked at. Behind a batch the scan goes on, else it stays.
         ensures looks { Looks D.states D.failures D.honest (failed_in result) disk.old disk.new }
         ensures goes_on { IfOk result (GoesOn self.old self.new) }
+
+        // Device calls: one for each piece up to the last gate; how many at most if refused.
         ensures pieces { IfOk result (λ found.
             pieces_in (end_of self.new.reader)
             ≡ max (pieces_in (end_of self.old.reader))
@@ -140,12 +157,16 @@ impl Scan {
             → OnErr result
             (ReadsAtMost D.states disk.old disk.new self.old.reader
             (max (end_of self.old.reader) (self.old.gate + size))) }
+
+        // If the disk is honest: what is found stands behind the batches that were read.
         ensures found { D.honest disk.new → (low : ℕ) (batches : List Batch)
             → HasRead first_layout low batches self.old
             (log_bytes D.states disk.old self.old.generation)
             → IfOk result
             (IsFound first_layout low batches self.old self.new
             (log_bytes D.states disk.old self.old.generation)) }
+
+        // Refused: a failed call, no memory, or no frame that may come next.
         ensures err { IfErr result
             (RefusesFor self.old
             (D.honest disk.new → (low : ℕ) (batches : List Batch)
@@ -153,6 +174,8 @@ impl Scan {
             (log_bytes D.states disk.old self.old.generation)
             → IsBroken first_layout self.old.generation low batches
             (log_bytes D.states disk.old self.old.generation))) }
+
+        // After a refusal the scan is at the same gate, with what it has read.
         ensures same { OnErr result (IsStill self.old self.new) }
         ensures held { D.honest disk.new → (low : ℕ) (batches : List Batch)
             → HasRead first_layout low batches self.old
