@@ -22,12 +22,19 @@ pub(crate) fn begin_file<D: Disk>(
     disk: &mut D,
     file: u8,
 ) -> Result<FileReader, Refusal>
+    // One of the four files.
     requires { file < 4 }
+
+    // One device call, which only looks.
     ensures looks { Looks D.states D.failures D.honest (failed_in result) disk.old disk.new }
     ensures called { Made D.states 1 disk.old disk.new }
+
+    // The reader is at the file's beginning, holds no byte, and knows its length.
     ensures file { IfOk result (λ reader. reader.file ≡ file) }
     ensures none_held { IfOk result (λ reader. (reader.from ≡ 0) × (reader.held ≡ [])) }
     ensures holds { D.honest disk.new → IfOk result (Holds (seen_in D.states disk.old file)) }
+
+    // Refused: the call failed.
     ensures err { IfErr result (λ refusal. refusal ≡ Refusal.Failed) }
 {
     match FileReader::begin(alloc, disk, file as usize) {
@@ -44,16 +51,23 @@ fn read_on<D: Disk>(
     unread: Unread,
     count: usize,
 ) -> Result<(), Refusal>
+    // At least `count` bytes are unread, and the reader has let go of none of them.
     requires at { IsBefore reader.old unread }
     requires few { count ≤ unread.left }
     requires held { D.honest disk.old
         → Holds (seen_in D.states disk.old unread.file) reader.old }
+
+    // The disk is only looked at, and these `count` bytes were read.
     ensures looks { Looks D.states D.failures D.honest (failed_in result) disk.old disk.new }
     ensures at { OnOk result (IsAt reader.new unread) }
     ensures reaches { OnOk result (unread.at + count ≤ end_of reader.new) }
+
+    // Device calls: one for each piece, and none for a piece behind the body.
     ensures called { OnOk result (ReadsPieces D.states disk.old disk.new reader.old reader.new) }
     ensures tried { OnErr result
         (ReadsAtMost D.states disk.old disk.new reader.old (unread.at + unread.left)) }
+
+    // If the disk is honest: the file's bytes, and only a call or memory can fail.
     ensures held { D.honest disk.new
         → OnOk result (Holds (seen_in D.states disk.new unread.file) reader.new) }
     ensures err { IfErr result (RefusesIn unread.file (λ offset. D.honest disk.new → ⊥)) }
@@ -72,14 +86,21 @@ pub(crate) fn reach_body<D: Disk>(
     reader: &mut FileReader,
     body: Unread,
 ) -> Result<(), Refusal>
+    // The reader has let go of nothing of the body.
     requires at { IsBefore reader.old body }
     requires held { D.honest disk.old
         → Holds (seen_in D.states disk.old body.file) reader.old }
+
+    // The disk is only looked at, and the reader comes to the body.
     ensures looks { Looks D.states D.failures D.honest (failed_in result) disk.old disk.new }
     ensures at { OnOk result (IsAt reader.new body) }
+
+    // Device calls: one for each piece, and none for a piece behind the body.
     ensures called { OnOk result (ReadsPieces D.states disk.old disk.new reader.old reader.new) }
     ensures tried { OnErr result
         (ReadsAtMost D.states disk.old disk.new reader.old (body.at + body.left)) }
+
+    // If the disk is honest: the file's bytes, and only a call or memory can fail.
     ensures held { D.honest disk.new
         → OnOk result (Holds (seen_in D.states disk.new body.file) reader.new) }
     ensures err { IfErr result (λ refusal. (refusal ≡ Refusal.Failed)
@@ -95,15 +116,22 @@ pub(crate) fn fetch<D: Disk>(
     reader: &mut FileReader,
     unread: Unread,
 ) -> Result<(), Refusal>
+    // The reader has come to the unread bytes.
     requires at { IsAt reader.old unread }
     requires held { D.honest disk.old
         → Holds (seen_in D.states disk.old unread.file) reader.old }
+
+    // The disk is only looked at. As many bytes are held as an entry may take, or all.
     ensures looks { Looks D.states D.failures D.honest (failed_in result) disk.old disk.new }
     ensures at { OnOk result (IsAt reader.new unread) }
     ensures reaches { OnOk result (Reaches reader.new unread) }
+
+    // Device calls: one for each piece, and none for a piece behind the body.
     ensures called { OnOk result (ReadsPieces D.states disk.old disk.new reader.old reader.new) }
     ensures tried { OnErr result
         (ReadsAtMost D.states disk.old disk.new reader.old (unread.at + unread.left)) }
+
+    // If the disk is honest: the file's bytes, and only a call or memory can fail.
     ensures held { D.honest disk.new
         → OnOk result (Holds (seen_in D.states disk.new unread.file) reader.new) }
     ensures err { IfErr result (RefusesIn unread.file (λ offset.

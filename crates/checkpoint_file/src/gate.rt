@@ -12,9 +12,14 @@ use store_layout::OPEN_GATE;
 /// Whether the gate of the file is to be closed before a checkpoint is written there: it reads open,
 /// or the file is empty. Refuses with `Failed` alone.
 pub fn must_close<D: Disk>(disk: &mut D, file: usize) -> Result<bool, Refusal>
+    // One of the four files.
     requires { file < 4 }
+
+    // If the disk is honest: whether the gate reads open, or there is none.
     ensures value { D.honest disk.new → IfOk result (λ must. must ≡ is_to_close
         (now (D.states disk.old) file).seen) }
+
+    // One device call, which only looks. Refused if that call failed.
     ensures looks { OnOk result (Looks D.states D.failures D.honest 0 disk.old disk.new) }
     ensures failed { OnErr result (Looks D.states D.failures D.honest 1 disk.old disk.new) }
     ensures called { Made D.states 1 disk.old disk.new }

@@ -39,13 +39,20 @@ fn fields_of(bytes: &[u8; BODY_OFFSET]) -> Head
 
 /// Reads the head of the file; `None` where no checkpoint is sealed there.
 pub fn read_head<D: Disk>(disk: &mut D, file: usize) -> Result<Option<Head>, Refusal>
+    // One of the two files of checkpoints.
     requires { file < 2 }
+
+    // One device call, which only looks.
     ensures looks { Looks D.states D.failures D.honest (failed_in result) disk.old disk.new }
     ensures called { Made D.states 1 disk.old disk.new }
+
+    // If the disk is honest: the head of the sealed checkpoint, or none is sealed.
     ensures some { D.honest disk.new → IfOk result (λ found. IfSome found (λ head.
         IsHead head file (now (D.states disk.old) file).seen)) }
     ensures none { D.honest disk.new → IfOk result (λ found. IfNone found
         (is_sealed (now (D.states disk.old) file).seen ≡ false)) }
+
+    // Refused: the call failed, or the head has a fault.
     ensures err { IfErr result (λ refusal. (refusal ≡ Refusal.Failed)
         ⊎ (D.honest disk.new
         → head_fault file (now (D.states disk.old) file).seen ≡ Some refusal)) }

@@ -48,21 +48,30 @@ fn section_head<D: Disk>(
     reader: &mut FileReader,
     unread: Unread,
 ) -> Result<(u64, usize), Refusal>
+    // The reader has come to the unread bytes.
     requires at { IsAt reader.old unread }
     requires held { D.honest disk.old
         → Holds (seen_in D.states disk.old unread.file) reader.old }
+
+    // The disk is only looked at. The twelve bytes of mark and count were read.
     ensures looks { Looks D.states D.failures D.honest (failed_in result) disk.old disk.new }
     ensures at { OnOk result (IsAt reader.new unread) }
     ensures reached { OnOk result (unread.at + 12 ≤ end_of reader.new) }
+
+    // Device calls: one for each piece, and none for a piece behind the body.
     ensures called { OnOk result (ReadsPieces D.states disk.old disk.new reader.old reader.new) }
     ensures tried { OnErr result
         (ReadsAtMost D.states disk.old disk.new reader.old (unread.at + unread.left)) }
+
+    // Mark and count have their widths, and stand there if the disk is honest.
     ensures held { D.honest disk.new
         → OnOk result (Holds (seen_in D.states disk.new unread.file) reader.new) }
     ensures fits { IfOk result (λ head. (head.0 < 2 ^ 64) × (head.1 < 2 ^ 32)) }
     ensures long { OnOk result (12 ≤ unread.left) }
     ensures ok { D.honest disk.new → ForRest D.states disk.old unread (λ rest. IfOk result (λ head.
         rest ≡ (big_bytes 8 head.0 ++ big_bytes 4 head.1) ++ drop 12 rest)) }
+
+    // Refused: a failed call, no memory, or fewer than twelve bytes are left.
     ensures err { IfErr result
         (RefusesIn unread.file (λ offset. D.honest disk.new
         → ForRest D.states disk.old unread (λ rest. (offset ≡ unread.at) × (length rest < 12)))) }
@@ -84,15 +93,22 @@ fn next_entry<D: Disk>(
     stripe: Stripe,
     before: &[(Key, Value)],
 ) -> Result<((Key, Value), usize), Refusal>
+    // The reader has come to the unread bytes.
     requires at { IsAt reader.old unread }
     requires held { D.honest disk.old
         → Holds (seen_in D.states disk.old unread.file) reader.old }
+
+    // The disk is only looked at. All of the entry's bytes were read.
     ensures looks { Looks D.states D.failures D.honest (failed_in result) disk.old disk.new }
     ensures at { OnOk result (IsAt reader.new unread) }
     ensures reached { IfOk result (λ x. unread.at + x.1 ≤ end_of reader.new) }
+
+    // Device calls: one for each piece, and none for a piece behind the body.
     ensures called { OnOk result (ReadsPieces D.states disk.old disk.new reader.old reader.new) }
     ensures tried { OnErr result
         (ReadsAtMost D.states disk.old disk.new reader.old (unread.at + unread.left)) }
+
+    // The entry may come next behind these, and stands there if the disk is honest.
     ensures held { D.honest disk.new
         → OnOk result (Holds (seen_in D.states disk.new unread.file) reader.new) }
     ensures few { IfOk result (λ x. x.1 ≤ unread.left) }
@@ -100,6 +116,8 @@ fn next_entry<D: Disk>(
         MayFollow stripe.of.count stripe.number before.now x.0) }
     ensures ok { D.honest disk.new → ForRest D.states disk.old unread (λ rest.
         IfOk result (λ x. IsNext x.0 x.1 rest)) }
+
+    // Refused: a failed call, no memory, or no entry that may come next.
     ensures err { IfErr result
         (RefusesIn unread.file (λ offset. D.honest disk.new
         → ForRest D.states disk.old unread (λ rest. (offset ≡ unread.at)
@@ -126,14 +144,21 @@ fn entries<D: Disk>(
     stripe: Stripe,
     count: usize,
 ) -> Result<(Vec<(Key, Value)>, Unread), Refusal>
+    // The reader has come to the unread bytes.
     requires at { IsAt reader.old unread }
     requires held { D.honest disk.old
         → Holds (seen_in D.states disk.old unread.file) reader.old }
+
+    // The disk is only looked at, and the reader comes behind the entries.
     ensures looks { Looks D.states D.failures D.honest (failed_in result) disk.old disk.new }
     ensures at { IfOk result (λ x. IsAt reader.new x.1) }
+
+    // Device calls: one for each piece, and none for a piece behind the body.
     ensures called { OnOk result (ReadsPieces D.states disk.old disk.new reader.old reader.new) }
     ensures tried { OnErr result
         (ReadsAtMost D.states disk.old disk.new reader.old (unread.at + unread.left)) }
+
+    // There are `count` entries of the stripe; they stand there if the disk is honest.
     ensures held { D.honest disk.new
         → OnOk result (Holds (seen_in D.states disk.new unread.file) reader.new) }
     ensures behind { IfOk result (λ x. IsBehind unread x.1) }
@@ -141,6 +166,8 @@ fn entries<D: Disk>(
     ensures ok { D.honest disk.new → ForRest D.states disk.old unread (λ rest. IfOk result (λ x.
         GoesOn (seen_in D.states disk.old unread.file)
         (entries_bytes first_layout x.0.items) rest x.1)) }
+
+    // Refused: a failed call, no memory, or fewer entries than `count`.
     ensures err { IfErr result
         (RefusesIn unread.file (λ offset. D.honest disk.new
         → ForRest D.states disk.old unread (λ rest. (distance : ℕ) × (offset ≡ unread.at + distance)
@@ -164,15 +191,22 @@ fn section<D: Disk>(
     unread: Unread,
     stripe: Stripe,
 ) -> Result<(LoadedSection, Unread), Refusal>
+    // The reader has come to the unread bytes, and there is such a stripe.
     requires at { IsAt reader.old unread }
     requires some { stripe.number < stripe.of.count }
     requires held { D.honest disk.old
         → Holds (seen_in D.states disk.old unread.file) reader.old }
+
+    // The disk is only looked at, and the reader comes behind the section.
     ensures looks { Looks D.states D.failures D.honest (failed_in result) disk.old disk.new }
     ensures at { IfOk result (λ x. IsAt reader.new x.1) }
+
+    // Device calls: one for each piece, and none for a piece behind the body.
     ensures called { OnOk result (ReadsPieces D.states disk.old disk.new reader.old reader.new) }
     ensures tried { OnErr result
         (ReadsAtMost D.states disk.old disk.new reader.old (unread.at + unread.left)) }
+
+    // A section of the stripe with rising keys; it stands there if the disk is honest.
     ensures held { D.honest disk.new
         → OnOk result (Holds (seen_in D.states disk.new unread.file) reader.new) }
     ensures behind { IfOk result (λ x. IsBehind unread x.1) }
@@ -180,6 +214,8 @@ fn section<D: Disk>(
     ensures ok { D.honest disk.new → ForRest D.states disk.old unread (λ rest. IfOk result (λ x.
         GoesOn (seen_in D.states disk.old unread.file)
         (section_bytes first_layout (section_of x.0)) rest x.1)) }
+
+    // Refused: a failed call, no memory, or the section's first fault.
     ensures err { IfErr result
         (RefusesIn unread.file (λ offset. D.honest disk.new
         → ForRest D.states disk.old unread (λ rest. (distance : ℕ) × (offset ≡ unread.at + distance)
@@ -199,20 +235,29 @@ fn all_sections<D: Disk>(
     unread: Unread,
     stripes: StripeCount,
 ) -> Result<(Vec<LoadedSection>, Unread), Refusal>
+    // The reader has come to the unread bytes.
     requires at { IsAt reader.old unread }
     requires held { D.honest disk.old
         → Holds (seen_in D.states disk.old unread.file) reader.old }
+
+    // The disk is only looked at, and the reader comes behind the sections.
     ensures looks { Looks D.states D.failures D.honest (failed_in result) disk.old disk.new }
     ensures at { IfOk result (λ x. IsAt reader.new x.1) }
+
+    // Device calls: one for each piece, and none for a piece behind the body.
     ensures called { OnOk result (ReadsPieces D.states disk.old disk.new reader.old reader.new) }
     ensures tried { OnErr result
         (ReadsAtMost D.states disk.old disk.new reader.old (unread.at + unread.left)) }
+
+    // One section for each stripe; they stand there if the disk is honest.
     ensures behind { IfOk result (λ x. IsBehind unread x.1) }
     ensures many { IfOk result (λ x. length x.0.items ≡ stripes.count) }
     ensures loaded { IfOk result (λ x. AreLoaded stripes.count x.0.items) }
     ensures ok { D.honest disk.new → ForRest D.states disk.old unread (λ rest. IfOk result (λ x.
         GoesOn (seen_in D.states disk.old unread.file)
         (sections_bytes first_layout (sections_of x.0.items)) rest x.1)) }
+
+    // Refused: a failed call, no memory, or the first fault in the body.
     ensures err { IfErr result
         (RefusesIn unread.file (λ offset. D.honest disk.new
         → ForRest D.states disk.old unread (λ rest. (distance : ℕ) × (offset ≡ unread.at + distance)
@@ -240,17 +285,24 @@ fn whole_body<D: Disk>(
     unread: Unread,
     stripes: StripeCount,
 ) -> Result<Vec<LoadedSection>, Refusal>
+    // The reader has come to the unread bytes.
     requires at { IsAt reader.old unread }
     requires held { D.honest disk.old
         → Holds (seen_in D.states disk.old unread.file) reader.old }
+
+    // The disk is only looked at, by one call for each piece up to the body's end.
     ensures looks { Looks D.states D.failures D.honest (failed_in result) disk.old disk.new }
     ensures called { OnOk result (length (D.states disk.new) + pieces_in (end_of reader.old)
         ≡ length (D.states disk.old) + pieces_in (unread.at + unread.left)) }
     ensures tried { OnErr result
         (ReadsAtMost D.states disk.old disk.new reader.old (unread.at + unread.left)) }
+
+    // The stripes' sections. If the disk is honest none is missing, and they fill the body.
     ensures loaded { IfOk result (λ sections. AreLoaded stripes.count sections.items) }
     ensures ok { D.honest disk.new → ForRest D.states disk.old unread (λ rest.
         IfOk result (λ sections. IsBodyOf stripes.count sections.items rest)) }
+
+    // Refused: a failed call, no memory, or the first fault in the body.
     ensures err { IfErr result
         (RefusesIn unread.file (λ offset. D.honest disk.new
         → ForRest D.states disk.old unread (λ rest. (distance : ℕ) × (offset ≡ unread.at + distance)
@@ -265,12 +317,17 @@ fn whole_body<D: Disk>(
 
 // How many stripes there are, and where the body stands in a file of so many bytes.
 fn body_of(file: u8, head: &Head, len: usize) -> Result<(StripeCount, Unread), Refusal>
+    // One of the four files.
     requires { file < 4 }
+
+    // The count of stripes is allowed, and the body is inside the file.
     ensures place { IfOk result (λ x. (x.0.count ≡ head.now.stripes)
         × IsBodyAt file head.now.body_len x.1) }
     ensures inside { OnOk result (36 + head.now.body_len ≤ len) }
     ensures ok { (content : List ℕ) → len ≡ length content → HasFields head.now content
         → OnOk result (size_fault file content ≡ None) }
+
+    // Refused: the first of these that is not so; never as Failed.
     ensures err { IfErr result (λ refusal. (content : List ℕ) → len ≡ length content
         → HasFields head.now content → size_fault file content ≡ Some refusal) }
     ensures unfailed { failed_in result ≡ 0 }
@@ -297,21 +354,30 @@ fn sized_body<D: Disk>(
     file: u8,
     head: &Head,
 ) -> Result<(StripeCount, Unread, FileReader), Refusal>
+    // One of the four files.
     requires { file < 4 }
+
+    // The disk is only looked at: one call for the length, and one for each piece.
     ensures looks { Looks D.states D.failures D.honest (failed_in result) disk.old disk.new }
     ensures called { IfOk result (λ x. Made D.states (1 + pieces_in (end_of x.2)) disk.old
         disk.new) }
     ensures tried { OnErr result
         (MadeAtMost D.states (1 + pieces_in (36 + head.now.body_len)) disk.old disk.new) }
+
+    // The reader has come to the body, whose length the header gives.
     ensures place { IfOk result (λ x. (x.0.count ≡ head.now.stripes)
         × IsBodyAt file head.now.body_len x.1) }
     ensures at { IfOk result (λ x. IsAt x.2 x.1) }
     ensures held { D.honest disk.new → IfOk result (λ x. Holds (seen_in D.states disk.new x.1.file)
         x.2) }
+
+    // If the disk is honest: the stripes are allowed, and the body is in the file.
     ensures inside { D.honest disk.new
         → OnOk result (36 + head.now.body_len ≤ length (seen_in D.states disk.old file)) }
     ensures ok { D.honest disk.new → HasFields head.now (seen_in D.states disk.old file)
         → OnOk result (size_fault file (seen_in D.states disk.old file) ≡ None) }
+
+    // Refused: a failed call, no memory, or the first of these that is not so.
     ensures err { IfErr result (λ refusal. (refusal ≡ Refusal.Failed)
         ⊎ ((refusal ≡ Refusal.NoMemory)
         ⊎ (D.honest disk.new → HasFields head.now (seen_in D.states disk.old file)
@@ -330,17 +396,24 @@ fn load_body<D: Disk>(
     file: u8,
     head: &Head,
 ) -> Result<LoadedCheckpoint, Refusal>
+    // One of the two files of checkpoints.
     requires { file < 2 }
+
+    // The disk is only looked at: one call for the length, and one for each piece.
     ensures looks { Looks D.states D.failures D.honest (failed_in result) disk.old disk.new }
     ensures called { OnOk result
         (Made D.states (1 + pieces_in (36 + head.now.body_len)) disk.old disk.new) }
     ensures tried { OnErr result
         (MadeAtMost D.states (1 + pieces_in (36 + head.now.body_len)) disk.old disk.new) }
+
+    // If the disk is honest this is the file's checkpoint. Its keys stand in order.
     ensures ok { D.honest disk.new → IsHead head.now file (seen_in D.states disk.old file)
         → IfOk result (λ loaded.
         IsCheckpoint first_layout (checkpoint_of loaded) (seen_in D.states disk.old file)) }
     ensures loaded { IfOk result (λ loaded.
         AreLoaded loaded.stripes.count loaded.sections.items) }
+
+    // Refused: a failed call, no memory, or the first fault behind the head.
     ensures err { IfErr result (λ refusal. (refusal ≡ Refusal.Failed)
         ⊎ ((refusal ≡ Refusal.NoMemory)
         ⊎ (D.honest disk.new → IsHead head.now file (seen_in D.states disk.old file)
@@ -368,7 +441,10 @@ pub fn load<D: Disk>(
     disk: &mut D,
     file: usize,
 ) -> Result<Option<LoadedCheckpoint>, Refusal>
+    // One of the two files of checkpoints.
     requires { file < 2 }
+
+    // The disk is only looked at: once if none is sealed, else as the body's length says.
     ensures looks { Looks D.states D.failures D.honest (failed_in result) disk.old disk.new }
     ensures called { D.honest disk.new → IfOk result (λ found. IfSome found (λ loaded.
         Made D.states (checkpoint_calls (body_length_in (now (D.states disk.old) file).seen))
@@ -378,6 +454,8 @@ pub fn load<D: Disk>(
         → OnErr result
         (MadeAtMost D.states (checkpoint_calls (body_length_in (now (D.states disk.old) file).seen))
         disk.old disk.new) }
+
+    // The checkpoint that is sealed there with its keys in order, or none is sealed.
     ensures some { D.honest disk.new → IfOk result (λ found. IfSome found (λ loaded.
         IsCheckpoint first_layout (checkpoint_of loaded) (now (D.states disk.old) file).seen)) }
     ensures loaded { IfOk result (λ found. IfSome found (λ loaded.
@@ -386,6 +464,8 @@ pub fn load<D: Disk>(
         AreRising loaded.sections.items)) }
     ensures none { D.honest disk.new → IfOk result (λ found. IfNone found
         (is_sealed (now (D.states disk.old) file).seen ≡ false)) }
+
+    // Refused: a failed call, no memory, or the file's first fault.
     ensures err { IfErr result (λ refusal. (refusal ≡ Refusal.Failed)
         ⊎ ((refusal ≡ Refusal.NoMemory)
         ⊎ (D.honest disk.new → IsUnloadable file (now (D.states disk.old) file).seen refusal))) }

@@ -182,6 +182,7 @@ impl CheckpointWriter {
 
     /// Stages the section of the next stripe: what it held after the first `mark` commands.
     pub fn section(&mut self, mark: u64, entries: &[(Key, Value)]) -> Result<(), Refusal>
+        // The section is staged behind those before it, and the file stays.
         ensures ok { OnOk result (self.new ≡ with_section mark entries.now self.old) }
         ensures staged { OnOk result
             ((map : Map) (old : List ℕ) (sections : List Section) (file : File)
@@ -189,11 +190,15 @@ impl CheckpointWriter {
             → AreKeysOf self.old.stripes self.old.count entries.now → self.old.low ≤ mark
             → Stands self.old old sections file
             → Stands self.new old (sections ++ record { mark = mark; map = map } ∷ []) file) }
+
+        // Refused: at a wrong time, with too many entries, or without memory.
         ensures wrong_phase { (result ≡ Err Refusal.WrongPhase) ↔ (TakesSection self.old → ⊥) }
         ensures full { (result ≡ Err Refusal.LogFull)
             ↔ (TakesSection self.old × (2 ^ 32 - 1 < length entries.now)) }
         ensures no_other { IfErr result (λ refusal. (refusal ≡ Refusal.WrongPhase)
             ⊎ (refusal ≡ Refusal.LogFull) ⊎ (refusal ≡ Refusal.NoMemory)) }
+
+        // After a refusal the writer is as it was.
         ensures err { OnErr result (self.new ≡ self.old) }
     {
         if self.phase != CheckpointPhase::Ready || self.count == self.stripes.count {
