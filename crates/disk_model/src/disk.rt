@@ -23,9 +23,14 @@ pub trait Disk {
 
     /// How many bytes the file has.
     fn len(&mut self, file: usize) -> Result<usize, DeviceError>
+        // One of the four files.
         requires { file < 4 }
+
+        // If the disk is honest: as many bytes as a read gives.
         ensures length { honest self.new → IfOk result (λ n. n ≡ length
             (now (states self.old) file).seen) }
+
+        // One call more, which leaves the files as they are; a failure is counted.
         ensures state { states self.new ≡ now (states self.old) ∷ states self.old }
         ensures was_honest { honest self.new → honest self.old }
         ensures ok { OnOk result (failures self.new ≡ failures self.old) }
@@ -33,12 +38,17 @@ pub trait Disk {
 
     /// Reads the bytes from `at` on, as many as there are and `buf` has room for, and answers how many.
     fn read(&mut self, file: usize, at: usize, buf: &mut [u8]) -> Result<usize, DeviceError>
+        // One of the four files.
         requires { file < 4 }
+
+        // No more than there is room for; if the disk is honest, what the file has there.
         ensures within { IfOk result (λ n. n ≤ length buf.old) }
         ensures count { honest self.new → IfOk result (λ n. n ≡ min (length buf.old)
             (length (now (states self.old) file).seen - at)) }
         ensures bytes { honest self.new → IfOk result (λ n. take n buf.new
             ≡ take n (drop at (now (states self.old) file).seen)) }
+
+        // One call more, which leaves the files as they are; a failure is counted.
         ensures state { states self.new ≡ now (states self.old) ∷ states self.old }
         ensures was_honest { honest self.new → honest self.old }
         ensures ok { OnOk result (failures self.new ≡ failures self.old) }
@@ -47,8 +57,11 @@ pub trait Disk {
     /// Writes over what is there and past the end. Until the next successful sync a stop may leave any
     /// bytes in that range, also where the write failed.
     fn write_at(&mut self, file: usize, at: usize, bytes: &[u8]) -> Result<(), DeviceError>
+        // One of the four files, and no gap between its end and the bytes.
         requires file { file < 4 }
         requires place { honest self.old → at ≤ length (now (states self.old) file).seen }
+
+        // Written: a read gives the bytes. Failed: any bytes may stand in their range.
         ensures written { OnOk result
             (states self.new ≡ with_file file (written at bytes.now (now (states self.old) file))
             (now (states self.old)) ∷ states self.old) }
@@ -57,6 +70,8 @@ pub trait Disk {
             × (at ≤ length (now (states self.old) file).seen
             → IsTorn at (length bytes.now) (now (states self.old) file) left)
             × (states self.new ≡ with_file file left (now (states self.old)) ∷ states self.old)) }
+
+        // A disk that is honest was so before; a failure is counted.
         ensures was_honest { honest self.new → honest self.old }
         ensures ok { OnOk result (failures self.new ≡ failures self.old) }
         ensures err { OnErr result (failures self.new ≡ failures self.old + 1) };
@@ -64,11 +79,16 @@ pub trait Disk {
     /// After it a stop leaves what a read gives. A sync that failed promises nothing, and what was
     /// pending still is.
     fn sync(&mut self, file: usize) -> Result<(), DeviceError>
+        // One of the four files.
         requires { file < 4 }
+
+        // Afterwards nothing is pending. If it failed, what was pending still is.
         ensures synced { OnOk result
             (states self.new ≡ with_file file (synced (now (states self.old) file))
             (now (states self.old)) ∷ states self.old) }
         ensures same { OnErr result (states self.new ≡ now (states self.old) ∷ states self.old) }
+
+        // A disk that is honest was so before; a failure is counted.
         ensures was_honest { honest self.new → honest self.old }
         ensures ok { OnOk result (failures self.new ≡ failures self.old) }
         ensures err { OnErr result (failures self.new ≡ failures self.old + 1) };

@@ -70,13 +70,18 @@ impl MemDisk {
     /// Stops the machine and starts it again: the files hold what the fill picks of what a stop may
     /// leave, and nothing is pending. Where there is no memory for that, nothing changes.
     pub fn stop(&mut self, fill: &Fill) -> Result<(), AllocError>
+        // The files hold what the fill picks, which is among what a stop may leave.
         ensures ok { OnOk result
             (memory_states self.new ≡ after_stop fill.now (now (memory_states self.old))
             ∷ memory_states self.old) }
         ensures allowed { OnOk result
             (Leaves (now (memory_states self.old))
             (left_by fill.now (now (memory_states self.old)))) }
+
+        // Without memory the files are as they were.
         ensures err { OnErr result (memory_states self.new ≡ memory_states self.old) }
+
+        // A stop is no device call: no failure is counted, and the plan stays.
         ensures failures { memory_failures self.new ≡ memory_failures self.old }
         ensures planned { planned_of self.new ≡ planned_of self.old }
         ensures short { is_short self.new ≡ is_short self.old }
@@ -88,14 +93,21 @@ impl MemDisk {
 
     // A write that is not to fail by plan.
     fn write(&mut self, file: usize, at: usize, bytes: &[u8]) -> Result<(), DeviceError>
+        // One of the four files, and no gap between its end and the bytes.
         requires file { file < 4 }
         requires place { at ≤ length (now (memory_states self.old) file).seen }
+
+        // Written: a read gives the bytes.
         ensures written { OnOk result
             (memory_states self.new
             ≡ with_file file (written at bytes.now (now (memory_states self.old) file))
             (now (memory_states self.old)) ∷ memory_states self.old) }
         ensures same { OnOk result (is_short self.new ≡ is_short self.old) }
+
+        // No memory: a read gives what it gave, and the range is pending.
         ensures lost { OnErr result (LosesWrite file at (length bytes.now) self.old self.new) }
+
+        // A failure is counted, and the plan stays.
         ensures ok { OnOk result (memory_failures self.new ≡ memory_failures self.old) }
         ensures err { OnErr result (memory_failures self.new ≡ memory_failures self.old + 1) }
         ensures planned { planned_of self.new ≡ planned_of self.old }
@@ -171,8 +183,13 @@ impl Disk for MemDisk {
     ghost honest = { λ _. Unit {0} };
 
     fn len(&mut self, file: usize) -> Result<usize, DeviceError>
+        // One of the four files.
         requires { file < 4 }
+
+        // As many bytes as a read gives.
         ensures length { IfOk result (λ n. n ≡ length (now (memory_states self.old) file).seen) }
+
+        // One call by the plan, which leaves the files; a failure is counted.
         ensures state { memory_states self.new ≡ now (memory_states self.old)
             ∷ memory_states self.old }
         ensures plan { IsByPlan self.old self.new (is_ok result) }
@@ -184,12 +201,17 @@ impl Disk for MemDisk {
     }
 
     fn read(&mut self, file: usize, at: usize, buf: &mut [u8]) -> Result<usize, DeviceError>
+        // One of the four files.
         requires { file < 4 }
+
+        // What the file has there, as far as there is room.
         ensures within { IfOk result (λ n. n ≤ length buf.old) }
         ensures count { IfOk result (λ n.
             n ≡ min (length buf.old) (length (now (memory_states self.old) file).seen - at)) }
         ensures bytes { IfOk result (λ n.
             take n buf.new ≡ take n (drop at (now (memory_states self.old) file).seen)) }
+
+        // One call by the plan, which leaves the files; a failure is counted.
         ensures state { memory_states self.new ≡ now (memory_states self.old)
             ∷ memory_states self.old }
         ensures plan { IsByPlan self.old self.new (is_ok result) }
@@ -201,8 +223,11 @@ impl Disk for MemDisk {
     }
 
     fn write_at(&mut self, file: usize, at: usize, bytes: &[u8]) -> Result<(), DeviceError>
+        // One of the four files, and no gap between its end and the bytes.
         requires file { file < 4 }
         requires place { at ≤ length (now (memory_states self.old) file).seen }
+
+        // Written: a read gives the bytes. Failed: any bytes may stand in their range.
         ensures written { OnOk result
             (memory_states self.new
             ≡ with_file file (written at bytes.now (now (memory_states self.old) file))
@@ -213,6 +238,8 @@ impl Disk for MemDisk {
             → IsTorn at (length bytes.now) (now (memory_states self.old) file) left)
             × (memory_states self.new ≡ with_file file left (now (memory_states self.old))
             ∷ memory_states self.old)) }
+
+        // What a failure leaves: the bytes of the planned fill, or what stood there.
         ensures failed { IfSome (due_of (planned_of self.old)) (λ fill.
             LosesWrite file at (length bytes.now) self.old self.new
             ⊎ ((is_short self.new ≡ is_short self.old)
@@ -221,6 +248,8 @@ impl Disk for MemDisk {
             (now (memory_states self.old)) ∷ memory_states self.old))) }
         ensures lost { IfNone (due_of (planned_of self.old))
             (OnErr result (LosesWrite file at (length bytes.now) self.old self.new)) }
+
+        // One call by the plan; a failure is counted.
         ensures plan { IsByPlan self.old self.new (is_ok result) }
         ensures ok { OnOk result (memory_failures self.new ≡ memory_failures self.old) }
         ensures err { OnErr result (memory_failures self.new ≡ memory_failures self.old + 1) }
@@ -235,13 +264,18 @@ impl Disk for MemDisk {
     }
 
     fn sync(&mut self, file: usize) -> Result<(), DeviceError>
+        // One of the four files.
         requires { file < 4 }
+
+        // Afterwards nothing is pending. If it failed, what was pending still is.
         ensures synced { OnOk result
             (memory_states self.new
             ≡ with_file file (synced (now (memory_states self.old) file))
             (now (memory_states self.old)) ∷ memory_states self.old) }
         ensures same { OnErr result
             (memory_states self.new ≡ now (memory_states self.old) ∷ memory_states self.old) }
+
+        // One call by the plan; a failure is counted.
         ensures plan { IsByPlan self.old self.new (is_ok result) }
         ensures ok { OnOk result (memory_failures self.new ≡ memory_failures self.old) }
         ensures err { OnErr result (memory_failures self.new ≡ memory_failures self.old + 1) }
