@@ -92,14 +92,21 @@ impl Buffer {
         at: usize,
         count: usize,
     ) -> Result<(), ReadFault>
+        // One of the four files, and room for `count` bytes.
         requires file { file < 4 }
         requires room { count ≤ room_in self.old }
+
+        // One device call, which only looks.
         ensures looks { Looks D.states D.failures D.honest (failed_in result) disk.old disk.new }
         ensures called { Made D.states 1 disk.old disk.new }
+
+        // `count` bytes more are held, the file's if the disk is honest; none if refused.
         ensures size { OnOk result (length (held_in self.new) ≡ length (held_in self.old) + count) }
         ensures held { D.honest disk.new → OnOk result (held_in self.new
             ≡ held_in self.old ++ take count (drop at (now (D.states disk.old) file).seen)) }
         ensures same { OnErr result (held_in self.new ≡ held_in self.old) }
+
+        // Refused: the call failed, or it gave too few bytes. No memory is asked for.
         ensures short { D.honest disk.new → at + count ≤ length (now (D.states disk.old) file).seen
             → IfErr result (λ fault. fault ≡ ReadFault.Failed) }
         ensures read { IfErr result (λ fault. fault ≢ ReadFault.NoMemory) }

@@ -46,13 +46,20 @@ impl Model for FileReader {
 impl FileReader {
     /// Begins to read the file, and asks the device for its length.
     pub fn begin<D: Disk>(alloc: Global, disk: &mut D, file: usize) -> Result<FileReader, ReadFault>
+        // One of the four files.
         requires { file < 4 }
+
+        // One device call, which only looks.
         ensures looks { Looks D.states D.failures D.honest (failed_in result) disk.old disk.new }
         ensures called { Made D.states 1 disk.old disk.new }
+
+        // The reader is at the file's beginning, holds no byte, and knows its length.
         ensures file { IfOk result (λ reader. reader.file ≡ file) }
         ensures none_held { IfOk result (λ reader. (reader.from ≡ 0) × (reader.held ≡ [])) }
         ensures holds { D.honest disk.new
             → IfOk result (Holds (now (D.states disk.old) file).seen) }
+
+        // Refused: the call failed.
         ensures err { IfErr result (λ fault. fault ≡ ReadFault.Failed) }
     {
         let Ok(len) = disk.len(file) else {
@@ -96,14 +103,21 @@ impl FileReader {
 
     // Reads the next piece.
     fn read_piece<D: Disk>(&mut self, disk: &mut D) -> Result<(), ReadFault>
+        // Something of the file is unread.
         requires { end_of self.old < self.old.len }
+
+        // The disk is only looked at; the reader keeps its file and lets nothing go.
         ensures looks { Looks D.states D.failures D.honest (failed_in result) disk.old disk.new }
         ensures file { IsSameFile self.old self.new }
         ensures from { self.new.from ≡ self.old.from }
+
+        // One call reads the next piece. If refused the reader stays as it was.
         ensures end { OnOk result (end_of self.new ≡ min self.old.len (end_of self.old + 65536)) }
         ensures called { OnOk result (Made D.states 1 disk.old disk.new) }
         ensures tried { OnErr result (MadeAtMost D.states 1 disk.old disk.new) }
         ensures same { OnErr result (self.new ≡ self.old) }
+
+        // If the disk is honest: the file's bytes, and only a call or memory can fail.
         ensures holds { D.honest disk.new → Holds (now (D.states disk.old) self.old.file).seen
             self.old → OnOk result (Holds (now (D.states disk.old) self.old.file).seen self.new) }
         ensures short { D.honest disk.new → Holds (now (D.states disk.old) self.old.file).seen
@@ -117,16 +131,23 @@ impl FileReader {
 
     /// Reads on, as far as this place and no piece more.
     pub fn reach<D: Disk>(&mut self, disk: &mut D, end: usize) -> Result<(), ReadFault>
+        // Only what the file has is asked for.
         requires { end ≤ self.old.len }
+
+        // The disk is only looked at; the reader goes forward and lets nothing go.
         ensures looks { Looks D.states D.failures D.honest (failed_in result) disk.old disk.new }
         ensures file { IsSameFile self.old self.new }
         ensures from { self.new.from ≡ self.old.from }
         ensures forward { end_of self.old ≤ end_of self.new }
+
+        // It reads the pieces up to this place and no more, each by one call.
         ensures reaches { OnOk result (end ≤ end_of self.new) }
         ensures pieces { OnOk result
             (pieces_in (end_of self.new) ≡ max (pieces_in (end_of self.old)) (pieces_in end)) }
         ensures called { OnOk result (ReadsPieces D.states disk.old disk.new self.old self.new) }
         ensures tried { OnErr result (ReadsAtMost D.states disk.old disk.new self.old end) }
+
+        // If the disk is honest: the file's bytes, and only a call or memory can fail.
         ensures holds { D.honest disk.new → Holds (now (D.states disk.old) self.old.file).seen
             self.old → Holds (now (D.states disk.old) self.old.file).seen self.new }
         ensures short { D.honest disk.new → Holds (now (D.states disk.old) self.old.file).seen
