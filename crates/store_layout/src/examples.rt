@@ -17,15 +17,22 @@ pub fn checkpointed_files()
 
 /// Files that are refused.
 pub fn refused_files()
+    // No checkpoint is sealed.
     ensures no_store { NoStore }
     ensures too_few { TooFewBytes }
+
+    // The header of the sealed checkpoint has a fault.
     ensures version { OtherVersion }
     ensures file { OtherFile }
     ensures stripes { ThreeStripes }
     ensures body { LongBody }
+
+    // The sections have a fault, or don't fit the header.
     ensures entry { MissingEntry }
     ensures left_over { ByteLeftOver }
     ensures marks { OtherGreatestMark }
+
+    // The checkpoint has no fault, but its log has one.
     ensures no_log { NoLog }
     ensures other_log { OtherLog }
     ensures no_frame { NoFrame }

@@ -29,12 +29,17 @@ pub fn laws_of_sections()
 
 /// A sealed checkpoint file has one meaning or one first fault, and its head says which it is.
 pub fn laws_of_checkpoints()
+    // A content holds at most one checkpoint or one fault, and not both.
     ensures one { OneCheckpoint }
     ensures one_fault { OneFault }
     ensures no_fault { NoFault }
+
+    // The fields name the checkpoint, and say which of two is older.
     ensures head { SealedHead }
     ensures fields { FieldsMakeCheckpoint }
     ensures older { OlderCheckpoint }
+
+    // Behind a closed gate nothing is sealed, nor in an empty file.
     ensures shut { ShutIsUnsealed }
     ensures empty { EmptyIsUnsealed }
 {}
@@ -42,10 +47,15 @@ pub fn laws_of_checkpoints()
 /// Four files stand for one map after one number of commands, or meet one refusal first; one of the
 /// two, and never both.
 pub fn laws_of_opening()
+    // Opening has one outcome, whatever the bytes are.
     ensures one_way { OpensOneWay }
     ensures somehow { OpensSomehow }
+
+    // Files don't stand for two maps, nor for a map and a refusal.
     ensures one { OneStanding }
     ensures never_both { NeverBoth }
+
+    // What is held is the newest checkpoint, with its logs.
     ensures used { HeldIsUsed }
     ensures held { UsedIsHeld }
 {}
