@@ -1,6 +1,7 @@
 //! The log of the committed batches: each batch stands behind a gate byte that is opened by a write of its own.
 #![tactic(auto)]
 
+mod ahead;
 mod commit;
 mod frames;
 mod laws;

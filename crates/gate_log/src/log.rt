@@ -1,18 +1,5 @@
 //! One log, and the device call that comes next in it.
-//!
-//! The phases, and what leads from each to the next. `advance` makes the device calls one by one:
-//!
-//! ```text
-//! new, begin:      Header -- write header, closed gate --> HeaderWritten -- sync --> Idle
-//! stage, end_with: Idle --> Staged -- write frame, closed gate --> Written -- sync --> Synced
-//!                  Synced -- open the gate before the frame --> Opened -- sync --> Idle
-//! ```
-//!
-//! After the last sync of a batch its commands are committed; after that of an end frame the log
-//! is over. In `Staged` zeros may be written ahead first (`write_ahead`). A call that fails breaks
-//! the log, which makes no more. `flusher` stages and makes the calls, `checkpoint_walk` makes the
-//! log that follows, `recovery` makes the first log and goes on with the one that it found.
-ghost use Rattle.std.specs.Prelude.{◌≡◌, ◌≢◌, ◌⊎◌, ◌↔◌, ℕ, ◌+◌, ◌<◌, ◌≤◌, ◌^◌, ◌++◌, ◌∷◌, [], List, length, replicate, Option, None, Some, true, false, IfOk, IfErr, OnOk, OnErr, IsTrue};
+ghost use Rattle.std.specs.Prelude.{◌≡◌, ◌≢◌, ◌⊎◌, ◌↔◌, ℕ, ◌+◌, ◌<◌, ◌≤◌, ◌^◌, ◌++◌, ◌∷◌, [], List, length, Option, None, Some, true, false, IfErr, OnOk, OnErr};
 ghost use Rattle.disk_model.specs.Calls.{Makes, Fails};
 ghost use Rattle.disk_model.specs.Files.{File, now, at_rest};
 ghost use Rattle.disk_model.specs.Gates.{Call, IsPlaced};
@@ -21,10 +8,8 @@ ghost use Rattle.store_layout.specs.Logs.{Batch, IsClosed, commands_in, frame, l
 ghost use Rattle.gate_log.specs.States.{AreFrom, IsResting, batch_of, begun, bytes_staged, call_in, log_after, resumed};
 ghost use Rattle.gate_log.specs.LogStates.{Stands};
 ghost use Rattle.gate_log.specs.LogSteps.{Advances, MayAdvance};
-ghost use Rattle.gate_log.specs.Ahead.{IsAheadDue, WritesAhead};
 
 use crate::frames::{batch_frame, end_frame_and_gate, frame_len, header_and_gate};
-use crate::zeros::Zeros;
 use disk_model::{DeviceError, Disk};
 use map_types::Refusal;
 use std::alloc::Global;
@@ -32,25 +17,22 @@ use std::marker::Model;
 use store_layout::{HEADER_BYTES, MOST_LOG_BYTES, OPEN_GATE, Phase, log_file};
 use ticket_order::Entry;
 
-/// Where the gate of a log stands at least that is written ahead, in bytes.
-const LONG_LOG_BYTES: usize = 65_536;
-
 /// The log of one generation. It holds one staged frame, and nothing of what was committed; the disk
 /// is lent to it. After a device failure it makes no more device calls.
 #[derive(Drop)]
 pub struct GateLog {
     alloc: Global,
-    generation: u64,
+    pub(crate) generation: u64,
     low: u64,
-    phase: Phase,
-    gate: usize,
+    pub(crate) phase: Phase,
+    pub(crate) gate: usize,
     committed: u64,
     count: u32,
-    frame: Vec<u8>,
-    ending: Option<u64>,
-    is_broken: bool,
+    pub(crate) frame: Vec<u8>,
+    pub(crate) ending: Option<u64>,
+    pub(crate) is_broken: bool,
     // Up to where zeros were written ahead, as far as it is known. Nothing rests on it.
-    ahead: usize,
+    pub(crate) ahead: usize,
 }
 
 impl Model for GateLog {
@@ -349,68 +331,6 @@ impl GateLog {
             Ok(()) => {
                 self.go_on();
                 Ok(self.phase)
-            }
-            Err(_) => {
-                self.is_broken = true;
-                Err(Refusal::Failed)
-            }
-        }
-    }
-
-    // Whether this many zeros are to be written ahead: what is staged reaches past those written so
-    // far, and would not reach past these.
-    fn is_ahead_due(&self, count: usize) -> bool
-        ensures { IsTrue result → IsAheadDue count self.now }
-    {
-        self.phase == Phase::Staged
-            && self.ending.is_none()
-            && self.gate >= LONG_LOG_BYTES
-            && self.gate + 1 + self.frame.len() > self.ahead
-            && self.frame.len() < count
-            && count < MOST_LOG_BYTES
-            && self.gate < MOST_LOG_BYTES - count
-    }
-
-    // Writes the zeros behind the gate.
-    fn write_zeros<D: Disk>(&self, zeros: &Zeros, disk: &mut D) -> Result<(), DeviceError>
-        requires place { D.honest disk.old → self.now.gate + 1 ≤ length
-            (now (D.states disk.old) (log_file self.now.generation)).seen }
-        ensures was_honest { D.honest disk.new → D.honest disk.old }
-        ensures ok { OnOk result
-            (Makes D.states D.failures (log_file self.now.generation)
-            (Call.writes (self.now.gate + 1) (replicate zeros.now 0)) disk.old disk.new) }
-        ensures err { OnErr result
-            (Fails D.states D.failures (log_file self.now.generation)
-            (Call.writes (self.now.gate + 1) (replicate zeros.now 0)) disk.old disk.new) }
-    {
-        disk.write_at(log_file(self.generation), self.gate + 1, zeros.as_slice())
-    }
-
-    /// Writes the zeros behind the closed gate, ahead of the batch that is staged, so that the batch
-    /// does not lengthen the file. No reading goes past the gate. It does so where the gate stands far
-    /// enough, and the batch reaches past what was written ahead and not past these zeros; else it
-    /// makes no call. It takes no memory.
-    pub fn write_ahead<D: Disk>(&mut self, zeros: &Zeros, disk: &mut D) -> Result<(), Refusal>
-        requires stands { MayAdvance D.states D.honest self.old disk.old }
-
-        ensures stands { MayAdvance D.states D.honest self.new disk.new }
-        ensures broken { self.old.is_broken ≡ true
-            → (result ≡ Err Refusal.Failed) × (self.new ≡ self.old) × (disk.new ≡ disk.old) }
-        ensures works { self.old.is_broken ≡ false
-            → ((result ≡ Ok tt) × (self.new ≡ self.old) × (disk.new ≡ disk.old))
-            ⊎ WritesAhead D.states D.failures D.honest zeros.now self.old self.new disk.old disk.new
-            result }
-    {
-        if self.is_broken {
-            return Err(Refusal::Failed);
-        }
-        if !self.is_ahead_due(zeros.count()) {
-            return Ok(());
-        }
-        match self.write_zeros(zeros, disk) {
-            Ok(()) => {
-                self.ahead = self.gate + 1 + zeros.count();
-                Ok(())
             }
             Err(_) => {
                 self.is_broken = true;

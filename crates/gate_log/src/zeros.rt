@@ -1,4 +1,4 @@
-//! What a log writes ahead of its batches.
+//! The zeros that a log writes ahead of its batches.
 ghost use Rattle.std.specs.Prelude.{◌≡◌, IfOk, IfErr, replicate};
 
 use map_types::Refusal;
