@@ -8,6 +8,7 @@ mod head;
 mod laws;
 mod loading;
 mod marks;
+mod one_section;
 mod pieces;
 mod sections;
 mod unread;

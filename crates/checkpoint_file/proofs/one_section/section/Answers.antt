@@ -6,7 +6,7 @@ use Rattle.checkpoint_file.specs.Loads.{seen_in}
 use Rattle.checkpoint_file.proofs.LookLemmas.{looks_on, same_seen}
 use Rattle.checkpoint_file.proofs.PlaceLemmas.{at_rest_of, refuses_more}
 use Rattle.checkpoint_file.proofs.SectionReading.{section_begins, section_loaded, section_whole, no_section, bad_section}
-use Rattle.checkpoint_file.proofs.loading.section.Goals as goal
+use Rattle.checkpoint_file.proofs.one_section.section.Goals as goal
 
 pub returns-in_err-mark-clause-err : goal.returns-in_err-mark-clause-err
 returns-in_err-mark-clause-err g c =

@@ -8,7 +8,7 @@ use Rattle.checkpoint_file.specs.Loads.{seen_in}
 use Rattle.checkpoint_file.proofs.EntryReading.{none_in_window, none_follows, entries_next, behind_front}
 use Rattle.checkpoint_file.proofs.LookLemmas.{held_before}
 use Rattle.checkpoint_file.proofs.PlaceLemmas.{refuses_more}
-use Rattle.checkpoint_file.proofs.loading.next_entry.Goals as goal
+use Rattle.checkpoint_file.proofs.one_section.next_entry.Goals as goal
 
 pub returns-in_err-fetch-clause-err : goal.returns-in_err-fetch-clause-err
 returns-in_err-fetch-clause-err g c =

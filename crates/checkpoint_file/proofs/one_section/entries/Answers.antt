@@ -10,7 +10,7 @@ use Rattle.checkpoint_file.proofs.LookLemmas.{no_look, looks_on}
 use Rattle.checkpoint_file.proofs.FrontLemmas.{goes_to}
 use Rattle.checkpoint_file.proofs.PlaceLemmas.{at_rest_of, refuses_more}
 use Rattle.checkpoint_file.proofs.SectionReading.{no_entries, no_entry_bytes, entries_push_one, entry_bytes_more, fewer_entries}
-use Rattle.checkpoint_file.proofs.loading.entries.Goals as goal
+use Rattle.checkpoint_file.proofs.one_section.entries.Goals as goal
 
 pub loop-init : goal.loop-init
 loop-init g c = record {

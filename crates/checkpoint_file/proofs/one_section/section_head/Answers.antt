@@ -4,7 +4,7 @@ use Rattle.std.proofs.lemmas.Result.{err_from_is_err_and}
 use Rattle.checkpoint_file.specs.Loads.{seen_in}
 use Rattle.checkpoint_file.proofs.LookLemmas.{held_before}
 use Rattle.checkpoint_file.proofs.PlaceLemmas.{refuses_more}
-use Rattle.checkpoint_file.proofs.loading.section_head.Goals as goal
+use Rattle.checkpoint_file.proofs.one_section.section_head.Goals as goal
 
 pub returns-in_err-fetch-clause-err : goal.returns-in_err-fetch-clause-err
 returns-in_err-fetch-clause-err g c =

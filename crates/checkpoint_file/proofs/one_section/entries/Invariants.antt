@@ -7,7 +7,7 @@ use Rattle.checkpoint_file.specs.Loads.{seen_in, ForRest, IsBehind, GoesOn}
 use Rattle.file_pieces.specs.Counting.{ReadsPieces}
 use Rattle.file_pieces.specs.Pieces.{Holds}
 use Rattle.checkpoint_file.specs.Front.{IsAt}
-use Rattle.checkpoint_file.proofs.loading.entries.Given as goal
+use Rattle.checkpoint_file.proofs.one_section.entries.Given as goal
 
 -- so many entries were read with looks alone, and the rest stands behind them
 abbrev pub invariant-loop : goal.invariant-loop
