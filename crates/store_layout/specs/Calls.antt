@@ -3,13 +3,13 @@ use Rattle.std.specs.Prelude.{ℕ, ◌+◌, List, length, Option, None, Some}
 use Rattle.file_pieces.specs.Pieces.{pieces_in}
 use Rattle.log_records.specs.Layout.{first_layout}
 use Rattle.store_layout.specs.Logs.{Batch}
-use Rattle.store_layout.specs.Checkpoints.{Checkpoint, sections_bytes}
+use Rattle.store_layout.specs.Checkpoints.{Checkpoint, body_offset, sections_bytes}
 use Rattle.store_layout.specs.Readings.{gate_behind}
 use Rattle.store_layout.specs.Opening.{Opened, next_low}
 
 -- a checkpoint whose body has so many bytes: its head, the length of its file, and the pieces up to the end of the body
 abbrev pub checkpoint_calls : ℕ → ℕ
-checkpoint_calls body = 2 + pieces_in (36 + body)
+checkpoint_calls body = 2 + pieces_in (body_offset + body)
 
 -- a log that is read up to this gate and with it: the length of its file, and the pieces
 abbrev pub log_calls : ℕ → ℕ

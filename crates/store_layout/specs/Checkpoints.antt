@@ -3,11 +3,21 @@ use Rattle.std.specs.Prelude.{◌≡◌, ℕ, ◌+◌, ◌%◌, ◌<◌, ◌≤�
 use Rattle.std.specs.List.{AllByRecursion}
 use Rattle.std.specs.FinMap as finite
 use Rattle.byteorder.specs.Endian.{big_bytes}
+use Rattle.disk_model.specs.Gates.{open_gate}
 use Rattle.java_hash.specs.Stripes.{is_stripe_count, stripe_of}
 use Rattle.map_types.specs.declared.texts.Value.{Value}
 use Rattle.map_model.specs.Maps.{Map}
 use Rattle.log_records.specs.Layout.{Layout}
 use Rattle.log_records.specs.Spelling.{IsText, IsValue, key_bytes, value_bytes}
+
+-- How many bytes the header behind the gate has: version (1), generation (8), low ticket (8), greatest mark (8),
+-- stripes (2) and the length of the body (8).
+abbrev pub checkpoint_header_bytes : ℕ
+checkpoint_header_bytes = 35
+
+-- the place where the body begins, behind the gate (1 byte) and the header
+abbrev pub body_offset : ℕ
+body_offset = 36
 
 -- the number of the file that has the checkpoint of this generation
 abbrev pub checkpoint_file : ℕ → ℕ
@@ -94,14 +104,14 @@ pub record IsWhole (layout : Layout) (k : Checkpoint) : Type 0 where
 -- A sealed checkpoint: an open gate, its header and its sections, then anything.
 pub record IsCheckpoint (layout : Layout) (k : Checkpoint) (content : List ℕ) : Type 0 where
   pub rest : List ℕ
-  pub bytes : content ≡ 165 ∷ (checkpoint_bytes layout k ++ rest)
+  pub bytes : content ≡ open_gate ∷ (checkpoint_bytes layout k ++ rest)
   pub whole : IsWhole layout k
 
 -- an open gate, and room for a header behind it
 abbrev pub is_sealed : List ℕ → Bool
-is_sealed content = nat_le 36 (length content) && slice_index_or content 0 0 == 165
+is_sealed content = nat_le body_offset (length content) && slice_index_or content 0 0 == open_gate
 
 -- the gate reads open, or there is none
 abbrev pub is_to_close : List ℕ → Bool
 is_to_close [] = true
-is_to_close (gate ∷ rest) = gate == 165
+is_to_close (gate ∷ rest) = gate == open_gate

@@ -11,7 +11,7 @@ use Rattle.map_types.specs.declared.texts.Value.{Value}
 use Rattle.map_types.specs.declared.refusals.Refusal.{Refusal}
 use Rattle.map_types.specs.declared.refusals.Refusal.TheVariants.{Damaged, WrongVersion}
 use Rattle.log_records.specs.Layout.{Layout}
-use Rattle.store_layout.specs.Checkpoints.{Section, Checkpoint, entry_bytes, entries_bytes, sections_bytes, greatest_mark, IsEntryOf, AreSections, AreMarkedFrom, is_sealed}
+use Rattle.store_layout.specs.Checkpoints.{Section, Checkpoint, body_offset, entry_bytes, entries_bytes, sections_bytes, greatest_mark, IsEntryOf, AreSections, AreMarkedFrom, is_sealed}
 
 -- ---- the fields, each at its offset
 
@@ -39,7 +39,7 @@ body_length_in content = number_in 8 28 content
 
 -- the bytes that the sections are to fill
 abbrev pub body_in : List ℕ → List ℕ
-body_in content = take (body_length_in content) (drop 36 content)
+body_in content = take (body_length_in content) (drop body_offset content)
 
 -- the checkpoint that the fields name, with these sections
 abbrev pub checkpoint_in : List ℕ → List Section → Checkpoint
@@ -59,7 +59,7 @@ head_fault file content =
 abbrev pub size_fault : ℕ → List ℕ → Option Refusal
 size_fault file content =
     if not (is_stripe_count (stripes_in content)) then Some (Damaged file 26)
-    else if nat_lt (length content) (36 + body_length_in content) then Some (Damaged file 28)
+    else if nat_lt (length content) (body_offset + body_length_in content) then Some (Damaged file 28)
     else None
 
 -- ---- the sections
@@ -111,5 +111,5 @@ pub record HasBadMarks (layout : Layout) (content : List ℕ) : Type 0 where
 pub data IsBadCheckpoint (layout : Layout) (file : ℕ) (content : List ℕ) (refusal : Refusal) : Type 0 where
   bad_size : size_fault file content ≡ Some refusal → IsBadCheckpoint layout file content refusal
   bad_section : (offset : ℕ) → size_fault file content ≡ None → HasFault layout (stripes_in content) (body_in content) offset
-      → refusal ≡ Damaged file (36 + offset) → IsBadCheckpoint layout file content refusal
+      → refusal ≡ Damaged file (body_offset + offset) → IsBadCheckpoint layout file content refusal
   bad_marks : size_fault file content ≡ None → HasBadMarks layout content → refusal ≡ Damaged file 18 → IsBadCheckpoint layout file content refusal

@@ -1,6 +1,7 @@
 -- The files of a new store.
 use Rattle.std.specs.Prelude.{ℕ, ◌==◌, if◌then◌else◌, List, [], ◌∷◌, ◌++◌}
 use Rattle.disk_model.specs.Files.{Contents, Files, at_rest}
+use Rattle.disk_model.specs.Gates.{open_gate}
 use Rattle.log_records.specs.Layout.{first_layout}
 use Rattle.store_layout.specs.Checkpoints.{checkpoint_bytes}
 use Rattle.store_layout.specs.Logs.{log_front}
@@ -14,7 +15,7 @@ first_log = log_front first_layout 0 0 [] ++ 0 ∷ []
 -- from it.
 abbrev pub new_contents : ℕ → Contents
 new_contents stripes = λ number.
-    if number == 0 then 165 ∷ checkpoint_bytes first_layout (first_checkpoint stripes)
+    if number == 0 then open_gate ∷ checkpoint_bytes first_layout (first_checkpoint stripes)
     else if number == 2 then first_log
     else []
 

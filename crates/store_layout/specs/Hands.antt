@@ -2,7 +2,7 @@
 use Rattle.std.specs.Prelude.{◌≡◌, ℕ, ◌+◌, ◌-◌, ◌<◌, ◌≤◌, ◌^◌, List, ◌++◌, length, map, min, Option, Some, None, slice_index_or}
 use Rattle.map_types.specs.declared.commands.Command.{Command}
 use Rattle.log_records.specs.Layout.{first_layout}
-use Rattle.store_layout.specs.Logs.{frame}
+use Rattle.store_layout.specs.Logs.{frame, most_commands, most_frame_bytes}
 
 -- The commands of consecutive tickets, from `next` on; there is none where a ticket is not in hand.
 pub record Hand : Type 0 where
@@ -22,12 +22,12 @@ IsRun hand commands = (rest : List (Option Command)) × (hand.slots ≡ map Some
 pub record FitsBatch (most first : ℕ) (commands : List Command) : Type 0 where
   pub few : length commands ≤ most
   pub fits : first + length commands < 2 ^ 64
-  pub within : length commands ≤ 65536
-  pub short : length (frame first_layout (record { first = first; commands = commands })) ≤ 1048576
+  pub within : length commands ≤ most_commands
+  pub short : length (frame first_layout (record { first = first; commands = commands })) ≤ most_frame_bytes
 
 -- how many commands one batch from this ticket on may have, by their number and by their tickets
 abbrev pub most_from : ℕ → ℕ → ℕ
-most_from first most = min (min most 65536) (18446744073709551615 - first)
+most_from first most = min (min most most_commands) (18446744073709551615 - first)
 
 -- the longest run that may be one batch
 pub record IsLongest (most : ℕ) (hand : Hand) (commands : List Command) : Type 0 where

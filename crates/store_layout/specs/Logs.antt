@@ -2,9 +2,28 @@
 use Rattle.std.specs.Prelude.{◌≡◌, ◌≢◌, ℕ, ◌+◌, ◌%◌, ◌<◌, ◌≤◌, ◌^◌, List, [], ◌∷◌, ◌++◌, length}
 use Rattle.std.specs.List.{AllByRecursion}
 use Rattle.byteorder.specs.Endian.{big_bytes}
+use Rattle.disk_model.specs.Gates.{open_gate}
 use Rattle.map_types.specs.declared.commands.Command.{Command}
 use Rattle.log_records.specs.Layout.{Layout}
 use Rattle.log_records.specs.Spelling.{IsCommand, record_bytes}
+
+-- How many bytes a log's header has: version (1), generation (8) and low ticket (8). The first gate has this place.
+abbrev pub log_header_bytes : ℕ
+log_header_bytes = 17
+
+-- The most commands of one batch. An opening holds the commands of one batch at a time, so this bounds its memory.
+abbrev pub most_commands : ℕ
+most_commands = 65536
+
+-- The most bytes of a batch's frame, with its kind and its length. An opening holds one frame at a time, so this
+-- bounds its memory.
+abbrev pub most_frame_bytes : ℕ
+most_frame_bytes = 1048576
+
+-- The most bytes that a log has after a batch, with the gate behind it. So every place in a log fits 64 bits, and
+-- so does a sum of two.
+abbrev pub most_log_bytes : ℕ
+most_log_bytes = 2 ^ 40
 
 -- the number of the file that has the log of this generation
 abbrev pub log_file : ℕ → ℕ
@@ -37,7 +56,7 @@ header generation low = 1 ∷ (big_bytes 8 generation ++ big_bytes 8 low)
 -- the frames, each behind an open gate
 abbrev pub opened : Layout → List Batch → List ℕ
 opened layout [] = []
-opened layout (batch ∷ batches) = 165 ∷ (frame layout batch ++ opened layout batches)
+opened layout (batch ∷ batches) = open_gate ∷ (frame layout batch ++ opened layout batches)
 
 -- what stands before the gate behind these batches
 abbrev pub log_front : Layout → ℕ → ℕ → List Batch → List ℕ
@@ -53,9 +72,9 @@ pub record IsBatch (layout : Layout) (batch : Batch) : Type 0 where
   -- its first ticket and its count fit 64 bits together
   pub fits : batch.first + length batch.commands < 2 ^ 64
   pub some : 1 ≤ length batch.commands
-  pub few : length batch.commands ≤ 65536
+  pub few : length batch.commands ≤ most_commands
   -- the whole frame
-  pub short : length (frame layout batch) ≤ 1048576
+  pub short : length (frame layout batch) ≤ most_frame_bytes
   pub well_formed : AllByRecursion (IsCommand layout) batch.commands
 
 -- batches that may stand in a log whose low ticket this is: none is skipped
@@ -74,7 +93,7 @@ pub record IsClosed (layout : Layout) (generation low : ℕ) (batches : List Bat
   pub gate : ℕ
   pub rest : List ℕ
   pub bytes : content ≡ log_front layout generation low batches ++ gate ∷ rest
-  pub closed : gate ≢ 165
+  pub closed : gate ≢ open_gate
   pub log : IsLog layout generation low batches
 
 -- A log that has ended: its header, then open gate and frame any number of times, then an open gate and the end frame that names the next
@@ -82,6 +101,6 @@ pub record IsClosed (layout : Layout) (generation low : ℕ) (batches : List Bat
 pub record IsEnded (layout : Layout) (generation low : ℕ) (batches : List Batch) (next : ℕ) (content : List ℕ) : Type 0 where
   pub after : ℕ
   pub rest : List ℕ
-  pub bytes : content ≡ log_front layout generation low batches ++ 165 ∷ (end_frame next ++ after ∷ rest)
+  pub bytes : content ≡ log_front layout generation low batches ++ open_gate ∷ (end_frame next ++ after ∷ rest)
   pub next_fits : next < 2 ^ 64
   pub log : IsLog layout generation low batches

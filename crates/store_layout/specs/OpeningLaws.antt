@@ -1,6 +1,7 @@
 -- Laws of sealed checkpoints, and of what opening gives.
 use Rattle.std.specs.Prelude.{◌≡◌, ◌≢◌, ℕ, ◌+◌, ◌*◌, ◌<◌, ◌≤◌, true, false, None, List, [], ◌∷◌, length, Result}
 use Rattle.std.specs.FinMap as finite
+use Rattle.disk_model.specs.Gates.{open_gate}
 use Rattle.java_hash.specs.Stripes.{is_stripe_count}
 use Rattle.map_types.specs.declared.commands.Command.{Command}
 use Rattle.map_types.specs.declared.refusals.Refusal.{Refusal}
@@ -9,7 +10,7 @@ use Rattle.map_model.specs.Histories.{History}
 use Rattle.log_records.specs.Layout.{Layout, IsLayout, first_layout}
 use Rattle.log_records.specs.Agreement.{IsBytes}
 use Rattle.store_layout.specs.Logs.{IsClosed}
-use Rattle.store_layout.specs.Checkpoints.{Section, Checkpoint, AreSections, AreMarkedFrom, IsWhole, IsCheckpoint, checkpoint_bytes, sections_bytes, checkpoint_file, greatest_mark, is_sealed}
+use Rattle.store_layout.specs.Checkpoints.{Section, Checkpoint, AreSections, AreMarkedFrom, IsWhole, IsCheckpoint, checkpoint_bytes, checkpoint_header_bytes, sections_bytes, checkpoint_file, greatest_mark, is_sealed}
 use Rattle.store_layout.specs.SectionsAndLog.{grown, Restores}
 use Rattle.store_layout.specs.Faults.{generation_in, low_in, greatest_in, stripes_in, body_in, checkpoint_in, head_fault, size_fault, IsBadCheckpoint}
 use Rattle.store_layout.specs.Opening.{Contents, Opened, log_of, prefix_of, history_of, IsOlder, AreLogs, Holds, StandsFor, StandsForFront, first_checkpoint, heads_fault, newest_file, Refuses, Opens}
@@ -45,7 +46,7 @@ OlderCheckpoint = (layout : Layout) (k : Checkpoint) (generation : ℕ) (content
 
 -- behind a closed gate nothing is sealed, nor in an empty file
 abbrev pub ShutIsUnsealed : Type 0
-ShutIsUnsealed = (gate : ℕ) (rest : List ℕ) → gate ≢ 165 → is_sealed (gate ∷ rest) ≡ false
+ShutIsUnsealed = (gate : ℕ) (rest : List ℕ) → gate ≢ open_gate → is_sealed (gate ∷ rest) ≡ false
 
 abbrev pub EmptyIsUnsealed : Type 0
 EmptyIsUnsealed = is_sealed [] ≡ false
@@ -95,7 +96,7 @@ FrontStays = (h : History) (least most : ℕ) (contents : Contents) (more : List
 -- it may stand in a file, with 12 bytes for each stripe
 abbrev pub FirstIsWhole : Type 0
 FirstIsWhole = (stripes : ℕ) → is_stripe_count stripes ≡ true →
-    IsWhole first_layout (first_checkpoint stripes) × (length (checkpoint_bytes first_layout (first_checkpoint stripes)) ≡ 35 + 12 * stripes)
+    IsWhole first_layout (first_checkpoint stripes) × (length (checkpoint_bytes first_layout (first_checkpoint stripes)) ≡ checkpoint_header_bytes + 12 * stripes)
 
 -- A new store stands for no command and the empty map.
 abbrev pub FirstStands : Type 0

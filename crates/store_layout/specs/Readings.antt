@@ -1,14 +1,15 @@
 -- What a log file reads as, and what may be wrong with it.
 use Rattle.std.specs.Prelude.{◌≡◌, ◌≢◌, ℕ, ◌+◌, ◌<◌, ◌^◌, List, ◌∷◌, ◌++◌, length}
 use Rattle.byteorder.specs.Endian.{big_bytes}
+use Rattle.disk_model.specs.Gates.{open_gate}
 use Rattle.map_types.specs.declared.refusals.Refusal.{Refusal}
 use Rattle.map_types.specs.declared.refusals.Refusal.TheVariants.{Damaged, WrongVersion}
 use Rattle.log_records.specs.Layout.{Layout}
-use Rattle.store_layout.specs.Logs.{Batch, IsBatch, IsLog, IsClosed, IsEnded, commands_in, end_frame, frame, log_file, log_front}
+use Rattle.store_layout.specs.Logs.{Batch, IsBatch, IsLog, IsClosed, IsEnded, commands_in, end_frame, frame, log_file, log_front, log_header_bytes}
 
 -- ---- the header
 
--- at least 18 bytes, and these numbers before the first gate
+-- a whole header with these numbers, and a gate behind it
 pub record HasHeader (version generation low : ℕ) (content : List ℕ) : Type 0 where
   pub gate : ℕ
   pub rest : List ℕ
@@ -18,7 +19,7 @@ pub record HasHeader (version generation low : ℕ) (content : List ℕ) : Type 
 
 -- What is wrong with the header of a log that is to have this generation and this low ticket: the first of these faults, and its refusal.
 pub data IsBadHeader (generation low : ℕ) (content : List ℕ) (refusal : Refusal) : Type 0 where
-  too_short : length content < 18 → refusal ≡ Damaged (log_file generation) 0 → IsBadHeader generation low content refusal
+  too_short : length content < log_header_bytes + 1 → refusal ≡ Damaged (log_file generation) 0 → IsBadHeader generation low content refusal
   wrong_version : (v g l : ℕ) → HasHeader v g l content → v ≢ 1 → refusal ≡ WrongVersion → IsBadHeader generation low content refusal
   wrong_generation : (g l : ℕ) → HasHeader 1 g l content → g ≢ generation → refusal ≡ Damaged (log_file generation) 1 → IsBadHeader generation low content refusal
   wrong_low : (l : ℕ) → HasHeader 1 generation l content → l ≢ low → refusal ≡ Damaged (log_file generation) 9 → IsBadHeader generation low content refusal
@@ -34,7 +35,7 @@ pub record HasNoFrame (layout : Layout) (expected next : ℕ) (rest : List ℕ) 
 -- Behind these batches the log goes on with an open gate, but not with a frame that may stand there.
 pub record IsBroken (layout : Layout) (generation low : ℕ) (batches : List Batch) (content : List ℕ) : Type 0 where
   pub rest : List ℕ
-  pub bytes : content ≡ log_front layout generation low batches ++ 165 ∷ rest
+  pub bytes : content ≡ log_front layout generation low batches ++ open_gate ∷ rest
   pub no_frame : HasNoFrame layout (low + length (commands_in batches)) (generation + 1) rest
   pub log : IsLog layout generation low batches
 
