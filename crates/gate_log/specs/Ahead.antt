@@ -1,23 +1,28 @@
 -- What a log writes ahead of its batches.
-use Rattle.std.specs.Prelude.{◌≡◌, ℕ, ◌+◌, ◌<◌, ◌≤◌, ◌^◌, List, length, replicate, None, Result, IfErr, OnOk, true}
+use Rattle.std.specs.Prelude.{◌≡◌, ℕ, ◌+◌, ◌<◌, ◌≤◌, List, length, replicate, None, Result, IfErr, OnOk, true}
 use Rattle.disk_model.specs.Calls.{Makes, Fails}
 use Rattle.disk_model.specs.Files.{Files, now}
 use Rattle.disk_model.specs.Gates.{writes}
 use Rattle.disk_model.specs.Moments.{AtEachMoment}
 use Rattle.map_types.specs.declared.refusals.Refusal.{Refusal}
 use Rattle.map_types.specs.declared.refusals.Refusal.TheVariants.{Failed}
-use Rattle.store_layout.specs.Logs.{Batch, log_file}
+use Rattle.store_layout.specs.Logs.{Batch, log_file, most_log_bytes}
 use Rattle.store_layout.specs.declared.log_phase.Phase.TheVariants.{Staged}
 use Rattle.gate_log.specs.States.{LogState}
 use Rattle.gate_log.specs.LogStates.{Stands, IsKept}
+
+-- A log is long once its gate has this place. Zeros are written ahead in long logs alone, so that a small log's file
+-- has the bytes of its frames and no more.
+abbrev pub long_log_bytes : ℕ
+long_log_bytes = 65536
 
 -- A batch is staged in a long log, and doesn't reach past this many zeros; these end within the greatest length of a log.
 pub record IsAheadDue (count : ℕ) (log : LogState) : Type 0 where
   pub staged : log.phase ≡ Staged
   pub goes_on : log.ending ≡ None
-  pub long : 65536 ≤ log.gate
+  pub long : long_log_bytes ≤ log.gate
   pub covers : length log.frame < count
-  pub within : log.gate + 1 + count ≤ 2 ^ 40
+  pub within : log.gate + 1 + count ≤ most_log_bytes
 
 -- One write of this many zeros behind the closed gate, and no other call. The log stands as it stood.
 pub record WritesAhead {D : Type 0} (states : D → List Files) (failures : D → ℕ) (honest : D → Type 0) (count : ℕ) (old new : LogState) (disk_old disk_new : D) (result : Result (Unit {0}) Refusal) : Type 0 where

@@ -1,7 +1,7 @@
 -- How a log's file stands between two calls, and what a stop may leave of it.
 use Rattle.std.specs.Prelude.{◌≡◌, ◌≢◌, ◌⊎◌, ℕ, ◌+◌, ◌<◌, ◌^◌, List, [], ◌∷◌, ◌++◌, length, Option, None, Some}
 use Rattle.disk_model.specs.Files.{File, Files, MayLeave}
-use Rattle.disk_model.specs.Gates.{IsShut, IsOpening, IsOpen}
+use Rattle.disk_model.specs.Gates.{IsShut, IsOpening, IsOpen, open_gate}
 use Rattle.log_records.specs.Layout.{first_layout}
 use Rattle.store_layout.specs.Logs.{Batch, IsBatch, IsLog, IsClosed, IsEnded, commands_in, end_frame, frame, header, log_file, log_front}
 use Rattle.store_layout.specs.declared.log_phase.Phase.{Phase}
@@ -53,7 +53,7 @@ AtPhase Synced log batches staged file =
     × IsOpening (front_of log batches) (bytes_staged log.ending log.frame) file
 AtPhase Opened log batches staged file =
     HasNext log.ending log staged × IsOpening (front_of log batches) (bytes_staged log.ending log.frame) file
-    × ((rest : List ℕ) × (file.seen ≡ front_of log batches ++ 165 ∷ (bytes_staged log.ending log.frame ++ rest)))
+    × ((rest : List ℕ) × (file.seen ≡ front_of log batches ++ open_gate ∷ (bytes_staged log.ending log.frame ++ rest)))
 
 -- A log that has not failed, with these batches committed and these staged (none, or one): its file stands so.
 pub record Stands (log : LogState) (batches staged : List Batch) (file : File) : Type 0 where

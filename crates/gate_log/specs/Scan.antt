@@ -1,6 +1,7 @@
 -- What a scan of a log file finds. The relations speak of the file's content, and of the batches before the gate that the scan is at.
 use Rattle.std.specs.Prelude.{◌≡◌, ◌≢◌, ◌⊎◌, ◌≤◌, ℕ, ◌+◌, List, [], ◌∷◌, ◌++◌, length}
 use Rattle.disk_model.specs.Files.{Files, now}
+use Rattle.disk_model.specs.Gates.{open_gate}
 use Rattle.file_pieces.specs.Pieces.{ReaderState, Holds}
 use Rattle.map_types.specs.declared.refusals.Refusal.{Refusal}
 use Rattle.map_types.specs.declared.refusals.Refusal.TheVariants.{Failed, NoMemory, Damaged}
@@ -36,10 +37,10 @@ pub record HasRead (layout : Layout) (low : ℕ) (batches : List Batch) (scan : 
 
 -- At a gate so many bytes are read: those of a closed gate alone, and of an open one with the frame and the gate behind it.
 pub data ReadsAtGate (layout : Layout) (tail : List ℕ) (size : ℕ) : Type 0 where
-  shut : (byte : ℕ) (rest : List ℕ) → byte ≢ 165 → tail ≡ byte ∷ rest → size ≡ 1 → ReadsAtGate layout tail size
-  whole_batch : (batch : Batch) (after : ℕ) (behind : List ℕ) → IsBatch layout batch → tail ≡ 165 ∷ (frame layout batch ++ after ∷ behind) → size ≡ 2 + length (frame layout batch)
+  shut : (byte : ℕ) (rest : List ℕ) → byte ≢ open_gate → tail ≡ byte ∷ rest → size ≡ 1 → ReadsAtGate layout tail size
+  whole_batch : (batch : Batch) (after : ℕ) (behind : List ℕ) → IsBatch layout batch → tail ≡ open_gate ∷ (frame layout batch ++ after ∷ behind) → size ≡ 2 + length (frame layout batch)
       → ReadsAtGate layout tail size
-  whole_end : (next after : ℕ) (behind : List ℕ) → tail ≡ 165 ∷ (end_frame next ++ after ∷ behind) → size ≡ 2 + length (end_frame next) → ReadsAtGate layout tail size
+  whole_end : (next after : ℕ) (behind : List ℕ) → tail ≡ open_gate ∷ (end_frame next ++ after ∷ behind) → size ≡ 2 + length (end_frame next) → ReadsAtGate layout tail size
 
 -- The entries are the next batch, and the scan goes on behind it.
 pub record IsNextBatch (layout : Layout) (low : ℕ) (batches : List Batch) (entries : List Entry) (old new : ScanState) (content : List ℕ) : Type 0 where

@@ -1,14 +1,15 @@
 -- What the parts of a step of a scan find.
-use Rattle.std.specs.Prelude.{◌≡◌, ◌≢◌, ℕ, ◌+◌, ◌<◌, ◌≤◌, ◌^◌, List, ◌∷◌, ◌++◌, length, map, Option, None, Some}
+use Rattle.std.specs.Prelude.{◌≡◌, ◌≢◌, ℕ, ◌+◌, ◌-◌, ◌<◌, ◌≤◌, ◌^◌, List, ◌∷◌, ◌++◌, length, map, Option, None, Some}
 use Rattle.std.specs.List.{AllByRecursion}
 use Rattle.byteorder.specs.Endian.{big_bytes}
 use Rattle.disk_model.specs.Files.{Files, now}
+use Rattle.disk_model.specs.Gates.{open_gate}
 use Rattle.file_pieces.specs.Pieces.{ReaderState}
 use Rattle.map_types.specs.declared.commands.Command.{Command}
 use Rattle.log_records.specs.Layout.{first_layout}
 use Rattle.log_records.specs.Spelling.{IsCommand}
 use Rattle.ticket_order.specs.declared.stripe.Entry.{Entry}
-use Rattle.store_layout.specs.Logs.{Batch, IsBatch, end_frame, frame, records_bytes}
+use Rattle.store_layout.specs.Logs.{Batch, IsBatch, end_frame, frame, most_frame_bytes, records_bytes}
 use Rattle.gate_log.specs.States.{AreFrom, batch_of}
 use Rattle.gate_log.specs.declared.parts.Ahead.{Ahead}
 use Rattle.gate_log.specs.declared.parts.Ahead.TheVariants as ahead
@@ -56,24 +57,28 @@ pub record IsAtEnd (next : ℕ) (rest : List ℕ) : Type 0 where
   pub bytes : rest ≡ end_frame next ++ after ∷ behind
   pub next_fits : next < 2 ^ 64
 
+-- the most bytes that a batch's frame has behind its kind (1 byte) and its length (4 bytes)
+abbrev pub most_body_bytes : ℕ
+most_body_bytes = most_frame_bytes - 5
+
 -- a frame of this kind and length is of that sort
 abbrev pub IsAheadOf : ℕ → ℕ → Option Ahead → Type 0
-IsAheadOf kind len None = ((kind ≡ 1) → 12 ≤ len → len ≤ 1048571 → ⊥) × ((kind ≡ 2) → (len ≡ 8) → ⊥)
+IsAheadOf kind len None = ((kind ≡ 1) → 12 ≤ len → len ≤ most_body_bytes → ⊥) × ((kind ≡ 2) → (len ≡ 8) → ⊥)
 IsAheadOf kind len (Some ahead.Closed) = ⊥
-IsAheadOf kind len (Some (ahead.Batch size)) = (kind ≡ 1) × (size ≡ len) × (12 ≤ len) × (len ≤ 1048571)
+IsAheadOf kind len (Some (ahead.Batch size)) = (kind ≡ 1) × (size ≡ len) × (12 ≤ len) × (len ≤ most_body_bytes)
 IsAheadOf kind len (Some ahead.End) = (kind ≡ 2) × (len ≡ 8)
 
 -- its bytes and the gate behind them have places of 64 bits
 abbrev pub FitsAhead : ℕ → Ahead → Type 0
 FitsAhead gate ahead.Closed = Unit {0}
-FitsAhead gate (ahead.Batch len) = (12 ≤ len) × (len ≤ 1048571) × (gate + 7 + len < 2 ^ 64)
+FitsAhead gate (ahead.Batch len) = (12 ≤ len) × (len ≤ most_body_bytes) × (gate + 7 + len < 2 ^ 64)
 FitsAhead gate ahead.End = gate + 15 < 2 ^ 64
 
 -- what this gate and these bytes behind it begin
 abbrev pub ComesAhead : ℕ → List ℕ → Ahead → Type 0
-ComesAhead byte rest ahead.Closed = byte ≢ 165
-ComesAhead byte rest (ahead.Batch len) = (byte ≡ 165) × HasFrame 1 len rest
-ComesAhead byte rest ahead.End = (byte ≡ 165) × HasFrame 2 8 rest
+ComesAhead byte rest ahead.Closed = byte ≢ open_gate
+ComesAhead byte rest (ahead.Batch len) = (byte ≡ open_gate) × HasFrame 1 len rest
+ComesAhead byte rest ahead.End = (byte ≡ open_gate) × HasFrame 2 8 rest
 
 -- where the gate behind this frame stands
 abbrev pub behind_frame : ℕ → Ahead → ℕ

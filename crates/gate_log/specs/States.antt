@@ -1,9 +1,9 @@
 -- A log as its callers see it.
 use Rattle.std.specs.Prelude.{◌≡◌, ℕ, ◌+◌, ◌<◌, ◌^◌, Bool, false, List, [], ◌∷◌, ◌++◌, length, map, Option, None, Some}
-use Rattle.disk_model.specs.Gates.{Call, writes, syncs}
+use Rattle.disk_model.specs.Gates.{Call, writes, syncs, open_gate}
 use Rattle.map_types.specs.declared.commands.Command.{Command}
 use Rattle.ticket_order.specs.declared.stripe.Entry.{Entry}
-use Rattle.store_layout.specs.Logs.{Batch, end_frame, header}
+use Rattle.store_layout.specs.Logs.{Batch, end_frame, header, log_header_bytes}
 use Rattle.store_layout.specs.declared.log_phase.Phase.{Phase}
 use Rattle.store_layout.specs.declared.log_phase.Phase.TheVariants.{Idle, Header, HeaderWritten, Staged, Written, Synced, Opened}
 
@@ -39,7 +39,7 @@ begun generation low = record {
   generation = generation;
   low = low;
   phase = Header;
-  gate = 17;
+  gate = log_header_bytes;
   committed = low;
   count = 0;
   frame = [];
@@ -80,7 +80,7 @@ call_in Header log = Some (writes 0 (header log.generation log.low ++ 0 ∷ []))
 call_in HeaderWritten log = Some syncs
 call_in Staged log = Some (writes (log.gate + 1) (bytes_staged log.ending log.frame))
 call_in Written log = Some syncs
-call_in Synced log = Some (writes log.gate (165 ∷ []))
+call_in Synced log = Some (writes log.gate (open_gate ∷ []))
 call_in Opened log = Some syncs
 
 -- The log after that call: the phase goes on, and after the last one what was staged is committed.
