@@ -1,10 +1,10 @@
 -- How a checkpoint's file stands between two calls, and what a stop may leave of it.
 use Rattle.std.specs.Prelude.{◌≡◌, ◌≢◌, ◌⊎◌, ℕ, ◌+◌, ◌<◌, ◌^◌, Bool, true, false, ◌==◌, List, [], ◌∷◌, ◌++◌, length}
 use Rattle.disk_model.specs.Files.{File, Files, MayLeave, at_rest}
-use Rattle.disk_model.specs.Gates.{IsShut, IsOpening}
+use Rattle.disk_model.specs.Gates.{IsShut, IsOpening, open_gate}
 use Rattle.java_hash.specs.Stripes.{is_stripe_count}
 use Rattle.log_records.specs.Layout.{first_layout}
-use Rattle.store_layout.specs.Checkpoints.{Section, Checkpoint, AreMarkedFrom, AreSections, IsCheckpoint, checkpoint_bytes, checkpoint_file, greatest_mark, is_sealed, is_to_close, section_bytes, sections_bytes}
+use Rattle.store_layout.specs.Checkpoints.{Section, Checkpoint, AreMarkedFrom, AreSections, IsCheckpoint, checkpoint_bytes, checkpoint_file, checkpoint_header_bytes, greatest_mark, is_sealed, is_to_close, section_bytes, sections_bytes}
 use Rattle.store_layout.specs.declared.checkpoint_phase.CheckpointPhase.{CheckpointPhase}
 use Rattle.store_layout.specs.declared.checkpoint_phase.CheckpointPhase.TheVariants.{Idle, Gate, GateWritten, GateSynced, Ready, Staged, Header, HeaderWritten, HeaderSynced, Opened, Sealed}
 use Rattle.checkpoint_file.specs.States.{CheckpointState}
@@ -34,13 +34,13 @@ pub record IsClosing (old : List ℕ) (file : File) : Type 0 where
   pub gate : ℕ
   pub rest : List ℕ
   pub seen : file.seen ≡ gate ∷ rest
-  pub closed : gate ≢ 165
+  pub closed : gate ≢ open_gate
   pub leaves : (content : List ℕ) → MayLeave file content → (content ≡ old) ⊎ (is_sealed content ≡ false)
 
 -- room for the header, and these sections, behind a gate that stands closed on the disk
 pub record IsFilled (sections : List Section) (file : File) : Type 0 where
   pub space : List ℕ
-  pub size : length space ≡ 35
+  pub size : length space ≡ checkpoint_header_bytes
   pub shut : IsShut [] (space ++ sections_bytes first_layout sections) file
 
 -- the last of the sections is staged, and those before it are written
@@ -75,7 +75,7 @@ AtPhase HeaderWritten w old sections file = (w.count ≡ w.stripes) × IsShut []
 AtPhase HeaderSynced w old sections file =
     (w.count ≡ w.stripes) × IsShut [] (written_of w sections) file × IsOpening [] (written_of w sections) file
 AtPhase Opened w old sections file =
-    (w.count ≡ w.stripes) × IsOpening [] (written_of w sections) file × ((rest : List ℕ) × (file.seen ≡ 165 ∷ (written_of w sections ++ rest)))
+    (w.count ≡ w.stripes) × IsOpening [] (written_of w sections) file × ((rest : List ℕ) × (file.seen ≡ open_gate ∷ (written_of w sections ++ rest)))
 AtPhase Sealed w old sections file = (w.count ≡ w.stripes) × IsSealed w sections file
 
 -- A checkpoint that has not failed, of which these sections were given: its file stands so. Before it was begun the file had the old content.

@@ -9,7 +9,7 @@ use Rattle.map_types.specs.declared.texts.Value.{Value}
 use Rattle.map_types.specs.declared.refusals.Refusal.{Refusal}
 use Rattle.map_types.specs.declared.refusals.Refusal.TheVariants.{Failed, NoMemory, Damaged}
 use Rattle.log_records.specs.Layout.{first_layout}
-use Rattle.store_layout.specs.Checkpoints.{Section, Checkpoint, IsSection, AreSections, entry_bytes, entries_bytes, sections_bytes, is_sealed}
+use Rattle.store_layout.specs.Checkpoints.{Section, Checkpoint, IsSection, AreSections, body_offset, entry_bytes, entries_bytes, sections_bytes, is_sealed}
 use Rattle.store_layout.specs.Faults.{AreEntries, head_fault, IsBadCheckpoint}
 use Rattle.checkpoint_file.specs.declared.unread.Unread.{Unread}
 use Rattle.checkpoint_file.specs.declared.loading.LoadedSection.{LoadedSection}
@@ -131,6 +131,6 @@ pub record IsBodyOf (stripes : ℕ) (reads : List LoadedSection) (body : List �
 -- where a body of so many bytes stands
 pub record IsBodyAt (file size : ℕ) (unread : Unread) : Type 0 where
   pub file_is : unread.file ≡ file
-  pub offset : unread.at ≡ 36
+  pub offset : unread.at ≡ body_offset
   pub left : unread.left ≡ size
   pub fits : unread.at + unread.left < 2 ^ 64

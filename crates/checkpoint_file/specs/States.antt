@@ -1,12 +1,12 @@
 -- A checkpoint that is being written, as its callers see it.
 use Rattle.std.specs.Prelude.{◌≡◌, ℕ, ◌+◌, ◌*◌, ◌<◌, ◌≤◌, ◌^◌, max, replicate, Bool, true, false, List, [], ◌∷◌, length, Option, None, Some}
 use Rattle.std.specs.List.{AllByRecursion}
-use Rattle.disk_model.specs.Gates.{Call, writes, syncs}
+use Rattle.disk_model.specs.Gates.{Call, writes, syncs, open_gate}
 use Rattle.java_hash.specs.Stripes.{is_stripe_count, stripe_of}
 use Rattle.map_types.specs.declared.texts.Value.{Value}
 use Rattle.log_records.specs.Layout.{first_layout}
 use Rattle.log_records.specs.Spelling.{IsText, IsValue}
-use Rattle.store_layout.specs.Checkpoints.{checkpoint_header, marked_bytes}
+use Rattle.store_layout.specs.Checkpoints.{body_offset, checkpoint_header, checkpoint_header_bytes, marked_bytes}
 use Rattle.store_layout.specs.declared.checkpoint_phase.CheckpointPhase.{CheckpointPhase}
 use Rattle.store_layout.specs.declared.checkpoint_phase.CheckpointPhase.TheVariants.{Idle, Gate, GateWritten, GateSynced, Ready, Staged, Header, HeaderWritten, HeaderSynced, Opened, Sealed}
 
@@ -95,12 +95,12 @@ abbrev pub call_in : CheckpointPhase → CheckpointState → Option Call
 call_in Idle w = None
 call_in Gate w = Some (writes 0 (0 ∷ []))
 call_in GateWritten w = Some syncs
-call_in GateSynced w = Some (writes 1 (replicate 35 0))
+call_in GateSynced w = Some (writes 1 (replicate checkpoint_header_bytes 0))
 call_in Ready w = None
-call_in Staged w = Some (writes (36 + w.body) w.section)
+call_in Staged w = Some (writes (body_offset + w.body) w.section)
 call_in Header w = Some (writes 1 (checkpoint_header w.generation w.low w.greatest w.stripes w.body))
 call_in HeaderWritten w = Some syncs
-call_in HeaderSynced w = Some (writes 0 (165 ∷ []))
+call_in HeaderSynced w = Some (writes 0 (open_gate ∷ []))
 call_in Opened w = Some syncs
 call_in Sealed w = None
 
