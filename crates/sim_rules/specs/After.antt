@@ -11,6 +11,7 @@ use Rattle.disk_model.specs.Files.{Files, synced, with_file}
 use Rattle.disk_model.specs.Fills.{after_stop, torn}
 use Rattle.disk_model.specs.Gates as disk
 use Rattle.store_layout.specs.Checkpoints.{Section, checkpoint_file, is_to_close}
+use Rattle.store_layout.specs.Logs.{log_header_bytes}
 use Rattle.store_layout.specs.Opening.{Opened}
 use Rattle.sim_rules.specs.declared.event.Ending.{Ending}
 use Rattle.sim_rules.specs.declared.event.Ending.TheVariants as ending
@@ -223,7 +224,7 @@ log_called w l (Committing n left) =
     if left == 1 then record l { log = Resting; committed = l.committed + n; gate = gate_after w l n }
     else record l { log = Committing n (left - 1) }
 log_called w l (Rotating left) =
-    if left == 1 then record l { log = Resting; newest = l.newest + 1; gate = 17 }
+    if left == 1 then record l { log = Resting; newest = l.newest + 1; gate = log_header_bytes }
     else record l { log = Rotating (left - 1) }
 
 -- First the calls before the sections, then the write of the section that waits, then the calls of the seal, of which the last seals.

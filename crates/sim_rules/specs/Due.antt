@@ -1,8 +1,8 @@
 -- The device call that is due, by what the events and outcomes so far say.
 use Rattle.std.specs.Prelude.{◌≡◌, ℕ, ◌+◌, ◌-◌, List, [], ◌∷◌, ◌++◌, length, take, drop, replicate, Option, Some, None, nat_lt, ◌==◌, if◌then◌else◌}
 use Rattle.log_records.specs.Layout.{first_layout}
-use Rattle.disk_model.specs.Gates.{Call, writes, syncs}
-use Rattle.store_layout.specs.Checkpoints.{Section, checkpoint_file, checkpoint_header, greatest_mark, sections_bytes}
+use Rattle.disk_model.specs.Gates.{Call, writes, syncs, open_gate}
+use Rattle.store_layout.specs.Checkpoints.{Section, body_offset, checkpoint_file, checkpoint_header, checkpoint_header_bytes, greatest_mark, sections_bytes}
 use Rattle.store_layout.specs.Logs.{end_frame, frame, header, log_file}
 use Rattle.sim_rules.specs.declared.event.Side.{Side}
 use Rattle.sim_rules.specs.declared.event.Side.TheVariants as side
@@ -12,7 +12,7 @@ use Rattle.sim_rules.specs.World.{World, Life, LogWork, Resting, Committing, Rot
 
 -- the four calls that put a frame behind a gate, by how many are left: the frame and a closed gate, a sync, the gate opened, a sync
 abbrev pub frame_call : ℕ → List ℕ → ℕ → Call
-frame_call gate frame left = if left == 4 then writes (gate + 1) (frame ++ 0 ∷ []) else if left == 2 then writes gate (165 ∷ []) else syncs
+frame_call gate frame left = if left == 4 then writes (gate + 1) (frame ++ 0 ∷ []) else if left == 2 then writes gate (open_gate ∷ []) else syncs
 
 -- first come the header of the next log and its closed gate, and a sync; then the end frame, which names its generation
 abbrev pub rotation_call : Life → ℕ → Call
@@ -36,18 +36,18 @@ log_number l (Rotating left) = if nat_lt 4 left then log_file (l.newest + 1) els
 
 -- before the sections: the gate closed, a sync, and zeros where the header will stand
 abbrev pub clearing_call : ℕ → Call
-clearing_call left = if left == 3 then writes 0 (0 ∷ []) else if left == 2 then syncs else writes 1 (replicate 35 0)
+clearing_call left = if left == 3 then writes 0 (0 ∷ []) else if left == 2 then syncs else writes 1 (replicate checkpoint_header_bytes 0)
 
 -- the last section, behind those before it
 abbrev pub section_call : List Section → Call
 section_call sections =
-    writes (36 + length (sections_bytes first_layout (take (length sections - 1) sections))) (sections_bytes first_layout (drop (length sections - 1) sections))
+    writes (body_offset + length (sections_bytes first_layout (take (length sections - 1) sections))) (sections_bytes first_layout (drop (length sections - 1) sections))
 
 -- the seal: the header, a sync, the gate opened, a sync
 abbrev pub sealing_call : Life → ℕ → Running → ℕ → Call
 sealing_call l low running left =
     if left == 4 then writes 1 (checkpoint_header running.generation low (greatest_mark running.sections) l.stripes (length (sections_bytes first_layout running.sections)))
-    else if left == 2 then writes 0 (165 ∷ [])
+    else if left == 2 then writes 0 (open_gate ∷ [])
     else syncs
 
 abbrev pub running_call : Life → ℕ → Running → Call
