@@ -18,6 +18,7 @@ use Rattle.gate_log.specs.States.{LogState, IsResting}
 use Rattle.flusher.specs.declared.keeper.Keeper.{Keeper}
 use Rattle.flusher.specs.Fitting.{Fits, HasSeenMore, IsQuiet, IsTakenFront, WereTaken}
 use Rattle.store_layout.specs.Hands.{FitsBatch}
+use Rattle.store_layout.specs.Logs.{most_commands}
 use Rattle.flusher.specs.KeeperSteps.{is_too_long, is_walking}
 use Rattle.wire_frames.specs.declared.requests.Request.{Request}
 use Rattle.wire_frames.specs.declared.requests.Request.TheVariants.{Change, Read, Bulk}
@@ -97,7 +98,7 @@ pub record HasNoRoom (log : LogState) (p : Record) : Type 0 where
   pub commands : List Command
   pub some : 1 ≤ length commands
   pub taken : WereTaken log.committed commands p
-  pub fits : FitsBatch 65536 log.committed commands
+  pub fits : FitsBatch most_commands log.committed commands
   pub too_long : is_too_long log commands
 
 -- the log takes no further batch: a device call has failed, or the log is full

@@ -1,10 +1,10 @@
 -- What the keeper shows.
-use Rattle.std.specs.Prelude.{◌≡◌, ℕ, ◌+◌, ◌<◌, ◌≤◌, ◌^◌, Bool, true, false, List, [], ◌∷◌, ◌++◌, drop, length, replicate, Option, None, Some, Result, Ok}
+use Rattle.std.specs.Prelude.{◌≡◌, ℕ, ◌+◌, ◌<◌, ◌≤◌, Bool, true, false, List, [], ◌∷◌, ◌++◌, drop, length, replicate, Option, None, Some, Result, Ok}
 use Rattle.map_types.specs.declared.commands.Command.{Command}
 use Rattle.map_types.specs.declared.refusals.Refusal.{Refusal}
 use Rattle.ticket_order.specs.Legality.{entries_from}
 use Rattle.log_records.specs.Layout.{first_layout}
-use Rattle.store_layout.specs.Logs.{frame}
+use Rattle.store_layout.specs.Logs.{frame, most_log_bytes}
 use Rattle.gate_log.specs.States.{LogState, IsResting, batch_of}
 use Rattle.ticket_order.specs.declared.stripe.Entry.{Entry}
 use Rattle.store_layout.specs.declared.log_phase.Phase.{Phase}
@@ -52,7 +52,7 @@ MayStage log next = IsResting log × (next ≡ None)
 
 -- a batch of these commands would carry the log past its greatest length
 abbrev pub is_too_long : LogState → List Command → Type 0
-is_too_long log commands = 2 ^ 40 < log.gate + 1 + length (frame first_layout (record { first = log.committed; commands = commands })) + 1
+is_too_long log commands = most_log_bytes < log.gate + 1 + length (frame first_layout (record { first = log.committed; commands = commands })) + 1
 
 -- there is something to stage, and it would
 pub record IsFull (most : ℕ) (log : LogState) (hand : Hand) : Type 0 where

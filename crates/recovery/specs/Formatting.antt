@@ -2,6 +2,7 @@
 use Rattle.std.specs.Prelude.{◌≡◌, ◌≢◌, ◌⊎◌, ℕ, true, false, List, [], ◌∷◌, ◌++◌, None}
 use Rattle.std.specs.FinMap as finite
 use Rattle.disk_model.specs.Files.{Contents, File, Files, Leaves, MayLeave, at_rest}
+use Rattle.disk_model.specs.Gates.{open_gate}
 use Rattle.store_layout.specs.Checkpoints.{is_sealed}
 use Rattle.store_layout.specs.Opening.{Holds, Opened, StandsFor, first_checkpoint}
 
@@ -31,7 +32,7 @@ IsNewOrUnformatted stripes contents = IsUnformatted contents ⊎ IsNew stripes c
 
 -- the content is not sealed, or its gate is open and these bytes stand behind it
 abbrev pub IsSealedWith : List ℕ → List ℕ → Type 0
-IsSealedWith bytes content = (is_sealed content ≡ false) ⊎ ((rest : List ℕ) × (content ≡ 165 ∷ (bytes ++ rest)))
+IsSealedWith bytes content = (is_sealed content ≡ false) ⊎ ((rest : List ℕ) × (content ≡ open_gate ∷ (bytes ++ rest)))
 
 -- the other files are as they were at the start, and whatever a stop may leave of this one has P
 pub record OneFile (number : ℕ) (P : List ℕ → Type 0) (start files : Files) : Type 0 where
