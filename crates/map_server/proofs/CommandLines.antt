@@ -9,8 +9,8 @@ use Rattle.disk_model.specs.Files.{Files}
 use Rattle.wire_frames.specs.declared.receiving.ReplyError.{ReplyError}
 use Rattle.map_server.specs.CommandLine.{faults, name_of, named_by, Advises, Asks, FindsNoMemory, Names}
 use Rattle.map_server.specs.Program.{Does, Ran, Serves}
-use Rattle.map_server.specs.declared.program.Order.{Order}
-use Rattle.map_server.specs.declared.program.Order.TheVariants.{Mem, Init, Check, Serve, Call, Sim}
+use Rattle.map_server.specs.declared.order.Order.{Order}
+use Rattle.map_server.specs.declared.order.Order.TheVariants.{Mem, Init, Check, Serve, Call, Sim}
 
 pub mem_is_known : (name : Text) → faults (name ∷ codes "mem" ∷ []) ≡ []
 unfolding clap_on_literals

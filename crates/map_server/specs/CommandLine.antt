@@ -5,8 +5,8 @@ use Rattle.clap.specs.Simple.{on_top}
 use Rattle.clap.specs.Lexer.{usize_max}
 use Rattle.clap.specs.declared.builder.action.ArgAction.TheVariants.{Set, Append}
 use Rattle.cmd_serve.specs.declared.server.ServerWords.{ServerWords}
-use Rattle.map_server.specs.declared.program.Order.{Order}
-use Rattle.map_server.specs.declared.program.Order.TheVariants.{Mem, Init, Check, Serve, Call, Sim}
+use Rattle.map_server.specs.declared.order.Order.{Order}
+use Rattle.map_server.specs.declared.order.Order.TheVariants.{Mem, Init, Check, Serve, Call, Sim}
 use Rattle.clap.specs.declared.error.kind.ErrorKind.{ErrorKind}
 use Rattle.clap.specs.declared.error.kind.ErrorKind.TheVariants.{DisplayHelp, DisplayVersion, OutOfMemory}
 

@@ -7,8 +7,8 @@ use Rattle.connections.specs.Connection.{Connection}
 use Rattle.cmd_mem.specs.Maps.{Began, Finished, GaveUp, IsEmpty, MapState}
 use Rattle.disk_model.specs.Files.{Files}
 use Rattle.map_server.specs.CommandLine.{faults, named_by, Asks, FindsNoMemory, Misuses}
-use Rattle.map_server.specs.declared.program.Order.{Order}
-use Rattle.map_server.specs.declared.program.Order.TheVariants.{Mem, Init, Check, Serve, Call, Sim}
+use Rattle.map_server.specs.declared.order.Order.{Order}
+use Rattle.map_server.specs.declared.order.Order.TheVariants.{Mem, Init, Check, Serve, Call, Sim}
 use Rattle.wire_frames.specs.declared.receiving.ReplyError.{ReplyError}
 use Rattle.cmd_directory.specs.Directory.{Inits, Inspects}
 use Rattle.cmd_call.specs.Calling.{MakesCalls}

@@ -2,6 +2,7 @@
 #![tactic(auto)]
 
 mod host;
+mod order;
 pub mod program;
 
 pub use cmd_serve::{Arrivals, Gate, NoGate, workers};

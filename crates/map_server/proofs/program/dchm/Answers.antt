@@ -1,6 +1,6 @@
 use Rattle.std.proofs.Common.{map, refl, string_bytes}
 use Rattle.map_server.proofs.CommandLines.{advised, obeys}
-use Rattle.map_server.specs.declared.program.Order.TheVariants.{Mem, Init, Check, Serve, Call, Sim}
+use Rattle.map_server.specs.declared.order.Order.TheVariants.{Mem, Init, Check, Serve, Call, Sim}
 use Rattle.map_server.proofs.program.dchm.Goals as goal
 
 pub returns-in-Ok-Mem : goal.returns-in-Ok-Mem

@@ -3,7 +3,7 @@ use Rattle.std.proofs.lemmas.Result.{err_from_is_err_and}
 use Rattle.clap.specs.Words.{App, Text, Row, app_of, fault_of, is_simple, is_simple_and_free, subcommand_of, subcommand_rows_of, HasKind}
 use Rattle.clap.proofs.OnLiterals.{clap_on_literals}
 use Rattle.map_server.specs.CommandLine.{command_line, named_by, Asks}
-use Rattle.map_server.proofs.program.order_of.Goals as goal
+use Rattle.map_server.proofs.order.order_of.Goals as goal
 
 is_plain : is_simple_and_free command_line ≡ true
 unfolding clap_on_literals

@@ -2,7 +2,7 @@ use Rattle.std.proofs.Common.{◌≡◌, ◌∙◌, ◌++◌, List, ap, codes, m
 use Rattle.std.specs.Borrow.{Bor}
 use Rattle.clap.specs.Words.{Text, found_of}
 use Rattle.map_server.proofs.Getters.{words_are}
-use Rattle.map_server.proofs.program.words_in.Goals as goal
+use Rattle.map_server.proofs.order.words_in.Goals as goal
 
 pub returns : goal.returns
 returns c =

@@ -2,7 +2,7 @@ use Rattle.std.proofs.Common.{◌∙◌, ap}
 use Rattle.std.specs.Borrow.{Bor}
 use Rattle.clap.specs.Words.{Text, found_of}
 use Rattle.map_server.proofs.Getters.{word_is}
-use Rattle.map_server.proofs.program.word_or.Goals as goal
+use Rattle.map_server.proofs.order.word_or.Goals as goal
 
 pub returns : goal.returns
 returns c =
