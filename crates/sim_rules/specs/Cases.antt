@@ -1,17 +1,15 @@
 -- What may come of each event, by what came before it. The clauses of one definition exclude each other.
-use Rattle.std.specs.Prelude.{◌≡◌, ◌⊎◌, ℕ, ◌+◌, ◌-◌, ◌^◌, ◌<◌, ◌≤◌, List, length, map, Option, Some, None, Bool, true, false, ◌&&◌, ◌||◌, ◌==◌, not}
-use Rattle.std.specs.Prelude.{nat_lt, nat_le, if◌then◌else◌, is_some, MatchBool}
+use Rattle.std.specs.Prelude.{◌≡◌, ℕ, ◌+◌, ◌-◌, ◌^◌, ◌<◌, ◌≤◌, length, Option, Some, None, Bool, true, false, ◌&&◌, ◌||◌, ◌==◌, not}
+use Rattle.std.specs.Prelude.{nat_lt, if◌then◌else◌, is_some, MatchBool}
 use Rattle.std.specs.FinMap as finite
 use Rattle.map_types.specs.declared.refusals.Refusal.TheVariants as refusal
-use Rattle.map_types.specs.declared.texts.Value.{Value}
 use Rattle.ticket_order.specs.declared.record.Asked.{Asked}
 use Rattle.ticket_order.specs.declared.record.Asked.TheVariants.{Changing, Reading}
 use Rattle.ticket_order.specs.Records.{ticket_limit}
 use Rattle.disk_model.specs.Files.{AreBytes, Files}
 use Rattle.disk_model.specs.Gates.{IsPlaced}
-use Rattle.store_layout.specs.Calls.{opening_calls}
 use Rattle.store_layout.specs.Checkpoints.{greatest_mark}
-use Rattle.store_layout.specs.Opening.{Opened, Holds, Refuses, map_of, prefix_of}
+use Rattle.store_layout.specs.Opening.{Opened}
 use Rattle.store_layout.specs.declared.log_phase.Phase.{Phase}
 use Rattle.store_layout.specs.declared.log_phase.Phase.TheVariants as log_phase
 use Rattle.store_layout.specs.declared.checkpoint_phase.CheckpointPhase.{CheckpointPhase}
@@ -29,16 +27,16 @@ use Rattle.sim_rules.specs.declared.outcome.End.{End}
 use Rattle.sim_rules.specs.declared.outcome.End.TheVariants as ends
 use Rattle.sim_rules.specs.declared.outcome.Made.{Made}
 use Rattle.sim_rules.specs.declared.outcome.Made.TheVariants as made
-use Rattle.sim_rules.specs.declared.outcome.MapEntry.{MapEntry}
 use Rattle.sim_rules.specs.declared.outcome.Outcome.{Outcome}
 use Rattle.sim_rules.specs.declared.outcome.Outcome.TheVariants as outcome
 use Rattle.sim_rules.specs.World.{World, Life, Job, Idle, Walks, Keeps, Releasing, Stage, Begins, HasTaken, IsAlive, IsDead, HasLooked, HasDrawn}
 use Rattle.sim_rules.specs.World.{Asking, FirstSees, HasMissed, FoundFailure, InHand, Sweep, KeeperWalk, Rests, SweepTakes, SweepGives, CaptureLooks}
 use Rattle.sim_rules.specs.World.{CaptureGives, LogWork, Resting, Committing, Rotating, Running, count, gate_after, is_held, is_resting, job_of}
-use Rattle.sim_rules.specs.World.{needs_rotation, next_commands, next_section, place_of, seen_of, stripe_asked, sweep_or}
+use Rattle.sim_rules.specs.World.{needs_rotation, next_commands, next_section, place_of, stripe_asked, sweep_or}
 use Rattle.sim_rules.specs.Fitting.{fits}
 use Rattle.sim_rules.specs.Due.{due_call, due_file}
 use Rattle.sim_rules.specs.After.{bytes_of, call_of, called, checkpoint_called, file_of, log_called, section_at}
+pub use Rattle.sim_rules.specs.OpeningCases.{Finds, MayTake, OpensFiles, entry_of, names_within}
 
 -- ---- the steps of a call
 
@@ -338,35 +336,6 @@ Publishes l (outcome.Published n) = n ≡ l.committed
 Publishes l x = ⊥
 
 -- ---- the ends of a life
-
-abbrev pub entry_of : MapEntry → List ℕ × Value
-entry_of entry = (entry.key, entry.value)
-
--- the event names one of the first so many device calls; they are counted from 1
-abbrev pub names_within : Option ℕ → ℕ → Bool
-names_within None calls = false
-names_within (Some n) calls = nat_lt 0 n && nat_le n calls
-
--- what the files hold is found; the outcome has the number of its commands, and all entries of its map in rising byte order of their keys
-pub record Finds (w : World) (found : Opened) (prefix : ℕ) (entries : List MapEntry) : Type 0 where
-  pub holds : Holds (seen_of w.files) found
-  pub prefix_is : prefix ≡ prefix_of found
-  pub entries_are : map entry_of entries ≡ finite.entries (map_of found)
-
--- so many device calls are no more than those of an opening that finds what the files hold
-abbrev pub MayTake : World → ℕ → Type 0
-MayTake w calls = (found : Opened) → Holds (seen_of w.files) found → calls ≤ opening_calls found
-
--- An opening is refused with 9 exactly where the device call that its event names was made, as the last. Else it never comes to that call: it finds
--- what the files hold, which the syncs leave as they read, by the device calls that this takes; or it makes its four syncs, and is refused as the files
--- are, or for want of memory. A refused opening of files that hold something makes no more device calls than finding it takes.
-abbrev pub OpensFiles : World → Opened → Option ℕ → Outcome → Type 0
-OpensFiles w found fails_at (outcome.Opened calls prefix entries) =
-    (calls ≡ opening_calls found) × (names_within fails_at calls ≡ false) × Finds w found prefix entries.items
-OpensFiles w found fails_at (outcome.NotOpened calls refusal.Failed) = (1 ≤ calls) × (fails_at ≡ Some calls) × MayTake w calls
-OpensFiles w found fails_at (outcome.NotOpened calls reason) =
-    (4 ≤ calls) × (names_within fails_at calls ≡ false) × ((reason ≡ refusal.NoMemory) ⊎ Refuses (seen_of w.files) reason) × MayTake w calls
-OpensFiles w found fails_at x = ⊥
 
 -- A stop within a device call names that call.
 abbrev pub StopsInside : World → Life → Option Side → Outcome → Type 0

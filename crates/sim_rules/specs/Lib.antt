@@ -4,6 +4,7 @@ pub mod World
 pub mod Fitting
 pub mod After
 pub mod Due
+pub mod OpeningCases
 pub mod Cases
 pub mod Runs
 pub mod Sound
