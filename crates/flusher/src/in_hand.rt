@@ -5,7 +5,7 @@ ghost use Rattle.std.specs.List.{All};
 ghost use Rattle.map_types.specs.declared.commands.Command.{Command};
 ghost use Rattle.ticket_order.specs.Legality.{entries_from};
 ghost use Rattle.log_records.specs.Layout.{first_layout};
-ghost use Rattle.store_layout.specs.Logs.{frame};
+ghost use Rattle.store_layout.specs.Logs.{frame, most_frame_bytes};
 ghost use Rattle.store_layout.specs.Hands.{Hand, most_from, IsRun, IsLongest};
 ghost use Rattle.flusher.specs.HandSteps.{MakesRoom, Gains};
 
@@ -202,7 +202,7 @@ impl InHand {
 fn run_of(count: u32, room: usize) -> Run
     requires { room ≤ 1048559 }
     ensures count { result.count ≡ count }
-    ensures frame { result.frame_len + room ≡ 1048576 }
+    ensures frame { result.frame_len + room ≡ most_frame_bytes }
 {
     Run {
         count,

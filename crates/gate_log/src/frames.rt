@@ -3,7 +3,7 @@ ghost use Rattle.std.specs.Prelude.{◌≡◌, ◌≤◌, ◌<◌, ◌^◌, ◌+
 ghost use Rattle.std.specs.List.{AllByRecursion};
 ghost use Rattle.log_records.specs.Layout.{first_layout};
 ghost use Rattle.log_records.specs.Spelling.{IsCommand};
-ghost use Rattle.store_layout.specs.Logs.{end_frame, frame, header, records_bytes};
+ghost use Rattle.store_layout.specs.Logs.{end_frame, frame, header, records_bytes, most_commands};
 ghost use Rattle.gate_log.specs.States.{batch_of, commands_of};
 
 use log_records::{encode, put_number, record_len};
@@ -34,7 +34,7 @@ pub(crate) fn end_frame_and_gate(next: u64) -> [u8; 14]
 
 /// How many bytes the records of the entries take.
 fn records_len(entries: &[Entry]) -> usize
-    requires { length entries.now ≤ 65536 }
+    requires { length entries.now ≤ most_commands }
     ensures len { result ≡ length (records_bytes first_layout (commands_of entries.now)) }
     ensures bound { result ≤ 8455 * length entries.now }
 {
@@ -47,7 +47,7 @@ fn records_len(entries: &[Entry]) -> usize
 
 /// How many bytes the frame of a batch takes.
 pub(crate) fn frame_len(entries: &[Entry]) -> usize
-    requires { length entries.now ≤ 65536 }
+    requires { length entries.now ≤ most_commands }
     ensures { (first : ℕ) → result ≡ length (frame first_layout (batch_of first entries.now)) }
 {
     FRAME_HEAD_BYTES + records_len(entries)
@@ -68,7 +68,7 @@ fn append_records(entries: &[Entry], out: &mut Vec<u8>) -> Result<(), Refusal>
 
 /// The frame of a batch, and a closed gate. Its memory is got at once.
 pub(crate) fn batch_frame(alloc: Global, first: u64, entries: &[Entry]) -> Result<Vec<u8>, Refusal>
-    requires { length entries.now ≤ 65536 }
+    requires { length entries.now ≤ most_commands }
     ensures ok { IfOk result (λ bytes.
         bytes.items ≡ frame first_layout (batch_of first entries.now) ++ 0 ∷ []) }
     ensures fits { OnOk result (AllByRecursion (IsCommand first_layout) (commands_of entries.now)) }

@@ -4,7 +4,7 @@ ghost use Rattle.disk_model.specs.Calls.{Makes, Fails};
 ghost use Rattle.disk_model.specs.Files.{File, now, at_rest};
 ghost use Rattle.disk_model.specs.Gates.{Call, IsPlaced};
 ghost use Rattle.log_records.specs.Layout.{first_layout};
-ghost use Rattle.store_layout.specs.Logs.{Batch, IsClosed, commands_in, frame, log_file, log_front};
+ghost use Rattle.store_layout.specs.Logs.{Batch, IsClosed, commands_in, frame, log_file, log_front, most_commands, most_frame_bytes, most_log_bytes};
 ghost use Rattle.gate_log.specs.States.{AreFrom, IsResting, batch_of, begun, bytes_staged, call_in, log_after, resumed};
 ghost use Rattle.gate_log.specs.LogStates.{Stands};
 ghost use Rattle.gate_log.specs.LogSteps.{Advances, MayAdvance};
@@ -188,9 +188,9 @@ impl GateLog {
         requires in_order { AreFrom self.old.committed entries.now }
         requires fits { self.old.committed + length entries.now < 2 ^ 64 }
         requires some { 1 ≤ length entries.now }
-        requires few { length entries.now ≤ 65536 }
+        requires few { length entries.now ≤ most_commands }
         requires short { length (frame first_layout (batch_of self.old.committed entries.now))
-            ≤ 1048576 }
+            ≤ most_frame_bytes }
 
         // Their frame is staged behind what is committed, and the file stays.
         ensures ok { OnOk result
@@ -208,7 +208,7 @@ impl GateLog {
         ensures wrong_phase { (result ≡ Err Refusal.WrongPhase) ↔ (IsResting self.old → ⊥) }
         ensures full { (result ≡ Err Refusal.LogFull)
             ↔ (IsResting self.old
-            × (2 ^ 40 < self.old.gate + 1
+            × (most_log_bytes < self.old.gate + 1
             + length (frame first_layout (batch_of self.old.committed entries.now)) + 1)) }
         ensures no_other { IfErr result (λ refusal. (refusal ≡ Refusal.WrongPhase)
             ⊎ (refusal ≡ Refusal.LogFull) ⊎ (refusal ≡ Refusal.NoMemory)) }

@@ -8,7 +8,7 @@ ghost use Rattle.map_types.specs.declared.commands.Command.{Command};
 ghost use Rattle.store_layout.specs.Logs.{Batch, IsBatch, frame, log_file, records_bytes};
 ghost use Rattle.store_layout.specs.Readings.{HasHeader, IsBadHeader};
 ghost use Rattle.gate_log.specs.Scan.{failed_in};
-ghost use Rattle.gate_log.specs.ScanParts.{AreEntries, IsBody, IsAheadOf};
+ghost use Rattle.gate_log.specs.ScanParts.{AreEntries, IsBody, IsAheadOf, most_body_bytes};
 
 use byteorder::{BigEndian, ByteOrder};
 use log_records::decode;
@@ -154,7 +154,7 @@ pub(crate) fn batch_at(
     body: &[u8],
 ) -> Result<Option<Vec<Entry>>, Refusal>
     requires low { 12 ≤ length body.now }
-    requires high { length body.now ≤ 1048571 }
+    requires high { length body.now ≤ most_body_bytes }
     ensures some { IfOk result (λ found. IfSome found (λ entries.
         IsBody expected entries.items body.now)) }
     ensures none { IfOk result (λ found.

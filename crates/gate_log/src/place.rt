@@ -4,11 +4,12 @@ ghost use Rattle.disk_model.specs.Calls.{Looks};
 ghost use Rattle.file_pieces.specs.Counting.{ReadsPieces, ReadsAtMost};
 ghost use Rattle.file_pieces.specs.Pieces.{Holds, IsSameFile, end_of, pieces_in};
 ghost use Rattle.log_records.specs.Layout.{first_layout};
+ghost use Rattle.disk_model.specs.Gates.{open_gate};
 ghost use Rattle.store_layout.specs.Logs.{log_file};
 ghost use Rattle.store_layout.specs.Readings.{HasNoFrame};
 ghost use Rattle.gate_log.specs.States.{batch_of};
 ghost use Rattle.gate_log.specs.Scan.{ReadsAtGate, RefusesAt, failed_in};
-ghost use Rattle.gate_log.specs.ScanParts.{HasFrame, FitsAhead, ComesAhead, FitsBatch, IsAtBatch, IsAtEnd, behind_frame, bytes_of};
+ghost use Rattle.gate_log.specs.ScanParts.{HasFrame, FitsAhead, ComesAhead, FitsBatch, IsAtBatch, IsAtEnd, behind_frame, bytes_of, most_body_bytes};
 
 use crate::parts::{
     Ahead, END_BYTES, HEAD_BYTES, ahead_of, batch_at, file_number, kind_and_len, next_generation,
@@ -96,7 +97,7 @@ impl Place {
         // A frame of that kind and length stands behind the gate, whole.
         ensures ahead { (content rest : List ℕ) → Holds content reader.now
             → drop (self.gate + 1) content ≡ rest → length rest ≡ behind
-            → IfOk result (ComesAhead 165 rest) }
+            → IfOk result (ComesAhead open_gate rest) }
 
         // Refused as damaged if no frame stands there that may come next; never as Failed.
         ensures err { IfErr result (RefusesAt self.generation self.gate ((content rest : List ℕ)
@@ -154,7 +155,7 @@ impl Place {
         ensures within { D.honest disk.new → (size : ℕ) (rest : List ℕ)
             → Holds (bytes_of D.states disk.old reader.old) reader.old
             → drop (self.gate + 1) (bytes_of D.states disk.old reader.old) ≡ rest
-            → ReadsAtGate first_layout (165 ∷ rest) size
+            → ReadsAtGate first_layout (open_gate ∷ rest) size
             → OnErr result (ReadsAtMost D.states disk.old disk.new reader.old
             (max (end_of reader.old) (self.gate + size))) }
 
@@ -165,7 +166,7 @@ impl Place {
         ensures ahead { D.honest disk.new → (rest : List ℕ)
             → Holds (bytes_of D.states disk.old reader.old) reader.old
             → drop (self.gate + 1) (bytes_of D.states disk.old reader.old) ≡ rest
-            → IfOk result (ComesAhead 165 rest) }
+            → IfOk result (ComesAhead open_gate rest) }
 
         // Refused: a failed call, no memory, or no frame that may come next.
         ensures err { IfErr result
@@ -234,7 +235,7 @@ impl Place {
         ensures err { IfErr result (RefusesAt self.generation self.gate (D.honest disk.new
             → (byte : ℕ) (rest : List ℕ) → Holds (bytes_of D.states disk.old reader.old) reader.old
             → drop self.gate (bytes_of D.states disk.old reader.old) ≡ byte ∷ rest
-            → (byte ≡ 165) × HasNoFrame first_layout self.expected (self.generation + 1) rest)) }
+            → (byte ≡ open_gate) × HasNoFrame first_layout self.expected (self.generation + 1) rest)) }
     {
         let gate = reader.bytes(self.gate, self.gate + 1);
         if gate[0] != OPEN_GATE {
@@ -279,7 +280,7 @@ impl Place {
     ) -> Result<Vec<Entry>, Refusal>
         // The frame was read and is held, and its length is one that a batch may have.
         requires low { 12 ≤ len }
-        requires high { len ≤ 1048571 }
+        requires high { len ≤ most_body_bytes }
         requires held { reader.now.from ≤ self.gate }
         requires reached { self.gate + 6 + len ≤ end_of reader.now }
         requires room { self.gate + 7 + len < 2 ^ 64 }

@@ -2,7 +2,7 @@
 ghost use Rattle.std.specs.Prelude.{◌≡◌, ◌≢◌, ◌<◌, ◌≤◌, ◌+◌, ◌∷◌, ◌++◌, [], ℕ, false, List, length, IfOk, IfErr, OnOk, OnErr};
 ghost use Rattle.disk_model.specs.Calls.{Fails, Looks, Makes};
 ghost use Rattle.disk_model.specs.Files.{MayLeave, at_rest, now};
-ghost use Rattle.disk_model.specs.Gates.{Call, IsShut};
+ghost use Rattle.disk_model.specs.Gates.{Call, IsShut, open_gate};
 ghost use Rattle.disk_model.specs.Moments.{AtEachMoment};
 ghost use Rattle.log_records.specs.Layout.{first_layout};
 ghost use Rattle.store_layout.specs.Checkpoints.{is_sealed};
@@ -132,10 +132,10 @@ pub(crate) fn seal<D: Disk>(disk: &mut D, bytes: &[u8]) -> Result<(), Refusal>
     ensures ok { OnOk result
         (IsShut [] [] (now (D.states disk.old) 0) → (content : List ℕ)
         → MayLeave (now (D.states disk.new) 0) content
-        → (rest : List ℕ) × (content ≡ 165 ∷ (bytes.now ++ rest))) }
+        → (rest : List ℕ) × (content ≡ open_gate ∷ (bytes.now ++ rest))) }
     ensures left { OnOk result
         (now (D.states disk.old) 0 ≡ at_rest (0 ∷ [])
-        → Becomes 0 (at_rest (165 ∷ bytes.now)) (now (D.states disk.old))
+        → Becomes 0 (at_rest (open_gate ∷ bytes.now)) (now (D.states disk.old))
         (now (D.states disk.new))) }
 {
     write(disk, 1, bytes)?;

@@ -15,6 +15,7 @@ use Rattle.store_layout.specs.declared.log_phase.Phase.TheVariants as log_phase
 use Rattle.store_layout.specs.declared.checkpoint_phase.CheckpointPhase.{CheckpointPhase}
 use Rattle.store_layout.specs.declared.checkpoint_phase.CheckpointPhase.TheVariants as checkpoint_phase
 use Rattle.store_layout.specs.Hands.{FitsBatch}
+use Rattle.store_layout.specs.Logs.{most_log_bytes}
 use Rattle.store_layout.specs.UsedCheckpoint.{UsesCheckpoint}
 use Rattle.sim_rules.specs.declared.event.Ending.{Ending}
 use Rattle.sim_rules.specs.declared.event.Ending.TheVariants as ending
@@ -181,9 +182,9 @@ pub record IsLongestRun (w : World) (l : Life) (most n : ℕ) : Type 0 where
   pub can : CanStage w l most n
   pub no_longer : CanStage w l most (n + 1) → ⊥
 
--- its frame and the next gate would end past 2^40 bytes of the log
+-- its frame and the next gate would end past the most bytes of a log
 abbrev pub IsPastFull : World → Life → ℕ → Type 0
-IsPastFull w l n = (1 ≤ n) × (2 ^ 40 < gate_after w l n + 1)
+IsPastFull w l n = (1 ≤ n) × (most_log_bytes < gate_after w l n + 1)
 
 -- Stage answers the length of the longest run. After a device failure of this life it answers 9; else 16 exactly where the log isn't idle; and 14
 -- where the batch wouldn't fit into the log.
