@@ -13,7 +13,7 @@ pub struct StripeCount {
 }
 
 impl StripeCount {
-    /// `None` where the number isn't allowed.
+    /// `None` if the number isn't allowed.
     pub fn new(count: u16) -> Option<StripeCount>
         ensures allowed { IsSome result ↔ IsTrue (is_stripe_count count) }
         ensures value { IfSome result (λ stripes. stripes.count ≡ count) }
