@@ -1,4 +1,4 @@
-//! What is asked of the map, and what it answers.
+//! What is asked of the map, and what it returns.
 ghost use Rattle.std.specs.Prelude.{◌≡◌, ◌<◌, ◌≤◌, ◌⊎◌, IfSome, IfNone};
 ghost use Rattle.map_types.specs.Numbers.{func_number, fault_number};
 
@@ -23,7 +23,7 @@ pub enum Func {
     Min,
     /// The old text followed by the argument (Java's `String.concat`).
     Concat,
-    /// As `Sum`, and absent where the sum is 0.
+    /// As `Sum`, and absent if the sum is 0.
     SumNonzero,
 }
 
@@ -121,7 +121,7 @@ impl FuncError {
     }
 }
 
-/// What a change or a read answers.
+/// What a change or a read returns.
 #[derive(Clone, Debug, Drop, PartialEq, Eq)]
 pub enum Reply {
     /// The value before, or absent.

@@ -32,8 +32,8 @@ impl Key {
     /// The most bytes that a key may have.
     pub const MOST_BYTES: usize = 255;
 
-    /// The key with these bytes. Refuses a text of more than 255 bytes with `KeyTooLong`, and where
-    /// no memory is found with `NoMemory`.
+    /// The key with these bytes. Refuses a text of more than 255 bytes with `KeyTooLong`, and with
+    /// `NoMemory` if no memory is found.
     pub fn new(alloc: Global, text: &str) -> Result<Key, Refusal>
         ensures ok { IfOk result (λ key. key ≡ text.now) }
         ensures ok_only_within { IsOk result → length text.now ≤ 255 }

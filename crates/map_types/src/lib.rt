@@ -1,4 +1,5 @@
-//! What is asked of the map and what it answers: keys, values, commands, reads, replies and refusals.
+//! What is asked of the map and what it returns: keys, values, commands, reads, replies and
+//! refusals.
 #![tactic(auto)]
 
 pub mod commands;

@@ -30,8 +30,8 @@ impl Text {
     /// The most bytes that a text may have.
     pub const MOST_BYTES: usize = 4096;
 
-    /// The text with these bytes. Refuses more than 4,096 bytes with `ValueTooLong`, and where no
-    /// memory is found with `NoMemory`.
+    /// The text with these bytes. Refuses more than 4,096 bytes with `ValueTooLong`, and with
+    /// `NoMemory` if no memory is found.
     pub fn new(alloc: Global, text: &str) -> Result<Text, Refusal>
         ensures ok { IfOk result (λ value. value ≡ text.now) }
         ensures ok_only_within { IsOk result → length text.now ≤ 4096 }
