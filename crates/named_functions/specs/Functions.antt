@@ -10,7 +10,8 @@ use Rattle.map_types.specs.declared.commands.FuncError.TheVariants.{WrongKind, T
 use Rattle.map_types.specs.declared.texts.Value.{Value}
 use Rattle.map_types.specs.declared.texts.Value.TheVariants.{Int, Text}
 
--- a function of kind Int: where old is absent, the argument stands for the combination; `keep` makes the result of a number
+-- A function of kind Int. If `old` is absent, the argument stands for the combination. `keep` makes the result of a
+-- number.
 abbrev pub on_numbers : (ℤ → ℤ → ℤ) → (ℤ → Option Value) → Option Value → Option Value → Result (Option Value) FuncError
 on_numbers combine keep None (Some (Int b)) = Ok (keep b)
 on_numbers combine keep (Some (Int a)) (Some (Int b)) = Ok (keep (combine a b))
