@@ -17,7 +17,7 @@ StepsStayInTheirPart = (n s : ℕ) (m : Map) (c : Command) →
     (is_in_stripe n s c.key ≡ true → step (part_of n s m) c ≡ record { map = part_of n s (step m c).map; reply = (step m c).reply })
     × (is_in_stripe n s c.key ≡ false → part_of n s (step m c).map ≡ part_of n s m)
 
--- a read of a key of the stripe answers on the part as on the map
+-- a read of a key of the stripe returns on the part what it returns on the map
 abbrev pub AnswersStayInTheirPart : Type 0
 AnswersStayInTheirPart = (n s : ℕ) (m : Map) (r : Read) → is_in_stripe n s r.key ≡ true → answer (part_of n s m) r ≡ answer m r
 

@@ -1,5 +1,5 @@
-//! The model: a finite map from keys to values, changed by one command at a time, as a
-//! `ConcurrentMap` of one thread answers.
+//! The model: a finite map from keys to values, changed by one command at a time. Its replies are
+//! those of a `ConcurrentMap` of one thread.
 #![tactic(auto)]
 
 pub mod laws;

@@ -1,4 +1,4 @@
-//! What a change does to the value of its key, and what a read answers of it.
+//! What a change does to the value of its key, and what a read returns of it.
 ghost use Rattle.std.specs.Prelude.{◌≡◌, IfOk, IfErr};
 ghost use Rattle.std.specs.Option.{option_copied};
 ghost use Rattle.named_functions.specs.Functions.{apply};

@@ -13,7 +13,7 @@ use std::collections::btree_map::Iter;
 use std::marker::Model;
 
 /// A map of one thread, against which others can be tested. It is slow: each call copies the values
-/// that it answers.
+/// that it returns.
 #[derive(Drop)]
 pub struct ReferenceMap {
     entries: BTreeMap<Key, Value>,
@@ -42,7 +42,7 @@ impl ReferenceMap {
         }
     }
 
-    /// Makes the change, and answers as a `ConcurrentMap` does. Refuses with `NoMemory` alone.
+    /// Makes the change, and returns the reply of a `ConcurrentMap`. Refuses with `NoMemory` alone.
     pub fn change(&mut self, alloc: Global, command: &Command) -> Result<Reply, Refusal>
         ensures map { OnOk result (self.new ≡ (step self.old command.now).map) }
         ensures reply { IfOk result (λ reply. reply ≡ (step self.old command.now).reply) }
@@ -54,7 +54,7 @@ impl ReferenceMap {
         Ok(reply)
     }
 
-    /// Answers as a `ConcurrentMap` does. Refuses with `NoMemory` alone.
+    /// Returns the reply of a `ConcurrentMap`. Refuses with `NoMemory` alone.
     pub fn read(&self, read: &Read) -> Result<Reply, Refusal>
         ensures ok { IfOk result (λ reply. reply ≡ answer self.now read.now) }
         ensures err { IfErr result (λ refusal. refusal ≡ Refusal.NoMemory) }
@@ -75,7 +75,7 @@ impl ReferenceMap {
         self.entries.get(key)
     }
 
-    /// The key gets the value, or is unmapped where there is none.
+    /// The key gets the value, or is unmapped if there is none.
     fn assign(&mut self, key: &Key, value: Option<Value>) -> Result<(), Refusal>
         ensures ok { OnOk result (self.new ≡ assign self.old key.now value) }
         ensures err { IfErr result (λ refusal. refusal ≡ Refusal.NoMemory) }
