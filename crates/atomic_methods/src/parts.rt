@@ -56,7 +56,7 @@ impl Model for Part {
 }
 
 impl Part {
-    /// An empty part of a map with so many stripes.
+    /// An empty part of a map with `stripes` stripes.
     pub fn new(alloc: Global, stripes: StripeCount) -> Result<Part, AllocError>
         ensures map { IfOk result (λ part. part.map ≡ finite.empty) }
         ensures stripes { IfOk result (λ part. part.growth.stripes ≡ stripes.count) }
@@ -66,7 +66,7 @@ impl Part {
         })
     }
 
-    /// A part of a map with so many stripes that has these entries, no two of one key. It has at
+    /// A part of a map with `stripes` stripes that has these entries, no two of one key. It has at
     /// once the bins that it needs, and copies no key.
     pub fn with_entries(
         alloc: Global,
@@ -85,7 +85,7 @@ impl Part {
     }
 
     /// Gets all the memory that the change needs, so that `act` can make it. The content stays,
-    /// also where no memory is found, which is refused with `NoMemory`. If nothing is refused, a
+    /// also if no memory is found, which is refused with `NoMemory`. If nothing is refused, a
     /// growth that is due begins, or is put off if it finds no memory, and the one that runs is
     /// helped. If the change is refused, the growth stays as it is.
     pub fn prepare(&mut self, alloc: Global, command: &Command) -> Result<Prepared, Refusal>
@@ -166,8 +166,8 @@ impl Part {
         reply
     }
 
-    /// The answer to a read. Refuses with `NoMemory` alone, where no memory is found for the copy
-    /// of a value.
+    /// The answer to a read. Refuses with `NoMemory` alone, if no memory is found for the copy of a
+    /// value.
     pub fn read(&self, read: &Read) -> Result<Reply, Refusal>
         ensures ok { IfOk result (λ reply. reply ≡ answer self.now.map read.now) }
         ensures err { IfErr result (λ refusal. refusal ≡ Refusal.NoMemory) }
@@ -305,7 +305,7 @@ mod tests {
         change(part, alloc, key(alloc, number)?, Change::Put(value))
     }
 
-    // A part into which so many new keys were put, one after another.
+    // A part into which `keys` new keys were put, one after another.
     fn filled(alloc: Global, keys: u32) -> Result<Part, Refusal> {
         let stripes = StripeCount::new(1).ok_or(Refusal::WrongPhase)?;
         let mut part = Part::new(alloc, stripes)?;
@@ -323,7 +323,7 @@ mod tests {
         Ok(matches!(reply, Reply::Now(Some(Value::Int(found))) if found == i64::from(number)))
     }
 
-    // Whether each of so many keys is mapped to its number.
+    // Whether each of the first `keys` keys is mapped to its number.
     fn has_all(part: &Part, alloc: Global, keys: u32) -> Result<bool, Refusal> {
         for number in 0..keys {
             if !has(part, alloc, number)? {
