@@ -52,7 +52,7 @@ pub record MakesRead (n : ℕ) (v : Record) (r : Read) (position : ℕ) (reply :
   pub later : reach v ≤ position
   pub legal : IsLegalRead (history_of w) position r reply
 
--- the record after TAKE of stripe i, where this content was found
+-- the record after a TAKE of stripe i that found this content
 pub record HasFound (v : Record) (i : ℕ) (content : Stripe) (w : Record) : Type 0 where
   pub between : List Command
   pub is : w ≡ taking v i content.part.map content.outbox.items between

@@ -33,7 +33,7 @@ call position asked reply = record { position = position; asked = asked; reply =
 abbrev pub reach : Record → ℕ
 reach v = v.opening.first + length v.seen
 
--- one past the greatest ticket of the entries, or 0 where there is none
+-- one past the greatest ticket of the entries, or 0 if there is none
 abbrev pub past : List Entry → ℕ
 past [] = 0
 past (e ∷ es) = max (e.ticket + 1) (past es)

@@ -17,7 +17,7 @@ use Rattle.ticket_order.specs.declared.record.Record.{Record}
 use Rattle.ticket_order.specs.Records.{reach, past, missing, taking, looking, drawing, giving, publishing, seeing, failing, living, part_held, calls_for, sections_for, outbox_for}
 use Rattle.ticket_order.specs.Legality.{history_of, IsLegalCall, IsLegalSection, entries_from, entries_of}
 
--- the greatest position seen becomes n where it was less, and stays where it wasn't
+-- the greatest position seen becomes n if it was less, and stays if it wasn't
 abbrev pub Rises : Record → ℕ → Record → Type 0
 Rises v n w = ((n ≤ reach v) × (reach w ≡ reach v)) ⊎ ((reach v ≤ n) × (reach w ≡ n))
 
@@ -68,7 +68,8 @@ pub record Draws (v : Record) (c : Command) (t : ℕ) (w : Record) : Type 0 wher
 abbrev pub HasLooked : Holding → Type 0
 HasLooked d = (q : ℕ) × (d.looked ≡ Some q)
 
--- A stripe may be given back for a read of a key of its own after a LOOK, for a sweep by the keeper where no ticket was drawn, and for a capture after a LOOK.
+-- A stripe may be given back for a read of a key of its own after a LOOK, for a sweep by the keeper if no ticket was
+-- drawn, and for a capture after a LOOK.
 abbrev pub Suits : ℕ → Record → Holding → Purpose → Type 0
 Suits n v d Nothing = Unit {0}
 Suits n v d (Answer r) = (stripe_of n r.key ≡ d.stripe) × HasLooked d
@@ -119,7 +120,7 @@ pub record Sees (v : Record) (d : ℕ) (w : Record) : Type 0 where
 abbrev pub Fails : Record → Record → Type 0
 Fails v w = w ≡ failing v
 
--- ALIVE; the keeper's says no exactly where it has failed
+-- ALIVE; the keeper's says no exactly if it has failed
 pub record Lives (v : Record) (is_alive : Bool) (w : Record) : Type 0 where
   pub is : w ≡ living v is_alive
   pub by_keeper : v.keeper ≡ true → is_alive ≡ not v.failed

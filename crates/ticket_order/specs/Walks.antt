@@ -145,7 +145,7 @@ left_of_stage (stage.GivingBack t e) = 1
 abbrev pub steps_left : Walk → ℕ
 steps_left w = left_of_stage w.stage
 
--- a walk that goes on has fewer steps left than so many
+-- a walk that goes on has fewer than k steps left
 abbrev pub HasFewerLeft : ℕ → Stepped → Type 0
 HasFewerLeft k (stepped.More w) = steps_left w < k
 HasFewerLeft k end = Unit {0}
@@ -275,7 +275,7 @@ pub record HasMade (n : ℕ) (b : Record) (task : Task) (t : Taken) (h : Held) (
 pub record IsRefusing (n : ℕ) (b : Record) (task : Task) (t : Taken) (e : Refusal) (p : Record) : Type 0 where
   pub content : HasContent p t
   pub refused : Refuses n b task e (giving Nothing p)
-  -- a capture is full only where what it holds since its LOOK has too many entries
+  -- a capture is full only if what it holds since its LOOK has too many entries
   pub too_many : e ≡ refusal.LogFull → (i : ℕ) → task ≡ ToCapture i → HasTooMany b i p
 
 -- the position and the reply are those of the read at the count that was looked at

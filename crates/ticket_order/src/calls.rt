@@ -18,10 +18,10 @@ use java_hash::{spread_of, stripe_of_spread};
 use map_types::{Command, Read, Refusal};
 use std::alloc::Global;
 
-/// Makes a change: TAKE, ALIVE, LOOK, TICKET, GIVE. It is refused with `Busy` where the TAKE found
-/// the stripe of the key held, with `Failed` where the ALIVE said no, with `TicketsSpent` where the
-/// LOOK found 2^62 or more, and with `NoMemory` where memory for the change was refused. No ticket
-/// is drawn then.
+/// Makes a change: TAKE, ALIVE, LOOK, TICKET, GIVE. It is refused with `Busy` if the TAKE found the
+/// stripe of the key held, and with `Failed` if the ALIVE said no. It is refused with
+/// `TicketsSpent` if the LOOK found 2^62 or more, and with `NoMemory` if memory for the change was
+/// refused. If it is refused, no ticket is drawn.
 pub fn try_call<S: Steps>(steps: &mut S, alloc: Global, command: Command) -> Result<Held, Refusal>
     requires { (S.recorded steps.old).holding ≡ None }
     ensures made { IfOk result (λ held.
@@ -66,8 +66,8 @@ pub fn try_read<S: Steps>(steps: &mut S, read: Read) -> Result<Held, Refusal>
     }
 }
 
-/// Gives the reply out where its position is durable: SEE, and where the durable count is too low
-/// ALIVE, and where that says no SEE once more. It takes no memory.
+/// Gives the reply out if its position is durable. It makes a SEE. If the durable count is too low,
+/// it makes an ALIVE, and if that says no, a SEE once more. It takes no memory.
 pub fn release<S: Steps>(steps: &mut S, held: Held) -> Released
     ensures released { Releases held.position held.reply (S.recorded steps.old) result
         (S.recorded steps.new) }

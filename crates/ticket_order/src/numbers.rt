@@ -43,8 +43,8 @@ impl Ticket {
     }
 }
 
-/// How many changes of the one history a reply rests on. It is durable where the durable count is
-/// at least this number.
+/// How many changes of the one history a reply rests on. It is durable if the durable count is at
+/// least this number.
 #[derive(Clone, Copy)]
 pub struct Position {
     number: u64,

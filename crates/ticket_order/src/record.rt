@@ -77,7 +77,7 @@ pub enum StepMade {
     },
     /// FAIL.
     Failed,
-    /// ALIVE; it says no where the store has failed.
+    /// ALIVE; it says no if the store has failed.
     FoundAlive {
         is_alive: bool,
     },
@@ -112,7 +112,7 @@ pub struct Holding {
     pub outbox: LinkedList<Entry>,
     /// A ticket was drawn since the TAKE.
     pub has_drawn: bool,
-    /// The count that a LOOK found since the TAKE, where no ticket was drawn.
+    /// The count that a LOOK found since the TAKE, if no ticket was drawn.
     pub looked: Option<u64>,
 }
 

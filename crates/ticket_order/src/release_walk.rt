@@ -1,5 +1,5 @@
-//! The walk of a release: SEE, and where the durable count is too low ALIVE, and where that says no
-//! SEE once more.
+//! The walk of a release: a SEE. If the durable count is too low, an ALIVE follows, and if that
+//! says no, a SEE once more.
 ghost use Rattle.std.specs.Prelude.{◌≡◌};
 ghost use Rattle.ticket_order.specs.declared.record.Record.{Record};
 ghost use Rattle.ticket_order.specs.Walks.{Task, FitsRelease, Next, MakesOne, next_of_release, HasFewerLeft, left_of_release};

@@ -28,7 +28,7 @@ pub trait Steps {
     fn stripes(&self) -> StripeCount
         ensures { result.count ≡ stripe_count self.now };
 
-    /// TAKE: the content of the stripe where it was free, or `None` where another holds it.
+    /// TAKE: the content of the stripe if it was free, or `None` if another holds it.
     fn take(&mut self, stripe: usize) -> Option<Stripe>
         requires within { stripe < stripe_count self.old }
         requires empty_handed { (recorded self.old).holding ≡ None }
@@ -62,7 +62,7 @@ pub trait Steps {
         ensures place { place self.new ≡ place self.old }
         ensures stripes { stripe_count self.new ≡ stripe_count self.old };
 
-    /// DURABLE: the durable count becomes `number`, where it was less.
+    /// DURABLE: the durable count becomes `number`, if it was less.
     fn durable(&mut self, number: u64)
         requires fits { MayPublish (recorded self.old) number }
         ensures step { Publishes (recorded self.old) number (recorded self.new) }
@@ -85,7 +85,7 @@ pub trait Steps {
         ensures place { place self.new ≡ place self.old }
         ensures stripes { stripe_count self.new ≡ stripe_count self.old };
 
-    /// ALIVE: false where a FAIL was made.
+    /// ALIVE: false if a FAIL was made.
     fn alive(&mut self) -> bool
         ensures step { Lives (recorded self.old) result (recorded self.new) }
         ensures moved { moves self.old (FoundAlive result) self.new }

@@ -106,8 +106,8 @@ impl Walk {
         }
     }
 
-    /// A release: SEE, and where the durable count is too low ALIVE, and where that says no SEE once
-    /// more. It takes no memory.
+    /// A release: a SEE. If the durable count is too low, an ALIVE follows, and if that says no, a
+    /// SEE once more. It takes no memory.
     pub fn release(held: Held) -> Walk
         ensures { (n : ℕ) (b : Record) → Fits n b (ToRelease held.position held.reply) result b }
     {
@@ -116,9 +116,9 @@ impl Walk {
         }
     }
 
-    /// A sweep of the stripe, by the pass that sweeps: TAKE, GIVE. The stripe gets `spare`, emptied,
-    /// for its outbox, so that its next changes find the memory that `spare` has. Where the sweep is
-    /// refused, `spare` is let go.
+    /// A sweep of the stripe, by the pass that sweeps: TAKE, GIVE. The stripe gets `spare`,
+    /// emptied, for its outbox, so that its next changes find the memory that `spare` has. If the
+    /// sweep is refused, `spare` is let go.
     pub fn sweep(spare: Vec<Entry>, stripe: usize) -> Walk
         ensures fits { (n : ℕ) (b : Record) → b.holding ≡ None → stripe < n → b.keeper ≡ true
             → Fits n b (ToSweep stripe) result b }
