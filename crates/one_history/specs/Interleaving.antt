@@ -16,7 +16,7 @@ pub record Words : Type 0 where
 abbrev pub words_at : Opening → Words
 words_at o = record { tickets = o.first; durable = o.first; failed = false; holders = λ i. None }
 
--- the holders, where stripe i has this one
+-- the holders, but with this one for stripe i
 abbrev pub with_holder : ℕ → Option ℕ → (ℕ → Option ℕ) → ℕ → Option ℕ
 with_holder i holder holders k = if k == i then holder else holders k
 
