@@ -37,8 +37,8 @@ impl Model for GhostBook {
 }
 
 impl GhostBook {
-    /// The book of words that begin with these parts at this count of tickets, for so many workers
-    /// and the keeper.
+    /// The book of words that begin with these parts at this count of tickets, for n workers and
+    /// the keeper.
     pub(crate) fn new(_first: u64, _parts: &[Part], _workers: u16) -> GhostBook
         ensures { result.book ≡ at_start _first _parts.now _workers }
     {
