@@ -19,8 +19,8 @@ use Rattle.std.specs.Prelude.{Option}
 abbrev pub AreComparable : List Command → List Command → Type 0
 AreComparable xs ys = IsFront xs ys ⊎ IsFront ys xs
 
--- The view of a seat that is no pass's any more, which keeps what two passes have seen; and where the other is the keeper's, the steps of the one with
--- what the keeper published, and whether it failed.
+-- The view of a seat that is no pass's any more. It keeps what two passes have seen. If the other is the keeper's, it
+-- keeps also the steps of the one, with what the keeper published and whether it failed.
 abbrev pub both_fronts : Record → Record → Record
 both_fronts v w = record (newcomer v.opening) {
   seen = v.seen;

@@ -34,7 +34,7 @@ pub record IsHeldAt (name : List ℕ) (h : Held) : Type 0 where
   pub named : name_of_words stripes ≡ name
   pub held : IsHeldOf stripes h
 
--- what a release answered, but for whose reply it is
+-- what a release returned, but for whose reply it is
 abbrev pub answer_of : over_stripes.Released → Released
 answer_of (released.Reply position reply) = ticketed.Reply position reply
 answer_of (released.NotYet h) = ticketed.NotYet h.held

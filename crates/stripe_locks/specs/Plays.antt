@@ -24,7 +24,7 @@ pub record IsSameOne (v w : Record) : Type 0 where
   pub passes : w.passes ≡ v.passes
   pub keeper : w.keeper ≡ v.keeper
 
--- the record of a pass that joins after so many others; the first is the keeper's
+-- the record of a pass that joins after k others; the first is the keeper's
 abbrev pub joining : Opening → ℕ → Record
 joining o k = record (enrolling (newcomer o) (k + 1)) { keeper = k == 0 }
 

@@ -41,7 +41,8 @@ pub record IsSeated (seats : ℕ → ℕ) (b : Book) (joined : ℕ) (id : ℕ) (
 abbrev pub commands_of : List Entry → List Command
 commands_of entries = map (λ (e : Entry). e.command) entries
 
--- This many commands published and this word for a failure bear out a step: a SEE found no more, and an ALIVE says no only after a FAIL.
+-- The durable count `published` and the failure word `failed` bear out a step: a SEE found no more, and an ALIVE says
+-- no only after a FAIL.
 abbrev pub BearsOut : ℕ → Bool → StepMade → Type 0
 BearsOut published failed (Saw d) = d ≤ published
 BearsOut published failed (FoundAlive is_alive) = is_alive ≡ false → failed ≡ true

@@ -100,7 +100,7 @@ impl Stripes {
         self.look_at_count(pass)
     }
 
-    /// Makes one LOOK, and says whether it reached the position. Where it did, the pass has seen the
+    /// Makes one LOOK, and says whether it reached the position. If it did, the pass has seen the
     /// position from then on.
     pub fn learn(&self, pass: &mut Pass, position: Position) -> bool
         requires own { IsPassOf self.now pass.old }
@@ -124,7 +124,7 @@ impl Stripes {
         ticket_order::release(&mut board, held)
     }
 
-    /// Gives the reply out where its position is durable. It takes no memory and doesn't wait.
+    /// Gives the reply out if its position is durable. It takes no memory and doesn't wait.
     pub fn release(&self, pass: &mut Pass, held: Held) -> Released
         requires own { IsPassOf self.now pass.old }
         requires held { IsHeldOf self.now held }

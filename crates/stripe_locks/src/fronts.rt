@@ -48,9 +48,9 @@ impl Stripes {
     }
 
     /// A law: of any two passes, what one has seen of the history goes on from what the other has
-    /// seen. Where the other is the keeper's, no SEE of the one found more than the keeper has
-    /// published, and none of its ALIVEs says no but behind the keeper's FAIL. Both are spent by it;
-    /// since what a pass has seen only grows, it held of them before.
+    /// seen. If the other is the keeper's, no SEE of the one found more than the keeper has
+    /// published, and none of its ALIVEs says no but behind the keeper's FAIL. Both are spent by
+    /// it; since what a pass has seen only grows, it held of them before.
     pub fn have_seen_one_history(&self, one: Pass, other: Pass)
         requires one { IsPassOf self.now one }
         requires other { IsPassOf self.now other }

@@ -28,7 +28,7 @@ impl Held {
     pub fn give_up(self) {}
 }
 
-/// What a release answers.
+/// What a release returns.
 #[derive(Drop)]
 pub enum Released {
     /// The position, which is durable, and the reply.

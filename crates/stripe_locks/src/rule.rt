@@ -17,8 +17,8 @@ impl TableRule<Option<Stripe>, Record, Beginning> for StripeRule {
     ghost first = { λ beginning. newcomer beginning.opening };
 }
 
-/// What one worker, or the keeper, makes its steps with. A pass isn't given back: where it is
-/// dropped with a stripe in hand, that stripe stays held.
+/// What one worker, or the keeper, makes its steps with. A pass isn't given back: if it is dropped
+/// with a stripe in hand, that stripe stays held.
 #[derive(Drop)]
 pub struct Pass {
     pub(crate) seat: Seat<Option<Stripe>, Record>,

@@ -121,7 +121,7 @@ impl Stripes {
         Err(Refusal::SeatsSpent)
     }
 
-    /// The keeper's pass, which is the first of these stripes; refused with `SeatsSpent` where another
+    /// The keeper's pass, which is the first of these stripes; refused with `SeatsSpent` if another
     /// has joined before it.
     pub fn keeper_pass(&self) -> Result<Pass, Refusal>
         ensures own { IfOk result (λ pass. IsPassOf self.now pass) }
