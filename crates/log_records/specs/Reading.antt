@@ -50,7 +50,7 @@ unfoldable pub numbered : {A : Type 0} → (A → ℕ) → Refusal → List A �
 numbered number_of unknown [] number = Err unknown
 numbered number_of unknown (x ∷ rest) number = if number_of x == number then Ok x else numbered number_of unknown rest number
 
--- a number of so many bytes
+-- a number of `width` bytes
 unfoldable pub number_at : ℕ → List ℕ → Result (ℕ × List ℕ) Refusal
 number_at width bytes =
     if nat_lt (length bytes) width then Err BadFrame
@@ -59,13 +59,13 @@ number_at width bytes =
 abbrev pub utf8_of : List ℕ → Result (List ℕ) Refusal
 utf8_of bytes = if is_utf8 bytes then Ok bytes else Err NotText
 
--- a text of so many bytes
+-- a text of `len` bytes
 unfoldable pub text_at : ℕ → List ℕ → Result (List ℕ × List ℕ) Refusal
 text_at len bytes =
     if nat_lt (length bytes) len then Err BadFrame
     else (utf8_of (take len bytes) >>= λ text. Ok (text, drop len bytes))
 
--- a text behind its length of so many bytes; a length above the most is refused as soon as it is read
+-- a text behind its length of `width` bytes; a length above `most` is refused as soon as it is read
 unfoldable pub sized_at : ℕ → ℕ → Refusal → List ℕ → Result (List ℕ × List ℕ) Refusal
 sized_at width most too_long bytes = do
   len ← number_at width bytes

@@ -12,7 +12,7 @@ use Rattle.map_types.specs.declared.commands.Command.{Command}
 use Rattle.log_records.specs.Layout.{Layout}
 use Rattle.log_records.specs.Methods.{method_number, method_of}
 
--- a text behind its length of so many bytes
+-- a text behind its length of `width` bytes
 abbrev pub sized_bytes : ℕ → List ℕ → List ℕ
 sized_bytes width text = big_bytes width (length text) ++ text
 
@@ -45,7 +45,7 @@ record_bytes layout command = method_number (method_of command.change) ∷ (key_
 abbrev pub Any : {A : Type 0} → A → Type 0
 Any x = Unit {0}
 
--- a text of at most so many bytes
+-- a text of at most `most` bytes
 abbrev pub IsText : ℕ → List ℕ → Type 0
 IsText most text = (length text ≤ most) × IsUtf8 text
 

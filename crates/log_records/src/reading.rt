@@ -1,5 +1,6 @@
-//! Records and their fields out of bytes, from left to right. Each reader gives what it read and the bytes behind it,
-//! or the refusal that it meets first: `BadFrame` where bytes are missing, and the ones that it names.
+//! Records and their fields out of bytes, from left to right. Each reader gives what it read and
+//! the bytes behind it, or the refusal that it meets first: `BadFrame` if bytes are missing, and
+//! the ones that it names.
 ghost use Rattle.std.specs.Prelude.{◌≡◌, ◌≤◌, ◌⊎◌, ◌++◌, ℕ, List, Ok, Err, length, take, IfOk, IfErr, MatchResult};
 ghost use Rattle.map_types.specs.declared.commands.Command.{Command};
 ghost use Rattle.map_types.specs.declared.refusals.Refusal.TheVariants.{NoMemory};
@@ -32,7 +33,7 @@ pub fn number_at(width: usize, bytes: &[u8]) -> Result<(u64, &[u8]), Refusal>
     Ok((number, rest))
 }
 
-/// The bytes as a text; `NotText` where they aren't UTF-8.
+/// The bytes as a text; `NotText` if they aren't UTF-8.
 fn utf8_of(bytes: &[u8]) -> Result<&str, Refusal>
     ensures { Reads (λ text. text.now) result (utf8_of bytes.now) }
 {
@@ -118,7 +119,7 @@ pub fn value_at(alloc: Global, bytes: &[u8]) -> Result<(Option<Value>, &[u8]), R
     }
 }
 
-/// A value; `NullValue` where it is absent.
+/// A value; `NullValue` if it is absent.
 #[tactic(auto, unfolding(crate::specs::Reading::some_value_at))]
 pub fn some_value_at(alloc: Global, bytes: &[u8]) -> Result<(Value, &[u8]), Refusal>
     ensures { Gives (λ x. (x.0, x.1.now)) result (some_value_at bytes.now) }
@@ -130,7 +131,7 @@ pub fn some_value_at(alloc: Global, bytes: &[u8]) -> Result<(Value, &[u8]), Refu
     }
 }
 
-/// A function by its number; `UnknownFunction` where none has it.
+/// A function by its number; `UnknownFunction` if none has it.
 #[tactic(auto, unfolding(crate::specs::Reading::numbered_at))]
 pub fn func_at(bytes: &[u8]) -> Result<(Func, &[u8]), Refusal>
     ensures { Reads (λ x. (x.0, x.1.now)) result (func_at bytes.now) }
@@ -144,7 +145,7 @@ pub fn func_at(bytes: &[u8]) -> Result<(Func, &[u8]), Refusal>
     }
 }
 
-/// A method that changes the map, by its number; `UnknownMethod` where none has it.
+/// A method that changes the map, by its number; `UnknownMethod` if none has it.
 #[tactic(auto, unfolding(crate::specs::Reading::numbered_at))]
 fn method_at(bytes: &[u8]) -> Result<(Method, &[u8]), Refusal>
     ensures { Reads (λ x. (x.0, x.1.now)) result (method_at bytes.now) }

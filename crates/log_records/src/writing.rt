@@ -1,5 +1,5 @@
-//! Records and their fields as bytes. Each writer puts the one spelling at the end of a vector, by the vector's own
-//! allocator; where that finds no memory, the vector's bytes stay as they were.
+//! Records and their fields as bytes. Each writer puts the one spelling at the end of a vector, by
+//! the vector's own allocator. If that finds no memory, the vector's bytes stay as they were.
 ghost use Rattle.std.specs.Prelude.{◌≡◌, ◌≤◌, ◌<◌, ◌^◌, ◌++◌, ◌∷◌, length, take, OnOk, OnErr, IfErr, Some};
 ghost use Rattle.byteorder.specs.Endian.{big_bytes};
 ghost use Rattle.map_types.specs.Numbers.{func_number};
@@ -26,7 +26,8 @@ pub fn put_number(width: usize, number: u64, out: &mut Vec<u8>) -> Result<(), Al
     out.extend_from_slice(&bytes[..width])
 }
 
-/// Puts a text behind its length of `width` bytes at the end, or some of that where no memory is found.
+/// Puts a text behind its length of `width` bytes at the end, or some of that if no memory is
+/// found.
 fn append_sized(width: usize, text: &str, out: &mut Vec<u8>) -> Result<(), AllocError>
     requires low { 1 ≤ width }
     requires high { width ≤ 8 }
@@ -38,7 +39,7 @@ fn append_sized(width: usize, text: &str, out: &mut Vec<u8>) -> Result<(), Alloc
     out.extend_from_slice(text.as_bytes())
 }
 
-/// Puts a value at the end, or some of it where no memory is found.
+/// Puts a value at the end, or some of it if no memory is found.
 fn append_value(value: &Value, out: &mut Vec<u8>) -> Result<(), AllocError>
     ensures ok { OnOk result (out.new.items ≡ out.old.items ++ value_bytes (Some value.now)) }
     ensures fits { OnOk result (IsValue value.now) }
@@ -56,7 +57,7 @@ fn append_value(value: &Value, out: &mut Vec<u8>) -> Result<(), AllocError>
     }
 }
 
-/// Puts a value or absent at the end, or some of it where no memory is found.
+/// Puts a value or absent at the end, or some of it if no memory is found.
 fn append_argument(argument: &Option<Value>, out: &mut Vec<u8>) -> Result<(), AllocError>
     ensures ok { OnOk result (out.new.items ≡ out.old.items ++ value_bytes argument.now) }
     ensures fits { OnOk result (IsArgument argument.now) }
@@ -68,7 +69,7 @@ fn append_argument(argument: &Option<Value>, out: &mut Vec<u8>) -> Result<(), Al
     }
 }
 
-/// Puts a function and its argument at the end, or some of that where no memory is found.
+/// Puts a function and its argument at the end, or some of that if no memory is found.
 fn append_call(func: Func, argument: &Option<Value>, out: &mut Vec<u8>) -> Result<(), AllocError>
     ensures ok { OnOk result
         (out.new.items ≡ out.old.items ++ (func_number func ∷ value_bytes argument.now)) }
@@ -79,7 +80,7 @@ fn append_call(func: Func, argument: &Option<Value>, out: &mut Vec<u8>) -> Resul
     append_argument(argument, out)
 }
 
-/// Puts a change's arguments at the end, or some of them where no memory is found.
+/// Puts a change's arguments at the end, or some of them if no memory is found.
 fn append_arguments(change: &Change, out: &mut Vec<u8>) -> Result<(), AllocError>
     ensures ok { OnOk result (out.new.items ≡ out.old.items ++ argument_bytes change.now) }
     ensures fits { OnOk result (IsChange change.now) }
@@ -105,7 +106,7 @@ fn append_arguments(change: &Change, out: &mut Vec<u8>) -> Result<(), AllocError
     }
 }
 
-/// Puts a record at the end, or some of it where no memory is found.
+/// Puts a record at the end, or some of it if no memory is found.
 fn append_record(command: &Command, out: &mut Vec<u8>) -> Result<(), AllocError>
     ensures ok { OnOk result
         (out.new.items ≡ out.old.items ++ record_bytes first_layout command.now) }
