@@ -70,12 +70,12 @@ pub record Begins (stream : List ℕ) (messages : List Message) (rest : List ℕ
   pub each : AllByRecursion IsBody bodies
   pub said : AllZip Says bodies messages
 
--- the first messages of the stream; where a length is refused, the last of them may stand for it
+-- the first messages of the stream; if a length is refused, the last of them may stand for it
 abbrev pub FirstMessages : List ℕ → List Message → Type 0
 FirstMessages stream messages =
     ((rest : List ℕ) × Begins stream messages rest)
     ⊎ ((front : List Message) × (rest : List ℕ) × Begins stream front rest × IsRefusedLength rest × (messages ≡ front ++ Err BadFrame ∷ []))
 
--- all messages of the stream, where it has no refused length
+-- all messages of the stream, if it has no refused length
 abbrev pub AllMessages : List ℕ → List Message → Type 0
 AllMessages stream messages = (rest : List ℕ) × Begins stream messages rest × IsPartial rest

@@ -54,7 +54,7 @@ module _ (old new : Option (List ℕ)) where
   LacksBody len NoMemory = Consumes old new []
   LacksBody len error = (front : List ℕ) × (length front < len) × Stops front error
 
-  -- the reader gave so many bytes, seen by view
+  -- the reader gave `len` bytes, seen by `view`
   abbrev pub FillsBody : {X : Type 0} → (X → List ℕ) → ℕ → Result X ReplyError → Type 0
   FillsBody view len (Ok body) = (length (view body) ≡ len) × Consumes old new (view body)
   FillsBody view len (Err error) = LacksBody len error

@@ -29,7 +29,7 @@ IsBeginning front bytes = (rest : List ℕ) × (bytes ≡ front ++ rest)
 abbrev pub IsCut : List ℕ → List ℕ → Type 0
 IsCut front bytes = (next : ℕ) × (rest : List ℕ) × (bytes ≡ front ++ next ∷ rest)
 
--- all of the bytes were written, or where the writer failed not all of them
+-- all of the bytes were written, or not all of them if the writer failed
 abbrev pub Writes : {X E : Type 0} → Option (List ℕ) → Option (List ℕ) → Result X E → List ℕ → Type 0
 Writes old new (Ok x) bytes = Appends old new bytes
 Writes old new (Err e) bytes = (front : List ℕ) × IsCut front bytes × Appends old new front

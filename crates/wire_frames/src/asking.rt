@@ -84,7 +84,7 @@ fn put_request(request: &Request, out: &mut Vec<u8>) -> Result<(), Refusal>
 }
 
 /// The whole frame of a request: its length in two bytes, and its one spelling. It is refused only
-/// where no memory is found.
+/// if no memory is found.
 pub fn request_frame(alloc: Global, request: &Request) -> Result<Vec<u8>, Refusal>
     ensures ok { IfOk result (λ bytes. bytes.items ≡ frame (request_bytes request.now)) }
     ensures err { IfErr result (λ refusal. refusal ≡ NoMemory) }

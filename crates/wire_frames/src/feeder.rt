@@ -71,7 +71,7 @@ impl Feeder {
         }
     }
 
-    /// Drops what was taken, where it is at least as much as what is left.
+    /// Drops what was taken, if it is at least as much as what is left.
     fn compact(&mut self)
         ensures { self.new ≡ self.old }
     {

@@ -33,7 +33,7 @@ impl From<AllocError> for ReplyError {
     }
 }
 
-/// One read of at least a byte, tried again where it was interrupted.
+/// One read of at least a byte, tried again if it was interrupted.
 fn read_some<R: Read>(reader: &mut R, room: &mut [u8]) -> Result<usize, ReplyError>
     requires { 0 < length room.old }
     ensures { GivesSome (R.remaining reader.old) (R.remaining reader.new) room.new result }
@@ -50,7 +50,7 @@ fn read_some<R: Read>(reader: &mut R, room: &mut [u8]) -> Result<usize, ReplyErr
     Err(ReplyError::Reader(error))
 }
 
-/// Fills the room, or a beginning of it where the stream ends or the reader fails.
+/// Fills the room, or a beginning of it if the stream ends or the reader fails.
 fn read_whole<R: Read>(reader: &mut R, room: &mut [u8]) -> Result<(), ReplyError>
     ensures { Fills (R.remaining reader.old) (R.remaining reader.new) room.new result }
 {
@@ -80,7 +80,7 @@ fn read_length<R: Read>(reader: &mut R) -> Result<u16, ReplyError>
     Ok(number_of(&head))
 }
 
-/// Reads so many bytes.
+/// Reads `len` bytes.
 fn read_body<R: Read>(alloc: Global, reader: &mut R, len: u16) -> Result<Vec<u8>, ReplyError>
     ensures { FillsBody (R.remaining reader.old) (R.remaining reader.new) (λ body. body.items) len
         result }
@@ -92,8 +92,8 @@ fn read_body<R: Read>(alloc: Global, reader: &mut R, len: u16) -> Result<Vec<u8>
 
 /// Reads one reply, and nothing behind it.
 ///
-/// Where the stream ends, the reader fails or memory is wanting, a part of the frame was read; where
-/// the frame says no reply, all of it.
+/// If the stream ends, the reader fails or memory is wanting, a part of the frame was read. If the
+/// frame says no reply, all of it was read.
 pub fn read_reply<R: Read>(
     alloc: Global,
     reader: &mut R,

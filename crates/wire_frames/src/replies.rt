@@ -23,7 +23,7 @@ pub(crate) const FAULT: u8 = 3;
 /// The status of a refusal is this and its number.
 pub(crate) const REFUSED: u8 = 128;
 
-/// One write of at least a byte, tried again where it was interrupted.
+/// One write of at least a byte, tried again if it was interrupted.
 #[tactic(auto, using(crate::proofs::Sent::keeps_appends))]
 fn write_some<W: Write>(writer: &mut W, bytes: &[u8]) -> io::Result<usize>
     ensures some { IfOk result (λ n. 0 < n) }
@@ -43,7 +43,7 @@ fn write_some<W: Write>(writer: &mut W, bytes: &[u8]) -> io::Result<usize>
     Err(io::Error::from(io::ErrorKind::TimedOut))
 }
 
-/// Writes all of the bytes, or a beginning of them where the writer fails.
+/// Writes all of the bytes, or a beginning of them if the writer fails.
 pub fn write_whole<W: Write>(writer: &mut W, bytes: &[u8]) -> io::Result<()>
     ensures { Writes (W.contents writer.old) (W.contents writer.new) result bytes.now }
 {
@@ -120,8 +120,8 @@ fn write_fault<W: Write>(writer: &mut W, fault: FuncError) -> io::Result<()>
     write_number(writer, FAULT, bits)
 }
 
-/// Writes the frame of a reply or a refusal. It takes no memory. Where the writer fails, a
-/// beginning of the frame was written, and never all of it.
+/// Writes the frame of a reply or a refusal. It takes no memory. If the writer fails, a beginning
+/// of the frame was written, and never all of it.
 pub fn write_reply<W: Write>(writer: &mut W, answer: &Result<Reply, Refusal>) -> io::Result<()>
     ensures { Writes (W.contents writer.old) (W.contents writer.new) result
         (reply_frame answer.now) }
