@@ -16,7 +16,7 @@ pub record Fails {D : Type 0} (states : D → List Files) (failures : D → ℕ)
   pub state : states new ≡ with_file number left (now (states old)) ∷ states old
   pub counted : failures new ≡ failures old + 1
 
--- The disk was only looked at: each call left the files as they were, and so many failed.
+-- The disk was only looked at: each call left the files as they were, and `failed` of the calls failed.
 pub record Looks {D : Type 0} (states : D → List Files) (failures : D → ℕ) (honest : D → Type 0) (failed : ℕ) (old new : D) : Type 0 where
   pub same : AtEachMoment states old new (λ files. files ≡ now (states old))
   pub failed_so : failures new ≡ failures old + failed

@@ -13,14 +13,14 @@ pub data Event : Type 0 where
   -- a look or a sync failed
   failed : Event
   wrote : (file at : ℕ) → (bytes : List ℕ) → Event
-  -- a write of this many bytes failed, and left this to be read
+  -- a write of `size` bytes failed, and left this to be read
   tore : (file at size : ℕ) → (seen : List ℕ) → Event
   -- a write failed, and what it left to be read is not known
   broke : (file at : ℕ) → (bytes : List ℕ) → Event
   synced_file : (file : ℕ) → Event
   -- a look at a file of the system gave this length
   measured : (file len : ℕ) → Event
-  -- a read of a file of the system, for which there was this much room, gave these bytes
+  -- a read of a file of the system, for which there was room for `room` bytes, gave these bytes
   gave : (file at room : ℕ) → (bytes : List ℕ) → Event
   -- the machine stopped and was started again
   stopped : Fill → Event

@@ -87,7 +87,7 @@ with_file number file files = λ n. if n == number then file else files n
 abbrev pub overwritten : ℕ → List ℕ → List ℕ → List ℕ
 overwritten at bytes old = take at old ++ (bytes ++ drop (at + length bytes) old)
 
--- after a write of this many bytes at this place, which left this to be read
+-- after a write of `size` bytes at this place, which left this to be read
 abbrev pub reached : ℕ → ℕ → List ℕ → File → File
 reached at size seen file = record { seen = seen; base = file.base; pending = record { at = at; size = size } ∷ file.pending; greatest = max file.greatest (at + size) }
 
@@ -95,7 +95,8 @@ reached at size seen file = record { seen = seen; base = file.base; pending = re
 abbrev pub written : ℕ → List ℕ → File → File
 written at bytes file = reached at (length bytes) (overwritten at bytes file.seen) file
 
--- After a write of this many bytes that failed: any bytes in its range, and any length up to its end. What was pending and the range are pending.
+-- After a write of `size` bytes that failed: any bytes in its range, and any length up to its end. What was pending and
+-- the range are pending.
 pub record IsTorn (at size : ℕ) (old new : File) : Type 0 where
   pub before : take at new.seen ≡ take at old.seen
   pub after : drop (at + size) new.seen ≡ drop (at + size) old.seen

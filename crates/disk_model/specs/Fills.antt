@@ -36,14 +36,14 @@ length_left New number file = length file.seen
 length_left (Byte byte) number file = file.greatest
 length_left (Chosen bytes lens) number file = within (length file.base) file.greatest (slice_index_or lens number 0)
 
--- Byte i of a file before which there are this many pending bytes, counting those of the files before it.
+-- Byte i of a file, if `count` pending bytes are before it, counting those of the files before this one.
 abbrev pub byte_left : Fill → ℕ → File → ℕ → ℕ
 byte_left Old count file i = byte_at i file.base
 byte_left New count file i = byte_at i file.seen
 byte_left (Byte byte) count file i = if is_pending file i then byte else byte_at i file.seen
 byte_left (Chosen bytes lens) count file i = if is_pending file i then slice_index_or bytes.items count (byte_at i file.seen) else byte_at i file.seen
 
--- the contents that the fill picks, where chosen bytes go to pending bytes in order of file and place
+-- the contents that the fill picks; chosen bytes go to pending bytes in order of file and place
 abbrev pub left_by : Fill → Files → Contents
 left_by fill files = λ number.
     bytes_by (length_left fill number (files number)) (λ i. byte_left fill (pending_before files number + pending_below (files number) i) (files number) i)

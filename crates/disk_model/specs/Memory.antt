@@ -21,7 +21,7 @@ planned_of disk = disk.failure
 abbrev pub is_short : MemDisk → Bool
 is_short disk = disk.is_short
 
--- One call went by the plan: it failed where that says so, else only where it found no memory.
+-- One call went by the plan: it failed if that says so, else only if it found no memory.
 pub record IsByPlan (old new : MemDisk) (is_ok : Bool) : Type 0 where
   pub plan : planned_of new ≡ passed (planned_of old)
   pub fails : IsSome (due_of (planned_of old)) → is_ok ≡ false
@@ -29,7 +29,7 @@ pub record IsByPlan (old new : MemDisk) (is_ok : Bool) : Type 0 where
   pub short_still : is_short old ≡ true → is_short new ≡ true
   pub not_shorter : is_ok ≡ true → is_short new ≡ is_short old
 
--- A write of so many bytes found no memory: a read gives what it gave, and the range is pending.
+-- A write of `size` bytes found no memory: a read gives what it gave, and the range is pending.
 pub record LosesWrite (file at size : ℕ) (old new : MemDisk) : Type 0 where
   pub short : is_short new ≡ true
   pub state : memory_states new ≡ with_file file (reached at size (now (memory_states old) file).seen (now (memory_states old) file)) (now (memory_states old)) ∷ memory_states old

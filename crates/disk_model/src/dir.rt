@@ -22,7 +22,7 @@ pub trait Start: Drop {
     /// What a read gives of each file, and what is pending there.
     ghost files: { Files };
 
-    /// What the n-th event, where it is a write that failed, left to be read.
+    /// What the n-th event left to be read, if it is a write that failed.
     ghost left: { ℕ → Fill };
 
     ghost are_coherent: { AreCoherent files };
@@ -60,9 +60,9 @@ pub struct DirDisk<S: Start> {
 
 impl<S: Start> DirDisk<S> {
     /// Opens the files that are there. A write to one that is absent fails. `S` stands for what the
-    /// files hold; its value is used up, so that code over any `S` opens one directory. The directory is
-    /// locked first: an error comes where it is missing, or where another value or program holds its lock,
-    /// and then none of the four files was touched.
+    /// files hold; its value is used up, so that code over any `S` opens one directory. The
+    /// directory is locked first. If it is missing, or another value or program holds its lock,
+    /// this is an error, and none of the four files was touched.
     pub fn open<R: FileSystem<File = File>>(
         rt: &R,
         alloc: Global,

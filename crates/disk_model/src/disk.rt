@@ -36,7 +36,8 @@ pub trait Disk {
         ensures ok { OnOk result (failures self.new ≡ failures self.old) }
         ensures err { OnErr result (failures self.new ≡ failures self.old + 1) };
 
-    /// Reads the bytes from `at` on, as many as there are and `buf` has room for, and answers how many.
+    /// Reads the bytes from `at` on, as many as there are and `buf` has room for, and returns how
+    /// many.
     fn read(&mut self, file: usize, at: usize, buf: &mut [u8]) -> Result<usize, DeviceError>
         // One of the four files.
         requires { file < 4 }
@@ -54,8 +55,8 @@ pub trait Disk {
         ensures ok { OnOk result (failures self.new ≡ failures self.old) }
         ensures err { OnErr result (failures self.new ≡ failures self.old + 1) };
 
-    /// Writes over what is there and past the end. Until the next successful sync a stop may leave any
-    /// bytes in that range, also where the write failed.
+    /// Writes over what is there and past the end. Until the next successful sync a stop may leave
+    /// any bytes in that range, also if the write failed.
     fn write_at(&mut self, file: usize, at: usize, bytes: &[u8]) -> Result<(), DeviceError>
         // One of the four files, and no gap between its end and the bytes.
         requires file { file < 4 }

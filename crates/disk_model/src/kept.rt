@@ -56,7 +56,7 @@ impl Kept {
         })
     }
 
-    // Notes that a write of this many bytes was made there.
+    // Notes that a write of `size` bytes was made there.
     pub(crate) fn touch(&mut self, at: usize, size: usize)
         ensures kept { (file : File) → IsKept self.old file
             → IsKept self.new (reached at size file.seen file) }
@@ -174,7 +174,7 @@ impl Kept {
         count + self.greatest.saturating_sub(self.reached.len() as u128)
     }
 
-    // What a stop leaves, where so many pending bytes stand in the files before this one.
+    // What a stop leaves, if `before` pending bytes stand in the files before this one.
     pub(crate) fn left(
         &self,
         alloc: Global,
@@ -267,7 +267,7 @@ fn truncated(mut bytes: Vec<u8>, len: usize) -> Vec<u8>
     bytes
 }
 
-// Marks so many places from `at` on.
+// Marks `size` places from `at` on.
 fn mark(marks: &mut [bool], at: usize, size: usize)
     ensures { (i : ℕ) → i < length marks.old
         → slice_index_or marks.new i true
@@ -292,7 +292,7 @@ fn overwrite(content: &mut Vec<u8>, at: usize, bytes: &[u8]) -> Result<(), Alloc
     Ok(())
 }
 
-// Gets the memory for so many items in all.
+// Gets the memory for `len` items in all.
 fn make_room<T>(items: &mut Vec<T>, len: usize) -> Result<(), AllocError>
     ensures items { items.new.items ≡ items.old.items }
     ensures room { OnOk result (len ≤ vec_capacity items.new) }

@@ -49,8 +49,8 @@ impl MemDisk {
         }
     }
 
-    /// Has the device call fail that comes after so many others from now on, in place of what was
-    /// planned before.
+    /// Has the device call fail that comes after `failure.after` others from now on, in place of
+    /// what was planned before.
     pub fn plan(&mut self, failure: Option<Failure>)
         ensures planned { planned_of self.new ≡ failure }
         ensures states { memory_states self.new ≡ memory_states self.old }
@@ -68,7 +68,7 @@ impl MemDisk {
     }
 
     /// Stops the machine and starts it again: the files hold what the fill picks of what a stop may
-    /// leave, and nothing is pending. Where there is no memory for that, nothing changes.
+    /// leave, and nothing is pending. If there is no memory for that, nothing changes.
     pub fn stop(&mut self, fill: &Fill) -> Result<(), AllocError>
         // The files hold what the fill picks, which is among what a stop may leave.
         ensures ok { OnOk result
@@ -318,7 +318,7 @@ fn left_files(alloc: Global, files: &[Kept; 4], fill: &Fill) -> Result<[Kept; 4]
     ])
 }
 
-// Notes a failed write of so many bytes, after which a read gives what is kept.
+// Notes a failed write of `size` bytes, after which a read gives what is kept.
 fn tore(past: &Past, files: &[Kept; 4], file: usize, at: usize, size: usize) -> Past
     requires { file < 4 }
     ensures { (other : Kept) → result.events ≡ tore file at size

@@ -8,7 +8,7 @@ use crate::Fill;
 pub struct Failure {
     /// How many calls come before it.
     pub after: u64,
-    /// What is to be read after it, where it is a write.
+    /// What is to be read after it, if it is a write.
     pub fill: Fill,
 }
 
