@@ -3,11 +3,11 @@ use Rattle.std.specs.Prelude.{◌≡◌, ◌≤◌, ℕ, ◌+◌, List, length}
 use Rattle.disk_model.specs.Files.{Files}
 use Rattle.file_pieces.specs.Pieces.{ReaderState, end_of, pieces_in}
 
--- so many device calls were made
+-- `count` device calls were made
 abbrev pub Made : {D : Type 0} → (D → List Files) → ℕ → D → D → Type 0
 Made states count old new = length (states new) ≡ length (states old) + count
 
--- at most so many device calls were made
+-- at most `most` device calls were made
 abbrev pub MadeAtMost : {D : Type 0} → (D → List Files) → ℕ → D → D → Type 0
 MadeAtMost states most old new = length (states new) ≤ length (states old) + most
 

@@ -15,7 +15,7 @@ pub record ReaderState : Type 0 where
 abbrev pub end_of : ReaderState → ℕ
 end_of r = r.from + length r.held
 
--- how many pieces have the first so many bytes of a file
+-- how many pieces have the first n bytes of a file
 abbrev pub pieces_in : ℕ → ℕ
 pieces_in n = (n + 65535) / 65536
 
