@@ -7,7 +7,7 @@ use Rattle.store_layout.specs.Checkpoints.{Checkpoint, body_offset, sections_byt
 use Rattle.store_layout.specs.Readings.{gate_behind}
 use Rattle.store_layout.specs.Opening.{Opened, next_low}
 
--- a checkpoint whose body has so many bytes: its head, the length of its file, and the pieces up to the end of the body
+-- a checkpoint whose body has `body` bytes: its head, the length of its file, and the pieces up to the end of the body
 abbrev pub checkpoint_calls : ℕ → ℕ
 checkpoint_calls body = 2 + pieces_in (body_offset + body)
 

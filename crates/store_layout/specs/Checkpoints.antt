@@ -23,7 +23,7 @@ body_offset = 36
 abbrev pub checkpoint_file : ℕ → ℕ
 checkpoint_file generation = generation % 2
 
--- what a stripe held after so many commands
+-- what a stripe held after the first `mark` commands
 pub record Section : Type 0 where
   pub mark : ℕ
   pub map : Map
@@ -72,11 +72,11 @@ abbrev pub checkpoint_bytes : Layout → Checkpoint → List ℕ
 checkpoint_bytes layout k =
     checkpoint_header k.generation k.low (greatest_mark k.sections) k.stripes (length (sections_bytes layout k.sections)) ++ sections_bytes layout k.sections
 
--- a well-formed entry whose key belongs to the stripe, of so many stripes
+-- a well-formed entry whose key belongs to the stripe, of `stripes` stripes
 abbrev pub IsEntryOf : Layout → ℕ → ℕ → List ℕ × Value → Type 0
 IsEntryOf layout stripes stripe entry = IsText layout.key_limit entry.0 × IsValue entry.1 × (stripe_of stripes entry.0 ≡ stripe)
 
--- a section of the stripe, of so many stripes
+-- a section of the stripe, of `stripes` stripes
 pub record IsSection (layout : Layout) (stripes stripe : ℕ) (section : Section) : Type 0 where
   pub mark_fits : section.mark < 2 ^ 64
   pub count_fits : length (finite.entries section.map) < 2 ^ 32

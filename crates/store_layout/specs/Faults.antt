@@ -15,7 +15,7 @@ use Rattle.store_layout.specs.Checkpoints.{Section, Checkpoint, body_offset, ent
 
 -- ---- the fields, each at its offset
 
--- the number that so many bytes from this offset on spell
+-- the number that `width` bytes from this offset on spell
 abbrev pub number_in : ℕ → ℕ → List ℕ → ℕ
 number_in width offset content = big_number width (drop offset content)
 

@@ -11,8 +11,8 @@ use Rattle.store_layout.specs.Opening.{first_checkpoint}
 abbrev pub first_log : List ℕ
 first_log = log_front first_layout 0 0 [] ++ 0 ∷ []
 
--- What empty files hold once they are those of a new store: a sealed checkpoint of so many stripes without entries, and the log that goes on
--- from it.
+-- What empty files hold once they are those of a new store: a sealed checkpoint of `stripes` stripes without entries,
+-- and the log that goes on from it.
 abbrev pub new_contents : ℕ → Contents
 new_contents stripes = λ number.
     if number == 0 then open_gate ∷ checkpoint_bytes first_layout (first_checkpoint stripes)

@@ -4,7 +4,7 @@ use Rattle.map_types.specs.declared.commands.Command.{Command}
 use Rattle.log_records.specs.Layout.{first_layout}
 use Rattle.store_layout.specs.Logs.{frame, most_commands, most_frame_bytes}
 
--- The commands of consecutive tickets, from `next` on; there is none where a ticket is not in hand.
+-- The commands of consecutive tickets, from `next` on. If a ticket is not in hand, it has none.
 pub record Hand : Type 0 where
   pub next : ℕ
   pub slots : List (Option Command)
@@ -18,7 +18,7 @@ pub record Holds (hand : Hand) (t : ℕ) (command : Command) : Type 0 where
 abbrev pub IsRun : Hand → List Command → Type 0
 IsRun hand commands = (rest : List (Option Command)) × (hand.slots ≡ map Some commands ++ rest)
 
--- they may be one batch, of at most so many
+-- they may be one batch, of at most `most`
 pub record FitsBatch (most first : ℕ) (commands : List Command) : Type 0 where
   pub few : length commands ≤ most
   pub fits : first + length commands < 2 ^ 64

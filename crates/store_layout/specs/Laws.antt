@@ -12,12 +12,12 @@ PartsAndLogRestore = (h : History) (stripes low : ℕ) (sections : List Section)
     AreParts h stripes 0 sections → AreMarks (max h.first low) (low + length log) sections → length sections ≡ stripes → 0 < stripes →
     IsLogOf h low log → Restores h stripes sections low log
 
--- it stays so where the history's next commands are logged
+-- it stays so when the history's next commands are logged
 abbrev pub RestoringGoesOn : Type 0
 RestoringGoesOn = (h : History) (stripes low : ℕ) (sections : List Section) (log new : List Command) →
     Restores h stripes sections low log → IsNextOf h (low + length log) new → Restores h stripes sections low (log ++ new)
 
--- and where the history grows
+-- and when the history grows
 abbrev pub RestoringStays : Type 0
 RestoringStays = (h : History) (stripes low : ℕ) (sections : List Section) (log more : List Command) →
     Restores h stripes sections low log → Restores (grown h more) stripes sections low log
@@ -47,7 +47,7 @@ LogsStay = (h : History) (low : ℕ) (log more : List Command) → IsLogOf h low
 abbrev pub NextStays : Type 0
 NextStays = (h : History) (ticket : ℕ) (new more : List Command) → IsNextOf h ticket new → IsNextOf (grown h more) ticket new
 
--- parts whose marks the history reaches stay parts where it grows
+-- parts whose marks the history reaches stay parts when it grows
 abbrev pub PartsStay : Type 0
 PartsStay = (h : History) (stripes from : ℕ) (sections : List Section) (more : List Command) → AreMarks h.first (reach h) sections → AreParts h stripes from sections →
     AreParts (grown h more) stripes from sections

@@ -20,7 +20,7 @@ Contents = ℕ → List ℕ
 
 -- ---- what an opening finds
 
--- the checkpoint that is used, the batches of its log, and where that one has ended those of the next
+-- the checkpoint that is used, the batches of its log, and, if that one has ended, those of the next
 pub record Opened : Type 0 where
   pub checkpoint : Checkpoint
   pub first : List Batch
@@ -91,7 +91,7 @@ pub record StandsFor (contents : Contents) (p : ℕ) (m : Map) : Type 0 where
   pub prefix : prefix_of found ≡ p
   pub map : map_of found ≡ m
 
--- the files stand for the map after the history's first commands, of which there are at least and at most so many
+-- the files stand for the map after the history's first `count` commands: at least `least`, and at most `most`
 pub record StandsForFront (h : History) (least most : ℕ) (contents : Contents) : Type 0 where
   pub count : ℕ
   pub stands : StandsFor contents count (fold_to h count)
@@ -106,7 +106,7 @@ pub record StandsForFront (h : History) (least most : ℕ) (contents : Contents)
 abbrev pub empty_section : Section
 empty_section = record { mark = 0; map = finite.empty }
 
--- the checkpoint that a store of so many stripes begins with
+-- the checkpoint that a store of `stripes` stripes begins with
 abbrev pub first_checkpoint : ℕ → Checkpoint
 first_checkpoint stripes = record { generation = 0; low = 0; stripes = stripes; sections = map (λ stripe. empty_section) (range_with_len 0 stripes) }
 

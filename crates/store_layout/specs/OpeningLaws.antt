@@ -58,7 +58,7 @@ abbrev pub HeldIsUsed : Type 0
 HeldIsUsed = (contents : Contents) (found : Opened) → Holds contents found →
     (heads_fault contents ≡ None) × (newest_file contents ≡ checkpoint_file found.checkpoint.generation)
 
--- where the heads have no fault, the checkpoint that is used and its logs are held
+-- if the heads have no fault, the checkpoint that is used and its logs are held
 abbrev pub UsedIsHeld : Type 0
 UsedIsHeld = (contents : Contents) (found : Opened) → heads_fault contents ≡ None → IsCheckpoint first_layout found.checkpoint (contents (newest_file contents)) →
     AreLogs contents found.checkpoint found.first found.second → greatest_mark found.checkpoint.sections ≤ prefix_of found → Holds contents found

@@ -12,7 +12,7 @@ pub enum CheckpointPhase {
     GateWritten,
     /// Zeros are to be written where the header will stand.
     GateSynced,
-    /// The next section may be given, or where all are written the checkpoint may be sealed.
+    /// The next section may be given, or if all are written, the checkpoint may be sealed.
     Ready,
     /// The section that was given is to be written.
     Staged,

@@ -16,7 +16,7 @@ pub use log_phase::Phase;
 /// The version byte of each file.
 pub const VERSION: u8 = 1;
 
-/// A gate is open where its byte is this one, and closed for every other byte.
+/// A gate is open if its byte is this one, and closed for every other byte.
 pub const OPEN_GATE: u8 = 0xA5;
 
 /// The byte that is written to close a gate.
