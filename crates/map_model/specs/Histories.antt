@@ -16,8 +16,8 @@ pub record History : Type 0 where
 abbrev pub fold_to : History → ℕ → Map
 fold_to h q = map_after h.opening (take (q - h.first) h.commands)
 
--- A change with ticket t is legal if command t of the history is that change, its reply is that of one thread on the
--- map after the first t commands, and its position is t + 1.
+-- A change with ticket t is legal if command t of the history is that change, and its position is t + 1. Its reply has
+-- to be that of one thread on the map after the first t commands.
 pub record IsLegalChange (h : History) (position : ℕ) (c : Command) (reply : Reply) : Type 0 where
   pub ticket : ℕ
   pub position_is : position ≡ ticket + 1
@@ -25,8 +25,8 @@ pub record IsLegalChange (h : History) (position : ℕ) (c : Command) (reply : R
   pub command : slice_get h.commands (ticket - h.first) ≡ Some c
   pub reply_is : reply ≡ (step (fold_to h ticket) c).reply
 
--- A read at position q is legal if q is at most the length of the history, and its reply is that of one thread on the
--- map after the first q commands.
+-- A read at position q is legal if q is at most the length of the history. Its reply has to be that of one thread on
+-- the map after the first q commands.
 pub record IsLegalRead (h : History) (position : ℕ) (r : Read) (reply : Reply) : Type 0 where
   pub from_first : h.first ≤ position
   pub within : position ≤ h.first + length h.commands
