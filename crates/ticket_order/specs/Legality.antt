@@ -47,7 +47,9 @@ entries_from t (c ∷ cs) = entry t c ∷ entries_from (t + 1) cs
 abbrev pub entries_of : ℕ → ℕ → List Entry → List Entry
 entries_of n i es = filter (λ e. is_in_stripe n i e.command.key) es
 
--- the part and the outbox of stripe i of n after the commands, of whose entries the sweeps took `taken`: the stripe's part of the map, and exactly those of its entries that no sweep took, in the order of their tickets
+-- The part and the outbox of stripe i of n after the commands, of whose entries the sweeps took `taken`. The part is
+-- the stripe's part of the map. The outbox is exactly those of its entries that no sweep took, in the order of their
+-- tickets.
 pub record IsContent (o : Opening) (n : ℕ) (commands : List Command) (taken : List Entry) (i : ℕ) (part : Map) (outbox : List Entry) : Type 0 where
   pub part_is : part_of n i (map_after o.map commands) ≡ part
   pub outbox_is : entries_of n i (entries_from o.first commands) ≡ entries_of n i taken ++ outbox

@@ -21,7 +21,8 @@ use Rattle.ticket_order.specs.Legality.{history_of, IsLegalCall, IsLegalSection,
 abbrev pub Rises : Record → ℕ → Record → Type 0
 Rises v n w = ((n ≤ reach v) × (reach w ≡ reach v)) ⊎ ((reach v ≤ n) × (reach w ≡ n))
 
--- what the keeper's sweeps took of stripe i, and then the outbox that it took now, are all entries of that stripe in a history that begins with what it has seen
+-- What the keeper's sweeps took of stripe i, and then the outbox that it took now, are all entries of that stripe in a
+-- history. That history begins with what the keeper has seen.
 pub record Collects (n i : ℕ) (v : Record) (outbox : List Entry) (w : Record) : Type 0 where
   pub more : List Command
   pub is : entries_of n i v.taken ++ outbox ≡ entries_of n i (entries_from v.opening.first (w.seen ++ more))
@@ -68,8 +69,8 @@ pub record Draws (v : Record) (c : Command) (t : ℕ) (w : Record) : Type 0 wher
 abbrev pub HasLooked : Holding → Type 0
 HasLooked d = (q : ℕ) × (d.looked ≡ Some q)
 
--- A stripe may be given back for a read of a key of its own after a LOOK, for a sweep by the keeper if no ticket was
--- drawn, and for a capture after a LOOK.
+-- A stripe may be given back for a read of a key of its own after a LOOK, and for a capture after a LOOK. It may be
+-- given back for a sweep by the keeper if no ticket was drawn.
 abbrev pub Suits : ℕ → Record → Holding → Purpose → Type 0
 Suits n v d Nothing = Unit {0}
 Suits n v d (Answer r) = (stripe_of n r.key ≡ d.stripe) × HasLooked d

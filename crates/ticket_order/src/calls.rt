@@ -86,8 +86,8 @@ pub fn release<S: Steps>(steps: &mut S, held: Held) -> Released
     Released::Failed
 }
 
-/// Makes a change, for whose key the hash has this spread, on the stripe of the key, which the pass
-/// has just taken and found with this content: ALIVE, LOOK, TICKET, GIVE.
+/// Makes a change on the stripe of its key: ALIVE, LOOK, TICKET, GIVE. The pass has just taken the
+/// stripe and found this content in it. `spread` is the spread of the key's hash.
 pub fn call_on<S: Steps>(
     steps: &mut S,
     alloc: Global,
@@ -128,8 +128,8 @@ pub fn call_on<S: Steps>(
     )
 }
 
-/// Makes a read, for whose key the hash has this spread, of the stripe of the key, which the pass has
-/// just taken and found with this content: ALIVE, LOOK, GIVE.
+/// Makes a read of the stripe of its key: ALIVE, LOOK, GIVE. The pass has just taken the stripe and
+/// found this content in it. `spread` is the spread of the key's hash.
 pub fn read_on<S: Steps>(
     steps: &mut S,
     read: Read,

@@ -1,5 +1,5 @@
 //! What a pass records. No value of `Record`, or of what it is made of, is ever made: contracts
-//! alone speak of them, and they are Rust types so that they can be a shared table's view of a pass.
+//! alone speak of them. They are Rust types so that they can be a shared table's view of a pass.
 use crate::numbers::{Position, Ticket};
 use crate::stripe::Entry;
 use atomic_methods::Part;

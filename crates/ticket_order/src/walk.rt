@@ -183,8 +183,8 @@ impl Walk {
     }
 
     /// A sweep or a capture that has only its GIVE left will give the stripe back as it was taken,
-    /// and end with `NoMemory`: for a caller that finds no memory for what it would be handed. Any
-    /// other walk stays as it is.
+    /// and end with `NoMemory`. This is for a caller that finds no memory for what it would be
+    /// handed. Any other walk stays as it is.
     pub fn give_back(self) -> Walk
         ensures fits { (n : ℕ) (b : Record) (task : Task) (p : Record) → Fits n b task self p
             → Fits n b task result p }
