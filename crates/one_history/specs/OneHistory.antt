@@ -113,8 +113,8 @@ pub record IsTakenByAnother (b : Book) (j i : ℕ) : Type 0 where
   pub apart : taker ≢ j
   pub took : Contains b.interleaving (pass_step taker (Took i outbox))
 
--- What stays so once the pass j made this step: a SEE found no more than the durable count, an ALIVE says no only after a FAIL, and a TAKE finds its
--- stripe held only after another pass took it.
+-- What stays so once the pass j made this step. A SEE found no more than the durable count. An ALIVE says no only after
+-- a FAIL. A TAKE finds its stripe held only after another pass took it.
 abbrev pub StaysSo : Book → ℕ → StepMade → Type 0
 StaysSo b j (Saw d) = d ≤ b.effects.durable
 StaysSo b j (FoundAlive is_alive) = is_alive ≡ false → b.effects.failed ≡ true
