@@ -36,7 +36,8 @@ no_front = newcomer (record { first = 0; map = finite.empty })
 abbrev pub compared : Step (Option Stripe) → Sat → ℕ → Sat → Type 0
 compared st m r m' = AreComparable m.0.seen (commands_of m.0.taken) × All (BearsOut m.0.published m.0.failed) m.0.steps
 
--- There is one history of all passes on the words, and this is the record of one of them: what each of its steps found is what the words held then.
+-- There is one history of all passes on the words, and this is the record of one of them. What each of its steps found
+-- is what the words held then.
 pub record StandsInOneHistory (v : Record) : Type 0 where
   pub book : Book
   pub place : ℕ

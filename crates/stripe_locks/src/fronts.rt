@@ -36,7 +36,7 @@ impl Play<Option<Stripe>, Record> for Attest {
 impl Stripes {
     /// A law: between any two steps there is one history of all passes, and the record of this one
     /// is in it. All steps have one order, in which each finds what those before it left in its
-    /// word: a `Busy` came of a stripe that another held then, a reply goes out at a count that was
+    /// word. A `Busy` came of a stripe that another held then. A reply goes out at a count that was
     /// durable then, and a refusal for failure behind a FAIL. The call is no step of the pass.
     pub fn stands_in_one_history(&self, pass: &mut Pass)
         requires own { IsPassOf self.now pass.old }

@@ -21,7 +21,8 @@ use std::sync::atomic::AtomicU64;
 use ticket_order::{Record, Stripe};
 
 // The words: the ticket count, the durable count, the failure word, the count of passes, and then
-// one for each stripe, which is 0 if the stripe is free, else the number of its holder.
+// one for each stripe. The word of a stripe is 0 if the stripe is free, else the number of its
+// holder.
 pub(crate) const TICKETS: usize = 0;
 
 pub(crate) const DURABLE: usize = 1;
