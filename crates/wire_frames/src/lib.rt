@@ -1,5 +1,5 @@
-//! The frames of a connection: requests out of a stream that comes in pieces, and replies into a writer; and for a
-//! client requests as frames, and replies out of a reader.
+//! The frames of a connection: requests out of a stream that comes in pieces, and replies into a
+//! writer. For a client: requests as frames, and replies out of a reader.
 #![tactic(auto)]
 
 pub mod answers;

@@ -162,7 +162,7 @@ pub(crate) fn has_bulk_method(body: &[u8]) -> bool
 }
 
 /// The request that the bytes of a frame behind its length say, or the first refusal that is met
-/// from left to right; `NoMemory` if no memory is found for it.
+/// from left to right. It is `NoMemory` if no memory is found for the request.
 #[tactic(auto, unfolding(crate::specs::Requests::request_of))]
 pub fn read_request(alloc: Global, bytes: &[u8]) -> Result<Request, Refusal>
     ensures { Gives (λ request. request) result (request_of bytes.now) }
