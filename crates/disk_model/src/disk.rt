@@ -10,7 +10,7 @@ use thiserror::Error;
 pub struct DeviceError;
 
 /// Four files of bytes, numbered from 0. The type has a meaning for proofs alone: the state of the
-/// files after each device call, from which it follows what a stop of the machine may leave.
+/// files after each device call. From it follows what a stop of the machine may leave.
 pub trait Disk {
     /// The state of the files at first, after each device call and after each stop, the newest first.
     ghost states: { Self → List Files };
