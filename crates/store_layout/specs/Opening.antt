@@ -135,8 +135,9 @@ newest_file contents =
 abbrev pub damage_behind : FoundLog → Refusal
 damage_behind log = Damaged (log_file log.generation) (gate_behind first_layout log.generation log.low log.batches)
 
--- What is wrong with the logs of a checkpoint, and its refusal: with the header of the first; with one of its frames; with the header of the
--- next; with one of its frames, of which none may be an end frame; or both are whole and end below the greatest mark.
+-- What is wrong with the logs of a checkpoint, and its refusal. It is the header of the first log, one of its frames,
+-- the header of the next, or one of its frames, of which none may be an end frame. Or the logs are whole and end below
+-- the greatest mark.
 pub data AreBadLogs (contents : Contents) (k : Checkpoint) (refusal : Refusal) : Type 0 where
   bad_header : IsBadHeader k.generation k.low (contents (log_file k.generation)) refusal → AreBadLogs contents k refusal
   bad_frame : (first : List Batch) → Reads first_layout k.generation k.low (contents (log_file k.generation)) (broken first)
@@ -152,8 +153,8 @@ pub data AreBadLogs (contents : Contents) (k : Checkpoint) (refusal : Refusal) :
   below_mark : (first : List Batch) (second : Option (List Batch)) → AreLogs contents k first second → k.low + length (logged_by first second) < greatest_mark k.sections
       → refusal ≡ damage_behind (newest_by k first second) → AreBadLogs contents k refusal
 
--- Opening the files is refused, and with this refusal: what is wrong is looked for in the heads of the sealed checkpoints, in the checkpoint
--- that is used, and in its logs, in this order.
+-- Opening the files is refused, and with this refusal. What is wrong is looked for in the heads of the sealed
+-- checkpoints, in the checkpoint that is used, and in its logs, in this order.
 pub data Refuses (contents : Contents) (refusal : Refusal) : Type 0 where
   bad_heads : heads_fault contents ≡ Some refusal → Refuses contents refusal
   bad_checkpoint : heads_fault contents ≡ None → IsBadCheckpoint first_layout (newest_file contents) (contents (newest_file contents)) refusal

@@ -26,8 +26,8 @@ pub data IsBadHeader (generation low : ℕ) (content : List ℕ) (refusal : Refu
 
 -- ---- frames
 
--- Neither the frame of a batch that begins with the expected ticket nor the end frame that names the next generation, with a byte behind it,
--- is what stands here.
+-- What stands here is neither the frame of a batch that begins with the expected ticket nor the end frame that names
+-- the next generation, with a byte behind it.
 pub record HasNoFrame (layout : Layout) (expected next : ℕ) (rest : List ℕ) : Type 0 where
   pub no_batch : (batch : Batch) (after : ℕ) (behind : List ℕ) → IsBatch layout batch → batch.first ≡ expected → rest ≡ frame layout batch ++ after ∷ behind → ⊥
   pub no_end : (after : ℕ) (behind : List ℕ) → next < 2 ^ 64 → rest ≡ end_frame next ++ after ∷ behind → ⊥
