@@ -76,7 +76,7 @@ fn compare<R: Threads + Wait + Sync>(
     Ok(Compared { mark, difference })
 }
 
-// Takes as many views as are wanted, each behind changes that the one before hasn't seen.
+// Takes `views` views, each behind changes that the one before hasn't seen.
 fn compare_all<R: Threads + Wait + Sync>(
     rt: &R,
     alloc: Global,

@@ -66,7 +66,7 @@ fn sum_below(entries: u32) -> i64 {
     entries.wrapping_mul(entries.wrapping_sub(1)) / 2
 }
 
-/// How many a second, if so many took this long.
+/// How many entries a second, if `entries` entries took `spent`.
 fn rate(entries: u32, spent: Duration) -> u128 {
     u128::from(entries) * 1_000_000_000 / spent.as_nanos().max(1)
 }

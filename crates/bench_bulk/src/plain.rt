@@ -19,7 +19,7 @@ struct Found {
     key: Option<Key>,
 }
 
-/// What is to be the answers of a view.
+/// The answers that a view is to give.
 #[derive(Drop)]
 pub(crate) struct Plain {
     count: usize,

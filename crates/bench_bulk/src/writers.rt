@@ -11,7 +11,7 @@ use std::sync::Wait;
 /// How many amounts may be added.
 const AMOUNTS: u32 = 8;
 
-/// One of so many keys isn't among the entries at first.
+/// For each 16 entries the writers have one key more, which isn't mapped at first.
 const NEW_KEYS: u32 = 16;
 
 /// What the writers share.
@@ -39,7 +39,7 @@ impl Dice {
 }
 
 impl Writing {
-    /// Of a map with so many entries.
+    /// Of a map with `entries` entries.
     pub(crate) fn new(entries: u32) -> Writing {
         Writing {
             keys: entries.saturating_add(entries / NEW_KEYS),
