@@ -1,4 +1,4 @@
-//! Calls on shared stripes, made again where another thread holds the stripe.
+//! Calls on shared stripes, made again if another thread holds the stripe.
 ghost use Rattle.std.specs.Prelude.{◌≡◌, None};
 ghost use Rattle.stripe_locks.specs.Passes.{recorded, IsPassOf};
 
@@ -81,7 +81,7 @@ pub(crate) fn call_each(
     Ok(())
 }
 
-/// Sweeps every stripe, where the pass is the keeper's.
+/// Sweeps every stripe, if the pass is the keeper's.
 pub(crate) fn sweep_as_keeper(stripes: &Stripes, pass: &mut Pass, alloc: Global)
     requires own { IsPassOf stripes.now pass.old }
     requires idle { (recorded pass.old).holding ≡ None }

@@ -28,7 +28,7 @@ impl Kind {
         }
     }
 
-    /// What a call of this kind does to the key of this number, or none where it is a read.
+    /// What a call of this kind does to the key of this number, or none if it is a read.
     pub(crate) fn change(self, number: u32) -> Option<Change> {
         match self {
             Kind::PutNew => Some(Change::Put(Value::Int(i64::from(number)))),
@@ -65,7 +65,7 @@ impl Times {
         }
     }
 
-    /// The rates, where so many calls of each kind were made.
+    /// The rates, if `calls` calls of each kind were made.
     pub(crate) fn rates(self, calls: u64) -> Rates {
         Rates {
             put_new: rate(calls, self.put_new),

@@ -28,12 +28,12 @@ const PAIRS: u32 = 1_000_000;
 /// The most keys, whose numbers have seven digits.
 const MOST_KEYS: u32 = 10_000_000;
 
-/// How many a second, where so many took this long.
+/// How many pairs a second, if `pairs` pairs took `spent`.
 fn rate(pairs: u64, spent: Duration) -> u128 {
     u128::from(pairs) * 1_000_000_000 / spent.as_nanos().max(1)
 }
 
-/// The time of the plain loop, or none where memory was refused.
+/// The time of the plain loop, or none if memory was refused.
 fn time_a_part<R: AllocGlobal + Clock>(rt: &R) -> io::Result<Option<Duration>> {
     let start = Instant::now(rt)?;
     let done = pairs_on_a_part(rt.alloc(), PAIRS);
@@ -48,7 +48,7 @@ fn fresh_stripes<R: AllocGlobal>(rt: &R) -> Result<Stripes, Refusal> {
     Stripes::empty(rt.alloc(), count)
 }
 
-/// The time of so many threads at once, or none where one of them was refused.
+/// The time of `threads` threads at once, or none if one of them was refused.
 fn time_stripes<R: AllocGlobal + Clock + Threads + Sync>(
     rt: &R,
     threads: usize,

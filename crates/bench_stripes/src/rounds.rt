@@ -1,4 +1,4 @@
-//! Rounds of calls by so many keys, on so many threads at once.
+//! Rounds of calls of many keys, on several threads at once.
 ghost use Rattle.std.specs.Prelude.{◌≡◌, None};
 ghost use Rattle.stripe_locks.specs.Passes.{recorded, IsPassOf};
 
@@ -73,7 +73,7 @@ fn take_turn<R: AllocGlobal + Clock>(
     Some(())
 }
 
-/// What one thread reaches in a round, or none where it is refused.
+/// What one thread reaches in a round, or none if it is refused.
 fn rates_of_thread<R: AllocGlobal + Clock>(
     rt: &R,
     stripes: &Stripes,
@@ -95,7 +95,7 @@ fn rates_of_thread<R: AllocGlobal + Clock>(
     Some(times.rates(calls))
 }
 
-/// What all threads reach together, or none where one of them was refused.
+/// What all threads reach together, or none if one of them was refused.
 fn together(all: Vec<Option<Rates>>) -> Option<Rates> {
     let mut sum = Rates::NONE;
     for rates in all {
@@ -122,7 +122,7 @@ fn round<T: Threads + Sync>(
     Ok(together(all))
 }
 
-/// The best rates of three rounds, or none where one was refused.
+/// The best rates of three rounds, or none if one was refused.
 pub(crate) fn best_rates<T: Threads + Sync>(
     threads: &T,
     rt: &HostRuntime,
@@ -159,7 +159,7 @@ fn time_put<R: AllocGlobal + Clock>(
     Some(spent)
 }
 
-/// The longest single `Put` of so many new keys in one thread. The sweep behind each isn't in it.
+/// The longest single `Put` of these new keys in one thread. The sweep behind each isn't in it.
 fn longest_put<R: AllocGlobal + Clock>(rt: &R, keys: &Vec<NumberedKey>) -> Option<Duration> {
     let stripes = fresh_stripes(rt).ok()?;
     let mut pass = stripes.pass().ok()?;
@@ -170,7 +170,7 @@ fn longest_put<R: AllocGlobal + Clock>(rt: &R, keys: &Vec<NumberedKey>) -> Optio
     Some(longest)
 }
 
-/// The least of the longest single `Put`s of three rounds, or none where one was refused.
+/// The least of the longest single `Put`s of three rounds, or none if one was refused.
 pub(crate) fn least_longest_put<R: AllocGlobal + Clock>(rt: &R, keys: u32) -> Option<Duration> {
     let share = Share {
         first: 0,
