@@ -21,7 +21,7 @@ pub enum BadWord {
     /// It is no value.
     #[error("no such value")]
     Value,
-    /// It is absent where a value is needed.
+    /// It is absent, and a value is needed.
     #[error("a value is needed")]
     Absent,
     /// It is no threshold.

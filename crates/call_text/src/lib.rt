@@ -1,4 +1,4 @@
-//! The words of one call, and the text of what it answers.
+//! The words of one call, and the text of what it returns.
 #![tactic(auto)]
 
 pub mod agreement;
