@@ -23,7 +23,7 @@ module _ {R W : Type 0} (Fails : Known → Known → ReplyError → Type 0) (rem
   Connects port None = Unit {0}
   Connects port (Some ends) = (reader : R) × (writer : W) × IsConnected port reader writer × (ends ≡ (remaining reader, contents writer))
 
-  -- the lines of the input were answered over such a connection; where memory, the input or the output failed, the status is 1
+  -- the lines of the input were answered over such a connection; if memory, the input or the output failed, the status is 1
   pub record AnswersAt (port : ℕ) (i0 i1 o0 o1 : Known) (status : ℕ) : Type 0 where
     pub ends : Ends
     pub result : Result ℕ Stop
@@ -31,7 +31,7 @@ module _ {R W : Type 0} (Fails : Known → Known → ReplyError → Type 0) (rem
     pub answers : AnswersInput Fails i0 i1 ends o0 o1 result
     pub status_is : MatchResult result (λ first. status ≡ first) (λ stop. status ≡ 1)
 
-  -- Where the port is none, nothing is read or printed, with status 2.
+  -- If the word names no port, nothing is read or printed, with status 2.
   abbrev pub CallsLines : List ℕ → Known → Known → Known → Known → ℕ → Type 0
   CallsLines word i0 i1 o0 o1 status =
       (IsNoPort word × (i1 ≡ i0) × PrintsMisuse o0 o1 status)

@@ -23,7 +23,7 @@ use Rattle.cmd_call.specs.declared.client.Unanswered.TheVariants.{NoReply, NoMem
 use Rattle.cmd_text.specs.Printing.{Prints, PrintsNothing}
 use Rattle.cmd_text.specs.Naming.{IsNamed, IsPort}
 
--- the bytes that a reader has left, or that a writer holds, where they are known
+-- the bytes that a reader has left, or that a writer holds, if they are known
 abbrev pub Known : Type 0
 Known = Option (List ℕ)
 
@@ -37,8 +37,8 @@ abbrev pub GivesNoReply : Known → Known → Type 0
 GivesNoReply r0 r1 = (error : ReplyError) × (error ≢ lost.NoMemory) × ReadsReply r0 r1 (Err error)
 
 module _ (r0 r1 w0 w1 : Known) (request : Request) where
-  -- Where the writer failed, not all of the request was written, and nothing was read; else all of it was.
-  -- Where memory was wanting, it was for the request, or else for the reply.
+  -- If the writer failed, not all of the request was written, and nothing was read; else all of it was written.
+  -- If memory was missing, it was for the request, or else for the reply.
   abbrev pub Exchanges : Result Answer Unanswered → Type 0
   Exchanges (Ok answer) = Appends w0 w1 (request_frame request) × ReadsReply r0 r1 (Ok answer)
   Exchanges (Err NoReply) =
@@ -53,7 +53,7 @@ module _ (r0 r1 w0 w1 : Known) (request : Request) where
 abbrev pub IsReplyLine : Reply → List ℕ → Type 0
 IsReplyLine reply line = (text : List ℕ) × IsReplyText reply text × (line ≡ text ++ codes "\n")
 
--- a line with the text of the reply, or nothing where no memory was found for it
+-- a line with the text of the reply, or nothing if no memory was found for it
 abbrev pub PrintsReply : Reply → Known → Known → ℕ → Type 0
 PrintsReply reply o0 o1 status =
     ((line : List ℕ) × IsReplyLine reply line × Prints line o0 o1 status) ⊎ PrintsNothing o0 o1 status
@@ -100,8 +100,8 @@ module _ {R W : Type 0} (remaining : R → Known) (contents : W → Known) (IsCo
     pub connected : IsConnected port reader writer
     pub asks : AsksServer (remaining reader) (remaining reader_after) (contents writer) (contents writer_after) o0 o1 request status
 
-  -- For the words of a call, where the port is none, nothing is printed, with status 2; else a server is asked for what the words say, or nothing is
-  -- printed, with status 1. Words that are no call print nothing, with status 2; or 1 where no memory was found to read them.
+  -- For the words of a call: if `word` names no port, nothing is printed, with status 2; else a server is asked for what the words say, or nothing is
+  -- printed, with status 1. Words that are no call print nothing, with status 2; or 1 if no memory was found to read them.
   abbrev pub CallsServer : List ℕ → Result Called BadWord → Known → Known → ℕ → Type 0
   CallsServer word (Ok called) o0 o1 status =
       (IsNoPort word × PrintsMisuse o0 o1 status)

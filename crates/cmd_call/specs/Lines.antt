@@ -100,14 +100,14 @@ status_of NoReply = 1
 abbrev pub first_of : ℕ → ℕ → ℕ
 first_of first next = if first == 0 then next else first
 
--- the status of the first line that isn't a reply; 0 where all are
+-- the status of the first line that isn't a reply; 0 if all are
 abbrev pub status_of_all : List Outcome → ℕ
 status_of_all [] = 0
 status_of_all (outcome ∷ outcomes) = first_of (status_of outcome) (status_of_all outcomes)
 
 -- ---- over a connection
 
--- what the reader of a connection has left, and what its writer took; none where no connection is there
+-- what the reader of a connection has left, and what its writer took; none if no connection is there
 abbrev pub Ends : Type 0
 Ends = Option (Known × Known)
 

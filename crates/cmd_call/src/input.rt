@@ -14,8 +14,8 @@ use std::alloc::{AllocError, Global};
 use std::io;
 use std::io::{Read, Write};
 
-/// The most bytes that one read takes. The requests of so many fit what a connection holds, so that
-/// they are written whole before a reply is read.
+/// The most bytes that one read takes. The requests of 16,384 bytes of input fit what a connection
+/// holds, so that they are written whole before a reply is read.
 const PIECE: usize = 16384;
 
 /// What was read of an input.
@@ -189,15 +189,15 @@ fn finish<R: Replies + Drop, W: Write + Drop, O: Write>(
     answer_round(alloc, server, &mut lines.round, &mut lines.status, output)
 }
 
-/// Room for so many bytes.
+/// Room for `len` bytes.
 fn room_of(alloc: Global, len: usize) -> Result<Vec<u8>, AllocError>
     ensures { IfOk result (λ room. vec_len room ≡ len) }
 {
     vec![in alloc; 0u8; len]
 }
 
-/// Reads the next bytes, at least one unless the input has ended; tried again where it was
-/// interrupted.
+/// Reads the next bytes, at least one unless the input has ended. A read that is interrupted is
+/// tried again.
 fn read_piece<I: Read>(input: &mut I, room: &mut [u8]) -> Result<usize, Stop>
     ensures bound { IfOk result (λ n. n ≤ length room.new) }
     ensures bytes { Gave (I.remaining input.old) (I.remaining input.new) room.new result }
