@@ -38,7 +38,7 @@ CannotFormat states failures honest old new refusal =
     ((refusal ≡ Failed) × (failures new ≡ failures old + 1))
     ⊎ ((refusal ≡ NoMemory) ⊎ ((refusal ≡ AlreadyFormatted) × (honest new → IsFormatted (contents_of states old))))
 
--- The disk wasn't formatted before and no device call failed; whatever a stop leaves now is a new store of so many stripes, and the line names that
+-- The disk wasn't formatted before, and no device call failed. Whatever a stop leaves now is a new store of `stripes` stripes, and the line names that
 -- number.
 pub record IsMade {D : Type 0} (states : D → List Files) (failures : D → ℕ) (honest : D → Type 0) (stripes : ℕ) (old new : D) (w0 w1 : Option (List ℕ)) (status : ℕ) : Type 0 where
   pub unformatted : honest new → IsUnformatted (contents_of states old)
@@ -53,7 +53,8 @@ pub record IsNotMade {D : Type 0} (states : D → List Files) (failures : D → 
   pub untouched : refusal ≢ Failed → (new ≡ old) ⊎ SyncsAndLooks states failures honest 2 0 old new
   pub prints : PrintsNothing w0 w1 status
 
--- The disk was formatted for so many stripes, or it was refused. At every moment a stop leaves it unformatted or a new store of so many, if it was unformatted before.
+-- The disk was formatted for `stripes` stripes, or it was refused. If it was unformatted before, a stop at any moment leaves it unformatted, or a new store of
+-- `stripes` stripes.
 pub record Formats {D : Type 0} (states : D → List Files) (failures : D → ℕ) (honest : D → Type 0) (stripes : ℕ) (old new : D) (w0 w1 : Option (List ℕ)) (status : ℕ) : Type 0 where
   pub was_honest : honest new → honest old
   pub moments : honest new → AtStops IsUnformatted (now (states old)) → AtEachMoment states old new (AtStops (IsNewOrUnformatted stripes))
@@ -111,7 +112,7 @@ module _ {D : Type 0} (states : D → List Files) (failures : D → ℕ) (honest
   abbrev pub CannotOpen : Option (List ℕ) → Option (List ℕ) → ℕ → Type 0
   CannotOpen w0 w1 status = (error : Error) × IsRefused directory error × PrintsNothing w0 w1 status
 
-  -- a disk of the directory was formatted for so many stripes, or that was refused
+  -- a disk of the directory was formatted for `stripes` stripes, or that was refused
   pub record FormatsDirectory (stripes : ℕ) (w0 w1 : Option (List ℕ)) (status : ℕ) : Type 0 where
     pub old : D
     pub new : D

@@ -51,7 +51,7 @@ pub fn check_disk<D: Disk, W: Write, E: Write>(
     }
 }
 
-/// Makes the directory that of an empty map of so many stripes.
+/// Makes the directory that of an empty map of `stripes` stripes.
 pub fn init<M: Directories, W: Write, E: Write>(
     machine: &M,
     alloc: Global,
