@@ -129,7 +129,7 @@ pub record GoesOn (v w : Record) : Type 0 where
   pub opening : w.opening ≡ v.opening
   pub seen : HasSeenMore v w
 
--- The call was made, others were begun or finished behind it, and its reply was given out at its position, where its own entry is committed.
+-- The call was made, and others were begun or finished behind it. Its reply was given out at its position, where its own entry is committed.
 pub record Serves (n : ℕ) (v : Record) (request : Request) (reply : Reply) (w : Record) (log : LogState) : Type 0 where
   pub position : ℕ
   pub made : Record

@@ -71,8 +71,8 @@ fn commit_staged<D: Disk>(keeper: &mut Keeper<D>) -> Result<(), Refusal>
     advance(keeper)
 }
 
-/// Commits the longest batch of what is in hand. Where there is none, or no memory is found, nothing is
-/// committed.
+/// Commits the longest batch of what is in hand. If there is none, or no memory is found, nothing
+/// is committed.
 fn commit_some<D: Disk>(keeper: &mut Keeper<D>) -> Result<(), Refusal>
     // The keeper rests between two commits, and its invariant holds.
     requires idle { IsIdle keeper.old }
@@ -143,7 +143,7 @@ fn commit_in_time<S: Steps, D: Disk, R: Wait>(
     unreachable!()
 }
 
-/// Commits all tickets below the position, and publishes them. Where they can't be committed, the
+/// Commits all tickets below the position, and publishes them. If they can't be committed, the
 /// pass makes a FAIL.
 fn make_durable<S: Steps, D: Disk, R: Wait>(
     rt: &R,

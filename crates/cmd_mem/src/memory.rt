@@ -181,10 +181,10 @@ fn open_new<D: Disk + Drop>(alloc: Global, disk: D) -> Result<(Keeper<D>, Stripe
 }
 
 impl<'a, R: Wait> Memory<'a, MemDisk, R> {
-    /// An empty map, over a disk in memory that is made that of an empty map and opened. Refuses with
-    /// `AlreadyFormatted` where a checkpoint is sealed there, with `Failed` exactly where a device call
-    /// fails, with `NoMemory`, and with `SeatsSpent` where the stripes have no keeper's pass. The disk is
-    /// handed back.
+    /// An empty map, over a disk in memory that is made that of an empty map and opened. Refuses
+    /// with `AlreadyFormatted` if a checkpoint is sealed there, with `Failed` exactly if a device
+    /// call fails, with `NoMemory`, and with `SeatsSpent` if the stripes have no keeper's pass. If
+    /// it refuses, the disk is handed back.
     pub fn new(
         rt: &'a R,
         alloc: Global,
