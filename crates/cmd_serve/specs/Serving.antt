@@ -101,8 +101,8 @@ abbrev pub CallsThrough : WorkerState → List WorkerState → WorkerState → T
 CallsThrough before [] after = after ≡ before
 CallsThrough before (next ∷ states) after = Calls before next × CallsThrough next states after
 
--- A change or a read that a worker begins, and answers after any other calls, is completed: its call was made, the reply is legal at its position
--- in all that the pass has seen, and it was given out once the position was found durable.
+-- A change or a read that a worker begins, and answers after any other calls, is completed: its call was made, and the reply is legal at its position
+-- in all that the pass has seen. It was given out once the position was found durable.
 abbrev pub BegunRequestsComplete : Type 0
 BegunRequestsComplete =
     (request : Request) (asked : Asked) (number : Option ℕ) (held : Held) (states : List WorkerState) (answer : Answer) (a b c d : WorkerState)
@@ -125,8 +125,8 @@ pub record IsOpenedTo {D : Type 0} (states : D → List Files) (failures : D →
   pub looks : SyncsAndLooks states failures honest 4 0 old new
   pub stands : honest new → honest old × ((found : Opened) × Holds (contents_of states old) found)
 
--- Where a server over the disk ends, the status is 1. It prints its line at most, and nothing where opening the disk was refused; this is how
--- opening left the disk.
+-- If a server over the disk ends, the status is 1. It prints its line at most, and nothing if opening the disk was refused. `new` is how opening left
+-- the disk.
 pub record Hosts {D : Type 0} (states : D → List Files) (failures : D → ℕ) (honest : D → Type 0) (port : ℕ) (old : D) (w0 w1 : Option (List ℕ)) (status : ℕ) : Type 0 where
   pub new : D
   pub ends : (IsOpenedTo states failures honest old new × Announces port w0 w1 status)

@@ -4,7 +4,7 @@ use Rattle.cmd_text.specs.Naming.{Spells, IsPort}
 use Rattle.cmd_serve.specs.declared.server.ServerWords.{ServerWords}
 use Rattle.cmd_serve.specs.declared.server.Settings.{Settings}
 
--- there can be so many workers
+-- there can be `number` workers
 abbrev pub IsWorkerCount : ℕ → Type 0
 IsWorkerCount number = (1 ≤ number) × (number ≤ 64)
 

@@ -33,7 +33,7 @@ fn numbered_puts(alloc: Global) -> Result<Vec<u8>, Fail> {
     Ok(requests)
 }
 
-/// What they answer: the number before, and at first that the key was absent.
+/// The replies to them: the number before, and at first that the key was absent.
 fn numbers_before(alloc: Global) -> Result<Vec<u8>, Fail> {
     let mut replies = Vec::new(alloc);
     replies.extend_from_slice(WAS_ABSENT)?;

@@ -23,7 +23,7 @@ const MOST_WAITING: usize = 64;
 
 /// Where connections come from.
 pub trait Arrivals {
-    /// The next connection, or nothing where no more come.
+    /// The next connection, or nothing if no more come.
     fn next(&mut self) -> Option<TcpStream>;
 }
 

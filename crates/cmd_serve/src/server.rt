@@ -219,7 +219,7 @@ struct Acceptor<'a, R: Clock + Log> {
 }
 
 impl<R: Clock + Log> Arrivals for Acceptor<'_, R> {
-    // Where none can be accepted it tries again after a pause, and the log has one record of it.
+    // If none can be accepted, it tries again after a pause, and the log has one record of it.
     fn next(&mut self) -> Option<TcpStream> {
         let mut has_said = false;
         for stream in self.listener.incoming() {

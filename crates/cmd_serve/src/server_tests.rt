@@ -24,7 +24,7 @@ const MOST_CALLS: u64 = 1_000;
 /// No log of a test grows so long.
 const NO_CHECKPOINT: u64 = 1_000_000;
 
-/// A put of 5 at `a`, and what it answers at first and later.
+/// A put of 5 at `a`, and its reply at first and later.
 const PUT: &[u8] = b"\x00\x0C\x10\x01a\x01\x00\x00\x00\x00\x00\x00\x00\x05";
 
 pub(crate) const WAS_ABSENT: &[u8] = b"\x00\x02\x00\x00";
@@ -40,7 +40,7 @@ const BAD_FRAME_AND_5: &[u8] = b"\x00\x02\x86\x00\x00\x0A\x00\x01\x00\x00\x00\x0
 /// What is answered to three clients after a device failure.
 const ALL_FAILED: &[u8] = b"\x00\x02\x89\x00\x00\x02\x89\x00\x00\x02\x89\x00";
 
-/// Two merges of 1 with the sum, two questions, and their answers where 800 were added to each.
+/// Two merges of 1 with the sum, two questions, and their answers after 800 were added to each.
 const ADD_TO_A_AND_B: &[u8] =
     b"\x00\x0D\x19\x01a\x04\x01\x00\x00\x00\x00\x00\x00\x00\x01\x00\x0D\x19\x01b\x04\x01\x00\x00\x00\x00\x00\x00\x00\x01";
 
@@ -85,8 +85,8 @@ fn server_over(alloc: Global, failure: Option<Failure>) -> Result<Server<MemDisk
     }
 }
 
-/// The two ends of so many connections: those of the clients, and those of the server, which come in
-/// their order.
+/// The two ends of `count` connections: those of the clients, and those of the server, which come
+/// in their order.
 fn connected<R: Net<Listener = TcpListener, Stream = TcpStream>>(
     rt: &R,
     alloc: Global,
@@ -137,7 +137,7 @@ fn received(alloc: Global, clients: &[TcpStream]) -> Vec<u8> {
     sent
 }
 
-/// Serves clients that send these bytes, one each, and answers what they were sent.
+/// Serves clients that send these bytes, one each, and returns what they were sent.
 pub(crate) fn served<
     D: Disk + Drop + Send,
     G: Gate + Sync,
@@ -294,8 +294,8 @@ fn a_client_that_stalls_holds_up_no_other(rt: HostRuntime) -> Result<(), Fail> {
     Ok(())
 }
 
-/// A put of the longest text at `k`, and so many questions for it that the replies are 16 MB, more than
-/// a connection holds of what isn't read.
+/// A put of the longest text at `k`, and 4,000 questions for it. The replies are 16 MB, more than a
+/// connection holds of what isn't read.
 fn questions_for_long(alloc: Global) -> Result<Vec<u8>, Fail> {
     let mut requests = Vec::new(alloc);
     requests.extend_from_slice(b"\x10\x06\x10\x01k\x02\x10\x00")?;
