@@ -16,8 +16,8 @@ use Rattle.cmd_text.specs.Printing.{Prints, PrintsNothing}
 abbrev pub Text : Type 0
 Text = List ℕ
 
--- The outcomes of these events, in which no steps stand behind a release that doesn't fit: they are of a run of the events, where that shows no such
--- steps; where one shows some, those of the first such release are taken back, and the outcomes are those of the events that this leaves.
+-- The outcomes of these events, in which no steps stand behind a release that doesn't fit. They are those of a run of the events that shows no such
+-- steps. If a run shows some, those of the first such release are taken back, and the outcomes are those of the events that this leaves.
 pub data ComesOf (spans : List Span) (outcomes : List Outcome) : List Event → Type 0 where
   Played : (events : List Event) → IsRun events outcomes → stray_steps 0 spans outcomes ≡ None → ComesOf spans outcomes events
   PlayedAgain : (events : List Event) (shown : List Outcome) (left : List Event) → IsRun events shown → TakesBack (stray_steps 0 spans shown) events left true
@@ -45,6 +45,6 @@ SimulatesText text w0 w1 status =
     ((told : Text) × TellsScript (script_of text) told × Prints told w0 w1 status)
     ⊎ (PrintsNothing w0 w1 status ⊎ ((w1 ≡ w0) × (status ≡ 2) × ((fault : Fault) × (script_of text ≡ Err fault))))
 
--- A script was read and played; or nothing was printed, with status 1, or 2 where what was read isn't text.
+-- A script was read and played; or nothing was printed, with status 1, or 2 if what was read isn't text.
 abbrev pub Simulates : Option (List ℕ) → Option (List ℕ) → ℕ → Type 0
 Simulates w0 w1 status = ((text : Text) × SimulatesText text w0 w1 status) ⊎ ((w1 ≡ w0) × ((status ≡ 1) ⊎ (status ≡ 2)))

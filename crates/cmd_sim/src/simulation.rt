@@ -15,7 +15,7 @@ use std::io::{Read, Write};
 use std::rt::Files;
 use std::{fs, io};
 
-/// Plays the events of the script, and again where a release that didn't fit had steps: these are
+/// Plays the events of the script, and again if a release that didn't fit had steps: these are
 /// taken back first. So each line makes the steps of its own walk alone.
 fn play(alloc: Global, script: &mut Script) -> Result<Vec<Outcome>, AllocError>
     // the outcomes
