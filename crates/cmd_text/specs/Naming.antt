@@ -20,6 +20,6 @@ IsNamed Allowed word None = (number : ℕ) → Spells word number → Allowed nu
 abbrev pub IsPort : ℕ → Type 0
 IsPort number = (1 ≤ number) × (number ≤ 65535)
 
--- there can be so many stripes
+-- there can be `number` stripes
 abbrev pub IsStripeCount : ℕ → Type 0
 IsStripeCount number = is_stripe_count number ≡ true

@@ -9,16 +9,16 @@ use std::io;
 use std::io::{ErrorKind, Write};
 use wire_frames::write_whole;
 
-/// The exit status where all went well.
+/// The exit status if all went well.
 pub const DONE: u8 = 0;
 
-/// The exit status for a refusal, and where a file or a stream fails.
+/// The exit status for a refusal, and if a file or a stream fails.
 pub const REFUSED: u8 = 1;
 
 /// The exit status for a command line that isn't known.
 pub const MISUSED: u8 = 2;
 
-/// Writes a text where it can be written.
+/// Writes a text, if it can be written.
 pub fn say<W: Write>(writer: &mut W, text: &str)
     ensures { PrintsAtMost text.now (W.contents writer.old) (W.contents writer.new) }
 {
