@@ -35,7 +35,7 @@ ends (Err TooEarly) = false
 ends (Err NotText) = false
 ends (Err SeatsSpent) = false
 
--- an answer, and the others behind it where the connection goes on
+-- an answer, and the others behind it if the connection goes on
 abbrev pub then_answers : Answer → List Answer → List Answer
 then_answers answer others = answer ∷ cond (ends answer) [] others
 

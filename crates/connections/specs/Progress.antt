@@ -53,7 +53,7 @@ abbrev pub EndsAt : Bool → List Answer → Type 0
 EndsAt false answers = GoesOn answers
 EndsAt true answers = LastEnds answers
 
--- what the feeder gave: these messages, and none only where no whole message is left; or the last of them is refused with `BadFrame`
+-- what the feeder gave: these messages, and none only if no whole message is left; or the last of them is refused with `BadFrame`
 abbrev pub Gives : Feed → Feed → List Message → Type 0
 Gives old new messages =
     ((new.ended ≡ false) × Begins old.left messages new.left × (messages ≡ [] → IsPartial new.left))

@@ -83,15 +83,15 @@ fn reply_all<W: Write, C: Calls>(
     }
 }
 
-/// Room for so many bytes.
+/// Room for `len` bytes.
 fn room_of(alloc: Global, len: usize) -> Result<Vec<u8>, AllocError>
     ensures { IfOk result (λ room. vec_len room ≡ len) }
 {
     vec![in alloc; 0u8; len]
 }
 
-/// Reads the next bytes, at least one unless the stream has ended; tried again where it was
-/// interrupted.
+/// Reads the next bytes, at least one unless the stream has ended. A read that is interrupted is
+/// tried again.
 fn read_piece<R: Read>(reader: &mut R, room: &mut [u8]) -> Result<usize, ConnectionError>
     ensures bound { IfOk result (λ n. n ≤ length room.new) }
     ensures bytes { Gave (R.remaining reader.old) (R.remaining reader.new) room.new result }
@@ -117,10 +117,10 @@ fn read_piece<R: Read>(reader: &mut R, room: &mut [u8]) -> Result<usize, Connect
 /// map is begun once all replies before it are written, and no other call before it is answered or
 /// given up.
 ///
-/// Where the reader or memory fails, each whole message before it has been answered. Memory for the
+/// If the reader or memory fails, each whole message before it has been answered. Memory for the
 /// row and for gathered replies is got before the first read. The bytes may come cut in any way. It
 /// ends by itself in no other way, so a reader that never ends is served for ever: after 2^64 - 1
-/// reads, more than any run makes, it answers `Reader`.
+/// reads, more than any run makes, it returns `Reader`.
 pub fn serve_connection<R: Read, W: Write, C: Calls>(
     alloc: Global,
     reader: &mut R,

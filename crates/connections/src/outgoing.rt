@@ -18,7 +18,7 @@ pub(crate) const ROOM: usize = 65536;
 /// The most bytes beside which the longest reply has room.
 pub(crate) const MOST_LEFT: usize = ROOM - LONGEST_REPLY;
 
-/// Writes what was gathered, by one write where the writer takes all of it.
+/// Writes what was gathered, by one write if the writer takes all of it.
 pub(crate) fn write_out<W: Write>(writer: &mut W, out: &mut Vec<u8>) -> io::Result<()>
     ensures written { Writes (W.contents writer.old) (W.contents writer.new)
         result out.old.items }
@@ -33,7 +33,7 @@ pub(crate) fn write_out<W: Write>(writer: &mut W, out: &mut Vec<u8>) -> io::Resu
     written
 }
 
-/// Gathers a reply. Where no memory is found for it, what was gathered stays, and it says `false`.
+/// Gathers a reply. If no memory is found for it, what was gathered stays, and it returns `false`.
 fn gather(out: &mut Vec<u8>, answer: &Result<Reply, Refusal>) -> bool
     ensures gathered { result ≡ true → out.new.items ≡ out.old.items ++ reply_frame answer.now }
     ensures refused { result ≡ false → out.new.items ≡ out.old.items }

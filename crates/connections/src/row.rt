@@ -134,7 +134,7 @@ pub(crate) fn begin_row<C: Calls>(
     }
 }
 
-/// Answers what is in a place. Where that may wait, it first writes what is to be written.
+/// Answers what is in a place. If that may wait, it first writes what is to be written.
 fn finish<W: Write, C: Calls>(
     writer: &mut W,
     calls: &mut C,
