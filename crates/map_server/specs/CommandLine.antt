@@ -67,7 +67,7 @@ command_line =
     with_subcommand (with_subcommand (with_subcommand (with_subcommand (with_subcommand (with_subcommand bare_line mem_line.top) init_line.top) check_line.top) serve_line.top)
     call_line.top) sim_line.top
 
--- what is wrong with the words, the program's name first, or help where they ask for it; nothing where they are known
+-- what is wrong with the words, the program's name first, or help if they ask for it; nothing if they are known
 abbrev pub faults : List Text → Kinds
 faults words = fault_of command_line words
 
@@ -80,7 +80,7 @@ name_of named = option_map (λ line. line.0) named
 
 -- ---- what is asked for
 
--- the word that is given for an argument, or another where none is
+-- the word that is given for an argument, or another if none is
 abbrev pub word_or : Text → Text → List Row → Text
 word_or other id rows = unwrap_or (first_of id rows) other
 

@@ -15,7 +15,8 @@ use Rattle.cmd_call.specs.Calling.{MakesCalls}
 use Rattle.cmd_serve.specs.Serving.{ServesOn}
 use Rattle.cmd_sim.specs.Simulation.{Simulates}
 
--- What was written is the dialogue of what was read, each request answered by the map, which was empty at first. The status is 0 where the connection ended by itself, and 1 where it broke off.
+-- What was written is the dialogue of what was read, each request answered by the map, which was empty at first. The status is 0 if the connection ended by
+-- itself, and 1 if it broke off.
 pub record Dialogues (r0 r1 w0 w1 : Option (List ℕ)) (status : ℕ) : Type 0 where
   pub before : MapState
   pub after : MapState

@@ -35,13 +35,13 @@ pub enum Order<'a> {
     },
 }
 
-/// The number of stripes where no other is asked for.
+/// The number of stripes if no other is asked for.
 const STRIPES: &str = "16";
 
-/// The number of workers where no other is asked for.
+/// The number of workers if no other is asked for.
 const WORKERS: &str = "4";
 
-/// The length of the log that begins a checkpoint where no other is asked for.
+/// The length of the log that begins a checkpoint if no other is asked for.
 const BYTES: &str = "67108864";
 
 /// For how many seconds a client may be idle if no other number is asked for: for ever.
@@ -246,7 +246,7 @@ fn line_in<'m, 'a>(matches: &'m ArgMatches<'a>) -> Option<(&'a str, &'m ArgMatch
     matches.subcommand()
 }
 
-/// The word that is given for an argument, or another where none is.
+/// The word that is given for an argument, or another if none is.
 fn word_or<'a>(matches: &ArgMatches<'a>, id: &str, other: &'a str) -> &'a str
     ensures { result.now ≡ word_or other.now id.now (rows_of (found_of matches.now)) }
 {

@@ -31,7 +31,7 @@ fn report<E: Write>(alloc: Global, failure: &ConnectionError, error: &mut E) -> 
     }
 }
 
-/// Says how to call the program: on `error` with status 2, or with status 0 on `output` where the
+/// Says how to call the program: on `error` with status 2, or with status 0 on `output` if the
 /// words ask for help.
 fn advise<W: Write, E: Write>(alloc: Global, advice: &Error, output: &mut W, error: &mut E) -> u8
     ensures { Advises (kind_of advice.now) (W.contents output.old) (W.contents output.new) result }
@@ -73,21 +73,22 @@ fn mem<T: Wait, R: Read, W: Write, E: Write>(
 
 /// The program over its words, the program's name first, and its streams: the exit status.
 ///
-/// `mem` answers the request frames of `input` on `output`. The status is 0 where all went well, 1
-/// with `unreadable` on `error` where the input or the output fails, 1 with `refused` and the refusal on
-/// `error` where the map can't be begun or no memory is found to read, and 2 with a text on how to call the
-/// program on `error` for words that aren't known.
+/// `mem` answers the request frames of `input` on `output`. The status is 0 if all went well. It is
+/// 1 with `unreadable` on `error` if the input or the output fails. It is 1 with `refused` and the
+/// refusal on `error` if the map can't be begun or no memory is found to read. It is 2 with a text
+/// on how to call the program on `error` for words that aren't known.
 ///
-/// `serve` serves the map of a directory on a port of this machine, and ends only by being ended. Once it
-/// listens it prints `listening` and the port on `output`. The status is 2 with a text on `error` where one
-/// of its words isn't allowed, and 1 where it can't open the directory, listen, or start its threads.
+/// `serve` serves the map of a directory on a port of this machine, and ends only by being ended.
+/// Once it listens it prints `listening` and the port on `output`. The status is 2 with a text on
+/// `error` if one of its words isn't allowed, and 1 if it can't open the directory, listen, or
+/// start its threads.
 ///
 /// `call` makes one call of a server, and prints its reply on `output`. With `-` in place of a method
 /// it makes one for each line of `input`, and prints a line for each.
 ///
-/// `sim` plays the script of a file, and prints on `output` a line for each of its lines. The status is
-/// 1 with `unreadable` on `error` where the file can't be read, and 2 with what is wrong on `error` where
-/// it isn't UTF-8 or has a bad line; then nothing is played.
+/// `sim` plays the script of a file, and prints on `output` a line for each of its lines. The
+/// status is 1 with `unreadable` on `error` if the file can't be read. It is 2 with what is wrong
+/// on `error` if the file isn't UTF-8 or has a bad line; then nothing is played.
 pub fn dchm<T: Host, M: Directories + Servers, R: Read, W: Write, E: Write>(
     rt: &T,
     machine: &M,
