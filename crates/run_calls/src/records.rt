@@ -62,7 +62,7 @@ pub(crate) fn read_record(alloc: Global, names: &Names, words: &[&str]) -> Resul
     Ok(format!(in alloc; "a record of {used} bytes")?)
 }
 
-// What follows the key, where it is this one.
+// What follows the key, if it is this one.
 fn after_key<'a>(alloc: Global, bytes: &'a [u8], expected: &Key) -> Option<&'a [u8]> {
     match key_at(alloc, bytes) {
         Ok((key, rest)) if key == *expected => Some(rest),

@@ -47,7 +47,7 @@ fn comes_in_every_cutting(alloc: Global, frame: &[u8]) -> Result<bool, Refusal> 
     Ok(true)
 }
 
-// Whether the request comes with its last byte, where it is fed a byte at a time.
+// Whether the request comes with its last byte, if it is fed a byte at a time.
 fn comes_at_its_end(alloc: Global, feeder: &mut Feeder, frame: &[u8]) -> Result<bool, Refusal> {
     for byte in frame {
         if !gives_nothing(feeder) {
