@@ -20,7 +20,7 @@ fn byte_of(pair: &[u8]) -> Option<u8> {
     }
 }
 
-/// The bytes that are spelled so; `None` where they aren't in hexadecimal.
+/// The bytes that are spelled so; `None` if they aren't in hexadecimal.
 pub fn bytes_spelled(alloc: Global, text: &str) -> Result<Option<Vec<u8>>, AllocError> {
     let mut bytes = Vec::new(alloc);
     for pair in text.as_bytes().chunks(2) {
@@ -32,7 +32,7 @@ pub fn bytes_spelled(alloc: Global, text: &str) -> Result<Option<Vec<u8>>, Alloc
     Ok(Some(bytes))
 }
 
-/// The bytes in hexadecimal; `-` where there are none.
+/// The bytes in hexadecimal; `-` if there are none.
 pub fn hexadecimal(alloc: Global, bytes: &[u8]) -> Result<String, AllocError> {
     if bytes.is_empty() {
         return String::from_str(alloc, "-");

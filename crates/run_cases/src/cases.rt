@@ -88,9 +88,10 @@ fn take_line<P: Plays>(
     }
 }
 
-/// What is to be printed of the cases of this kind that stand in the text: a line for each, with its name,
-/// and where something else came what was expected and what came. A line of the text is a comment behind
-/// `#`, a name of bytes as `NAME = HEXADECIMAL`, or a case as `NAME | INPUT | EXPECTED`.
+/// What is to be printed of the cases of this kind that stand in the text: a line for each, with
+/// its name. If something else came, the line has what was expected and what came. A line of the
+/// text is a comment behind `#`, a name of bytes as `NAME = HEXADECIMAL`, or a case as
+/// `NAME | INPUT | EXPECTED`.
 pub fn told_of<P: Plays>(
     alloc: Global,
     plays: &P,
