@@ -205,7 +205,7 @@ fn is_silent(writer: &mut CheckpointWriter, disk: &mut MemDisk) -> bool
     matches!(writer.advance(disk), Err(Refusal::Failed)) && disk.len(1).is_err()
 }
 
-// Writes the checkpoint, where a call is to fail.
+// Writes the checkpoint, of which a call is to fail.
 fn break_off(alloc: Global, disk: &mut MemDisk, form: Form) -> Result<(), Refusal> {
     let mut writer = CheckpointWriter::new(alloc);
     let has_failed = write(alloc, &mut writer, disk, form) == Err(Refusal::Failed);
@@ -215,8 +215,8 @@ fn break_off(alloc: Global, disk: &mut MemDisk, form: Form) -> Result<(), Refusa
     Err(Refusal::WrongPhase)
 }
 
-// What is left where a checkpoint of this form is written, the device fails after so many calls, a write
-// that fails leaves what the third word says, and a stop what the fourth does.
+// What is left if a checkpoint of this form is written and the device fails after `after` calls. A
+// write that fails leaves what the third word says, and a stop what the fourth does.
 fn left(alloc: Global, words: &[&str]) -> Result<String, Refusal> {
     let [form, after, failing, stopping] = words else {
         return Err(Refusal::WrongPhase);
@@ -242,7 +242,7 @@ pub(crate) fn seal_left(alloc: Global, words: &[&str]) -> Result<String, Refusal
     Ok(String::from_str(alloc, "not sealed")?)
 }
 
-// How many stripes the sealed checkpoint of the file has; none where none is sealed.
+// How many stripes the sealed checkpoint of the file has; 0 if none is sealed.
 fn stripes_read(disk: &mut MemDisk, file: usize) -> Result<u16, Refusal>
     requires { file < 2 }
 {

@@ -26,7 +26,7 @@ fn checkpoint_text(alloc: Global, found: &LoadedCheckpoint) -> Result<String, Al
     Ok(told)
 }
 
-/// What is loaded of the file; `none` where no checkpoint is sealed in it.
+/// What is loaded of the file; `none` if no checkpoint is sealed in it.
 pub(crate) fn text_of(alloc: Global, disk: &mut MemDisk, file: usize) -> Result<String, Refusal>
     requires { file < 2 }
 {

@@ -57,8 +57,8 @@ fn open(alloc: Global, disk: MemDisk, stripes: StripeCount) -> Result<String, Re
     }
 }
 
-/// What is opened under so many stripes, where the four files hold these bytes. A number behind them says
-/// after how many calls the device fails.
+/// What is opened under `stripes` stripes, if the four files hold these bytes. A number behind them
+/// says after how many calls the device fails.
 pub(crate) fn opened(alloc: Global, names: &Names, words: &[&str]) -> Result<String, Refusal> {
     let [stripes, zero, one, two, three, words @ ..] = words else {
         return Err(Refusal::WrongPhase);
@@ -79,8 +79,9 @@ fn format_text(alloc: Global, disk: &mut MemDisk, stripes: StripeCount) -> Resul
     Ok(format!(in alloc; "{zero} {one} {two} {three}")?)
 }
 
-/// What is left of a disk with these files that is formatted for so many stripes, and what is then opened
-/// under so many others. A number behind them says after how many calls the device fails.
+/// What is left of a disk with these files that is formatted for `stripes` stripes, and what is
+/// then opened under `others` stripes. A number behind them says after how many calls the device
+/// fails.
 pub(crate) fn formatted(alloc: Global, names: &Names, words: &[&str]) -> Result<String, Refusal> {
     let [stripes, others, zero, one, two, three, words @ ..] = words else {
         return Err(Refusal::WrongPhase);

@@ -20,7 +20,7 @@ fn file_of(word: &str) -> Result<usize, Refusal>
     }
 }
 
-// Writes where the file ends or before; the answer says whether it was written.
+// Writes at the end of the file or before it, and returns whether it was written.
 fn is_put(disk: &mut MemDisk, file: usize, at: usize, bytes: &[u8]) -> bool
     requires { file < 4 }
 {

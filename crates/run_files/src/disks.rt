@@ -52,7 +52,7 @@ pub(crate) fn disk_of(alloc: Global, names: &Names, words: &[&str]) -> Result<Me
     Ok(disk)
 }
 
-/// Where a word is left, the device is to fail after so many calls.
+/// If a word is left, the device is to fail after the number of calls that it says.
 pub(crate) fn plan(disk: &mut MemDisk, words: &[&str]) -> Result<(), Refusal> {
     if let Some(word) = words.first() {
         let after = number(word)?;

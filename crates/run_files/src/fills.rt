@@ -42,7 +42,7 @@ pub(crate) fn fill_of(alloc: Global, word: &str) -> Result<Fill, Refusal> {
     }
 }
 
-/// Stops the machine with the fill of the word; none where it is `-`.
+/// Stops the machine with the fill of the word; it doesn't stop if the word is `-`.
 pub(crate) fn stop(alloc: Global, disk: &mut MemDisk, word: &str) -> Result<(), Refusal> {
     if word == "-" {
         return Ok(());
@@ -52,8 +52,8 @@ pub(crate) fn stop(alloc: Global, disk: &mut MemDisk, word: &str) -> Result<(), 
     Ok(())
 }
 
-/// The device is to fail after so many calls; not where the word is `-`. A write that fails leaves what the
-/// fill says.
+/// The device is to fail after `after` calls; it isn't to fail if the word is `-`. A write that
+/// fails leaves what the fill says.
 pub(crate) fn failure_of(
     alloc: Global,
     after: &str,

@@ -104,7 +104,7 @@ fn advance_times<D: Disk>(log: &mut GateLog, disk: &mut D, times: u32) -> Result
     Ok(())
 }
 
-// Stages a batch, and makes so many calls for it.
+// Stages a batch, and makes `calls` calls for it.
 fn write_batch<D: Disk>(
     alloc: Global,
     log: &mut GateLog,
@@ -171,7 +171,8 @@ fn left(alloc: Global, disk: &mut MemDisk, fill: &str) -> Result<String, Refusal
     Ok(format!(in alloc; "{bytes}, {count} read")?)
 }
 
-// Makes one more call, which fails, and leaves what the fill says; none where the word is `-`.
+// Makes one more call, which fails and leaves what the fill says. If the word is `-`, it makes
+// none.
 fn fail_next(
     alloc: Global,
     log: &mut GateLog,
@@ -242,9 +243,9 @@ fn form_of(batches: &str, size: &str, calls: &str) -> Result<Form, Refusal> {
     })
 }
 
-/// What comes of a log of so many batches of one or two puts, and of so many calls for one more. The fourth
-/// word says after how many calls the device fails, the fifth what one more call leaves that fails, and
-/// the sixth what a stop leaves.
+/// What comes of a log of `batches` batches of one or two puts, and of `calls` calls for one more.
+/// The fourth word says after how many calls the device fails. The fifth says what one more call
+/// leaves that fails, and the sixth what a stop leaves.
 pub(crate) fn log_written(alloc: Global, words: &[&str]) -> Result<String, Refusal> {
     let [batches, size, calls, after, failing, stopping] = words else {
         return Err(Refusal::WrongPhase);

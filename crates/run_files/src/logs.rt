@@ -21,7 +21,7 @@ fn records(alloc: Global, entries: &[Entry]) -> Result<String, Refusal> {
     Ok(hexadecimal(alloc, &bytes)?)
 }
 
-// Tells what was found, and answers whether more may follow.
+// Tells what was found, and returns whether more may follow.
 fn tell(alloc: Global, found: &Found, told: &mut String) -> Result<bool, Refusal> {
     match found {
         Found::Batch(entries) => {
@@ -40,8 +40,8 @@ fn tell(alloc: Global, found: &Found, told: &mut String) -> Result<bool, Refusal
     }
 }
 
-// Reads what stands at the gate, and answers whether more may follow. A failure of the device is told,
-// and then it is read again.
+// Reads what stands at the gate, and returns whether more may follow. A failure of the device is
+// told, and then it is read again.
 fn read_frame(
     alloc: Global,
     scan: &mut Scan,
