@@ -87,8 +87,8 @@ fn show<R: AllocGlobal + Print>(
     show_stripes(rt, stripes, pass)
 }
 
-/// Makes the call between the marks, and again without them where it was refused. It prints what
-/// was answered each time, and what stands after it.
+/// Makes the call between the marks, and again without them if it was refused. It prints what was
+/// answered each time, and what stands after it.
 fn make_in_time<R: AllocGlobal + Print + Wait>(
     rt: &R,
     stripes: &Stripes,

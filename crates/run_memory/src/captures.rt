@@ -61,7 +61,7 @@ fn show<D: Disk, R: AllocGlobal + Print>(
     Ok(())
 }
 
-/// Captures the first stripe between the marks, and again without them where it was refused.
+/// Captures the first stripe between the marks, and again without them if it was refused.
 fn play<D: Disk, R: AllocGlobal + Print + Wait, S: Steps>(
     rt: &R,
     keeper: &mut Keeper<D>,

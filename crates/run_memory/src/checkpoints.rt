@@ -10,10 +10,10 @@ use map_types::Refusal;
 use std::sync::Wait;
 use ticket_order::Steps;
 
-/// The new log's header and gate, and the end frame of the old one, have so many device calls.
+/// How many device calls write the new log's header and gate, and the end frame of the old one.
 const ROTATION_CALLS: u32 = 6;
 
-/// A checkpoint has so many device calls before its first section.
+/// How many device calls a checkpoint has before its first section.
 const HEAD_CALLS: u32 = 3;
 
 /// Makes the next device call of the checkpoint.
@@ -28,7 +28,7 @@ fn write<D: Disk, S: Steps>(keeper: &mut Keeper<D>, _steps: &S)
     let _phase = checkpoint_walk::advance(keeper);
 }
 
-/// Makes so many device calls of the checkpoint.
+/// Makes `times` device calls of the checkpoint.
 fn write_times<D: Disk, S: Steps>(keeper: &mut Keeper<D>, steps: &S, times: u32)
     requires kept { (done : List Command)
         × Fits D.states D.honest (S.stripe_count steps.now) done keeper.old
@@ -71,7 +71,7 @@ pub(crate) fn begin_checkpoint<D: Disk, S: Steps>(
     Ok(())
 }
 
-/// Captures the stripe; it waits for it where it is held, if it is to wait.
+/// Captures the stripe. It waits for a stripe that is held only if it is to wait.
 pub(crate) fn capture<D: Disk, R: Wait, S: Steps>(
     rt: &R,
     keeper: &mut Keeper<D>,

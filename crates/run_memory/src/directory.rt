@@ -85,7 +85,7 @@ fn shown<D: Disk + Drop, R: AllocGlobal + Print>(
     }
 }
 
-/// Opens the disk between the marks, and again without them where it was refused.
+/// Opens the disk between the marks, and again without them if it was refused.
 fn open_shown<D: Disk + Drop, R: AllocGlobal + Print>(
     rt: &R,
     disk: D,
@@ -177,7 +177,7 @@ fn format_told<D: Disk, R: Print>(
     show_lengths(rt, disk)
 }
 
-/// Formats the disk between the marks, and again without them where it was refused.
+/// Formats the disk between the marks, and again without them if it was refused.
 fn format_shown<D: Disk, R: AllocGlobal + Print>(
     rt: &R,
     disk: &mut D,

@@ -73,7 +73,7 @@ fn advance<D: Disk, S: Steps>(keeper: &mut Keeper<D>, _steps: &S)
     let _phase = keeper.advance();
 }
 
-/// Makes so many device calls of the log.
+/// Makes `times` device calls of the log.
 pub(crate) fn advance_times<D: Disk, S: Steps>(keeper: &mut Keeper<D>, steps: &S, times: u32)
     requires kept { (done : List Command)
         × Fits D.states D.honest (S.stripe_count steps.now) done keeper.old
@@ -87,7 +87,7 @@ pub(crate) fn advance_times<D: Disk, S: Steps>(keeper: &mut Keeper<D>, steps: &S
     }
 }
 
-/// A batch has so many device calls.
+/// How many device calls a batch has.
 pub(crate) const BATCH_CALLS: u32 = 4;
 
 /// Commits what is in hand, and publishes it.

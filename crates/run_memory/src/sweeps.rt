@@ -121,7 +121,7 @@ fn make_again<D: Disk, R: AllocGlobal + Print + Wait, S: Steps>(
     show(rt, keeper, stripes, worker)
 }
 
-/// Makes the call between the marks, and again without them where it was refused.
+/// Makes the call between the marks, and again without them if it was refused.
 fn make_in_time<D: Disk, R: AllocGlobal + Print + Wait, S: Steps>(
     rt: &R,
     keeper: &mut Keeper<D>,

@@ -89,7 +89,7 @@ pub(crate) fn play_views<R: Host>(rt: &R, case: &Case<'_>) -> Result<()> {
     Ok(())
 }
 
-/// What a view answers.
+/// What a view returns.
 #[derive(Drop)]
 enum Answer {
     /// How many entries it has.
