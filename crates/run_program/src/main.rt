@@ -18,7 +18,7 @@ use scripts::play_script;
 use std::net::{TcpListener, TcpStream};
 use std::{env, fs};
 
-/// Does what a block says that looks at nothing: false where it is another.
+/// Does what a block says that looks at nothing. For another block it returns `false`.
 fn prepare<R: Host + AllocGlobal>(
     rt: &R,
     block: &Block<'_>,
@@ -61,7 +61,7 @@ fn tell<R: Print>(rt: &R, case: &str, is_good: bool) -> Result<()> {
     Ok(())
 }
 
-/// Whether the block is as it should be. Where it isn't, its line is told.
+/// Whether the block is as it should be. If it isn't, its line is told.
 fn play_block<R: Host + AllocGlobal + Print>(
     rt: &R,
     all: &[Block<'_>],

@@ -123,7 +123,7 @@ fn end<R: Host + AllocGlobal>(rt: &R, words: &[String], run: &Run) -> Ended {
     }
 }
 
-// The bytes as text in quotes, or where they aren't text as numbers.
+// The bytes as text in quotes, or as numbers if they aren't text.
 fn shown(alloc: Global, bytes: &[u8]) -> Result<String> {
     match str::from_utf8(bytes) {
         Ok(text) => Ok(format!(in alloc; "{text:?}")?),
@@ -154,7 +154,7 @@ fn is_met(run: &Run, ended: &Ended) -> bool {
         && (ended.is_unread || !run.is_unread)
 }
 
-/// Runs the program with these words: whether it ends as it should. Where it doesn't, what was wanted
+/// Runs the program with these words: whether it ends as it should. If it doesn't, what was wanted
 /// and what came is printed.
 pub fn ends_well<R: Host + AllocGlobal + Print>(rt: &R, words: &str, run: &Run) -> Result<bool> {
     let words = words_of(rt.alloc(), words)?;

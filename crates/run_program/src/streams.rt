@@ -2,7 +2,7 @@
 use std::io;
 use std::io::{Read, Write};
 
-/// Gives at most so many bytes at a time, and fails behind them where it is broken.
+/// Gives at most `most` bytes at a time. If it is broken, it fails at its end.
 #[derive(Drop)]
 pub struct Input<'a> {
     pub left: &'a [u8],
@@ -23,7 +23,7 @@ impl Read for Input<'_> {
     }
 }
 
-/// Keeps what is written, or takes nothing where it is broken.
+/// Keeps what is written, or takes nothing if it is broken.
 #[derive(Drop)]
 pub struct Output {
     pub bytes: Vec<u8>,
