@@ -20,7 +20,7 @@ abbrev pub Gives : {X Y : Type 0} → (X → Y) → Result X LineError → Resul
 Gives view (Ok x) read = read ≡ Ok (view x)
 Gives view (Err error) read = (error ≡ NoMemory) ⊎ ((fault : BadLine) × (error ≡ Bad fault) × (read ≡ Err fault))
 
--- the number of a decimal that fits so many bits
+-- the number of a decimal that fits `bits` bits
 unfoldable pub number_of : ℕ → Text → Option ℕ
 number_of bits word =
     if is_unsigned word && nat_lt (digits_value 10 (without_leading_plus word)) (2 ^ bits) then Some (digits_value 10 (without_leading_plus word)) else None
@@ -37,7 +37,7 @@ worker_of word = do
   number ← ok_or (number_of 64 word) Worker
   below_64 number
 
--- so many stripes, if that is allowed
+-- `count` stripes, if that is allowed
 unfoldable pub counted : (count : ℕ) (allowed : Bool) → is_stripe_count count ≡ allowed → Result StripeCount BadLine
 counted count true allowed = Ok (record { count = count; allowed = allowed })
 counted count false not_allowed = Err Stripes

@@ -91,7 +91,7 @@ pub record IsTakenBack (first behind : ℕ) (old new : List Event) : Type 0 wher
   pub before : (place : ℕ) → place < first → slice_get new place ≡ slice_get old place
   pub after : (place : ℕ) → behind ≤ place → slice_get new place ≡ slice_get old place
 
--- the steps of the first stray release are taken back, where there is one
+-- the steps of the first stray release are taken back, if there is one
 abbrev pub TakesBack : Option (ℕ × ℕ) → List Event → List Event → Bool → Type 0
 TakesBack None old new taken = (taken ≡ false) × (new ≡ old)
 TakesBack (Some steps) old new taken = (taken ≡ true) × IsTakenBack steps.0 steps.1 old new

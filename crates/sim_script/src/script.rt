@@ -7,7 +7,7 @@ use crate::line::{Form, Line};
 use sim_rules::{Event, Outcome};
 use std::alloc::{AllocError, Global};
 
-/// The events of one line, which follow those of the line before it: so many.
+/// How many events one line has. They follow those of the line before it.
 #[derive(Clone, Copy, Debug, PartialEq, Eq)]
 pub struct Span {
     pub form: Form,
@@ -57,8 +57,8 @@ fn most_stripes(lines: &[Line]) -> u16
     most
 }
 
-/// How many events a line has behind its first. A sweep of so many stripes makes LOOK, and TAKE and
-/// GIVE on each.
+/// How many events a line has behind its first. A sweep of `stripes` stripes makes LOOK, and TAKE
+/// and GIVE on each.
 fn more_of(form: Form, stripes: u16) -> usize
     ensures { result ≡ more_of stripes form }
 {
@@ -123,7 +123,7 @@ fn stray_steps(spans: &[Span], outcomes: &[Outcome]) -> Option<(usize, usize)>
     None
 }
 
-/// Adds so many of the events that a line of this form has behind its first.
+/// Adds `more` of the events that a line of this form has behind its first.
 fn add_more(events: &mut Vec<Event>, form: Form, more: usize) -> Result<(), AllocError>
     ensures { OnOk result (events.new.items ≡ events.old.items ++ replicate more (next_of form)) }
 {
@@ -175,9 +175,10 @@ impl Script {
         Ok(script)
     }
 
-    /// A release doesn't fit while another walk of its worker is under way, and then no step belongs to
-    /// its line. Where these outcomes show that such steps were made, those of the first such line
-    /// become steps of nobody, which don't fit, and the answer is yes: the script is to be played again.
+    /// A release doesn't fit while another walk of its worker is under way, and then no step
+    /// belongs to its line. If these outcomes show that such steps were made, those of the first
+    /// such line become steps of nobody, which don't fit. Then it returns true: the script is to be
+    /// played again.
     pub fn take_back_steps(&mut self, outcomes: &[Outcome]) -> bool
         ensures events { TakesBack (stray_steps 0 self.old.spans.items outcomes.now)
             self.old.events.items self.new.events.items result }
