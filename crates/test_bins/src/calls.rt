@@ -50,7 +50,7 @@ fn store(
     Ok(old)
 }
 
-/// Maps the key to the number, and answers the old one.
+/// Maps the key to the number, and returns the old one.
 pub(crate) fn put(
     growing: &mut Growing,
     alloc: Global,
@@ -62,7 +62,7 @@ pub(crate) fn put(
     store(growing, alloc, key, number)
 }
 
-/// Unmaps the key, and answers its number.
+/// Unmaps the key, and returns its number.
 pub(crate) fn remove(
     growing: &mut Growing,
     alloc: Global,
@@ -86,7 +86,7 @@ pub(crate) fn key_text(alloc: Global, number: u32) -> Result<String, Refusal> {
     Ok(format!(in alloc; "k{number:05}")?)
 }
 
-/// Maps so many keys, one after another, each to its number.
+/// Maps `keys` keys, one after another, each to its number.
 pub(crate) fn put_all(growing: &mut Growing, alloc: Global, keys: u32) -> Result<(), Refusal> {
     for number in 0..keys {
         let text = key_text(alloc, number)?;
@@ -95,7 +95,7 @@ pub(crate) fn put_all(growing: &mut Growing, alloc: Global, keys: u32) -> Result
     Ok(())
 }
 
-/// Whether each of so many keys is mapped to its number.
+/// Whether each of the first `keys` keys is mapped to its number.
 pub(crate) fn has_all(growing: &Growing, alloc: Global, keys: u32) -> Result<bool, Refusal> {
     for number in 0..keys {
         let text = key_text(alloc, number)?;

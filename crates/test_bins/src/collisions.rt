@@ -1,5 +1,5 @@
 //! Keys of one hash, which stand in one bin however many there are: "Aa" and "BB" have the same
-//! `hashCode` in Java, and so have all texts of as many of these.
+//! `hashCode` in Java, and so have all texts of n of these.
 use crate::calls::{empty, find, put, remove};
 use bin_transfer::Growing;
 use java_hash::hash;
@@ -76,7 +76,7 @@ fn all_are_found(alloc: Global) -> Result<bool, Refusal> {
     )
 }
 
-// Whether those of the even numbers are left where the others were taken out.
+// Whether those of the even numbers are left after the others were taken out.
 fn even_are_left(alloc: Global) -> Result<bool, Refusal> {
     let mut growing = full(alloc)?;
     remove_odd(&mut growing, alloc)?;

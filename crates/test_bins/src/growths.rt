@@ -11,7 +11,7 @@ fn grown(alloc: Global, keys: u32) -> Result<Growing, Refusal> {
     Ok(growing)
 }
 
-// The bins, and whether a growth runs, after so many new keys.
+// The bins, and whether a growth runs, after `keys` new keys.
 fn seen(alloc: Global, keys: u32) -> Result<(usize, bool), Refusal> {
     let growing = grown(alloc, keys)?;
     Ok((growing.bins(), growing.is_growing()))
@@ -59,7 +59,7 @@ fn remove_helps(rt: HostRuntime) {
     assert_eq!(rt; seen_after_remove(rt.alloc()), Ok((64, false)));
 }
 
-// Whether each key is found after the 25th, and the growth is then where it was.
+// Whether each key is found after the 25th, and the reads leave the growth as it was.
 fn reads_leave_the_growth(alloc: Global) -> Result<bool, Refusal> {
     let growing = grown(alloc, 25)?;
     Ok(has_all(&growing, alloc, 25)? && growing.bins() == 32 && growing.is_growing())
@@ -87,7 +87,7 @@ fn changes_while_a_growth_runs(rt: HostRuntime) {
     assert_eq!(rt; changes_reach_both_tables(rt.alloc()), Ok(true));
 }
 
-// How many old bins each of five helps moves, of a growth that starts after so many new keys.
+// How many old bins each of five helps moves, of a growth that starts after `keys` new keys.
 fn helped(alloc: Global, keys: u32) -> Result<[usize; 5], Refusal> {
     let mut growing = grown(alloc, keys)?;
     if growing.is_growing() || growing.bins() >= MOST_BINS {

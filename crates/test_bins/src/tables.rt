@@ -126,7 +126,7 @@ fn made_again(alloc: Global, keys: u32) -> Result<Growing, Refusal> {
     Ok(Growing::with_entries(alloc, stripes(1)?, entries)?)
 }
 
-// The bins of a map of so many entries, whether a growth runs, and whether all are found.
+// The bins of a map of `keys` entries, whether a growth runs, and whether all are found.
 fn made_bins(alloc: Global, keys: u32) -> Result<(usize, bool, bool), Refusal> {
     let growing = made_again(alloc, keys)?;
     let has_all = growing.len() == keys as usize && has_all(&growing, alloc, keys)?;
