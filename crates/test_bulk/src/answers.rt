@@ -87,7 +87,7 @@ fn put_number(
     put(map, pass, alloc, key, Value::Int(number))
 }
 
-// Whether a view of no entries answers as it should.
+// Whether a view of no entries returns what it should.
 fn answers_of_none<R: Threads + Sync>(rt: &R, view: &View, threshold: u64) -> bool {
     view.count() == 0
         && view.reduce(rt, Func::Sum, threshold) == Ok(Ok(None))
@@ -150,7 +150,7 @@ fn put_in_twos(
     Ok(())
 }
 
-// Whether a view answers so with each threshold.
+// Whether a view returns what is wanted with each threshold.
 fn answers_so<R: Threads + Sync>(rt: &R, view: &View, wanted: &Wanted) -> bool {
     THRESHOLDS.iter().all(|threshold| {
         gives(rt, view, Func::Sum, *threshold, wanted.sum)

@@ -14,7 +14,7 @@ use stripe_locks::Pass;
 /// A batch has four device calls, and a turn before them takes up what was changed.
 const TURNS_OF_A_BATCH: u32 = 5;
 
-/// Ends a loop after this many turns.
+/// Ends a loop after `left` turns.
 #[derive(Drop)]
 struct Turns {
     left: AtomicU32,

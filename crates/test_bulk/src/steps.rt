@@ -16,7 +16,7 @@ use std::sync::Wait;
 use std::thread::Threads;
 use stripe_locks::Pass;
 
-// The view behind this many steps, none of which is its last.
+// The view behind `steps` steps, none of which is its last.
 fn advanced(
     map: &DurableMap<MemDisk>,
     pass: &mut Pass,
