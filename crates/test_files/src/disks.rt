@@ -6,7 +6,7 @@ use std::alloc::Global;
 use std::fs;
 use std::test::Fail;
 
-// Writes where the file ends or before.
+// Writes at the end of the file or before it.
 fn put<D: Disk>(disk: &mut D, file: usize, at: usize, bytes: &[u8]) -> Result<(), DeviceError>
     requires { file < 4 }
 {
