@@ -69,8 +69,8 @@ impl Calls for OneValue {
     }
 }
 
-/// A reader that is interrupted before each piece, gives pieces of at most so many bytes, and fails
-/// at their end.
+/// A reader that is interrupted before each piece, gives pieces of at most `most` bytes, and fails
+/// at their end if it is to fail.
 #[derive(Drop)]
 struct Pieces<'a> {
     left: &'a [u8],
@@ -96,7 +96,7 @@ impl Read for Pieces<'_> {
     }
 }
 
-/// A writer that has room for so many bytes, and fails behind them.
+/// A writer that has room for `most` bytes, and fails behind them.
 #[derive(Drop)]
 struct Room {
     bytes: [u8; 64],
@@ -177,7 +177,7 @@ fn is_answered<R: Read>(alloc: Global, reader: &mut R, replies: &[u8]) -> bool {
     served.is_ok() && writer.as_slice() == replies && calls.held == 0
 }
 
-// The same where they come in pieces of at most so many bytes.
+// The same if they come in pieces of at most `most` bytes.
 fn is_answered_in_pieces(alloc: Global, requests: &[u8], replies: &[u8], most: usize) -> bool {
     let mut reader = Pieces {
         left: requests,
@@ -212,8 +212,8 @@ fn dialogues_in_every_cutting(rt: HostRuntime) {
     }
 }
 
-// Whether a reader that fails behind so many bytes is told, this front of the replies was written, and
-// nothing is held any more.
+// Whether a reader that fails behind `len` bytes is told, this front of the replies was written,
+// and nothing is held any more.
 fn fails_behind(alloc: Global, len: usize, replies: &[u8]) -> bool {
     let mut reader = Pieces {
         left: PUT_GET.get(..len).unwrap_or(PUT_GET),
@@ -264,7 +264,7 @@ fn a_writer_that_fails(rt: HostRuntime) {
     }
 }
 
-/// It passes too where any one allocation is refused.
+/// It passes too if any one allocation is refused.
 #[test]
 fn memory_that_is_refused(rt: HostRuntime) {
     let mut reader = PUT_GET;
