@@ -21,8 +21,8 @@ const AHEAD: usize = 100;
 /// The log with eight commands of 8,455 bytes each in one batch, its gate closed.
 const LENGTH: usize = 17 + 1 + 17 + 8 * 8455 + 1;
 
-/// How many commands are found after so many device calls of the ninth one's batch, for each fill of a
-/// stop: the old bytes, the new ones, 0, an open gate, and 255.
+/// How many commands are found after n device calls of the ninth one's batch. They are given for
+/// each fill of a stop: the old bytes, the new ones, 0, an open gate, and 255.
 const FOUND: [(u32, [u64; 5]); 5] = [
     (0, [8; 5]),
     (1, [8; 5]),
@@ -31,7 +31,7 @@ const FOUND: [(u32, [u64; 5]); 5] = [
     (4, [9; 5]),
 ];
 
-// Commits eight commands, stages the ninth, and makes so many of its device calls, behind the zeros
+// Commits eight commands, stages the ninth, and makes `times` of its device calls, behind the zeros
 // that are written ahead of it.
 fn step_ninth<D: Disk, R: Wait, S: Steps>(
     rt: &R,
@@ -52,7 +52,7 @@ fn step_ninth<D: Disk, R: Wait, S: Steps>(
     Ok(())
 }
 
-// Makes nine commands, and so many device calls of the ninth one's batch.
+// Makes nine commands, and `times` device calls of the ninth one's batch.
 fn write_nine<R: Abort + Wait>(
     rt: &R,
     alloc: Global,
@@ -78,7 +78,7 @@ fn found<R: Abort>(rt: &R, alloc: Global, disk: MemDisk, fill: &Fill) -> Result<
     }
 }
 
-// The same for each fill, after so many device calls.
+// The same for each fill, after `times` device calls.
 fn found_by_fills<R: Abort + Wait>(rt: &R, alloc: Global, times: u32) -> Result<[u64; 5], Refusal> {
     let fills = [
         Fill::Old,

@@ -43,7 +43,7 @@ pub(crate) fn longest(alloc: Global) -> Result<Command, Refusal> {
     Ok(Command { key, change })
 }
 
-// Makes the change so many times.
+// Makes the change `times` times.
 pub(crate) fn make_often(
     stripes: &Stripes,
     worker: &mut Pass,
@@ -77,7 +77,7 @@ fn stage_twice<D: Disk, R: Wait, S: Steps>(
     Ok((first, gate, second))
 }
 
-// Two batches of a change that was made so many times.
+// Two batches of a change that was made `times` times.
 fn stage_times<R: Wait>(
     rt: &R,
     alloc: Global,

@@ -28,7 +28,7 @@ const CHECKPOINT: [u8; 82] = [
     0, 0, 0, 0, 0, 4, 0, 0, 0, 1, 1, 0x61, 1, 0, 0, 0, 0, 0, 0, 0, 4,
 ];
 
-// Makes so many device calls of the checkpoint.
+// Makes `times` device calls of the checkpoint.
 pub(crate) fn write_times<D: Disk>(keeper: &mut Keeper<D>, times: u32)
     requires { (n : ℕ) × (done : List Command) × (p : Record)
         × Fits D.states D.honest n done keeper.old p }
@@ -76,7 +76,7 @@ pub(crate) fn capture_one<D: Disk, R: Wait, S: Steps>(
     Ok(mark)
 }
 
-// Commits so many commands at most of what is in hand, and publishes the count.
+// Commits at most `most` commands of what is in hand, and publishes the count.
 pub(crate) fn commit_most<D: Disk, S: Steps>(
     keeper: &mut Keeper<D>,
     steps: &mut S,
@@ -260,8 +260,8 @@ fn a_stop_in_the_second_checkpoint(rt: HostRuntime) -> Result<(), Refusal> {
     Ok(())
 }
 
-// What the calls of a checkpoint answer before its first section may be given: a second one, a section
-// while its log is begun, a batch, and a seal.
+// What the calls of a checkpoint return before its first section may be given: a second one, a
+// section while its log is begun, a batch, and a seal.
 fn refused_in_rotation<D: Disk, S: Steps>(
     keeper: &mut Keeper<D>,
     steps: &mut S,

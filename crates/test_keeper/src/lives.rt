@@ -56,7 +56,7 @@ fn rotate_once<R: Wait>(rt: &R, alloc: Global, one: StripeCount) -> Result<MemDi
     Ok(joined.keeper.into_disk())
 }
 
-// Commits one command, writes a checkpoint of one stripe, whose log is there, and answers its mark.
+// Commits one command, writes a checkpoint of one stripe, whose log is there, and returns its mark.
 fn seal_one<D: Disk, R: Wait, S: Steps>(
     rt: &R,
     keeper: &mut Keeper<D>,

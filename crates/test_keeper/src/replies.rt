@@ -16,7 +16,7 @@ use std::sync::Wait;
 use stripe_locks::{Held, Pass, Released, Stripes};
 use ticket_order::Steps;
 
-// A disk whose call after so many fails.
+// A disk whose call behind the first `after` calls fails.
 fn failing_disk(alloc: Global, after: u64) -> MemDisk {
     let mut disk = MemDisk::new(alloc);
     disk.plan(Some(Failure {
@@ -29,7 +29,7 @@ fn failing_disk(alloc: Global, after: u64) -> MemDisk {
 /// More device calls than are made before the first batch.
 const MANY: u64 = 100;
 
-// Whether a store begins where the device call after so many fails.
+// Whether a store begins if the device call behind the first `after` calls fails.
 fn is_joined(alloc: Global, count: StripeCount, after: u64) -> bool {
     join(alloc, failing_disk(alloc, after), count).is_ok()
 }
@@ -66,7 +66,7 @@ fn hold_once(
     Ok(())
 }
 
-// Makes the change so many times, and holds the replies besides.
+// Makes the change `times` times, and holds the replies besides.
 fn make_times(
     stripes: &Stripes,
     worker: &mut Pass,
@@ -343,7 +343,7 @@ fn lose_five<D: Disk, R: Wait, S: Steps>(
     release_twice(rt, alloc, keeper, steps, stripes, worker, all)
 }
 
-// The same, where the device call fails that comes after so many since the opening.
+// The same, if the device call fails that comes after `after` calls since the opening.
 fn five_and_five<R: Wait>(
     rt: &R,
     alloc: Global,

@@ -128,7 +128,7 @@ pub(crate) fn put_by(
 /// More than a batch may have.
 pub(crate) const MOST: u32 = 100_000;
 
-// Makes so many steps of the log.
+// Makes `times` steps of the log.
 pub(crate) fn advance_times<D: Disk>(keeper: &mut Keeper<D>, times: u32)
     requires { (n : ℕ) × (done : List Command) × (p : Record)
         × Fits D.states D.honest n done keeper.old p }
