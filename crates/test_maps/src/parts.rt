@@ -65,7 +65,7 @@ fn joined_of(reply: Reply) -> Joined {
     }
 }
 
-// Joins one byte to a text of so many bytes.
+// Joins one byte to a text of `len` bytes.
 fn join(alloc: Global, part: &mut Part, len: usize) -> Result<Joined, Refusal> {
     change(part, alloc, Step::PutText(len))?;
     Ok(joined_of(change(part, alloc, Step::JoinText(1))?))
@@ -97,7 +97,8 @@ fn longest_text(rt: HostRuntime) {
     }
 }
 
-// Whether a change that is ready answers that nothing was mapped, and how many entries there are then.
+// Whether a change that is ready replies that nothing was mapped, and how many entries there are
+// then.
 fn act(ready: Ready) -> (bool, usize) {
     let acted = ready.act();
     (acted.reply == Reply::Was(None), acted.part.len())

@@ -154,7 +154,7 @@ fn a_pass_learns_of_positions(rt: HostRuntime) -> Result<(), Refusal> {
     Ok(())
 }
 
-// Stripes of an empty map, after so many changes.
+// Stripes of an empty map, after `first` changes.
 fn empty_after(alloc: Global, count: StripeCount, first: u64) -> Result<Stripes, Refusal> {
     let parts = empty_parts(alloc, count)?;
     Stripes::new(alloc, count, parts, first)
@@ -285,7 +285,7 @@ fn add_often<R: Wait>(rt: &R, stripes: &Stripes, alloc: Global) -> Result<Held, 
     Ok(last)
 }
 
-// The reply's number, where its position is the same.
+// The reply's number, if its position is the same.
 fn number_at_position(released: &Released) -> Option<u64> {
     match released {
         Released::Reply(position, Reply::Now(Some(Value::Int(number)))) => {
@@ -312,7 +312,7 @@ fn publish_all(stripes: &Stripes, keeper: &mut Pass) -> u64
     count
 }
 
-// The sum that is held, where it stands at the position of the same number.
+// The sum that is held, if it stands at the position of the same number.
 fn sum_of(stripes: &Stripes, pass: &mut Pass, held: Result<Held, Refusal>) -> Option<u64>
     requires own { IsPassOf stripes.now pass.old }
     requires held { IfOk held (IsHeldOf stripes.now) }

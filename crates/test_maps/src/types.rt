@@ -2,7 +2,7 @@
 use map_types::{Func, Key, Refusal, Text, Value};
 use std::alloc::Global;
 
-// The length of the key of so many bytes.
+// The length of the key of `len` bytes.
 fn key_of(alloc: Global, len: usize) -> Result<usize, Refusal> {
     let text = "k".repeat(alloc, len)?;
     let key = Key::new(alloc, text.as_str())?;
@@ -27,7 +27,7 @@ fn keys_in_byte_order(rt: HostRuntime) -> Result<(), Refusal> {
     Ok(())
 }
 
-// The length of the text of so many bytes.
+// The length of the text of `len` bytes.
 fn text_of(alloc: Global, len: usize) -> Result<usize, Refusal> {
     let text = "v".repeat(alloc, len)?;
     let text = Text::new(alloc, text.as_str())?;
