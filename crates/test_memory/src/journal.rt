@@ -14,7 +14,7 @@ const MANY: u64 = 100;
 /// A batch's frame is written and synced, and so is its gate.
 pub(crate) const BATCH_CALLS: u64 = 4;
 
-/// A disk whose call after so many fails.
+/// A disk whose call behind the first `after` calls fails.
 pub(crate) fn failing_disk(alloc: Global, after: u64) -> MemDisk {
     let mut disk = MemDisk::new(alloc);
     disk.plan(Some(Failure {
@@ -67,8 +67,8 @@ fn put_status<R: Wait>(memory: &mut Memory<MemDisk, R>, alloc: Global, number: i
     }
 }
 
-// How many device calls are made before the first change. Where one of them fails the map is not begun,
-// and the refusal is 9: else the answer is `MANY`.
+// How many device calls are made before the first change. If one of them fails, the map is not
+// begun, and the refusal is 9: else it returns `MANY`.
 pub(crate) fn first_calls<R: Wait>(rt: &R, alloc: Global) -> u64 {
     for after in 0..MANY {
         match status(begun(rt, alloc, failing_disk(alloc, after))) {
@@ -151,7 +151,7 @@ fn change_twice<R: Wait>(memory: &mut Memory<MemDisk, R>, alloc: Global) -> (u8,
     (first, second, value_of(memory, alloc))
 }
 
-/// It passes too where any one allocation is refused: a call is refused and changes nothing, or is
+/// It passes too if any one allocation is refused: a call is refused and changes nothing, or is
 /// made; or it is a write of the disk that found no memory, and the map has failed.
 #[test]
 fn memory_that_is_refused(rt: HostRuntime) {

@@ -31,7 +31,7 @@ fn puts(alloc: Global, count: u8) -> Result<Vec<u8>, Fail> {
     Ok(frames)
 }
 
-/// The replies to as many puts.
+/// The replies to `count` puts.
 fn replies(alloc: Global, count: u8) -> Result<Vec<u8>, Fail> {
     let mut replies = Vec::new(alloc);
     replies.extend_from_slice(WAS_ABSENT)?;
@@ -42,8 +42,8 @@ fn replies(alloc: Global, count: u8) -> Result<Vec<u8>, Fail> {
     Ok(replies)
 }
 
-/// What is replied to puts in one piece, over a new map whose disk fails behind so many batches; and
-/// the length of its log then.
+/// What is replied to `count` puts in one piece, over a new map whose disk fails behind `batches`
+/// batches; and the length of its log then.
 fn answered<R: Wait>(
     rt: &R,
     alloc: Global,
