@@ -92,7 +92,7 @@ fn did(reply: Result<Reply, Refusal>, wanted: bool) -> bool {
     }
 }
 
-// Changes of one key, and whether each answers as it should.
+// Changes of one key, and whether each returns what it should.
 fn change_often<R: Wait>(
     rt: &R,
     map: &DurableMap<MemDisk>,
@@ -120,7 +120,7 @@ fn change_often<R: Wait>(
     Ok(put && added && replaced && swapped && removed)
 }
 
-// Functions of one key, whose value is 8, and whether each answers as it should.
+// Functions of one key, whose value is 8, and whether each returns what it should.
 fn compute_often<R: Wait>(
     rt: &R,
     map: &DurableMap<MemDisk>,
@@ -149,7 +149,7 @@ fn compute_often<R: Wait>(
     Ok(merged && least && kept && most && removed)
 }
 
-// Reads of an absent key, and whether each answers as it should.
+// Reads of an absent key, and whether each returns what it should.
 fn read_often<R: Wait>(
     rt: &R,
     map: &DurableMap<MemDisk>,
@@ -257,7 +257,7 @@ fn try_reads(
     Ok((map.try_get(pass, key(alloc, "a")?)?, default))
 }
 
-/// Ends a loop after so many turns.
+/// Ends a loop after `left` turns.
 #[derive(Drop)]
 struct Turns {
     left: AtomicU32,

@@ -22,7 +22,7 @@ use stripe_locks::{Held, Pass, Released};
 /// How many turns are waited at most, each of a millisecond.
 const MOST_TURNS: u32 = 10_000;
 
-/// The log of one put has so many bytes, so that the put begins a checkpoint.
+/// The length of the log of one put, so that the put begins a checkpoint.
 const LOG_BYTES: u64 = 48;
 
 // The map of a directory, which is made that of an empty map.
