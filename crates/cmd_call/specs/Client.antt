@@ -32,7 +32,7 @@ Known = Option (List ℕ)
 abbrev pub request_frame : Request → List ℕ
 request_frame request = frame (request_bytes request)
 
--- the reader gave no whole reply, and memory wasn't wanting
+-- the reader gave no whole reply, and memory wasn't missing
 abbrev pub GivesNoReply : Known → Known → Type 0
 GivesNoReply r0 r1 = (error : ReplyError) × (error ≢ lost.NoMemory) × ReadsReply r0 r1 (Err error)
 

@@ -128,7 +128,7 @@ pub record Unanswered (asked : List Asked) (outcomes : List Outcome) : Type 0 wh
 
 -- Fails says that reading a reply ended with an error, of what the reader had left before and has left then.
 module _ (Fails : Known → Known → ReplyError → Type 0) where
-  -- reading a reply ended with such an error, and memory wasn't wanting
+  -- reading a reply ended with such an error, and memory wasn't missing
   pub record LosesReply (reader : Known) : Type 0 where
     pub error : ReplyError
     pub after : Known
