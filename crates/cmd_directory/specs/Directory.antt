@@ -32,7 +32,7 @@ summary_text s =
 
 -- ---- formatting
 
--- why a disk was not formatted: a device call failed, or memory was wanting, or a checkpoint is sealed
+-- why a disk was not formatted: a device call failed, or memory was missing, or a checkpoint is sealed
 abbrev pub CannotFormat : {D : Type 0} → (D → List Files) → (D → ℕ) → (D → Type 0) → D → D → Refusal → Type 0
 CannotFormat states failures honest old new refusal =
     ((refusal ≡ Failed) × (failures new ≡ failures old + 1))
