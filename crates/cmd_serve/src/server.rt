@@ -333,11 +333,12 @@ pub(crate) fn serve_disk<
 /// only by being ended. Of its four files those that are absent are made: an empty one may have been left
 /// out of a copy.
 ///
-/// The status is 2 with a text on `error` if the words aren't allowed; 1 with `unreadable` on `error`
-/// if the directory's lock or files, the port or `output` fail; and 1 with `refused` and the refusal
-/// if the directory can't be opened or no memory is found. An Error record has the cause of what the
-/// system refused. Once it listens it prints `listening` and the port, and writes a record of how many
-/// commands the map begins with. If the store fails later, one Error record says why.
+/// The status is 2 with a text on `error` if the words aren't allowed. It is 1 with `unreadable` on
+/// `error` if the directory's lock or files, the port or `output` fail. It is 1 with `refused` and
+/// the refusal if the directory can't be opened or no memory is found. An Error record has the
+/// cause of what the system refused. Once it listens it prints `listening` and the port, and writes
+/// a record of how many commands the map begins with. If the store fails later, one Error record
+/// says why.
 pub fn serve<
     R: Net<Listener = TcpListener, Stream = TcpStream> + Clock + Log + Threads + Wait + Sync,
     M: Directories,

@@ -156,7 +156,7 @@ pub(crate) fn served<
     Ok(received(alloc, clients.as_slice()))
 }
 
-/// So many times these bytes.
+/// These bytes, `count` times.
 fn repeated(alloc: Global, bytes: &[u8], count: usize) -> Result<Vec<u8>, Fail> {
     let mut all = Vec::new(alloc);
     for _ in 0..count {
