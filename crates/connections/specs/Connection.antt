@@ -33,8 +33,8 @@ module _ {S H : Type 0} (began : S → Request → Result H Refusal → S → Ty
     pub ended : IsEnded (row messages made)
     pub wrote : Appends w0 w1 bytes
 
-  -- each whole message of what was read was answered, and the answer written, none of which ends the connection;
-  -- behind it at most `most` bytes were read that no memory was found for
+  -- Each whole message of what was read was answered, and the answer was written. None of these answers ends the connection. Behind
+  -- the messages at most `most` bytes were read that no memory was found for.
   pub record AllAnswered (most : ℕ) : Type 0 where
     pub input : List ℕ
     pub lost : List ℕ

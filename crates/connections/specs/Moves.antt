@@ -31,8 +31,8 @@ module _ {H : Type 0} where
   abbrev pub IsAlone : List (Place H) → Message → List (Move H) → Type 0
   IsAlone before message moves = AsksWholeMap message → (before ≡ []) × StartsNone moves
 
-  -- the places before and after the moves, the first begun first: a message takes its place at the end, and only if fewer than 64 are
-  -- taken; a request of the whole map is alone in the row; only the first place is answered or given up, and then it is left
+  -- The places before and after the moves, the first begun first. A message takes its place at the end, and only if fewer than 64 are
+  -- taken. A request of the whole map is alone in the row. Only the first place is answered or given up, and then it is left.
   abbrev pub IsRow : List (Place H) → List (Move H) → List (Place H) → Type 0
   IsRow before [] after = after ≡ before
   IsRow before (Starts message place ∷ moves) after =
@@ -102,9 +102,9 @@ module _ {S H : Type 0} (began : S → Request → Result H Refusal → S → Ty
   Leads before [] after = after ≡ before
   Leads before (move ∷ moves) after = (between : S) × Makes before move between × Leads between moves after
 
-  -- the messages took their places in order, and the calls made are theirs, each begun once. What was held of each was finished or
-  -- given up once, in the order in which they were begun; at most 64 were held at any moment, and none is held at the end. While a
-  -- request of the whole map was held no other call was
+  -- The messages took their places in order, and the calls made are theirs, each begun once. What was held of each was finished or
+  -- given up once, in the order in which they were begun. At most 64 were held at any moment, and none is held at the end. While a
+  -- request of the whole map was held, no other call was.
   pub record Runs (before : S) (messages : List Message) (made : List Call) (after : S) : Type 0 where
     pub moves : List (Move H)
     pub leads : Leads before moves after

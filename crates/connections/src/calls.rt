@@ -33,7 +33,7 @@ pub trait Calls {
         ensures owned { IfOk result (owns self.new) }
         ensures others { (other : Self.Held) → owns self.old other → owns self.new other };
 
-    /// Whether `finish` will likely answer without a wait. It is a hint, and no clause speaks of
+    /// Whether `finish` will likely return without a wait. It is a hint, and no clause speaks of
     /// it.
     fn may_finish(&self, held: &Self::Held) -> bool;
 
