@@ -30,7 +30,7 @@ abbrev pub Serves : Option (List ℕ) → Option (List ℕ) → Option (List ℕ
 Serves r0 r1 w0 w1 status = Dialogues r0 r1 w0 w1 status ⊎ ((r1 ≡ r0) × (w1 ≡ w0) × (status ≡ 1))
 
 -- Of the disks and the connections that the program is given it is told what the clauses of their types tell. IsOpened says that a disk has the files of a
--- directory, as they were when it was opened; IsCreated says the same if those that were absent were made; and IsRefused says that a directory couldn't be
+-- directory, as they were when it was opened. IsCreated says the same if those that were absent were made. IsRefused says that a directory couldn't be
 -- opened, for an error. IsConnected says that a reader and a writer are the ends of a new connection to a port. Fails says that reading a reply ended with
 -- an error.
 module _ {D R W : Type 0} (states : D → List Files) (failures : D → ℕ) (honest : D → Type 0) (IsOpened IsCreated : Text → D → Type 0)
