@@ -137,7 +137,7 @@ static void write_out(struct connection *connection) {
     if (connection->waits_to_write) wait_for(connection, EPOLL_CTL_MOD, false);
 }
 
-/* Sends requests until so many are under way as may be. */
+/* Sends requests while fewer than `options.flight` are under way and there is room for one more. */
 static void send_more(struct connection *connection, int64_t time) {
     if (time >= end_at) return;
     struct request request;

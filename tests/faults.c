@@ -10,7 +10,7 @@
  *   FAULT_TO         the number of the last one
  *   FAULT_HOW        how: EIO, ENOSPC or EINTR, and nothing is done; short, and half of the bytes are moved; torn, and
  *                    half of the bytes are moved (a sync is made) and it fails with EIO
- *   FAULT_MEMORY     one allocation in so many is refused, once `begun` isn't 0
+ *   FAULT_MEMORY     n, if one allocation in n is refused, once `begun` isn't 0
  *   FAULT_SEED       which ones
  *   FAULT_NUMBER     the number of the one allocation that is refused, from 1; those count that are made between the
  *                    lines `begin` and `end` that the program writes to standard output, each in one call
@@ -143,7 +143,7 @@ static int goes_wrong_at(enum call call, int fd) {
     return goes_wrong(call, path);
 }
 
-/* What a call on so many bytes is to fail with, or 0. `length` becomes how many of them it is to move first. */
+/* What a call on `length` bytes is to fail with, or 0. `length` becomes how many of them it is to move first. */
 static int fate(enum call call, int fd, size_t *length) {
     if (!goes_wrong_at(call, fd))
         return 0;

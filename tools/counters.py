@@ -25,7 +25,7 @@ def comes(holds):
 class Client(threading.Thread):
     """One connection's merges: for each counter how many were sent, and the numbers of its replies.
 
-    It ends after so many merges, at the first reply that is refused with 9, or once the server is killed.
+    It ends after `requests` merges, at the first reply that is refused with 9, or once the server is killed.
     """
 
     def __init__(self, index, port, requests, killed):

@@ -32,7 +32,7 @@ class Fault(Exception):
 
 
 class Bytes:
-    """Reads bytes from left to right; where they end too early it refuses with `BAD_FRAME`."""
+    """Reads bytes from left to right; if they end too early, it refuses with `BAD_FRAME`."""
 
     def __init__(self, content, at=0):
         self.content, self.at = content, at
@@ -237,7 +237,7 @@ def reduced(entries, function):
 
 
 def viewed(entries, method, arguments):
-    """What a view answers of its entries. A threshold changes nothing."""
+    """What a view returns of its entries. A threshold changes nothing."""
     if method == COUNT:
         return NOW, len(entries)
     if method == REDUCE:

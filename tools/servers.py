@@ -48,7 +48,7 @@ class Dchm:
 
     @classmethod
     def number(cls, kind, reply):
-        """The number that the reply tells; None where it is absent."""
+        """The number that the reply tells; None if it is absent."""
         status = cls.STATUSES[kind]
         if len(reply) == 12 and reply[:4] == b"\x00\x0a" + status + b"\x01":
             return int.from_bytes(reply[4:], "big", signed=True)
@@ -76,7 +76,7 @@ class Redis:
 
     @classmethod
     def number(cls, kind, reply):
-        """The number that the reply tells; None where it tells none."""
+        """The number that the reply tells; None if it tells none."""
         if kind == "merge" and (found := cls.NUMBER.fullmatch(reply)):
             return int(found[1])
         if kind == "get" and (found := cls.BULK.fullmatch(reply)) and int(found[1]) == len(found[2]):
@@ -96,7 +96,7 @@ class Connection:
         self.socket.setsockopt(socket.SOL_SOCKET, socket.SO_RCVTIMEO, struct.pack("ll", REPLY_SECONDS, 0))
 
     def exchange(self, request):
-        """Sends the request, and answers its whole reply."""
+        """Sends the request, and returns its whole reply."""
         self.socket.sendall(request)
         reply = b""
         while not self.protocol.is_whole(reply):
@@ -107,7 +107,7 @@ class Connection:
         return reply
 
     def ask(self, kind, request):
-        """Sends the request, reads its whole reply, and answers the number that it tells."""
+        """Sends the request, reads its whole reply, and returns the number that it tells."""
         return self.protocol.number(kind, self.exchange(request))
 
     def close(self):
@@ -170,7 +170,7 @@ def process(words, errors, limits=(), environment=None):
 
 
 def first_line(child):
-    """What the process prints first; nothing where it prints nothing in time."""
+    """What the process prints first; nothing if it prints nothing in time."""
     ready, _, _ = select.select([child.stdout], [], [], START_SECONDS)
     return child.stdout.readline() if ready else b""
 
