@@ -16,7 +16,7 @@ use Rattle.gate_log.specs.LogStates.{Stands, IsKept}
 abbrev pub long_log_bytes : ℕ
 long_log_bytes = 65536
 
--- A batch is staged in a long log, and doesn't reach past this many zeros; these end within the greatest length of a log.
+-- A batch is staged in a long log, and doesn't reach past `count` zeros; these end within the greatest length of a log.
 pub record IsAheadDue (count : ℕ) (log : LogState) : Type 0 where
   pub staged : log.phase ≡ Staged
   pub goes_on : log.ending ≡ None
@@ -24,12 +24,12 @@ pub record IsAheadDue (count : ℕ) (log : LogState) : Type 0 where
   pub covers : length log.frame < count
   pub within : log.gate + 1 + count ≤ most_log_bytes
 
--- One write of this many zeros behind the closed gate, and no other call. The log stands as it stood.
+-- One write of `count` zeros behind the closed gate, and no other call. The log stands as it stood.
 pub record WritesAhead {D : Type 0} (states : D → List Files) (failures : D → ℕ) (honest : D → Type 0) (count : ℕ) (old new : LogState) (disk_old disk_new : D) (result : Result (Unit {0}) Refusal) : Type 0 where
   pub due : IsAheadDue count old
   pub was_honest : honest disk_new → honest disk_old
   pub ok : OnOk result ((new ≡ old) × Makes states failures (log_file old.generation) (writes (old.gate + 1) (replicate count 0)) disk_old disk_new)
-  -- where it fails, nothing of the log changes but that it has failed
+  -- if it fails, nothing of the log changes but that it has failed
   pub err : IfErr result (λ refusal. (refusal ≡ Failed) × (new ≡ record old { is_broken = true })
       × Fails states failures (log_file old.generation) (writes (old.gate + 1) (replicate count 0)) disk_old disk_new)
   pub stands : OnOk result ((batches staged : List Batch) → Stands old batches staged (now (states disk_old) (log_file old.generation))

@@ -80,7 +80,7 @@ abbrev pub IsBeforeOrAfter : LogState → List Batch → List Batch → List ℕ
 IsBeforeOrAfter log batches staged content =
     IsClosed first_layout log.generation log.low batches content ⊎ IsDone log.ending log batches staged content
 
--- the same, where a log that has ended reads as ended
+-- the same, but a log that has ended reads as ended
 abbrev pub MayRead : Phase → Option ℕ → LogState → List Batch → List Batch → List ℕ → Type 0
 MayRead Idle (Some next) log batches staged content = IsEnded first_layout log.generation log.low batches next content
 MayRead phase ending log batches staged content = IsBeforeOrAfter log batches staged content

@@ -32,9 +32,9 @@ pub record Advances {D : Type 0} (states : D → List Files) (failures : D → �
   pub call : Call
   pub due : call_in old.phase old ≡ Some call
   pub was_honest : honest disk_new → honest disk_old
-  -- where it succeeds, the log goes on
+  -- if it succeeds, the log goes on
   pub ok : IfOk result (λ phase. (new ≡ log_after old.phase old) × (phase ≡ new.phase) × Makes states failures (log_file old.generation) call disk_old disk_new)
-  -- where it fails, nothing of the log changes but that it has failed
+  -- if it fails, nothing of the log changes but that it has failed
   pub err : IfErr result (λ refusal. (refusal ≡ Failed) × (new ≡ record old { is_broken = true }) × Fails states failures (log_file old.generation) call disk_old disk_new)
   pub stands : OnOk result ((batches staged : List Batch) → Stands old batches staged (now (states disk_old) (log_file old.generation))
       → Stands new (committed_after old.phase batches staged) (staged_after old.phase staged) (now (states disk_new) (log_file old.generation)))

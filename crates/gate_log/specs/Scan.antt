@@ -35,7 +35,7 @@ pub record HasRead (layout : Layout) (low : ℕ) (batches : List Batch) (scan : 
   pub log : IsLog layout scan.generation low batches
   pub held : Holds content scan.reader
 
--- At a gate so many bytes are read: those of a closed gate alone, and of an open one with the frame and the gate behind it.
+-- At a gate `size` bytes are read. A closed gate is read alone, and an open one with the frame and the gate behind it.
 pub data ReadsAtGate (layout : Layout) (tail : List ℕ) (size : ℕ) : Type 0 where
   shut : (byte : ℕ) (rest : List ℕ) → byte ≢ open_gate → tail ≡ byte ∷ rest → size ≡ 1 → ReadsAtGate layout tail size
   whole_batch : (batch : Batch) (after : ℕ) (behind : List ℕ) → IsBatch layout batch → tail ≡ open_gate ∷ (frame layout batch ++ after ∷ behind) → size ≡ 2 + length (frame layout batch)

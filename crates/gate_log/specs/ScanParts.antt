@@ -17,7 +17,7 @@ use Rattle.gate_log.specs.declared.parts.Ahead.TheVariants as ahead
 abbrev pub commands_of : List Entry → List Command
 commands_of entries = map (λ entry. entry.command) entries
 
--- these are so many changes from this ticket on, and the bytes are their records
+-- these are `count` changes from the ticket `first` on, and the bytes are their records
 pub record AreEntries (first count : ℕ) (entries : List Entry) (bytes : List ℕ) : Type 0 where
   pub tickets : AreFrom first entries
   pub so_many : length entries ≡ count
@@ -30,7 +30,7 @@ pub record IsBody (expected : ℕ) (entries : List Entry) (body : List ℕ) : Ty
   pub fits : IsBatch first_layout (batch_of expected entries)
   pub bytes : frame first_layout (batch_of expected entries) ≡ 1 ∷ (big_bytes 4 (length body) ++ body)
 
--- these changes are a batch, and its frame has so many bytes behind its length
+-- these changes are a batch, and its frame has `len` bytes behind its length
 pub record FitsBatch (expected len : ℕ) (entries : List Entry) : Type 0 where
   pub tickets : AreFrom expected entries
   pub fits : IsBatch first_layout (batch_of expected entries)

@@ -17,9 +17,9 @@ pub record LogState : Type 0 where
   pub committed : ℕ
   -- how many commands are staged
   pub count : ℕ
-  -- the staged batch's frame, and a closed gate; empty where no batch is staged
+  -- the staged batch's frame, and a closed gate; empty if no batch is staged
   pub frame : List ℕ
-  -- the generation that the end frame names, where that is staged or committed
+  -- the generation that the end frame names, if that is staged or committed
   pub ending : Option ℕ
   -- a device call has failed
   pub is_broken : Bool

@@ -13,11 +13,11 @@ use disk_model::{DeviceError, Disk};
 use map_types::Refusal;
 use store_layout::{MOST_LOG_BYTES, Phase, log_file};
 
-/// Where the gate of a log stands at least that is written ahead, in bytes.
+/// Zeros are written ahead in a log once its gate stands at this byte or behind it.
 const LONG_LOG_BYTES: usize = 65_536;
 
 impl GateLog {
-    // Whether this many zeros are to be written ahead: what is staged reaches past those written so
+    // Whether `count` zeros are to be written ahead: what is staged reaches past those written so
     // far, and would not reach past these.
     fn is_ahead_due(&self, count: usize) -> bool
         ensures { IsTrue result → IsAheadDue count self.now }
@@ -46,10 +46,10 @@ impl GateLog {
         disk.write_at(log_file(self.generation), self.gate + 1, zeros.as_slice())
     }
 
-    /// Writes the zeros behind the closed gate, ahead of the batch that is staged, so that the batch
-    /// does not lengthen the file. No reading goes past the gate. It does so where the gate stands far
-    /// enough, and the batch reaches past what was written ahead and not past these zeros; else it
-    /// makes no call. It takes no memory.
+    /// Writes the zeros behind the closed gate, ahead of the batch that is staged, so that the
+    /// batch does not lengthen the file. No reading goes past the gate. It does so if the gate
+    /// stands far enough, and the batch reaches past what was written ahead and not past these
+    /// zeros. Else it makes no call. It takes no memory.
     pub fn write_ahead<D: Disk>(&mut self, zeros: &Zeros, disk: &mut D) -> Result<(), Refusal>
         requires stands { MayAdvance D.states D.honest self.old disk.old }
 

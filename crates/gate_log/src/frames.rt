@@ -53,7 +53,7 @@ pub(crate) fn frame_len(entries: &[Entry]) -> usize
     FRAME_HEAD_BYTES + records_len(entries)
 }
 
-/// Puts the records of the entries at the end, or some of them where no memory is found.
+/// Puts the records of the entries at the end, or some of them if no memory is found.
 fn append_records(entries: &[Entry], out: &mut Vec<u8>) -> Result<(), Refusal>
     ensures ok { OnOk result
         (out.new.items ≡ out.old.items ++ records_bytes first_layout (commands_of entries.now)) }

@@ -29,13 +29,13 @@ pub(crate) const END_BYTES: usize = 8;
 #[derive(Drop)]
 pub(crate) enum Ahead {
     Closed,
-    /// A batch's frame, with so many bytes behind its length.
+    /// A batch's frame, with `len` bytes behind its length.
     Batch { len: usize },
     End,
 }
 
-/// Looks at the header of a log that is to have this generation and this low ticket. The bytes are the
-/// first 18 of the file, or all where it has fewer.
+/// Looks at the header of a log that is to have this generation and this low ticket. The bytes are
+/// the first 18 of the file, or all if it has fewer.
 pub(crate) fn check_header(generation: u64, low: u64, bytes: &[u8]) -> Result<(), Refusal>
     ensures unfailed { failed_in result ≡ 0 }
     ensures ok { OnOk result (HasHeader 1 generation low bytes.now) }
@@ -93,7 +93,7 @@ fn first_and_count(body: &[u8]) -> (u64, usize)
     (first, count as usize)
 }
 
-/// The record at the front and the bytes behind it; `None` where no record stands there.
+/// The record at the front and the bytes behind it; `None` if no record stands there.
 fn command_at(alloc: Global, bytes: &[u8]) -> Result<Option<(Command, &[u8])>, Refusal>
     ensures some { IfOk result (λ found. IfSome found (λ x. IsCommand first_layout x.0
         × (bytes.now ≡ record_bytes first_layout x.0 ++ x.1.now))) }
@@ -112,8 +112,8 @@ fn command_at(alloc: Global, bytes: &[u8]) -> Result<Option<(Command, &[u8])>, R
     }
 }
 
-/// So many changes with the tickets from `first` on, whose records are the bytes; `None` where they
-/// aren't so many records.
+/// The `count` changes with the tickets from `first` on, whose records are the bytes; `None` if
+/// they aren't `count` records.
 fn entries_at(
     alloc: Global,
     first: u64,
@@ -147,7 +147,7 @@ fn entries_at(
 }
 
 /// The changes of a batch whose frame has these bytes behind its length, with their tickets; `None`
-/// where they aren't those of a batch that may come next.
+/// if they aren't those of a batch that may come next.
 pub(crate) fn batch_at(
     alloc: Global,
     expected: u64,
@@ -173,7 +173,7 @@ pub(crate) fn batch_at(
     entries_at(alloc, expected, count, &body[NUMBERS_BYTES..])
 }
 
-/// What this kind and this length say of a frame; `None` where no frame has them.
+/// What this kind and this length say of a frame; `None` if no frame has them.
 pub(crate) fn ahead_of(kind: u8, len: usize) -> Option<Ahead>
     ensures { IsAheadOf kind len result }
 {

@@ -270,7 +270,7 @@ impl Place {
         Ok(())
     }
 
-    /// The changes of the batch at the gate, whose frame was read and has so many bytes behind its
+    /// The changes of the batch at the gate, whose frame was read and has `len` bytes behind its
     /// length.
     pub(crate) fn batch(
         self,

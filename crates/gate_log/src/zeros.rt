@@ -32,7 +32,7 @@ impl Zeros {
         }
     }
 
-    /// This many zeros. Refused with `NoMemory`.
+    /// `count` zeros. Refused with `NoMemory`.
     pub fn new(alloc: Global, count: usize) -> Result<Zeros, Refusal>
         ensures ok { IfOk result (λ zeros. zeros ≡ count) }
         ensures err { IfErr result (λ refusal. refusal ≡ Refusal.NoMemory) }
