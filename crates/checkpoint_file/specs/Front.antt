@@ -17,6 +17,6 @@ pub record IsAt (reader : ReaderState) (unread : Unread) : Type 0 where
   pub before : IsBefore reader unread
   pub reached : unread.at ≤ end_of reader
 
--- the next bytes were read, as many as the longest entry has, or all where these are fewer
+-- the next bytes were read, as many as the longest entry has, or all if these are fewer
 abbrev pub Reaches : ReaderState → Unread → Type 0
 Reaches reader unread = unread.at + min unread.left 4355 ≤ end_of reader

@@ -83,17 +83,17 @@ abbrev pub HasNoNext : ℕ → ℕ → List (List ℕ × Value) → List ℕ →
 HasNoNext stripes stripe before rest =
     (entry : List ℕ × Value) (others : List ℕ) → rest ≡ entry_bytes first_layout entry ++ others → AreEntries first_layout stripes stripe (before ++ entry ∷ []) → ⊥
 
--- where the entries before are those of a stripe, they are so with this one behind them
+-- if the entries before are those of a stripe, they are so with this one behind them
 abbrev pub MayFollow : ℕ → ℕ → List (List ℕ × Value) → List ℕ × Value → Type 0
 MayFollow stripes stripe before entry = AreEntries first_layout stripes stripe before → AreEntries first_layout stripes stripe (before ++ entry ∷ [])
 
--- the entry stands at the front, and takes so many bytes
+-- the entry stands at the front, and takes `used` bytes
 pub record IsNext (entry : List ℕ × Value) (used : ℕ) (rest : List ℕ) : Type 0 where
   pub others : List ℕ
   pub spelled : rest ≡ entry_bytes first_layout entry ++ others
   pub size : used ≡ length (entry_bytes first_layout entry)
 
--- fewer entries than so many, and behind these none that may come next
+-- fewer entries than `count`, and behind these none that may come next
 pub record HasFewer (stripes stripe count : ℕ) (rest : List ℕ) (distance : ℕ) : Type 0 where
   pub before : List (List ℕ × Value)
   pub are : AreEntries first_layout stripes stripe before
@@ -103,7 +103,7 @@ pub record HasFewer (stripes stripe count : ℕ) (rest : List ℕ) (distance : �
   pub none_next : HasNoNext stripes stripe before others
   pub place : distance ≡ length (entries_bytes first_layout before)
 
--- so many entries of the stripe were read
+-- `count` entries of the stripe were read
 pub record AreSoMany (stripes stripe count : ℕ) (entries : List (List ℕ × Value)) : Type 0 where
   pub are : AreEntries first_layout stripes stripe entries
   pub so_many : length entries ≡ count
@@ -128,7 +128,7 @@ pub record IsBodyOf (stripes : ℕ) (reads : List LoadedSection) (body : List �
   pub one_each : length reads ≡ stripes
   pub spelled : body ≡ sections_bytes first_layout (sections_of reads)
 
--- where a body of so many bytes stands
+-- where a body of `size` bytes stands
 pub record IsBodyAt (file size : ℕ) (unread : Unread) : Type 0 where
   pub file_is : unread.file ≡ file
   pub offset : unread.at ≡ body_offset

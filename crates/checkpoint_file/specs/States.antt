@@ -21,7 +21,7 @@ pub record CheckpointState : Type 0 where
   pub greatest : ℕ
   -- how many bytes the written sections take
   pub body : ℕ
-  -- the bytes of the section that is staged; empty where none is
+  -- the bytes of the section that is staged; empty if none is
   pub section : List ℕ
   -- a device call has failed
   pub is_broken : Bool
@@ -73,7 +73,7 @@ TakesSection w = (w.phase ≡ Ready) × (w.count < w.stripes)
 abbrev pub TakesSeal : CheckpointState → Type 0
 TakesSeal w = (w.phase ≡ Ready) × (w.count ≡ w.stripes)
 
--- the keys belong to the stripe, of so many stripes
+-- the keys belong to the stripe `stripe`, of `stripes` stripes
 abbrev pub AreKeysOf : ℕ → ℕ → List (List ℕ × Value) → Type 0
 AreKeysOf stripes stripe entries = AllByRecursion (λ (entry : List ℕ × Value). stripe_of stripes entry.0 ≡ stripe) entries
 

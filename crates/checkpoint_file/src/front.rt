@@ -43,8 +43,8 @@ pub(crate) fn begin_file<D: Disk>(
     }
 }
 
-// Reads on, as far as so many bytes of the body. A device that gives fewer than its own length says is
-// reported as damage.
+// Reads on, as far as `count` bytes of the body. A device that gives fewer than its own length says
+// is reported as damage.
 fn read_on<D: Disk>(
     disk: &mut D,
     reader: &mut FileReader,
@@ -109,7 +109,7 @@ pub(crate) fn reach_body<D: Disk>(
     read_on(disk, reader, body, 0)
 }
 
-/// Reads the next bytes, as many as the longest entry has, or all where these are fewer. What stands
+/// Reads the next bytes, as many as the longest entry has, or all if these are fewer. What stands
 /// before them is let go.
 pub(crate) fn fetch<D: Disk>(
     disk: &mut D,
@@ -141,7 +141,7 @@ pub(crate) fn fetch<D: Disk>(
     read_on(disk, reader, unread, unread.left.min(MOST_ENTRY_BYTES))
 }
 
-/// The next bytes, as many as the longest entry has, or all where these are fewer.
+/// The next bytes, as many as the longest entry has, or all if these are fewer.
 pub(crate) fn front(reader: &FileReader, unread: Unread) -> &[u8]
     requires at { IsAt reader.now unread }
     requires reaches { Reaches reader.now unread }

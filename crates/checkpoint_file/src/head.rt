@@ -37,7 +37,7 @@ fn fields_of(bytes: &[u8; BODY_OFFSET]) -> Head
     }
 }
 
-/// Reads the head of the file; `None` where no checkpoint is sealed there.
+/// Reads the head of the file; `None` if no checkpoint is sealed there.
 pub fn read_head<D: Disk>(disk: &mut D, file: usize) -> Result<Option<Head>, Refusal>
     // One of the two files of checkpoints.
     requires { file < 2 }

@@ -130,7 +130,7 @@ fn whole_body<D: Disk>(
     Ok(sections)
 }
 
-// How many stripes there are, and where the body stands in a file of so many bytes.
+// How many stripes there are, and where the body stands in a file of `len` bytes.
 fn body_of(file: u8, head: &Head, len: usize) -> Result<(StripeCount, Unread), Refusal>
     // One of the four files.
     requires { file < 4 }
@@ -249,8 +249,8 @@ fn load_body<D: Disk>(
     })
 }
 
-/// Reads the checkpoint that is sealed in the file; `None` where none is. Besides the entries that it
-/// hands on it holds a piece of the file, and memory may be wanting before a fault behind it is met.
+/// Reads the checkpoint that is sealed in the file; `None` if none is. Besides the entries that it
+/// hands on, it holds a piece of the file. Memory may be wanting before a fault behind it is met.
 pub fn load<D: Disk>(
     alloc: Global,
     disk: &mut D,

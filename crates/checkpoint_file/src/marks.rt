@@ -5,7 +5,7 @@ ghost use Rattle.checkpoint_file.specs.Loads.{sections_of};
 
 use crate::loading::LoadedSection;
 
-/// The greatest of the marks; 0 where there is none.
+/// The greatest of the marks; 0 if there is none.
 pub(crate) fn greatest_mark(sections: &[LoadedSection]) -> u64
     ensures { result ≡ greatest_mark (sections_of sections.now) }
 {

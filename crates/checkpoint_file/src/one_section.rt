@@ -114,7 +114,7 @@ fn next_entry<D: Disk>(
     Ok((entry, used))
 }
 
-// So many entries of the stripe, and what is unread behind them.
+// `count` entries of the stripe, and what is unread behind them.
 fn entries<D: Disk>(
     alloc: Global,
     disk: &mut D,

@@ -15,7 +15,7 @@ use log_records::{key_at, some_value_at};
 use map_types::{Key, Refusal, Value};
 use std::alloc::Global;
 
-/// A stripe by its number, of so many.
+/// A stripe by its number, and how many stripes there are.
 #[derive(Clone, Copy)]
 pub(crate) struct Stripe {
     pub number: usize,
@@ -43,7 +43,7 @@ fn key_and_value(alloc: Global, bytes: &[u8]) -> Result<((Key, Value), &[u8]), R
     Ok(((key, value), rest))
 }
 
-/// The entry at the front and the bytes behind it; `None` where no entry stands there.
+/// The entry at the front and the bytes behind it; `None` if no entry stands there.
 pub(crate) fn entry_at(
     alloc: Global,
     bytes: &[u8],

@@ -30,7 +30,7 @@ pub(crate) fn header(
     bytes
 }
 
-/// Puts the entries at the end, or some of them where no memory is found.
+/// Puts the entries at the end, or some of them if no memory is found.
 fn append_entries(entries: &[(Key, Value)], out: &mut Vec<u8>) -> Result<(), Refusal>
     ensures ok { OnOk result
         (out.new.items ≡ out.old.items ++ entries_bytes first_layout entries.now) }

@@ -4,7 +4,7 @@ ghost use Rattle.checkpoint_file.specs.Loads.{IsBehind};
 
 use map_types::Refusal;
 
-/// So many bytes from an offset of the file on.
+/// The `left` bytes from the offset `at` of the file on.
 #[derive(Clone, Copy)]
 pub(crate) struct Unread {
     pub file: u8,

@@ -143,8 +143,8 @@ impl CheckpointWriter {
         self.greatest
     }
 
-    /// Begins the checkpoint of a generation. Its gate is to be closed (`must_close`) where the file
-    /// reads an open one or none; a gate that reads closed is left as it is.
+    /// Begins the checkpoint of a generation. Its gate is to be closed (`must_close`) if the file
+    /// reads an open one or none. A gate that reads closed is left as it is.
     pub fn begin(
         &mut self,
         generation: u64,
@@ -257,7 +257,7 @@ impl CheckpointWriter {
         disk.write_at(checkpoint_file(self.generation), 1, &bytes)
     }
 
-    // Makes the device call that is due; where none is, it makes none.
+    // Makes the device call that is due. If none is due, it makes none.
     fn make_call<D: Disk>(&self, disk: &mut D) -> Result<(), DeviceError>
         requires place { D.honest disk.old → (call : Call)
             → call_in self.now.phase self.now ≡ Some call
@@ -309,7 +309,7 @@ impl CheckpointWriter {
         }
     }
 
-    /// Makes the device call that is due, and no other; where none is, it makes none. It takes no
+    /// Makes the device call that is due, and no other. If none is due, it makes none. It takes no
     /// memory.
     pub fn advance<D: Disk>(&mut self, disk: &mut D) -> Result<CheckpointPhase, Refusal>
         requires stands { MayAdvance D.states D.honest self.old disk.old }
