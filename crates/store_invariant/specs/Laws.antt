@@ -69,7 +69,7 @@ OpenedStands = (h : History) (found : Opened) (contents : Contents) (newest : Lo
     → Stands h (record { sealed = found.checkpoint.generation; log = newest; next = None; writer = None })
     (record { found = found; staged = []; other = contents (checkpoint_file (found.checkpoint.generation + 1)); sections = [] }) files
 
--- it stands so where the history grows
+-- it stands so when the history grows
 abbrev pub StandingStays : Type 0
 StandingStays = (h : History) (store : StoreState) (held : Held) (files : Files) (more : List Command) → Stands h store held files → Stands (grown h more) store held files
 
@@ -99,7 +99,7 @@ LogStepsOn = (h : History) (store : StoreState) (held : Held) (start : Files) (f
     (staged_after store.log.phase held.staged) file
     → Stands h (record store { log = log_after store.log.phase store.log }) (stepped store.log.phase held) (with_file (log_file store.log.generation) file start)
 
--- the newest log's file changes where the log doesn't rest on it
+-- the newest log's file changes in a part that the log doesn't rest on
 abbrev pub LogStays : Type 0
 LogStays = (h : History) (store : StoreState) (held : Held) (start : Files) (file : File) → Stands h store held start
     → log.Stands store.log (newest_batches held.found.first held.found.second) held.staged file

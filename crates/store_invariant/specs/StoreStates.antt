@@ -19,7 +19,8 @@ use Rattle.store_invariant.specs.States.{StoreState, Held, low_after}
 
 -- ---- what a stop leaves
 
--- whatever a stop may leave of the files stands for a front of the history, of at least and at most so many commands
+-- whatever a stop may leave of the files stands for a front of the history, of at least `least` and at most `most`
+-- commands
 abbrev pub StopsStand : History → ℕ → ℕ → Files → Type 0
 StopsStand h least most files = (contents : Contents) → Leaves files contents → StandsForFront h least most contents
 
@@ -124,7 +125,7 @@ abbrev pub MayCapture : History → Option CheckpointState → List Section → 
 MayCapture h None sections committed = Unit {0}
 MayCapture h (Some w) sections committed = IsCapture h w sections committed
 
--- the log that the next checkpoint goes with, where it is there or is begun, is one of the history
+-- the log that the next checkpoint goes with, if it is there or is begun, is one of the history
 abbrev pub NextLogIsOf : History → Option LogState → Option (List Batch) → ℕ → Type 0
 NextLogIsOf h None None low = Unit {0}
 NextLogIsOf h None (Some second) low = IsLogOf h low (commands_in second)
