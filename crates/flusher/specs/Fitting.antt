@@ -81,7 +81,7 @@ pub record HasStripes {D : Type 0} (n : ℕ) (keeper : Keeper D) : Type 0 where
   pub count : keeper.stripes.count ≡ n
   pub writer : IfSome keeper.checkpoint (λ w. w.stripes ≡ n)
 
--- What the disk holds, where it gives what was written.
+-- What the disk holds, if it gives what was written.
 pub record Stores {D : Type 0} (states : D → List Files) (honest : D → Type 0) (keeper : Keeper D) (p : Record) : Type 0 where
   pub unbroken : keeper.is_broken ≡ false → IsUnbroken (store_of keeper)
   pub works : keeper.is_broken ≡ false → honest keeper.disk → HoldsFor (history_of p) keeper (now (states keeper.disk))

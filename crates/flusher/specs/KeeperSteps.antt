@@ -26,7 +26,7 @@ is_walking Rests = false
 is_walking SweepTakes = true
 is_walking (SweepGives walk) = true
 
--- the first so many tickets are no longer in hand
+-- the first `count` tickets are no longer in hand
 abbrev pub passed : ℕ → Hand → Hand
 passed count hand = record { next = hand.next + count; slots = drop count hand.slots }
 
@@ -73,7 +73,8 @@ looks_of [] = []
 looks_of (Looked count ∷ made) = count ∷ looks_of made
 looks_of (other ∷ made) = looks_of made
 
--- These are steps of a sweep of this count: where it was begun before them there is no LOOK, else there is one, which found the count.
+-- These are steps of a sweep of this count. If it was begun before them, there is no LOOK; else there is one, which
+-- found the count.
 abbrev pub AreOfSweep : Option Sweep → ℕ → List StepMade → Type 0
 AreOfSweep (Some begun) count made = (count ≡ begun.count) × (looks_of made ≡ [])
 AreOfSweep None count made = looks_of made ≡ count ∷ []

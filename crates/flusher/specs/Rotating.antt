@@ -77,9 +77,9 @@ pub record StepsLogs {D : Type 0} (states : D → List Files) (failures : D → 
   pub call : Call
   pub due : call_in (due_of old).phase (due_of old) ≡ Some call
   pub was_honest : honest disk_new → honest disk_old
-  -- where it succeeds, the logs go on, and the phase is that of the log whose call comes next
+  -- if it succeeds, the logs go on, and the phase is that of the log whose call comes next
   pub ok : IfOk result (λ phase. (new ≡ stepped old) × (phase ≡ (due_of new).phase) × Makes states failures (log_file (due_of old).generation) call disk_old disk_new)
-  -- where it fails, nothing of the logs changes but that one has failed
+  -- if it fails, nothing of the logs changes but that one has failed
   pub err : IfErr result (λ refusal. (refusal ≡ Failed) × (new ≡ broken old) × Fails states failures (log_file (due_of old).generation) call disk_old disk_new)
 
 -- once its header is on the disk the newest log is told to end with this generation

@@ -60,7 +60,7 @@ StandsBy n (Some sweep) Rests hand gone p = IsBetween n sweep hand gone p
 StandsBy n (Some sweep) SweepTakes hand gone p = IsBetween n sweep hand gone p
 StandsBy n (Some sweep) (SweepGives walk) hand gone p = IsHolding n sweep walk hand gone p
 
--- The sweeper and the record of its pass, over n stripes, where the commands `gone` are no longer in hand.
+-- The sweeper and the record of its pass, over n stripes, when the commands `gone` are no longer in hand.
 abbrev pub Stands : ℕ → Sweeper → List Command → Record → Type 0
 Stands n sweeper gone p = StandsBy n sweeper.sweep sweeper.walking sweeper.in_hand gone p
 

@@ -15,7 +15,7 @@ use map_types::Refusal;
 use store_invariant::laws::{steps_of_logs, stops_of_a_store};
 
 impl<D: Disk> Keeper<D> {
-    /// From now on this many zeros are written ahead at a time; with 0, as at first, none are. Their
+    /// From now on `count` zeros are written ahead at a time; with 0, as at first, none are. Their
     /// memory is got here. Refused with `NoMemory`.
     pub fn set_ahead(&mut self, count: usize) -> Result<(), Refusal>
         ensures ok { OnOk result (self.new ≡ record self.old { zeros = count }) }
@@ -58,9 +58,9 @@ impl<D: Disk> Keeper<D> {
         }
     }
 
-    /// Writes the zeros behind the closed gate of the newest log, ahead of the batch that is staged, so
-    /// that its frame doesn't lengthen the file. Where that isn't due it makes no device call. After a
-    /// device failure no call is made. It takes no memory.
+    /// Writes the zeros behind the closed gate of the newest log, ahead of the batch that is
+    /// staged, so that its frame doesn't lengthen the file. If that isn't due, it makes no device
+    /// call. After a device failure no call is made. It takes no memory.
     pub fn write_ahead(&mut self) -> Result<(), Refusal>
         // The keeper's invariant holds.
         requires { (n : ℕ) × (done : List Command) × (p : Record)

@@ -19,7 +19,7 @@ use store_invariant::laws::steps_of_logs;
 use store_layout::MOST_LOG_BYTES;
 
 impl<D: Disk> Keeper<D> {
-    // Stages the first so many commands. Where that is refused the same entries are in hand.
+    // Stages the first `count` commands. If that is refused, the same entries are in hand.
     fn stage_run(&mut self, count: u32) -> Result<(), Refusal>
         // `count` commands in hand may be the next batch, and the log rests.
         requires run { (commands : List Command) × IsRun self.old.sweeper.in_hand commands
@@ -69,8 +69,8 @@ impl<D: Disk> Keeper<D> {
         }
     }
 
-    /// Stages the longest run of tickets in hand, from the committed count on, that may be one batch
-    /// of at most `most`, and answers its length. Where there is none, nothing is staged.
+    /// Stages the longest run of tickets in hand, from the committed count on, that may be one
+    /// batch of at most `most` commands, and returns its length. If there is none, it stages none.
     pub fn stage_batch(&mut self, most: u32) -> Result<u32, Refusal>
         // The keeper's invariant holds.
         requires { (n : ℕ) × (done : List Command) × (p : Record)

@@ -85,7 +85,7 @@ impl InHand {
         }
     }
 
-    // Puts the command into the place of its ticket, where it has one.
+    // Puts the command into the place of its ticket, if it has one.
     fn put(&mut self, entry: Entry)
         ensures { Gains self.old (entry ∷ []) self.new }
     {
@@ -158,8 +158,8 @@ impl InHand {
         run_of(limit, room)
     }
 
-    /// Takes the first so many commands out of their places, with their tickets. Where it finds no
-    /// memory they stay.
+    /// Takes the first `count` commands out of their places, with their tickets. If it finds no
+    /// memory, they stay.
     pub fn take_run(&mut self, alloc: Global, count: usize) -> Result<Vec<Entry>, AllocError>
         requires run { (commands : List Command) × IsRun self.old commands
             × (length commands ≡ count) }
@@ -183,7 +183,7 @@ impl InHand {
         Ok(entries)
     }
 
-    /// Goes past the first so many places, whose commands are no longer waited for.
+    /// Goes past the first `count` places, whose commands are no longer waited for.
     pub fn pass(&mut self, count: usize)
         requires fits { self.old.next + count < 2 ^ 64 }
         ensures { self.new ≡ record {
@@ -198,7 +198,7 @@ impl InHand {
     }
 }
 
-// The run of so many commands, whose records leave this much room in a frame.
+// The run of `count` commands, whose records leave `room` bytes in a frame.
 fn run_of(count: u32, room: usize) -> Run
     requires { room ≤ 1048559 }
     ensures count { result.count ≡ count }
@@ -210,8 +210,8 @@ fn run_of(count: u32, room: usize) -> Run
     }
 }
 
-// The least number of places from this ticket on among which each of the entries has one, if there
-// can be so many.
+// The least number of places from this ticket on among which each of the entries has one; `None` if
+// a `usize` doesn't hold that number.
 fn places_for(next: u64, entries: &[Entry]) -> Option<usize>
     ensures { IfSome result (λ len.
         All (λ e. next ≤ e.ticket → e.ticket < next + len) entries.now) }

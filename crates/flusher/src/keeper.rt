@@ -135,7 +135,7 @@ impl<D: Disk> Keeper<D> {
         self.log.committed()
     }
 
-    /// DURABLE with the committed count, which the pass has seen; no step where `fail` was called.
+    /// DURABLE with the committed count, which the pass has seen; no step if `fail` was called.
     pub fn publish<S: Steps>(&mut self, steps: &mut S)
         // The invariant holds, and no sweep is between two of its steps.
         requires fits { (done : List Command)

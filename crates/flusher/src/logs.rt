@@ -219,10 +219,10 @@ impl<D: Disk> Keeper<D> {
         Ok(phase)
     }
 
-    /// Makes the device call that is due in the logs, and no other; where none is due it makes none.
+    /// Makes the device call that is due in the logs, and no other. If none is due, it makes none.
     /// After the last sync of a batch its commands are committed, and no longer in hand. During a
-    /// rotation the header of the log that follows is written, and then the newest one ends. After a
-    /// device failure no call is made. It takes no memory.
+    /// rotation the header of the log that follows is written, and then the newest one ends. After
+    /// a device failure no call is made. It takes no memory.
     pub fn advance(&mut self) -> Result<Phase, Refusal>
         // The keeper's invariant holds.
         requires { (n : ℕ) × (done : List Command) × (p : Record)

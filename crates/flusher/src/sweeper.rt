@@ -273,7 +273,7 @@ impl Sweeper {
     }
 }
 
-// The walk, once there is a place for each entry that it hands out. Where no memory is found, it puts
+// The walk, once there is a place for each entry that it hands out. If no memory is found, it puts
 // the stripe back.
 fn with_room(in_hand: &mut InHand, walk: Walk) -> Walk
     ensures { IsReady in_hand.old in_hand.new walk result }
@@ -284,8 +284,8 @@ fn with_room(in_hand: &mut InHand, walk: Walk) -> Walk
     }
 }
 
-// TAKE of a stripe for a sweep, which has then only its GIVE left and gives the stripe this vector for
-// its outbox; `None` where another holds it.
+// TAKE of a stripe for a sweep, which has then only its GIVE left and gives the stripe this vector
+// for its outbox; `None` if another holds it.
 fn hold<S: Steps>(spare: Vec<Entry>, stripe: usize, steps: &mut S) -> Option<Walk>
     // The keeper's pass holds no stripe, and there is this one.
     requires free { (S.recorded steps.old).holding ≡ None }
@@ -312,7 +312,7 @@ fn hold<S: Steps>(spare: Vec<Entry>, stripe: usize, steps: &mut S) -> Option<Wal
     }
 }
 
-// GIVE of that stripe: the entries that were in its outbox, or `None` where it is put back as it was
+// GIVE of that stripe: the entries that were in its outbox, or `None` if it is put back as it was
 // taken.
 fn hand_out<S: Steps>(walk: Walk, steps: &mut S) -> Option<Vec<Entry>>
     // The walk of a sweep holds its stripe, and has its GIVE left.

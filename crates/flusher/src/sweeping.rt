@@ -19,9 +19,9 @@ use store_layout::laws::laws_of_found;
 use ticket_order::Steps;
 
 impl<D: Disk> Keeper<D> {
-    /// Makes exactly one step of the sweep that the keeper keeps: the LOOK that begins one, or TAKE or
-    /// GIVE of its next stripe. After `Held`, and where no memory was found, the next call tries that
-    /// stripe again.
+    /// Makes exactly one step of the sweep that the keeper keeps: the LOOK that begins one, or TAKE
+    /// or GIVE of its next stripe. After `Held`, and if no memory was found, the next call tries
+    /// that stripe again.
     pub fn sweep_step<S: Steps>(&mut self, steps: &mut S) -> Result<Swept, Refusal>
         // The keeper's invariant holds.
         requires { (done : List Command)
@@ -60,9 +60,9 @@ impl<D: Disk> Keeper<D> {
         self.sweeper.step(steps)
     }
 
-    /// Goes on with the sweep that is begun, or makes a whole one, and answers the count that its LOOK
-    /// found. A stripe that another holds is tried again until it is free. Where no memory is found, the
-    /// stripes before that one are drained, and the next sweep goes on there.
+    /// Goes on with the sweep that is begun, or makes a whole one, and returns the count that its
+    /// LOOK found. A stripe that another holds is tried again until it is free. If no memory is
+    /// found, the stripes before that one are drained, and the next sweep goes on there.
     pub fn sweep<R: Wait, S: Steps>(&mut self, rt: &R, steps: &mut S) -> Result<u64, Refusal>
         // The keeper's invariant holds.
         requires { (done : List Command)
