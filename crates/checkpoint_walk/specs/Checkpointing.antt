@@ -17,7 +17,8 @@ use Rattle.flusher.specs.declared.keeper.Keeper.{Keeper}
 
 -- ---- a checkpoint is begun
 
--- No checkpoint runs, the generation that follows the sealed one has a number, and the log rests where it has to be followed by another.
+-- No checkpoint runs, the generation that follows the sealed one has a number, and the log rests if it has to be
+-- followed by another.
 pub record MayBegin {D : Type 0} (keeper : Keeper D) : Type 0 where
   pub none_runs : keeper.checkpoint ≡ None
   pub no_rotation : keeper.next ≡ None
@@ -94,9 +95,9 @@ KeepsAfter (Err refusal) phase after old new = new ≡ record old { writer = Som
 -- One step of a checkpoint in whose file a device call is due: it makes that call, and no other.
 pub record StepsCheckpoint {D : Type 0} (states : D → List Files) (failures : D → ℕ) (honest : D → Type 0) (call : Call) (w : CheckpointState) (old new : Keeper D) (result : Result CheckpointPhase Refusal) : Type 0 where
   pub was_honest : honest new.disk → honest old.disk
-  -- where it succeeds, the checkpoint goes on
+  -- if it succeeds, the checkpoint goes on
   pub ok : IfOk result (λ phase. (checkpoints_of new ≡ kept_in w.phase (state_after w.phase w) (checkpoints_of old)) × (phase ≡ (state_after w.phase w).phase)
       × Makes states failures (checkpoint_file w.generation) call old.disk new.disk)
-  -- where it fails, nothing of it changes but that it has failed
+  -- if it fails, nothing of it changes but that it has failed
   pub err : IfErr result (λ refusal. (refusal ≡ Failed) × (checkpoints_of new ≡ record (checkpoints_of old) { writer = Some (record w { is_broken = true }) })
       × Fails states failures (checkpoint_file w.generation) call old.disk new.disk)

@@ -142,7 +142,7 @@ pub record MayCapture {D : Type 0} (stripe : ℕ) (keeper : Keeper D) : Type 0 w
   pub works : keeper.is_broken ≡ true → ⊥
   pub next : (IsNextStripe stripe keeper.next keeper.checkpoint → ⊥) → ⊥
 
--- The section of this mark, given behind these, is the part of the next stripe after the first so many commands.
+-- The section of this mark, given behind these, is the part of the next stripe after the first `mark` commands.
 pub record GivesPart {D : Type 0} (states : D → List Files) (n : ℕ) (h : History) (mark : ℕ) (sections : List Section) (new : Keeper D) : Type 0 where
   pub section : Section
   pub mark_is : section.mark ≡ mark

@@ -21,10 +21,10 @@ use map_types::Refusal;
 use store_invariant::laws::{steps_of_checkpoints, stops_of_a_store};
 use store_layout::laws::laws_of_checkpoints;
 
-/// Makes the device call that is due in the file of the checkpoint, and no other, and answers the phase
-/// after it; where none is due it makes none. While the log of the checkpoint is begun none is due.
-/// After the last sync of a seal the checkpoint is the sealed one, and none runs. After a device
-/// failure no call is made. It takes no memory.
+/// Makes the device call that is due in the file of the checkpoint, and no other, and returns the
+/// phase after it. If none is due, it makes none. While the log of the checkpoint is begun, none is
+/// due. After the last sync of a seal the checkpoint is the sealed one, and none runs. After a
+/// device failure no call is made. It takes no memory.
 pub fn advance<D: Disk>(keeper: &mut Keeper<D>) -> Result<CheckpointPhase, Refusal>
     // The keeper's invariant holds.
     requires { (n : ℕ) × (done : List Command) × (p : Record)

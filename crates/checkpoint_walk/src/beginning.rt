@@ -16,9 +16,9 @@ use gate_log::GateLog;
 use map_types::Refusal;
 use store_invariant::laws::steps_of_checkpoints;
 
-/// Begins the checkpoint that follows the sealed one. Where the newest log is still that of the sealed
-/// one, the log of the checkpoint is begun with it, and the keeper's next six calls of `advance` write
-/// its header and end the newest one. It makes no device call and takes no memory.
+/// Begins the checkpoint that follows the sealed one. If the newest log is still that of the sealed
+/// one, the log of the checkpoint is begun with it. The keeper's next six calls of `advance` then
+/// write its header and end the newest one. It makes no device call and takes no memory.
 pub fn begin<D: Disk>(keeper: &mut Keeper<D>) -> Result<(), Refusal>
     // The keeper's invariant holds.
     requires { (n : ℕ) × (done : List Command) × (p : Record)

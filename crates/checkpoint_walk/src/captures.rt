@@ -22,10 +22,11 @@ use std::sync::Wait;
 use store_invariant::laws::steps_of_checkpoints;
 use ticket_order::{Stepped, Steps, Walk};
 
-/// Makes exactly one step of a capture: TAKE of the stripe whose section is the next, LOOK, or GIVE. With
-/// its GIVE the section is given to the checkpoint, and its mark is answered. Before its first step it
-/// may be refused, with `Failed` or `WrongPhase`, and makes no step then. After any other refusal the
-/// capture is over. A capture that is under way goes on, whatever stripe is named.
+/// Makes exactly one step of a capture: TAKE of the stripe whose section is the next, LOOK, or
+/// GIVE. With its GIVE the section is given to the checkpoint, and its mark is returned. Before its
+/// first step it may be refused, with `Failed` or `WrongPhase`, and makes no step then. After any
+/// other refusal the capture is over. A capture that is under way goes on, whatever stripe is
+/// named.
 pub fn capture_step<D: Disk, S: Steps>(
     keeper: &mut Keeper<D>,
     stripe: usize,
@@ -170,8 +171,8 @@ fn go_on<D: Disk, S: Steps>(
     }
 }
 
-/// Captures the stripe whose section is the next, by TAKE, LOOK and GIVE, gives the section to the
-/// checkpoint, and answers its mark. It doesn't wait for a stripe that another holds.
+/// Captures the stripe whose section is the next, by TAKE, LOOK and GIVE. It gives the section to
+/// the checkpoint, and returns its mark. It doesn't wait for a stripe that another holds.
 pub fn try_capture<D: Disk, S: Steps>(
     keeper: &mut Keeper<D>,
     stripe: usize,

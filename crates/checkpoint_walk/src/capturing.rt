@@ -10,7 +10,7 @@ use map_types::Refusal;
 use std::alloc::Global;
 use ticket_order::{Captured, Stepped, Steps, Walk};
 
-// TAKE of the stripe; `None` where another holds it.
+// TAKE of the stripe; `None` if another holds it.
 pub(crate) fn hold<S: Steps>(alloc: Global, stripe: usize, steps: &mut S) -> Option<Walk>
     // The pass holds no stripe, and there is this one.
     requires free { (S.recorded steps.old).holding ≡ None }

@@ -48,7 +48,7 @@ pub(crate) fn check<D: Disk>(keeper: &Keeper<D>, stripe: usize) -> Result<(), Re
     Ok(())
 }
 
-// Gives what was copied to the checkpoint. Where no memory is found for its bytes, the walk puts the
+// Gives what was copied to the checkpoint. If no memory is found for its bytes, the walk puts the
 // stripe back.
 fn stage(writer: &mut CheckpointWriter, walk: Walk) -> Walk
     requires { TakesSection writer.old }
