@@ -19,7 +19,7 @@ abbrev pub greatest_of : List ℕ → ℕ
 greatest_of [] = 0
 greatest_of (mark ∷ marks) = max mark (greatest_of marks)
 
--- of these changes, the commands that are in no section of so many stripes with these marks
+-- of these changes, the commands that are in no section of `stripes` stripes with these marks
 abbrev pub counted_of : ℕ → List ℕ → List Entry → List Command
 counted_of stripes marks [] = []
 counted_of stripes marks (entry ∷ entries) =

@@ -10,12 +10,12 @@ use Rattle.bin_table.specs.Chains.{Entries, HasDistinctKeys}
 use Rattle.atomic_methods.specs.PartState.{PartState}
 use Rattle.one_history.specs.OneHistory.{AreParts}
 
--- these are the parts of the map, one for each of so many stripes in order
+-- these are the parts of the map, one for each of `stripes` stripes in order
 pub record IsDivided (stripes : ℕ) (m : Map) (parts : List PartState) : Type 0 where
   pub maps : map (λ part. part.map) parts ≡ parts_of stripes m
   pub laid : AllByRecursion (λ part. part.growth.stripes ≡ stripes) parts
 
--- one part for each of so many stripes in order, with keys of that stripe alone
+-- one part for each of `stripes` stripes in order, with keys of that stripe alone
 pub record ArePartsOf (stripes : ℕ) (parts : List PartState) : Type 0 where
   pub one_each : length parts ≡ stripes
   pub own : AreParts stripes parts
@@ -29,7 +29,7 @@ pub record IsGroup (stripes stripe : ℕ) (m : Map) (group : Entries) : Type 0 w
 abbrev pub lists_of : Vec (Vec (List ℕ × Value)) → List Entries
 lists_of lists = map (λ list. list.items) lists.items
 
--- the entries of the map, one list for each of so many stripes in order
+-- the entries of the map, one list for each of `stripes` stripes in order
 pub record AreGroups (stripes : ℕ) (m : Map) (groups : List Entries) : Type 0 where
   pub one_each : length groups ≡ stripes
   pub each : (stripe : ℕ) → stripe < stripes → IsGroup stripes stripe m (get_or groups stripe [])

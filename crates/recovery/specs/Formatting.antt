@@ -18,11 +18,11 @@ IsUnformatted contents = (is_sealed (contents 0) ≡ false) × (is_sealed (conte
 abbrev pub IsFormatted : Contents → Type 0
 IsFormatted contents = (is_sealed (contents 0) ≡ true) ⊎ (is_sealed (contents 1) ≡ true)
 
--- what an opening finds in a new store of so many stripes: its first checkpoint, and no batch behind it
+-- what an opening finds in a new store of `stripes` stripes: its first checkpoint, and no batch behind it
 abbrev pub first_opened : ℕ → Opened
 first_opened stripes = record { checkpoint = first_checkpoint stripes; first = []; second = None }
 
--- the files hold what a new store of so many stripes does, and so stand for no command and the empty map
+-- the files hold what a new store of `stripes` stripes does, and so stand for no command and the empty map
 pub record IsNew (stripes : ℕ) (contents : Contents) : Type 0 where
   pub holds : Holds contents (first_opened stripes)
   pub stands : StandsFor contents 0 finite.empty

@@ -40,7 +40,7 @@ pub record EndsAt (generation low : ℕ) (content : List ℕ) (last : ℕ) : Typ
   pub ends : IsEnd end generation low batches content
   pub gate : last ≡ end_gate end (gate_behind first_layout generation low batches)
 
--- so many batches were read, and their changes were made
+-- at least `count` batches were read, and their changes were made
 pub record IsReading (low : ℕ) (content : List ℕ) (before : Restoring) (scan : ScanState) (count : ℕ) (after : Restoring) : Type 0 where
   pub batches : List Batch
   pub read : HasRead first_layout low batches scan content

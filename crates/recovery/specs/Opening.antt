@@ -19,7 +19,7 @@ abbrev pub files_calls : Opened → ℕ
 files_calls found =
     2 + checkpoint_calls (length (sections_bytes first_layout found.checkpoint.sections)) + logs_calls found.checkpoint found.first found.second
 
--- the map of this checkpoint and its logs, divided for so many stripes
+-- the map of this checkpoint and its logs, divided for `stripes` stripes
 pub record IsRestored (contents : Contents) (k : Checkpoint) (stripes : ℕ) (found : Restored) : Type 0 where
   pub first : List Batch
   pub second : Option (List Batch)
@@ -30,8 +30,8 @@ pub record IsRestored (contents : Contents) (k : Checkpoint) (stripes : ℕ) (fo
   pub committed : found.log.committed ≡ k.low + length (logged_by first second)
   pub divided : IsDivided stripes (restored k.stripes k.sections k.low (logged_by first second)) found.parts.items
 
--- These are the parts of the map that the files stand for, one for each of so many stripes; the checkpoint that was used; and the newest log,
--- which goes on behind its last batch, up to which so many commands are committed.
+-- These are the parts of the map that the files stand for, one for each of `stripes` stripes; the checkpoint that was
+-- used; and the newest log. That goes on behind its last batch, and the commands up to there are committed.
 pub record IsOpened (contents : Contents) (stripes : ℕ) (restored : Restored) : Type 0 where
   pub found : Opened
   pub holds : Holds contents found
@@ -40,8 +40,8 @@ pub record IsOpened (contents : Contents) (stripes : ℕ) (restored : Restored) 
   pub committed : restored.log.committed ≡ prefix_of found
   pub divided : IsDivided stripes (map_of found) restored.parts.items
 
--- These are the parts of the map that the files stand for after so many first commands, one for each of so many stripes; the keeper knows the
--- checkpoint that is used, and goes on behind the last batch of the newest log.
+-- These are the parts of the map that the files stand for after the first `first` commands, one for each of `stripes`
+-- stripes. The keeper knows the checkpoint that is used, and goes on behind the last batch of the newest log.
 pub record IsOpenedAs {D : Type 0} (contents : Contents) (stripes : ℕ) (keeper : Keeper D) (parts : List PartState) (first : ℕ) : Type 0 where
   pub found : Opened
   pub holds : Holds contents found
@@ -50,8 +50,8 @@ pub record IsOpenedAs {D : Type 0} (contents : Contents) (stripes : ℕ) (keeper
   pub first_is : first ≡ prefix_of found
   pub divided : IsDivided stripes (map_of found) parts
 
--- The keeper has done nothing yet: so many commands are committed and published, none is in hand or staged, and neither a sweep, a rotation
--- nor a checkpoint is under way.
+-- The keeper has done nothing yet. The first `first` commands are committed and published, none is in hand or staged,
+-- and neither a sweep, a rotation nor a checkpoint is under way.
 pub record IsAtStart {D : Type 0} (stripes : StripeCount) (first : ℕ) (keeper : Keeper D) : Type 0 where
   pub resumed : IsResumed keeper.log
   pub committed : keeper.log.committed ≡ first

@@ -6,25 +6,25 @@ use Rattle.map_types.specs.declared.refusals.Refusal.{Refusal}
 use Rattle.map_types.specs.declared.refusals.Refusal.TheVariants.{Failed}
 use Rattle.gate_log.specs.Scan.{failed_in}
 
--- the states after the first so many files were synced, the newest first
+-- the states after the first n files were synced, the newest first
 abbrev pub states_synced : ℕ → List Files → List Files
 states_synced zero past = past
 states_synced (suc n) past =
     with_file n (synced (now (states_synced n past) n)) (now (states_synced n past)) ∷ states_synced n past
 
--- the first so many files were synced, with a device call each, and nothing else was done
+-- the first `count` files were synced, with a device call each, and nothing else was done
 pub record AfterSyncs {D : Type 0} (states : D → List Files) (failures : D → ℕ) (count : ℕ) (old new : D) : Type 0 where
   pub states_are : states new ≡ states_synced count (states old)
   pub counted : failures new ≡ failures old
 
--- the sync of one of the first so many files failed, and those before it were synced
+-- the sync of one of the first `most` files failed, and those before it were synced
 pub record StoppedSyncing {D : Type 0} (states : D → List Files) (failures : D → ℕ) (most : ℕ) (old new : D) : Type 0 where
   pub count : ℕ
   pub few : count < most
   pub states_are : states new ≡ now (states_synced count (states old)) ∷ states_synced count (states old)
   pub counted : failures new ≡ failures old + 1
 
--- the first so many files were synced, and then the files were only looked at: so many of these calls failed
+-- the first `most` files were synced, and then the files were only looked at; `failed` of these calls failed
 pub record SyncsAndLooks {D : Type 0} (states : D → List Files) (failures : D → ℕ) (honest : D → Type 0) (most failed : ℕ) (old new : D) : Type 0 where
   pub mid : D
   pub synced : AfterSyncs states failures most old mid

@@ -61,8 +61,8 @@ fn make_store<D: Disk>(alloc: Global, disk: &mut D, bytes: &[u8]) -> Result<(), 
     seal(disk, bytes)
 }
 
-/// Makes the directory that of an empty map, divided for so many stripes, if no checkpoint is sealed in
-/// it. All memory is taken before the first write.
+/// Makes the directory that of an empty map, divided for `stripes` stripes, if no checkpoint is
+/// sealed in it. All memory is taken before the first write.
 pub fn format<D: Disk>(alloc: Global, disk: &mut D, stripes: StripeCount) -> Result<(), Refusal>
     // An honest disk was so before. A call failed exactly if it is `Failed`.
     ensures was_honest { D.honest disk.new → D.honest disk.old }

@@ -60,8 +60,8 @@ fn read_log<D: Disk>(
     Ok((end, log))
 }
 
-/// Makes the changes of the log of this generation, and where that has ended those of the next. The
-/// newest of the two is the answer.
+/// Makes the changes of the log of this generation and, if that has ended, those of the next.
+/// Returns the newest of the two.
 pub(crate) fn read_logs<D: Disk>(
     alloc: Global,
     disk: &mut D,

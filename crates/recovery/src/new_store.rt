@@ -62,7 +62,7 @@ fn sync<D: Disk>(disk: &mut D) -> Result<(), Refusal>
     }
 }
 
-/// Closes the gate of file 0, where it reads open or there is none, and syncs the file.
+/// Closes the gate of file 0, if it reads open or there is none, and syncs the file.
 pub(crate) fn close_gate<D: Disk>(disk: &mut D) -> Result<(), Refusal>
     // An honest disk was so before. The only error is one failed call.
     ensures was_honest { D.honest disk.new → D.honest disk.old }

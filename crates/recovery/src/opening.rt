@@ -91,7 +91,7 @@ fn restore_from<D: Disk>(
     })
 }
 
-// Restores the map that the files stand for, divided for so many stripes, and looks at the files
+// Restores the map that the files stand for, divided for `stripes` stripes, and looks at the files
 // alone.
 fn restore<D: Disk>(alloc: Global, disk: &mut D, stripes: StripeCount) -> Result<Restored, Refusal>
     // The disk is only looked at: `files_calls` times, at most if refused.
@@ -188,10 +188,10 @@ fn open_files<D: Disk>(
     read_files(alloc, disk, stripes)
 }
 
-/// Opens the directory: syncs its files, and restores the map that they stand for, divided for so many
-/// stripes. It answers a keeper over the directory, the parts of the map in the order of their stripes,
-/// and how many commands were made. It writes nothing, and besides the map it holds one section or one
-/// frame at a time. The disk is handed back with a refusal.
+/// Opens the directory: syncs its files, and restores the map that they stand for, divided for
+/// `stripes` stripes. It returns a keeper over the directory, the parts of the map in the order of
+/// their stripes, and how many commands were made. It writes nothing. Besides the map it holds one
+/// section or one frame at a time. The disk is handed back with a refusal.
 pub fn open_parts<D: Disk>(
     alloc: Global,
     mut disk: D,

@@ -38,7 +38,7 @@ fn marks_of(alloc: Global, sections: &[LoadedSection]) -> Result<Vec<u64>, Refus
     Ok(marks)
 }
 
-/// The greatest of the marks; 0 where there is none.
+/// The greatest of the marks; 0 if there is none.
 pub(crate) fn greatest_of(marks: &[u64]) -> u64
     ensures { result ≡ greatest_of marks.now }
 {

@@ -6,7 +6,7 @@ ghost use Rattle.recovery.specs.Syncing.{AfterSyncs, StoppedSyncing};
 use disk_model::Disk;
 use map_types::Refusal;
 
-/// Syncs the first so many files in their order.
+/// Syncs the first `count` files in their order.
 pub(crate) fn sync_files<D: Disk>(disk: &mut D, count: usize) -> Result<(), Refusal>
     requires { count ≤ 4 }
     ensures ok { OnOk result (AfterSyncs D.states D.failures count disk.old disk.new) }
