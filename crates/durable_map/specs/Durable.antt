@@ -1,4 +1,4 @@
--- What a call leaves of the record of its pass that answers once its position is durable.
+-- What a call that returns once its position is durable leaves of the record of its pass.
 use Rattle.std.specs.Prelude.{◌≡◌, ◌⊎◌, ℕ, ◌<◌, ◌≤◌, List, [], ◌∷◌, ◌++◌, false, Result, Ok, Err}
 use Rattle.map_types.specs.declared.commands.Reply.{Reply}
 use Rattle.map_types.specs.declared.refusals.Refusal.{Refusal}
@@ -85,8 +85,8 @@ pub record IsMadeFirst (v : Record) (asked : Asked) (position : ℕ) (reply : Re
   pub after : List StepMade
   pub steps : GrewBy at after w
 
--- The record grew by this call alone, which was made by its steps: a change's position is past all that the pass had seen, and a read's is no less;
--- the reply is legal there, and the position was durable when the call answered.
+-- The record grew by this call alone, which was made by its steps. A change's position is past all that the pass had
+-- seen, and a read's is no less. The reply is legal there, and the position was durable when the call returned.
 pub record AnswersCall (v : Record) (asked : Asked) (reply : Reply) (w : Record) : Type 0 where
   pub position : ℕ
   pub grew : GrewByCall v position asked reply w
@@ -137,13 +137,13 @@ abbrev pub AddsBegun : Record → Asked → Result Held Refusal → Record → T
 AddsBegun v asked (Ok held) w = HoldsCall v asked held w
 AddsBegun v asked (Err refusal) w = RefusesCall v asked refusal w × (w.calls ≡ v.calls)
 
--- What the beginning of a call leaves. Whatever it answers, the pass goes on from what it was.
+-- What the beginning of a call leaves. Whatever it returns, the pass goes on from what it was.
 pub record Begins (v : Record) (asked : Asked) (result : Result Held Refusal) (w : Record) : Type 0 where
   pub goes_on : GoesOnByCalls v w
   pub adds : AddsBegun v asked result w
 
--- How a call ends that was made with this reply: it is given out once its position was found durable; or the answer is `Failed`, once the store has
--- failed before that.
+-- How a call ends that was made with this reply: it is given out once its position was found durable; or `Failed` is
+-- returned, once the store has failed before that.
 abbrev pub EndsWith : Record → ℕ → Reply → Result Reply Refusal → Record → Type 0
 EndsWith v position reply (Ok given) w = (given ≡ reply) × EndsDurable v position w
 EndsWith v position reply (Err refusal) w = (refusal ≡ Failed) × EndsFailed v position w
@@ -177,7 +177,8 @@ abbrev pub Adds : Record → Asked → Result Reply Refusal → Record → Type 
 Adds v asked (Ok reply) w = AnswersCall v asked reply w
 Adds v asked (Err refusal) w = RefusesCall v asked refusal w
 
--- What a call leaves. Whatever it answers, the pass goes on from what it was, so that calls of one pass are calls of one history.
+-- What a call leaves. Whatever it returns, the pass goes on from what it was, so that calls of one pass are calls of
+-- one history.
 pub record Completes (v : Record) (asked : Asked) (result : Result Reply Refusal) (w : Record) : Type 0 where
   pub goes_on : GoesOnByCalls v w
   pub adds : Adds v asked result w

@@ -27,7 +27,7 @@ abbrev pub CapturesStand : ℕ → History → Option CheckpointState → Files 
 CapturesStand n h None files = Unit {0}
 CapturesStand n h (Some w) files = HasCaptured n h w files
 
--- the checkpoint of this generation is sealed, and so many commands reach its greatest mark
+-- the checkpoint of this generation is sealed, and `committed` commands reach its greatest mark
 pub record IsSealedWithin (generation committed : ℕ) (files : Files) : Type 0 where
   pub checkpoint : Checkpoint
   pub generation_is : checkpoint.generation ≡ generation

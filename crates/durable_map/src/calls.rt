@@ -1,4 +1,5 @@
-//! Whole calls: each answers once its position is durable. And calls that are begun, and finished later.
+//! Whole calls: each returns once its position is durable. And calls that are begun, and finished
+//! later.
 ghost use Rattle.std.specs.Prelude.{IfOk};
 ghost use Rattle.ticket_order.specs.declared.record.Asked.TheVariants.{Changing, Reading};
 ghost use Rattle.stripe_locks.specs.Passes.{recorded, IsSamePass};
@@ -88,10 +89,10 @@ impl<D: Disk + Drop> DurableMap<D> {
         unreachable!()
     }
 
-    /// Makes a change, and answers once it is durable.
+    /// Makes a change, and returns once it is durable.
     ///
-    /// `Failed` where the store has failed: the change was made or not, and may be found again or not
-    /// once the directory is opened anew. `TicketsSpent` where 2^62 changes were made. `NoMemory`.
+    /// `Failed` if the store has failed: the change was made or not, and may be found again or not
+    /// once the directory is opened anew. `TicketsSpent` if 2^62 changes were made. `NoMemory`.
     pub fn change<R: Wait>(
         &self,
         rt: &R,
@@ -110,9 +111,9 @@ impl<D: Disk + Drop> DurableMap<D> {
         }
     }
 
-    /// Makes a read, and answers once each change that it has seen is durable.
+    /// Makes a read, and returns once each change that it has seen is durable.
     ///
-    /// `Failed` where the store has failed. `NoMemory`.
+    /// `Failed` if the store has failed. `NoMemory`.
     pub fn read<R: Wait>(&self, rt: &R, pass: &mut Pass, read: Read) -> Result<Reply, Refusal>
         requires { IsReady self.now pass.old }
         ensures completes { Completes (recorded pass.old) (Reading read) result

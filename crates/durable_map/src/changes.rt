@@ -1,5 +1,5 @@
-//! The ten changes of Java 17's `ConcurrentMap`, each answered once it is durable. What they are refused
-//! for is told at `change`.
+//! The ten changes of Java 17's `ConcurrentMap`; each returns once it is durable. What they are
+//! refused for is told at `change`.
 ghost use Rattle.std.specs.Prelude.{◌≡◌};
 ghost use Rattle.map_types.specs.declared.commands.Change.TheVariants.{Put, PutIfAbsent, Remove, RemoveIf, Replace, ReplaceIf, Compute, ComputeIfAbsent, ComputeIfPresent, Merge};
 ghost use Rattle.ticket_order.specs.declared.record.Asked.TheVariants.{Changing};

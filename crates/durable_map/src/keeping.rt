@@ -48,7 +48,7 @@ pub(crate) fn sweep<D: Disk, S: Steps>(keeper: &mut Keeper<D>, stripe: usize, st
     what_is_kept(keeper);
 }
 
-/// Stages the longest batch of at most `most` commands, and answers its length.
+/// Stages the longest batch of at most `most` commands, and returns its length.
 pub(crate) fn stage<D: Disk>(keeper: &mut Keeper<D>, most: u32) -> Result<u32, Refusal>
     requires keeps { (n : ℕ) × (p : Record) × Keeps D.states D.honest n keeper.old p }
     ensures keeps { (n : ℕ) (p : Record) → Keeps D.states D.honest n keeper.old p
@@ -60,7 +60,7 @@ pub(crate) fn stage<D: Disk>(keeper: &mut Keeper<D>, most: u32) -> Result<u32, R
     staged
 }
 
-/// Writes zeros ahead of the staged batch, where that is due.
+/// Writes zeros ahead of the staged batch, if that is due.
 pub(crate) fn write_ahead<D: Disk>(keeper: &mut Keeper<D>) -> Result<(), Refusal>
     requires keeps { (n : ℕ) × (p : Record) × Keeps D.states D.honest n keeper.old p }
     ensures keeps { (n : ℕ) (p : Record) → Keeps D.states D.honest n keeper.old p
@@ -170,7 +170,7 @@ pub(crate) fn advance_checkpoint<D: Disk>(
     stepped
 }
 
-/// From now on this many zeros are written ahead at a time; with 0 none are.
+/// From now on `count` zeros are written ahead at a time; with 0 none are.
 pub(crate) fn set_ahead<D: Disk>(keeper: &mut Keeper<D>, count: usize) -> Result<(), Refusal>
     ensures keeps { (n : ℕ) (p : Record) → Keeps D.states D.honest n keeper.old p
         → Keeps D.states D.honest n keeper.new p }

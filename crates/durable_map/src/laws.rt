@@ -8,8 +8,9 @@ ghost use Rattle.ticket_order.specs.declared.record.Record.{Record};
 ghost use Rattle.stripe_locks.specs.declared.held.Held.{Held};
 ghost use Rattle.durable_map.specs.Durable.{Begins, Completes, CompletesAmong, Finishes, FollowEachOther, GoesOnWith};
 
-/// Calls of one pass are calls of one history: of two that were answered, one after the other, both
-/// replies are legal in what the pass has seen at last, and the second stands behind the first.
+/// Calls of one pass are calls of one history. If two of them returned replies, one after the
+/// other, both replies are legal in what the pass has seen at last, and the second stands behind
+/// the first.
 pub fn calls_follow_each_other()
     ensures { (v u w : Record) (first second : Asked) (one other : Reply)
         → Completes v first (Ok one) u → Completes u second (Ok other) w

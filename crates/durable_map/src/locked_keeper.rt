@@ -106,7 +106,7 @@ impl<D: Disk> LockedKeeper<D> {
         }
     }
 
-    // Stages the longest batch of what is in hand, and answers its length.
+    // Stages the longest batch of what is in hand, and returns its length.
     fn stage(&mut self) -> Result<u32, Refusal> {
         let staged = keeping::stage(&mut self.keeper, MOST_COMMANDS);
         if matches!(staged, Err(Refusal::LogFull)) {
@@ -115,7 +115,7 @@ impl<D: Disk> LockedKeeper<D> {
         staged
     }
 
-    // Writes zeros ahead of the staged batch, where that is due.
+    // Writes zeros ahead of the staged batch, if that is due.
     fn write_ahead(&mut self) -> Result<(), Refusal> {
         keeping::write_ahead(&mut self.keeper)
     }
@@ -148,9 +148,9 @@ impl<D: Disk> LockedKeeper<D> {
         }
     }
 
-    /// A turn of the log: where no device call is due, it takes what the marked stripes have, or what all
-    /// have, and stages a batch, ahead of which it may write zeros; else it makes the call, and publishes
-    /// what that committed.
+    /// A turn of the log. If no device call is due, it takes what the marked stripes have, or what
+    /// all have, and stages a batch, ahead of which it may write zeros. Else it makes the call, and
+    /// publishes what that committed.
     pub(crate) fn flush(&mut self, sweeps_all: bool) -> Result<Turn, Refusal> {
         if self.is_resting() {
             self.gather(sweeps_all);
@@ -168,8 +168,8 @@ impl<D: Disk> LockedKeeper<D> {
         Ok(Turn::Worked)
     }
 
-    // Begins a checkpoint if the newest log has at least so many bytes, and wakes the loop of the log,
-    // which begins another log.
+    // Begins a checkpoint if the newest log has at least `bytes` bytes, and wakes the loop of the
+    // log, which begins another log.
     fn begin_checkpoint(&mut self, bytes: u64) -> Result<Turn, Refusal> {
         let length = self.keeper.log.gate() as u64 + 1;
         if length < bytes {
@@ -202,10 +202,10 @@ impl<D: Disk> LockedKeeper<D> {
         Ok(Turn::Worked)
     }
 
-    /// A turn of the checkpoints: where none runs, one is begun once the newest log has at least so many
-    /// bytes; else it makes the device call that is due in its file, captures its next stripe, or seals
-    /// it. While its log is begun it waits for the turns of the log. Refused with `Failed` once a device
-    /// call has failed or a FAIL was made.
+    /// A turn of the checkpoints. If none runs, one is begun once the newest log has at least
+    /// `bytes` bytes. Else it makes the device call that is due in its file, captures its next
+    /// stripe, or seals it. While its log is begun it waits for the turns of the log. Refused with
+    /// `Failed` once a device call has failed or a FAIL was made.
     pub(crate) fn checkpoint(&mut self, bytes: u64) -> Result<Turn, Refusal> {
         if self.keeper.is_broken || self.keeper.has_failed {
             return Err(Refusal::Failed);
@@ -226,7 +226,7 @@ impl<D: Disk> LockedKeeper<D> {
         self.seal_checkpoint()
     }
 
-    /// From now on this many zeros are written ahead of a batch at a time; with 0 none are.
+    /// From now on `count` zeros are written ahead of a batch at a time; with 0 none are.
     pub(crate) fn set_ahead(&mut self, count: usize) -> Result<(), Refusal>
         ensures { IfErr result (λ refusal. refusal ≡ Refusal.NoMemory) }
     {

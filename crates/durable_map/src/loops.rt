@@ -103,11 +103,11 @@ pub fn flush_loop<D: Disk + Drop, E: Ends, R: Wait>(
     unreachable!()
 }
 
-/// Writes a checkpoint whenever the newest log has at least so many bytes, until `ends` says so. It holds
-/// the lock over one device call at most, so that batches are committed between its calls. It needs
-/// `flush_loop` on another thread. If a device call has failed, or a stripe has too many entries for a
-/// checkpoint, it makes a FAIL and returns `Failed` or `LogFull`. What it is refused for want of memory,
-/// because a stripe is held, or because it comes too early, is tried again.
+/// Writes a checkpoint whenever the newest log has at least `bytes` bytes, until `ends` says so. It
+/// holds the lock over one device call at most, so that batches are committed between its calls. It
+/// needs `flush_loop` on another thread. If a device call has failed, or a stripe has too many
+/// entries for a checkpoint, it makes a FAIL and returns `Failed` or `LogFull`. What it is refused
+/// for want of memory, because a stripe is held, or because it comes too early, is tried again.
 pub fn checkpoint_loop<D: Disk + Drop, E: Ends, R: Wait>(
     rt: &R,
     map: &DurableMap<D>,

@@ -33,9 +33,9 @@ pub struct DurableMap<D: Disk + Drop> {
 }
 
 impl<D: Disk + Drop> DurableMap<D> {
-    /// A map over what `open_parts` of `recovery` answers: the keeper of a directory, the parts of the
-    /// map that it stands for, and how many commands were made. Refused with `NoMemory`, or with
-    /// `SeatsSpent` where the keeper's pass can't be had; the disk is handed back.
+    /// A map over what `open_parts` of `recovery` returns: the keeper of a directory, the parts of
+    /// the map that it stands for, and how many commands were made. Refused with `NoMemory`, or
+    /// with `SeatsSpent` if the keeper's pass can't be had; the disk is handed back.
     pub fn new(
         alloc: Global,
         keeper: Keeper<D>,
@@ -102,7 +102,7 @@ impl<D: Disk + Drop> DurableMap<D> {
         self.stripes.look(pass)
     }
 
-    /// Makes one LOOK, and says whether it reached the position. Where it did, the pass has seen the
+    /// Makes one LOOK, and says whether it reached the position. If it did, the pass has seen the
     /// position from then on.
     pub fn learn(&self, pass: &mut Pass, position: Position) -> bool
         requires { IsPassOf self.now pass.old }
@@ -113,7 +113,7 @@ impl<D: Disk + Drop> DurableMap<D> {
         self.stripes.learn(pass, position)
     }
 
-    /// Gives the reply out where its position is durable. It takes no memory and doesn't wait.
+    /// Gives the reply out if its position is durable. It takes no memory and doesn't wait.
     pub fn release(&self, pass: &mut Pass, held: Held) -> Released
         requires own { IsPassOf self.now pass.old }
         requires held { IsHeldOf self.now held }
@@ -125,9 +125,9 @@ impl<D: Disk + Drop> DurableMap<D> {
         self.stripes.release(pass, held)
     }
 
-    /// From now on this many zeros are written ahead of a batch at a time, once a log has 65,536 bytes, so
-    /// that most batches don't lengthen its file. With 0, as at first, none are. Their memory is got here.
-    /// Refused with `NoMemory`, and then nothing is changed.
+    /// From now on `count` zeros are written ahead of a batch at a time, once a log has 65,536
+    /// bytes, so that most batches don't lengthen its file. With 0, as at first, none are. Their
+    /// memory is got here. Refused with `NoMemory`, and then nothing is changed.
     pub fn set_log_ahead<R: Wait>(&self, rt: &R, count: usize) -> Result<(), Refusal>
         ensures { IfErr result (λ refusal. refusal ≡ Refusal.NoMemory) }
     {

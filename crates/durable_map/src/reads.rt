@@ -1,5 +1,5 @@
-//! The three reads of Java 17's `ConcurrentMap`, each answered once what it has seen is durable. What they
-//! are refused for is told at `read`.
+//! The three reads of Java 17's `ConcurrentMap`; each returns once what it has seen is durable.
+//! What they are refused for is told at `read`.
 ghost use Rattle.std.specs.Prelude.{◌≡◌};
 ghost use Rattle.map_types.specs.declared.commands.Question.TheVariants.{Get, GetOrDefault, ContainsKey};
 ghost use Rattle.ticket_order.specs.declared.record.Asked.TheVariants.{Reading};

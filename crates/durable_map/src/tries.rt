@@ -14,8 +14,8 @@ use map_types::{Change, Command, Func, Key, Question, Read, Refusal, Value};
 use stripe_locks::{Held, Pass};
 
 impl<D: Disk + Drop> DurableMap<D> {
-    /// Makes a change, unless another pass holds the stripe of its key (`Busy`). `Failed` where the
-    /// store has failed, `TicketsSpent` where 2^62 changes were made, and `NoMemory`: then nothing was
+    /// Makes a change, unless another pass holds the stripe of its key (`Busy`). `Failed` if the
+    /// store has failed, `TicketsSpent` if 2^62 changes were made, and `NoMemory`: then nothing was
     /// changed.
     pub fn try_change(&self, pass: &mut Pass, command: Command) -> Result<Held, Refusal>
         requires { IsReady self.now pass.old }
@@ -29,8 +29,8 @@ impl<D: Disk + Drop> DurableMap<D> {
         tried
     }
 
-    /// Makes a read, unless another pass holds the stripe of its key (`Busy`). `Failed` where the store
-    /// has failed, and `NoMemory`.
+    /// Makes a read, unless another pass holds the stripe of its key (`Busy`). `Failed` if the
+    /// store has failed, and `NoMemory`.
     pub fn try_read(&self, pass: &mut Pass, read: Read) -> Result<Held, Refusal>
         requires { IsReady self.now pass.old }
         ensures tries { Tries self.now (recorded pass.old) (Reading read) result
