@@ -44,8 +44,8 @@ pub record Captures (n : ℕ) (v : Record) (marks : List ℕ) (w : Record) : Typ
   pub legal : AllLegalSections n w sections
   pub rising : Rising (reach v) marks (reach w)
 
--- A view of all stripes was answered: that of the history at the marks of the sections that were captured. The last step is a SEE that reached the
--- greatest mark, so that all marks are durable.
+-- A view of all stripes was returned: that of the history at the marks of the sections that were captured. The last
+-- step is a SEE that reached the greatest mark, so that all marks are durable.
 pub record AnswersView (n : ℕ) (v : Record) (view : ViewState) (w : Record) : Type 0 where
   pub captures : Captures n v view.marks w
   pub whole : length view.marks ≡ n
@@ -72,7 +72,8 @@ AddsView n v (Err NoMemory) w = LacksMemory n v w
 AddsView n v (Err Failed) w = FindsFailure n v w
 AddsView n v (Err other) w = ⊥
 
--- What a view leaves. Whatever it answers, it adds no call, and the pass goes on from what it was, so that its calls stay those of one history.
+-- What a view leaves. Whatever it returns, it adds no call, and the pass goes on from what it was, so that its calls
+-- stay those of one history.
 pub record CompletesView (n : ℕ) (v : Record) (result : Result ViewState Refusal) (w : Record) : Type 0 where
   pub beside : IsBeside v w
   pub calls : w.calls ≡ v.calls
