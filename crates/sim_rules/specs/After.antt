@@ -148,7 +148,7 @@ abbrev pub sweep_takes : Life → End → Life
 sweep_takes l ends.Goes = record l { walk = SweepGives }
 sweep_takes l end = record l { walk = Rests }
 
--- where the GIVE ends with a refusal the entries stay in the outbox, and the sweep stays at its stripe
+-- if the GIVE ends with a refusal, the entries stay in the outbox, and the sweep stays at its stripe
 abbrev pub sweep_gives : World → Life → Sweep → End → Life
 sweep_gives w l sweep ends.Goes =
     record l { places = places_swept w l sweep.stripe; sweep = Some (record sweep { stripe = sweep.stripe + 1 }); walk = SweepTakes }
@@ -197,7 +197,8 @@ staged_by n log = if n == 0 then log else Committing n 4
 abbrev pub clears_of : List ℕ → ℕ
 clears_of content = if is_to_close content then 3 else 2
 
--- a checkpoint of the generation that follows the sealed one, and where its log is still to be begun six device calls for that
+-- a checkpoint of the generation that follows the sealed one, and six device calls for its log if that is still to be
+-- begun
 abbrev pub checkpoint_begun : World → Life → Life
 checkpoint_begun w l = record l {
   checkpoint = Some (record {

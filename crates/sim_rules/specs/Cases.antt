@@ -41,13 +41,13 @@ pub use Rattle.sim_rules.specs.OpeningCases.{Finds, MayTake, OpensFiles, entry_o
 
 -- ---- the steps of a call
 
--- TAKE finds the word held exactly where another has it; then the call is over, with refusal 8.
+-- TAKE finds the word held exactly if another has it; then the call is over, with refusal 8.
 abbrev pub TakesForCall : Life → ℕ → Made → End → Type 0
 TakesForCall l stripe (made.Took i) ends.Goes = (i ≡ stripe) × (is_held l stripe ≡ false)
 TakesForCall l stripe (made.FoundHeld i) (ends.Refused (refusal.Busy j)) = (i ≡ stripe) × (j ≡ stripe) × (is_held l stripe ≡ true)
 TakesForCall l stripe m end = ⊥
 
--- ALIVE says no exactly where a FAIL of this life came before.
+-- ALIVE says no exactly if a FAIL of this life came before.
 abbrev pub FindsAlive : Life → Made → End → Type 0
 FindsAlive l (made.FoundAlive is_alive) ends.Goes = is_alive ≡ not l.has_failed
 FindsAlive l m end = ⊥
@@ -62,8 +62,8 @@ abbrev pub LooksAround : World → Made → End → Type 0
 LooksAround w (made.Looked n) ends.Goes = n ≡ count w
 LooksAround w m end = ⊥
 
--- TICKET gives the ticket count. After a LOOK of 2^62 or more the stripe is given back instead, with refusal 10; and where memory is wanting, with
--- refusal 7.
+-- TICKET gives the ticket count. After a LOOK of 2^62 or more the stripe is given back instead, with refusal 10. If
+-- memory is wanting, it is given back with refusal 7.
 abbrev pub DrawsTicket : World → ℕ → ℕ → Made → End → Type 0
 DrawsTicket w stripe n (made.Drew ticket) ends.Goes = (ticket ≡ count w) × (n < ticket_limit)
 DrawsTicket w stripe n (made.Gave i) (ends.Refused refusal.TicketsSpent) = (i ≡ stripe) × (ticket_limit ≤ n)
@@ -97,19 +97,19 @@ StepsCall w l stripe asked (HasDrawn ticket) m end = GivesChange stripe ticket m
 
 -- ---- the steps of a release
 
--- SEE gives the durable count. Exactly where that reaches the position, the reply is released, with its position.
+-- SEE gives the durable count. The reply is released, with its position, exactly if that count reaches the position.
 abbrev pub SeesFirst : Life → ℕ → Made → End → Type 0
 SeesFirst l position (made.Saw n) (ends.Replied q reply) = (n ≡ l.durable) × (position ≤ n) × (q ≡ position)
 SeesFirst l position (made.Saw n) ends.Goes = (n ≡ l.durable) × (n < position)
 SeesFirst l position m end = ⊥
 
--- Below it, the reply isn't durable yet where ALIVE says yes.
+-- Below it, the reply isn't durable yet if ALIVE says yes.
 abbrev pub AsksAlive : Life → Made → End → Type 0
 AsksAlive l (made.FoundAlive is_alive) ends.NotYet = (is_alive ≡ true) × (is_alive ≡ not l.has_failed)
 AsksAlive l (made.FoundAlive is_alive) ends.Goes = (is_alive ≡ false) × (is_alive ≡ not l.has_failed)
 AsksAlive l m end = ⊥
 
--- Where it said no, the reply is released if a second SEE reaches the position, and else given up.
+-- If it said no, the reply is released if a second SEE reaches the position, and else given up.
 abbrev pub SeesLast : Life → ℕ → Made → End → Type 0
 SeesLast l position (made.Saw n) (ends.Replied q reply) = (n ≡ l.durable) × (position ≤ n) × (q ≡ position)
 SeesLast l position (made.Saw n) ends.Failed = (n ≡ l.durable) × (n < position)
@@ -129,14 +129,14 @@ StepsJob w l (Releasing asked position asking) m end = StepsRelease l position a
 
 -- ---- the steps of a sweep
 
--- TAKE finds the word held exactly where another has it; then the sweep waits for that stripe.
+-- TAKE finds the word held exactly if another has it; then the sweep waits for that stripe.
 abbrev pub TakesForSweep : Life → ℕ → Made → End → Type 0
 TakesForSweep l stripe (made.Took i) ends.Goes = (i ≡ stripe) × (is_held l stripe ≡ false)
 TakesForSweep l stripe (made.FoundHeld i) (ends.SweepHeld j) = (i ≡ stripe) × (j ≡ stripe) × (is_held l stripe ≡ true)
 TakesForSweep l stripe m end = ⊥
 
--- The stripes come in rising order. With the GIVE of the last the sweep is over, and answers what its LOOK found; or memory is wanting, with refusal
--- 7.
+-- The stripes come in rising order. With the GIVE of the last the sweep is over, and returns what its LOOK found; or
+-- memory is wanting, with refusal 7.
 abbrev pub GivesSwept : Life → Sweep → Made → End → Type 0
 GivesSwept l sweep (made.Gave i) ends.Goes = (i ≡ sweep.stripe) × (sweep.stripe + 1 < l.stripes)
 GivesSwept l sweep (made.Gave i) (ends.Swept n) = (i ≡ sweep.stripe) × (sweep.stripe + 1 ≡ l.stripes) × (n ≡ sweep.count)
@@ -155,7 +155,8 @@ abbrev pub section_size : World → Life → ℕ → Option Running → ℕ
 section_size w l mark None = 0
 section_size w l mark (Some running) = length (finite.entries (section_at w l mark running).map)
 
--- A capture answers what its LOOK found. Refusal 14 comes only for a stripe with more than 2^32 - 1 entries, and refusal 7 where memory is wanting.
+-- A capture returns what its LOOK found. Refusal 14 comes only for a stripe with more than 2^32 - 1 entries, and
+-- refusal 7 if memory is wanting.
 abbrev pub GivesCaptured : World → Life → ℕ → Made → End → Type 0
 GivesCaptured w l n (made.Gave i) (ends.Captured mark) = (i ≡ next_section l.checkpoint) × (mark ≡ n) × (section_size w l n l.checkpoint ≤ 2 ^ 32 - 1)
 GivesCaptured w l n (made.Gave i) (ends.Refused refusal.LogFull) = (i ≡ next_section l.checkpoint) × (2 ^ 32 - 1 < section_size w l n l.checkpoint)
@@ -186,8 +187,8 @@ pub record IsLongestRun (w : World) (l : Life) (most n : ℕ) : Type 0 where
 abbrev pub IsPastFull : World → Life → ℕ → Type 0
 IsPastFull w l n = (1 ≤ n) × (most_log_bytes < gate_after w l n + 1)
 
--- Stage answers the length of the longest run. After a device failure of this life it answers 9; else 16 exactly where the log isn't idle; and 14
--- where the batch wouldn't fit into the log.
+-- Stage returns the length of the longest run. It is refused with 9 after a device failure of this life, else with 16
+-- exactly if the log isn't idle. It is refused with 14 if the batch wouldn't fit into the log.
 abbrev pub StagesRun : World → Life → ℕ → Outcome → Type 0
 StagesRun w l most (outcome.Staged n) = (l.is_broken ≡ false) × (is_resting l.log ≡ true) × IsLongestRun w l most n × (IsPastFull w l n → ⊥)
 StagesRun w l most (outcome.Refused refusal.Failed) = l.is_broken ≡ true
@@ -259,7 +260,7 @@ phase_of_running running =
     else if nat_lt 0 running.seals then sealing_phase running.seals
     else checkpoint_phase.Ready
 
--- after a device call of the checkpoint: where none is written any more, it is sealed
+-- after a device call of the checkpoint: if none is written any more, it is sealed
 abbrev pub phase_of_checkpoint : Option Running → CheckpointPhase
 phase_of_checkpoint None = checkpoint_phase.Sealed
 phase_of_checkpoint (Some running) = phase_of_running running
@@ -274,7 +275,8 @@ UsesRunning files l None = ⊥
 UsesRunning files l (Some running) = is_last_call running ≡ true →
     (low : ℕ) × UsesCheckpoint (record { generation = running.generation; low = low; stripes = l.stripes; sections = running.sections }) files
 
--- The outcome names the call, and where it succeeds the phase after it. After a device failure of this life it is refusal 9, and no call is made.
+-- The outcome names the call and, if it succeeds, the phase after it. After a device failure of this life it is refusal
+-- 9, and no call is made.
 abbrev pub MakesCall : World → Life → Side → Ending → Outcome → Type 0
 MakesCall w l s e (outcome.Refused refusal.Failed) = l.is_broken ≡ true
 MakesCall w l side.Log ending.Done (outcome.Logged call phase) =
@@ -287,11 +289,11 @@ MakesCall w l s e x = ⊥
 
 -- ---- a checkpoint
 
--- no checkpoint runs, the generation that follows has a number, and the log is idle where a rotation is needed
+-- no checkpoint runs, the generation that follows has a number, and the log is idle if a rotation is needed
 abbrev pub may_begin : Life → Bool
 may_begin l = not (is_some l.checkpoint) && (nat_lt (l.sealed + 1) (2 ^ 64) && (not (needs_rotation l) || is_resting l.log))
 
--- Begin is refused with 9 after a device failure of this life, else with 16 exactly where it may not be.
+-- Begin is refused with 9 after a device failure of this life, else with 16 exactly if it may not be.
 abbrev pub BeginsCheckpoint : Life → Outcome → Type 0
 BeginsCheckpoint l outcome.Begun = (l.is_broken ≡ false) × (may_begin l ≡ true)
 BeginsCheckpoint l (outcome.Refused refusal.Failed) = l.is_broken ≡ true
@@ -303,7 +305,8 @@ abbrev pub may_capture : Life → Option Running → ℕ → Bool
 may_capture l None stripe = false
 may_capture l (Some running) stripe = nat_lt stripe l.stripes && (stripe == length running.sections && (running.clears == 0 && not running.is_waiting))
 
--- Capture is refused with 9 after a device failure of this life, else with 16 exactly where it may not be; else it makes its TAKE.
+-- Capture is refused with 9 after a device failure of this life, else with 16 exactly if it may not be. Else it makes
+-- its TAKE.
 abbrev pub BeginsCapture : Life → ℕ → Outcome → Type 0
 BeginsCapture l stripe (outcome.Refused refusal.Failed) = l.is_broken ≡ true
 BeginsCapture l stripe (outcome.Refused refusal.WrongPhase) = (l.is_broken ≡ false) × (may_capture l l.checkpoint stripe ≡ false)
@@ -320,8 +323,8 @@ abbrev pub mark_of : Option Running → ℕ
 mark_of None = 0
 mark_of (Some running) = greatest_mark running.sections
 
--- Seal is refused with 9 after a device failure of this life, else with 16 exactly where it may not be, else with 17 exactly where the durable count
--- is below the greatest mark.
+-- Seal is refused with 9 after a device failure of this life, else with 16 exactly if it may not be, else with 17
+-- exactly if the durable count is below the greatest mark.
 abbrev pub BeginsSeal : Life → Outcome → Type 0
 BeginsSeal l outcome.Sealing = (l.is_broken ≡ false) × (may_seal l l.checkpoint ≡ true) × (mark_of l.checkpoint ≤ l.durable)
 BeginsSeal l (outcome.Refused refusal.Failed) = l.is_broken ≡ true
@@ -383,7 +386,7 @@ abbrev pub HappensWith : World → Option Life → Opened → Event → Outcome 
 HappensWith w None found e x = HappensOutside w found e x
 HappensWith w (Some l) found e x = HappensInside w l e x
 
--- The outcome meets the case of its event; it is Skipped exactly where the event doesn't fit, since no case allows that. What an opening found is
--- `found`.
+-- The outcome meets the case of its event. It is Skipped exactly if the event doesn't fit, since no case allows that.
+-- What an opening found is `found`.
 abbrev pub Meets : World → Opened → Event → Outcome → Type 0
 Meets w found e x = MatchBool (fits w e) (HappensWith w w.life found e x) (x ≡ outcome.Skipped)

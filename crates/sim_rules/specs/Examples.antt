@@ -193,13 +193,13 @@ StoppedBefore = (bytes : Vec ℕ) → bytes.items ≡ frame_bytes →
 abbrev pub stopped_within : Vec ℕ → Vec ℕ → Fill → World
 stopped_within bytes gate fill = stopped_with bytes (event.Stop (Some side.Log) fill, outcome.Stopped (Some (device.Write 2 17 gate)))
 
--- where the gate is left open, the change stands
+-- if the gate is left open, the change stands
 abbrev pub StoppedOpen : Type 0
 StoppedOpen = (bytes gate : Vec ℕ) → bytes.items ≡ frame_bytes → gate.items ≡ 165 ∷ [] →
     StandsFor (seen_of (stopped_within bytes gate New).files) 1 (finite.from_entries ((a, number 5) ∷ []))
     × StandsFor (seen_of (stopped_within bytes gate (Byte 165)).files) 1 (finite.from_entries ((a, number 5) ∷ []))
 
--- where it isn't, the change is gone
+-- if it isn't, the change is gone
 abbrev pub StoppedShut : Type 0
 StoppedShut = (bytes gate : Vec ℕ) → bytes.items ≡ frame_bytes → gate.items ≡ 165 ∷ [] →
     StandsFor (seen_of (stopped_within bytes gate Old).files) 0 finite.empty

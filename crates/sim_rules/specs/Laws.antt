@@ -58,7 +58,7 @@ abbrev pub RunsAnswerAsOneThread : Type 0
 RunsAnswerAsOneThread = (events : List Event) (outcomes : List Outcome) (run : IsRun events outcomes) →
     AllByRecursion (IsLegalCall (whole run.machine.history)) run.machine.released
 
--- an event is skipped exactly where it doesn't fit
+-- an event is skipped exactly if it doesn't fit
 abbrev pub SkippedWhereUnfit : Type 0
 SkippedWhereUnfit = (w : World) (found : Opened) (e : Event) →
     (Meets w found e outcome.Skipped ↔ (fits w e ≡ false))
@@ -82,7 +82,7 @@ LongestRunInHand = (w : World) (l : Life) (hand : Hand) (most : ℕ) (commands :
 abbrev pub BeginsEmpty : Type 0
 BeginsEmpty = StandsFor (seen_of start.files) 0 finite.empty
 
--- A call within which a stop falls leaves what it leaves where it fails and a write is read as made.
+-- A call within which a stop falls leaves what it leaves when it fails and a write is read as made.
 abbrev pub EnteredAsFailed : Type 0
 EnteredAsFailed = (call : DeviceCall) (files : Files) → IsPossible files call → entered call files ≡ failed New call files
 
@@ -133,13 +133,14 @@ OpensOutside = (rows : List Row) (w : World) (least : ℕ) (released : List Call
 
 -- ---- each event, by its case
 
--- In a life each event keeps it, where the reply that it may release is legal; and where the life ends, for any count from the durable one on.
+-- In a life each event keeps it, if the reply that it may release is legal. If the life ends, it is kept for any count
+-- from the durable one on.
 abbrev pub LifeGoesOn : Type 0
 LifeGoesOn = (rows : List Row) (w : World) (l : Life) (released : List Call) (least : ℕ) (e : Event) (x : Outcome) (w' : World) →
     w.life ≡ Some l → IsSoundInside rows w l.durable released → Happens w (e, x) w' → Stays w l.durable (e, x) w' (durable_or w'.life least) → AnswersLegally w e x
     → l.durable ≤ least → least ≤ length w.history → IsSound ((e, x) ∷ rows) w' least (released_by w e x released)
 
--- Between lives each event keeps it, where an opening finds a front of the history.
+-- Between lives each event keeps it, if an opening finds a front of the history.
 abbrev pub NextLifeBegins : Type 0
 NextLifeBegins = (rows : List Row) (w : World) (released : List Call) (least : ℕ) (e : Event) (x : Outcome) (w' : World) →
     w.life ≡ None → IsSoundOutside rows w least released → (happens : Happens w (e, x) w') → Stays w least (e, x) w' (durable_or w'.life least)

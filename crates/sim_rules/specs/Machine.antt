@@ -1,4 +1,4 @@
--- A machine with one list of commands, which each life of a store goes on: what it may do, and what it answers.
+-- A machine with one list of commands, which each life of a store goes on: what it may do, and what its replies are.
 use Rattle.std.specs.Prelude.{◌≡◌, ℕ, ◌≤◌, List, [], ◌∷◌, ◌++◌, length, take}
 use Rattle.std.specs.List.{AllByRecursion}
 use Rattle.std.specs.FinMap as finite
@@ -30,9 +30,9 @@ pub data Move : Type 0 where
   Calls : Command → Move
   -- the reply to a call is released
   Releases : Call → Move
-  -- the life ends, and this many commands are left
+  -- the life ends, and the first n commands are left
   Stops : ℕ → Move
-  -- a life begins, with this many commands and this map
+  -- a life begins, with n commands and this map
   Opens : ℕ → Map → Move
 
 -- no reply was released at a position above p
@@ -44,7 +44,8 @@ pub record MayStop (p : ℕ) (m : Machine) : Type 0 where
   pub released : AreReleasedTo p m.released
   pub within : p ≤ length m.history
 
--- A reply is released where it is one thread's at its position; an opening answers exactly the map after all commands that are left.
+-- A reply is released if it is one thread's at its position. An opening returns exactly the map after all commands that
+-- are left.
 abbrev pub IsAllowed : Machine → Move → Type 0
 IsAllowed m (Calls command) = Unit {0}
 IsAllowed m (Releases call) = IsLegalCall (whole m.history) call

@@ -14,7 +14,7 @@ use Rattle.sim_rules.specs.World.{World, seen_of}
 abbrev pub entry_of : MapEntry → List ℕ × Value
 entry_of entry = (entry.key, entry.value)
 
--- the event names one of the first so many device calls; they are counted from 1
+-- the event names one of the first `calls` device calls; they are counted from 1
 abbrev pub names_within : Option ℕ → ℕ → Bool
 names_within None calls = false
 names_within (Some n) calls = nat_lt 0 n && nat_le n calls
@@ -25,13 +25,14 @@ pub record Finds (w : World) (found : Opened) (prefix : ℕ) (entries : List Map
   pub prefix_is : prefix ≡ prefix_of found
   pub entries_are : map entry_of entries ≡ finite.entries (map_of found)
 
--- so many device calls are no more than those of an opening that finds what the files hold
+-- `calls` device calls are no more than those of an opening that finds what the files hold
 abbrev pub MayTake : World → ℕ → Type 0
 MayTake w calls = (found : Opened) → Holds (seen_of w.files) found → calls ≤ opening_calls found
 
--- An opening is refused with 9 exactly where the device call that its event names was made, as the last. Else it never comes to that call: it finds
--- what the files hold, which the syncs leave as they read, by the device calls that this takes; or it makes its four syncs, and is refused as the files
--- are, or for want of memory. A refused opening of files that hold something makes no more device calls than finding it takes.
+-- An opening is refused with 9 exactly if the device call that its event names was made, as the last. Else it never
+-- comes to that call. Either it finds what the files hold, which the syncs leave as they read, by the device calls that
+-- this takes. Or it makes its four syncs, and is refused as the files are, or for want of memory. A refused opening of
+-- files that hold something makes no more device calls than finding it takes.
 abbrev pub OpensFiles : World → Opened → Option ℕ → Outcome → Type 0
 OpensFiles w found fails_at (outcome.Opened calls prefix entries) =
     (calls ≡ opening_calls found) × (names_within fails_at calls ≡ false) × Finds w found prefix entries.items

@@ -43,8 +43,8 @@ move_of_step w e m end = None
 abbrev pub IsStop : Option Move → Type 0
 IsStop move = (p : ℕ) × (move ≡ Some (Stops p))
 
--- A stop is a stop of the machine, and so is a life that is left; an opening answers the number of its commands and the map with its entries; no
--- other outcome is a move.
+-- A stop is a stop of the machine, and so is a life that is left. An opening returns the number of its commands and the
+-- map with its entries. No other outcome is a move.
 abbrev pub IsMove : World → Event → Outcome → Option Move → Type 0
 IsMove w e (outcome.Stepped m end) move = move ≡ move_of_step w e m end
 IsMove w e (outcome.Stopped within) move = IsStop move

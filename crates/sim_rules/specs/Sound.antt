@@ -36,7 +36,7 @@ IsSound rows w least released = IsSoundWith w.life rows w least released
 
 -- ---- the files
 
--- these contents stand for a front of the history as they have to, and of no fewer than so many commands
+-- these contents stand for a front of the history as they have to, and of no fewer than `least` commands
 pub record AreAbove (w : World) (least : ℕ) (contents : Contents) : Type 0 where
   pub front : StandsForFront (whole w.history) (least_of w.life) (most_of w.history w.life) contents
   pub above : least ≤ front.count
@@ -80,7 +80,7 @@ abbrev pub AnswersLegally : World → Event → Outcome → Type 0
 AnswersLegally w e (outcome.Stepped m end) = ReleasesLegal w.history (move_of_step w e m end)
 AnswersLegally w e x = Unit {0}
 
--- what is found is the map after a front of the history, of at least so many commands
+-- what is found is the map after a front of the history, of at least `least` commands
 pub record IsFront (w : World) (least : ℕ) (found : Opened) : Type 0 where
   pub from_least : least ≤ prefix_of found
   pub within : prefix_of found ≤ length w.history

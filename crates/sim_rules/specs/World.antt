@@ -61,7 +61,8 @@ pub data KeeperWalk : Type 0 where
   CaptureLooks : KeeperWalk
   CaptureGives : ℕ → KeeperWalk
 
--- What the log is at: nothing; a batch of so many commands, or a rotation, with so many device calls left to make.
+-- What the log is at: nothing; a batch, by how many commands it has and how many device calls are left to make; or a
+-- rotation, by how many device calls are left to make.
 pub data LogWork : Type 0 where
   Resting : LogWork
   Committing : ℕ → ℕ → LogWork
@@ -76,7 +77,7 @@ pub record Running : Type 0 where
   pub sections : List Section
   -- the last of them is still to be written
   pub is_waiting : Bool
-  -- how many device calls of the seal are left, 0 where none was begun
+  -- how many device calls of the seal are left, 0 if none was begun
   pub seals : ℕ
 
 -- ---- the store

@@ -20,7 +20,7 @@ pub enum Ending {
 /// One event of a schedule: at most one atomic step, or one device call, or the end of a life.
 #[derive(Drop)]
 pub enum Event {
-    /// The store is opened for so many stripes. Where the number of a device call is given, counted
+    /// The store is opened for `stripes` stripes. If the number of a device call is given, counted
     /// from 1, that call fails.
     Open {
         stripes: StripeCount,
@@ -48,7 +48,7 @@ pub enum Event {
     Sweep,
     /// The keeper's sweep or capture makes its next step.
     KeeperStep,
-    /// The keeper stages a batch of at most so many changes.
+    /// The keeper stages a batch of at most `most` changes.
     Stage {
         most: u32,
     },

@@ -16,7 +16,7 @@ pub fn laws_of_known_histories()
     ensures stands { KnownStands }
 {}
 
-/// The outcomes of a run are moves of the machine; and an event is skipped exactly where it doesn't fit.
+/// The outcomes of a run are moves of the machine. An event is skipped exactly if it doesn't fit.
 pub fn laws_of_runs()
     ensures moves { OutcomesAreMoves }
     ensures answers { RunsAnswerAsOneThread }

@@ -17,7 +17,7 @@ pub enum Made {
     Looked(u64),
     /// SEE, with the durable count.
     Saw(u64),
-    /// ALIVE: false where a FAIL was made.
+    /// ALIVE: false if a FAIL was made.
     FoundAlive(bool),
 }
 
@@ -69,14 +69,14 @@ pub enum Outcome {
     /// The event doesn't fit, and changed nothing.
     Skipped,
     Refused(Refusal),
-    /// The store was opened with so many device calls. Its files stand for the map after so many
-    /// changes; its entries, their keys in rising order of their bytes.
+    /// The store was opened with `calls` device calls. Its files stand for the map after the first
+    /// `prefix` changes. `entries` are those of the map, their keys in rising order of their bytes.
     Opened {
         calls: u64,
         prefix: u64,
         entries: Vec<MapEntry>,
     },
-    /// The store wasn't opened, after so many device calls.
+    /// The store wasn't opened, after `calls` device calls.
     NotOpened {
         calls: u64,
         refusal: Refusal,
@@ -87,7 +87,7 @@ pub enum Outcome {
         made: Made,
         end: End,
     },
-    /// So many changes were staged.
+    /// n changes were staged.
     Staged(u32),
     /// The log's device call was made, with the phase after it.
     Logged {
@@ -111,7 +111,7 @@ pub enum Outcome {
     Begun,
     /// The seal was begun.
     Sealing,
-    /// The machine stopped, within this device call where one is named.
+    /// The machine stopped, within this device call if one is named.
     Stopped {
         within: Option<DeviceCall>,
     },
