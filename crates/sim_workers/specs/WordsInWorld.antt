@@ -44,8 +44,8 @@ IsTaken b ticket = (e : Entry) × Contains b.effects.taken e × (e.ticket ≡ ti
 abbrev pub IsOfLife : Book → ℕ → Type 0
 IsOfLife b ticket = (b.opening.first ≤ ticket) × (ticket < b.opening.first + length b.history)
 
--- Each ticket of this life has its place: its entry is with the worker whose walk has drawn it, it is in hand where a sweep took it, and else it lies
--- in an outbox.
+-- Each ticket of this life has its place. Its entry is with the worker whose walk has drawn it; it is in hand if a
+-- sweep took it; else it lies in an outbox.
 pub record PlacesStand (b : Book) (l : Life) : Type 0 where
   pub count : length l.places ≡ length b.history
   pub drawn : (ticket : ℕ) → IsDrawn l ticket → IsOfLife b ticket

@@ -26,7 +26,7 @@ pub record WorkersStand (b : Book) (w : World) (l : Life) (doings : ℕ → Doin
   pub jobs : length l.jobs ≡ 64
   pub each : (j : ℕ) → j < 64 → JobStands b.stripes (record_of j b) (doings j) (job_of l j)
   pub places : PlacesStand b l
-  -- the keeper's walk has the word of a stripe exactly where its pass holds that stripe
+  -- the keeper's walk has the word of a stripe exactly if its pass holds that stripe
   pub held : (i : ℕ) → (keeper_holds l i l.walk ≡ true) ↔ HoldsStripe b 64 i
 
 abbrev pub StandWith : Book → World → Option Life → (ℕ → Doing) → Type 0

@@ -34,7 +34,7 @@ pub fn steps_of_workers()
     ensures releases { ReleaseSteps }
 {}
 
-/// The word of a stripe is held in the world exactly where a pass holds the stripe.
+/// The word of a stripe is held in the world exactly if a pass holds the stripe.
 pub fn words_of_stripes()
     ensures free { FreeIsTold }
     ensures held { HeldIsTold }
