@@ -69,7 +69,7 @@ pub record KeeperStands {D : Type 0} (states : D → List Files) (keeper : Keepe
   pub store : keeper.is_broken ≡ false → KnowsStore states keeper l
   pub staged : keeper.is_broken ≡ true → staged_in l.log ≡ length keeper.staged.items
 
--- A ticket of this life is in hand, or was and is committed, exactly where a sweep of the pass took its entry.
+-- A ticket of this life is in hand, or was and is committed, exactly if a sweep of the pass took its entry.
 pub record TellsPlaces (p : Record) (l : Life) : Type 0 where
   pub taken : (e : Entry) → Contains p.taken e → place_of l e.ticket ≡ InHand
   pub in_hand : (t : ℕ) → l.first ≤ t → t < l.first + length l.places → place_of l t ≡ InHand → (e : Entry) × Contains p.taken e × (e.ticket ≡ t)

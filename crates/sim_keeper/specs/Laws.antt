@@ -128,7 +128,7 @@ abbrev pub staged_as : Result ℕ Refusal → Outcome
 staged_as (Ok count) = outcome.Staged count
 staged_as (Err e) = outcome.Refused e
 
--- the longest run in hand is staged, where the places of the tickets are told by what the sweeps took
+-- the longest run in hand is staged, if the places of the tickets are told by what the sweeps took
 abbrev pub StageAnswers : {D : Type 0} → (D → List Files) → (D → Type 0) → Type 0
 StageAnswers {D} states honest = (n : ℕ) (done : List Command) (most : ℕ) (old new : Keeper D) (p : Record) (w : World) (l : Life) (result : Result ℕ Refusal)
     → Fits states honest n done old p → KeeperStands states old p w l → TellsPlaces p l → rests l.walk ≡ true → TriesStage most old new result → Answers states new p w l (event.Stage most) (staged_as result)
@@ -169,25 +169,26 @@ CaptureRefuses {D} states honest = (n : ℕ) (done : List Command) (stripe : ℕ
     → Fits states honest n done old p → honest old.disk → KeeperStands states old p w l → rests l.walk ≡ true → StepsCapture states honest n stripe old new p q (Err e)
     → (e ≡ refusal.Failed) ⊎ (e ≡ refusal.WrongPhase) → Answers states new q w l (event.Capture stripe) (outcome.Refused e)
 
--- and each step that follows, where refusal 14 comes only for a section that is too large
+-- and each step that follows, if refusal 14 comes only for a section that is too large
 abbrev pub CaptureStepAnswers : {D : Type 0} → (D → List Files) → (D → Type 0) → Type 0
 CaptureStepAnswers {D} states honest = (n : ℕ) (done : List Command) (stripe : ℕ) (walk : Walk) (old new : Keeper D) (p q : Record) (w : World) (l : Life) (result : Result (Option ℕ) Refusal) (m : Made)
     → FitsWalking states honest n done old p → honest old.disk → KeeperStands states old p w l → old.capture ≡ Some walk → StepsCapture states honest n stripe old new p q result
     → (result ≡ Err refusal.LogFull → 2 ^ 32 - 1 < section_size w l (reach p) l.checkpoint)
     → MakesStep w l p q (walks.next_kind n walk) m → Answers states new q w l event.KeeperStep (outcome.Stepped m (capture_end result))
 
--- It is too large where the part that the pass holds has too many entries, and is the part after the commands that it has seen.
+-- It is too large if the part that the pass holds has too many entries, and is the part after the commands that it has
+-- seen.
 abbrev pub TooManyAreTooLarge : {D : Type 0} → (D → List Files) → (D → Type 0) → Type 0
 TooManyAreTooLarge {D} states honest = (n : ℕ) (done : List Command) (walk : Walk) (keeper : Keeper D) (p : Record) (w : World) (l : Life) (i : ℕ) (part : Map) → FitsWalking states honest n done keeper p → KeeperStands states keeper p w l
     → keeper.capture ≡ Some walk → PassHolds p i → part_of n i (fold_to (history_of p) (reach p)) ≡ part → 2 ^ 32 ≤ length (finite.entries part) → 2 ^ 32 - 1 < section_size w l (reach p) l.checkpoint
 
 -- ---- what can be read off
 
--- the keeper walks where the world says so
+-- the keeper walks exactly if the world says so
 abbrev pub WalkIsTold : {D : Type 0} → (D → List Files) → Type 0
 WalkIsTold {D} states = (keeper : Keeper D) (p : Record) (w : World) (l : Life) → KeeperStands states keeper p w l → rests l.walk ≡ not (is_walking keeper.sweeper.walking || is_some keeper.capture)
 
--- a call of the log is to be made where one is due
+-- a call of the log is to be made exactly if one is due
 abbrev pub LogCallIsTold : {D : Type 0} → (D → List Files) → (D → Type 0) → Type 0
 LogCallIsTold {D} states honest = (n : ℕ) (done : List Command) (keeper : Keeper D) (p : Record) (w : World) (l : Life) → Fits states honest n done keeper p → KeeperStands states keeper p w l → keeper.is_broken ≡ false
     → has_call side.Log l ≡ is_some (call_in (due_of (logs_of keeper)).phase (due_of (logs_of keeper)))
@@ -234,7 +235,7 @@ abbrev pub SweepTakesNone : {D : Type 0} → (D → List Files) → (D → Type 
 SweepTakesNone {D} states honest = (n : ℕ) (done : List Command) (old new : Keeper D) (p q : Record) (result : Result Swept Refusal) → Fits states honest n done old p → StepsSweep n old new p q result
     → NoneTaken old.sweeper.walking result → q.taken ≡ p.taken
 
--- and that GIVE, where its walk hands out the outbox of the stripe that the pass held, took that outbox
+-- and that GIVE, if its walk hands out the outbox of the stripe that the pass held, took that outbox
 abbrev pub SweepTakesOutbox : {D : Type 0} → (D → List Files) → (D → Type 0) → Type 0
 SweepTakesOutbox {D} states honest = (n : ℕ) (done : List Command) (old new : Keeper D) (p q : Record) (sweep : Sweep) (walk : Walk) (swept : Swept) → Fits states honest n done old p → StepsSweep n old new p q (Ok swept)
     → old.sweeper.sweep ≡ Some sweep → old.sweeper.walking ≡ walking.SweepGives walk → walks.entries_of_walk walk ≡ outbox_held p.holding
@@ -251,7 +252,7 @@ abbrev pub WorkersLeaveKeeper : {D : Type 0} → (D → List Files) → Type 0
 WorkersLeaveKeeper {D} states = (keeper : Keeper D) (p : Record) (w : World) (l : Life) (worker : ℕ) (job : Job) → KeeperStands states keeper p w l
     → HasKeeper states keeper p (with_life w (with_job worker job l)) × ((m : Made) (end : End) → HasKeeper states keeper p (worker_stepped w l worker job m end))
 
--- A pass sees the history of the world where it has seen a front of what the life has added to what came before.
+-- A pass sees the history of the world if it has seen a front of what the life has added to what came before.
 abbrev pub FrontIsSeen : Type 0
 FrontIsSeen = (p : Record) (w : World) (l : Life) (before added rest : List Command) → w.history ≡ before ++ added → length before ≡ l.first → p.opening.first ≡ l.first → p.opening.map ≡ fold_of before
     → added ≡ p.seen ++ rest → SeesHistory p w l
@@ -264,7 +265,7 @@ OpeningStands {D} states = (keeper : Keeper D) (p : Record) (w : World) (stripes
 
 -- ---- whole events
 
--- Where the event fits, the outcome that was told of it is met, and the keeper stands against the world after it.
+-- If the event fits, the outcome that was told of it is met, and the keeper stands against the world after it.
 abbrev pub AnswersAreMet : {D : Type 0} → (D → List Files) → Type 0
 AnswersAreMet {D} states = (old new : Keeper D) (p q : Record) (w : World) (found : Opened) (l : Life) (e : Event) (x : Outcome) → KeeperStands states old p w l → fits_inside l e ≡ true → Answers states new q w l e x
     → Meets w found e x × HasKeeper states new q (after w found e x)

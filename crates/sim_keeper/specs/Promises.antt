@@ -85,7 +85,7 @@ pub record TriesCheckpoint {D : Type 0} (states : D → List Files) (failures : 
 
 -- ---- a batch
 
--- a batch of at most so many was to be staged
+-- a batch of at most `most` commands was to be staged
 pub record TriesStage {D : Type 0} (most : ℕ) (old new : Keeper D) (result : Result ℕ Refusal) : Type 0 where
   pub failed : (result ≡ Err refusal.Failed) ↔ (old.is_broken ≡ true)
   pub wrong_phase : (result ≡ Err refusal.WrongPhase) ↔ ((old.is_broken ≡ false) × (MayStage old.log old.next → ⊥))

@@ -44,7 +44,7 @@ abbrev pub walk_by : ℕ → Walking → Option Walk → Record → KeeperWalk
 walk_by n walks None p = walking_shown walks
 walk_by n walks (Some walk) p = capture_shown (next_kind n walk) (reach p)
 
--- what it walks, where this is the record of its pass
+-- what it walks, if this is the record of its pass
 abbrev pub walk_shown : {D : Type 0} → ℕ → Keeper D → Record → KeeperWalk
 walk_shown n keeper p = walk_by n keeper.sweeper.walking keeper.capture p
 
@@ -60,7 +60,7 @@ calls_left log_phase.Written = 3
 calls_left log_phase.Synced = 2
 calls_left log_phase.Opened = 1
 
--- a log that no other is to follow, where so many commands are staged
+-- a log that no other is to follow, when n commands are staged
 abbrev pub committing : Phase → ℕ → LogWork
 committing log_phase.Idle n = Resting
 committing log_phase.Header n = Committing n 6
