@@ -13,7 +13,7 @@ use Rattle.sim_rules.specs.After.{called, failed}
 use Rattle.sim_rules.specs.Cases.{IsPossible}
 use Rattle.schedule_sim.specs.declared.traced.Noted.{Noted}
 
--- what the call leaves: where it is lost, what the fill says
+-- what the call leaves: if it is lost, what the fill says
 abbrev pub left : Option Fill → DeviceCall → Files → Files
 left None call files = called call files
 left (Some fill) call files = failed fill call files
@@ -23,7 +23,7 @@ abbrev pub WasLast : Option Fill → DeviceCall → List Files → Type 0
 WasLast lost call [] = ⊥
 WasLast lost call (files ∷ before) = IsPossible (now before) call × (files ≡ left lost call (now before))
 
--- what an answer says of the call, where it was made by the plan
+-- what an answer says of the call, if it was made by the plan
 abbrev pub CameTo : Result (Unit {0}) DeviceError → Option Fill → DeviceCall → List Files → Type 0
 CameTo (Ok unit) fill call states = WasLast None call states
 CameTo (Err e) fill call states = IfSome fill (λ f. WasLast (Some f) call states)
@@ -36,13 +36,13 @@ IsTied (Some noted) states = WasLast noted.lost noted.call states
 abbrev pub IsSameFill : Fill → Fill → Type 0
 IsSameFill one other = (call : DeviceCall) (files : Files) → failed one call files ≡ failed other call files
 
--- where a failure is planned, this is its fill
+-- if a failure is planned, this is its fill
 abbrev pub IsPlanned : Option Fill → Option Failure → Type 0
 IsPlanned fill None = Unit {0}
 IsPlanned None (Some failure) = ⊥
 IsPlanned (Some fill) (Some failure) = IsSameFill fill failure.fill
 
--- where a count is known, it is that of the states
+-- if a count is known, it is that of the states
 abbrev pub IsCounted : Option ℕ → List Files → Type 0
 IsCounted None states = Unit {0}
 IsCounted (Some n) states = n ≡ length states

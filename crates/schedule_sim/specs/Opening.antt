@@ -8,7 +8,7 @@ use Rattle.schedule_sim.specs.declared.store.Store.TheVariants.{Closed, Open}
 use Rattle.schedule_sim.specs.declared.traced.Traced.{Traced}
 use Rattle.schedule_sim.specs.Tracing.{traced_states}
 
--- The last of so many calls is one of the four syncs, and left the files as they were; or it is one after them.
+-- The last of `calls` calls is one of the four syncs, and left the files as they were; or it is one after them.
 pub data LastFails (calls : ℕ) (states : List Files) : Type 0 where
   Syncing : (before : List Files) → calls ≤ 4 → states ≡ now before ∷ before → LastFails calls states
   Looking : 4 < calls → LastFails calls states

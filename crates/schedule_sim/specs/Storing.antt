@@ -26,7 +26,8 @@ use Rattle.schedule_sim.specs.declared.store.Store.TheVariants.{Closed, Open}
 use Rattle.schedule_sim.specs.Tracing.{traced_states}
 use Rattle.schedule_sim.specs.Living.{IsLife}
 
--- No life is there, and whatever a stop leaves of the files stands for a front of the history, of at least so many commands.
+-- No life is there, and whatever a stop leaves of the files stands for a front of the history, of at least `least`
+-- commands.
 pub record IsClosed (w : World) (least : ℕ) (disk : Traced) : Type 0 where
   pub life : w.life ≡ None
   pub files : w.files ≡ now (traced_states disk)
@@ -49,12 +50,13 @@ IsNext least next (Some l) = Unit {0}
 
 -- ---- the files now
 
--- Whatever a stop may leave now stands for a front of the history as it has to, of no fewer than so many commands, and so does what is read.
+-- Whatever a stop may leave now stands for a front of the history as it has to, of no fewer than `least` commands, and
+-- so does what is read.
 pub record StandsNow (w : World) (least : ℕ) : Type 0 where
   pub left : (contents : Contents) → Leaves w.files contents → AreAbove w least contents
   pub read : AreAbove w least (seen_of w.files)
 
--- where the machine stops within a device call, so does whatever it may leave then
+-- if the machine stops within a device call, so does whatever it may leave then
 abbrev pub StopsWithin : World → ℕ → Event → Outcome → Type 0
 StopsWithin w least (event.Stop within fill) (outcome.Stopped (Some call)) = (contents : Contents) → Leaves (entered call w.files) contents → AreAbove w least contents
 StopsWithin w least e x = Unit {0}
@@ -88,7 +90,8 @@ pub record IsOpening (w : World) (stripes : ℕ) (found : Opened) (keeper : Keep
 
 -- ---- a life ends
 
--- The files are those of the disk, and whatever a stop leaves of them stands for a front of the history, of at least so many commands.
+-- The files are those of the disk, and whatever a stop leaves of them stands for a front of the history, of at least
+-- `least` commands.
 pub record LiesOn (w : World) (least : ℕ) (disk : Traced) : Type 0 where
   pub files : w.files ≡ now (traced_states disk)
   pub reached : least ≤ length w.history

@@ -94,8 +94,8 @@ impl Life {
         }
     }
 
-    // The logs make their next device call. No contract of a disk tells which of its calls failed, so
-    // this asks the disk's note; the paths with no note are taken only where memory was missing.
+    // The logs make their next device call. No contract of a disk tells which of its calls failed,
+    // so this asks the disk's note. The paths with no note are taken only if memory was missing.
     fn call_log(&mut self, ending: &Ending) -> Result<Outcome, AllocError>
         requires life { (w : World) × IsLife w self.old }
         requires may { MayCall sides.Log self.old.keeper }

@@ -96,7 +96,7 @@ fn step_walk(words: &mut PlainWords, pass: usize, walk: Walk) -> (Made, Stepped)
 }
 
 impl Life {
-    /// The life that begins with this keeper and these parts, after so many changes.
+    /// The life that begins with this keeper and these parts, after `first` changes.
     pub(crate) fn new(
         alloc: Global,
         keeper: Keeper<Traced>,

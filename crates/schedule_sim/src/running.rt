@@ -13,8 +13,8 @@ pub struct Trace {
     pub outcomes: Vec<Outcome>,
 }
 
-/// Plays the schedule on a new store of 16 stripes, with 64 workers. It ends with an error where memory
-/// is missing for a device call, or for what is told of an event.
+/// Plays the schedule on a new store of 16 stripes, with 64 workers. It ends with an error if
+/// memory is missing for a device call, or for what is told of an event.
 pub fn run(alloc: Global, events: &[Event]) -> Result<Trace, AllocError>
     ensures { IfOk result (λ trace. IsRun events.now trace.outcomes.items) }
 {

@@ -59,7 +59,7 @@ fn plan_opening(disk: &mut Traced, fails_at: Option<u64>) -> Result<(), AllocErr
     }
 }
 
-// How many calls were made since there were so many.
+// How many calls were made since there were `before` of them.
 fn calls_since(disk: &Traced, before: Option<u64>) -> Result<u64, AllocError>
     ensures { (old : List Files) → IfSome before (λ n. n ≡ length old)
         → IfOk result (λ n. length old + n ≡ length (traced_states disk.now)) }
@@ -69,7 +69,7 @@ fn calls_since(disk: &Traced, before: Option<u64>) -> Result<u64, AllocError>
     now.checked_sub(before).ok_or(AllocError)
 }
 
-// Whether the event names one of the first so many calls.
+// Whether the event names one of the first `calls` calls.
 fn names_within(fails_at: Option<u64>, calls: u64) -> bool
     ensures { result ≡ cases.names_within fails_at calls }
 {
@@ -79,7 +79,8 @@ fn names_within(fails_at: Option<u64>, calls: u64) -> bool
     }
 }
 
-// Whether an opening that failed did so at the call that its event names, as the last of so many.
+// Whether an opening that failed did so at the call that its event names, as the last of `calls`
+// calls.
 fn is_last(disk: &Traced, fails_at: Option<u64>, calls: u64) -> bool
     ensures { result ≡ true → (fails_at ≡ Some calls) × LastFails calls (traced_states disk.now) }
 {
@@ -89,8 +90,8 @@ fn is_last(disk: &Traced, fails_at: Option<u64>, calls: u64) -> bool
     }
 }
 
-// The store stays closed. No contract of a disk tells which of its calls failed, so this counts them;
-// where they aren't as the event has it, memory was missing.
+// The store stays closed. No contract of a disk tells which of its calls failed, so this counts
+// them. If they aren't as the event has it, memory was missing.
 fn refused(
     disk: Traced,
     refusal: Refusal,
@@ -155,7 +156,7 @@ fn begun(
     Ok((Store::Open(life), outcome))
 }
 
-// Opens the store that is on the disk. Where an opening went past the call that its event names,
+// Opens the store that is on the disk. If an opening went past the call that its event names,
 // memory was missing.
 fn opened(
     alloc: Global,
@@ -184,7 +185,7 @@ fn opened(
     }
 }
 
-// The machine stops, within this device call where one is named.
+// The machine stops, within this device call if one is named.
 fn stopped(
     mut disk: Traced,
     within: Option<DeviceCall>,

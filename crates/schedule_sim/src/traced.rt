@@ -10,14 +10,14 @@ use disk_model::{DeviceError, Disk, Failure, Fill, MemDisk};
 use sim_rules::DeviceCall;
 use std::alloc::{AllocError, Global};
 
-/// A write or a sync, and the fill with which it failed, where that was planned.
+/// A write or a sync, and the fill with which it failed, if that was planned.
 #[derive(Drop)]
 struct Noted {
     call: DeviceCall,
     lost: Option<Fill>,
 }
 
-/// A disk in memory, with a note of its last call, where that was a write or a sync.
+/// A disk in memory, with a note of its last call, if that was a write or a sync.
 #[derive(Drop)]
 pub(crate) struct Traced {
     alloc: Global,
@@ -66,7 +66,7 @@ fn is_same_fill(one: &Fill, other: &Fill) -> bool
     }
 }
 
-// The note of a write or a sync; of one that failed, with the fill of the plan. None is made where
+// The note of a write or a sync; of one that failed, with the fill of the plan. None is made if
 // memory was missing, as the call may then have failed without a plan.
 fn note(
     call: DeviceCall,
@@ -136,7 +136,7 @@ impl Traced {
         self.last = None;
     }
 
-    /// Has the call fail that comes after so many others, and forgets the calls before.
+    /// Has the call fail that comes after `after` others, and forgets the calls before.
     pub(crate) fn plan(&mut self, after: u64, fill: &Fill) -> Result<(), AllocError>
         ensures { traced_states self.new ≡ traced_states self.old }
     {
@@ -151,7 +151,7 @@ impl Traced {
         Ok(())
     }
 
-    /// The last call, where that was a write or a sync of this file that succeeded.
+    /// The last call, if that was a write or a sync of this file that succeeded.
     pub(crate) fn take_made(&mut self, file: usize) -> Option<DeviceCall>
         ensures same { traced_states self.new ≡ traced_states self.old }
         ensures made { IfSome result (λ call. WasLast Option.None call (traced_states self.new)) }
@@ -163,7 +163,7 @@ impl Traced {
         if is_of(&call, file) { Some(call) } else { None }
     }
 
-    /// The last call, where that was a write or a sync of this file that was planned to fail with this
+    /// The last call, if that was a write or a sync of this file that was planned to fail with this
     /// fill.
     pub(crate) fn take_lost(&mut self, fill: &Fill, file: usize) -> Option<DeviceCall>
         ensures same { traced_states self.new ≡ traced_states self.old }
