@@ -97,7 +97,7 @@ fn change(alloc: Global, random: &mut Random) -> Result<Change, AllocError> {
     }
 }
 
-/// A change of one of so many keys.
+/// A change of one of `keys` keys.
 pub(crate) fn command(
     alloc: Global,
     random: &mut Random,
@@ -109,7 +109,7 @@ pub(crate) fn command(
     })
 }
 
-/// A read of one of so many keys.
+/// A read of one of `keys` keys.
 pub(crate) fn read(alloc: Global, random: &mut Random, keys: usize) -> Result<Read, AllocError> {
     let key = key(alloc, random, keys)?;
     let question = match random.below(3) {

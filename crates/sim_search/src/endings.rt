@@ -16,7 +16,7 @@ impl Guess {
         }
     }
 
-    // The files after a life, where the two gates are so.
+    // The files after a life that left the two gates so.
     fn with_gates(self, log_open: bool, other_open: bool) -> Guess {
         let mut next = Guess::first();
         next.committed = self.committed;
@@ -34,7 +34,7 @@ impl Guess {
         next
     }
 
-    /// The files after a stop, where the two gates may be left so.
+    /// The files after a stop, if the two gates may be left so.
     pub(crate) fn left(self, log_open: bool, other_open: bool, fill: &Fill) -> Option<Guess> {
         if self.log_gate.may_be_left(log_open, fill)
             && self.other_gate.may_be_left(other_open, fill)

@@ -13,7 +13,7 @@ fn push_number(bytes: &mut Vec<u8>, number: u64) -> Result<(), AllocError> {
     bytes.extend_from_slice(&number.to_be_bytes())
 }
 
-// A well-formed batch of so many records, with this first ticket.
+// A well-formed batch of `count` records, with this first ticket.
 fn push_frame(bytes: &mut Vec<u8>, first: u64, count: u32) -> Result<(), AllocError> {
     bytes.push(1)?;
     bytes.extend_from_slice(&count.saturating_mul(12).saturating_add(12).to_be_bytes())?;
@@ -107,7 +107,7 @@ fn chosen(alloc: Global, random: &mut Random, tickets: u64) -> Result<Fill, Allo
     Ok(Fill::Chosen { bytes, lens })
 }
 
-/// A fill, where about so many tickets were drawn.
+/// A fill, when about `tickets` tickets were drawn.
 pub(crate) fn fill(alloc: Global, random: &mut Random, tickets: u64) -> Result<Fill, AllocError> {
     match random.below(12) {
         0 | 1 => Ok(Fill::Old),

@@ -252,7 +252,7 @@ impl Guess {
         }
     }
 
-    /// The same, where the write that is to close the gate of a checkpoint fails and leaves chosen
+    /// The same, if the write that is to close the gate of a checkpoint fails and leaves chosen
     /// bytes: a file that had none may still have none.
     pub(crate) fn device_leaving_none(self, side: Side, ending: &Ending) -> Option<Step> {
         let call = self.due(side)?;
@@ -339,7 +339,7 @@ impl Guess {
         next
     }
 
-    /// The checkpoint of so many stripes is to be sealed, where so many commands are durable.
+    /// The checkpoint of `stripes` stripes is to be sealed, when `durable` commands are durable.
     pub(crate) fn seal(self, stripes: usize, durable: u64) -> Step {
         let Some(written) = self.checkpoint else {
             return self.answers(PlainOutcome::Refused(Refusal::WrongPhase));

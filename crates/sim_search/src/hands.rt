@@ -25,7 +25,7 @@ pub(crate) struct Hands {
 }
 
 impl Hands {
-    /// So many workers, all idle.
+    /// `workers` workers, all idle.
     pub(crate) fn new(alloc: Global, workers: usize) -> Result<Hands, AllocError> {
         Ok(Hands {
             hands: vec![in alloc; IDLE; workers]?,

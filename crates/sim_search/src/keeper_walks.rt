@@ -55,7 +55,7 @@ impl<'a> Life<'a> {
         stepped(Made::Gave(stripe), PlainEnd::Swept(count))
     }
 
-    /// A sweep is begun, or goes on, where so many tickets were drawn.
+    /// A sweep is begun, or goes on, when `tickets` tickets were drawn.
     pub(crate) fn begin_sweep(&mut self, tickets: u64) -> PlainOutcome {
         match self.sweep {
             SweepWalk::Waits { count, stripe } => self.sweep_take(count, stripe),
@@ -102,7 +102,7 @@ impl<'a> Life<'a> {
         }
     }
 
-    /// The keeper's walk makes its next step, where so many tickets were drawn.
+    /// The keeper's walk makes its next step, when `tickets` tickets were drawn.
     pub(crate) fn step_keeper(&mut self, tickets: u64) -> PlainOutcome {
         if let Some(walk) = self.capture {
             return self.step_capture(walk, tickets);

@@ -107,7 +107,7 @@ impl<'a> Call<'a> {
 }
 
 impl<'a> Life<'a> {
-    /// The life that begins after so many commands.
+    /// The life that begins after `first` commands.
     pub(crate) fn new(alloc: Global, stripes: usize, first: u64) -> Result<Life<'a>, AllocError> {
         let mut jobs = Vec::new(alloc);
         for _worker in 0..WORKERS {
@@ -159,7 +159,7 @@ impl<'a> Life<'a> {
         }
     }
 
-    /// How many commands from this one on are in hand without a gap, up to so many.
+    /// How many commands from this one on are in hand without a gap, up to `most`.
     pub(crate) fn run_from(&self, committed: u64, most: u32) -> u32 {
         let before = committed.saturating_sub(self.first);
         let mut number = 0u64;

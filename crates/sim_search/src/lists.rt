@@ -212,7 +212,7 @@ impl Maker {
         self.read(worker)
     }
 
-    // The worker begins a release: it takes one step where the reply is durable.
+    // The worker begins a release: it takes one step if the reply is durable.
     fn release(&mut self, worker: usize, hand: Hand) -> Event {
         self.hands.set(
             worker,
@@ -225,7 +225,7 @@ impl Maker {
         Event::Release { worker }
     }
 
-    // What a worker does next; nothing, mostly, where its reply isn't durable yet.
+    // What a worker does next; nothing, mostly, if its reply isn't durable yet.
     fn work(&mut self, worker: usize) -> Result<Option<Event>, AllocError> {
         let hand = self.hands.of(worker);
         if hand.left > 0 {

@@ -38,7 +38,7 @@ impl<'a> Past<'a> {
         self.map.answer(read)
     }
 
-    /// Only the first so many commands are left.
+    /// Only the first `count` commands are left.
     pub(crate) fn cut(&mut self, count: u64) -> Result<(), AllocError> {
         let commands = mem::replace(&mut self.commands, Vec::new(self.alloc));
         self.map = PlainMap::new(self.alloc);

@@ -122,7 +122,7 @@ fn now(value: Option<&Value>) -> Result<Effect, AllocError> {
     })
 }
 
-// The value becomes `value` where the old one is the expected one, and the reply is whether it was.
+// The value becomes `value` if the old one is the expected one, and the reply is whether it was.
 fn did(old: Option<&Value>, expected: &Value, value: Option<&Value>) -> Result<Effect, AllocError> {
     let is_expected = is_same_value(old, expected);
     Ok(Effect {

@@ -27,7 +27,7 @@ impl Random {
         mixed ^ (mixed >> 31)
     }
 
-    /// A number below the limit, or 0 where that is 0.
+    /// A number below the limit, or 0 if that is 0.
     pub(crate) fn below(&mut self, limit: u64) -> u64 {
         if limit == 0 {
             return 0;
@@ -35,7 +35,7 @@ impl Random {
         self.draw() % limit
     }
 
-    /// True once in so many times.
+    /// True once in `times` times.
     pub(crate) fn one_in(&mut self, times: u64) -> bool {
         self.below(times) == 0
     }
@@ -45,7 +45,7 @@ impl Random {
         (self.draw() & 0xff) as u8
     }
 
-    /// A place below the limit, or 0 where that is 0.
+    /// A place below the limit, or 0 if that is 0.
     pub(crate) fn place(&mut self, limit: usize) -> usize {
         self.below(limit as u64) as usize
     }

@@ -21,7 +21,7 @@ pub(crate) struct Reading<'a> {
     released: u64,
 }
 
-// Nothing where it was found; else what was wanted.
+// Nothing if it was found; else what was wanted.
 fn compared(
     alloc: Global,
     wanted: &PlainOutcome,
@@ -33,7 +33,7 @@ fn compared(
     Ok(Some(format!(in alloc; "{wanted:?}")?))
 }
 
-// What is wanted of an event of the keeper, where no device call has failed.
+// What is wanted of an event of the keeper, when no device call has failed.
 fn keeper_step(guess: Guess, life: &Life<'_>, event: &Event) -> Step {
     let wanted = match event {
         Event::Stage { most } => {
@@ -83,7 +83,7 @@ impl<'a> Reading<'a> {
         })
     }
 
-    /// Reads what came of the event. Gives what was wanted where that is something else.
+    /// Reads what came of the event. Gives what was wanted if that is something else.
     pub(crate) fn take(
         &mut self,
         event: &'a Event,
@@ -350,7 +350,7 @@ impl<'a> Reading<'a> {
         }
     }
 
-    // The store was opened with so many calls, after so many commands.
+    // The store was opened with `calls` calls, after `prefix` commands.
     fn opened(
         &mut self,
         calls: u64,

@@ -33,7 +33,7 @@ const REST: usize = 12;
 /// The parts of a checkpoint before its sections, each of which has four.
 const BEGINNING: usize = 10;
 
-// This part of a commit on so many stripes.
+// This part of a commit on `stripes` stripes.
 fn commit_part(at: usize, stripes: usize) -> Option<Part> {
     let walks = stripes.saturating_mul(2);
     if at == 0 {
@@ -76,7 +76,7 @@ fn seal_part(at: usize, stripes: usize) -> Option<Part> {
     }
 }
 
-// This part of a checkpoint of so many stripes.
+// This part of a checkpoint of `stripes` stripes.
 fn checkpoint_part(at: usize, stripes: usize) -> Option<Part> {
     match at {
         0 => return Some(Part::Begin),
@@ -102,7 +102,7 @@ impl Story {
         }
     }
 
-    /// This part of the story, if it has so many.
+    /// The part of the story at `at`, if it has one there.
     pub(crate) fn part(self, at: usize, stripes: usize) -> Option<Part> {
         match self {
             Story::Rest if at < REST => Some(Part::Rest),
