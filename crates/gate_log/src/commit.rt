@@ -11,8 +11,8 @@ use disk_model::Disk;
 use map_types::Refusal;
 use store_layout::Phase;
 
-/// Commits what is staged, by four device calls: the frame is written behind the closed gate, synced,
-/// and then the gate is opened, and that is synced.
+/// Commits what is staged, by four device calls. The frame is written behind the closed gate, and
+/// synced. Then the gate is opened, and that is synced.
 pub fn commit_staged<D: Disk>(log: &mut GateLog, disk: &mut D) -> Result<(), Refusal>
     // Something is staged, no call has failed, and the file is as the log knows it.
     requires phase { log.old.phase ≡ Phase.Staged }

@@ -146,7 +146,7 @@ fn entries_at(
     Ok(Some(entries))
 }
 
-/// The changes of a batch whose frame has these bytes behind its length, with their tickets; `None`
+/// The changes of a batch whose frame has these bytes behind its length, with their tickets. `None`
 /// if they aren't those of a batch that may come next.
 pub(crate) fn batch_at(
     alloc: Global,

@@ -79,8 +79,8 @@ fn begin_file<D: Disk>(alloc: Global, disk: &mut D, file: usize) -> Result<FileR
 }
 
 impl Scan {
-    /// Begins to read the log of this generation, whose low ticket is to be `low`: its header is to be
-    /// whole, and a gate is to stand behind it.
+    /// Begins to read the log of this generation, whose low ticket is to be `low`. Its header is to
+    /// be whole, and a gate is to stand behind it.
     pub fn begin<D: Disk>(
         alloc: Global,
         disk: &mut D,
