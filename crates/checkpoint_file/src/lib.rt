@@ -1,5 +1,5 @@
-//! The file of a checkpoint: its header and its sections are written behind a closed gate, which is opened by a write
-//! of its own once they are on the disk.
+//! The file of a checkpoint. Its header and its sections are written behind a closed gate. The gate
+//! is opened by a write of its own once they are on the disk.
 #![tactic(auto)]
 
 mod front;
