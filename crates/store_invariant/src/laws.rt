@@ -7,8 +7,8 @@ use store_layout::laws::{
     laws_of_checkpoints, laws_of_found, laws_of_logs, laws_of_restoring, laws_of_sections,
 };
 
-/// Whatever a stop leaves of a store, now and at each moment of a step, stands for a front of its history
-/// that has the committed commands, and no more than the staged ones besides.
+/// Whatever a stop leaves of a store, now and at each moment of a step, stands for a front of its
+/// history. That front has the committed commands, and no more than the staged ones besides.
 pub fn stops_of_a_store()
     // A stop at rest, or at any moment of a step, loses nothing committed.
     ensures rests { StoresStop }
