@@ -110,8 +110,8 @@ pub record IsUnused (first : ℕ) (p : Record) : Type 0 where
   pub published : p.published ≡ first
   pub works : p.failed ≡ false
 
--- An opening found these files, in which nothing is pending: of this generation is the sealed checkpoint, the log goes on behind the last
--- batch, and the pass begins with the map that they stand for.
+-- An opening found these files, in which nothing is pending. The sealed checkpoint is of this generation, the log goes
+-- on behind the last batch, and the pass begins with the map that they stand for.
 pub record IsFoundFor (p : Record) (sealed : ℕ) (log : LogState) (must_close : Bool) (files : Files) : Type 0 where
   pub contents : Contents
   pub settled : (n : ℕ) → n < 4 → files n ≡ at_rest (contents n)

@@ -26,8 +26,8 @@ pub struct Run {
     pub frame_len: usize,
 }
 
-/// The entries in hand, in a ring by their tickets: each entry is put into its place once, and the run
-/// from the first place on is found with no sorting.
+/// The entries in hand, in a ring by their tickets. Each entry is put into its place once, and the
+/// run from the first place on is found with no sorting.
 #[derive(Drop)]
 pub struct InHand {
     next: u64,

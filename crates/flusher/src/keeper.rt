@@ -66,8 +66,9 @@ pub struct Keeper<D: Disk> {
 }
 
 impl<D: Disk> Keeper<D> {
-    /// The keeper of a directory that was opened: of this generation is the checkpoint that was used,
-    /// and this log goes on behind the last batch of the newest log. It takes no memory.
+    /// The keeper of a directory that was opened. The checkpoint that was used is of this
+    /// generation, and this log goes on behind the last batch of the newest log. It takes no
+    /// memory.
     pub fn opened(
         alloc: Global,
         disk: D,

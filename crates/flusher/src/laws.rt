@@ -15,9 +15,9 @@ use disk_model::Disk;
 use store_invariant::laws::{beginnings_of_stores, stops_of_a_store};
 use store_layout::laws::laws_of_found;
 
-/// Whatever a stop leaves of the four files stands for a front of the history that the keeper's pass has
-/// seen, with the committed commands and no more than the staged ones besides, also after a device call
-/// has failed.
+/// Whatever a stop leaves of the four files stands for a front of the history that the keeper's
+/// pass has seen. That front has the committed commands, and no more than the staged ones besides,
+/// also after a device call has failed.
 pub fn stops_of_a_keeper<D: Disk>(_keeper: &Keeper<D>)
     ensures { (n : ℕ) (done : List Command) (p : Record)
         → Fits D.states D.honest n done _keeper.now p → D.honest _keeper.now.disk
@@ -26,9 +26,9 @@ pub fn stops_of_a_keeper<D: Disk>(_keeper: &Keeper<D>)
     stops_of_a_store();
 }
 
-/// What is committed was taken by the sweeps of the keeper's pass, ticket by ticket, and is the front
-/// of the one history from the pass's opening on: each entry of the history below the committed count
-/// was taken.
+/// What is committed was taken by the sweeps of the keeper's pass, ticket by ticket. It is the
+/// front of the one history from the pass's opening on: each entry of the history below the
+/// committed count was taken.
 pub fn committed_were_taken<D: Disk>(_keeper: &Keeper<D>)
     ensures front { (n : ℕ) (done : List Command) (p : Record)
         → Fits D.states D.honest n done _keeper.now p

@@ -1,4 +1,4 @@
-//! The keeper brings the entries of the stripes to the log: it sweeps their outboxes, holds the
+//! The keeper brings the entries of the stripes to the log. It sweeps their outboxes, holds the
 //! entries in hand, and commits them batch by batch in the order of their tickets.
 #![tactic(auto)]
 

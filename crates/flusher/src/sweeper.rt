@@ -284,8 +284,8 @@ fn with_room(in_hand: &mut InHand, walk: Walk) -> Walk
     }
 }
 
-// TAKE of a stripe for a sweep, which has then only its GIVE left and gives the stripe this vector
-// for its outbox; `None` if another holds it.
+// TAKE of a stripe for a sweep; `None` if another holds it. The sweep has then only its GIVE left,
+// and gives the stripe this vector for its outbox.
 fn hold<S: Steps>(spare: Vec<Entry>, stripe: usize, steps: &mut S) -> Option<Walk>
     // The keeper's pass holds no stripe, and there is this one.
     requires free { (S.recorded steps.old).holding ≡ None }
