@@ -82,8 +82,8 @@ pub record Checkpoints : Type 0 where
 abbrev pub checkpoints_of : {D : Type 0} → Keeper D → Checkpoints
 checkpoints_of keeper = record { sealed = keeper.sealed; writer = keeper.checkpoint; must_close = keeper.must_close }
 
--- with the checkpoint as it is after a call; after the last sync of a seal it is the sealed one, and the next goes to the file of the one
--- before, whose gate is open
+-- With the checkpoint as it is after a call. After the last sync of a seal it is the sealed one, and the next goes to
+-- the file of the one before, whose gate is open.
 abbrev pub kept_in : CheckpointPhase → CheckpointState → Checkpoints → Checkpoints
 kept_in Opened after before = record { sealed = after.generation; writer = None; must_close = true }
 kept_in phase after before = record before { writer = Some after }

@@ -36,8 +36,8 @@ abbrev pub FitsBy : {D : Type 0} → Option Walk → (D → List Files) → (D �
 FitsBy None states honest n done keeper p = Fits states honest n done keeper p
 FitsBy (Some walk) states honest n done keeper p = IsCapturing states honest n done keeper walk p
 
--- The keeper over n stripes, and the record of its pass, also between the steps of a capture; the commands of `done` were committed since
--- the pass's opening.
+-- The keeper over n stripes, and the record of its pass, also between the steps of a capture. The commands of `done`
+-- were committed since the pass's opening.
 abbrev pub FitsWalking : {D : Type 0} → (D → List Files) → (D → Type 0) → ℕ → List Command → Keeper D → Record → Type 0
 FitsWalking states honest n done keeper p = FitsBy keeper.capture states honest n done keeper p
 

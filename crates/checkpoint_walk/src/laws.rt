@@ -11,8 +11,8 @@ use disk_model::Disk;
 use flusher::{Keeper, stops_of_a_keeper};
 use store_layout::laws::laws_of_found;
 
-/// Whatever a stop leaves of the four files stands for a front of the history that the keeper's pass has
-/// seen, with the committed commands and no more than the staged ones besides.
+/// Whatever a stop leaves of the four files stands for a front of the history that the keeper's
+/// pass has seen. That front has the committed commands, and no more than the staged ones besides.
 pub fn stops_while_capturing<D: Disk>(keeper: &Keeper<D>)
     ensures { (n : ℕ) (done : List Command) (p : Record)
         → FitsWalking D.states D.honest n done keeper.now p → D.honest keeper.now.disk

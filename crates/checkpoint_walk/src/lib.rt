@@ -1,5 +1,5 @@
-//! A checkpoint is written while other threads work: the stripes are captured one by one, each at its
-//! own mark, and once all of them are committed the checkpoint is sealed.
+//! A checkpoint is written while other threads work. The stripes are captured one by one, each at
+//! its own mark. Once all marks are committed, the checkpoint is sealed.
 #![tactic(auto)]
 
 mod advancing;
