@@ -123,8 +123,8 @@ RefusesCall v asked other w = ⊥
 
 -- ---- calls that are begun, and finished later
 
--- A call was made by its steps, and its reply is held. The record grew by this call alone: a change's position is past all that the pass had seen,
--- and a read's is no less; the reply is legal there.
+-- A call was made by its steps, and its reply is held. The record grew by this call alone. A change's position is past
+-- all that the pass had seen, and a read's is no less. The reply is legal there.
 pub record HoldsCall (v : Record) (asked : Asked) (held : Held) (w : Record) : Type 0 where
   pub grew : GrewByCall v (position_of held) asked (reply_of held) w
   pub stripes : ℕ
@@ -142,7 +142,7 @@ pub record Begins (v : Record) (asked : Asked) (result : Result Held Refusal) (w
   pub goes_on : GoesOnByCalls v w
   pub adds : AddsBegun v asked result w
 
--- How a call ends that was made with this reply: it is given out once its position was found durable; or `Failed` is
+-- How a call ends that was made with this reply. It is given out once its position was found durable; or `Failed` is
 -- returned, once the store has failed before that.
 abbrev pub EndsWith : Record → ℕ → Reply → Result Reply Refusal → Record → Type 0
 EndsWith v position reply (Ok given) w = (given ≡ reply) × EndsDurable v position w
@@ -158,8 +158,8 @@ pub record GoesOnWith (v : Record) (others : List Call) (w : Record) : Type 0 wh
   pub beside : IsBeside v w
   pub calls : w.calls ≡ v.calls ++ others
 
--- A call was begun, and finished with other calls of its pass between: it was made by its steps, its reply is legal at its position in all that the
--- pass has seen, and it ended with this answer.
+-- A call was begun, and finished with other calls of its pass between. It was made by its steps, its reply is legal at
+-- its position in all that the pass has seen, and it ended with this answer.
 pub record CompletesAmong (v : Record) (asked : Asked) (answer : Result Reply Refusal) (w : Record) : Type 0 where
   pub position : ℕ
   pub reply : Reply
@@ -183,7 +183,8 @@ pub record Completes (v : Record) (asked : Asked) (result : Result Reply Refusal
   pub goes_on : GoesOnByCalls v w
   pub adds : Adds v asked result w
 
--- Two calls of a pass, one after the other: both are legal in the history that it has seen at last, and the second stands behind the first.
+-- Two calls of a pass, one after the other. Both are legal in the history that it has seen at last, and the second
+-- stands behind the first.
 pub record FollowEachOther (v : Record) (first : Asked) (one : Reply) (second : Asked) (other : Reply) (w : Record) : Type 0 where
   pub position : ℕ
   pub next : ℕ

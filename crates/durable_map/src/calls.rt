@@ -65,8 +65,8 @@ impl<D: Disk + Drop> DurableMap<D> {
     /// Waits until the position of a call that was begun is durable, and gives its reply out. Any pass
     /// of the map may finish it.
     ///
-    /// `Failed` if the store has failed before: the change, if it was one, was made, and may be found
-    /// again or not once the directory is opened anew.
+    /// `Failed` if the store has failed before. The change, if it was one, was made, and may be
+    /// found again or not once the directory is opened anew.
     pub fn finish<R: Wait>(&self, rt: &R, pass: &mut Pass, held: Held) -> Result<Reply, Refusal>
         requires ready { IsReady self.now pass.old }
         requires held { IsHeldOf self.now held }

@@ -17,8 +17,9 @@ pub fn calls_follow_each_other()
         → FollowEachOther v first one second other w }
 {}
 
-/// A call that was begun, and finished with others of its pass between, is completed as a whole call is:
-/// its reply is legal in what the pass has seen, and was given out once its position was durable.
+/// A call that was begun, and finished with others of its pass between, is completed as a whole
+/// call is. Its reply is legal in what the pass has seen, and was given out once its position was
+/// durable.
 pub fn begun_calls_complete()
     ensures { (v u x w : Record) (asked : Asked) (held : Held) (others : List Call)
         (answer : Result Reply Refusal) → Begins v asked (Ok held) u → GoesOnWith u others x

@@ -71,10 +71,10 @@ impl<D: Disk + Drop> DurableMap<D> {
     }
 }
 
-/// Commits what the passes change, and publishes it, until `ends` says so. It holds the lock over one
-/// device call at most. If a device call has failed, or the log is full, it makes a FAIL and returns
-/// `Failed` or `LogFull`: each later call is then refused with `Failed`. What it is refused for want of
-/// memory is tried again.
+/// Commits what the passes change, and publishes it, until `ends` says so. It holds the lock over
+/// one device call at most. If a device call has failed, or the log is full, it makes a FAIL and
+/// returns `Failed` or `LogFull`. Each later call is then refused with `Failed`. What it is refused
+/// for want of memory is tried again.
 pub fn flush_loop<D: Disk + Drop, E: Ends, R: Wait>(
     rt: &R,
     map: &DurableMap<D>,
