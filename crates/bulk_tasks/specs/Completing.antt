@@ -15,7 +15,8 @@ use Rattle.durable_map.specs.Durable.{EndsDurable, EndsFailed}
 use Rattle.bulk_tasks.specs.Parts.{parts_from}
 use Rattle.bulk_tasks.specs.ViewState.{ViewState}
 
--- The view of n stripes of the history at these marks: the union of the parts of the stripes, each after as many commands as its mark says.
+-- The view of n stripes of the history at these marks. It is the union of the parts of the stripes, each after as many
+-- commands as its mark says.
 abbrev pub view_of : ℕ → History → List ℕ → Map
 view_of n h marks = union_of (parts_from n 0 (map (fold_to h) marks))
 

@@ -91,9 +91,9 @@ impl View {
     }
 
     /// The plain left fold of `Sum`, `Max` or `Min` over the values in rising byte order of their
-    /// keys, whatever the threshold: `None` if there is no entry, and a fault if a value is a text. A
-    /// view with fewer entries than the threshold is folded in one thread. Another function is refused
-    /// with `UnknownFunction`. It takes no memory.
+    /// keys, whatever the threshold. `None` if there is no entry, and a fault if a value is a text.
+    /// A view with fewer entries than the threshold is folded in one thread. Another function is
+    /// refused with `UnknownFunction`. It takes no memory.
     pub fn reduce(
         &self,
         rt: &(impl Threads + Sync),
