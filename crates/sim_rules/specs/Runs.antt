@@ -109,8 +109,8 @@ abbrev pub most_of : List Command → Option Life → ℕ
 most_of history None = length history
 most_of history (Some l) = l.committed + staged_in l.log
 
--- These contents stand for a front of the history: it loses no command at whose position a reply was released, in any life; and in a life none that is
--- committed, and has none that isn't committed or staged.
+-- These contents stand for a front of the history. That front loses no command at whose position a reply was released,
+-- in any life. In a life it loses none that is committed, and has none that isn't committed or staged.
 pub record AreKept (w : World) (a : Machine) (contents : Contents) : Type 0 where
   pub front : StandsForFront (whole w.history) (least_of w.life) (most_of w.history w.life) contents
   pub released : AreReleasedTo front.count a.released
@@ -140,8 +140,8 @@ rows_onto rows es xs = rows
 abbrev pub rows_of : List Event → List Outcome → List Row
 rows_of es xs = rows_onto [] es xs
 
--- The outcomes are those of a run, whatever the events are: one for each event, each meets its case, the files stand for what they have to at each
--- moment, and together they are a run of the machine of one list.
+-- The outcomes are those of a run, whatever the events are. There is one for each event, and each meets its case. The
+-- files stand for what they have to at each moment. Together the outcomes are a run of the machine of one list.
 pub record IsRun (events : List Event) (outcomes : List Outcome) : Type 0 where
   pub one_each : length outcomes ≡ length events
   pub world : World

@@ -19,8 +19,8 @@ pub record IsSoundInside (rows : List Row) (w : World) (durable : ℕ) (released
   pub leads : LeadsTo rows w (machine w.history released)
   pub within : AreReleasedTo durable released
 
--- Between lives it may have kept each number of commands that no release forbids; and no reply was released above this count, which the next opening
--- reaches.
+-- Between lives it may have kept each number of commands that no release forbids. No reply was released above this
+-- count, which the next opening reaches.
 pub record IsSoundOutside (rows : List Row) (w : World) (least : ℕ) (released : List Call) : Type 0 where
   pub leads : (p : ℕ) → MayStop p (machine w.history released) → LeadsTo rows w (machine (take p w.history) released)
   pub within : AreReleasedTo least released
