@@ -138,8 +138,8 @@ abbrev pub KeeperRests : Type 0
 KeeperRests = (b : Book) (w w' : World) (l l' : Life) (doings : ℕ → Doing) → WorkersStand b w l doings → ConcernsNone w w' l l'
     → WorkersStand b w' l' doings
 
--- A step of the keeper leaves the workers as they are, and brings into hand no entry, or each that lies in the outbox of the stripe that it gives
--- back.
+-- A step of the keeper leaves the workers as they are. It brings into hand no entry, or each that lies in the outbox of
+-- the stripe that it gives back.
 abbrev pub KeeperSteps : Type 0
 KeeperSteps = (b b' : Book) (w w' : World) (l l' : Life) (doings : ℕ → Doing) (swept : Option ℕ) → WorkersStand b w l doings
     → KeeperMoves b b' w w' l l' → Gathers b b' w l l' swept → WorkersStand b' w' l' doings
