@@ -50,8 +50,8 @@ IsNext least next (Some l) = Unit {0}
 
 -- ---- the files now
 
--- Whatever a stop may leave now stands for a front of the history as it has to, of no fewer than `least` commands, and
--- so does what is read.
+-- Whatever a stop may leave now stands for a front of the history as it has to, of no fewer than `least` commands. So
+-- does what is read.
 pub record StandsNow (w : World) (least : ℕ) : Type 0 where
   pub left : (contents : Contents) → Leaves w.files contents → AreAbove w least contents
   pub read : AreAbove w least (seen_of w.files)
@@ -63,8 +63,8 @@ StopsWithin w least e x = Unit {0}
 
 -- ---- an event
 
--- The outcome meets the case of the event; a reply that it releases is one thread's, an opening finds a front of the history and is refused only
--- as it may be; and the store stands as the world then says.
+-- The outcome meets the case of the event. A reply that it releases is one thread's. An opening finds a front of the
+-- history, and is refused only as it may be. The store stands as the world then says.
 pub record DidStore (w : World) (least : ℕ) (e : Event) (x : Outcome) (store : Store) : Type 0 where
   pub found : Opened
   pub meets : Meets w found e x
@@ -78,7 +78,8 @@ pub record DidStore (w : World) (least : ℕ) (e : Event) (x : Outcome) (store :
 
 -- ---- a life begins
 
--- The world has a life that was just begun, with what was found; the keeper was opened over its files, and these are the parts of its map.
+-- The world has a life that was just begun, with what was found. The keeper was opened over its files, and these are
+-- the parts of its map.
 pub record IsOpening (w : World) (stripes : ℕ) (found : Opened) (keeper : Keeper Traced) (parts : List PartState) : Type 0 where
   pub life : w.life ≡ Some (begun_by stripes found)
   pub files : w.files ≡ now (traced_states keeper.disk)
@@ -97,8 +98,8 @@ pub record LiesOn (w : World) (least : ℕ) (disk : Traced) : Type 0 where
   pub reached : least ≤ length w.history
   pub stops : StopsStand (whole w.history) least (length w.history) w.files
 
--- A stop falls within this call of the life: the disk is as the call leaves it then, and whatever a stop leaves of that stands for a front of the
--- history as it has to, of no fewer commands than the durable count.
+-- A stop falls within this call of the life. The disk is as the call leaves it then. Whatever a stop leaves of that
+-- stands for a front of the history as it has to, of no fewer commands than the durable count.
 pub record IsInterrupted (w : World) (s : Side) (call : DeviceCall) (disk : Traced) : Type 0 where
   pub due : (l : Life) → w.life ≡ Some l → IsDue w l s call
   pub state : now (traced_states disk) ≡ entered call w.files
