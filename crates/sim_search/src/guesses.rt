@@ -253,7 +253,7 @@ impl Guess {
     }
 
     /// The same, if the write that is to close the gate of a checkpoint fails and leaves chosen
-    /// bytes: a file that had none may still have none.
+    /// bytes. A file that had none may still have none.
     pub(crate) fn device_leaving_none(self, side: Side, ending: &Ending) -> Option<Step> {
         let call = self.due(side)?;
         match ending {

@@ -74,8 +74,8 @@ pub(crate) struct Life<'a> {
     entries: Vec<Entry>,
 }
 
-/// The sum of the powers of 31 over the UTF-16 units of the text, in 32 bits, with its upper half mixed
-/// into the lower one: its last bits choose the stripe, of a number that is a power of two.
+/// The sum of the powers of 31 over the UTF-16 units of the text, in 32 bits, with its upper half
+/// mixed into the lower one. Its last bits choose the stripe, of a number that is a power of two.
 pub(crate) fn stripe_of(text: &str, stripes: usize) -> usize {
     let mut sum = 0u32;
     for character in text.chars() {
