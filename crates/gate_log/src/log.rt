@@ -1,4 +1,17 @@
 //! One log, and the device call that comes next in it.
+//!
+//! The phases, and what leads from each to the next. `advance` makes the device calls one by one:
+//!
+//! ```text
+//! new, begin:      Header -- write header, closed gate --> HeaderWritten -- sync --> Idle
+//! stage, end_with: Idle --> Staged -- write frame, closed gate --> Written -- sync --> Synced
+//!                  Synced -- open the gate before the frame --> Opened -- sync --> Idle
+//! ```
+//!
+//! After the last sync of a batch its commands are committed; after that of an end frame the log
+//! is over. In `Staged` zeros may be written ahead first (`ahead`). A call that fails breaks
+//! the log, which makes no more. `flusher` stages and makes the calls, `checkpoint_walk` makes the
+//! log that follows, `recovery` makes the first log and goes on with the one that it found.
 ghost use Rattle.std.specs.Prelude.{◌≡◌, ◌≢◌, ◌⊎◌, ◌↔◌, ℕ, ◌+◌, ◌<◌, ◌≤◌, ◌^◌, ◌++◌, ◌∷◌, [], List, length, Option, None, Some, true, false, IfErr, OnOk, OnErr};
 ghost use Rattle.disk_model.specs.Calls.{Makes, Fails};
 ghost use Rattle.disk_model.specs.Files.{File, now, at_rest};
