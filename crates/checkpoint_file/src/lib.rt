@@ -18,6 +18,7 @@ pub use gate::must_close;
 pub use head::{Head, read_head};
 pub use laws::stops_of_a_checkpoint;
 pub use loading::{LoadedCheckpoint, LoadedSection, load};
+pub use sections::header;
 pub use store_layout::CheckpointPhase;
 pub use writer::CheckpointWriter;
 /// The short name of the same type.

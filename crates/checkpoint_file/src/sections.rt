@@ -11,8 +11,9 @@ use map_types::{Key, Refusal, Value};
 use std::alloc::Global;
 use store_layout::{CHECKPOINT_HEADER_BYTES, VERSION};
 
-/// A checkpoint's header.
-pub(crate) fn header(
+/// The header of a checkpoint: its generation, its low ticket, its greatest mark, its stripes, and
+/// the length of its body in bytes.
+pub fn header(
     generation: u64,
     low: u64,
     greatest: u64,
