@@ -1,5 +1,5 @@
 -- The bytes of a new store's checkpoint.
-use Rattle.std.proofs.Common.{◌≡◌, ℕ, zero, suc, ◌+◌, List, [], ◌++◌, length, sym, ap, ap₂, ◌∙◌, append_assoc, append-nil, arith}
+use Rattle.std.proofs.Common.{◌≡◌, ℕ, zero, suc, ◌+◌, List, ◌++◌, length, sym, ap, ap₂, ◌∙◌, append_assoc, append-nil, arith}
 use Rattle.byteorder.specs.Endian.{big_bytes}
 use Rattle.map_types.specs.declared.texts.Value.{Value}
 use Rattle.log_records.specs.Layout.{first_layout}
@@ -27,17 +27,6 @@ one_more count before after e is =
     let next : suc count ≡ count + 1 = omega arith in
     is ∙ append_assoc before (big_bytes 8 0) (big_bytes 4 0) ∙ ap₂ (λ (l m : List ℕ). l ++ m) e (sym empty_bytes) ∙ (last_one 0 count ∙ ap Sections next)
 
--- the header is put together field by field
-whole : (a b c d e f s : List ℕ) → (((((a ++ b) ++ c) ++ d) ++ e) ++ f) ++ s ≡ (a ++ (b ++ (c ++ (d ++ (e ++ f))))) ++ s
-whole a b c d e f s =
-    ap (λ (l : List ℕ). l ++ s)
-    (append_assoc (((a ++ b) ++ c) ++ d) e f ∙ append_assoc ((a ++ b) ++ c) d (e ++ f) ∙ append_assoc (a ++ b) c (d ++ (e ++ f)) ∙ append_assoc a b (c ++ (d ++ (e ++ f))))
-
-pub first_bytes_are : (stripes version n body : ℕ) (s : List ℕ) → version ≡ 1 → n ≡ stripes → body ≡ length s → s ≡ Sections stripes
-    → ((((((([] ++ big_bytes 1 version) ++ big_bytes 8 0) ++ big_bytes 8 0) ++ big_bytes 8 0) ++ big_bytes 2 n) ++ big_bytes 8 body) ++ s) ≡ checkpoint_bytes first_layout (first_checkpoint stripes)
-unfolding checkpoint_header
-first_bytes_are stripes version n body s is_version is_n is_body is =
-    whole (big_bytes 1 version) (big_bytes 8 0) (big_bytes 8 0) (big_bytes 8 0) (big_bytes 2 n) (big_bytes 8 body) s
-    ∙ ap (λ (v : ℕ). (big_bytes 1 v ++ (big_bytes 8 0 ++ (big_bytes 8 0 ++ (big_bytes 8 0 ++ (big_bytes 2 n ++ big_bytes 8 body))))) ++ s) is_version
-    ∙ ap₂ (λ (m b : ℕ). checkpoint_header 0 0 0 m b ++ s) is_n is_body
-    ∙ ap₂ (λ (most : ℕ) (l : List ℕ). checkpoint_header 0 0 most stripes (length l) ++ l) (sym (greatest 0 stripes)) is
+-- no section has a mark above 0
+pub first_bytes_are : (stripes : ℕ) → checkpoint_header 0 0 0 stripes (length (Sections stripes)) ++ Sections stripes ≡ checkpoint_bytes first_layout (first_checkpoint stripes)
+first_bytes_are stripes = ap (λ (most : ℕ). checkpoint_header 0 0 most stripes (length (Sections stripes)) ++ Sections stripes) (sym (greatest 0 stripes))

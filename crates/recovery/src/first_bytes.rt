@@ -4,11 +4,11 @@ ghost use Rattle.log_records.specs.Layout.{first_layout};
 ghost use Rattle.store_layout.specs.Checkpoints.{checkpoint_bytes, sections_bytes};
 ghost use Rattle.store_layout.specs.Opening.{first_checkpoint};
 
+use checkpoint_file::header;
 use java_hash::StripeCount;
 use log_records::put_number;
 use map_types::Refusal;
 use std::alloc::Global;
-use store_layout::VERSION;
 
 // The sections, none of which has an entry.
 fn empty_sections(alloc: Global, stripes: StripeCount) -> Result<Vec<u8>, Refusal>
@@ -31,13 +31,9 @@ pub(crate) fn first_bytes(alloc: Global, stripes: StripeCount) -> Result<Vec<u8>
     ensures err { IfErr result (λ refusal. refusal ≡ Refusal.NoMemory) }
 {
     let sections = empty_sections(alloc, stripes)?;
+    let header = header(0, 0, 0, stripes, sections.len() as u64);
     let mut bytes = Vec::new(alloc);
-    put_number(1, u64::from(VERSION), &mut bytes)?;
-    put_number(8, 0, &mut bytes)?;
-    put_number(8, 0, &mut bytes)?;
-    put_number(8, 0, &mut bytes)?;
-    put_number(2, u64::from(stripes.count), &mut bytes)?;
-    put_number(8, sections.len() as u64, &mut bytes)?;
+    bytes.extend_from_slice(&header)?;
     bytes.extend_from_slice(&sections)?;
     Ok(bytes)
 }
