@@ -49,6 +49,7 @@ func_has_name func.Max = (codes "MAX", refl)
 func_has_name func.Min = (codes "MIN", refl)
 func_has_name func.Concat = (codes "CONCAT", refl)
 func_has_name func.SumNonzero = (codes "SUM_NONZERO", refl)
+func_has_name func.SumExact = (codes "SUM_EXACT", refl)
 
 -- ---- the words behind a key
 

@@ -47,6 +47,7 @@ funcs =
     ∷ (codes "MIN", func.Min)
     ∷ (codes "CONCAT", func.Concat)
     ∷ (codes "SUM_NONZERO", func.SumNonzero)
+    ∷ (codes "SUM_EXACT", func.SumExact)
     ∷ []
 
 abbrev pub func_named : Text → Option Func

@@ -93,6 +93,7 @@ pub(crate) fn func_named(name: &str) -> Option<Func>
         "MIN" => Some(Func::Min),
         "CONCAT" => Some(Func::Concat),
         "SUM_NONZERO" => Some(Func::SumNonzero),
+        "SUM_EXACT" => Some(Func::SumExact),
         _ => None,
     }
 }

@@ -46,6 +46,7 @@ func_known func.Max = refl
 func_known func.Min = refl
 func_known func.Concat = refl
 func_known func.SumNonzero = refl
+func_known func.SumExact = refl
 
 pub method_known : (m : Method) → numbered method_number UnknownMethod all_methods (method_number m) ≡ Ok m
 unfolding numbered
@@ -60,7 +61,7 @@ method_known method.ComputeIfAbsent = refl
 method_known method.ComputeIfPresent = refl
 method_known method.Merge = refl
 
-func_in_range : (n : ℕ) → (n ≡ 0) ⊎ (8 < n) → (f : Func) → func_number f ≡ n → ⊥
+func_in_range : (n : ℕ) → (n ≡ 0) ⊎ (9 < n) → (f : Func) → func_number f ≡ n → ⊥
 func_in_range n out func.Const e = elim out [ inl z ↦ omega arith | inr g ↦ omega arith ]
 func_in_range n out func.Drop e = elim out [ inl z ↦ omega arith | inr g ↦ omega arith ]
 func_in_range n out func.Keep e = elim out [ inl z ↦ omega arith | inr g ↦ omega arith ]
@@ -69,6 +70,7 @@ func_in_range n out func.Max e = elim out [ inl z ↦ omega arith | inr g ↦ om
 func_in_range n out func.Min e = elim out [ inl z ↦ omega arith | inr g ↦ omega arith ]
 func_in_range n out func.Concat e = elim out [ inl z ↦ omega arith | inr g ↦ omega arith ]
 func_in_range n out func.SumNonzero e = elim out [ inl z ↦ omega arith | inr g ↦ omega arith ]
+func_in_range n out func.SumExact e = elim out [ inl z ↦ omega arith | inr g ↦ omega arith ]
 
 method_in_range : (n : ℕ) → (n < 16) ⊎ (25 < n) → (m : Method) → method_number m ≡ n → ⊥
 method_in_range n out method.Put e = elim out [ inl z ↦ omega arith | inr g ↦ omega arith ]
@@ -82,7 +84,7 @@ method_in_range n out method.ComputeIfAbsent e = elim out [ inl z ↦ omega arit
 method_in_range n out method.ComputeIfPresent e = elim out [ inl z ↦ omega arith | inr g ↦ omega arith ]
 method_in_range n out method.Merge e = elim out [ inl z ↦ omega arith | inr g ↦ omega arith ]
 
-pub func_unknown : (n : ℕ) → (n ≡ 0) ⊎ (8 < n) → numbered func_number UnknownFunction all_funcs n ≡ Err UnknownFunction
+pub func_unknown : (n : ℕ) → (n ≡ 0) ⊎ (9 < n) → numbered func_number UnknownFunction all_funcs n ≡ Err UnknownFunction
 func_unknown n out = numbered-unknown func_number UnknownFunction all_funcs n (func_in_range n out)
 
 pub method_unknown : (n : ℕ) → (n < 16) ⊎ (25 < n) → numbered method_number UnknownMethod all_methods n ≡ Err UnknownMethod

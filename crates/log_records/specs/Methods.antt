@@ -1,7 +1,7 @@
 -- The numbers of the methods that change the map.
 use Rattle.std.specs.Prelude.{ℕ, List, [], ◌∷◌}
 use Rattle.map_types.specs.declared.commands.Func.{Func}
-use Rattle.map_types.specs.declared.commands.Func.TheVariants.{Const, Drop, Keep, Sum, Max, Min, Concat, SumNonzero}
+use Rattle.map_types.specs.declared.commands.Func.TheVariants.{Const, Drop, Keep, Sum, Max, Min, Concat, SumNonzero, SumExact}
 use Rattle.map_types.specs.declared.commands.Change.{Change}
 use Rattle.map_types.specs.declared.commands.Change.TheVariants as change
 use Rattle.log_records.specs.declared.methods.Method.{Method}
@@ -23,7 +23,7 @@ abbrev pub all_methods : List Method
 all_methods = Put ∷ PutIfAbsent ∷ Remove ∷ RemoveIf ∷ Replace ∷ ReplaceIf ∷ Compute ∷ ComputeIfAbsent ∷ ComputeIfPresent ∷ Merge ∷ []
 
 abbrev pub all_funcs : List Func
-all_funcs = Const ∷ Drop ∷ Keep ∷ Sum ∷ Max ∷ Min ∷ Concat ∷ SumNonzero ∷ []
+all_funcs = Const ∷ Drop ∷ Keep ∷ Sum ∷ Max ∷ Min ∷ Concat ∷ SumNonzero ∷ SumExact ∷ []
 
 -- the method that a change calls
 abbrev pub method_of : Change → Method

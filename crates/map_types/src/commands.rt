@@ -25,13 +25,15 @@ pub enum Func {
     Concat,
     /// As `Sum`, and absent if the sum is 0.
     SumNonzero,
+    /// As `Sum`, and a fault if the sum has more than 64 bits (Java's `Math.addExact`).
+    SumExact,
 }
 
 impl Func {
-    /// The function with this number, from 1 to 8.
+    /// The function with this number, from 1 to 9.
     pub fn of(number: u8) -> Option<Func>
         ensures found { IfSome result (λ func. func_number func ≡ number) }
-        ensures unknown { IfNone result ((number ≡ 0) ⊎ (8 < number)) }
+        ensures unknown { IfNone result ((number ≡ 0) ⊎ (9 < number)) }
     {
         match number {
             1 => Some(Func::Const),
@@ -42,6 +44,7 @@ impl Func {
             6 => Some(Func::Min),
             7 => Some(Func::Concat),
             8 => Some(Func::SumNonzero),
+            9 => Some(Func::SumExact),
             _ => None,
         }
     }
@@ -58,6 +61,7 @@ impl Func {
             Func::Min => 6,
             Func::Concat => 7,
             Func::SumNonzero => 8,
+            Func::SumExact => 9,
         }
     }
 }
@@ -108,6 +112,8 @@ pub enum FuncError {
     WrongKind,
     #[error("2 TooLong")]
     TooLong,
+    #[error("3 Overflow")]
+    Overflow,
 }
 
 impl FuncError {
@@ -117,6 +123,7 @@ impl FuncError {
         match self {
             FuncError::WrongKind => 1,
             FuncError::TooLong => 2,
+            FuncError::Overflow => 3,
         }
     }
 }

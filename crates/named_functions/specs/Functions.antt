@@ -1,12 +1,12 @@
--- The table of the eight named functions of an old value, or absent, and an argument, or absent.
-use Rattle.std.specs.Prelude.{ℕ, ◌+◌, ◌≡◌, Bool, true, false, cond, Option, None, Some, Result, Ok, Err, List, ◌++◌, length, nat_le, ℤ, pos, ◌+ℤ◌, if◌then◌else◌}
+-- The table of the nine named functions of an old value, or absent, and an argument, or absent.
+use Rattle.std.specs.Prelude.{ℕ, ◌^◌, Bool, ◌&&◌, Option, None, Some, Result, Ok, Err, List, ◌++◌, length, nat_le, ℤ, pos, neg_ℤ, ◌+ℤ◌, int_le, int_lt, if◌then◌else◌}
 use Rattle.std.specs.Int.{int_max, int_min, int_wrap}
 use Rattle.std.specs.Ordering.{int_eq}
 use mir.Syntax.{w64}
 use Rattle.map_types.specs.declared.commands.Func.{Func}
-use Rattle.map_types.specs.declared.commands.Func.TheVariants.{Const, Drop, Keep, Sum, Max, Min, Concat, SumNonzero}
+use Rattle.map_types.specs.declared.commands.Func.TheVariants.{Const, Drop, Keep, Max, Min, Concat, SumNonzero, SumExact}
 use Rattle.map_types.specs.declared.commands.FuncError.{FuncError}
-use Rattle.map_types.specs.declared.commands.FuncError.TheVariants.{WrongKind, TooLong}
+use Rattle.map_types.specs.declared.commands.FuncError.TheVariants.{WrongKind, TooLong, Overflow}
 use Rattle.map_types.specs.declared.texts.Value.{Value}
 use Rattle.map_types.specs.declared.texts.Value.TheVariants.{Int, Text}
 
@@ -25,6 +25,20 @@ abbrev pub on_texts : Option Value → Option Value → Result (Option Value) Fu
 on_texts None (Some (Text b)) = Ok (Some (Text b))
 on_texts (Some (Text a)) (Some (Text b)) = bounded_text (a ++ b)
 on_texts old arg = Err WrongKind
+
+-- -2^63 ≤ n and n < 2^63
+abbrev pub has_64_signed_bits : ℤ → Bool
+has_64_signed_bits n = int_le (neg_ℤ (pos (2 ^ 63))) n && int_lt n (pos (2 ^ 63))
+
+-- the number, if it has 64 signed bits
+abbrev pub exact_number : ℤ → Result (Option Value) FuncError
+exact_number n = if has_64_signed_bits n then Ok (Some (Int n)) else Err Overflow
+
+-- The sum, if it has 64 signed bits. If `old` is absent, the argument stands for it.
+abbrev pub on_exact_numbers : Option Value → Option Value → Result (Option Value) FuncError
+on_exact_numbers None (Some (Int b)) = Ok (Some (Int b))
+on_exact_numbers (Some (Int a)) (Some (Int b)) = exact_number (a +ℤ b)
+on_exact_numbers old arg = Err WrongKind
 
 abbrev pub some_number : ℤ → Option Value
 some_number n = Some (Int n)
@@ -52,4 +66,5 @@ apply Const old arg = Ok arg
 apply Drop old arg = Ok None
 apply Keep old arg = Ok old
 apply Concat old arg = on_texts old arg
+apply SumExact old arg = on_exact_numbers old arg
 apply f old arg = on_numbers (combine_of f) (keep_of f) old arg

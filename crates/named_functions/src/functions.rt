@@ -1,5 +1,5 @@
-//! The eight named functions of an old value and an argument.
-ghost use Rattle.std.specs.Prelude.{◌≡◌, ◌++◌, IfOk, IfErr, Ok, Err};
+//! The nine named functions of an old value and an argument.
+ghost use Rattle.std.specs.Prelude.{◌≡◌, ◌++◌, ◌+ℤ◌, IfOk, IfErr, Ok, Err};
 ghost use Rattle.std.specs.Option.{option_copied};
 ghost use Rattle.named_functions.specs.Functions as functions;
 
@@ -18,8 +18,8 @@ pub fn copied(value: Option<&Value>) -> Result<Option<Value>, Refusal>
 }
 
 /// What the function gives for the old value and the argument, or its fault. Refuses with `NoMemory`
-/// alone. The sums, the greater and the lesser are those of Java's `Long`, and a text is joined as by
-/// its `String.concat`.
+/// alone. The sums, the greater and the lesser are those of Java's `Long`, the exact sum is that of its
+/// `Math.addExact`, and a text is joined as by its `String.concat`.
 pub fn apply(
     alloc: Global,
     func: Func,
@@ -39,6 +39,7 @@ pub fn apply(
         Func::Max => Ok(on_numbers(Func::Max, old, arg)),
         Func::Min => Ok(on_numbers(Func::Min, old, arg)),
         Func::SumNonzero => Ok(on_numbers(Func::SumNonzero, old, arg)),
+        Func::SumExact => Ok(on_exact_numbers(old, arg)),
     }
 }
 
@@ -82,6 +83,26 @@ fn kept(func: Func, number: i64) -> Option<Value>
     match func {
         Func::SumNonzero if number == 0 => None,
         _ => Some(Value::Int(number)),
+    }
+}
+
+fn on_exact_numbers(old: Option<&Value>, arg: Option<&Value>) -> Result<Option<Value>, FuncError>
+    ensures { result ≡ functions.on_exact_numbers
+        (option_copied old.entry) (option_copied arg.entry) }
+{
+    match (old, arg) {
+        (None, Some(Value::Int(arg))) => Ok(Some(Value::Int(*arg))),
+        (Some(Value::Int(old)), Some(Value::Int(arg))) => exact_sum(*old, *arg),
+        _ => Err(FuncError::WrongKind),
+    }
+}
+
+fn exact_sum(old: i64, arg: i64) -> Result<Option<Value>, FuncError>
+    ensures { result ≡ functions.exact_number (old +ℤ arg) }
+{
+    match old.checked_add(arg) {
+        Some(sum) => Ok(Some(Value::Int(sum))),
+        None => Err(FuncError::Overflow),
     }
 }
 

@@ -1,4 +1,4 @@
-//! The eight named functions of an old value and an argument.
+//! The nine named functions of an old value and an argument.
 #![tactic(auto)]
 
 mod functions;

@@ -4,7 +4,7 @@ use Rattle.std.proofs.lemmas.List.{append-nil}
 use Rattle.map_types.specs.declared.refusals.Refusal.{Refusal}
 use Rattle.map_types.specs.declared.texts.Value.{Value}
 use Rattle.map_types.specs.declared.commands.Reply.TheVariants.{Was, Now, Did, Fault}
-use Rattle.map_types.specs.declared.commands.FuncError.TheVariants.{WrongKind, TooLong}
+use Rattle.map_types.specs.declared.commands.FuncError.TheVariants.{WrongKind, TooLong, Overflow}
 use Rattle.log_records.specs.Agreement.{IsBytes, Agrees}
 use Rattle.log_records.specs.Spelling.{IsArgument, value_bytes}
 use Rattle.log_records.specs.Reading.{value_at}
@@ -61,6 +61,7 @@ value_fits (Ok (Did true)) fits = omega arith
 value_fits (Ok (Did false)) fits = omega arith
 value_fits (Ok (Fault WrongKind)) fits = omega arith
 value_fits (Ok (Fault TooLong)) fits = omega arith
+value_fits (Ok (Fault Overflow)) fits = omega arith
 value_fits (Err refusal) fits = tt
 
 pub value_is : (body : List ℕ) (answer : Answer) (status : ℕ) (rest : List ℕ) → IsReply body answer → body ≡ status ∷ rest → rest ≡ value_bytes (reply_value answer)

@@ -76,6 +76,7 @@ fn fault_of(value: &Option<Value>) -> Option<FuncError>
     match value {
         Some(Value::Int(1)) => Some(FuncError::WrongKind),
         Some(Value::Int(2)) => Some(FuncError::TooLong),
+        Some(Value::Int(3)) => Some(FuncError::Overflow),
         _ => None,
     }
 }
