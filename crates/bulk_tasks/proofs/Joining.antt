@@ -6,7 +6,7 @@ use mir.Syntax.{w64}
 use Rattle.std.proofs.lemmas.Int.{ints, int_max_is, int_min_is, int_wrap-add_left, int_wrap-add_right}
 use Rattle.std.specs.FinMap as finite
 use Rattle.map_types.specs.declared.commands.Func.{Func}
-use Rattle.map_types.specs.declared.commands.Func.TheVariants.{Const, Drop, Keep, Sum, Max, Min, Concat, SumNonzero}
+use Rattle.map_types.specs.declared.commands.Func.TheVariants.{Const, Drop, Keep, Sum, Max, Min, Concat, SumNonzero, SumExact}
 use Rattle.map_types.specs.declared.texts.Value.{Value}
 use Rattle.map_types.specs.declared.texts.Value.TheVariants.{Int, Text}
 use Rattle.named_functions.specs.Functions.{wrapping_sum, combine_of}
@@ -47,6 +47,7 @@ combine_assoc Keep a b c = sum_assoc a b c
 combine_assoc Sum a b c = sum_assoc a b c
 combine_assoc Concat a b c = sum_assoc a b c
 combine_assoc SumNonzero a b c = sum_assoc a b c
+combine_assoc SumExact a b c = sum_assoc a b c
 
 combine_comm : (f : Func) (a b : ℤ) → combine_of f a b ≡ combine_of f b a
 combine_comm Max a b = max_comm a b
@@ -57,6 +58,7 @@ combine_comm Keep a b = sum_comm a b
 combine_comm Sum a b = sum_comm a b
 combine_comm Concat a b = sum_comm a b
 combine_comm SumNonzero a b = sum_comm a b
+combine_comm SumExact a b = sum_comm a b
 
 pub joined_assoc : (f : Func) (a b c : Tally) → joined f (joined f a b) c ≡ joined f a (joined f b c)
 joined_assoc f Nothing b c = refl
@@ -120,6 +122,7 @@ one_more Drop t v r = absurd r
 one_more Keep t v r = absurd r
 one_more Concat t v r = absurd r
 one_more SumNonzero t v r = absurd r
+one_more SumExact t v r = absurd r
 
 in_turn : (f : Func) (t : Tally) (es : Entries) → IsReducing f → fold (folded f) (answer_of t) (map (λ (e : List ℕ × Value). e.1) es) ≡ answer_of (fold (counted f) t es)
 in_turn f t [] r = refl

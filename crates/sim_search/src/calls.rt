@@ -23,7 +23,7 @@ const TEXTS: [&str; 6] = ["", "t", "uv", "\u{e9}", "word", "\u{1f600}"];
 
 const NUMBERS: [i64; 10] = [0, 1, 2, 3, -1, -2, 7, 100, i64::MAX, i64::MIN];
 
-const FUNCS: [Func; 8] = [
+const FUNCS: [Func; 9] = [
     Func::Const,
     Func::Drop,
     Func::Keep,
@@ -32,6 +32,7 @@ const FUNCS: [Func; 8] = [
     Func::Min,
     Func::Concat,
     Func::SumNonzero,
+    Func::SumExact,
 ];
 
 /// How long a long text is.
@@ -76,7 +77,7 @@ fn argument(alloc: Global, random: &mut Random) -> Result<Option<Value>, AllocEr
 }
 
 fn func(random: &mut Random) -> Func {
-    FUNCS.get(random.place(8)).copied().unwrap_or(Func::Keep)
+    FUNCS.get(random.place(9)).copied().unwrap_or(Func::Keep)
 }
 
 fn change(alloc: Global, random: &mut Random) -> Result<Change, AllocError> {

@@ -47,6 +47,15 @@ fn numbers(func: Func, old: i64, new: i64) -> Option<Value> {
     }
 }
 
+// The sum of two numbers, if it has 64 bits.
+fn exact(old: i64, new: i64) -> Result<Option<Value>, FuncError> {
+    let sum = i128::from(old) + i128::from(new);
+    match i64::try_from(sum) {
+        Ok(sum) => Ok(Some(Value::Int(sum))),
+        Err(_) => Err(FuncError::Overflow),
+    }
+}
+
 // What a function of numbers gives.
 fn number_of(
     func: Func,
@@ -54,6 +63,9 @@ fn number_of(
     argument: Option<&Value>,
 ) -> Result<Option<Value>, FuncError> {
     match (old, argument) {
+        (Some(Value::Int(old)), Some(Value::Int(new))) if func == Func::SumExact => {
+            exact(*old, *new)
+        }
         (Some(Value::Int(old)), Some(Value::Int(new))) => Ok(numbers(func, *old, *new)),
         (None, Some(Value::Int(0))) if func == Func::SumNonzero => Ok(None),
         (None, Some(Value::Int(new))) => Ok(Some(Value::Int(*new))),
@@ -100,7 +112,7 @@ fn applied(
         Func::Drop => Ok(Ok(None)),
         Func::Keep => Ok(Ok(copy(old)?)),
         Func::Concat => text_of(alloc, old, argument),
-        Func::Sum | Func::Max | Func::Min | Func::SumNonzero => {
+        Func::Sum | Func::Max | Func::Min | Func::SumNonzero | Func::SumExact => {
             Ok(number_of(func, old, argument))
         }
     }

@@ -101,6 +101,7 @@ fn answers_of_two<R: Threads + Sync>(rt: &R, view: &View, threshold: u64) -> boo
         && gives(rt, view, Func::Max, threshold, 7)
         && gives(rt, view, Func::Min, threshold, 5)
         && view.reduce(rt, Func::Concat, threshold) == Err(Refusal::UnknownFunction)
+        && view.reduce(rt, Func::SumExact, threshold) == Err(Refusal::UnknownFunction)
 }
 
 // Whether a view of a: 1, b: 2 and c: a text does.

@@ -71,7 +71,7 @@ fn functions_by_number(rt: HostRuntime) {
         let known = Func::of(number).map(|func| func.number());
         assert_eq!(rt;
             known,
-            if number >= 1 && number <= 8 {
+            if number >= 1 && number <= 9 {
                 Some(number)
             } else {
                 None

@@ -45,7 +45,7 @@ impl Dice {
     }
 
     fn func(&mut self) -> Func {
-        match self.below(8) {
+        match self.below(9) {
             0 => Func::Const,
             1 => Func::Drop,
             2 => Func::Keep,
@@ -53,7 +53,8 @@ impl Dice {
             4 => Func::Max,
             5 => Func::Min,
             6 => Func::Concat,
-            _ => Func::SumNonzero,
+            7 => Func::SumNonzero,
+            _ => Func::SumExact,
         }
     }
 
