@@ -104,7 +104,8 @@ impl Report {
         self.reply(Reply::Did(true), "did yes")?;
         self.reply(Reply::Did(false), "did no")?;
         self.reply(Reply::Fault(FuncError::WrongKind), "fault 1 WrongKind")?;
-        self.reply(Reply::Fault(FuncError::TooLong), "fault 2 TooLong")
+        self.reply(Reply::Fault(FuncError::TooLong), "fault 2 TooLong")?;
+        self.reply(Reply::Fault(FuncError::Overflow), "fault 3 Overflow")
     }
 
     fn add_text_reply(&mut self) -> Result<(), AllocError> {
