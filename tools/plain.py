@@ -10,7 +10,9 @@ OPEN_GATE, VERSION = 0xA5, 1
 NULL_VALUE, KEY_TOO_LONG, VALUE_TOO_LONG, UNKNOWN_METHOD, UNKNOWN_FUNCTION, BAD_FRAME = 1, 2, 3, 4, 5, 6
 NOT_FORMATTED, DAMAGED, WRONG_VERSION, NOT_TEXT = 11, 12, 13, 18
 WAS, NOW, DID, FAULT = 0, 1, 2, 3
-WRONG_KIND, TOO_LONG = 1, 2
+WRONG_KIND, TOO_LONG, OVERFLOW = 1, 2, 3
+# What the program prints of a fault.
+FAULTS = {WRONG_KIND: "1 WrongKind", TOO_LONG: "2 TooLong", OVERFLOW: "3 Overflow"}
 COUNT, REDUCE, SEARCH = 32, 33, 34
 # The functions that reduce: SUM, MAX, MIN.
 REDUCING = (4, 5, 6)
@@ -72,7 +74,7 @@ class Bytes:
 
     def function(self):
         number = self.number(1)
-        if number not in range(1, 9):
+        if number not in range(1, 10):
             raise Refused(UNKNOWN_FUNCTION)
         return number
 
@@ -164,7 +166,10 @@ def applied(function, old, arg):
         return text
     if function in (5, 6):
         return arg if old is None else max(old, arg) if function == 5 else min(old, arg)
-    result = arg if old is None else wrapped(old + arg)
+    result = arg if old is None else old + arg
+    if function == 9 and result != wrapped(result):
+        raise Fault(OVERFLOW)
+    result = wrapped(result)
     return None if function == 8 and result == 0 else result
 
 
