@@ -26,7 +26,6 @@ change_left (change.HasDrawn t h) = omega arith
 read_left : (s : ReadStage) → 1 ≤ left_of_read s
 read_left (read.Begins r) = omega arith
 read_left (read.HasTaken r t) = omega arith
-read_left (read.IsAlive r t) = omega arith
 read_left (read.HasRead r t h) = omega arith
 
 release_left : (s : ReleaseStage) → 1 ≤ left_of_release s

@@ -1,5 +1,5 @@
 -- How each step of a sweep and of a capture leads from one standing to the next.
-use Rattle.std.proofs.Common.{◌≡◌, ℕ, ◌+◌, ◌^◌, ◌≤◌, false, List, [], ◌∷◌, ◌++◌, Some, None, length, append-nil, refl, sym, ap, ◌∙◌, subst}
+use Rattle.std.proofs.Common.{◌≡◌, ℕ, ◌+◌, ◌^◌, ◌≤◌, false, List, [], ◌∷◌, ◌++◌, Some, None, length, refl, sym, ap, ◌∙◌, subst}
 use Rattle.std.specs.FinMap as finite
 use Rattle.map_types.specs.declared.commands.Command.{Command}
 use Rattle.map_types.specs.declared.refusals.Refusal.{Refusal}
@@ -19,13 +19,14 @@ use Rattle.ticket_order.specs.Calls.{CapturesStripe, HasLookedAt, HasTooMany, Sw
 use Rattle.ticket_order.specs.Walks.{Task, ToCapture, Refuses, HasContent, TookContent, HasSwept, HasCopied, IsRefusing}
 use Rattle.ticket_order.proofs.Apart.{not_full_by_memory}
 
-pub may_sweep : (n : ℕ) (b p : Record) (task : Task) (t : Taken) (x : Stripe) → HasSwept n b task t p → x.part.map ≡ t.content.part.map → x.outbox.items ≡ [] → MayGive n p t.stripe x Sweep
-may_sweep n b p task t x k part outbox = record {
-  held = record { stripe = t.stripe; part = t.content.part.map; outbox = t.content.outbox.items; has_drawn = false; looked = None };
+pub may_sweep : (n : ℕ) (b p : Record) (task : Task) (t : Taken) (x : Stripe) → HasSwept n b task t p → x.part.map ≡ t.content.part.map → x.outbox.items ≡ [] → x.last ≡ t.content.last → MayGive n p t.stripe x Sweep
+may_sweep n b p task t x k part outbox last = record {
+  held = record { stripe = t.stripe; part = t.content.part.map; outbox = t.content.outbox.items; last = t.content.last; has_drawn = false; looked = None };
   holding = ap (λ (z : Record). z.holding) k.took.is;
   stripe_is = refl;
   part_is = part;
   outbox_is = outbox;
+  last_is = last;
   suits = (ap (λ (z : Record). z.keeper) k.took.is ∙ k.keeper, refl);
 }
 
@@ -34,6 +35,7 @@ swept n b p w task t es k g same =
     let kept : Collects n t.stripe b t.content.outbox.items p = k.took.collects k.keeper in
     subst (λ xs. SweepsStripe n b t.stripe xs w) (sym same) (record {
       part = t.content.part.map;
+      last = t.content.last;
       between = k.took.between;
       is = g.is ∙ ap (giving Sweep) k.took.is;
       rises = subst (λ (z : Record). Rises b (past t.content.outbox.items) z) (sym g.is) k.took.rises;
@@ -48,17 +50,18 @@ captured_stripe_of task = 0
 pub swept_back : (n : ℕ) (b p : Record) (task : Task) (t : Taken) → HasSwept n b task t p → IsRefusing n b task t refusal.NoMemory p
 swept_back n b p task t k = record {
   content = record {
-    held = record { stripe = t.stripe; part = t.content.part.map; outbox = t.content.outbox.items; has_drawn = false; looked = None };
+    held = record { stripe = t.stripe; part = t.content.part.map; outbox = t.content.outbox.items; last = t.content.last; has_drawn = false; looked = None };
     holding = ap (λ (z : Record). z.holding) k.took.is;
     stripe_is = refl;
     part_is = refl;
     outbox_is = refl;
+    last_is = refl;
   };
   refused = subst (λ z. Refuses n b z refusal.NoMemory (giving Nothing p)) (sym k.task_is) (record {
     holder = p;
-    before = record { part = t.content.part.map; outbox = t.content.outbox.items; taken = k.took.between; is = k.took.is };
+    before = record { part = t.content.part.map; outbox = t.content.outbox.items; last = t.content.last; taken = k.took.between; is = k.took.is };
     is = refl;
-    same_calls = append-nil p.calls ∙ ap (λ (z : Record). z.calls) k.took.is;
+    same_calls = ap (λ (z : Record). z.calls) k.took.is;
   });
   too_many = λ full. absurd (not_full_by_memory full);
 }
@@ -67,25 +70,26 @@ swept_back n b p task t k = record {
 pub record Viewed (b : Record) (t : Taken) (p : Record) : Type 0 where
   pub taken : List Command
   pub looked : List Command
-  pub is : p ≡ looking (taking b t.stripe t.content.part.map t.content.outbox.items taken) looked
+  pub is : p ≡ looking (taking b t.stripe t.content.part.map t.content.outbox.items t.content.last taken) looked
 
 pub viewed : (b p w : Record) (q : ℕ) (t : Taken) → TookContent b t p → Looks p q w → Viewed b t w
 viewed b p w q t k l = record { taken = k.taken; looked = l.between; is = l.is ∙ ap (λ (z : Record). looking z l.between) k.is }
 
 content_viewed : (b p : Record) (t : Taken) → Viewed b t p → HasContent p t
 content_viewed b p t k = record {
-  held = record { stripe = t.stripe; part = t.content.part.map; outbox = t.content.outbox.items; has_drawn = false; looked = Some (b.opening.first + length ((b.seen ++ k.taken) ++ k.looked)) };
+  held = record { stripe = t.stripe; part = t.content.part.map; outbox = t.content.outbox.items; last = t.content.last; has_drawn = false; looked = Some (b.opening.first + length ((b.seen ++ k.taken) ++ k.looked)) };
   holding = ap (λ (z : Record). z.holding) k.is;
   stripe_is = refl;
   part_is = refl;
   outbox_is = refl;
+  last_is = refl;
 }
 
 looked_at : (b p : Record) (t : Taken) → Viewed b t p → HasLookedAt b t.stripe p
-looked_at b p t k = record { part = t.content.part.map; outbox = t.content.outbox.items; taken = k.taken; looked = k.looked; is = k.is }
+looked_at b p t k = record { part = t.content.part.map; outbox = t.content.outbox.items; last = t.content.last; taken = k.taken; looked = k.looked; is = k.is }
 
 same_calls : (b p : Record) (t : Taken) → Viewed b t p → (giving Nothing p).calls ≡ b.calls
-same_calls b p t k = append-nil p.calls ∙ ap (λ (z : Record). z.calls) k.is
+same_calls b p t k = ap (λ (z : Record). z.calls) k.is
 
 pub capture_starved : (n : ℕ) (b p : Record) (task : Task) (t : Taken) (e : Refusal) → task ≡ ToCapture t.stripe → Viewed b t p → e ≡ refusal.NoMemory → IsRefusing n b task t e p
 capture_starved n b p task t e j k starved = record {
@@ -106,11 +110,12 @@ pub may_capture : (n : ℕ) (b p : Record) (t : Taken) (z : Captured) → HasCop
 may_capture n b p t z k =
     let q : ℕ = b.opening.first + length ((b.seen ++ k.taken) ++ k.looked) in
     record {
-      held = record { stripe = t.stripe; part = t.content.part.map; outbox = t.content.outbox.items; has_drawn = false; looked = Some q };
+      held = record { stripe = t.stripe; part = t.content.part.map; outbox = t.content.outbox.items; last = t.content.last; has_drawn = false; looked = Some q };
       holding = ap (λ (y : Record). y.holding) k.is;
       stripe_is = refl;
       part_is = refl;
       outbox_is = refl;
+      last_is = refl;
       suits = (q, refl);
     }
 
@@ -127,6 +132,7 @@ captured_stripe n b p w t z k g =
     record {
       part = t.content.part.map;
       outbox = t.content.outbox.items;
+      last = t.content.last;
       taken = k.taken;
       looked = k.looked;
       is = g.is ∙ ap (giving Capture) k.is;

@@ -1,5 +1,5 @@
 -- What a whole call leaves of the record of its pass.
-use Rattle.std.specs.Prelude.{◌≡◌, ℕ, ◌^◌, ◌<◌, ◌≤◌, ◌⊎◌, List, [], ◌∷◌, ◌++◌, length, Bool, true, false}
+use Rattle.std.specs.Prelude.{◌≡◌, ℕ, ◌^◌, ◌<◌, ◌≤◌, ◌⊎◌, max, List, [], ◌∷◌, ◌++◌, length, Bool, true, false}
 use Rattle.std.specs.FinMap as finite
 use Rattle.java_hash.specs.Stripes.{stripe_of}
 use Rattle.map_types.specs.declared.texts.Value.{Value}
@@ -15,39 +15,45 @@ use Rattle.ticket_order.specs.declared.stripe.Entry.{Entry}
 use Rattle.ticket_order.specs.declared.stripe.Stripe.{Stripe}
 use Rattle.ticket_order.specs.declared.held.Released.{Released}
 use Rattle.ticket_order.specs.declared.held.Released.TheVariants as released
-use Rattle.ticket_order.specs.declared.record.Purpose.TheVariants.{Nothing, Answer, Sweep, Capture}
+use Rattle.ticket_order.specs.declared.record.Purpose.TheVariants.{Nothing, Sweep, Capture}
 use Rattle.ticket_order.specs.declared.record.Asked.TheVariants.{Changing, Reading}
 use Rattle.ticket_order.specs.declared.record.Record.{Record}
-use Rattle.ticket_order.specs.Records.{ticket_limit, call, reach, past, missing, taking, looking, drawing, giving, living}
+use Rattle.ticket_order.specs.Records.{ticket_limit, call, reach, past, missing, taking, looking, drawing, giving, answering, living}
 use Rattle.ticket_order.specs.Legality.{history_of, IsLegalSection}
-use Rattle.ticket_order.specs.StepRules.{Rises, Collects, Sees, Lives}
+use Rattle.ticket_order.specs.StepRules.{Rises, Collects, IsLast, Sees, Lives}
 
 -- the record after TAKE of stripe i with this content, ALIVE that says yes, and LOOK
-abbrev pub walked : Record → ℕ → Map → List Entry → List Command → List Command → Record
-walked v i m es a b = looking (living (taking v i m es a) true) b
+abbrev pub walked : Record → ℕ → Map → List Entry → ℕ → List Command → List Command → Record
+walked v i m es last a b = looking (living (taking v i m es last a) true) b
 
 -- TAKE, ALIVE, LOOK, TICKET, GIVE: the change is made. The record grew by this call alone, its position is past all that the pass had seen, and it is legal there.
 pub record MakesCall (n : ℕ) (v : Record) (c : Command) (position : ℕ) (reply : reply_type.Reply) (w : Record) : Type 0 where
   pub part : Map
   pub outbox : List Entry
+  pub last : ℕ
   pub taken : List Command
   pub looked : List Command
   pub drawn : List Command
-  pub below : reach (walked v (stripe_of n c.key) part outbox taken looked) < ticket_limit
-  pub is : w ≡ giving Nothing (drawing (walked v (stripe_of n c.key) part outbox taken looked) drawn c)
+  pub below : reach (walked v (stripe_of n c.key) part outbox last taken looked) < ticket_limit
+  pub is : w ≡ giving Nothing (drawing (walked v (stripe_of n c.key) part outbox last taken looked) drawn c)
   pub position_is : position ≡ reach w
   pub grew : w.calls ≡ v.calls ++ call position (Changing c) reply ∷ []
   pub later : reach v < position
   pub legal : IsLegalChange (history_of w) position c reply
 
--- TAKE, ALIVE, LOOK, GIVE: the read is made at the count that its LOOK found.
+-- TAKE, ALIVE, GIVE: the read is made. Its position is the greater of what the pass had seen and of one past the last
+-- ticket of its stripe, and the pass has seen it from then on. So no change of that stripe lies between its last one and
+-- the position.
 pub record MakesRead (n : ℕ) (v : Record) (r : Read) (position : ℕ) (reply : reply_type.Reply) (w : Record) : Type 0 where
   pub part : Map
   pub outbox : List Entry
+  pub last : ℕ
   pub taken : List Command
-  pub looked : List Command
-  pub is : w ≡ giving (Answer r) (walked v (stripe_of n r.key) part outbox taken looked)
-  pub position_is : position ≡ reach w
+  pub between : List Command
+  pub is : w ≡ answering r (living (taking v (stripe_of n r.key) part outbox last taken) true) between
+  pub last_is : IsLast n (stripe_of n r.key) last (taking v (stripe_of n r.key) part outbox last taken)
+  pub position_is : position ≡ max (reach v) last
+  pub reached : position ≡ reach w
   pub grew : w.calls ≡ v.calls ++ call position (Reading r) reply ∷ []
   pub later : reach v ≤ position
   pub legal : IsLegalRead (history_of w) position r reply
@@ -55,7 +61,7 @@ pub record MakesRead (n : ℕ) (v : Record) (r : Read) (position : ℕ) (reply :
 -- the record after a TAKE of stripe i that found this content
 pub record HasFound (v : Record) (i : ℕ) (content : Stripe) (w : Record) : Type 0 where
   pub between : List Command
-  pub is : w ≡ taking v i content.part.map content.outbox.items between
+  pub is : w ≡ taking v i content.part.map content.outbox.items content.last between
 
 abbrev pub IsNotBusy : Refusal → Type 0
 IsNotBusy e = (j : ℕ) → e ≡ Busy j → ⊥
@@ -64,16 +70,26 @@ IsNotBusy e = (j : ℕ) → e ≡ Busy j → ⊥
 pub record FindsFailure (v : Record) (i : ℕ) (w : Record) : Type 0 where
   pub part : Map
   pub outbox : List Entry
+  pub last : ℕ
   pub taken : List Command
-  pub is : w ≡ living (taking v i part outbox taken) false
+  pub is : w ≡ living (taking v i part outbox last taken) false
+
+-- TAKE, and ALIVE that says yes
+pub record FindsNoFailure (v : Record) (i : ℕ) (w : Record) : Type 0 where
+  pub part : Map
+  pub outbox : List Entry
+  pub last : ℕ
+  pub taken : List Command
+  pub is : w ≡ living (taking v i part outbox last taken) true
 
 -- TAKE, ALIVE and LOOK
 pub record LooksAround (v : Record) (i : ℕ) (w : Record) : Type 0 where
   pub part : Map
   pub outbox : List Entry
+  pub last : ℕ
   pub taken : List Command
   pub looked : List Command
-  pub is : w ≡ walked v i part outbox taken looked
+  pub is : w ≡ walked v i part outbox last taken looked
 
 -- the stripe was given back as it was taken, and no call was added
 pub record GivesBack (v : Record) (Before : Record → Type 0) (w : Record) : Type 0 where
@@ -94,7 +110,7 @@ RefusesChange v i other w = ⊥
 abbrev pub RefusesRead : Record → ℕ → Refusal → Record → Type 0
 RefusesRead v i (Busy j) w = (j ≡ i) × (w ≡ missing v i)
 RefusesRead v i refusal_type.Failed w = GivesBack v (FindsFailure v i) w
-RefusesRead v i NoMemory w = GivesBack v (LooksAround v i) w
+RefusesRead v i NoMemory w = GivesBack v (FindsNoFailure v i) w
 RefusesRead v i other w = ⊥
 
 -- a SEE reached the position
@@ -130,8 +146,9 @@ Releases p x v released.Failed w = SeesAgain p v (Misses p) w
 -- TAKE, GIVE: a sweep of stripe i took its outbox, which are the entries
 pub record SweepsStripe (n : ℕ) (v : Record) (i : ℕ) (entries : List Entry) (w : Record) : Type 0 where
   pub part : Map
+  pub last : ℕ
   pub between : List Command
-  pub is : w ≡ giving Sweep (taking v i part entries between)
+  pub is : w ≡ giving Sweep (taking v i part entries last between)
   pub rises : Rises v (past entries) w
   pub collects : Collects n i v entries w
 
@@ -139,8 +156,9 @@ pub record SweepsStripe (n : ℕ) (v : Record) (i : ℕ) (entries : List Entry) 
 pub record HasTaken (v : Record) (i : ℕ) (w : Record) : Type 0 where
   pub part : Map
   pub outbox : List Entry
+  pub last : ℕ
   pub taken : List Command
-  pub is : w ≡ taking v i part outbox taken
+  pub is : w ≡ taking v i part outbox last taken
 
 -- what a refused sweep of stripe i leaves
 abbrev pub RefusesSweep : Record → ℕ → Refusal → Record → Type 0
@@ -152,9 +170,10 @@ RefusesSweep v i other w = ⊥
 pub record CapturesStripe (n : ℕ) (v : Record) (i : ℕ) (mark : ℕ) (entries : List (List ℕ × Value)) (w : Record) : Type 0 where
   pub part : Map
   pub outbox : List Entry
+  pub last : ℕ
   pub taken : List Command
   pub looked : List Command
-  pub is : w ≡ giving Capture (looking (taking v i part outbox taken) looked)
+  pub is : w ≡ giving Capture (looking (taking v i part outbox last taken) looked)
   pub mark_is : mark ≡ reach w
   pub entries_are : entries ≡ finite.entries part
   pub few : length entries < 2 ^ 32
@@ -164,9 +183,10 @@ pub record CapturesStripe (n : ℕ) (v : Record) (i : ℕ) (mark : ℕ) (entries
 pub record HasLookedAt (v : Record) (i : ℕ) (w : Record) : Type 0 where
   pub part : Map
   pub outbox : List Entry
+  pub last : ℕ
   pub taken : List Command
   pub looked : List Command
-  pub is : w ≡ looking (taking v i part outbox taken) looked
+  pub is : w ≡ looking (taking v i part outbox last taken) looked
 
 -- TAKE, LOOK: the part has too many entries for a section
 pub record HasTooMany (v : Record) (i : ℕ) (w : Record) : Type 0 where

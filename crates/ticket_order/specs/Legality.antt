@@ -1,5 +1,5 @@
 -- The one history as a pass has seen it, and what is legal in it.
-use Rattle.std.specs.Prelude.{◌≡◌, ℕ, ◌+◌, ◌≤◌, List, [], ◌∷◌, ◌++◌, length}
+use Rattle.std.specs.Prelude.{◌≡◌, ℕ, ◌+◌, ◌≤◌, max, List, [], ◌∷◌, ◌++◌, length}
 use Rattle.std.specs.List.{filter}
 use Rattle.map_types.specs.declared.commands.Command.{Command}
 use Rattle.map_types.specs.declared.commands.Reply.{Reply}
@@ -14,7 +14,7 @@ use Rattle.ticket_order.specs.declared.record.Asked.TheVariants.{Changing, Readi
 use Rattle.ticket_order.specs.declared.record.Call.{Call}
 use Rattle.ticket_order.specs.declared.record.Section.{Section}
 use Rattle.ticket_order.specs.declared.record.Record.{Record}
-use Rattle.ticket_order.specs.Records.{entry}
+use Rattle.ticket_order.specs.Records.{entry, past}
 
 -- the history that goes on from the opening with these commands
 abbrev pub history_from : Opening → List Command → History
@@ -47,9 +47,15 @@ entries_from t (c ∷ cs) = entry t c ∷ entries_from (t + 1) cs
 abbrev pub entries_of : ℕ → ℕ → List Entry → List Entry
 entries_of n i es = filter (λ e. is_in_stripe n i e.command.key) es
 
--- The part and the outbox of stripe i of n after the commands, of whose entries the sweeps took `taken`. The part is
--- the stripe's part of the map. The outbox is exactly those of its entries that no sweep took, in the order of their
--- tickets.
-pub record IsContent (o : Opening) (n : ℕ) (commands : List Command) (taken : List Entry) (i : ℕ) (part : Map) (outbox : List Entry) : Type 0 where
+-- One past the greatest ticket of the stripe i of n, if the first of these commands has the ticket `first`. It is `first`
+-- if no key of them has that stripe.
+abbrev pub last_of : ℕ → ℕ → ℕ → List Command → ℕ
+last_of n i first commands = max first (past (entries_of n i (entries_from first commands)))
+
+-- The content of stripe i of n after the commands, of whose entries the sweeps took `taken`. The part is the stripe's
+-- part of the map. The outbox is exactly those of its entries that no sweep took, in the order of their tickets. `last`
+-- is one past the stripe's greatest ticket, if it has one.
+pub record IsContent (o : Opening) (n : ℕ) (commands : List Command) (taken : List Entry) (i : ℕ) (part : Map) (outbox : List Entry) (last : ℕ) : Type 0 where
   pub part_is : part_of n i (map_after o.map commands) ≡ part
   pub outbox_is : entries_of n i (entries_from o.first commands) ≡ entries_of n i taken ++ outbox
+  pub last_is : last ≡ last_of n i o.first commands

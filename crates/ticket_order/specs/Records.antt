@@ -54,8 +54,8 @@ abbrev pub missing : Record → ℕ → Record
 missing v i = with_step (FoundHeld i) v
 
 -- TAKE of a free stripe with this content; `between` is what the pass sees of the history from now on besides
-abbrev pub taking : Record → ℕ → Map → List Entry → List Command → Record
-taking v i m es between = record v { steps = v.steps ++ Took i es ∷ []; seen = v.seen ++ between; holding = Some record { stripe = i; part = m; outbox = es; has_drawn = false; looked = None } }
+abbrev pub taking : Record → ℕ → Map → List Entry → ℕ → List Command → Record
+taking v i m es last between = record v { steps = v.steps ++ Took i es ∷ []; seen = v.seen ++ between; holding = Some record { stripe = i; part = m; outbox = es; last = last; has_drawn = false; looked = None } }
 
 abbrev pub looking_at : ℕ → Option Holding → Option Holding
 looking_at q None = None
@@ -69,7 +69,7 @@ looking v between =
 
 abbrev pub drawing_at : ℕ → Command → Option Holding → Option Holding
 drawing_at t c None = None
-drawing_at t c (Some d) = Some record d { part = (step d.part c).map; outbox = d.outbox ++ entry t c ∷ []; has_drawn = true; looked = None }
+drawing_at t c (Some d) = Some record d { part = (step d.part c).map; outbox = d.outbox ++ entry t c ∷ []; last = t + 1; has_drawn = true; looked = None }
 
 -- the part that is held
 abbrev pub part_held : Option Holding → Map
@@ -90,14 +90,10 @@ abbrev pub outbox_held : Option Holding → List Entry
 outbox_held None = []
 outbox_held (Some d) = d.outbox
 
-abbrev pub answered : Read → Map → Option ℕ → List Call
-answered r m None = []
-answered r m (Some q) = call q (Reading r) (answer m r) ∷ []
-
--- the read that a GIVE answers, at the count that was looked at
-abbrev pub calls_for : Purpose → Option Holding → List Call
-calls_for (Answer r) (Some d) = answered r d.part d.looked
-calls_for purpose held = []
+-- one past the last ticket of the stripe that is held
+abbrev pub last_held : Option Holding → ℕ
+last_held None = 0
+last_held (Some d) = d.last
 
 -- the entries that a GIVE keeps for a sweep
 abbrev pub swept_by : Purpose → Option Holding → List Entry
@@ -118,9 +114,15 @@ abbrev pub outbox_for : Purpose → Holding → List Entry
 outbox_for Sweep d = []
 outbox_for purpose d = d.outbox
 
--- GIVE
+-- GIVE that makes no read
 abbrev pub giving : Purpose → Record → Record
-giving p v = record v { steps = v.steps ++ Gave (stripe_held v.holding) ∷ []; calls = v.calls ++ calls_for p v.holding; holding = None; taken = v.taken ++ swept_by p v.holding; sections = v.sections ++ sections_for p v.holding }
+giving p v = record v { steps = v.steps ++ Gave (stripe_held v.holding) ∷ []; holding = None; taken = v.taken ++ swept_by p v.holding; sections = v.sections ++ sections_for p v.holding }
+
+-- GIVE that makes the read r: at the position that the pass has then seen, with the reply of the part that was held
+abbrev pub answering : Read → Record → List Command → Record
+answering r v between =
+    let q : ℕ = v.opening.first + length (v.seen ++ between) in
+    record v { steps = v.steps ++ Gave (stripe_held v.holding) ∷ []; seen = v.seen ++ between; calls = v.calls ++ call q (Reading r) (answer (part_held v.holding) r) ∷ []; holding = None }
 
 -- DURABLE with the number n
 abbrev pub publishing : Record → ℕ → Record

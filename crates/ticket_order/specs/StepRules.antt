@@ -2,8 +2,9 @@
 use Rattle.std.specs.Prelude.{◌≡◌, ℕ, ◌+◌, ◌^◌, ◌<◌, ◌≤◌, ◌⊎◌, List, [], ◌∷◌, ◌++◌, length, Option, Some, None, Bool, true, false, not}
 use Rattle.java_hash.specs.Stripes.{stripe_of}
 use Rattle.map_types.specs.declared.commands.Command.{Command}
-use Rattle.map_model.specs.Steps.{step}
-use Rattle.map_model.specs.Histories.{IsLegalChange}
+use Rattle.map_types.specs.declared.commands.Read.{Read}
+use Rattle.map_model.specs.Steps.{step, answer}
+use Rattle.map_model.specs.Histories.{IsLegalChange, IsLegalRead}
 use Rattle.ticket_order.specs.declared.stripe.Entry.{Entry}
 use Rattle.ticket_order.specs.declared.stripe.Stripe.{Stripe}
 use Rattle.ticket_order.specs.declared.record.Purpose.{Purpose}
@@ -14,8 +15,8 @@ use Rattle.ticket_order.specs.declared.record.Call.{Call}
 use Rattle.ticket_order.specs.declared.record.Section.{Section}
 use Rattle.ticket_order.specs.declared.record.Holding.{Holding}
 use Rattle.ticket_order.specs.declared.record.Record.{Record}
-use Rattle.ticket_order.specs.Records.{reach, past, missing, taking, looking, drawing, giving, publishing, seeing, failing, living, part_held, calls_for, sections_for, outbox_for}
-use Rattle.ticket_order.specs.Legality.{history_of, IsLegalCall, IsLegalSection, entries_from, entries_of}
+use Rattle.ticket_order.specs.Records.{reach, past, missing, taking, looking, drawing, giving, answering, publishing, seeing, failing, living, part_held, last_held, sections_for, outbox_for}
+use Rattle.ticket_order.specs.Legality.{history_of, IsLegalCall, IsLegalSection, entries_from, entries_of, last_of}
 
 -- the greatest position seen becomes n if it was less, and stays if it wasn't
 abbrev pub Rises : Record → ℕ → Record → Type 0
@@ -27,12 +28,23 @@ pub record Collects (n i : ℕ) (v : Record) (outbox : List Entry) (w : Record) 
   pub more : List Command
   pub is : entries_of n i v.taken ++ outbox ≡ entries_of n i (entries_from v.opening.first (w.seen ++ more))
 
+-- `last` is that of stripe i of n in a history that begins with what the pass has seen
+pub record IsLast (n i last : ℕ) (v : Record) : Type 0 where
+  pub more : List Command
+  pub is : last ≡ last_of n i v.opening.first (v.seen ++ more)
+
+-- an outbox with entries ends with the last ticket of its stripe
+abbrev pub EndsAt : List Entry → ℕ → Type 0
+EndsAt es last = (es ≡ []) ⊎ (past es ≡ last)
+
 -- the stripe was free, and had this content
 pub record TakesStripe (n : ℕ) (v : Record) (i : ℕ) (content : Stripe) (w : Record) : Type 0 where
   pub between : List Command
-  pub is : w ≡ taking v i content.part.map content.outbox.items between
+  pub is : w ≡ taking v i content.part.map content.outbox.items content.last between
   pub rises : Rises v (past content.outbox.items) w
   pub collects : v.keeper ≡ true → Collects n i v content.outbox.items w
+  pub last : IsLast n i content.last w
+  pub ends : EndsAt content.outbox.items content.last
 
 -- TAKE
 abbrev pub Takes : ℕ → Record → ℕ → Option Stripe → Record → Type 0
@@ -69,11 +81,11 @@ pub record Draws (v : Record) (c : Command) (t : ℕ) (w : Record) : Type 0 wher
 abbrev pub HasLooked : Holding → Type 0
 HasLooked d = (q : ℕ) × (d.looked ≡ Some q)
 
--- A stripe may be given back for a read of a key of its own after a LOOK, and for a capture after a LOOK. It may be
--- given back for a sweep by the keeper if no ticket was drawn.
+-- A stripe may be given back for a read of a key of its own, and for a capture after a LOOK. It may be given back for a
+-- sweep by the keeper if no ticket was drawn.
 abbrev pub Suits : ℕ → Record → Holding → Purpose → Type 0
 Suits n v d Nothing = Unit {0}
-Suits n v d (Answer r) = (stripe_of n r.key ≡ d.stripe) × HasLooked d
+Suits n v d (Answer r) = stripe_of n r.key ≡ d.stripe
 Suits n v d Sweep = (v.keeper ≡ true) × (d.has_drawn ≡ false)
 Suits n v d Capture = HasLooked d
 
@@ -84,6 +96,7 @@ pub record MayGive (n : ℕ) (v : Record) (i : ℕ) (content : Stripe) (p : Purp
   pub stripe_is : held.stripe ≡ i
   pub part_is : content.part.map ≡ held.part
   pub outbox_is : content.outbox.items ≡ outbox_for p held
+  pub last_is : content.last ≡ held.last
   pub suits : Suits n v held p
 
 abbrev pub AllLegalCalls : Record → List Call → Type 0
@@ -94,11 +107,23 @@ abbrev pub AllLegalSections : ℕ → Record → List Section → Type 0
 AllLegalSections n v [] = Unit {0}
 AllLegalSections n v (x ∷ xs) = IsLegalSection n (history_of v) x × AllLegalSections n v xs
 
--- GIVE: the read that it answers, and the section that it keeps, are legal
-pub record Gives (n : ℕ) (p : Purpose) (v w : Record) : Type 0 where
+-- GIVE that makes no read: the section that it keeps is legal
+pub record GivesStripe (n : ℕ) (p : Purpose) (v w : Record) : Type 0 where
   pub is : w ≡ giving p v
-  pub calls : AllLegalCalls v (calls_for p v.holding)
   pub sections : AllLegalSections n v (sections_for p v.holding)
+
+-- GIVE that makes the read r. The read's position is the greater of what the pass had seen and of one past the last
+-- ticket of the stripe, and the pass has seen it from then on. The read is legal there.
+pub record Answers (r : Read) (v w : Record) : Type 0 where
+  pub between : List Command
+  pub is : w ≡ answering r v between
+  pub rises : Rises v (last_held v.holding) w
+  pub legal : IsLegalRead (history_of w) (reach w) r (answer (part_held v.holding) r)
+
+-- GIVE
+abbrev pub Gives : ℕ → Purpose → Record → Record → Type 0
+Gives n (Answer r) v w = Answers r v w
+Gives n p v w = GivesStripe n p v w
 
 -- DURABLE may be made with the number x: by the keeper, before it fails, with a number that it has seen
 pub record MayPublish (v : Record) (x : ℕ) : Type 0 where

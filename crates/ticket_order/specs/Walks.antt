@@ -1,6 +1,6 @@
 -- Where a walk stands: what the record of its pass has gained since the walk began, and what its next step leaves.
 use Rattle.std.specs.FinMap as finite
-use Rattle.std.specs.Prelude.{length, ◌≡◌, ℕ, ◌+◌, ◌^◌, ◌<◌, List, [], ◌∷◌, ◌++◌, Option, Some, None, Bool, true, false}
+use Rattle.std.specs.Prelude.{length, ◌≡◌, ℕ, ◌+◌, ◌^◌, ◌<◌, max, List, [], ◌∷◌, ◌++◌, Option, Some, None, Bool, true, false}
 use Rattle.java_hash.specs.Stripes.{stripe_of}
 use Rattle.map_types.specs.declared.commands.Command.{Command}
 use Rattle.map_types.specs.declared.commands.Read as read_type
@@ -78,7 +78,6 @@ next_of_change n (change.HasDrawn t h) = Give t.stripe
 abbrev pub next_of_read : ℕ → ReadStage → Kind
 next_of_read n (read.Begins r) = Take (stripe_of n r.key)
 next_of_read n (read.HasTaken r t) = Alive
-next_of_read n (read.IsAlive r t) = Look
 next_of_read n (read.HasRead r t h) = Give t.stripe
 
 abbrev pub next_of_release : ReleaseStage → Kind
@@ -115,9 +114,8 @@ left_of_change (change.IsReady new t prepared) = 2
 left_of_change (change.HasDrawn t h) = 1
 
 abbrev pub left_of_read : ReadStage → ℕ
-left_of_read (read.Begins r) = 4
-left_of_read (read.HasTaken r t) = 3
-left_of_read (read.IsAlive r t) = 2
+left_of_read (read.Begins r) = 3
+left_of_read (read.HasTaken r t) = 2
 left_of_read (read.HasRead r t h) = 1
 
 abbrev pub left_of_release : ReleaseStage → ℕ
@@ -229,6 +227,7 @@ pub record HasContent (p : Record) (t : Taken) : Type 0 where
   pub stripe_is : held.stripe ≡ t.stripe
   pub part_is : t.content.part.map ≡ held.part
   pub outbox_is : t.content.outbox.items ≡ held.outbox
+  pub last_is : t.content.last ≡ held.last
 
 -- since b: nothing
 pub record HasBegun (b : Record) (task : Task) (same : Task) (p : Record) : Type 0 where
@@ -239,18 +238,18 @@ pub record HasBegun (b : Record) (task : Task) (same : Task) (p : Record) : Type
 -- since b: TAKE of this stripe, which had this content
 pub record TookContent (b : Record) (t : Taken) (p : Record) : Type 0 where
   pub taken : List Command
-  pub is : p ≡ taking b t.stripe t.content.part.map t.content.outbox.items taken
+  pub is : p ≡ taking b t.stripe t.content.part.map t.content.outbox.items t.content.last taken
 
 -- since b: TAKE, and ALIVE that said yes
 pub record TookAlive (b : Record) (t : Taken) (p : Record) : Type 0 where
   pub taken : List Command
-  pub is : p ≡ living (taking b t.stripe t.content.part.map t.content.outbox.items taken) true
+  pub is : p ≡ living (taking b t.stripe t.content.part.map t.content.outbox.items t.content.last taken) true
 
 -- since b: TAKE, ALIVE and LOOK
 pub record TookLooked (b : Record) (t : Taken) (p : Record) : Type 0 where
   pub taken : List Command
   pub looked : List Command
-  pub is : p ≡ walked b t.stripe t.content.part.map t.content.outbox.items taken looked
+  pub is : p ≡ walked b t.stripe t.content.part.map t.content.outbox.items t.content.last taken looked
 
 pub record OfTask (n : ℕ) (task same : Task) (i j : ℕ) : Type 0 where
   pub task_is : task ≡ same
@@ -261,6 +260,7 @@ pub record HasChanged (c : Command) (before : Taken) (ticket : ℕ) (t : Taken) 
   pub stripe : t.stripe ≡ before.stripe
   pub part : t.content.part.map ≡ (step before.content.part.map c).map
   pub outbox : t.content.outbox.items ≡ before.content.outbox.items ++ entry ticket c ∷ []
+  pub last : t.content.last ≡ ticket + 1
   pub position : h.position ≡ ticket + 1
   pub reply : h.reply ≡ (step before.content.part.map c).reply
 
@@ -278,9 +278,13 @@ pub record IsRefusing (n : ℕ) (b : Record) (task : Task) (t : Taken) (e : Refu
   -- a capture is full only if what it holds since its LOOK has too many entries
   pub too_many : e ≡ refusal.LogFull → (i : ℕ) → task ≡ ToCapture i → HasTooMany b i p
 
--- the position and the reply are those of the read at the count that was looked at
-pub record HasAnswer (r : read_type.Read) (t : Taken) (h : Held) (p : Record) : Type 0 where
-  pub position_is : h.position ≡ reach p
+-- Since b: TAKE, and ALIVE that said yes. The position of the read is the greater of what the pass has seen and of one
+-- past the last ticket of the stripe, and the reply is that of the stripe's part.
+pub record HasAnswer (n : ℕ) (b : Record) (r : read_type.Read) (t : Taken) (h : Held) (p : Record) : Type 0 where
+  pub found : Record
+  pub took : TakesStripe n b t.stripe t.content found
+  pub is : p ≡ living found true
+  pub position_is : h.position ≡ max (reach p) t.content.last
   pub reply_is : h.reply ≡ answer t.content.part.map r
 
 -- the walk of a change, which began at the record b, stands at the record p
@@ -293,9 +297,8 @@ FitsChange n b task (change.HasDrawn t h) p = HasMade n b task t h p
 
 abbrev pub FitsRead : ℕ → Record → Task → ReadStage → Record → Type 0
 FitsRead n b task (read.Begins r) p = HasBegun b task (ToRead r) p
-FitsRead n b task (read.HasTaken r t) p = OfTask n task (ToRead r) t.stripe (stripe_of n r.key) × TookContent b t p
-FitsRead n b task (read.IsAlive r t) p = OfTask n task (ToRead r) t.stripe (stripe_of n r.key) × TookAlive b t p
-FitsRead n b task (read.HasRead r t h) p = OfTask n task (ToRead r) t.stripe (stripe_of n r.key) × TookLooked b t p × HasAnswer r t h p
+FitsRead n b task (read.HasTaken r t) p = OfTask n task (ToRead r) t.stripe (stripe_of n r.key) × TakesStripe n b t.stripe t.content p
+FitsRead n b task (read.HasRead r t h) p = OfTask n task (ToRead r) t.stripe (stripe_of n r.key) × HasAnswer n b r t h p
 
 abbrev pub FitsRelease : Record → Task → ReleaseStage → Record → Type 0
 FitsRelease b task (release.Begins h) p = (task ≡ ToRelease h.position h.reply) × (p ≡ b)
@@ -316,7 +319,7 @@ FitsSweep n b task (sweep.HasTaken spare t) p = HasSwept n b task t p
 pub record HasCopied (b : Record) (t : Taken) (z : Captured) (p : Record) : Type 0 where
   pub taken : List Command
   pub looked : List Command
-  pub is : p ≡ looking (taking b t.stripe t.content.part.map t.content.outbox.items taken) looked
+  pub is : p ≡ looking (taking b t.stripe t.content.part.map t.content.outbox.items t.content.last taken) looked
   pub mark_is : z.mark ≡ reach p
   pub entries_are : z.entries.items ≡ finite.entries t.content.part.map
   pub few : length z.entries.items < 2 ^ 32

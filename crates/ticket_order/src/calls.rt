@@ -3,12 +3,12 @@ ghost use Rattle.std.specs.Prelude.{◌≡◌, None, IfOk, IfErr};
 ghost use Rattle.java_hash.specs.Hash.{hash_of, spread_of};
 ghost use Rattle.java_hash.specs.Stripes.{stripe_of};
 ghost use Rattle.ticket_order.specs.declared.record.Record.{Record};
+ghost use Rattle.ticket_order.specs.StepRules.{TakesStripe};
 ghost use Rattle.ticket_order.specs.Calls.{HasFound, IsNotBusy, MakesCall, MakesRead, RefusesChange, RefusesRead, Releases};
 ghost use Rattle.ticket_order.specs.Walks.{ToChange, FitsChange};
 
 use crate::change_walk::{ChangeStage, NewChange, TICKET_LIMIT};
 use crate::held::{Held, Released};
-use crate::numbers::Position;
 use crate::record::Purpose;
 use crate::steps::Steps;
 use crate::stripe::Stripe;
@@ -46,7 +46,7 @@ pub fn try_call<S: Steps>(steps: &mut S, alloc: Global, command: Command) -> Res
     }
 }
 
-/// Makes a read: TAKE, ALIVE, LOOK, GIVE. It is refused as a change is, but for `TicketsSpent`.
+/// Makes a read: TAKE, ALIVE, GIVE. It is refused as a change is, but for `TicketsSpent`.
 pub fn try_read<S: Steps>(steps: &mut S, read: Read) -> Result<Held, Refusal>
     requires { (S.recorded steps.old).holding ≡ None }
     ensures made { IfOk result (λ held.
@@ -128,8 +128,8 @@ pub fn call_on<S: Steps>(
     )
 }
 
-/// Makes a read of the stripe of its key: ALIVE, LOOK, GIVE. The pass has just taken the stripe and
-/// found this content in it. `spread` is the spread of the key's hash.
+/// Makes a read of the stripe of its key: ALIVE, GIVE. The pass has just taken the stripe and found
+/// this content in it. `spread` is the spread of the key's hash.
 pub fn read_on<S: Steps>(
     steps: &mut S,
     read: Read,
@@ -138,19 +138,19 @@ pub fn read_on<S: Steps>(
 ) -> Result<Held, Refusal>
     // The spread is the key's, whose stripe was taken with this content.
     requires spread { spread ≡ spread_of (hash_of read.key) }
-    requires found { (b : Record) × HasFound b (stripe_of (S.stripe_count steps.old) read.key)
-        content (S.recorded steps.old) }
+    requires found { (b : Record) × TakesStripe (S.stripe_count steps.old) b
+        (stripe_of (S.stripe_count steps.old) read.key) content (S.recorded steps.old) }
 
     // The read is made, and the record grows by this call alone.
-    ensures made { (b : Record) → HasFound b (stripe_of (S.stripe_count steps.old) read.key) content
-        (S.recorded steps.old)
+    ensures made { (b : Record) → TakesStripe (S.stripe_count steps.old) b
+        (stripe_of (S.stripe_count steps.old) read.key) content (S.recorded steps.old)
         → IfOk result (λ held.
         MakesRead (S.stripe_count steps.old) b read held.position held.reply
         (S.recorded steps.new)) }
 
     // Or it is refused, but not as busy, and no call is added.
-    ensures refused { (b : Record) → HasFound b (stripe_of (S.stripe_count steps.old) read.key)
-        content (S.recorded steps.old)
+    ensures refused { (b : Record) → TakesStripe (S.stripe_count steps.old) b
+        (stripe_of (S.stripe_count steps.old) read.key) content (S.recorded steps.old)
         → IfErr result (λ refusal.
         RefusesRead b (stripe_of (S.stripe_count steps.old) read.key) refusal
         (S.recorded steps.new)) }
@@ -220,7 +220,7 @@ fn change_ready<S: Steps>(steps: &mut S, new: NewChange, taken: Taken, prepared:
     held
 }
 
-// Makes a read of its stripe, of which the TAKE was made: ALIVE, LOOK, GIVE.
+// Makes a read of its stripe, of which the TAKE was made: ALIVE, GIVE.
 fn read_from<S: Steps>(
     steps: &mut S,
     read: Read,
@@ -230,15 +230,18 @@ fn read_from<S: Steps>(
     // The spread is the key's, whose stripe was taken with this content.
     requires spread { spread ≡ spread_of (hash_of read.key) }
     requires stripe { taken.stripe ≡ stripe_of (S.stripe_count steps.old) read.key }
-    requires found { (b : Record) × HasFound b taken.stripe taken.content (S.recorded steps.old) }
+    requires found { (b : Record) × TakesStripe (S.stripe_count steps.old) b taken.stripe
+        taken.content (S.recorded steps.old) }
 
     // The read is made, and the record grows by this call alone.
-    ensures made { (b : Record) → HasFound b taken.stripe taken.content (S.recorded steps.old) →
+    ensures made { (b : Record) → TakesStripe (S.stripe_count steps.old) b taken.stripe
+        taken.content (S.recorded steps.old) →
         IfOk result (λ held. MakesRead (S.stripe_count steps.old) b read
         held.position held.reply (S.recorded steps.new)) }
 
     // Or it is refused, but not as busy, and no call is added.
-    ensures refused { (b : Record) → HasFound b taken.stripe taken.content (S.recorded steps.old) →
+    ensures refused { (b : Record) → TakesStripe (S.stripe_count steps.old) b taken.stripe
+        taken.content (S.recorded steps.old) →
         IfErr result (λ refusal. RefusesRead b
         (stripe_of (S.stripe_count steps.old) read.key) refusal (S.recorded steps.new)) }
     ensures not_busy { IfErr result IsNotBusy }
@@ -250,7 +253,7 @@ fn read_from<S: Steps>(
     if !steps.alive() {
         return Err(taken.give_back(Refusal::Failed, steps));
     }
-    let position = Position::new(steps.look());
+    let position = taken.content.read_position(steps.seen());
     match taken.content.part.read_hashed(&read, spread) {
         Ok(reply) => {
             steps.give(taken.stripe, taken.content, Purpose::Answer(read));

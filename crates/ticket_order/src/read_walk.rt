@@ -1,10 +1,9 @@
-//! The walk of a read: TAKE, ALIVE, LOOK, GIVE.
+//! The walk of a read: TAKE, ALIVE, GIVE.
 ghost use Rattle.std.specs.Prelude.{◌≡◌};
 ghost use Rattle.ticket_order.specs.declared.record.Record.{Record};
 ghost use Rattle.ticket_order.specs.Walks.{Task, FitsRead, Next, MakesOne, next_of_read, HasFewerLeft, left_of_read};
 
 use crate::held::Held;
-use crate::numbers::Position;
 use crate::record::Purpose;
 use crate::steps::Steps;
 use crate::walk::{Stage, Stepped, Taken, Walk};
@@ -16,7 +15,6 @@ use map_types::{Read, Refusal};
 pub(crate) enum ReadStage {
     Begins(Read),
     HasTaken(Read, Taken),
-    IsAlive(Read, Taken),
     HasRead(Read, Taken, Held),
 }
 
@@ -55,14 +53,10 @@ impl ReadStage {
                 }
             }
             ReadStage::HasTaken(read, taken) => {
-                if steps.alive() {
-                    ReadStage::IsAlive(read, taken).more()
-                } else {
-                    taken.refused(Refusal::Failed)
+                if !steps.alive() {
+                    return taken.refused(Refusal::Failed);
                 }
-            }
-            ReadStage::IsAlive(read, taken) => {
-                let position = Position::new(steps.look());
+                let position = taken.content.read_position(steps.seen());
                 match taken.content.part.read(&read) {
                     Ok(reply) => ReadStage::HasRead(read, taken, Held { position, reply }).more(),
                     Err(refusal) => taken.refused(refusal),

@@ -110,6 +110,8 @@ pub struct Holding {
     pub part: FiniteMap,
     /// The outbox that has to be given back, but for a sweep.
     pub outbox: LinkedList<Entry>,
+    /// What has to be given back as the stripe's `last`.
+    pub last: u64,
     /// A ticket was drawn since the TAKE.
     pub has_drawn: bool,
     /// The count that a LOOK found since the TAKE, if no ticket was drawn.

@@ -3,6 +3,7 @@ ghost use Rattle.std.specs.Prelude.{◌≡◌, ℕ, List, ◌<◌, None, true};
 ghost use Rattle.ticket_order.specs.declared.record.Record.{Record};
 ghost use Rattle.ticket_order.specs.declared.record.StepMade.{StepMade};
 ghost use Rattle.ticket_order.specs.declared.record.StepMade.TheVariants.{Gave, Drew, Looked, Published, Saw, Failed, FoundAlive};
+ghost use Rattle.ticket_order.specs.Records.{reach};
 ghost use Rattle.ticket_order.specs.StepRules.{Takes, take_made, Looks, MayDraw, Draws, MayGive, Gives, MayPublish, Publishes, Sees, Fails, Lives};
 
 use crate::numbers::Ticket;
@@ -27,6 +28,10 @@ pub trait Steps {
 
     fn stripes(&self) -> StripeCount
         ensures { result.count ≡ stripe_count self.now };
+
+    /// The greatest position that the pass has seen. It is no step.
+    fn seen(&self) -> u64
+        ensures { result ≡ reach (recorded self.now) };
 
     /// TAKE: the content of the stripe if it was free, or `None` if another holds it.
     fn take(&mut self, stripe: usize) -> Option<Stripe>

@@ -1,11 +1,11 @@
 //! What lies in a stripe.
-ghost use Rattle.std.specs.Prelude.{◌≡◌, [], ◌∷◌, ◌++◌, IfOk, IfErr};
+ghost use Rattle.std.specs.Prelude.{◌≡◌, ◌+◌, ◌^◌, ◌<◌, max, [], ◌∷◌, ◌++◌, IfOk, IfErr};
 ghost use Rattle.java_hash.specs.Hash.{hash_of, spread_of};
 ghost use Rattle.map_model.specs.Steps.{step};
 ghost use Rattle.ticket_order.specs.Records.{entry};
 ghost use Rattle.ticket_order.specs.Memory.{HasMemory};
 
-use crate::numbers::Ticket;
+use crate::numbers::{Position, Ticket};
 use atomic_methods::{Part, Prepared};
 use map_types::{Command, Refusal, Reply};
 use std::alloc::Global;
@@ -23,18 +23,32 @@ pub struct Entry {
 pub struct Stripe {
     pub part: Part,
     pub outbox: Vec<Entry>,
+    /// One past the last ticket that was drawn on the stripe, or the count of tickets that the
+    /// stripes began with.
+    pub last: u64,
 }
 
 impl Stripe {
-    /// A stripe with this part and no entries. It takes no memory.
-    pub fn new(alloc: Global, part: Part) -> Stripe
+    /// A stripe with this part and no entries. `last` is the count of tickets that the stripes
+    /// begin with. It takes no memory.
+    pub fn new(alloc: Global, part: Part, last: u64) -> Stripe
         ensures part { result.part ≡ part }
         ensures outbox { result.outbox.items ≡ [] }
+        ensures last { result.last ≡ last }
     {
         Stripe {
             part,
             outbox: Vec::new(alloc),
+            last,
         }
+    }
+
+    // The position of a read by a pass that has seen the position `seen`: the greater of that and
+    // of one past the last ticket of the stripe.
+    pub(crate) fn read_position(&self, seen: u64) -> Position
+        ensures { result ≡ max seen self.now.last }
+    {
+        Position::new(seen.max(self.last))
     }
 
     // Gets the memory that the change needs, for whose key the hash has this spread. The content
@@ -50,6 +64,7 @@ impl Stripe {
         ensures err { IfErr result (λ refusal. refusal ≡ Refusal.NoMemory) }
         ensures part { self.new.part.map ≡ self.old.part.map }
         ensures outbox { self.new.outbox.items ≡ self.old.outbox.items }
+        ensures last { self.new.last ≡ self.old.last }
     {
         if self.outbox.reserve(1).is_err() {
             return Err(Refusal::NoMemory);
@@ -59,13 +74,16 @@ impl Stripe {
 
     // Makes the change, and puts it into the outbox with its ticket. It takes no memory.
     pub(crate) fn act(&mut self, command: Command, prepared: Prepared, ticket: Ticket) -> Reply
-        requires { HasMemory command self.old prepared }
+        requires memory { HasMemory command self.old prepared }
+        requires small { ticket < 2 ^ 63 }
         ensures part { self.new.part.map ≡ (step self.old.part.map command).map }
         ensures outbox { self.new.outbox.items ≡ self.old.outbox.items ++ entry ticket command
             ∷ [] }
+        ensures last { self.new.last ≡ ticket + 1 }
         ensures reply { result ≡ (step self.old.part.map command).reply }
     {
         let reply = self.part.act(&command.key, prepared);
+        self.last = ticket.position().number();
         if let Err(_) = self.outbox.push(Entry { ticket, command }) {
             return reply;
         }

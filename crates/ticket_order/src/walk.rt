@@ -97,7 +97,7 @@ impl Walk {
         }
     }
 
-    /// A read: TAKE, ALIVE, LOOK, GIVE.
+    /// A read: TAKE, ALIVE, GIVE.
     pub fn read(read: Read) -> Walk
         ensures { (n : ℕ) (b : Record) → b.holding ≡ None → Fits n b (ToRead read) result b }
     {

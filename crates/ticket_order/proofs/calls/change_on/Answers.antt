@@ -21,13 +21,13 @@ pub give_back-requires-then-look-ge-TICKET_LIMIT : goal.give_back-requires-then-
 give_back-requires-then-look-ge-TICKET_LIMIT g c =
     let f = c.requires.found in
     let at : c.args.taken.stripe ≡ stripe_of (g.S.Steps.stripe_count c.look.new.self) c.args.new.command.key = rw (c.look.ensures.stripes, c.alive.ensures.stripes) c.requires.stripe in
-    let alive = took_alive f.0 _ _ c.args.taken f.1 (rw c.if-not-alive.false at c.alive.ensures.step) in
+    let alive = took_alive f.0 _ _ c.args.taken (found_content _ _ _ f.1) (rw c.if-not-alive.false at c.alive.ensures.step) in
     (f.0, ToChange c.args.new.command, change_spent _ _ _ _ _ c.args.new.command _ c.args.taken (record { task_is = refl; stripe_is = at }) alive c.look.ensures.step c.if-look-ge-TICKET_LIMIT.true)
 
 pub returns-then-look-ge-TICKET_LIMIT-clause-refused : goal.returns-then-look-ge-TICKET_LIMIT-clause-refused
 returns-then-look-ge-TICKET_LIMIT-clause-refused g c = λ b f.
     let at : c.args.taken.stripe ≡ stripe_of (g.S.Steps.stripe_count c.look.new.self) c.args.new.command.key = rw (c.look.ensures.stripes, c.alive.ensures.stripes) c.requires.stripe in
-    let alive = took_alive b _ _ c.args.taken f (rw c.if-not-alive.false at c.alive.ensures.step) in
+    let alive = took_alive b _ _ c.args.taken (found_content _ _ _ f) (rw c.if-not-alive.false at c.alive.ensures.step) in
     rw c.give_back-then-look-ge-TICKET_LIMIT.ensures.same (rw (← c.alive.ensures.stripes, ← c.look.ensures.stripes)
     (c.give_back-then-look-ge-TICKET_LIMIT.ensures.refused b (ToChange c.args.new.command) (change_spent _ _ _ _ _ c.args.new.command _ c.args.taken (record { task_is = refl; stripe_is = at }) alive c.look.ensures.step c.if-look-ge-TICKET_LIMIT.true)))
 
@@ -35,11 +35,11 @@ pub change_ready-requires : goal.change_ready-requires
 change_ready-requires g c =
     let f = c.requires.found in
     let at : c.args.taken.stripe ≡ stripe_of (g.S.Steps.stripe_count c.look.new.self) c.args.new.command.key = rw (c.look.ensures.stripes, c.alive.ensures.stripes) c.requires.stripe in
-    let alive = took_alive f.0 _ _ c.args.taken f.1 (rw c.if-not-alive.false at c.alive.ensures.step) in (
+    let alive = took_alive f.0 _ _ c.args.taken (found_content _ _ _ f.1) (rw c.if-not-alive.false at c.alive.ensures.step) in (
       f.0,
       (
         record { task_is = refl; stripe_is = at },
-        same_looked _ _ c.args.taken _ (took_looked _ _ _ _ _ alive c.look.ensures.step) refl c.prepare.ensures.part c.prepare.ensures.outbox,
+        same_looked _ _ c.args.taken _ (took_looked _ _ _ _ _ alive c.look.ensures.step) refl c.prepare.ensures.part c.prepare.ensures.outbox c.prepare.ensures.last,
         subst (λ z. z < ticket_limit) c.look.ensures.step.count_is c.if-look-ge-TICKET_LIMIT.false,
         c.in-Ok.ensures.ok,
       ),
@@ -48,11 +48,11 @@ change_ready-requires g c =
 pub returns-in-Ok-clause-made : goal.returns-in-Ok-clause-made
 returns-in-Ok-clause-made g c = λ b f.
     let at : c.args.taken.stripe ≡ stripe_of (g.S.Steps.stripe_count c.look.new.self) c.args.new.command.key = rw (c.look.ensures.stripes, c.alive.ensures.stripes) c.requires.stripe in
-    let alive = took_alive b _ _ c.args.taken f (rw c.if-not-alive.false at c.alive.ensures.step) in
+    let alive = took_alive b _ _ c.args.taken (found_content _ _ _ f) (rw c.if-not-alive.false at c.alive.ensures.step) in
     rw (← c.alive.ensures.stripes, ← c.look.ensures.stripes)
     (c.change_ready.ensures.made b (
       record { task_is = refl; stripe_is = at },
-      same_looked _ _ c.args.taken _ (took_looked _ _ _ _ _ alive c.look.ensures.step) refl c.prepare.ensures.part c.prepare.ensures.outbox,
+      same_looked _ _ c.args.taken _ (took_looked _ _ _ _ _ alive c.look.ensures.step) refl c.prepare.ensures.part c.prepare.ensures.outbox c.prepare.ensures.last,
       subst (λ z. z < ticket_limit) c.look.ensures.step.count_is c.if-look-ge-TICKET_LIMIT.false,
       c.in-Ok.ensures.ok,
     ))
@@ -61,12 +61,12 @@ pub give_back-requires-in-Err : goal.give_back-requires-in-Err
 give_back-requires-in-Err g c =
     let f = c.requires.found in
     let at : c.args.taken.stripe ≡ stripe_of (g.S.Steps.stripe_count c.look.new.self) c.args.new.command.key = rw (c.look.ensures.stripes, c.alive.ensures.stripes) c.requires.stripe in
-    let alive = took_alive f.0 _ _ c.args.taken f.1 (rw c.if-not-alive.false at c.alive.ensures.step) in
-    (f.0, ToChange c.args.new.command, change_starved _ _ _ _ _ c.args.new.command _ c.args.taken _ _ (record { task_is = refl; stripe_is = at }) alive c.look.ensures.step c.if-look-ge-TICKET_LIMIT.false refl c.prepare.ensures.part c.prepare.ensures.outbox c.in-Err.ensures.err)
+    let alive = took_alive f.0 _ _ c.args.taken (found_content _ _ _ f.1) (rw c.if-not-alive.false at c.alive.ensures.step) in
+    (f.0, ToChange c.args.new.command, change_starved _ _ _ _ _ c.args.new.command _ c.args.taken _ _ (record { task_is = refl; stripe_is = at }) alive c.look.ensures.step c.if-look-ge-TICKET_LIMIT.false refl c.prepare.ensures.part c.prepare.ensures.outbox c.prepare.ensures.last c.in-Err.ensures.err)
 
 pub returns-in-Err-clause-refused : goal.returns-in-Err-clause-refused
 returns-in-Err-clause-refused g c = λ b f.
     let at : c.args.taken.stripe ≡ stripe_of (g.S.Steps.stripe_count c.look.new.self) c.args.new.command.key = rw (c.look.ensures.stripes, c.alive.ensures.stripes) c.requires.stripe in
-    let alive = took_alive b _ _ c.args.taken f (rw c.if-not-alive.false at c.alive.ensures.step) in
+    let alive = took_alive b _ _ c.args.taken (found_content _ _ _ f) (rw c.if-not-alive.false at c.alive.ensures.step) in
     rw c.give_back-in-Err.ensures.same (rw (← c.alive.ensures.stripes, ← c.look.ensures.stripes)
-    (c.give_back-in-Err.ensures.refused b (ToChange c.args.new.command) (change_starved _ _ _ _ _ c.args.new.command _ c.args.taken _ _ (record { task_is = refl; stripe_is = at }) alive c.look.ensures.step c.if-look-ge-TICKET_LIMIT.false refl c.prepare.ensures.part c.prepare.ensures.outbox c.in-Err.ensures.err)))
+    (c.give_back-in-Err.ensures.refused b (ToChange c.args.new.command) (change_starved _ _ _ _ _ c.args.new.command _ c.args.taken _ _ (record { task_is = refl; stripe_is = at }) alive c.look.ensures.step c.if-look-ge-TICKET_LIMIT.false refl c.prepare.ensures.part c.prepare.ensures.outbox c.prepare.ensures.last c.in-Err.ensures.err)))

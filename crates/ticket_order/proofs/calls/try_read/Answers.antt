@@ -8,13 +8,13 @@ read_from-requires-clause-stripe g c =
     rw c.in-Some.ensures.stripes here
 
 pub read_from-requires-clause-found : goal.read_from-requires-clause-found
-read_from-requires-clause-found g c = (g.S.Steps.recorded c.args.steps.now, record { between = c.in-Some.ensures.step.between; is = c.in-Some.ensures.step.is })
+read_from-requires-clause-found g c = (g.S.Steps.recorded c.args.steps.now, rw c.in-Some.ensures.stripes c.in-Some.ensures.step)
 
 pub returns-in-Some-clause-made : goal.returns-in-Some-clause-made
-returns-in-Some-clause-made g c = rw (← c.in-Some.ensures.stripes) (c.read_from.ensures.made _ (record { between = c.in-Some.ensures.step.between; is = c.in-Some.ensures.step.is }))
+returns-in-Some-clause-made g c = rw (← c.in-Some.ensures.stripes) (c.read_from.ensures.made _ (rw c.in-Some.ensures.stripes c.in-Some.ensures.step))
 
 pub returns-in-Some-clause-refused : goal.returns-in-Some-clause-refused
-returns-in-Some-clause-refused g c = rw (← c.in-Some.ensures.stripes) (c.read_from.ensures.refused _ (record { between = c.in-Some.ensures.step.between; is = c.in-Some.ensures.step.is }))
+returns-in-Some-clause-refused g c = rw (← c.in-Some.ensures.stripes) (c.read_from.ensures.refused _ (rw c.in-Some.ensures.stripes c.in-Some.ensures.step))
 
 pub returns-in-None-clause-refused : goal.returns-in-None-clause-refused
 returns-in-None-clause-refused g c =

@@ -17,7 +17,7 @@ pub returns-in-Err-clause-next : goal.returns-in-Err-clause-next
 returns-in-Err-clause-next g c = λ b task f.
     let h = rw c.in-IsAlive.is at f in
     rw c.refused-in-Err.ensures
-    (change_starved _ b _ _ task c.in-IsAlive.new.command _ c.in-IsAlive.taken _ _ h.0 h.1 c.look.ensures.step c.if-look-ge-TICKET_LIMIT.false refl c.prepare.ensures.part c.prepare.ensures.outbox c.in-Err.ensures.err)
+    (change_starved _ b _ _ task c.in-IsAlive.new.command _ c.in-IsAlive.taken _ _ h.0 h.1 c.look.ensures.step c.if-look-ge-TICKET_LIMIT.false refl c.prepare.ensures.part c.prepare.ensures.outbox c.prepare.ensures.last c.in-Err.ensures.err)
 
 pub ticket-ticket-requires : goal.ticket-ticket-requires
 ticket-ticket-requires g c =

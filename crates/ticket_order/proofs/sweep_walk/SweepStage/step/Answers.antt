@@ -5,7 +5,7 @@ use Rattle.ticket_order.proofs.sweep_walk.SweepStage.step.Goals as goal
 pub give-requires : goal.give-requires
 give-requires g c =
     let h = rw c.in-HasTaken.is at c.requires.2 in
-    record { fits = may_sweep _ c.requires.0 _ c.requires.1 c.in-HasTaken.taken _ h refl (rw c.replace-entries.ensures.after c.clear.ensures.items) }
+    record { fits = may_sweep _ c.requires.0 _ c.requires.1 c.in-HasTaken.taken _ h refl (rw c.replace-entries.ensures.after c.clear.ensures.items) refl }
 
 pub returns-in-HasTaken-clause-next : goal.returns-in-HasTaken-clause-next
 returns-in-HasTaken-clause-next g c = λ b task f.
