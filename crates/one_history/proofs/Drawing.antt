@@ -39,12 +39,12 @@ stripe_drawn : (q : ℕ) (c : Command) (x : Option Holding) → stripe_in (drawi
 stripe_drawn q c None = refl
 stripe_drawn q c (Some d) = refl
 
-held_drawn : (t : ℕ) (c : Command) (x : Option Holding) (d d' : Holding) → x ≡ Some d → drawing_at t c x ≡ Some d' → record d { part = (step d.part c).map; outbox = d.outbox ++ entry t c ∷ []; has_drawn = true; looked = None } ≡ d'
+held_drawn : (t : ℕ) (c : Command) (x : Option Holding) (d d' : Holding) → x ≡ Some d → drawing_at t c x ≡ Some d' → record d { part = (step d.part c).map; outbox = d.outbox ++ entry t c ∷ []; last = t + 1; has_drawn = true; looked = None } ≡ d'
 held_drawn t c None d d' e f = absurd (let no : None ≡ Some d = e in cc)
 held_drawn t c (Some x) d d' e f =
     let same : x ≡ d = (let g : Some x ≡ Some d = e in cc) in
-    let is : record x { part = (step x.part c).map; outbox = x.outbox ++ entry t c ∷ []; has_drawn = true; looked = None } ≡ d' = (let g : Some (record x { part = (step x.part c).map; outbox = x.outbox ++ entry t c ∷ []; has_drawn = true; looked = None }) ≡ Some d' = f in cc) in
-    ap (λ (y : Holding). record y { part = (step y.part c).map; outbox = y.outbox ++ entry t c ∷ []; has_drawn = true; looked = None }) (sym same) ∙ is
+    let is : record x { part = (step x.part c).map; outbox = x.outbox ++ entry t c ∷ []; last = t + 1; has_drawn = true; looked = None } ≡ d' = (let g : Some (record x { part = (step x.part c).map; outbox = x.outbox ++ entry t c ∷ []; last = t + 1; has_drawn = true; looked = None }) ≡ Some d' = f in cc) in
+    ap (λ (y : Holding). record y { part = (step y.part c).map; outbox = y.outbox ++ entry t c ∷ []; last = t + 1; has_drawn = true; looked = None }) (sym same) ∙ is
 
 module _ (n t durable : ℕ) (has_failed : Bool) (slots : List Slot) (b : Book) (j : ℕ) (kept : IsKept n t durable has_failed slots b) (within : j < length b.passes) (c : Command) (may : MayDraw b.stripes (record_of j b) c) where
   abbrev r : Record
@@ -88,7 +88,7 @@ module _ (n t durable : ℕ) (has_failed : Bool) (slots : List Slot) (b : Book) 
   reply_is : (step (part_held r.holding) c).reply ≡ (step (map_after r.opening.map (r.seen ++ between)) c).reply
   reply_is =
       ap (λ m. (step m c).reply) part_is
-      ∙ (own_reply b.opening b.stripes b.history b.effects.taken may.held.stripe may.held.part may.held.outbox c own holds_it.content
+      ∙ (own_reply b.opening b.stripes b.history b.effects.taken may.held.stripe may.held.part may.held.outbox may.held.last c own holds_it.content
       ∙ sym (ap (λ (o : Opening). (step (map_after o.map (r.seen ++ between)) c).reply) opening_is ∙ ap (λ (cs : List Command). (step (map_after b.opening.map cs) c).reply) seen_all))
 
   legal_here : IsLegalChange (history_of w) (r.opening.first + length (r.seen ++ between) + 1) c (step (part_held r.holding) c).reply
@@ -134,7 +134,7 @@ module _ (n t durable : ℕ) (has_failed : Bool) (slots : List Slot) (b : Book) 
             let is = held_drawn t' c r.holding may.held d may.holding e in
             subst (Holds b.opening b.stripes h' (b.authors ++ j ∷ []) b.effects w) is (record {
               within = holds_it.within;
-              content = subst (λ p. IsContent b.opening b.stripes h' b.effects.taken may.held.stripe (step may.held.part c).map (may.held.outbox ++ entry p c ∷ [])) (sym ticket_is) (content_drawn b.opening b.stripes b.history b.effects.taken may.held.stripe may.held.part may.held.outbox c own holds_it.content);
+              content = subst (λ p. IsContent b.opening b.stripes h' b.effects.taken may.held.stripe (step may.held.part c).map (may.held.outbox ++ entry p c ∷ []) (p + 1)) (sym ticket_is) (content_drawn b.opening b.stripes b.history b.effects.taken may.held.stripe may.held.part may.held.outbox may.held.last c own holds_it.content);
               looked = λ q f. absurd (let no : None ≡ Some q = f in cc);
             });
       }
@@ -165,7 +165,7 @@ module _ (n t durable : ℕ) (has_failed : Bool) (slots : List Slot) (b : Book) 
             let apart : d.stripe ≢ may.held.stripe = λ s. (let f : HeldBy l ≡ HeldBy j = sym theirs ∙ (ap (λ u. slot_of u slots) s ∙ slot_here) in ne (cc)) in
             record {
               within = was.within;
-              content = content_other b.opening b.stripes b.history b.effects.taken d.stripe d.part d.outbox c (other_stripe d.stripe apart) was.content;
+              content = content_other b.opening b.stripes b.history b.effects.taken d.stripe d.part d.outbox d.last c (other_stripe d.stripe apart) was.content;
               looked = was.looked;
             };
       }
@@ -194,7 +194,7 @@ module _ (n t durable : ℕ) (has_failed : Bool) (slots : List Slot) (b : Book) 
   lies : (l : ℕ) (x : Slot) → slot_of l slots ≡ x → Lies b l x → Lies (drew j c b) l x
   lies l (Home content) is k =
       let apart : l ≢ may.held.stripe = λ s. (let f : Home content ≡ HeldBy j = sym is ∙ (ap (λ u. slot_of u slots) s ∙ slot_here) in cc) in
-      content_other b.opening b.stripes b.history b.effects.taken l content.part.map content.outbox.items c (other_stripe l apart) k
+      content_other b.opening b.stripes b.history b.effects.taken l content.part.map content.outbox.items content.last c (other_stripe l apart) k
   lies l (HeldBy u) is k = holds_still b l j u s w h' (b.authors ++ j ∷ []) b.effects within same k
 
   pub kept_drew : IsKept n (t + 1) durable has_failed slots (drew j c b)
@@ -236,4 +236,5 @@ module _ (n t durable : ℕ) (has_failed : Bool) (slots : List Slot) (b : Book) 
       ticket_is = kept.counted;
       calls = rw same_now (ap (λ p. r.calls ++ call (p + 1) (Changing c) (step (part_held r.holding) c).reply ∷ []) (sym t_is));
     };
+    raises = ap reach same_now ∙ (reach_is ∙ ap (λ p. p + 1) (sym t_is));
   }

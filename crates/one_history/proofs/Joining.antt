@@ -88,7 +88,7 @@ module _ (n t durable : ℕ) (has_failed : Bool) (slots : List Slot) (b : Book) 
   ]
 
   lies : (i : ℕ) (x : Slot) → Lies b i x → Lies (joined b) i x
-  lies i (Home content) c = record { part_is = c.part_is; outbox_is = c.outbox_is }
+  lies i (Home content) c = record { part_is = c.part_is; outbox_is = c.outbox_is; last_is = c.last_is }
   lies i (HeldBy l) c = holds_on l i c
 
   room_joined : HasRoom (joined b)

@@ -1,23 +1,22 @@
 -- What a record knows stays known, as the history grows and the pass makes steps.
-use Rattle.std.proofs.Common.{ℕ, ◌≡◌, ◌≢◌, ◌+◌, ◌-◌, ◌≤◌, ◌++◌, ◌==◌, List, [], Bool, true, false, Option, Some, length, refl, arith, sym, ◌∙◌, ap, subst, append-nil, length-append}
+use Rattle.std.proofs.Common.{ℕ, ◌≡◌, ◌≢◌, ◌+◌, ◌≤◌, ◌++◌, ◌==◌, List, [], Bool, true, false, Option, Some, length, refl, arith, sym, ◌∙◌, ap, subst, append-nil, length-append}
 use Rattle.std.specs.List.{All}
 use Rattle.std.proofs.lemmas.List.Elements.{All-weaker}
 use Rattle.std.proofs.lemmas.Bool.{ne_eqb, eqb-true}
-use Rattle.std.proofs.Math.Seq.{take-length}
 use Rattle.map_types.specs.declared.commands.Command.{Command}
-use Rattle.map_model.specs.Parts.{part_of}
-use Rattle.map_model.specs.Histories.{fold_to}
 use Rattle.ticket_order.specs.declared.record.Opening.{Opening}
 use Rattle.ticket_order.specs.declared.record.Call.{Call}
 use Rattle.ticket_order.specs.declared.record.Holding.{Holding}
 use Rattle.ticket_order.specs.declared.record.Record.{Record}
 use Rattle.ticket_order.specs.Records.{reach}
-use Rattle.ticket_order.specs.Legality.{history_from, IsContent}
+use Rattle.ticket_order.specs.Legality.{history_from, IsLegalSection, IsContent}
 use Rattle.ticket_order.specs.StepRules.{AllLegalCalls, AllLegalSections}
 use Rattle.ticket_order.proofs.Longer.{section_longer, sections_longer}
 use Rattle.one_history.specs.declared.book.KeeperEffects.{KeeperEffects}
-use Rattle.one_history.specs.OneHistory.{IsFront, changes_in, IsUpTo, AreInOrder, HasDone, HasSeen, Holds, Knows}
+use Rattle.one_history.specs.OneHistory.{IsFront, changes_in, IsUpTo, AreInOrder, HasDone, Holds, Knows}
+use Rattle.one_history.proofs.Fronts.{front_refl}
 use Rattle.one_history.proofs.Legal.{calls_longer}
+use Rattle.one_history.proofs.Contents.{last_within, section_seen}
 
 -- the record w has seen more than v, and made no other call
 pub record SeesMore (v w : Record) (more : List Command) : Type 0 where
@@ -32,34 +31,30 @@ nothing_more v w o s c = record { opening = o; seen = s ∙ sym (append-nil v.se
 pub up_to_more : (p q : ℕ) (xs : List Call) → p ≤ q → All (IsUpTo p) xs → All (IsUpTo q) xs
 up_to_more p q xs l a = All-weaker (IsUpTo p) (IsUpTo q) (λ x h. omega arith) xs a
 
-pub reach_more : (v w : Record) (more : List Command) → SeesMore v w more → reach v ≤ reach w
+reach_more : (v w : Record) (more : List Command) → SeesMore v w more → reach v ≤ reach w
 reach_more v w more s = rw (s.opening, s.seen) (omega (arith, length-append v.seen more))
-
-seen_longer : (n : ℕ) (v w : Record) (more : List Command) (d : Holding) (q : ℕ) → SeesMore v w more → HasSeen n v d q → HasSeen n w d q
-seen_longer n v w more d q s k = record {
-  section = rw (s.opening, s.seen) (section_longer v.opening n v.seen more (record { stripe = d.stripe; mark = q; part = d.part }) k.section);
-  calls = subst (All (IsUpTo q)) (sym s.calls) k.calls;
-}
 
 module _ (o : Opening) (n : ℕ) (h : List Command) (authors : List ℕ) (k : KeeperEffects) where
   -- what is held stays as it was
   pub holds_longer : (v w : Record) (more : List Command) (d : Holding) → SeesMore v w more → Holds o n h authors k v d → Holds o n h authors k w d
-  holds_longer v w more d s x = record { within = x.within; content = x.content; looked = λ q e. seen_longer n v w more d q s (x.looked q e) }
+  holds_longer v w more d s x = record {
+    within = x.within;
+    content = x.content;
+    looked = λ q e. rw (s.opening, s.seen) (section_longer v.opening n v.seen more (record { stripe = d.stripe; mark = q; part = d.part }) (x.looked q e));
+  }
 
   -- a LOOK that sees all finds the part as it is
-  pub holds_looked : (v w : Record) (d : Holding) (looked : Option ℕ) → w.opening ≡ o → w.seen ≡ h → All (IsUpTo (reach w)) w.calls → ((q : ℕ) → looked ≡ Some q → q ≡ reach w) → Holds o n h authors k v d → Holds o n h authors k w (record d { looked = looked })
-  holds_looked v w d looked wo ws up at x = record {
-    within = x.within;
-    content = record { part_is = x.content.part_is; outbox_is = x.content.outbox_is };
-    looked = λ q e.
-        let is : q ≡ o.first + length h = at q e ∙ (ap (λ (p : Opening). p.first + length w.seen) wo ∙ ap (λ (cs : List Command). o.first + length cs) ws) in
-        let all : o.first + length h - o.first ≡ length h = omega arith in
-        let part : part_of n d.stripe (fold_to (history_from o h) q) ≡ d.part = rw (is, all, take-length h) x.content.part_is in
-        record {
-          section = rw (wo, ws) (record { from_first = rw is (omega arith); within = rw is (omega arith); part_is = part });
-          calls = subst (λ p. All (IsUpTo p) w.calls) (sym (at q e)) up;
-        };
-  }
+  pub holds_looked : (v w : Record) (d : Holding) (looked : Option ℕ) → w.opening ≡ o → w.seen ≡ h → ((q : ℕ) → looked ≡ Some q → q ≡ reach w) → Holds o n h authors k v d → Holds o n h authors k w (record d { looked = looked })
+  holds_looked v w d looked wo ws at x =
+      let c : IsContent o n h k.taken d.stripe d.part d.outbox d.last = x.content in
+      let now : IsLegalSection n (history_from o h) (record { stripe = d.stripe; mark = o.first + length h; part = d.part }) = section_seen o n h k.taken d.stripe d.part d.outbox d.last h c (front_refl h) (last_within o n h k.taken d.stripe d.part d.outbox d.last c) in
+      record {
+        within = x.within;
+        content = record { part_is = c.part_is; outbox_is = c.outbox_is; last_is = c.last_is };
+        looked = λ q e.
+            let is : q ≡ o.first + length h = at q e ∙ (ap (λ (p : Opening). p.first + length w.seen) wo ∙ ap (λ (cs : List Command). o.first + length cs) ws) in
+            rw (wo, ws, is) now;
+      }
 
   -- a record that has seen more of the history, with the effects as they are now
   pub watches : (k' : KeeperEffects) (j : ℕ) (v w : Record) (more : List Command) → Knows o n h authors k j v → SeesMore v w more → IsFront w.seen h → w.sections ≡ v.sections → w.keeper ≡ v.keeper → k'.keeper ≡ k.keeper
@@ -98,6 +93,6 @@ stands_by o n h authors k k' l v x same taken not =
     (done_by_none o k k' v not x.done)
     (λ d e. let was : Holds o n h authors k v d = x.held d e in record {
       within = was.within;
-      content = subst (λ es. IsContent o n h es d.stripe d.part d.outbox) (sym taken) was.content;
+      content = subst (λ es. IsContent o n h es d.stripe d.part d.outbox d.last) (sym taken) was.content;
       looked = was.looked;
     })

@@ -1,5 +1,5 @@
 -- What is legal in a history is legal in each longer one.
-use Rattle.std.proofs.Common.{ℕ, ◌≡◌, ◌+◌, ◌-◌, ◌<◌, ◌≤◌, ◌++◌, List, [], ◌∷◌, length, Some, None, slice_get, suc, zero, true, arith, sym, ◌∙◌, ap, length-append}
+use Rattle.std.proofs.Common.{ℕ, ◌≡◌, ◌-◌, ◌<◌, ◌≤◌, ◌++◌, List, [], ◌∷◌, length, Some, None, slice_get, suc, zero, true, arith, sym, ◌∙◌, ap, length-append}
 use Rattle.std.proofs.lemmas.Option.{slice_get_within}
 use Rattle.map_types.specs.declared.commands.Command.{Command}
 use Rattle.map_types.specs.declared.commands.Read.{Read}

@@ -8,6 +8,7 @@ pub mod Slots
 pub mod Watching
 pub mod Taking
 pub mod Drawing
+pub mod AfterGive
 pub mod Giving
 pub mod Starts
 pub mod GivenParts

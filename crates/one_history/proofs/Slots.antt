@@ -147,7 +147,7 @@ kept_turned n t durable failed slots b j s w durable' x failed' y kept within sa
     let k' : KeeperEffects = record b.effects { durable = x; failed = y } in
     let lies : (i : ℕ) (z : Slot) → Lies b i z → Lies (turned b j s w b.history b.authors k') i z =
     λ i. elim [
-      | Home content ↦ λ c. record { part_is = c.part_is; outbox_is = c.outbox_is }
+      | Home content ↦ λ c. record { part_is = c.part_is; outbox_is = c.outbox_is; last_is = c.last_is }
       | HeldBy l ↦ λ c. holds_still b i j l s w b.history b.authors k' within same c
     ] in
     record {

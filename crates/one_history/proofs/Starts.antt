@@ -31,8 +31,8 @@ use Rattle.one_history.proofs.Fronts.{front_refl}
 use Rattle.one_history.proofs.Interleavings.{none_made}
 
 -- one more part at home
-pub placed_push : (parts : List PartState) (slots : List Slot) (p : PartState) (x : Slot) → ArePlaced parts slots → IsPlaced p x → ArePlaced (parts ++ p ∷ []) (slots ++ x ∷ [])
-placed_push parts slots p x k here = record {
+pub placed_push : (first : ℕ) (parts : List PartState) (slots : List Slot) (p : PartState) (x : Slot) → ArePlaced first parts slots → IsPlaced first p x → ArePlaced first (parts ++ p ∷ []) (slots ++ x ∷ [])
+placed_push first parts slots p x k here = record {
   count = (let n : length slots ≡ length parts = k.count in omega (arith, length-append slots (x ∷ []), length-append parts (p ∷ [])));
   each = λ i lt.
       let n : length slots ≡ length parts = k.count in
@@ -40,13 +40,13 @@ placed_push parts slots p x k here = record {
         | inl l ↦
             let at : get_or (parts ++ p ∷ []) i no_part ≡ get_or parts i no_part = get_or_append_left parts (p ∷ []) no_part i l in
             let at' : slot_of i (slots ++ x ∷ []) ≡ slot_of i slots = get_or_append_left slots (x ∷ []) (HeldBy 0) i (omega arith) in
-            subst (λ y. IsPlaced (get_or (parts ++ p ∷ []) i no_part) y) (sym at') (subst (λ q. IsPlaced q (slot_of i slots)) (sym at) (k.each i l))
+            subst (λ y. IsPlaced first (get_or (parts ++ p ∷ []) i no_part) y) (sym at') (subst (λ q. IsPlaced first q (slot_of i slots)) (sym at) (k.each i l))
         | inr l ↦
             let e : i ≡ length parts = omega (arith, length-append parts (p ∷ [])) in
             let at : get_or (parts ++ p ∷ []) i no_part ≡ p = rw (e, get_or-append_seam parts p [] no_part) in
             let e' : i ≡ length slots = omega arith in
             let at' : slot_of i (slots ++ x ∷ []) ≡ x = rw (e', get_or-append_seam slots x [] (HeldBy 0)) in
-            subst (λ y. IsPlaced (get_or (parts ++ p ∷ []) i no_part) y) (sym at') (subst (λ q. IsPlaced q x) (sym at) here)
+            subst (λ y. IsPlaced first (get_or (parts ++ p ∷ []) i no_part) y) (sym at') (subst (λ q. IsPlaced first q x) (sym at) here)
       ];
 }
 
@@ -129,9 +129,9 @@ held_by_none : (o : Opening) (stripes n i : ℕ) → (words_of (started o stripe
 unfolding words_after
 held_by_none o stripes n i = refl
 
-placed_free : (p : PartState) (x : Slot) → IsPlaced p x → holder_in x ≡ None
-placed_free p (Home content) at = refl
-placed_free p (HeldBy j) at = absurd at
+placed_free : (first : ℕ) (p : PartState) (x : Slot) → IsPlaced first p x → holder_in x ≡ None
+placed_free first p (Home content) at = refl
+placed_free first p (HeldBy j) at = absurd at
 
 -- at the start no pass holds a stripe
 none_held : (o : Opening) (stripes n i j : ℕ) → HoldsStripe (started o stripes n) j i → ⊥
@@ -148,15 +148,16 @@ part_at n i parts are count lt =
     sym (get_or-map-range_with_len (λ s. part_of n s (union_of (maps_of parts))) 0 n i i finite.empty lt (omega arith))
     ∙ (ap (λ (ms : List Map). get_or ms i finite.empty) (sym are) ∙ get_or-map (λ (p : PartState). p.map) parts i no_part finite.empty (omega arith))
 
-pub kept_at_start : (n first workers : ℕ) (parts : List PartState) (slots : List Slot) → length parts ≡ n → AreParts n parts → ArePlaced parts slots → workers < 65536 → IsKept n first first false slots (at_start first parts workers)
+pub kept_at_start : (n first workers : ℕ) (parts : List PartState) (slots : List Slot) → length parts ≡ n → AreParts n parts → ArePlaced first parts slots → workers < 65536 → IsKept n first first false slots (at_start first parts workers)
 kept_at_start n first workers parts slots count are placed few =
     let o : Opening = opening_of first parts in
     let b : Book = at_start first parts workers in
-    let lies : (i : ℕ) (x : Slot) → i < n → IsPlaced (get_or parts i no_part) x → Lies b i x =
+    let lies : (i : ℕ) (x : Slot) → i < n → IsPlaced first (get_or parts i no_part) x → Lies b i x =
     λ i. elim [
       | Home content ↦ λ lt p. record {
         part_is = ap (λ m. part_of m i (union_of (maps_of parts))) count ∙ (part_at n i parts are count lt ∙ ap (λ (q : PartState). q.map) (sym p.0));
         outbox_is = sym p.1;
+        last_is = omega (arith, p.2);
       }
       | HeldBy j ↦ λ lt p. absurd p
     ] in
@@ -171,7 +172,7 @@ kept_at_start n first workers parts slots count are placed few =
       one = one_at_start o (length parts) workers;
       each_slot = λ i lt. lies i (slot_of i slots) (omega arith) (placed.each i lt);
       carried = λ i j x. absurd (none_held o (length parts) workers i j x);
-      holders = λ i lt. held_by_none o (length parts) workers i ∙ sym (placed_free (get_or parts i no_part) (slot_of i slots) (placed.each i lt));
+      holders = λ i lt. held_by_none o (length parts) workers i ∙ sym (placed_free first (get_or parts i no_part) (slot_of i slots) (placed.each i lt));
     }
 
 -- empty parts

@@ -1,8 +1,8 @@
 -- What a step found of the durable count, of the failure word and of a stripe's holder stays so.
-use Rattle.std.proofs.Common.{ℕ, ◌≡◌, ◌≢◌, ◌≤◌, ◌==◌, List, [], ◌∷◌, Bool, true, false, not, Option, Some, None, max, refl, arith, sym, ◌∙◌, ap, subst, inl, inr}
+use Rattle.std.proofs.Common.{ℕ, ◌≡◌, ◌≤◌, List, [], ◌∷◌, true, Option, Some, None, refl, arith, sym, ◌∙◌, ap, subst, inl, inr}
 use Rattle.std.specs.Prelude.{if◌then◌else◌}
 use Rattle.std.specs.List.{All, Contains}
-use Rattle.std.proofs.lemmas.List.Elements.{All-nil, All-cons, All-head, All-tail, All-weaker, All-contains_itself}
+use Rattle.std.proofs.lemmas.List.Elements.{All-nil, All-cons, All-head, All-tail, All-contains_itself}
 use Rattle.std.proofs.lemmas.Bool.{cases_eq, eq-eqb, ne_eqb, not-false}
 use Rattle.std.proofs.Math.Nat.{le-max_left}
 use Rattle.ticket_order.specs.declared.stripe.Entry.{Entry}
@@ -12,7 +12,7 @@ use Rattle.one_history.specs.declared.book.Book.{Book}
 use Rattle.one_history.specs.declared.book.PassStep.{PassStep}
 use Rattle.one_history.specs.Interleaving.{Words, words_at, with_holder, moved_by, Finds, words_after, AreFound, steps_by}
 use Rattle.one_history.specs.Turns.{record_of, pass_step, words_of}
-use Rattle.one_history.specs.OneHistory.{AreOf, IsOneHistory, IsTakenByAnother, StaysSo}
+use Rattle.one_history.specs.OneHistory.{AreOf, IsOneHistory, StaysSo}
 
 durable_moved : (j : ℕ) (s : StepMade) (w : Words) → w.durable ≤ (moved_by j s w).durable
 durable_moved j (Took i outbox) w = omega arith

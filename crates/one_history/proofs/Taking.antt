@@ -14,8 +14,8 @@ use Rattle.ticket_order.specs.declared.record.Opening.{Opening}
 use Rattle.ticket_order.specs.declared.record.Holding.{Holding}
 use Rattle.ticket_order.specs.declared.record.Record.{Record}
 use Rattle.ticket_order.specs.Records.{past, taking}
-use Rattle.ticket_order.specs.Legality.{IsContent, entries_of, entries_from}
-use Rattle.ticket_order.specs.StepRules.{Collects, TakesStripe}
+use Rattle.ticket_order.specs.Legality.{IsContent, entries_of, entries_from, last_of}
+use Rattle.ticket_order.specs.StepRules.{Rises, Collects, IsLast, TakesStripe}
 use Rattle.one_history.specs.declared.book.Book.{Book}
 use Rattle.one_history.specs.declared.slot.Slot.{Slot}
 use Rattle.one_history.specs.declared.slot.Slot.TheVariants.{Home, HeldBy}
@@ -25,7 +25,7 @@ use Rattle.one_history.specs.OneHistory.{HasDone, Holds, Knows, AreOf, IsOneHist
 use Rattle.one_history.specs.Moves.{BookMoves, IsFree}
 use Rattle.one_history.specs.SharedWords.{slot_of, holder_in, Lies, IsKept}
 use Rattle.one_history.proofs.Fronts.{SeesTo, sees_to}
-use Rattle.one_history.proofs.Contents.{past_within}
+use Rattle.one_history.proofs.Contents.{past_within, outbox_ends}
 use Rattle.one_history.proofs.Knowing.{SeesMore, watches, done_same}
 use Rattle.one_history.proofs.Slots.{words_turned, one_turned, same_record, other_records, other_holds, other_held, room_turned}
 
@@ -40,17 +40,17 @@ module _ (n t durable : ℕ) (has_failed : Bool) (slots : List Slot) (b : Book) 
   between = unseen_to (past content.outbox.items) (record_of j b) b.history
 
   abbrev w : Record
-  w = taking (record_of j b) i m es between
+  w = taking (record_of j b) i m es content.last between
 
   here : Knows b.opening b.stripes b.history b.authors b.effects j (record_of j b)
   here = kept.one.passes j within
 
-  at_home : IsContent b.opening b.stripes b.history b.effects.taken i m es
+  at_home : IsContent b.opening b.stripes b.history b.effects.taken i m es content.last
   at_home = subst (λ x. Lies b i x) home (kept.each_slot i lt)
 
   sees_outbox : SeesTo (record_of j b).opening.first (past es) (record_of j b).seen between b.history
   unfolding here
-  sees_outbox = sees_to (record_of j b).opening.first (past es) (record_of j b).seen b.history here.front (omega (arith, ap (λ (o : Opening). o.first) here.opening, past_within b.opening b.stripes b.history b.effects.taken i m es at_home))
+  sees_outbox = sees_to (record_of j b).opening.first (past es) (record_of j b).seen b.history here.front (omega (arith, ap (λ (o : Opening). o.first) here.opening, past_within b.opening b.stripes b.history b.effects.taken i m es content.last at_home))
 
   abbrev s : StepMade
   s = made.Took i content.outbox.items
@@ -76,7 +76,7 @@ module _ (n t durable : ℕ) (has_failed : Bool) (slots : List Slot) (b : Book) 
       one_turned b j s w b.history b.authors b.effects kept.one within kept.one.authors kept.one.by_passes refl kept.one.begun kept.one.reached
       (watches b.opening b.stripes b.history b.authors b.effects b.effects j r w between here sees sees_outbox.front refl refl refl (done_same b.opening b.effects r w refl refl refl refl here.done)
       (λ d e.
-      let new : Holding = record { stripe = i; part = m; outbox = es; has_drawn = false; looked = None } in
+      let new : Holding = record { stripe = i; part = m; outbox = es; last = content.last; has_drawn = false; looked = None } in
       let is : new ≡ d = (let f : Some new ≡ Some d = e in cc) in
       subst (Holds b.opening b.stripes b.history b.authors b.effects w) is (record { within = lt; content = at_home; looked = λ q f. absurd (let no : None ≡ Some q = f in cc) })))
       (λ l ll ne. kept.one.passes l ll)
@@ -87,7 +87,7 @@ module _ (n t durable : ℕ) (has_failed : Bool) (slots : List Slot) (b : Book) 
   apart l k x e = let has : stripe_in (record_of j b).holding ≡ Some k = subst (λ u. stripe_in (record_of u b).holding ≡ Some k) e x.has in let none : None ≡ Some k = sym (ap stripe_in empty) ∙ has in cc
 
   lies : (l : ℕ) (x : Slot) → Lies b l x → Lies (took j i content b) l x
-  lies l (Home c) k = record { part_is = k.part_is; outbox_is = k.outbox_is }
+  lies l (Home c) k = record { part_is = k.part_is; outbox_is = k.outbox_is; last_is = k.last_is }
   lies l (HeldBy u) k = other_holds b l j u s w b.history b.authors b.effects (apart u l k) k
 
   holds_now : HoldsStripe (took j i content b) j i
@@ -148,8 +148,22 @@ module _ (n t durable : ℕ) (has_failed : Bool) (slots : List Slot) (b : Book) 
             ∙ (sym at_home.outbox_is ∙ (ap (λ (o : Opening). entries_of b.stripes i (entries_from o.first b.history)) (sym here.opening) ∙ ap (λ h. entries_of b.stripes i (entries_from r.opening.first h)) all));
       }
 
+  last_seen : IsLast b.stripes i content.last w
+  unfolding here
+  last_seen =
+      let r : Record = record_of j b in
+      let f = sees_outbox.front in
+      let all : b.history ≡ w.seen ++ f.rest = f.is in
+      record {
+        more = f.rest;
+        is = at_home.last_is ∙ (ap (λ (o : Opening). last_of b.stripes i o.first b.history) (sym here.opening) ∙ ap (last_of b.stripes i r.opening.first) all);
+      }
+
   pub takes_stripe : TakesStripe b.stripes (record_of j b) i content (record_of j (took j i content b))
-  takes_stripe = rw (same_record b j s w b.history b.authors b.effects within) (record { between = between; is = refl; rises = sees_outbox.rises; collects = collects })
+  takes_stripe = rw (same_record b j s w b.history b.authors b.effects within) (record { between = between; is = refl; rises = sees_outbox.rises; collects = collects; last = last_seen; ends = outbox_ends b.opening b.stripes b.history b.effects.taken i m es content.last at_home })
+
+  same_now : record_of j (took j i content b) ≡ w
+  same_now = same_record b j s w b.history b.authors b.effects within
 
   pub moves_took : BookMoves j (made.Took i es) b (took j i content b)
   moves_took = record {
@@ -158,4 +172,5 @@ module _ (n t durable : ℕ) (has_failed : Bool) (slots : List Slot) (b : Book) 
     passes = length-set b.passes j w;
     others = λ l ne. other_records b j l s w b.history b.authors b.effects ne;
     words = (record { same = record { history = refl; authors = refl }; effects = refl }, free_before);
+    raises = (subst (λ (y : Record). Rises (record_of j b) (past es) y) (sym same_now) sees_outbox.rises, at_home.outbox_is);
   }

@@ -1,7 +1,6 @@
 -- LOOK, SEE, ALIVE, DURABLE, FAIL, and a TAKE that finds the stripe held.
-use Rattle.std.proofs.Common.{ℕ, ◌≡◌, ◌≢◌, ◌+◌, ◌<◌, ◌≤◌, ◌++◌, List, [], ◌∷◌, Bool, true, false, not, Option, Some, None, length, set, max, refl, arith, sym, ◌∙◌, ap, subst, append-nil}
+use Rattle.std.proofs.Common.{ℕ, ◌≡◌, ◌≢◌, ◌+◌, ◌<◌, ◌≤◌, ◌++◌, List, [], ◌∷◌, Bool, true, false, not, Option, Some, None, length, max, refl, arith, sym, ◌∙◌, ap, subst, append-nil}
 use Rattle.std.specs.Prelude.{if◌then◌else◌}
-use Rattle.std.specs.List.{All}
 use Rattle.std.proofs.Math.ListN.{length-set}
 use Rattle.ticket_order.specs.declared.record.Opening.{Opening}
 use Rattle.ticket_order.specs.declared.record.StepMade.{StepMade}
@@ -18,21 +17,21 @@ use Rattle.one_history.specs.declared.slot.Slot.{Slot}
 use Rattle.one_history.specs.declared.slot.Slot.TheVariants.{HeldBy}
 use Rattle.one_history.specs.Interleaving.{IsAnother, Finds, moved_by}
 use Rattle.one_history.specs.Turns.{record_of, words_of, unseen, unseen_to, looked, saw, found_alive, found_held, published, failed}
-use Rattle.one_history.specs.OneHistory.{IsFront, IsUpTo, HasDone, Holds, Knows, AreOf, IsOneHistory, HoldsStripe, stripe_in}
-use Rattle.one_history.specs.Moves.{BookMoves, WordsMove, SameWords}
+use Rattle.one_history.specs.OneHistory.{IsFront, HasDone, Holds, Knows, AreOf, IsOneHistory, HoldsStripe, stripe_in}
+use Rattle.one_history.specs.Moves.{BookMoves, WordsMove, Raises, SameWords}
 use Rattle.one_history.specs.SharedWords.{slot_of, holder_in, Lies, draws_left, IsKept}
 use Rattle.one_history.proofs.Fronts.{front_refl, all_seen, sees_to, SeesTo, front_length}
-use Rattle.one_history.proofs.Knowing.{SeesMore, nothing_more, holds_longer, holds_looked, watches, up_to_more, reach_more, done_same, only_keeper, stands_by}
+use Rattle.one_history.proofs.Knowing.{SeesMore, nothing_more, holds_longer, holds_looked, watches, done_same, only_keeper, stands_by}
 use Rattle.one_history.proofs.Slots.{turned, IsStep, one_turned, same_record, other_records, room_turned, room_looked, kept_turned}
 
 stripe_looked : (q : ℕ) (x : Option Holding) → stripe_in (looking_at q x) ≡ stripe_in x
 stripe_looked q None = refl
 stripe_looked q (Some d) = refl
 
-held_looked : (o : Opening) (n : ℕ) (h : List Command) (authors : List ℕ) (k : KeeperEffects) (v w : Record) (q : ℕ) → w.opening ≡ o → w.seen ≡ h → All (IsUpTo (reach w)) w.calls → q ≡ reach w
+held_looked : (o : Opening) (n : ℕ) (h : List Command) (authors : List ℕ) (k : KeeperEffects) (v w : Record) (q : ℕ) → w.opening ≡ o → w.seen ≡ h → q ≡ reach w
     → (x : Option Holding) → ((d : Holding) → x ≡ Some d → Holds o n h authors k v d) → (d' : Holding) → looking_at q x ≡ Some d' → Holds o n h authors k w d'
-held_looked o n h authors k v w q wo ws up at None held d' e = absurd (let no : None ≡ Some d' = e in cc)
-held_looked o n h authors k v w q wo ws up at (Some d) held d' e =
+held_looked o n h authors k v w q wo ws at None held d' e = absurd (let no : None ≡ Some d' = e in cc)
+held_looked o n h authors k v w q wo ws at (Some d) held d' e =
     let new : Option ℕ = if d.has_drawn then None else Some q in
     let is : (p : ℕ) → new ≡ Some p → p ≡ reach w = λ p.
     elim d.has_drawn as (λ x. (if x then None else Some q) ≡ Some p → p ≡ reach w) [
@@ -40,7 +39,7 @@ held_looked o n h authors k v w q wo ws up at (Some d) held d' e =
       | false ↦ λ f. (let same : Some q ≡ Some p = f in cc)
     ] in
     let same : record d { looked = new } ≡ d' = (let f : Some (record d { looked = new }) ≡ Some d' = e in cc) in
-    subst (Holds o n h authors k w) same (holds_looked o n h authors k v w d new wo ws up is (held d refl))
+    subst (Holds o n h authors k w) same (holds_looked o n h authors k v w d new wo ws is (held d refl))
 
 module _ (n t durable : ℕ) (has_failed : Bool) (slots : List Slot) (b : Book) (j : ℕ) (kept : IsKept n t durable has_failed slots b) (within : j < length b.passes) where
   here : Knows b.opening b.stripes b.history b.authors b.effects j (record_of j b)
@@ -72,7 +71,7 @@ module _ (n t durable : ℕ) (has_failed : Bool) (slots : List Slot) (b : Book) 
       watches b.opening b.stripes b.history b.authors b.effects b.effects j r w (unseen r b.history) here s
       (subst (λ x. IsFront x b.history) (sym whole) (front_refl b.history)) refl refl refl
       (done_same b.opening b.effects r w refl refl refl refl here.done)
-      (held_looked b.opening b.stripes b.history b.authors b.effects r w (reach w) here.opening whole (up_to_more (reach r) (reach w) r.calls (reach_more r w (unseen r b.history) s) here.seen) refl r.holding here.held)
+      (held_looked b.opening b.stripes b.history b.authors b.effects r w (reach w) here.opening whole refl r.holding here.held)
 
   pub kept_looked : IsKept n t durable has_failed slots (looked j b)
   kept_looked =
@@ -90,14 +89,18 @@ module _ (n t durable : ℕ) (has_failed : Bool) (slots : List Slot) (b : Book) 
       rw same (record { between = unseen r b.history; is = refl; count_is = (let c : t ≡ b.opening.first + length b.history = kept.counted in omega (arith, first_is, ap length whole)) })
 
   -- what no step of one pass changes
-  moved : (w : Record) (s m : StepMade) (h : List Command) (authors : List ℕ) (k : KeeperEffects) → WordsMove j m b (turned b j s w h authors k) → BookMoves j m b (turned b j s w h authors k)
-  moved w s m h authors k x = record { opening = refl; stripes = refl; passes = length-set b.passes j w; others = λ l ne. other_records b j l s w h authors k ne; words = x }
+  moved : (w : Record) (s m : StepMade) (h : List Command) (authors : List ℕ) (k : KeeperEffects) → WordsMove j m b (turned b j s w h authors k) → Raises j m b (turned b j s w h authors k) → BookMoves j m b (turned b j s w h authors k)
+  moved w s m h authors k x raises = record { opening = refl; stripes = refl; passes = length-set b.passes j w; others = λ l ne. other_records b j l s w h authors k ne; words = x; raises = raises }
+
+  -- the pass has seen no more
+  not_raised : (s : StepMade) (w : Record) (k : KeeperEffects) → w.opening ≡ (record_of j b).opening → w.seen ≡ (record_of j b).seen → reach (record_of j (turned b j s w b.history b.authors k)) ≡ reach (record_of j b)
+  not_raised s w k opening seen = ap reach (same_record b j s w b.history b.authors k within) ∙ (ap (λ (o : Opening). o.first + length w.seen) opening ∙ ap (λ (cs : List Command). (record_of j b).opening.first + length cs) seen)
 
   same_words : (s : StepMade) (w : Record) → SameWords b (turned b j s w b.history b.authors b.effects)
   same_words s w = record { same = record { history = refl; authors = refl }; effects = refl }
 
   pub moves_looked : BookMoves j (made.Looked t) b (looked j b)
-  moves_looked = let w : Record = looking (record_of j b) (unseen (record_of j b) b.history) in let s : StepMade = made.Looked (reach w) in moved w s (made.Looked t) b.history b.authors b.effects (same_words s w, kept.counted)
+  moves_looked = let w : Record = looking (record_of j b) (unseen (record_of j b) b.history) in let s : StepMade = made.Looked (reach w) in moved w s (made.Looked t) b.history b.authors b.effects (same_words s w, kept.counted) (sym looks.count_is)
 
   -- SEE
   sees_all : (x : ℕ) → x ≤ b.opening.first + length b.history → SeesTo (record_of j b).opening.first x (record_of j b).seen (unseen_to x (record_of j b) b.history) b.history
@@ -142,7 +145,7 @@ module _ (n t durable : ℕ) (has_failed : Bool) (slots : List Slot) (b : Book) 
   pub moves_saw : BookMoves j (made.Saw durable) b (saw j b)
   moves_saw =
       let r : Record = record_of j b in let w : Record = seeing r b.effects.durable (unseen_to b.effects.durable r b.history) in let s : StepMade = made.Saw b.effects.durable in
-      moved w s (made.Saw durable) b.history b.authors b.effects (same_words s w, kept.durable_is)
+      moved w s (made.Saw durable) b.history b.authors b.effects (same_words s w, kept.durable_is) sees.rises
 
   -- ALIVE
   pub kept_found_alive : IsKept n t durable has_failed slots (found_alive j b)
@@ -166,7 +169,7 @@ module _ (n t durable : ℕ) (has_failed : Bool) (slots : List Slot) (b : Book) 
   pub moves_found_alive : BookMoves j (made.FoundAlive (not has_failed)) b (found_alive j b)
   moves_found_alive =
       let w : Record = living (record_of j b) (not b.effects.failed) in let s : StepMade = made.FoundAlive (not b.effects.failed) in
-      moved w s (made.FoundAlive (not has_failed)) b.history b.authors b.effects (same_words s w, ap not kept.failed_is)
+      moved w s (made.FoundAlive (not has_failed)) b.history b.authors b.effects (same_words s w, ap not kept.failed_is) (not_raised s w b.effects refl refl)
 
   -- TAKE of a stripe that another holds
   pub misses : (i : ℕ) → record_of j (found_held j i b) ≡ missing (record_of j b) i
@@ -189,7 +192,7 @@ module _ (n t durable : ℕ) (has_failed : Bool) (slots : List Slot) (b : Book) 
     pub moves_found_held : BookMoves j (made.FoundHeld i) b (found_held j i b)
     moves_found_held =
         let w : Record = missing (record_of j b) i in let s : StepMade = made.FoundHeld i in
-        moved w s s b.history b.authors b.effects (same_words s w, record { holder = l; other = another; holds = holder })
+        moved w s s b.history b.authors b.effects (same_words s w, record { holder = l; other = another; holds = holder }) (not_raised s w b.effects refl refl)
 
   -- DURABLE and FAIL, which the keeper makes
   module _ (k' : KeeperEffects) (s : StepMade) (w : Record) (keeper : (record_of j b).keeper ≡ true) (same : k'.keeper ≡ b.effects.keeper) (taken_is : k'.taken ≡ b.effects.taken) (begun : b.opening.first ≤ k'.durable) (reached : k'.durable ≤ b.opening.first + length b.history)
@@ -202,7 +205,7 @@ module _ (n t durable : ℕ) (has_failed : Bool) (slots : List Slot) (b : Book) 
         (watches b.opening b.stripes b.history b.authors b.effects k' j r w [] here sees (subst (λ x. IsFront x b.history) (sym (sees.seen ∙ append-nil r.seen)) here.front) sections wk same done
         (λ d e. let was : Holds b.opening b.stripes b.history b.authors b.effects w d = holds_longer b.opening b.stripes b.history b.authors b.effects r w [] d sees (here.held d (sym holding ∙ e)) in record {
           within = was.within;
-          content = subst (λ es. IsContent b.opening b.stripes b.history es d.stripe d.part d.outbox) (sym taken_is) was.content;
+          content = subst (λ es. IsContent b.opening b.stripes b.history es d.stripe d.part d.outbox d.last) (sym taken_is) was.content;
           looked = was.looked;
         }))
         (λ l lt ne. let x = kept.one.passes l lt in stands_by b.opening b.stripes b.history b.authors b.effects k' l (record_of l b) x same taken_is (only_keeper j l b.effects r (record_of l b) here.keeper x.keeper keeper ne)) step
@@ -237,7 +240,9 @@ module _ (n t durable : ℕ) (has_failed : Bool) (slots : List Slot) (b : Book) 
   publishes x = same_record b j (made.Published x) (publishing (record_of j b) x) b.history b.authors (record b.effects { durable = max b.effects.durable x }) within
 
   pub moves_published : (x : ℕ) → BookMoves j (made.Published x) b (published j x b)
-  moves_published x = moved (publishing (record_of j b) x) (made.Published x) (made.Published x) b.history b.authors (record b.effects { durable = max b.effects.durable x }) (record { history = refl; authors = refl }, refl)
+  moves_published x =
+      let w : Record = publishing (record_of j b) x in let k' : KeeperEffects = record b.effects { durable = max b.effects.durable x } in
+      moved w (made.Published x) (made.Published x) b.history b.authors k' (record { history = refl; authors = refl }, refl) (not_raised (made.Published x) w k' refl refl)
 
   pub kept_failed : (record_of j b).keeper ≡ true → IsKept n t durable true slots (failed j b)
   unfolding here
@@ -256,4 +261,6 @@ module _ (n t durable : ℕ) (has_failed : Bool) (slots : List Slot) (b : Book) 
   fails = same_record b j made.Failed (failing (record_of j b)) b.history b.authors (record b.effects { failed = true }) within
 
   pub moves_failed : BookMoves j made.Failed b (failed j b)
-  moves_failed = moved (failing (record_of j b)) made.Failed made.Failed b.history b.authors (record b.effects { failed = true }) (record { history = refl; authors = refl }, refl)
+  moves_failed =
+      let w : Record = failing (record_of j b) in let k' : KeeperEffects = record b.effects { failed = true } in
+      moved w made.Failed made.Failed b.history b.authors k' (record { history = refl; authors = refl }, refl) (not_raised made.Failed w k' refl refl)

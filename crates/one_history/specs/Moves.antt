@@ -1,12 +1,16 @@
 -- What a step of one pass does to the words, and to what other passes did and saw.
-use Rattle.std.specs.Prelude.{◌≡◌, ◌≢◌, ℕ, ◌+◌, max, List, [], ◌∷◌, ◌++◌, length, true, not}
+use Rattle.std.specs.Prelude.{◌≡◌, ◌≢◌, ◌⊎◌, ℕ, ◌+◌, max, List, [], ◌∷◌, ◌++◌, length, true, not}
 use Rattle.map_types.specs.declared.commands.Command.{Command}
 use Rattle.map_types.specs.declared.commands.Reply.{Reply}
 use Rattle.ticket_order.specs.declared.stripe.Entry.{Entry}
 use Rattle.ticket_order.specs.declared.record.StepMade.{StepMade}
 use Rattle.ticket_order.specs.declared.record.StepMade.TheVariants.{Took, FoundHeld, Gave, Drew, Looked, Published, Saw, Failed, FoundAlive}
 use Rattle.ticket_order.specs.declared.record.Asked.TheVariants.{Changing}
-use Rattle.ticket_order.specs.Records.{call}
+use Rattle.ticket_order.specs.declared.record.Call.{Call}
+use Rattle.ticket_order.specs.declared.record.Record.{Record}
+use Rattle.ticket_order.specs.Records.{call, past, reach}
+use Rattle.ticket_order.specs.Legality.{entries_from, entries_of, last_of}
+use Rattle.ticket_order.specs.StepRules.{Rises}
 use Rattle.one_history.specs.declared.book.Book.{Book}
 use Rattle.one_history.specs.Turns.{record_of}
 use Rattle.one_history.specs.OneHistory.{HoldsStripe}
@@ -57,6 +61,32 @@ WordsMove j (Saw d) b b' = SameWords b b' × (d ≡ b.effects.durable)
 WordsMove j Failed b b' = SameHistory b b' × (b'.effects ≡ record b.effects { failed = true })
 WordsMove j (FoundAlive is_alive) b b' = SameWords b b' × (is_alive ≡ not b.effects.failed)
 
+-- the entries of the stripe's changes that no sweep took
+abbrev pub IsOutbox : Book → ℕ → List Entry → Type 0
+IsOutbox b i es = entries_of b.stripes i (entries_from b.opening.first b.history) ≡ entries_of b.stripes i b.effects.taken ++ es
+
+-- the pass has made no further call, and seen no more
+pub record SeesNoMore (v w : Record) : Type 0 where
+  pub calls : w.calls ≡ v.calls
+  pub reach : reach w ≡ reach v
+
+-- the pass has made one call more, and seen up to n if that was more
+pub record SeesRead (v : Record) (n : ℕ) (w : Record) : Type 0 where
+  pub read : Call
+  pub calls : w.calls ≡ v.calls ++ read ∷ []
+  pub rises : Rises v n w
+
+-- How a step of the pass j raises the greatest position that it has seen. A TAKE raises it to one past the greatest
+-- ticket in the outbox. A LOOK and a SEE raise it to what they found, and a TICKET to one past its ticket. A GIVE that
+-- makes a read raises it to one past the last ticket of its stripe.
+abbrev pub Raises : ℕ → StepMade → Book → Book → Type 0
+Raises j (Took i es) b b' = Rises (record_of j b) (past es) (record_of j b') × IsOutbox b i es
+Raises j (Drew t) b b' = reach (record_of j b') ≡ t + 1
+Raises j (Looked q) b b' = reach (record_of j b') ≡ q
+Raises j (Saw d) b b' = Rises (record_of j b) d (record_of j b')
+Raises j (Gave i) b b' = SeesNoMore (record_of j b) (record_of j b') ⊎ SeesRead (record_of j b) (last_of b.stripes i b.opening.first b.history) (record_of j b')
+Raises j step b b' = reach (record_of j b') ≡ reach (record_of j b)
+
 -- one step of the pass j
 pub record BookMoves (j : ℕ) (made : StepMade) (b b' : Book) : Type 0 where
   pub opening : b'.opening ≡ b.opening
@@ -64,3 +94,4 @@ pub record BookMoves (j : ℕ) (made : StepMade) (b b' : Book) : Type 0 where
   pub passes : length b'.passes ≡ length b.passes
   pub others : (l : ℕ) → l ≢ j → record_of l b' ≡ record_of l b
   pub words : WordsMove j made b b'
+  pub raises : Raises j made b b'

@@ -62,17 +62,13 @@ abbrev pub HasDone : Opening → KeeperEffects → Record → Bool → Type 0
 HasDone o k v true = (v.taken ≡ k.taken) × (v.published ≡ k.durable) × (v.failed ≡ k.failed)
 HasDone o k v false = (v.taken ≡ []) × (v.published ≡ o.first) × (v.failed ≡ false)
 
--- what a LOOK under the stripe found: the part is that after the first q changes, and no call of the pass is behind them
-pub record HasSeen (n : ℕ) (v : Record) (d : Holding) (q : ℕ) : Type 0 where
-  pub section : IsLegalSection n (history_of v) (record { stripe = d.stripe; mark = q; part = d.part })
-  pub calls : All (IsUpTo q) v.calls
-
 module _ (o : Opening) (n : ℕ) (h : List Command) (authors : List ℕ) (k : KeeperEffects) where
-  -- a stripe that is held has the content that its holder's record says
+  -- A stripe that is held has the content that its holder's record says. If a LOOK under it found q changes, its part is
+  -- that after them.
   pub record Holds (v : Record) (d : Holding) : Type 0 where
     pub within : d.stripe < n
-    pub content : IsContent o n h k.taken d.stripe d.part d.outbox
-    pub looked : (q : ℕ) → d.looked ≡ Some q → HasSeen n v d q
+    pub content : IsContent o n h k.taken d.stripe d.part d.outbox d.last
+    pub looked : (q : ℕ) → d.looked ≡ Some q → IsLegalSection n (history_of v) (record { stripe = d.stripe; mark = q; part = d.part })
 
   -- the record v of the pass j
   pub record Knows (j : ℕ) (v : Record) : Type 0 where

@@ -17,7 +17,7 @@ slot_of i slots = slice_index_or slots i (HeldBy 0)
 
 -- a free stripe has its part of the map and its entries that no sweep took, and a held one has a holder
 abbrev pub Lies : Book → ℕ → Slot → Type 0
-Lies b i (Home content) = IsContent b.opening b.stripes b.history b.effects.taken i content.part.map content.outbox.items
+Lies b i (Home content) = IsContent b.opening b.stripes b.history b.effects.taken i content.part.map content.outbox.items content.last
 Lies b i (HeldBy j) = HoldsStripe b j i
 
 -- the pass that holds the stripe of this place
@@ -52,14 +52,14 @@ no_part = record {
   growth = record { stripes = 0; bins = 0; moved = None };
 }
 
--- the part is at home, with no entries
-abbrev pub IsPlaced : PartState → Slot → Type 0
-IsPlaced p (Home content) = (content.part ≡ p) × (content.outbox.items ≡ [])
-IsPlaced p (HeldBy j) = ⊥
+-- the part is at home with no entries, and its stripe's `last` is `first`, with which the stripes begin
+abbrev pub IsPlaced : ℕ → PartState → Slot → Type 0
+IsPlaced first p (Home content) = (content.part ≡ p) × (content.outbox.items ≡ []) × (content.last ≡ first)
+IsPlaced first p (HeldBy j) = ⊥
 
-pub record ArePlaced (parts : List PartState) (slots : List Slot) : Type 0 where
+pub record ArePlaced (first : ℕ) (parts : List PartState) (slots : List Slot) : Type 0 where
   pub count : length slots ≡ length parts
-  pub each : (i : ℕ) → i < length parts → IsPlaced (slice_index_or parts i no_part) (slot_of i slots)
+  pub each : (i : ℕ) → i < length parts → IsPlaced first (slice_index_or parts i no_part) (slot_of i slots)
 
 abbrev pub AreEmpty : List PartState → Type 0
 AreEmpty parts = All (λ (p : PartState). p.map ≡ finite.empty) parts

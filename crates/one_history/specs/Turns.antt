@@ -7,10 +7,11 @@ use Rattle.atomic_methods.specs.PartState.{PartState}
 use Rattle.ticket_order.specs.declared.stripe.Stripe.{Stripe}
 use Rattle.ticket_order.specs.declared.record.Opening.{Opening}
 use Rattle.ticket_order.specs.declared.record.Purpose.{Purpose}
+use Rattle.ticket_order.specs.declared.record.Purpose.TheVariants.{Answer}
 use Rattle.ticket_order.specs.declared.record.StepMade.{StepMade}
 use Rattle.ticket_order.specs.declared.record.StepMade.TheVariants as made
 use Rattle.ticket_order.specs.declared.record.Record.{Record}
-use Rattle.ticket_order.specs.Records.{past, stripe_held, newcomer, keeper_at_start, enrolling, missing, taking, looking, drawing, giving, swept_by, publishing, seeing, failing, living}
+use Rattle.ticket_order.specs.Records.{past, stripe_held, newcomer, keeper_at_start, enrolling, missing, taking, looking, drawing, giving, answering, last_held, swept_by, publishing, seeing, failing, living}
 use Rattle.one_history.specs.declared.book.Book.{Book}
 use Rattle.one_history.specs.declared.book.PassStep.{PassStep}
 use Rattle.one_history.specs.Interleaving.{Words, words_at, words_after}
@@ -42,15 +43,20 @@ unseen_to n v h = unseen v (take (n - v.opening.first) h)
 abbrev pub took : ℕ → ℕ → Stripe → Book → Book
 took j i content b =
     let v : Record = record_of j b in
-    with_step_by j (made.Took i content.outbox.items) (taking v i content.part.map content.outbox.items (unseen_to (past content.outbox.items) v b.history)) b
+    with_step_by j (made.Took i content.outbox.items) (taking v i content.part.map content.outbox.items content.last (unseen_to (past content.outbox.items) v b.history)) b
 
 -- TAKE of a stripe that another holds
 abbrev pub found_held : ℕ → ℕ → Book → Book
 found_held j i b = with_step_by j (made.FoundHeld i) (missing (record_of j b) i) b
 
+-- what a GIVE leaves of the record: if it makes a read, the pass has then seen the history up to the stripe's last ticket
+abbrev pub given : Purpose → Record → List Command → Record
+given (Answer r) v h = answering r v (unseen_to (last_held v.holding) v h)
+given p v h = giving p v
+
 -- GIVE
 abbrev pub gave : ℕ → Purpose → Book → Book
-gave j p b = record (with_step_by j (made.Gave (stripe_held (record_of j b).holding)) (giving p (record_of j b)) b) { effects = record b.effects { taken = b.effects.taken ++ swept_by p (record_of j b).holding } }
+gave j p b = record (with_step_by j (made.Gave (stripe_held (record_of j b).holding)) (given p (record_of j b) b.history) b) { effects = record b.effects { taken = b.effects.taken ++ swept_by p (record_of j b).holding } }
 
 -- TICKET: the change stands at the end of the history
 abbrev pub drew : ℕ → Command → Book → Book
