@@ -43,6 +43,10 @@ impl Steps for At<'_> {
         self.words.stripes()
     }
 
+    fn seen(&self) -> u64 {
+        self.words.seen(self.pass)
+    }
+
     fn take(&mut self, stripe: usize) -> Option<Stripe> {
         self.words.take(self.pass, stripe)
     }

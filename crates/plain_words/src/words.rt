@@ -1,12 +1,14 @@
 //! The words and the stripes, and the steps of a pass on them.
-ghost use Rattle.std.specs.Prelude.{◌≡◌, ◌<◌, None, true, length, IfOk, IfErr};
+ghost use Rattle.std.specs.Prelude.{◌≡◌, ◌<◌, None, true, length, vec_len, IfOk, IfErr};
 ghost use Rattle.std.specs.FinMap as finite;
 ghost use Rattle.ticket_order.specs.declared.record.StepMade.TheVariants as made;
-ghost use Rattle.ticket_order.specs.StepRules.{Takes, take_made, Looks, MayDraw, Draws, MayGive, Gives, MayPublish, Publishes, Sees, Fails, Lives};
+ghost use Rattle.ticket_order.specs.Records.{past, reach};
+ghost use Rattle.ticket_order.specs.StepRules.{EndsAt, Takes, take_made, Looks, MayDraw, Draws, MayGive, Gives, MayPublish, Publishes, Sees, Fails, Lives};
 ghost use Rattle.one_history.specs.Turns.{record_of, started, at_start};
 ghost use Rattle.one_history.specs.OneHistory.{IsOneHistory, HoldApart, AreParts};
 ghost use Rattle.one_history.specs.Moves.{BookMoves};
 ghost use Rattle.one_history.specs.SharedWords.{ArePlaced};
+ghost use Rattle.plain_words.specs.Seen.{raised, raised_by};
 
 use crate::ghost_book::{GhostBook, Turn};
 use atomic_methods::Part;
@@ -27,6 +29,8 @@ pub struct PlainWords {
     durable: u64,
     failed: bool,
     slots: Vec<Slot>,
+    /// Of each pass, the greatest position that it has seen.
+    seen: Vec<u64>,
     ghost_book: GhostBook,
 }
 
@@ -34,6 +38,7 @@ impl Model for PlainWords {
     ghost use Rattle.one_history.specs.contracts.book.Book as book_type;
     ghost use Rattle.one_history.specs.declared.book.Book.{Book};
     ghost use Rattle.one_history.specs.SharedWords.{IsKept};
+    ghost use Rattle.plain_words.specs.Seen.{HaveSeen};
 
     ghost Value = { Book };
 
@@ -42,19 +47,49 @@ impl Model for PlainWords {
     ghost view = { λ words. words.ghost_book.book };
 
     ghost invariant = { λ words. IsKept words.stripes.count words.tickets words.durable words.failed
-        words.slots.items words.ghost_book.book };
+        words.slots.items words.ghost_book.book × HaveSeen words.seen.items words.ghost_book.book };
 }
 
-// The stripes with these parts, at home.
-fn place_all(alloc: Global, parts: Vec<Part>) -> Result<Vec<Slot>, Refusal>
-    ensures ok { IfOk result (λ slots. ArePlaced parts.items slots.items) }
+// The stripes with these parts, at home. They begin with `first` tickets.
+fn place_all(alloc: Global, parts: Vec<Part>, first: u64) -> Result<Vec<Slot>, Refusal>
+    ensures ok { IfOk result (λ slots. ArePlaced first parts.items slots.items) }
     ensures err { IfErr result (λ refusal. refusal ≡ Refusal.NoMemory) }
 {
     let mut slots = Vec::new(alloc);
     for part in parts {
-        slots.push(Slot::Home(Stripe::new(alloc, part)))?;
+        slots.push(Slot::Home(Stripe::new(alloc, part, first)))?;
     }
     Ok(slots)
+}
+
+// The pass has seen up to `number`, or further.
+fn raise(seen: &mut Vec<u64>, pass: usize, number: u64)
+    requires { pass < vec_len seen.old }
+    ensures { seen.new.items ≡ raised pass number seen.old.items }
+{
+    seen[pass] = seen[pass].max(number);
+}
+
+// The pass has seen the changes that wait in the outbox of the stripe that it takes.
+fn raise_to_outbox(seen: &mut Vec<u64>, pass: usize, content: &Stripe)
+    requires within { pass < vec_len seen.old }
+    requires ends { EndsAt content.now.outbox.items content.now.last }
+    ensures { seen.new.items ≡ raised pass (past content.now.outbox.items) seen.old.items }
+{
+    if !content.outbox.is_empty() {
+        raise(seen, pass, content.last);
+    }
+}
+
+// The pass has seen the changes of the stripe that it gives back, if that answers a read.
+fn raise_by(seen: &mut Vec<u64>, pass: usize, last: u64, purpose: &Purpose)
+    requires { pass < vec_len seen.old }
+    ensures { seen.new.items ≡ raised_by purpose.now pass last seen.old.items }
+{
+    match purpose {
+        Purpose::Answer(_) => raise(seen, pass, last),
+        Purpose::Nothing | Purpose::Sweep | Purpose::Capture => {}
+    }
 }
 
 impl PlainWords {
@@ -74,13 +109,15 @@ impl PlainWords {
         ensures err { IfErr result (λ refusal. refusal ≡ Refusal.NoMemory) }
     {
         let ghost_book = GhostBook::new(first, &parts, workers);
-        let slots = place_all(alloc, parts)?;
+        let slots = place_all(alloc, parts, first)?;
+        let seen = vec![in alloc; first; usize::from(workers) + 1]?;
         Ok(PlainWords {
             stripes,
             tickets: first,
             durable: first,
             failed: false,
             slots,
+            seen,
             ghost_book,
         })
     }
@@ -109,6 +146,14 @@ impl PlainWords {
         self.stripes
     }
 
+    /// The greatest position that the pass has seen.
+    pub fn seen(&self, pass: usize) -> u64
+        requires { pass < length self.now.passes }
+        ensures { result ≡ reach (record_of pass self.now) }
+    {
+        self.seen[pass]
+    }
+
     pub(crate) fn take(&mut self, pass: usize, stripe: usize) -> Option<Stripe>
         requires pass { pass < length self.old.passes }
         requires within { stripe < self.old.stripes }
@@ -120,6 +165,7 @@ impl PlainWords {
         let place = &mut self.slots[stripe];
         match mem::replace(place, Slot::HeldBy(pass)) {
             Slot::Home(content) => {
+                raise_to_outbox(&mut self.seen, pass, &content);
                 self.ghost_book.note(
                     pass,
                     &Turn::Took {
@@ -146,6 +192,7 @@ impl PlainWords {
         ensures moved { BookMoves pass (made.Gave stripe) self.old self.new }
     {
         self.ghost_book.note(pass, &Turn::Gave { purpose });
+        raise_by(&mut self.seen, pass, content.last, purpose);
         self.slots[stripe] = Slot::Home(content);
     }
 
@@ -159,6 +206,7 @@ impl PlainWords {
         let ticket = Ticket::new(self.tickets);
         self.ghost_book.note(pass, &Turn::Drew { command });
         self.tickets += 1;
+        self.seen[pass] = ticket.position().number();
         ticket
     }
 
@@ -169,6 +217,7 @@ impl PlainWords {
     {
         let count = self.tickets;
         self.ghost_book.note(pass, &Turn::Looked);
+        self.seen[pass] = count;
         count
     }
 
@@ -189,6 +238,7 @@ impl PlainWords {
     {
         let durable = self.durable;
         self.ghost_book.note(pass, &Turn::Saw);
+        raise(&mut self.seen, pass, durable);
         durable
     }
 

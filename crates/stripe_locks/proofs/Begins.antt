@@ -25,15 +25,15 @@ at_home (Some x ∷ xs) zero content lt e = let same : x ≡ content = (let f : 
 at_home (None ∷ xs) zero content lt e = absurd (let f : HeldBy 0 ≡ Home content = e in cc)
 at_home (x ∷ xs) (suc i) content lt e = at_home xs i content (omega arith) e
 
-stands_first : (words : List ℕ) (xs : List (Option Stripe)) (i : ℕ) (p : PartState) (slot : Slot) → i < length xs → get_or words (i + 4) 0 ≡ 0 → slot_of i (map slot_with xs) ≡ slot → IsPlaced p slot → Stands words (map some xs) i slot
-stands_first words xs i p (Home content) lt zero_there e here = (zero_there, at_home xs i content lt e)
-stands_first words xs i p (HeldBy j) lt zero_there e here = absurd here
+stands_first : (words : List ℕ) (xs : List (Option Stripe)) (i first : ℕ) (p : PartState) (slot : Slot) → i < length xs → get_or words (i + 4) 0 ≡ 0 → slot_of i (map slot_with xs) ≡ slot → IsPlaced first p slot → Stands words (map some xs) i slot
+stands_first words xs i first p (Home content) lt zero_there e here = (zero_there, at_home xs i content lt e)
+stands_first words xs i first p (HeldBy j) lt zero_there e here = absurd here
 
 alone : (P : ℕ → Record → Type 0) (v : Record) → P 0 v → (l : ℕ) (u : Record) → get_elem? (v ∷ []) l ≡ some u → P l u
 alone P v here zero u e = subst (P 0) (some-injective v u e) here
 alone P v here (suc l) u e = absurd (some-ne-none u (sym e))
 
-pub opens : (n first : ℕ) (parts : List PartState) (ws : List ℕ) (xs : List (Option Stripe)) → length parts ≡ n → AreParts n parts → AreStored parts xs → ws ≡ set (set (replicate (n + 4) 0) 0 first) 1 first → Kept (opening_of first parts) (opening ws xs (newcomer (opening_of first parts)))
+pub opens : (n first : ℕ) (parts : List PartState) (ws : List ℕ) (xs : List (Option Stripe)) → length parts ≡ n → AreParts n parts → AreStored first parts xs → ws ≡ set (set (replicate (n + 4) 0) 0 first) 1 first → Kept (opening_of first parts) (opening ws xs (newcomer (opening_of first parts)))
 opens n first parts ws xs count are stored is =
     let o : Opening = opening_of first parts in
     let blank : List ℕ = replicate (n + 4) 0 in
@@ -58,6 +58,6 @@ opens n first parts ws xs count are stored is =
       joined = (let one : length (at_start first parts 0).passes ≡ 0 + 1 = count_at_start o (length parts) 0 in omega arith);
       keeper = refl;
       unjoined = λ e. refl;
-      each_stripe = λ i lt. stands_first ws xs i (get_or parts i no_part) (slot_of i (map slot_with xs)) (omega arith) (word (i + 4) (omega arith) (omega arith)) refl (stored.each i (omega arith));
+      each_stripe = λ i lt. stands_first ws xs i first (get_or parts i no_part) (slot_of i (map slot_with xs)) (omega arith) (word (i + 4) (omega arith) (omega arith)) refl (stored.each i (omega arith));
       each_seat = alone (λ l u. Sits (λ place. 0) (at_start first parts 0) (get_or ws 3 0) l u u.enrolled) (newcomer o) (record { few = omega arith; front = record { rest = []; is = refl }; other_front = record { rest = []; is = refl }; borne_out = All-nil _ });
     }

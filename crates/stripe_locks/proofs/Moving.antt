@@ -11,9 +11,10 @@ use Rattle.atomic_table.proofs.Lists.{set_here, set_else, exchanged}
 use Rattle.ticket_order.specs.declared.stripe.Stripe.{Stripe}
 use Rattle.ticket_order.specs.declared.record.Opening.{Opening}
 use Rattle.ticket_order.specs.declared.record.Purpose.{Purpose}
+use Rattle.ticket_order.specs.declared.record.Purpose.TheVariants.{Nothing, Answer, Sweep, Capture}
 use Rattle.ticket_order.specs.declared.record.StepMade.TheVariants as made
 use Rattle.ticket_order.specs.declared.record.Record.{Record}
-use Rattle.ticket_order.specs.Records.{missing}
+use Rattle.ticket_order.specs.Records.{missing, giving}
 use Rattle.ticket_order.specs.StepRules.{TakesStripe, MayGive, Gives}
 use Rattle.one_history.specs.declared.book.Book.{Book}
 use Rattle.one_history.specs.declared.slot.Slot.{Slot}
@@ -133,6 +134,15 @@ allows_take o n id me i number is_pass empty lt numbered s k wide at range =
     (found_free o n id me i number is_pass empty lt numbered s k wide at)
     (found_held o n id me i number is_pass empty lt numbered s k wide at)
 
+given_same : (p : Purpose) (v w : Record) → w ≡ giving p v → IsSameOne v w
+given_same p v w is = record { enrolled = ap (λ (r : Record). r.enrolled) is; passes = ap (λ (r : Record). r.passes) is; keeper = ap (λ (r : Record). r.keeper) is }
+
+gives_same : (n : ℕ) (p : Purpose) (v w : Record) → Gives n p v w → IsSameOne v w
+gives_same n Nothing v w g = given_same Nothing v w g.is
+gives_same n (Answer read) v w g = record { enrolled = ap (λ (r : Record). r.enrolled) g.is; passes = ap (λ (r : Record). r.passes) g.is; keeper = ap (λ (r : Record). r.keeper) g.is }
+gives_same n Sweep v w g = given_same Sweep v w g.is
+gives_same n Capture v w g = given_same Capture v w g.is
+
 -- GIVE of the content that the seat has
 pub allows_give : (o : Opening) (n id : ℕ) (me : M) (i : ℕ) (content : Stripe) (p : Purpose) (more : List (ℕ × Option Stripe)) → me.0.enrolled ≡ true → me.1 ≡ (i, Some content) ∷ more → MayGive n me.0 i content p → Allows (Kept o) n id me (i + 4) (λ _. 0) (λ _. gave p (step n (i + 4) 0 0 none) me 0)
 allows_give o n id me i content p more is_pass has may s k wide at range =
@@ -145,7 +155,7 @@ allows_give o n id me i content p more is_pass has may s k wide at range =
     let w : Record = record_of q.place b' in
     let law : Gives k.book.stripes p (record_of q.place k.book) w = giving.gives _ _ _ _ _ k.book q.place k.kept in_it i content p may' in
     let told : Gives n p me.0 w = subst (λ v. Gives n p v w) q.view_is (subst (λ (m : ℕ). Gives m p (record_of q.place k.book) w) stripes law) in
-    let same : IsSameOne me.0 w = record { enrolled = ap (λ (r : Record). r.enrolled) told.is; passes = ap (λ (r : Record). r.passes) told.is; keeper = ap (λ (r : Record). r.keeper) told.is } in
+    let same : IsSameOne me.0 w = gives_same n p me.0 w told in
     let words' : List ℕ = set s.words (i + 4) 0 in let homes' : Homes = set s.homes i (some (Some content)) in
     let n4 : length s.words ≡ length s.homes + 4 = k.wide in
     let kept' = kept_gave _ _ _ _ _ k.book q.place k.kept in_it i content p may' in

@@ -1,14 +1,14 @@
 -- Laws: what can't be. Steps that the rule of the shared words allows no pass: of each there is a table that the rule holds of, so that it isn't allowed there.
 -- And a release over other stripes than those on which the call was made.
-use Rattle.std.proofs.Common.{ℕ, ◌≡◌, ◌≢◌, ◌+◌, ◌<◌, ◌≤◌, ◌^◌, ◌==◌, ◌++◌, List, [], ◌∷◌, zero, suc, eqb, Bool, true, false, Option, Some, None, length, get_or, set, max, refl, arith, sym, ◌∙◌, ap, subst, length-set}
+use Rattle.std.proofs.Common.{ℕ, ◌≡◌, ◌≢◌, ◌<◌, ◌≤◌, ◌^◌, ◌==◌, ◌++◌, List, [], ◌∷◌, zero, suc, eqb, Bool, true, false, Option, length, get_or, set, max, refl, arith, sym, ◌∙◌, ap, subst}
 use Rattle.std.specs.Prelude.{if◌then◌else◌}
 use Rattle.std.specs.List.{All}
-use Rattle.std.proofs.lemmas.List.{get_or-set_other, set-get_or, get_or_past}
+use Rattle.std.proofs.lemmas.List.{set-get_or, get_or_past}
 use Rattle.std.proofs.lemmas.List.Elements.{All-head, All-tail}
 use Rattle.std.proofs.lemmas.Bool.{eq-eqb, ne_eqb}
 use mathlib.Core.Option.{some, none, some-ne-none}
 use lib.ListN.{get_elem?}
-use Rattle.atomic_table.specs.Table.{step, Allows, stepped, homes_after, Act}
+use Rattle.atomic_table.specs.Table.{step, Allows, stepped, Act}
 use Rattle.atomic_table.proofs.Lists.{set_here}
 use Rattle.ticket_order.specs.declared.stripe.Stripe.{Stripe}
 use Rattle.ticket_order.specs.declared.record.Opening.{Opening}
@@ -17,7 +17,6 @@ use Rattle.ticket_order.specs.declared.record.StepMade.TheVariants as made
 use Rattle.ticket_order.specs.declared.record.Record.{Record}
 use Rattle.ticket_order.specs.Records.{newcomer, missing}
 use Rattle.ticket_order.specs.StepRules.{Sees, Lives}
-use Rattle.one_history.specs.declared.book.Book.{Book}
 use Rattle.one_history.specs.declared.book.PassStep.{PassStep}
 use Rattle.one_history.specs.Interleaving.{steps_by}
 use Rattle.one_history.specs.Turns.{record_of, pass_step}

@@ -1,5 +1,5 @@
 -- The parts as they are stored at the start.
-use Rattle.std.specs.Prelude.{List, Option, Some, None, map}
+use Rattle.std.specs.Prelude.{ℕ, List, Option, Some, None, map}
 use Rattle.atomic_methods.specs.PartState.{PartState}
 use Rattle.ticket_order.specs.declared.stripe.Stripe.{Stripe}
 use Rattle.one_history.specs.declared.slot.Slot.{Slot}
@@ -11,6 +11,6 @@ abbrev pub slot_with : Option Stripe → Slot
 slot_with (Some content) = Home content
 slot_with None = HeldBy 0
 
--- each part is at home, with no entries
-abbrev pub AreStored : List PartState → List (Option Stripe) → Type 0
-AreStored parts slots = ArePlaced parts (map slot_with slots)
+-- each part is at home with no entries, and its stripe's `last` is `first`, with which the stripes begin
+abbrev pub AreStored : ℕ → List PartState → List (Option Stripe) → Type 0
+AreStored first parts slots = ArePlaced first parts (map slot_with slots)

@@ -35,6 +35,10 @@ impl Steps for Board<'_> {
         self.stripes.stripes()
     }
 
+    fn seen(&self) -> u64 {
+        self.pass.seen
+    }
+
     fn take(&mut self, stripe: usize) -> Option<Stripe> {
         self.stripes.take(self.pass, stripe)
     }

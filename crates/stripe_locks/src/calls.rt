@@ -61,7 +61,7 @@ impl Stripes {
         Ok(Held { held, maker })
     }
 
-    /// Makes a read, unless another pass holds the stripe of its key: TAKE, ALIVE, LOOK, GIVE.
+    /// Makes a read, unless another pass holds the stripe of its key: TAKE, ALIVE, GIVE.
     pub fn try_read(&self, pass: &mut Pass, read: Read) -> Result<Held, Refusal>
         // The pass is of these stripes, and holds none.
         requires own { IsPassOf self.now pass.old }

@@ -63,10 +63,12 @@ impl Stripes {
         let Pass {
             mut seat,
             number: _,
+            seen: _,
         } = one;
         let Pass {
             seat: spent,
             number: _,
+            seen: _,
         } = other;
         let words = &self.table.shared;
         words.join_seat::<Meet>(&mut seat, spent);

@@ -1,6 +1,6 @@
 //! The rule of the shared words, and the passes.
 ghost use Rattle.std.specs.Prelude.{◌≡◌, ◌<◌, ◌==◌, true};
-ghost use Rattle.ticket_order.specs.Records.{newcomer, stripe_held};
+ghost use Rattle.ticket_order.specs.Records.{newcomer, reach, stripe_held};
 ghost use Rattle.stripe_locks.specs.Rule.{Kept};
 ghost use Rattle.stripe_locks.specs.Plays.{carried};
 
@@ -23,10 +23,13 @@ impl TableRule<Option<Stripe>, Record, Beginning> for StripeRule {
 pub struct Pass {
     pub(crate) seat: Seat<Option<Stripe>, Record>,
     pub(crate) number: u64,
+    // The greatest position that the pass has seen.
+    pub(crate) seen: u64,
     ghost carries: { seat.me.1 ≡ carried seat.me.0.holding },
     ghost enrolled: { seat.me.0.enrolled ≡ true },
     ghost numbered: { seat.me.0.passes ≡ number },
     ghost counts: { 0 < number },
     ghost within: { stripe_held seat.me.0.holding < seat.table_id.slots },
     ghost keeps: { seat.me.0.keeper ≡ (number == 1) },
+    ghost reaches: { reach seat.me.0 ≡ seen },
 }

@@ -24,14 +24,14 @@ use ticket_order::Stripe;
 /// The most passes of a `Stripes`.
 const MOST_PASSES: u64 = 4096;
 
-// The stripes with these parts, at home.
-fn store_all(alloc: Global, parts: Vec<Part>) -> Result<Vec<Option<Stripe>>, Refusal>
-    ensures ok { IfOk result (λ slots. AreStored parts.items slots.items) }
+// The stripes with these parts, at home. They begin with `first` tickets.
+fn store_all(alloc: Global, parts: Vec<Part>, first: u64) -> Result<Vec<Option<Stripe>>, Refusal>
+    ensures ok { IfOk result (λ slots. AreStored first parts.items slots.items) }
     ensures err { IfErr result (λ refusal. refusal ≡ Refusal.NoMemory) }
 {
     let mut slots = Vec::new(alloc);
     for part in parts {
-        slots.push(Some(Stripe::new(alloc, part)))?;
+        slots.push(Some(Stripe::new(alloc, part, first)))?;
     }
     Ok(slots)
 }
@@ -65,11 +65,12 @@ impl Stripes {
     {
         let beginning = Beginning::new(first, &parts);
         let words = first_words(alloc, count, first)?;
-        let slots = store_all(alloc, parts)?;
+        let slots = store_all(alloc, parts, first)?;
         match Table::new(alloc, words.as_slice(), slots, &beginning) {
             Ok((table, _)) => Ok(Stripes {
                 table,
                 count,
+                first,
                 sleepers: AtomicU64::new(0),
                 waiters: AtomicU64::new(0),
                 resting: AtomicU64::new(0),
@@ -114,7 +115,11 @@ impl Stripes {
             let number = passes + 1;
             let now = words.compare_exchange::<Enroll>(&mut seat, PASSES, passes, number);
             if now == passes {
-                return Ok(Pass { seat, number });
+                return Ok(Pass {
+                    seat,
+                    number,
+                    seen: self.first,
+                });
             }
             passes = now;
         }

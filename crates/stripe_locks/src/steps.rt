@@ -32,7 +32,14 @@ impl Stripes {
         if found != 0 {
             return None;
         }
-        words.exchange(&mut pass.seat, stripe, None)
+        let Some(content) = words.exchange(&mut pass.seat, stripe, None) else {
+            unreachable!()
+        };
+        // The pass has then seen the changes of the outbox, which end with the stripe's last.
+        if !content.outbox.is_empty() {
+            pass.seen = pass.seen.max(content.last);
+        }
+        Some(content)
     }
 
     fn give_as<G: plays::Gives>(
@@ -50,13 +57,17 @@ impl Stripes {
             (recorded pass.new) }
         ensures same { IsSamePass pass.old pass.new }
     {
-        let _ = purpose;
+        let last = content.last;
         let words = &self.table.shared;
         match words.exchange(&mut pass.seat, stripe, Some(content)) {
             None => {}
             Some(_) => unreachable!(),
         }
         words.store::<Give<G>>(&mut pass.seat, stripe + FIRST_STRIPE, 0);
+        // A read goes up to the stripe's last change, which the pass has seen from then on.
+        if matches!(purpose, Purpose::Answer(_)) {
+            pass.seen = pass.seen.max(last);
+        }
     }
 
     pub(crate) fn give(&self, pass: &mut Pass, stripe: usize, content: Stripe, purpose: &Purpose)
@@ -85,11 +96,13 @@ impl Stripes {
         ensures same { IsSamePass pass.old pass.new }
     {
         let _ = command;
-        Ticket::new(
+        let ticket = Ticket::new(
             self.table
                 .shared
                 .fetch_add::<Draw<C>>(&mut pass.seat, TICKETS, 1),
-        )
+        );
+        pass.seen = ticket.position().number();
+        ticket
     }
 
     pub(crate) fn ticket(&self, pass: &mut Pass, command: &Command) -> Ticket
@@ -106,7 +119,9 @@ impl Stripes {
         ensures step { Looks (recorded pass.old) result (recorded pass.new) }
         ensures same { IsSamePass pass.old pass.new }
     {
-        self.table.shared.load::<Look>(&mut pass.seat, TICKETS)
+        let count = self.table.shared.load::<Look>(&mut pass.seat, TICKETS);
+        pass.seen = count;
+        count
     }
 
     pub(crate) fn durable(&self, pass: &mut Pass, number: u64)
@@ -125,7 +140,9 @@ impl Stripes {
         ensures step { Sees (recorded pass.old) result (recorded pass.new) }
         ensures same { IsSamePass pass.old pass.new }
     {
-        self.table.shared.load::<See>(&mut pass.seat, DURABLE)
+        let count = self.table.shared.load::<See>(&mut pass.seat, DURABLE);
+        pass.seen = pass.seen.max(count);
+        count
     }
 
     pub(crate) fn fail(&self, pass: &mut Pass)

@@ -39,6 +39,8 @@ pub(crate) const FIRST_STRIPE: usize = 4;
 pub struct Stripes {
     pub(crate) table: Table<Option<Stripe>, Record, Beginning, StripeRule, Global>,
     pub(crate) count: StripeCount,
+    // The count of tickets with which the stripes began.
+    pub(crate) first: u64,
     // How many threads sleep until a stripe is given back.
     pub(crate) sleepers: AtomicU64,
     // How many threads sleep until a position is durable.
@@ -50,4 +52,5 @@ pub struct Stripes {
     pub(crate) alloc: Global,
     ghost words: { table.shared.table_id.words ≡ count.count + 4 },
     ghost slots: { table.shared.table_id.slots ≡ count.count },
+    ghost begun: { table.shared.key.opening.first ≡ first },
 }

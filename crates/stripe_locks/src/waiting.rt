@@ -1,6 +1,7 @@
 //! Whole calls of a pass that wait for their stripe.
 ghost use Rattle.std.specs.Prelude.{◌≡◌, ◌<◌, None, IfOk, IfErr};
 ghost use Rattle.ticket_order.specs.declared.record.Record.{Record};
+ghost use Rattle.ticket_order.specs.StepRules.{TakesStripe};
 ghost use Rattle.ticket_order.specs.Calls.{HasFound, IsNotBusy, MakesCall, MakesRead, RefusesChange, RefusesRead};
 ghost use Rattle.java_hash.specs.Hash.{hash_of, spread_of};
 ghost use Rattle.java_hash.specs.Stripes.{stripe_of};
@@ -113,17 +114,17 @@ impl Stripes {
         // The pass has taken the stripe of the key, with this content.
         requires own { IsPassOf self.now pass.old }
         requires spread { spread ≡ spread_of (hash_of read.key) }
-        requires found { (b : Record) × HasFound b (stripe_of (stripe_count self.now) read.key)
-            content (recorded pass.old) }
+        requires found { (b : Record) × TakesStripe (stripe_count self.now) b
+            (stripe_of (stripe_count self.now) read.key) content (recorded pass.old) }
 
         // The record grows by this call; or it is refused, but not as busy.
-        ensures made { (b : Record) → HasFound b (stripe_of (stripe_count self.now) read.key)
-            content (recorded pass.old)
+        ensures made { (b : Record) → TakesStripe (stripe_count self.now) b
+            (stripe_of (stripe_count self.now) read.key) content (recorded pass.old)
             → IfOk result (λ held.
             MakesRead (stripe_count self.now) b read (position_of held) (reply_of held)
             (recorded pass.new)) }
-        ensures refused { (b : Record) → HasFound b (stripe_of (stripe_count self.now) read.key)
-            content (recorded pass.old)
+        ensures refused { (b : Record) → TakesStripe (stripe_count self.now) b
+            (stripe_of (stripe_count self.now) read.key) content (recorded pass.old)
             → IfErr result (λ refusal.
             RefusesRead b (stripe_of (stripe_count self.now) read.key) refusal
             (recorded pass.new)) }
@@ -170,7 +171,7 @@ impl Stripes {
         self.call_on(pass, command, spread, content)
     }
 
-    /// Makes a read, once the stripe of its key is free: TAKE as often as it takes, ALIVE, LOOK, GIVE.
+    /// Makes a read, once the stripe of its key is free: TAKE as often as it takes, ALIVE, GIVE.
     pub fn read<R: Wait>(&self, rt: &R, pass: &mut Pass, read: Read) -> Result<Held, Refusal>
         // The pass is of these stripes, and holds none.
         requires own { IsPassOf self.now pass.old }
