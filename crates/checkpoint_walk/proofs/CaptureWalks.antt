@@ -40,7 +40,6 @@ by_change n b i (change.HasDrawn t h) p k = not_change i k.command k.task_is
 pub by_read : (n : ℕ) (b : Record) (i : ℕ) (s : ReadStage) (p : Record) → FitsStage n b (ToCapture i) (stage.Read s) p → ⊥
 by_read n b i (read.Begins r) p k = not_read i r k.task_is
 by_read n b i (read.HasTaken r t) p k = not_read i r k.0.task_is
-by_read n b i (read.IsAlive r t) p k = not_read i r k.0.task_is
 by_read n b i (read.HasRead r t h) p k = not_read i r k.0.task_is
 
 pub by_release : (n : ℕ) (b : Record) (i : ℕ) (s : ReleaseStage) (p : Record) → FitsStage n b (ToCapture i) (stage.Release s) p → ⊥

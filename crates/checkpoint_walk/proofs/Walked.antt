@@ -53,7 +53,7 @@ pub record IsPutBack (b : Record) (i : ℕ) (w : Record) : Type 0 where
   pub is : w ≡ giving Nothing at
 
 abbrev given_back : (b : Record) (i : ℕ) (p : Record) → HasLookedAt b i p → Record
-given_back b i p x = giving Nothing (looking (taking b i x.part x.outbox x.taken) x.looked)
+given_back b i p x = giving Nothing (looking (taking b i x.part x.outbox x.last x.taken) x.looked)
 
 back_is : (b : Record) (i : ℕ) (w : Record) (k : IsPutBack b i w) → w ≡ given_back b i k.at k.looked
 back_is b i w k = k.is ∙ ap (giving Nothing) k.looked.is
@@ -111,7 +111,7 @@ taken_at n b i (stage.Sweep s) p k made = absurd (by_sweep n b i s p k)
 taken_at n b i (stage.Capture (capture.Begins alloc j)) p k made = absurd (omega (arith, ap (λ (z : Record). length z.steps) k.0.is, made))
 taken_at n b i (stage.Capture (capture.HasTaken alloc t)) p k made = refl
 taken_at n b i (stage.Capture (capture.HasLooked t z)) p k made = (
-    let at = taking b t.stripe t.content.part.map t.content.outbox.items k.1.taken in
+    let at = taking b t.stripe t.content.part.map t.content.outbox.items t.content.last k.1.taken in
     let q = at.opening.first + length (at.seen ++ k.1.looked) in
     let long : length p.steps ≡ length ((b.steps ++ Took t.stripe t.content.outbox.items ∷ []) ++ Looked q ∷ []) = ap (λ (x : Record). length x.steps) k.1.is in
     absurd (omega (arith, long, length_push (b.steps ++ Took t.stripe t.content.outbox.items ∷ []) (Looked q), length_push b.steps (Took t.stripe t.content.outbox.items), made))
@@ -125,7 +125,7 @@ same_gave i j e = cc
 gave_of : (b : Record) (i : ℕ) (p : Record) (k : IsPutBack b i (giving Nothing p)) (t : Taken) (c : HasContent p t) → t.stripe ≡ i
 gave_of b i p k t c =
     let x = k.looked in
-    let at : Record = looking (taking b i x.part x.outbox x.taken) x.looked in
+    let at : Record = looking (taking b i x.part x.outbox x.last x.taken) x.looked in
     let last : Gave (stripe_held p.holding) ≡ Gave i = (same_from_push p.steps at.steps (Gave (stripe_held p.holding)) (Gave i) (ap (λ (r : Record). r.steps) (back_is b i (giving Nothing p) k))).1 in
     let held : stripe_held p.holding ≡ c.held.stripe = ap stripe_held c.holding in
     sym c.stripe_is ∙ sym held ∙ same_gave (stripe_held p.holding) i last
@@ -215,11 +215,11 @@ beside_missed b i = record { opening = refl; keeper = refl; taken = refl; publis
 beside_begun : (b : Record) → IsBeside b b
 beside_begun b = record { opening = refl; keeper = refl; taken = refl; published = refl; failed = refl; seen = record { more = []; is = sym (append-nil b.seen) }; made = []; steps = sym (append-nil b.steps) }
 
-beside_taken : (b : Record) (i : ℕ) (m : Map) (es : List Entry) (taken : List Command) → IsBeside b (taking b i m es taken)
-beside_taken b i m es taken = record { opening = refl; keeper = refl; taken = refl; published = refl; failed = refl; seen = record { more = taken; is = refl }; made = Took i es ∷ []; steps = refl }
+beside_taken : (b : Record) (i : ℕ) (m : Map) (es : List Entry) (last : ℕ) (taken : List Command) → IsBeside b (taking b i m es last taken)
+beside_taken b i m es last taken = record { opening = refl; keeper = refl; taken = refl; published = refl; failed = refl; seen = record { more = taken; is = refl }; made = Took i es ∷ []; steps = refl }
 
-beside_looked : (b : Record) (i : ℕ) (m : Map) (es : List Entry) (taken looked : List Command) → IsBeside b (looking (taking b i m es taken) looked)
-beside_looked b i m es taken looked = record {
+beside_looked : (b : Record) (i : ℕ) (m : Map) (es : List Entry) (last : ℕ) (taken looked : List Command) → IsBeside b (looking (taking b i m es last taken) looked)
+beside_looked b i m es last taken looked = record {
   opening = refl;
   keeper = refl;
   taken = refl;
@@ -246,9 +246,9 @@ beside_given b v g w opening keeper taken published failed seen steps k = record
 beside_back : (b : Record) (i : ℕ) (p : Record) → IsPutBack b i (giving Nothing p) → IsBeside b p
 beside_back b i p k =
     let x = k.looked in
-    let at : Record = looking (taking b i x.part x.outbox x.taken) x.looked in
+    let at : Record = looking (taking b i x.part x.outbox x.last x.taken) x.looked in
     let is : giving Nothing p ≡ giving Nothing at = back_is b i (giving Nothing p) k in
-    let v : IsBeside b at = beside_looked b i x.part x.outbox x.taken x.looked in
+    let v : IsBeside b at = beside_looked b i x.part x.outbox x.last x.taken x.looked in
     record {
       opening = ap (λ (r : Record). r.opening) is ∙ v.opening;
       keeper = ap (λ (r : Record). r.keeper) is ∙ v.keeper;
@@ -266,8 +266,8 @@ beside_stage n b i (stage.Read s) p k made = absurd (by_read n b i s p k)
 beside_stage n b i (stage.Release s) p k made = absurd (by_release n b i s p k)
 beside_stage n b i (stage.Sweep s) p k made = absurd (by_sweep n b i s p k)
 beside_stage n b i (stage.Capture (capture.Begins alloc j)) p k made = beside_at b b p (beside_begun b) k.0.is
-beside_stage n b i (stage.Capture (capture.HasTaken alloc t)) p k made = beside_at b _ p (beside_taken b t.stripe t.content.part.map t.content.outbox.items k.1.taken) k.1.is
-beside_stage n b i (stage.Capture (capture.HasLooked t z)) p k made = beside_at b _ p (beside_looked b t.stripe t.content.part.map t.content.outbox.items k.1.taken k.1.looked) k.1.is
+beside_stage n b i (stage.Capture (capture.HasTaken alloc t)) p k made = beside_at b _ p (beside_taken b t.stripe t.content.part.map t.content.outbox.items t.content.last k.1.taken) k.1.is
+beside_stage n b i (stage.Capture (capture.HasLooked t z)) p k made = beside_at b _ p (beside_looked b t.stripe t.content.part.map t.content.outbox.items t.content.last k.1.taken k.1.looked) k.1.is
 beside_stage n b i (stage.GivingBack t e) p k made = elim (refused_by b i e (giving Nothing p) k.refused) [
   | inl is ↦ (let long = missed_long b i (giving Nothing p) is in absurd (made (omega (arith, long, length_push p.steps (Gave (stripe_held p.holding))))))
   | inr back ↦ beside_back b i p back
@@ -281,16 +281,16 @@ looked_beside n b i walk p k = beside_stage n b i walk.stage p k.fits (λ e. (le
 
 pub captured_beside : (n : ℕ) (b : Record) (i mark : ℕ) (es : List (List ℕ × Value)) (w : Record) → CapturesStripe n b i mark es w → IsBeside b w
 captured_beside n b i mark es w k =
-    let at : Record = looking (taking b i k.part k.outbox k.taken) k.looked in
-    beside_at b (giving Capture at) w (beside_given b at (Gave i) (giving Capture at) refl refl (append-nil b.taken) refl refl refl refl (beside_looked b i k.part k.outbox k.taken k.looked)) k.is
+    let at : Record = looking (taking b i k.part k.outbox k.last k.taken) k.looked in
+    beside_at b (giving Capture at) w (beside_given b at (Gave i) (giving Capture at) refl refl (append-nil b.taken) refl refl refl refl (beside_looked b i k.part k.outbox k.last k.taken k.looked)) k.is
 
 pub refused_beside : (b : Record) (i : ℕ) (e : Refusal) (w : Record) → RefusesCapture b i e w → IsBeside b w
 refused_beside b i e w r = elim (refused_by b i e w r) [
   | inl is ↦ beside_at b (missing b i) w (beside_missed b i) is
   | inr k ↦ (
       let x = k.looked in
-      let at : Record = looking (taking b i x.part x.outbox x.taken) x.looked in
-      beside_at b (giving Nothing at) w (beside_given b at (Gave i) (giving Nothing at) refl refl (append-nil b.taken) refl refl refl refl (beside_looked b i x.part x.outbox x.taken x.looked)) (back_is b i w k)
+      let at : Record = looking (taking b i x.part x.outbox x.last x.taken) x.looked in
+      beside_at b (giving Nothing at) w (beside_given b at (Gave i) (giving Nothing at) refl refl (append-nil b.taken) refl refl refl refl (beside_looked b i x.part x.outbox x.last x.taken x.looked)) (back_is b i w k)
       )
 ]
 

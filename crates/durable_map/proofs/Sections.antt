@@ -41,17 +41,17 @@ pub failed : (p : Record) → CapturesNone p (failing p)
 failed p = none_by p (failing p) refl refl refl
 
 -- a stripe was taken, and given back
-took : (p : Record) (i : ℕ) (part : Map) (outbox : List Entry) (between : List Command) → CapturesNone p (giving Nothing (taking p i part outbox between))
-took p i part outbox between = record { opening = refl; sections = append-nil p.sections; seen = record { more = between; is = refl } }
+took : (p : Record) (i : ℕ) (part : Map) (outbox : List Entry) (last : ℕ) (between : List Command) → CapturesNone p (giving Nothing (taking p i part outbox last between))
+took p i part outbox last between = record { opening = refl; sections = append-nil p.sections; seen = record { more = between; is = refl } }
 
-looked : (p : Record) (i : ℕ) (part : Map) (outbox : List Entry) (taken after : List Command) → CapturesNone p (giving Nothing (looking (taking p i part outbox taken) after))
-looked p i part outbox taken after = record { opening = refl; sections = append-nil p.sections; seen = record { more = taken ++ after; is = append_assoc p.seen taken after } }
+looked : (p : Record) (i : ℕ) (part : Map) (outbox : List Entry) (last : ℕ) (taken after : List Command) → CapturesNone p (giving Nothing (looking (taking p i part outbox last taken) after))
+looked p i part outbox last taken after = record { opening = refl; sections = append-nil p.sections; seen = record { more = taken ++ after; is = append_assoc p.seen taken after } }
 
 back_from : (p holder w : Record) → w ≡ giving Nothing holder → CapturesNone p (giving Nothing holder) → CapturesNone p w
 back_from p holder w is k = subst (λ (x : Record). CapturesNone p x) (sym is) k
 
 put_back : (p holder w : Record) (i : ℕ) → HasLookedAt p i holder → w ≡ giving Nothing holder → CapturesNone p w
-put_back p holder w i h is = back_from p holder w is (subst (λ (x : Record). CapturesNone p (giving Nothing x)) (sym h.is) (looked p i h.part h.outbox h.taken h.looked))
+put_back p holder w i h is = back_from p holder w is (subst (λ (x : Record). CapturesNone p (giving Nothing x)) (sym h.is) (looked p i h.part h.outbox h.last h.taken h.looked))
 
 -- ---- a sweep of one stripe
 
@@ -65,7 +65,7 @@ not_swept i p w refusal.ValueTooLong r = absurd r
 not_swept i p w refusal.UnknownMethod r = absurd r
 not_swept i p w refusal.UnknownFunction r = absurd r
 not_swept i p w refusal.BadFrame r = absurd r
-not_swept i p w refusal.NoMemory r = back_from p r.holder w r.is (subst (λ (x : Record). CapturesNone p (giving Nothing x)) (sym r.before.is) (took p i r.before.part r.before.outbox r.before.taken))
+not_swept i p w refusal.NoMemory r = back_from p r.holder w r.is (subst (λ (x : Record). CapturesNone p (giving Nothing x)) (sym r.before.is) (took p i r.before.part r.before.outbox r.before.last r.before.taken))
 not_swept i p w (refusal.Busy j) r = subst (λ (x : Record). CapturesNone p x) (sym r.1) (missed p i)
 not_swept i p w refusal.Failed r = absurd r
 not_swept i p w refusal.TicketsSpent r = absurd r
@@ -105,7 +105,7 @@ not_captured i p w refusal.SeatsSpent r = absurd r
 -- what it has captured is legal, and so is what it captures now
 pub captured : (n i mark : ℕ) (p w : Record) (entries : List (List ℕ × Value)) → CapturesStripe n p i mark entries w → AllLegalSections n p p.sections → AllLegalSections n w w.sections
 captured n i mark p w entries c legal =
-    let at = giving Capture (looking (taking p i c.part c.outbox c.taken) c.looked) in
+    let at = giving Capture (looking (taking p i c.part c.outbox c.last c.taken) c.looked) in
     let seen : at.seen ≡ p.seen ++ (c.taken ++ c.looked) = append_assoc p.seen c.taken c.looked in
     let old : AllLegalSections n at p.sections = sections_longer n p at (c.taken ++ c.looked) refl seen p.sections legal in
     let here : IsLegalSection n (history_of at) (record { stripe = i; mark = reach at; part = c.part }) =

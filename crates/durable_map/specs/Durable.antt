@@ -72,7 +72,7 @@ pub record FoundSpent (v w : Record) : Type 0 where
 abbrev pub GrewByCall : Record → ℕ → Asked → Reply → Record → Type 0
 GrewByCall v position asked reply w = w.calls ≡ v.calls ++ call position asked reply ∷ []
 
--- The steps of a call of n stripes, and no others: it waited for its stripe, TAKE, ALIVE that said yes, LOOK, TICKET if it is a change, GIVE.
+-- The steps of a call of n stripes, and no others: it waited for its stripe, TAKE, ALIVE that said yes, LOOK and TICKET if it is a change, GIVE.
 abbrev pub MakesInTime : ℕ → Record → Asked → ℕ → Reply → Record → Type 0
 MakesInTime n v (Changing command) position reply w = MakesCallInTime n v command position reply w
 MakesInTime n v (Reading read) position reply w = MakesReadInTime n v read position reply w

@@ -172,7 +172,7 @@ missed n sweep hand gone p w i k is = subst (IsBetween n sweep hand gone) (sym i
 pub put_back : (n : ℕ) (sweep : Sweep) (hand : Hand) (gone : List Command) (p w : Record) (i : ℕ) → IsBetween n sweep hand gone p → RefusesSweep p i NoMemory w → IsBetween n sweep hand gone w
 put_back n sweep hand gone p w i k r =
     let x = r.before in
-    let is : w ≡ giving Nothing (taking p i x.part x.outbox x.taken) = r.is ∙ ap (giving Nothing) x.is in
+    let is : w ≡ giving Nothing (taking p i x.part x.outbox x.last x.taken) = r.is ∙ ap (giving Nothing) x.is in
     let nothing : p.taken ≡ p.taken ++ [] = sym (append-nil p.taken) in
     subst (IsBetween n sweep hand gone) (sym is) (record {
       free = refl;
@@ -201,7 +201,7 @@ pub drained : (n : ℕ) (sweep : Sweep) (old new : Hand) (gone : List Command) (
 drained n sweep old new gone p w es k s g =
     let first = p.opening.first in
     let seen = p.seen ++ s.between in
-    let at : Record = giving ToKeep (taking p sweep.stripe s.part es s.between) in
+    let at : Record = giving ToKeep (taking p sweep.stripe s.part es s.last s.between) in
     let x : rules_of.Collects n sweep.stripe p es w = s.collects in
     let high : past es ≤ first + length seen = subst (λ (z : Record). past es ≤ reach z) s.is (low_enough p w (past es) s.rises) in
     let is : entries_of n sweep.stripe p.taken ++ es ≡ entries_of n sweep.stripe (entries_from first (seen ++ x.more)) = x.is ∙ ap (λ (z : Record). entries_of n sweep.stripe (entries_from first (z.seen ++ x.more))) s.is in

@@ -9,13 +9,13 @@ use Rattle.map_types.specs.declared.refusals.Refusal.{Refusal}
 use Rattle.map_types.specs.declared.refusals.Refusal.TheVariants as refusal_type
 use Rattle.map_model.specs.Maps.{Map}
 use Rattle.ticket_order.specs.declared.stripe.Entry.{Entry}
-use Rattle.ticket_order.specs.declared.record.Purpose.TheVariants.{Answer, Nothing}
+use Rattle.ticket_order.specs.declared.record.Purpose.TheVariants.{Nothing}
 use Rattle.ticket_order.specs.declared.held.Held.{Held}
 use Rattle.ticket_order.specs.declared.record.Record.{Record}
 use Rattle.ticket_order.specs.declared.record.StepMade.TheVariants.{Took, FoundHeld, Gave, Drew, Looked, Saw, FoundAlive}
-use Rattle.ticket_order.specs.Records.{drawing, giving, living, looking, missing, seeing, stripe_held, taking}
+use Rattle.ticket_order.specs.Records.{answering, drawing, giving, living, looking, missing, seeing, stripe_held, taking}
 use Rattle.ticket_order.specs.StepRules.{Sees, Lives}
-use Rattle.ticket_order.specs.Calls.{FindsFailure, LooksAround, MakesCall, MakesRead, RefusesChange, RefusesRead, walked}
+use Rattle.ticket_order.specs.Calls.{FindsFailure, FindsNoFailure, LooksAround, MakesCall, MakesRead, RefusesChange, RefusesRead, walked}
 use Rattle.flusher.specs.Fitting.{GoesOnByCalls, IsBeside}
 use Rattle.flusher.proofs.Seeing.{sees_none, sees_then}
 
@@ -40,8 +40,8 @@ both a b d k j = record {
 pub then : (a b d : Record) → GoesOnByCalls a b → GoesOnByCalls b d → GoesOnByCalls a d
 then a b d k j = record { beside = both a b d k.beside j.beside; sections = j.sections ∙ k.sections }
 
-takes : (v : Record) (i : ℕ) (m : Map) (es : List Entry) (a : List Command) → GoesOnByCalls v (taking v i m es a)
-takes v i m es a = record { beside = record { opening = refl; keeper = refl; taken = refl; published = refl; failed = refl; seen = record { more = a; is = refl }; made = Took i es ∷ []; steps = refl }; sections = refl }
+takes : (v : Record) (i : ℕ) (m : Map) (es : List Entry) (last : ℕ) (a : List Command) → GoesOnByCalls v (taking v i m es last a)
+takes v i m es last a = record { beside = record { opening = refl; keeper = refl; taken = refl; published = refl; failed = refl; seen = record { more = a; is = refl }; made = Took i es ∷ []; steps = refl }; sections = refl }
 
 misses : (v : Record) (i : ℕ) → GoesOnByCalls v (missing v i)
 misses v i = record { beside = record { opening = refl; keeper = refl; taken = refl; published = refl; failed = refl; seen = record { more = []; is = sym (append-nil v.seen) }; made = FoundHeld i ∷ []; steps = refl }; sections = refl }
@@ -70,8 +70,8 @@ draws v a c = record {
 gives : (v : Record) → GoesOnByCalls v (giving Nothing v)
 gives v = record { beside = record { opening = refl; keeper = refl; taken = append-nil v.taken; published = refl; failed = refl; seen = record { more = []; is = sym (append-nil v.seen) }; made = Gave (stripe_held v.holding) ∷ []; steps = refl }; sections = append-nil v.sections }
 
-answers : (v : Record) (r : Read) → GoesOnByCalls v (giving (Answer r) v)
-answers v r = record { beside = record { opening = refl; keeper = refl; taken = append-nil v.taken; published = refl; failed = refl; seen = record { more = []; is = sym (append-nil v.seen) }; made = Gave (stripe_held v.holding) ∷ []; steps = refl }; sections = append-nil v.sections }
+answers : (v : Record) (r : Read) (a : List Command) → GoesOnByCalls v (answering r v a)
+answers v r a = record { beside = record { opening = refl; keeper = refl; taken = refl; published = refl; failed = refl; seen = record { more = a; is = refl }; made = Gave (stripe_held v.holding) ∷ []; steps = refl }; sections = refl }
 
 pub sees : (v : Record) (d : ℕ) (w : Record) → Sees v d w → GoesOnByCalls v w
 sees v d w s = at_last v (seeing v d s.between) w (record { beside = record { opening = refl; keeper = refl; taken = refl; published = refl; failed = refl; seen = record { more = s.between; is = refl }; made = Saw d ∷ []; steps = refl }; sections = refl }) s.is
@@ -79,29 +79,35 @@ sees v d w s = at_last v (seeing v d s.between) w (record { beside = record { op
 pub lives : (v : Record) (is_alive : Bool) (w : Record) → Lives v is_alive w → GoesOnByCalls v w
 lives v is_alive w s = at_last v (living v is_alive) w (lives_on v is_alive) s.is
 
-looked_around : (v : Record) (i : ℕ) (m : Map) (es : List Entry) (a b : List Command) → GoesOnByCalls v (walked v i m es a b)
-looked_around v i m es a b =
-    let t : Record = taking v i m es a in
-    then v (living t true) (walked v i m es a b) (then v t (living t true) (takes v i m es a) (lives_on t true)) (looks (living t true) b)
+asked : (v : Record) (i : ℕ) (m : Map) (es : List Entry) (last : ℕ) (a : List Command) (is_alive : Bool) → GoesOnByCalls v (living (taking v i m es last a) is_alive)
+asked v i m es last a is_alive = (let t : Record = taking v i m es last a in then v t (living t is_alive) (takes v i m es last a) (lives_on t is_alive))
+
+looked_around : (v : Record) (i : ℕ) (m : Map) (es : List Entry) (last : ℕ) (a b : List Command) → GoesOnByCalls v (walked v i m es last a b)
+looked_around v i m es last a b =
+    let t : Record = taking v i m es last a in
+    then v (living t true) (walked v i m es last a b) (asked v i m es last a true) (looks (living t true) b)
 
 given_back : (v holder w : Record) → GoesOnByCalls v holder → w ≡ giving Nothing holder → GoesOnByCalls v w
 given_back v holder w b is = at_last v (giving Nothing holder) w (then v holder (giving Nothing holder) b (gives holder)) is
 
 finds_failure : (v : Record) (i : ℕ) (w : Record) → FindsFailure v i w → GoesOnByCalls v w
-finds_failure v i w k = (let t : Record = taking v i k.part k.outbox k.taken in at_last v (living t false) w (then v t (living t false) (takes v i k.part k.outbox k.taken) (lives_on t false)) k.is)
+finds_failure v i w k = at_last v (living (taking v i k.part k.outbox k.last k.taken) false) w (asked v i k.part k.outbox k.last k.taken false) k.is
+
+finds_no_failure : (v : Record) (i : ℕ) (w : Record) → FindsNoFailure v i w → GoesOnByCalls v w
+finds_no_failure v i w k = at_last v (living (taking v i k.part k.outbox k.last k.taken) true) w (asked v i k.part k.outbox k.last k.taken true) k.is
 
 looks_around : (v : Record) (i : ℕ) (w : Record) → LooksAround v i w → GoesOnByCalls v w
-looks_around v i w k = at_last v (walked v i k.part k.outbox k.taken k.looked) w (looked_around v i k.part k.outbox k.taken k.looked) k.is
+looks_around v i w k = at_last v (walked v i k.part k.outbox k.last k.taken k.looked) w (looked_around v i k.part k.outbox k.last k.taken k.looked) k.is
 
 pub call_goes_on : (n : ℕ) (v : Record) (c : Command) (position : ℕ) (reply : Reply) (w : Record) → MakesCall n v c position reply w → GoesOnByCalls v w
 call_goes_on n v c position reply w k =
-    let t : Record = walked v _ k.part k.outbox k.taken k.looked in
-    given_back v (drawing t k.drawn c) w (then v t (drawing t k.drawn c) (looked_around v _ k.part k.outbox k.taken k.looked) (draws t k.drawn c)) k.is
+    let t : Record = walked v _ k.part k.outbox k.last k.taken k.looked in
+    given_back v (drawing t k.drawn c) w (then v t (drawing t k.drawn c) (looked_around v _ k.part k.outbox k.last k.taken k.looked) (draws t k.drawn c)) k.is
 
 pub read_goes_on : (n : ℕ) (v : Record) (r : Read) (position : ℕ) (reply : Reply) (w : Record) → MakesRead n v r position reply w → GoesOnByCalls v w
 read_goes_on n v r position reply w k =
-    let t : Record = walked v _ k.part k.outbox k.taken k.looked in
-    at_last v (giving (Answer r) t) w (then v t (giving (Answer r) t) (looked_around v _ k.part k.outbox k.taken k.looked) (answers t r)) k.is
+    let t : Record = living (taking v _ k.part k.outbox k.last k.taken) true in
+    at_last v (answering r t k.between) w (then v t (answering r t k.between) (asked v _ k.part k.outbox k.last k.taken true) (answers t r k.between)) k.is
 
 pub refused_change_goes_on : (v : Record) (i : ℕ) (e : Refusal) (w : Record) → RefusesChange v i e w → GoesOnByCalls v w
 refused_change_goes_on v i (refusal_type.Busy j) w r = at_last v (missing v i) w (misses v i) r.1
@@ -127,7 +133,7 @@ refused_change_goes_on v i refusal_type.SeatsSpent w r = absurd r
 pub refused_read_goes_on : (v : Record) (i : ℕ) (e : Refusal) (w : Record) → RefusesRead v i e w → GoesOnByCalls v w
 refused_read_goes_on v i (refusal_type.Busy j) w r = at_last v (missing v i) w (misses v i) r.1
 refused_read_goes_on v i refusal_type.Failed w r = given_back v r.holder w (finds_failure v i r.holder r.before) r.is
-refused_read_goes_on v i refusal_type.NoMemory w r = given_back v r.holder w (looks_around v i r.holder r.before) r.is
+refused_read_goes_on v i refusal_type.NoMemory w r = given_back v r.holder w (finds_no_failure v i r.holder r.before) r.is
 refused_read_goes_on v i refusal_type.TicketsSpent w r = absurd r
 refused_read_goes_on v i refusal_type.NullValue w r = absurd r
 refused_read_goes_on v i refusal_type.KeyTooLong w r = absurd r

@@ -63,7 +63,7 @@ refused_quiet : (b : Record) (i : ℕ) (e : Refusal) (w : Record) → RefusesSwe
 refused_quiet b i (refusal.Busy j) w r = quiet_at b (missing b i) w (record { opening = refl; calls = refl; published = refl; failed = refl }) r.1
 refused_quiet b i refusal.NoMemory w r =
     let x = r.before in
-    quiet_at b (giving Nothing (taking b i x.part x.outbox x.taken)) w (record { opening = refl; calls = append-nil b.calls; published = refl; failed = refl }) (r.is ∙ ap (giving Nothing) x.is)
+    quiet_at b (giving Nothing (taking b i x.part x.outbox x.last x.taken)) w (record { opening = refl; calls = refl; published = refl; failed = refl }) (r.is ∙ ap (giving Nothing) x.is)
 refused_quiet b i refusal.NullValue w r = absurd r
 refused_quiet b i refusal.KeyTooLong w r = absurd r
 refused_quiet b i refusal.ValueTooLong w r = absurd r
@@ -92,7 +92,6 @@ by_change n b i (change.HasDrawn t h) p k = not_change i k.command k.task_is
 pub by_read : (n : ℕ) (b : Record) (i : ℕ) (s : ReadStage) (p : Record) → FitsStage n b (ToSweep i) (stage.Read s) p → ⊥
 by_read n b i (read.Begins r) p k = not_read i r k.task_is
 by_read n b i (read.HasTaken r t) p k = not_read i r k.0.task_is
-by_read n b i (read.IsAlive r t) p k = not_read i r k.0.task_is
 by_read n b i (read.HasRead r t h) p k = not_read i r k.0.task_is
 
 pub by_release : (n : ℕ) (b : Record) (i : ℕ) (s : ReleaseStage) (p : Record) → FitsStage n b (ToSweep i) (stage.Release s) p → ⊥
@@ -109,7 +108,7 @@ by_sweep : (n : ℕ) (b : Record) (i : ℕ) (s : SweepStage) (p : Record) → Fi
 by_sweep n b i (sweep_stage.Begins alloc j) p k = quiet_at b b p (quiet_same b) k.0.is
 by_sweep n b i (sweep_stage.HasTaken alloc t) p k =
     let x = k.took in
-    quiet_at b (taking b t.stripe t.content.part.map t.content.outbox.items x.between) p (record { opening = refl; calls = refl; published = refl; failed = refl }) x.is
+    quiet_at b (taking b t.stripe t.content.part.map t.content.outbox.items t.content.last x.between) p (record { opening = refl; calls = refl; published = refl; failed = refl }) x.is
 
 by_stage : (n : ℕ) (b : Record) (i : ℕ) (s : Stage) (p : Record) → FitsStage n b (ToSweep i) s p → IsQuiet b p
 by_stage n b i (stage.Change s) p k = absurd (by_change n b i s p k)
@@ -119,7 +118,7 @@ by_stage n b i (stage.Sweep s) p k = by_sweep n b i s p k
 by_stage n b i (stage.Capture s) p k = absurd (by_capture n b i s p k)
 by_stage n b i (stage.GivingBack t e) p k = (
     let q : IsQuiet b (giving Nothing p) = refused_quiet b i e (giving Nothing p) k.refused in
-    record { opening = q.opening; calls = sym (append-nil p.calls) ∙ q.calls; published = q.published; failed = q.failed }
+    record { opening = q.opening; calls = q.calls; published = q.published; failed = q.failed }
     )
 
 -- a sweep of a stripe that has made its TAKE
@@ -127,7 +126,7 @@ pub swept_quiet : (n : ℕ) (b : Record) (i : ℕ) (walk : Walk) (p : Record) �
 swept_quiet n b i walk p k = by_stage n b i walk.stage p k.fits
 
 pub sweeps_quiet : (n : ℕ) (b : Record) (i : ℕ) (es : List Entry) (w : Record) → SweepsStripe n b i es w → IsQuiet b w
-sweeps_quiet n b i es w s = quiet_at b _ w (record { opening = refl; calls = append-nil b.calls; published = refl; failed = refl }) s.is
+sweeps_quiet n b i es w s = quiet_at b _ w (record { opening = refl; calls = refl; published = refl; failed = refl }) s.is
 
 pub refuses_quiet : (b : Record) (i : ℕ) (e : Refusal) (w : Record) → RefusesSweep b i e w → IsQuiet b w
 refuses_quiet b i e w r = refused_quiet b i e w r
@@ -146,7 +145,7 @@ pub refused_grown : (b : Record) (i : ℕ) (e : Refusal) (w : Record) → Refuse
 refused_grown b i (refusal.Busy j) w r = grown_at b (missing b i) w (record { opening = refl; taken = refl; more = []; seen = sym (append-nil b.seen) }) r.1
 refused_grown b i refusal.NoMemory w r =
     let x = r.before in
-    grown_at b (giving Nothing (taking b i x.part x.outbox x.taken)) w (record { opening = refl; taken = append-nil b.taken; more = x.taken; seen = refl }) (r.is ∙ ap (giving Nothing) x.is)
+    grown_at b (giving Nothing (taking b i x.part x.outbox x.last x.taken)) w (record { opening = refl; taken = append-nil b.taken; more = x.taken; seen = refl }) (r.is ∙ ap (giving Nothing) x.is)
 refused_grown b i refusal.NullValue w r = absurd r
 refused_grown b i refusal.KeyTooLong w r = absurd r
 refused_grown b i refusal.ValueTooLong w r = absurd r
@@ -169,7 +168,7 @@ grown_sweep : (n : ℕ) (b : Record) (i : ℕ) (s : SweepStage) (p : Record) →
 grown_sweep n b i (sweep_stage.Begins alloc j) p k = grown_at b b p (record { opening = refl; taken = refl; more = []; seen = sym (append-nil b.seen) }) k.0.is
 grown_sweep n b i (sweep_stage.HasTaken alloc t) p k =
     let x = k.took in
-    grown_at b (taking b t.stripe t.content.part.map t.content.outbox.items x.between) p (record { opening = refl; taken = refl; more = x.between; seen = refl }) x.is
+    grown_at b (taking b t.stripe t.content.part.map t.content.outbox.items t.content.last x.between) p (record { opening = refl; taken = refl; more = x.between; seen = refl }) x.is
 
 grown_stage : (n : ℕ) (b : Record) (i : ℕ) (s : Stage) (p : Record) → FitsStage n b (ToSweep i) s p → IsGrown b p
 grown_stage n b i (stage.Change s) p k = absurd (by_change n b i s p k)

@@ -54,11 +54,11 @@ refused_known : (b p : Record) (i : ℕ) (e : Refusal) (w : Record) → w.seen �
 refused_known b p i (refusal.Busy j) w same r = (r.0, r.1 ∙ ap (λ (xs : List Command). record (missing b i) { seen = xs }) (sym (ap (λ (v : Record). v.seen) r.1) ∙ same))
 refused_known b p i refusal.NoMemory w same r =
     let x = r.before in
-    let first : Record = taking b i x.part x.outbox x.taken in
+    let first : Record = taking b i x.part x.outbox x.last x.taken in
     let is : w ≡ giving Nothing first = r.is ∙ ap (giving Nothing) x.is in
     record {
-      holder = taking (knowing b p.seen) i x.part x.outbox [];
-      before = record { part = x.part; outbox = x.outbox; taken = []; is = refl };
+      holder = taking (knowing b p.seen) i x.part x.outbox x.last [];
+      before = record { part = x.part; outbox = x.outbox; last = x.last; taken = []; is = refl };
       is = is ∙ ap (λ (xs : List Command). record (giving Nothing first) { seen = xs }) (sym (ap (λ (v : Record). v.seen) is) ∙ same ∙ sym (append-nil p.seen));
       same_calls = r.same_calls;
     }
@@ -92,8 +92,10 @@ stage_known n b i (stage.Sweep (sweep_stage.HasTaken alloc t)) p one k =
       keeper = k.keeper;
       took = record {
         between = [];
-        is = taking_known b p (taking b t.stripe t.content.part.map t.content.outbox.items x.between) x.is;
+        is = taking_known b p (taking b t.stripe t.content.part.map t.content.outbox.items t.content.last x.between) x.is;
         rises = rises_known b p (past t.content.outbox.items) (ap (λ (r : Record). r.opening) x.is) x.rises;
+        last = x.last;
+        ends = x.ends;
         collects = λ keeps. record { more = (x.collects keeps).more; is = (x.collects keeps).is };
       };
     }

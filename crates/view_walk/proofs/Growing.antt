@@ -101,8 +101,8 @@ views_begin n b = record {
 found_held : (p : Record) (i : ℕ) → Goes p (missing p i)
 found_held p i = record { made = FoundHeld i; between = []; steps_are = refl; seen_is = sym (append-nil p.seen); opening = refl; sections = refl; calls = refl; keeper = refl; taken = refl; published = refl; failed = refl; enrolled = refl; passes = refl }
 
-took : (p : Record) (i : ℕ) (m : Map) (es : List Entry) (between : List Command) → Goes p (taking p i m es between)
-took p i m es between = record { made = Took i es; between = between; steps_are = refl; seen_is = refl; opening = refl; sections = refl; calls = refl; keeper = refl; taken = refl; published = refl; failed = refl; enrolled = refl; passes = refl }
+took : (p : Record) (i : ℕ) (m : Map) (es : List Entry) (last : ℕ) (between : List Command) → Goes p (taking p i m es last between)
+took p i m es last between = record { made = Took i es; between = between; steps_are = refl; seen_is = refl; opening = refl; sections = refl; calls = refl; keeper = refl; taken = refl; published = refl; failed = refl; enrolled = refl; passes = refl }
 
 looked : (p : Record) (between : List Command) → Goes p (looking p between)
 looked p between = record { made = Looked (p.opening.first + length (p.seen ++ between)); between = between; steps_are = refl; seen_is = refl; opening = refl; sections = refl; calls = refl; keeper = refl; taken = refl; published = refl; failed = refl; enrolled = refl; passes = refl }
@@ -125,7 +125,7 @@ still_empty p w i none is = ap (λ (x : Record). x.holding) is ∙ none
 
 -- TAKE
 pub views_took : (n : ℕ) (b p w : Record) (zs : List Captured) (i : ℕ) (content : Stripe) → Views n b zs p → TakesStripe n p i content w → Views n b zs w
-views_took n b p w zs i content v t = views_on n b p w zs (gone_to p w _ t.is (took p i content.part.map content.outbox.items t.between)) v
+views_took n b p w zs i content v t = views_on n b p w zs (gone_to p w _ t.is (took p i content.part.map content.outbox.items content.last t.between)) v
 
 pub holds_took : (n : ℕ) (p w : Record) (i j : ℕ) (content : Stripe) → i ≡ j → TakesStripe n p i content w → Holds j content None w
 holds_took n p w i j content same t = subst (λ k. Holds k content None w) same (ap (λ (x : Record). x.holding) t.is)
@@ -139,7 +139,7 @@ looking_held p between d drawn is = rw (is, drawn) refl
 
 pub holds_looked : (p w : Record) (i q : ℕ) (content : Stripe) → Holds i content None p → Looks p q w → Holds i content (Some (reach w)) w
 holds_looked p w i q content h l =
-    let d : Holding = record { stripe = i; part = content.part.map; outbox = content.outbox.items; has_drawn = false; looked = None } in
+    let d : Holding = record { stripe = i; part = content.part.map; outbox = content.outbox.items; last = content.last; has_drawn = false; looked = None } in
     subst (λ (x : Record). Holds i content (Some (reach x)) x) (sym l.is) (looking_held p l.between d refl h)
 
 pub copied : (n : ℕ) (b p w : Record) (zs new : List Captured) (q : ℕ) (content : Stripe) → Views n b zs p → Holds (length zs) content None p → length zs < n → Looks p q w → HasAdded zs q content.part.map new → HasCopied n b new content w
@@ -154,21 +154,23 @@ copied n b p w zs new q content v h within l a = record {
 -- GIVE of a stripe that was looked at
 pub may_capture : (n : ℕ) (p : Record) (i j : ℕ) (content : Stripe) → i ≡ j → Holds i content (Some (reach p)) p → MayGive n p j content Capture
 may_capture n p i j content same h = record {
-  held = record { stripe = i; part = content.part.map; outbox = content.outbox.items; has_drawn = false; looked = Some (reach p) };
+  held = record { stripe = i; part = content.part.map; outbox = content.outbox.items; last = content.last; has_drawn = false; looked = Some (reach p) };
   holding = h;
   stripe_is = same;
   part_is = refl;
   outbox_is = refl;
+  last_is = refl;
   suits = (reach p, refl);
 }
 
 pub may_give_back : (n : ℕ) (p : Record) (i j : ℕ) (content : Stripe) → i ≡ j → Holds i content (Some (reach p)) p → MayGive n p j content Nothing
 may_give_back n p i j content same h = record {
-  held = record { stripe = i; part = content.part.map; outbox = content.outbox.items; has_drawn = false; looked = Some (reach p) };
+  held = record { stripe = i; part = content.part.map; outbox = content.outbox.items; last = content.last; has_drawn = false; looked = Some (reach p) };
   holding = h;
   stripe_is = same;
   part_is = refl;
   outbox_is = refl;
+  last_is = refl;
   suits = tt;
 }
 
@@ -198,7 +200,7 @@ views_given n b p w zs content k g =
       legal = sections_both n w v.sections (x ∷ []) (sections_longer n p w [] opening (seen ∙ sym (append-nil p.seen)) v.sections v.legal) there;
       rising = subst (λ l. Rising (reach b) l (reach w)) (sym k.added.is) (rising_more (reach b) k.before (reach p) (reach w) k.added.newest (omega arith) (omega arith) v.rising);
       opening = opening ∙ v.opening;
-      calls = ap (λ (y : Record). y.calls) g.is ∙ append-nil p.calls ∙ v.calls;
+      calls = ap (λ (y : Record). y.calls) g.is ∙ v.calls;
       keeper = ap (λ (y : Record). y.keeper) g.is ∙ v.keeper;
       taken = ap (λ (y : Record). y.taken) g.is ∙ append-nil p.taken ∙ v.taken;
       published = ap (λ (y : Record). y.published) g.is ∙ v.published;
@@ -221,7 +223,7 @@ starved n b p w zs content v h within g = record {
     seen_is = ap (λ (y : Record). y.seen) g.is ∙ sym (append-nil p.seen);
     opening = ap (λ (y : Record). y.opening) g.is;
     sections = ap (λ (y : Record). y.sections) g.is ∙ append-nil p.sections;
-    calls = ap (λ (y : Record). y.calls) g.is ∙ append-nil p.calls;
+    calls = ap (λ (y : Record). y.calls) g.is;
     keeper = ap (λ (y : Record). y.keeper) g.is;
     taken = ap (λ (y : Record). y.taken) g.is ∙ append-nil p.taken;
     published = ap (λ (y : Record). y.published) g.is;

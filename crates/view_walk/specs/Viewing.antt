@@ -62,7 +62,7 @@ pub record Views (n : ℕ) (b : Record) (zs : List Captured) (p : Record) : Type
 
 -- the stripe i is held with this content, of which no ticket was drawn
 abbrev pub Holds : ℕ → Stripe → Option ℕ → Record → Type 0
-Holds i content looked p = p.holding ≡ Some (record { stripe = i; part = content.part.map; outbox = content.outbox.items; has_drawn = false; looked = looked })
+Holds i content looked p = p.holding ≡ Some (record { stripe = i; part = content.part.map; outbox = content.outbox.items; last = content.last; has_drawn = false; looked = looked })
 
 -- one more stripe was captured, with this mark and part
 pub record HasAdded (old : List Captured) (mark : ℕ) (part : Map) (new : List Captured) : Type 0 where
