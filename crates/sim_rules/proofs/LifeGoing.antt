@@ -144,7 +144,7 @@ module _ (rows : List Row) (files : Files) (history : List Command) (l : Life) (
   -- a step of a worker, by its job
   job_goes : (worker : ℕ) (job : Job) (m : Made) (end : End) → Happens (living files history l) (event.Step worker, outcome.Stepped m end) (worker_stepped (living files history l) l worker job m end)
       × Stays (living files history l) l.durable (event.Step worker, outcome.Stepped m end) (worker_stepped (living files history l) l worker job m end) l.durable
-      → IsMove (living files history l) (event.Step worker) (outcome.Stepped m end) (move_of job m end) → StepsJob (living files history l) l job m end → ReleasesLegal history (move_of job m end)
+      → IsMove (living files history l) (event.Step worker) (outcome.Stepped m end) (move_of job m end) → StepsJob (living files history l) l worker job m end → ReleasesLegal history (move_of job m end)
       → IsSoundInside ((event.Step worker, outcome.Stepped m end) ∷ rows) (worker_stepped (living files history l) l worker job m end) l.durable (released_with (move_of job m end) released)
   job_goes worker Idle m end occurs is case legal = absurd case
   job_goes worker (Keeps asked position) m end occurs is case legal = absurd case
@@ -160,7 +160,7 @@ module _ (rows : List Row) (files : Files) (history : List Command) (l : Life) (
   job_goes worker (Releasing asked position asking) m end occurs is case legal =
       quiet_inside rows (living files history l) l.durable released (event.Step worker, outcome.Stepped m end) _ l.durable sound occurs.0 occurs.1 is refl (omega arith)
 
-  step_goes : (worker : ℕ) (x : Outcome) → Occurs files history l least found (event.Step worker) x → IsStep x (StepsJob (living files history l) l (job_of l worker))
+  step_goes : (worker : ℕ) (x : Outcome) → Occurs files history l least found (event.Step worker) x → IsStep x (StepsJob (living files history l) l worker (job_of l worker))
       → AnswersLegally (living files history l) (event.Step worker) x → Goes rows files history l released least found (event.Step worker) x
   unfolding after
   step_goes worker (outcome.Stepped m end) occurs case legal = job_goes worker (job_of l worker) m end occurs refl case legal

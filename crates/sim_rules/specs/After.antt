@@ -28,7 +28,7 @@ use Rattle.sim_rules.specs.declared.outcome.Outcome.TheVariants as outcome
 use Rattle.sim_rules.specs.World.{World, Life, Job, Idle, Walks, Keeps, Releasing, Stage, Begins, HasTaken, IsAlive, IsDead, HasLooked, HasDrawn}
 use Rattle.sim_rules.specs.World.{Asking, FirstSees, HasMissed, FoundFailure, Place, WithWorker, InOutbox, InHand, Sweep, KeeperWalk, Rests}
 use Rattle.sim_rules.specs.World.{SweepTakes, SweepGives, CaptureLooks, CaptureGives, LogWork, Resting, Committing, Rotating, Running, begun_by}
-use Rattle.sim_rules.specs.World.{gate_after, job_of, needs_rotation, sweep_or}
+use Rattle.sim_rules.specs.World.{gate_after, job_of, needs_rotation, past_outbox, seen_by, sweep_or}
 
 -- ---- the device calls that an outcome names
 
@@ -120,11 +120,26 @@ places_after l (Walks asked stage) (made.Drew ticket) = l.places ++ WithWorker �
 places_after l (Walks asked stage) (made.Gave stripe) = boxed_by l stage
 places_after l job m = l.places
 
+-- What a pass has seen after a step, if it had seen that position. A TAKE raises it to one past the greatest ticket in
+-- the outbox that it took. A LOOK and a SEE raise it to what they found, a TICKET to one past its ticket, and the GIVE
+-- that makes a read to the read's position.
+abbrev pub seen_after : World → Life → ℕ → Made → End → ℕ
+seen_after w l seen (made.Took stripe) end = max seen (past_outbox w l stripe)
+seen_after w l seen (made.Looked n) end = max seen n
+seen_after w l seen (made.Saw n) end = max seen n
+seen_after w l seen (made.Drew ticket) end = max seen (ticket + 1)
+seen_after w l seen (made.Gave stripe) (ends.Held position) = max seen position
+seen_after w l seen m end = seen
+
 abbrev pub worker_stepped : World → Life → ℕ → Job → Made → End → World
 worker_stepped w l worker job m end = record {
   files = w.files;
   history = history_after w.history job m;
-  life = Some (record l { jobs = slice_set l.jobs worker (job_after job m end); places = places_after l job m });
+  life = Some (record l {
+    jobs = slice_set l.jobs worker (job_after job m end);
+    seen = slice_set l.seen worker (seen_after w l (seen_by l worker) m end);
+    places = places_after l job m;
+  });
 }
 
 -- the worker that keeps a reply begins to release it

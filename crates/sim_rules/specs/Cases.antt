@@ -1,5 +1,5 @@
 -- What may come of each event, by what came before it. The clauses of one definition exclude each other.
-use Rattle.std.specs.Prelude.{◌≡◌, ℕ, ◌+◌, ◌-◌, ◌^◌, ◌<◌, ◌≤◌, length, Option, Some, None, Bool, true, false, ◌&&◌, ◌||◌, ◌==◌, not}
+use Rattle.std.specs.Prelude.{◌≡◌, ℕ, ◌+◌, ◌-◌, ◌^◌, ◌<◌, ◌≤◌, max, length, Option, Some, None, Bool, true, false, ◌&&◌, ◌||◌, ◌==◌, not}
 use Rattle.std.specs.Prelude.{nat_lt, if◌then◌else◌, is_some, MatchBool}
 use Rattle.std.specs.FinMap as finite
 use Rattle.map_types.specs.declared.refusals.Refusal.TheVariants as refusal
@@ -33,7 +33,7 @@ use Rattle.sim_rules.specs.declared.outcome.Outcome.TheVariants as outcome
 use Rattle.sim_rules.specs.World.{World, Life, Job, Idle, Walks, Keeps, Releasing, Stage, Begins, HasTaken, IsAlive, IsDead, HasLooked, HasDrawn}
 use Rattle.sim_rules.specs.World.{Asking, FirstSees, HasMissed, FoundFailure, InHand, Sweep, KeeperWalk, Rests, SweepTakes, SweepGives, CaptureLooks}
 use Rattle.sim_rules.specs.World.{CaptureGives, LogWork, Resting, Committing, Rotating, Running, count, gate_after, is_held, is_resting, job_of}
-use Rattle.sim_rules.specs.World.{needs_rotation, next_commands, next_section, place_of, stripe_asked, sweep_or}
+use Rattle.sim_rules.specs.World.{last_on, needs_rotation, next_commands, next_section, place_of, seen_by, stripe_asked, sweep_or}
 use Rattle.sim_rules.specs.Fitting.{fits}
 use Rattle.sim_rules.specs.Due.{due_call, due_file}
 use Rattle.sim_rules.specs.After.{bytes_of, call_of, called, checkpoint_called, file_of, log_called, section_at}
@@ -75,25 +75,31 @@ abbrev pub GivesChange : ℕ → ℕ → Made → End → Type 0
 GivesChange stripe ticket (made.Gave i) (ends.Held position) = (i ≡ stripe) × (position ≡ ticket + 1)
 GivesChange stripe ticket m end = ⊥
 
--- A read has the position that its LOOK found; or memory is wanting, with refusal 7.
-abbrev pub GivesRead : ℕ → ℕ → Made → End → Type 0
-GivesRead stripe n (made.Gave i) (ends.Held position) = (i ≡ stripe) × (position ≡ n)
-GivesRead stripe n (made.Gave i) (ends.Refused refusal.NoMemory) = i ≡ stripe
-GivesRead stripe n m end = ⊥
+-- A read has as its position the greater of what its pass had seen and of one past the last ticket that was drawn on
+-- its stripe; or memory is wanting, with refusal 7.
+abbrev pub GivesRead : World → Life → ℕ → ℕ → Made → End → Type 0
+GivesRead w l worker stripe (made.Gave i) (ends.Held position) = (i ≡ stripe) × (position ≡ max (seen_by l worker) (last_on w l stripe))
+GivesRead w l worker stripe (made.Gave i) (ends.Refused refusal.NoMemory) = i ≡ stripe
+GivesRead w l worker stripe m end = ⊥
 
--- A change goes on with its TICKET, and a read with its GIVE.
+-- After an ALIVE that said yes a change goes on with its LOOK, and a read with its GIVE.
+abbrev pub GoesOnAlive : World → Life → ℕ → ℕ → Asked → Made → End → Type 0
+GoesOnAlive w l worker stripe (Changing c) m end = LooksAround w m end
+GoesOnAlive w l worker stripe (Reading r) m end = GivesRead w l worker stripe m end
+
+-- A read makes no LOOK.
 abbrev pub GoesOnAfterLook : World → ℕ → Asked → ℕ → Made → End → Type 0
 GoesOnAfterLook w stripe (Changing c) n m end = DrawsTicket w stripe n m end
-GoesOnAfterLook w stripe (Reading r) n m end = GivesRead stripe n m end
+GoesOnAfterLook w stripe (Reading r) n m end = ⊥
 
--- A change walks TAKE, ALIVE, LOOK, TICKET, GIVE; a read TAKE, ALIVE, LOOK, GIVE.
-abbrev pub StepsCall : World → Life → ℕ → Asked → Stage → Made → End → Type 0
-StepsCall w l stripe asked Begins m end = TakesForCall l stripe m end
-StepsCall w l stripe asked HasTaken m end = FindsAlive l m end
-StepsCall w l stripe asked IsAlive m end = LooksAround w m end
-StepsCall w l stripe asked IsDead m end = GivesUp stripe m end
-StepsCall w l stripe asked (HasLooked n) m end = GoesOnAfterLook w stripe asked n m end
-StepsCall w l stripe asked (HasDrawn ticket) m end = GivesChange stripe ticket m end
+-- A change of a worker walks TAKE, ALIVE, LOOK, TICKET, GIVE; a read TAKE, ALIVE, GIVE.
+abbrev pub StepsCall : World → Life → ℕ → ℕ → Asked → Stage → Made → End → Type 0
+StepsCall w l worker stripe asked Begins m end = TakesForCall l stripe m end
+StepsCall w l worker stripe asked HasTaken m end = FindsAlive l m end
+StepsCall w l worker stripe asked IsAlive m end = GoesOnAlive w l worker stripe asked m end
+StepsCall w l worker stripe asked IsDead m end = GivesUp stripe m end
+StepsCall w l worker stripe asked (HasLooked n) m end = GoesOnAfterLook w stripe asked n m end
+StepsCall w l worker stripe asked (HasDrawn ticket) m end = GivesChange stripe ticket m end
 
 -- ---- the steps of a release
 
@@ -121,11 +127,11 @@ StepsRelease l position FirstSees m end = SeesFirst l position m end
 StepsRelease l position HasMissed m end = AsksAlive l m end
 StepsRelease l position FoundFailure m end = SeesLast l position m end
 
-abbrev pub StepsJob : World → Life → Job → Made → End → Type 0
-StepsJob w l Idle m end = ⊥
-StepsJob w l (Walks asked stage) m end = StepsCall w l (stripe_asked l.stripes asked) asked stage m end
-StepsJob w l (Keeps asked position) m end = ⊥
-StepsJob w l (Releasing asked position asking) m end = StepsRelease l position asking m end
+abbrev pub StepsJob : World → Life → ℕ → Job → Made → End → Type 0
+StepsJob w l worker Idle m end = ⊥
+StepsJob w l worker (Walks asked stage) m end = StepsCall w l worker (stripe_asked l.stripes asked) asked stage m end
+StepsJob w l worker (Keeps asked position) m end = ⊥
+StepsJob w l worker (Releasing asked position asking) m end = StepsRelease l position asking m end
 
 -- ---- the steps of a sweep
 
@@ -363,7 +369,7 @@ abbrev pub HappensInside : World → Life → Event → Outcome → Type 0
 HappensInside w l (event.Change worker c) x = x ≡ outcome.Started
 HappensInside w l (event.Read worker r) x = x ≡ outcome.Started
 HappensInside w l (event.Release worker) x = x ≡ outcome.Started
-HappensInside w l (event.Step worker) x = IsStep x (StepsJob w l (job_of l worker))
+HappensInside w l (event.Step worker) x = IsStep x (StepsJob w l worker (job_of l worker))
 HappensInside w l event.Sweep x = IsStep x (BeginsSweep w l l.sweep)
 HappensInside w l event.KeeperStep x = IsStep x (StepsKeeper w l l.walk)
 HappensInside w l (event.Stage most) x = StagesRun w l most x

@@ -1,11 +1,13 @@
 -- What the events and outcomes so far say of a store: its files, its history, and in a life its workers, its keeper and its counts.
-use Rattle.std.specs.Prelude.{ℕ, ◌+◌, ◌-◌, List, [], ◌∷◌, length, take, drop, replicate, slice_index_or, Option, Some, None, Bool, true, false}
-use Rattle.std.specs.Prelude.{◌&&◌, ◌||◌, ◌==◌, nat_lt}
+use Rattle.std.specs.Prelude.{ℕ, ◌+◌, ◌-◌, max, List, [], ◌∷◌, length, take, drop, replicate, slice_index_or, Option, Some, None, Bool, true, false}
+use Rattle.std.specs.Prelude.{◌&&◌, ◌||◌, ◌==◌, nat_lt, if◌then◌else◌}
 use Rattle.java_hash.specs.Stripes.{stripe_of}
 use Rattle.map_types.specs.declared.commands.Command.{Command}
+use Rattle.map_model.specs.Parts.{is_in_stripe}
 use Rattle.log_records.specs.Layout.{first_layout}
 use Rattle.ticket_order.specs.declared.record.Asked.{Asked}
 use Rattle.ticket_order.specs.declared.record.Asked.TheVariants.{Changing, Reading}
+use Rattle.ticket_order.specs.Legality.{last_of}
 use Rattle.disk_model.specs.Files.{Contents, Files}
 use Rattle.store_layout.specs.Checkpoints.{Section}
 use Rattle.store_layout.specs.Logs.{Batch, frame}
@@ -15,7 +17,8 @@ use Rattle.store_layout.specs.FirstFiles.{new_files}
 
 -- ---- workers
 
--- How far the walk of a call is, by the last step that it made: none; TAKE; ALIVE that said yes, or no; LOOK; TICKET.
+-- How far the walk of a call is, by the last step that it made: none; TAKE; ALIVE that said yes, or no; of a change
+-- besides LOOK; TICKET.
 pub data Stage : Type 0 where
   Begins : Stage
   HasTaken : Stage
@@ -87,6 +90,8 @@ pub record Life : Type 0 where
   -- how many commands the opening found
   pub first : ℕ
   pub jobs : List Job
+  -- of each worker's pass, the greatest position that it has seen, at first that of the opening
+  pub seen : List ℕ
   -- of the tickets of this life, in order
   pub places : List Place
   pub sweep : Option Sweep
@@ -126,6 +131,7 @@ begun_by stripes found =
       stripes = stripes;
       first = prefix_of found;
       jobs = replicate 64 Idle;
+      seen = replicate 64 (prefix_of found);
       places = [];
       sweep = None;
       walk = Rests;
@@ -157,6 +163,10 @@ stripe_asked stripes (Reading r) = stripe_of stripes r.key
 
 abbrev pub job_of : Life → ℕ → Job
 job_of l worker = slice_index_or l.jobs worker Idle
+
+-- the greatest position that the worker's pass has seen
+abbrev pub seen_by : Life → ℕ → ℕ
+seen_by l worker = slice_index_or l.seen worker 0
 
 abbrev pub is_idle : Job → Bool
 is_idle Idle = true
@@ -206,6 +216,23 @@ keeper_holds l stripe (CaptureGives mark) = next_section l.checkpoint == stripe
 
 abbrev pub is_held : Life → ℕ → Bool
 is_held l stripe = any_holds l.stripes stripe l.jobs || keeper_holds l stripe l.walk
+
+-- one past the last ticket of this life that was drawn on this stripe, or the count at the opening if there is none
+abbrev pub last_on : World → Life → ℕ → ℕ
+last_on w l stripe = last_of l.stripes stripe l.first (drop l.first w.history)
+
+-- One past the greatest ticket whose entry lies in the outbox of this stripe, or 0 if there is none. The commands have
+-- these places, and the tickets from that one on.
+unfoldable pub past_boxed : ℕ → ℕ → ℕ → List Command → List Place → ℕ
+past_boxed stripes stripe ticket (c ∷ cs) (InOutbox ∷ places) =
+    if is_in_stripe stripes stripe c.key then max (ticket + 1) (past_boxed stripes stripe (ticket + 1) cs places)
+    else past_boxed stripes stripe (ticket + 1) cs places
+past_boxed stripes stripe ticket (c ∷ cs) (place ∷ places) = past_boxed stripes stripe (ticket + 1) cs places
+past_boxed stripes stripe ticket cs places = 0
+
+-- of the tickets of this life
+abbrev pub past_outbox : World → Life → ℕ → ℕ
+past_outbox w l stripe = past_boxed l.stripes stripe l.first (drop l.first w.history) l.places
 
 abbrev pub rests : KeeperWalk → Bool
 rests Rests = true

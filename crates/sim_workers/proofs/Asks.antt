@@ -116,7 +116,6 @@ module _ (n : ℕ) (b : Record) (position : ℕ) (reply : Reply) (p : Record) wh
   reading : (s : ReadStage) → FitsRead n b (ToRelease position reply) s p → ⊥
   reading (read.Begins r) fits = no_read r fits.task_is
   reading (read.HasTaken r t) fits = no_read r fits.0.task_is
-  reading (read.IsAlive r t) fits = no_read r fits.0.task_is
   reading (read.HasRead r t h) fits = no_read r fits.0.task_is
 
   sweeping : (s : SweepStage) → FitsSweep n b (ToRelease position reply) s p → ⊥

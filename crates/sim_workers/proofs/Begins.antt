@@ -21,7 +21,7 @@ use Rattle.sim_workers.specs.Laws.{ChangeBegins, KeepsStanding, ReadBegins, Rele
 use Rattle.sim_workers.proofs.WorkersInWorld.{changed, each_job, fitting, in_life, is_one, job_changed, places_kept, world_of}
 
 -- the words stand as they did, whatever the jobs are
-words_same : (b : Book) (files : Files) (history : List Command) (l : Life) (j : ℕ) (job : Job) → WordsStand b (world_of files history l) l → WordsStand b (world_of files history (changed l j job l.places)) (changed l j job l.places)
+words_same : (b : Book) (files : Files) (history : List Command) (l : Life) (j : ℕ) (job : Job) → WordsStand b (world_of files history l) l → WordsStand b (world_of files history (changed l j job l.seen l.places)) (changed l j job l.seen l.places)
 words_same b files history l j job words = record {
   one = words.one;
   apart = words.apart;
@@ -38,13 +38,13 @@ words_same b files history l j job words = record {
 -- the job of worker j changes, and nothing else
 module _ (b : Book) (files : Files) (history : List Command) (l : Life) (doings doings' : ℕ → Doing) (j : ℕ) (doing : Doing) (job : Job) where
   begins : WorkersStand b (world_of files history l) l doings → j < 64 → IsNowDoing j doing doings doings' → drawn_by job ≡ None → drawn_by (job_of l j) ≡ None → JobStands b.stripes (record_of j b) doing job
-      → WorkersStand b (world_of files history (changed l j job l.places)) (changed l j job l.places) doings'
+      → WorkersStand b (world_of files history (changed l j job l.seen l.places)) (changed l j job l.seen l.places) doings'
   begins stand worker goes none before here =
-      let undrawn : (i : ℕ) → drawn_by (job_of (changed l j job l.places) i) ≡ drawn_by (job_of l i) =
+      let undrawn : (i : ℕ) → drawn_by (job_of (changed l j job l.seen l.places) i) ≡ drawn_by (job_of l i) =
       each_job (λ i x. drawn_by x ≡ drawn_by (job_of l i)) l.jobs j job (omega (arith, worker, stand.jobs)) (none ∙ sym before) (λ i ne. refl) in
-      job_changed b b (world_of files history l) (world_of files history (changed l j job l.places)) l doings doings' j doing job l.places stand worker refl refl refl (λ i ne. refl) goes here
-      (words_same b files history l j job stand.words)
-      (places_kept b b l (changed l j job l.places) refl refl refl refl refl undrawn stand.places)
+      job_changed b b (world_of files history l) (world_of files history (changed l j job l.seen l.places)) l doings doings' j doing job l.seen l.places stand worker refl refl refl (λ i ne. refl) goes here
+      (words_same b files history l j job stand.words) (record { count = stand.seen_count; each = stand.seen })
+      (places_kept b b l (changed l j job l.seen l.places) refl refl refl refl refl undrawn stand.places)
 
 -- a worker that rests is idle, and holds no stripe
 idle : (n : ℕ) (p : Record) (job : Job) → JobStands n p Rests job → (job ≡ Idle) × (p.holding ≡ None)

@@ -1,6 +1,6 @@
 -- A worker's call makes a step.
-use Rattle.std.proofs.Common.{ℕ, ◌≡◌, ◌+◌, ◌<◌, List, [], ◌∷◌, ◌++◌, Some, None, true, false, length, refl, arith, sym, ◌∙◌, ap, subst, append-nil, length-append}
-use Rattle.std.specs.Prelude.{not}
+use Rattle.std.proofs.Common.{ℕ, ◌≡◌, ◌+◌, ◌<◌, List, [], ◌∷◌, ◌++◌, Some, None, true, false, length, refl, arith, sym, ◌∙◌, ap, subst, append-nil}
+use Rattle.std.specs.Prelude.{not, slice_set}
 use Rattle.std.specs.List.{Contains}
 use Rattle.std.proofs.lemmas.List.Elements.{Contains-push}
 use Rattle.java_hash.specs.Stripes.{stripe_of}
@@ -20,19 +20,19 @@ use Rattle.ticket_order.specs.declared.record.Record.{Record}
 use Rattle.ticket_order.specs.declared.walk.Walk.{Walk}
 use Rattle.ticket_order.specs.declared.walk.Stepped.{Stepped}
 use Rattle.ticket_order.specs.declared.walk.Stepped.TheVariants as stepped
-use Rattle.ticket_order.specs.Records.{call}
+use Rattle.ticket_order.specs.Records.{call, reach}
 use Rattle.ticket_order.specs.Calls.{RefusesChange, RefusesRead}
 use Rattle.ticket_order.specs.Walks.{Next}
 use Rattle.one_history.specs.declared.book.Book.{Book}
 use Rattle.one_history.specs.Turns.{record_of}
-use Rattle.one_history.specs.Moves.{WordsMove}
+use Rattle.one_history.specs.Moves.{Raises, WordsMove}
 use Rattle.sim_rules.specs.declared.event.Event.TheVariants as event
 use Rattle.sim_rules.specs.declared.outcome.End.{End}
 use Rattle.sim_rules.specs.declared.outcome.Made.{Made}
 use Rattle.sim_rules.specs.declared.outcome.Made.TheVariants as told
 use Rattle.sim_rules.specs.declared.outcome.Outcome.TheVariants as outcome
-use Rattle.sim_rules.specs.World.{World, Life, Job, Idle, Walks, Keeps, Releasing, Place, Stage, Begins, job_of, stripe_asked}
-use Rattle.sim_rules.specs.After.{after, history_after, job_after, places_after, stage_after}
+use Rattle.sim_rules.specs.World.{World, Life, Job, Idle, Walks, Keeps, Releasing, Place, Stage, Begins, job_of, seen_by, stripe_asked}
+use Rattle.sim_rules.specs.After.{after, history_after, job_after, places_after, seen_after, stage_after}
 use Rattle.sim_rules.specs.Cases.{StepsCall, StepsJob}
 use Rattle.sim_rules.specs.Runs.{move_of}
 use Rattle.sim_rules.specs.Sound.{ReleasesLegal}
@@ -43,36 +43,42 @@ use Rattle.sim_workers.specs.Workers.{IsNowDoing, MakesStep, StepsWalk, WorkersS
 use Rattle.sim_workers.specs.Laws.{CallSteps, KeepsStanding}
 use Rattle.sim_workers.proofs.Lists.{ends_same, onto}
 use Rattle.sim_workers.proofs.Ways.{steps_on}
-use Rattle.sim_workers.proofs.Turns.{Turn, Takes, Misses, FindsAlive, FindsDead, GivesUp, Looks, GivesSpent, GivesStarved, DrawsTicket, GivesRead, GivesChange, IsTurn, Tells, before, end_of, step_of, told_by, turn_of}
-use Rattle.sim_workers.proofs.WorkersInWorld.{changed, each_job, fitting, in_life, is_one, job_changed, places_kept, world_of}
-use Rattle.sim_workers.proofs.Holding.{held_by_another, held_by_none}
+use Rattle.sim_workers.proofs.Turns.{Turn, Takes, Misses, FindsAlive, FindsDead, GivesUp, Looks, GivesSpent, GivesStarved, DrawsTicket, GivesUnread, GivesRead, GivesChange, IsTurn, Tells, before, end_of, step_of, told_by, turn_of}
+use Rattle.sim_workers.proofs.WorkersInWorld.{SeenStand, changed, each_job, fitting, in_life, is_one, job_changed, places_kept, seen_set, world_of}
+use Rattle.sim_workers.proofs.Holding.{calls_since, held_by_another, held_by_none}
 use Rattle.sim_workers.proofs.Places.{places_drawn, places_given}
 use Rattle.sim_workers.proofs.Moving.{KeepsEffects, counted, effects_kept, words_moved}
+use Rattle.sim_workers.proofs.Seen.{IsCallless, call_seen, read_position}
 
 no_change : (r : read_type.Read) (c : Command) → Reading r ≡ Changing c → ⊥
 no_change r c e = cc
 
 -- ---- the case of the step
 
-module _ (b b' : Book) (w : World) (l : Life) (doings : ℕ → Doing) (stand : WorkersStand b w l doings) (j : ℕ) where
-  step_meets : (asked : Asked) (i : ℕ) (turn : Turn) (p : Record) → WordsMove j (step_of i turn) b b' → Tells asked turn p → StepsCall w l i asked (stage_of (steps_on i (before turn))) (told_by i turn) (end_of i turn)
+module _ (b b' : Book) (w : World) (l : Life) (doings : ℕ → Doing) (stand : WorkersStand b w l doings) (j : ℕ) (worker : j < 64) (begun : Record) where
+  step_meets : (asked : Asked) (i : ℕ) (turn : Turn) → WordsMove j (step_of i turn) b b' → Raises j (step_of i turn) b b'
+      → IsCallless b b' w l doings stand j worker begun asked i turn → Tells begun asked turn (record_of j b')
+      → StepsCall w l j i asked (stage_of (steps_on i (before turn))) (told_by i turn) (end_of i turn)
   unfolding stage_from
-  step_meets asked i (Takes es) p words tells = (refl, held_by_none b w l doings stand i words.1)
-  step_meets asked i Misses p words tells = (refl, refl, held_by_another b w l doings stand i j words.1)
-  step_meets asked i (FindsAlive es) p words tells = words.1 ∙ ap not (sym stand.words.has_failed)
-  step_meets asked i (FindsDead es) p words tells = words.1 ∙ ap not (sym stand.words.has_failed)
-  step_meets asked i (GivesUp es) p words tells = refl
-  step_meets asked i (Looks es q) p words tells = words.1 ∙ sym (counted b w l stand.words)
-  step_meets (Changing c) i (GivesSpent es q) p words tells = (refl, tells.1)
-  step_meets (Changing c) i (GivesStarved es q) p words tells = (refl, tells)
-  step_meets (Changing c) i (DrawsTicket es q t) p words tells = (words.ticket_is ∙ sym (counted b w l stand.words), tells.below)
-  step_meets (Changing c) i (GivesRead es q) p words tells = absurd tells
-  step_meets (Changing c) i (GivesChange es q t) p words tells = (refl, refl)
-  step_meets (Reading r) i (GivesSpent es q) p words tells = absurd tells.0
-  step_meets (Reading r) i (GivesStarved es q) p words tells = refl
-  step_meets (Reading r) i (DrawsTicket es q t) p words tells = absurd (no_change r tells.command tells.asked_is)
-  step_meets (Reading r) i (GivesRead es q) p words tells = (refl, refl)
-  step_meets (Reading r) i (GivesChange es q t) p words tells = absurd tells
+  step_meets asked i (Takes es) words raises since tells = (refl, held_by_none b w l doings stand i words.1)
+  step_meets asked i Misses words raises since tells = (refl, refl, held_by_another b w l doings stand i j words.1)
+  step_meets asked i (FindsAlive es) words raises since tells = words.1 ∙ ap not (sym stand.words.has_failed)
+  step_meets asked i (FindsDead es) words raises since tells = words.1 ∙ ap not (sym stand.words.has_failed)
+  step_meets asked i (GivesUp es) words raises since tells = refl
+  step_meets (Changing c) i (Looks es q) words raises since tells = words.1 ∙ sym (counted b w l stand.words)
+  step_meets (Changing c) i (GivesSpent es q) words raises since tells = (refl, tells.1)
+  step_meets (Changing c) i (GivesStarved es q) words raises since tells = (refl, tells.1)
+  step_meets (Changing c) i (DrawsTicket es q t) words raises since tells = (words.ticket_is ∙ sym (counted b w l stand.words), tells.below)
+  step_meets (Changing c) i (GivesUnread es) words raises since tells = absurd tells.0
+  step_meets (Changing c) i (GivesRead es q) words raises since tells = absurd tells.asks
+  step_meets (Changing c) i (GivesChange es q t) words raises since tells = (refl, refl)
+  step_meets (Reading r) i (Looks es q) words raises since tells = absurd tells
+  step_meets (Reading r) i (GivesSpent es q) words raises since tells = absurd tells.0
+  step_meets (Reading r) i (GivesStarved es q) words raises since tells = absurd tells.0
+  step_meets (Reading r) i (GivesUnread es) words raises since tells = refl
+  step_meets (Reading r) i (DrawsTicket es q t) words raises since tells = absurd (no_change r tells.command tells.asked_is)
+  step_meets (Reading r) i (GivesRead es q) words raises since tells = (refl, read_position b b' w l doings stand j worker begun (Reading r) i q raises (since refl) tells)
+  step_meets (Reading r) i (GivesChange es q t) words raises since tells = absurd tells.0
 
 -- ---- the job after the step
 
@@ -147,49 +153,51 @@ drawn_command c d e t position reply reply' xs ys is same =
     let commands : Changing e ≡ Changing d = ap (λ (x : Call). x.asked) last in
     cc
 
-grew : (b b' : Book) (history : List Command) (asked : Asked) (stage : Stage) (j i : ℕ) (turn : Turn) → WordsMove j (step_of i turn) b b' → Tells asked turn (record_of j b') → Grew b b' history (history_after history (Walks asked stage) (told_by i turn))
+grew : (b b' : Book) (history : List Command) (asked : Asked) (stage : Stage) (j i : ℕ) (turn : Turn) (begun : Record) → WordsMove j (step_of i turn) b b' → Tells begun asked turn (record_of j b') → Grew b b' history (history_after history (Walks asked stage) (told_by i turn))
 unfolding IsQuiet
-grew b b' history asked stage j i (Takes es) words tells = quiet_grew b b' history asked stage j (told.Took i) tt words.0.same.history
-grew b b' history asked stage j i Misses words tells = quiet_grew b b' history asked stage j (told.FoundHeld i) tt words.0.same.history
-grew b b' history asked stage j i (FindsAlive es) words tells = quiet_grew b b' history asked stage j (told.FoundAlive true) tt words.0.same.history
-grew b b' history asked stage j i (FindsDead es) words tells = quiet_grew b b' history asked stage j (told.FoundAlive false) tt words.0.same.history
-grew b b' history asked stage j i (GivesUp es) words tells = quiet_grew b b' history asked stage j (told.Gave i) tt words.0.history
-grew b b' history asked stage j i (Looks es q) words tells = quiet_grew b b' history asked stage j (told.Looked q) tt words.0.same.history
-grew b b' history asked stage j i (GivesSpent es q) words tells = quiet_grew b b' history asked stage j (told.Gave i) tt words.0.history
-grew b b' history asked stage j i (GivesStarved es q) words tells = quiet_grew b b' history asked stage j (told.Gave i) tt words.0.history
-grew b b' history (Changing c) stage j i (DrawsTicket es q t) words tells =
+grew b b' history asked stage j i (Takes es) begun words tells = quiet_grew b b' history asked stage j (told.Took i) tt words.0.same.history
+grew b b' history asked stage j i Misses begun words tells = quiet_grew b b' history asked stage j (told.FoundHeld i) tt words.0.same.history
+grew b b' history asked stage j i (FindsAlive es) begun words tells = quiet_grew b b' history asked stage j (told.FoundAlive true) tt words.0.same.history
+grew b b' history asked stage j i (FindsDead es) begun words tells = quiet_grew b b' history asked stage j (told.FoundAlive false) tt words.0.same.history
+grew b b' history asked stage j i (GivesUp es) begun words tells = quiet_grew b b' history asked stage j (told.Gave i) tt words.0.history
+grew b b' history asked stage j i (Looks es q) begun words tells = quiet_grew b b' history asked stage j (told.Looked q) tt words.0.same.history
+grew b b' history asked stage j i (GivesSpent es q) begun words tells = quiet_grew b b' history asked stage j (told.Gave i) tt words.0.history
+grew b b' history asked stage j i (GivesStarved es q) begun words tells = quiet_grew b b' history asked stage j (told.Gave i) tt words.0.history
+grew b b' history (Changing c) stage j i (DrawsTicket es q t) begun words tells =
     let own : words.command ≡ c = drawn_command c tells.command words.command t tells.position words.reply tells.reply (record_of j b).calls tells.before tells.asked_is (sym words.calls ∙ tells.calls) in
     record { more = c ∷ []; book = words.history ∙ ap (λ d. b.history ++ d ∷ []) own; world = refl }
-grew b b' history (Reading r) stage j i (DrawsTicket es q t) words tells = absurd (no_change r tells.command tells.asked_is)
-grew b b' history asked stage j i (GivesRead es q) words tells = quiet_grew b b' history asked stage j (told.Gave i) tt words.0.history
-grew b b' history asked stage j i (GivesChange es q t) words tells = quiet_grew b b' history asked stage j (told.Gave i) tt words.0.history
+grew b b' history (Reading r) stage j i (DrawsTicket es q t) begun words tells = absurd (no_change r tells.command tells.asked_is)
+grew b b' history asked stage j i (GivesUnread es) begun words tells = quiet_grew b b' history asked stage j (told.Gave i) tt words.0.history
+grew b b' history asked stage j i (GivesRead es q) begun words tells = quiet_grew b b' history asked stage j (told.Gave i) tt words.0.history
+grew b b' history asked stage j i (GivesChange es q t) begun words tells = quiet_grew b b' history asked stage j (told.Gave i) tt words.0.history
 
 -- ---- the places after the step
 
-Placed : Book → Life → ℕ → Asked → Stage → Made → End → Type 0
-Placed b l j asked stage m end = PlacesStand b (changed l j (job_after (Walks asked stage) m end) (places_after l (Walks asked stage) m))
+Placed : Book → Life → ℕ → List ℕ → Asked → Stage → Made → End → Type 0
+Placed b l j seen asked stage m end = PlacesStand b (changed l j (job_after (Walks asked stage) m end) seen (places_after l (Walks asked stage) m))
 
-module _ (b b' : Book) (l : Life) (j : ℕ) (stand : PlacesStand b l) (within : j < length l.jobs) (first : l.first ≡ b.opening.first) (begins : b'.opening.first ≡ b.opening.first) (taken : b'.effects.taken ≡ b.effects.taken) where
+module _ (b b' : Book) (l : Life) (j : ℕ) (seen : List ℕ) (stand : PlacesStand b l) (within : j < length l.jobs) (first : l.first ≡ b.opening.first) (begins : b'.opening.first ≡ b.opening.first) (taken : b'.effects.taken ≡ b.effects.taken) where
   -- no ticket was drawn, and none given
-  quiet : (job : Job) → length b'.history ≡ length b.history → drawn_by (job_of l j) ≡ None → drawn_by job ≡ None → PlacesStand b' (changed l j job l.places)
-  quiet job many before now = places_kept b b' l (changed l j job l.places) begins many taken refl refl
+  quiet : (job : Job) → b'.history ≡ b.history → drawn_by (job_of l j) ≡ None → drawn_by job ≡ None → PlacesStand b' (changed l j job seen l.places)
+  quiet job same before now = places_kept b b' l (changed l j job seen l.places) begins same taken refl refl
       (each_job (λ i x. drawn_by x ≡ drawn_by (job_of l i)) l.jobs j job within (now ∙ sym before) (λ i ne. refl)) stand
 
-  placed : (asked : Asked) (i : ℕ) (turn : Turn) (p : Record) → WordsMove j (step_of i turn) b b' → Tells asked turn p → drawn_by (job_of l j) ≡ drawn_at (stage_of (steps_on i (before turn)))
-      → Placed b' l j asked (stage_of (steps_on i (before turn))) (told_by i turn) (end_of i turn)
+  placed : (asked : Asked) (i : ℕ) (turn : Turn) → WordsMove j (step_of i turn) b b' → drawn_by (job_of l j) ≡ drawn_at (stage_of (steps_on i (before turn)))
+      → Placed b' l j seen asked (stage_of (steps_on i (before turn))) (told_by i turn) (end_of i turn)
   unfolding stage_from Placed
-  placed asked i (Takes es) p words tells was = quiet _ (ap length words.0.same.history) was refl
-  placed asked i Misses p words tells was = quiet _ (ap length words.0.same.history) was refl
-  placed asked i (FindsAlive es) p words tells was = quiet _ (ap length words.0.same.history) was refl
-  placed asked i (FindsDead es) p words tells was = quiet _ (ap length words.0.same.history) was refl
-  placed asked i (GivesUp es) p words tells was = quiet _ (ap length words.0.history) was refl
-  placed asked i (Looks es q) p words tells was = quiet _ (ap length words.0.same.history) was refl
-  placed asked i (GivesSpent es q) p words tells was = quiet _ (ap length words.0.history) was refl
-  placed asked i (GivesStarved es q) p words tells was = quiet _ (ap length words.0.history) was refl
-  placed asked i (DrawsTicket es q t) p words tells was =
-      places_drawn b b' l j t _ stand within first begins (ap length words.history ∙ length-append b.history (words.command ∷ [])) taken words.ticket_is was refl
-  placed asked i (GivesRead es q) p words tells was = quiet _ (ap length words.0.history) was refl
-  placed asked i (GivesChange es q t) p words tells was = places_given b b' l j t _ stand within first begins (ap length words.0.history) taken was refl
+  placed asked i (Takes es) words was = quiet _ words.0.same.history was refl
+  placed asked i Misses words was = quiet _ words.0.same.history was refl
+  placed asked i (FindsAlive es) words was = quiet _ words.0.same.history was refl
+  placed asked i (FindsDead es) words was = quiet _ words.0.same.history was refl
+  placed asked i (GivesUp es) words was = quiet _ words.0.history was refl
+  placed asked i (Looks es q) words was = quiet _ words.0.same.history was refl
+  placed asked i (GivesSpent es q) words was = quiet _ words.0.history was refl
+  placed asked i (GivesStarved es q) words was = quiet _ words.0.history was refl
+  placed asked i (DrawsTicket es q t) words was =
+      places_drawn b b' l j t _ seen stand within first begins words.command words.history taken words.ticket_is was refl
+  placed asked i (GivesUnread es) words was = quiet _ words.0.history was refl
+  placed asked i (GivesRead es q) words was = quiet _ words.0.history was refl
+  placed asked i (GivesChange es q t) words was = places_given b b' l j t _ seen stand within first begins words.0.history taken was refl
 
 -- ---- the step
 
@@ -204,6 +212,7 @@ told_as i (Looks es q) = refl
 told_as i (GivesSpent es q) = refl
 told_as i (GivesStarved es q) = refl
 told_as i (DrawsTicket es q t) = refl
+told_as i (GivesUnread es) = refl
 told_as i (GivesRead es q) = refl
 told_as i (GivesChange es q t) = refl
 
@@ -236,7 +245,7 @@ module _ (b b' : Book) (files : Files) (history : List Command) (l : Life) (doin
   allowed : Next b.stripes calling.begun (task_of asked) s (record_of j b')
   allowed = next calling.begun (task_of asked) calling.fits
 
-  turned : IsTurn stripe asked calling.made made.step end (record_of j b')
+  turned : IsTurn stripe calling.begun asked calling.made made.step end (record_of j b')
   turned = turn_of b.stripes calling.begun calling.made made.step end (record_of j b) (record_of j b') calling.steps made.steps asked s doing allowed leaves
 
   told_is : m ≡ told_by stripe turned.turn
@@ -248,52 +257,71 @@ module _ (b b' : Book) (files : Files) (history : List Command) (l : Life) (doin
   words_move : WordsMove j (step_of stripe turned.turn) b b'
   words_move = subst (λ x. WordsMove j x b b') turned.step_is made.moved.words
 
-  meets_case : StepsJob (world_of files history l) l (job_of l j) m end
+  raises : Raises j (step_of stripe turned.turn) b b'
+  raises = subst (λ x. Raises j x b b') turned.step_is made.moved.raises
+
+  since : IsCallless b b' (world_of files history l) l doings stand j worker calling.begun asked stripe turned.turn
+  since none = calls_since b.stripes (record_of j b) walk asked stage calling (ap drawn_at stage_is ∙ none)
+
+  abbrev seen_after_step : List ℕ
+  seen_after_step = slice_set l.seen j (seen_after (world_of files history l) l (seen_by l j) m end)
+
+  sees : SeenStand b' seen_after_step
+  sees =
+      let own : seen_after (world_of files history l) l (seen_by l j) (told_by stripe turned.turn) (end_of stripe turned.turn) ≡ reach (record_of j b') =
+      call_seen b b' (world_of files history l) l doings stand j worker calling.begun asked stripe turned.turn words_move raises since turned.tells in
+      let at : seen_after (world_of files history l) l (seen_by l j) m end ≡ reach (record_of j b') =
+      subst (λ x. seen_after (world_of files history l) l (seen_by l j) x end ≡ reach (record_of j b')) (sym told_is)
+      (subst (λ x. seen_after (world_of files history l) l (seen_by l j) (told_by stripe turned.turn) x ≡ reach (record_of j b')) (sym turned.end_is) own) in
+      seen_set b b' (world_of files history l) l doings j (seen_after (world_of files history l) l (seen_by l j) m end) stand worker made.moved.others at
+
+  meets_case : StepsJob (world_of files history l) l j (job_of l j) m end
   meets_case =
-      let own : StepsCall (world_of files history l) l stripe asked (stage_of (steps_on stripe (before turned.turn))) (told_by stripe turned.turn) (end_of stripe turned.turn) =
-      step_meets b b' (world_of files history l) l doings stand j asked stripe turned.turn (record_of j b') words_move turned.tells in
-      let at : StepsCall (world_of files history l) l stripe asked stage m end =
-      subst (λ x. StepsCall (world_of files history l) l stripe asked x m end) (sym stage_is)
-      (subst (λ x. StepsCall (world_of files history l) l stripe asked (stage_of (steps_on stripe (before turned.turn))) x end) (sym told_is)
-      (subst (λ x. StepsCall (world_of files history l) l stripe asked (stage_of (steps_on stripe (before turned.turn))) (told_by stripe turned.turn) x) (sym turned.end_is) own)) in
-      subst (λ x. StepsJob (world_of files history l) l x m end) (sym job_is)
-      (subst (λ n. StepsCall (world_of files history l) l (stripe_asked n asked) asked stage m end) (sym stand.words.stripes) at)
+      let own : StepsCall (world_of files history l) l j stripe asked (stage_of (steps_on stripe (before turned.turn))) (told_by stripe turned.turn) (end_of stripe turned.turn) =
+      step_meets b b' (world_of files history l) l doings stand j worker calling.begun asked stripe turned.turn words_move raises since turned.tells in
+      let at : StepsCall (world_of files history l) l j stripe asked stage m end =
+      subst (λ x. StepsCall (world_of files history l) l j stripe asked x m end) (sym stage_is)
+      (subst (λ x. StepsCall (world_of files history l) l j stripe asked (stage_of (steps_on stripe (before turned.turn))) x end) (sym told_is)
+      (subst (λ x. StepsCall (world_of files history l) l j stripe asked (stage_of (steps_on stripe (before turned.turn))) (told_by stripe turned.turn) x) (sym turned.end_is) own)) in
+      subst (λ x. StepsJob (world_of files history l) l j x m end) (sym job_is)
+      (subst (λ n. StepsCall (world_of files history l) l j (stripe_asked n asked) asked stage m end) (sym stand.words.stripes) at)
 
   effects : KeepsEffects b b'
   effects = effects_kept b b' (world_of files history l) l doings j m stand worker made
 
-  placed_so : Placed b' l j asked stage m end
+  placed_so : Placed b' l j seen_after_step asked stage m end
   placed_so =
       let was : drawn_by (job_of l j) ≡ drawn_at (stage_of (steps_on stripe (before turned.turn))) = ap drawn_by job_is ∙ ap drawn_at stage_is in
-      let own : Placed b' l j asked (stage_of (steps_on stripe (before turned.turn))) (told_by stripe turned.turn) (end_of stripe turned.turn) =
-      placed b b' l j stand.places (omega (arith, worker, stand.jobs)) stand.words.first (ap (λ o. o.first) made.moved.opening) effects.taken asked stripe turned.turn (record_of j b') words_move turned.tells was in
-      subst (λ x. Placed b' l j asked x m end) (sym stage_is)
-      (subst (λ x. Placed b' l j asked (stage_of (steps_on stripe (before turned.turn))) x end) (sym told_is)
-      (subst (λ x. Placed b' l j asked (stage_of (steps_on stripe (before turned.turn))) (told_by stripe turned.turn) x) (sym turned.end_is) own))
+      let own : Placed b' l j seen_after_step asked (stage_of (steps_on stripe (before turned.turn))) (told_by stripe turned.turn) (end_of stripe turned.turn) =
+      placed b b' l j seen_after_step stand.places (omega (arith, worker, stand.jobs)) stand.words.first (ap (λ o. o.first) made.moved.opening) effects.taken asked stripe turned.turn words_move was in
+      subst (λ x. Placed b' l j seen_after_step asked x m end) (sym stage_is)
+      (subst (λ x. Placed b' l j seen_after_step asked (stage_of (steps_on stripe (before turned.turn))) x end) (sym told_is)
+      (subst (λ x. Placed b' l j seen_after_step asked (stage_of (steps_on stripe (before turned.turn))) (told_by stripe turned.turn) x) (sym turned.end_is) own))
 
   grew_so : Grew b b' history (history_after history (Walks asked stage) m)
-  grew_so = subst (λ x. Grew b b' history (history_after history (Walks asked stage) x)) (sym told_is) (grew b b' history asked stage j stripe turned.turn words_move turned.tells)
+  grew_so = subst (λ x. Grew b b' history (history_after history (Walks asked stage) x)) (sym told_is) (grew b b' history asked stage j stripe turned.turn calling.begun words_move turned.tells)
 
-  after_call : WorkersStand b' (world_of files (history_after history (Walks asked stage) m) (changed l j (job_after (Walks asked stage) m end) (places_after l (Walks asked stage) m)))
-      (changed l j (job_after (Walks asked stage) m end) (places_after l (Walks asked stage) m)) doings'
+  after_call : WorkersStand b' (world_of files (history_after history (Walks asked stage) m) (changed l j (job_after (Walks asked stage) m end) seen_after_step (places_after l (Walks asked stage) m)))
+      (changed l j (job_after (Walks asked stage) m end) seen_after_step (places_after l (Walks asked stage) m)) doings'
   unfolding Placed
   after_call =
       let job : Job = job_after (Walks asked stage) m end in
       let places : List Place = places_after l (Walks asked stage) m in
       let stands : JobStands b.stripes (record_of j b') doing job =
       job_stands b.stripes calling.begun calling.made made.step m (record_of j b) (record_of j b') calling.steps made.steps made.told calling.free stage calling.stage_is asked s doing end allowed leaves in
-      job_changed b b' (world_of files history l) (world_of files (history_after history (Walks asked stage) m) (changed l j job places)) l doings doings' j doing job places stand worker
+      job_changed b b' (world_of files history l) (world_of files (history_after history (Walks asked stage) m) (changed l j job seen_after_step places)) l doings doings' j doing job seen_after_step places stand worker
       made.moved.stripes made.moved.passes effects.keeper made.moved.others goes
       (subst (λ n. JobStands n (record_of j b') doing job) (sym made.moved.stripes) stands)
-      (words_moved b b' files history (history_after history (Walks asked stage) m) grew_so.more l j job places stand.words made.one made.apart made.moved.opening made.moved.stripes effects grew_so.book grew_so.world)
-      placed_so
+      (words_moved b b' files history (history_after history (Walks asked stage) m) grew_so.more l j job seen_after_step places stand.words made.one made.apart made.moved.opening made.moved.stripes effects grew_so.book grew_so.world)
+      sees placed_so
 
   call_goes_on : (found : Opened) → KeepsStanding (world_of files history l) found (event.Step j) (outcome.Stepped m end) b' doings'
   unfolding after
   call_goes_on found = record {
     meets = fitting (world_of files history l) found (event.Step j) (outcome.Stepped m end) (rw (is_one j worker, job_is) refl) meets_case;
     answers = subst (λ x. ReleasesLegal history (move_of x m end)) (sym job_is) (nothing_released history asked stage m end);
-    stand = subst (λ x. WorkersStand b' (world_of files (history_after history x m) (changed l j (job_after x m end) (places_after l x m))) (changed l j (job_after x m end) (places_after l x m)) doings') (sym job_is) after_call;
+    stand = subst (λ x. WorkersStand b' (world_of files (history_after history x m) (changed l j (job_after x m end) seen_after_step (places_after l x m)))
+        (changed l j (job_after x m end) seen_after_step (places_after l x m)) doings') (sym job_is) after_call;
   }
 
 pub call_steps : CallSteps

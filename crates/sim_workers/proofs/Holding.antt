@@ -14,8 +14,9 @@ use Rattle.one_history.specs.Moves.{IsFree, IsHeldByAnother}
 use Rattle.sim_rules.specs.World.{World, Life, Job, Idle, Walks, Keeps, Releasing, Stage, Asking, any_holds, has_stripe, is_held, job_holds, job_of, keeper_holds, stripe_asked}
 use Rattle.sim_workers.specs.Doings.{Doing, Rests, Calls, Waits, Releases, IsCalling, IsReleasing, JobStands, stage_from, stage_of}
 use Rattle.sim_workers.specs.Laws.{FreeIsTold, HeldIsTold}
+use Rattle.sim_workers.specs.WordsInWorld.{drawn_at}
 use Rattle.sim_workers.specs.Workers.{WorkersStand}
-use Rattle.sim_workers.proofs.Ways.{Way, Starts, HasStripe, Lives, FindsNone, Sees, Draws, GoesBy, call_goes, steps_on, stripe_on}
+use Rattle.sim_workers.proofs.Ways.{Way, Starts, HasStripe, Lives, FindsNone, Sees, Draws, GoesBy, Knows, call_goes, steps_on, stripe_on}
 use Rattle.sim_workers.proofs.Asks as asks
 
 -- ---- one job
@@ -51,6 +52,21 @@ pub stage_by : (n : ℕ) (p : Record) (walk : Walk) (asked : Asked) (stage : Sta
 stage_by n p walk asked stage calling =
     let by : GoesBy n calling.begun asked p = way_of n p walk asked stage calling in
     calling.stage_is ∙ ap stage_of (append_cancel_left calling.begun.steps calling.made (steps_on (stripe_asked n asked) by.way) (sym calling.steps ∙ by.steps))
+
+callless : (i : ℕ) (begun p : Record) (asked : Asked) (way : Way) → Knows begun asked way p → drawn_at (stage_of (steps_on i way)) ≡ None → p.calls ≡ begun.calls
+unfolding stage_from
+callless i begun p asked Starts knows none = knows
+callless i begun p asked (HasStripe es) knows none = knows
+callless i begun p asked (Lives es) knows none = knows
+callless i begun p asked (FindsNone es) knows none = knows
+callless i begun p asked (Sees es q) knows none = knows.1
+callless i begun p asked (Draws es q t) knows none = absurd cc
+
+-- before its TICKET the walk made no call
+pub calls_since : (n : ℕ) (p : Record) (walk : Walk) (asked : Asked) (stage : Stage) (calling : IsCalling n p walk asked stage) → drawn_at stage ≡ None → p.calls ≡ calling.begun.calls
+calls_since n p walk asked stage calling none =
+    let by : GoesBy n calling.begun asked p = way_of n p walk asked stage calling in
+    callless (stripe_asked n asked) calling.begun p asked by.way by.knows (sym (ap drawn_at (stage_by n p walk asked stage calling)) ∙ none)
 
 -- a release holds no stripe
 pub release_free : (n : ℕ) (p : Record) (walk : Walk) (asked : Asked) (position : ℕ) (asking : Asking) → IsReleasing n p walk asked position asking → p.holding ≡ None

@@ -12,4 +12,8 @@ pub mod Calling
 pub mod Replying
 pub mod Leaving
 pub mod Starting
+pub mod Drawn
+pub mod Rising
+pub mod Outboxes
+pub mod Seen
 pub mod Sweeping

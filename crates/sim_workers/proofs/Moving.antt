@@ -1,5 +1,6 @@
 -- What a step of a worker leaves of the words.
-use Rattle.std.proofs.Common.{ℕ, ◌≡◌, ◌+◌, ◌<◌, List, [], ◌∷◌, ◌++◌, Some, None, false, length, arith, sym, ◌∙◌, ap, subst, append-nil, append_assoc, length-append}
+use Rattle.std.proofs.Common.{ℕ, ◌≡◌, ◌+◌, ◌<◌, List, [], ◌∷◌, ◌++◌, Some, None, false, length, drop, arith, sym, ◌∙◌, ap, subst, append-nil, append_assoc, length-append}
+use Rattle.std.proofs.Math.Seq.{drop-append_seam}
 use Rattle.std.proofs.lemmas.Bool.{ne_eqb}
 use Rattle.map_types.specs.declared.commands.Command.{Command}
 use Rattle.disk_model.specs.Files.{Files}
@@ -75,10 +76,10 @@ pub effects_kept : (b b' : Book) (w : World) (l : Life) (doings : ℕ → Doing)
 effects_kept b b' w l doings j m stand worker made = effects_by made.step m b b' j made.told made.moved made.one stand.passes stand.keeper worker
 
 -- the words stand as they should, with a history that grew by these commands
-pub words_moved : (b b' : Book) (files : Files) (history history' more : List Command) (l : Life) (j : ℕ) (job : Job) (places : List Place) → WordsStand b (world_of files history l) l → IsOneHistory b' → HoldApart b'
+pub words_moved : (b b' : Book) (files : Files) (history history' more : List Command) (l : Life) (j : ℕ) (job : Job) (seen : List ℕ) (places : List Place) → WordsStand b (world_of files history l) l → IsOneHistory b' → HoldApart b'
     → b'.opening ≡ b.opening → b'.stripes ≡ b.stripes → KeepsEffects b b' → b'.history ≡ b.history ++ more → history' ≡ history ++ more
-    → WordsStand b' (world_of files history' (changed l j job places)) (changed l j job places)
-words_moved b b' files history history' more l j job places words one apart opening stripes effects grew grows = record {
+    → WordsStand b' (world_of files history' (changed l j job seen places)) (changed l j job seen places)
+words_moved b b' files history history' more l j job seen places words one apart opening stripes effects grew grows = record {
   one = one;
   apart = apart;
   stripes = words.stripes ∙ sym stripes;
@@ -94,3 +95,9 @@ words_moved b b' files history history' more l j job places words one apart open
 -- how many commands the world has
 pub counted : (b : Book) (w : World) (l : Life) → WordsStand b w l → length w.history ≡ b.opening.first + length b.history
 counted b w l words = omega (arith, ap length words.history, length-append words.before b.history, words.count)
+
+-- those since the opening are the book's
+pub all_commands : (b : Book) (w : World) (l : Life) → WordsStand b w l → drop l.first w.history ≡ b.history
+all_commands b w l words =
+    let at : l.first ≡ length words.before = words.first ∙ sym words.count in
+    ap (λ k. drop k w.history) at ∙ (ap (drop (length words.before)) words.history ∙ drop-append_seam words.before b.history)

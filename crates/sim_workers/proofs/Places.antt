@@ -5,6 +5,8 @@ use Rattle.std.proofs.Math.ListN.{get_or-append, length-set}
 use Rattle.std.proofs.Math.Seq.{get_or-append_seam}
 use Rattle.std.proofs.lemmas.Bool.{cases_eq}
 use Rattle.std.proofs.lemmas.List.{get_or-set_same, get_or-set_other}
+use Rattle.map_types.specs.declared.commands.Command.{Command}
+use Rattle.ticket_order.proofs.Entries.{grown}
 use Rattle.one_history.specs.declared.book.Book.{Book}
 use Rattle.sim_rules.specs.World.{Life, Job, Idle, Place, WithWorker, InOutbox, InHand, job_of, place_of}
 use Rattle.sim_workers.specs.WordsInWorld.{IsDrawn, IsOfLife, IsTaken, PlacesStand, drawn_by}
@@ -27,11 +29,11 @@ same_ticket : (t u : ℕ) → Some t ≡ Some u → t ≡ u
 same_ticket t u e = cc
 
 -- the job of worker j changes
-module _ (l : Life) (j : ℕ) (job : Job) (places : List Place) (within : j < length l.jobs) where
-  drawn_here : drawn_by (job_of (changed l j job places) j) ≡ drawn_by job
+module _ (l : Life) (j : ℕ) (job : Job) (seen : List ℕ) (places : List Place) (within : j < length l.jobs) where
+  drawn_here : drawn_by (job_of (changed l j job seen places) j) ≡ drawn_by job
   drawn_here = ap drawn_by (get_or-set_same l.jobs j job Idle within)
 
-  drawn_there : (i : ℕ) → i ≢ j → drawn_by (job_of (changed l j job places) i) ≡ drawn_by (job_of l i)
+  drawn_there : (i : ℕ) → i ≢ j → drawn_by (job_of (changed l j job seen places) i) ≡ drawn_by (job_of l i)
   drawn_there i ne = ap drawn_by (get_or-set_other l.jobs j i job Idle ne)
 
 -- a taken entry is one still, where the sweeps took nothing more
@@ -39,10 +41,13 @@ still_taken : (b b' : Book) (t : ℕ) → b'.effects.taken ≡ b.effects.taken �
 still_taken b b' t taken is = (is.0, rw taken is.1, is.2)
 
 -- the worker drew the ticket that is the next
-module _ (b b' : Book) (l : Life) (j t : ℕ) (job : Job) (stand : PlacesStand b l) (within : j < length l.jobs) (first : l.first ≡ b.opening.first) (begins : b'.opening.first ≡ b.opening.first)
-    (many : length b'.history ≡ length b.history + 1) (taken : b'.effects.taken ≡ b.effects.taken) (next : t ≡ b.opening.first + length b.history) (before : drawn_by (job_of l j) ≡ None) (now : drawn_by job ≡ Some t) where
+module _ (b b' : Book) (l : Life) (j t : ℕ) (job : Job) (seen : List ℕ) (stand : PlacesStand b l) (within : j < length l.jobs) (first : l.first ≡ b.opening.first) (begins : b'.opening.first ≡ b.opening.first)
+    (command : Command) (history : b'.history ≡ b.history ++ command ∷ []) (taken : b'.effects.taken ≡ b.effects.taken) (next : t ≡ b.opening.first + length b.history) (before : drawn_by (job_of l j) ≡ None) (now : drawn_by job ≡ Some t) where
   abbrev drew : Life
-  drew = changed l j job (l.places ++ WithWorker ∷ [])
+  drew = changed l j job seen (l.places ++ WithWorker ∷ [])
+
+  many : length b'.history ≡ length b.history + 1
+  many = ap length history ∙ length-append b.history (command ∷ [])
 
   drew_of_life : (u : ℕ) → IsOfLife b' u → u ≢ t → IsOfLife b u
   drew_of_life u is ne = (omega (arith, is.0, begins), omega (arith, is.1, begins, many, next, ne))
@@ -54,10 +59,10 @@ module _ (b b' : Book) (l : Life) (j t : ℕ) (job : Job) (stand : PlacesStand b
   drew_next = (omega (arith, next, begins), omega (arith, next, begins, many))
 
   drew_here : drawn_by (job_of drew j) ≡ Some t
-  drew_here = drawn_here l j job (l.places ++ WithWorker ∷ []) within ∙ now
+  drew_here = drawn_here l j job seen (l.places ++ WithWorker ∷ []) within ∙ now
 
   drew_there : (i : ℕ) → i ≢ j → drawn_by (job_of drew i) ≡ drawn_by (job_of l i)
-  drew_there i ne = drawn_there l j job (l.places ++ WithWorker ∷ []) within i ne
+  drew_there i ne = drawn_there l j job seen (l.places ++ WithWorker ∷ []) within i ne
 
   -- a ticket that a worker has drawn is that one, or was drawn before by the same
   drew_or : (i u : ℕ) → drawn_by (job_of drew i) ≡ Some u → ((i ≡ j) × (u ≡ t)) ⊎ ((i ≢ j) × (drawn_by (job_of l i) ≡ Some u))
@@ -133,6 +138,7 @@ module _ (b b' : Book) (l : Life) (j t : ℕ) (job : Job) (stand : PlacesStand b
     drawn = drew_drawn;
     drawn_once = drew_once;
     taken = λ u is. drew_still u (stand.taken u (still_taken b' b u (sym taken) is));
+    entries = λ e has. rw (begins, history) (grown b.opening.first b.history (command ∷ []) e (stand.entries e (rw (sym taken) has)));
     with_worker = λ u is. elim (cases_eq u t) [
       | inl e ↦ subst (λ k. (place_of drew k ≡ WithWorker) ↔ IsDrawn drew k) (sym e) drew_with_next
       | inr ne ↦ drew_with u (drew_of_life u is ne)
@@ -144,25 +150,25 @@ module _ (b b' : Book) (l : Life) (j t : ℕ) (job : Job) (stand : PlacesStand b
   }
 
 -- the worker gave back the stripe of the ticket that it had drawn
-module _ (b b' : Book) (l : Life) (j t : ℕ) (job : Job) (stand : PlacesStand b l) (within : j < length l.jobs) (first : l.first ≡ b.opening.first) (begins : b'.opening.first ≡ b.opening.first)
-    (many : length b'.history ≡ length b.history) (taken : b'.effects.taken ≡ b.effects.taken) (before : drawn_by (job_of l j) ≡ Some t) (now : drawn_by job ≡ None) where
+module _ (b b' : Book) (l : Life) (j t : ℕ) (job : Job) (seen : List ℕ) (stand : PlacesStand b l) (within : j < length l.jobs) (first : l.first ≡ b.opening.first) (begins : b'.opening.first ≡ b.opening.first)
+    (history : b'.history ≡ b.history) (taken : b'.effects.taken ≡ b.effects.taken) (before : drawn_by (job_of l j) ≡ Some t) (now : drawn_by job ≡ None) where
   abbrev gave : Life
-  gave = changed l j job (slice_set l.places (t - l.first) InOutbox)
+  gave = changed l j job seen (slice_set l.places (t - l.first) InOutbox)
 
   gave_of_life : (u : ℕ) → IsOfLife b' u → IsOfLife b u
-  gave_of_life u is = (omega (arith, is.0, begins), omega (arith, is.1, begins, many))
+  gave_of_life u is = (omega (arith, is.0, begins), omega (arith, is.1, begins, ap length history))
 
   gave_still : (u : ℕ) → IsOfLife b u → IsOfLife b' u
-  gave_still u is = (omega (arith, is.0, begins), omega (arith, is.1, begins, many))
+  gave_still u is = (omega (arith, is.0, begins), omega (arith, is.1, begins, ap length history))
 
   gave_own : IsOfLife b t
   gave_own = stand.drawn t (j, before)
 
   gave_here : drawn_by (job_of gave j) ≡ None
-  gave_here = drawn_here l j job (slice_set l.places (t - l.first) InOutbox) within ∙ now
+  gave_here = drawn_here l j job seen (slice_set l.places (t - l.first) InOutbox) within ∙ now
 
   gave_there : (i : ℕ) → i ≢ j → drawn_by (job_of gave i) ≡ drawn_by (job_of l i)
-  gave_there i ne = drawn_there l j job (slice_set l.places (t - l.first) InOutbox) within i ne
+  gave_there i ne = drawn_there l j job seen (slice_set l.places (t - l.first) InOutbox) within i ne
 
   -- a ticket that a worker has drawn was drawn before, by another worker than that
   gave_other : (i u : ℕ) → drawn_by (job_of gave i) ≡ Some u → i ≢ j
@@ -206,10 +212,11 @@ module _ (b b' : Book) (l : Life) (j t : ℕ) (job : Job) (stand : PlacesStand b
 
   pub places_given : PlacesStand b' gave
   places_given = record {
-    count = length-set l.places (t - l.first) InOutbox ∙ (stand.count ∙ sym many);
+    count = length-set l.places (t - l.first) InOutbox ∙ (stand.count ∙ sym (ap length history));
     drawn = λ u is. gave_still u (stand.drawn u (is.0, gave_was is.0 u is.1));
     drawn_once = λ i k u x y. stand.drawn_once i k u (gave_was i u x) (gave_was k u y);
     taken = λ u is. gave_still u (stand.taken u (still_taken b' b u (sym taken) is));
+    entries = λ e has. rw (begins, history) (stand.entries e (rw (sym taken) has));
     with_worker = λ u is. elim (cases_eq u t) [
       | inl e ↦ subst (λ k. (place_of gave k ≡ WithWorker) ↔ IsDrawn gave k) (sym e) gave_with_own
       | inr ne ↦ gave_with u (gave_of_life u is) ne

@@ -1,6 +1,6 @@
 -- A worker's release makes a step.
-use Rattle.std.proofs.Common.{ℕ, ◌≡◌, ◌<◌, ◌≤◌, ◌⊎◌, List, [], ◌∷◌, ◌++◌, Some, None, true, false, length, refl, arith, sym, ◌∙◌, ap, subst, append-nil, inl, inr}
-use Rattle.std.specs.Prelude.{not}
+use Rattle.std.proofs.Common.{ℕ, ◌≡◌, ◌<◌, ◌≤◌, ◌⊎◌, List, [], ◌∷◌, ◌++◌, Some, None, true, false, refl, arith, sym, ◌∙◌, ap, subst, append-nil, inl, inr}
+use Rattle.std.specs.Prelude.{not, slice_set}
 use Rattle.std.specs.List.{Contains}
 use Rattle.map_types.specs.declared.commands.Command.{Command}
 use Rattle.map_types.specs.declared.commands.Reply.{Reply}
@@ -16,13 +16,13 @@ use Rattle.ticket_order.specs.declared.record.Record.{Record}
 use Rattle.ticket_order.specs.declared.walk.Walk.{Walk}
 use Rattle.ticket_order.specs.declared.walk.Stepped.{Stepped}
 use Rattle.ticket_order.specs.declared.walk.Stepped.TheVariants as stepped
-use Rattle.ticket_order.specs.Records.{call}
+use Rattle.ticket_order.specs.Records.{call, reach}
 use Rattle.ticket_order.specs.Calls.{Misses, MissesAlive, Reaches, Releases, SeesAgain}
 use Rattle.ticket_order.specs.Walks.{ToRelease, Next}
 use Rattle.ticket_order.specs.Legality.{IsLegalCall}
 use Rattle.one_history.specs.declared.book.Book.{Book}
 use Rattle.one_history.specs.Turns.{record_of}
-use Rattle.one_history.specs.Moves.{WordsMove}
+use Rattle.one_history.specs.Moves.{Raises, WordsMove}
 use Rattle.sim_rules.specs.declared.event.Event.TheVariants as event
 use Rattle.sim_rules.specs.declared.outcome.End.{End}
 use Rattle.sim_rules.specs.declared.outcome.End.TheVariants as ends
@@ -30,8 +30,8 @@ use Rattle.sim_rules.specs.declared.outcome.Made.{Made}
 use Rattle.sim_rules.specs.declared.outcome.Made.TheVariants as told
 use Rattle.sim_rules.specs.declared.outcome.Outcome.TheVariants as outcome
 use Rattle.sim_rules.specs.Machine.{whole}
-use Rattle.sim_rules.specs.World.{Life, Job, Idle, Walks, Keeps, Releasing, Asking, FirstSees, job_of}
-use Rattle.sim_rules.specs.After.{after, asking_after, history_after, job_after, places_after}
+use Rattle.sim_rules.specs.World.{World, Life, Job, Idle, Walks, Keeps, Releasing, Asking, FirstSees, job_of, seen_by}
+use Rattle.sim_rules.specs.After.{after, asking_after, history_after, job_after, places_after, seen_after}
 use Rattle.sim_rules.specs.Cases.{StepsJob, StepsRelease}
 use Rattle.sim_rules.specs.Runs.{move_of}
 use Rattle.sim_rules.specs.Sound.{ReleasesLegal}
@@ -43,9 +43,10 @@ use Rattle.sim_workers.specs.Workers.{IsNowDoing, MakesStep, StepsWalk, WorkersS
 use Rattle.sim_workers.specs.Laws.{KeepsStanding, ReleaseSteps}
 use Rattle.sim_workers.proofs.Lists.{ends_same, never_empty, onto, same_rest}
 use Rattle.sim_workers.proofs.Asks.{Way, Starts, Missed, Asked as AskedAlive, SawAgain, GoesBy, IsOpen, StandsBy, missed_alive, release_goes, saw, saw_again, steps_of}
-use Rattle.sim_workers.proofs.WorkersInWorld.{changed, each_job, fitting, in_life, is_one, job_changed, places_kept, world_of}
+use Rattle.sim_workers.proofs.WorkersInWorld.{SeenStand, changed, each_job, fitting, in_life, is_one, job_changed, places_kept, seen_set, world_of}
 use Rattle.sim_workers.proofs.Legal.{legal_in_world}
 use Rattle.sim_workers.proofs.Moving.{KeepsEffects, effects_kept, words_moved}
+use Rattle.sim_workers.proofs.Seen.{same_seen, saw_seen}
 
 -- A step of a release: from where it was made, what it was, and how the release went on or ended.
 data Turn : Type 0 where
@@ -177,6 +178,15 @@ same_history b b' j (FindsDead d) words = words.0.same.history
 same_history b b' j (IsBelowAgain d e) words = words.0.same.history
 same_history b b' j (ReachedAgain d e y) words = words.0.same.history
 
+seen_so : (b b' : Book) (w : World) (l : Life) (doings : ℕ → Doing) (stand : WorkersStand b w l doings) (j : ℕ) (worker : j < 64) (position : ℕ) (turn : Turn) → Raises j (step_of turn) b b'
+    → seen_after w l (seen_by l j) (told_by turn) (end_of position turn) ≡ reach (record_of j b')
+seen_so b b' w l doings stand j worker position (IsBelow d) raises = saw_seen b b' w l doings stand j worker d raises
+seen_so b b' w l doings stand j worker position (Reached d y) raises = saw_seen b b' w l doings stand j worker d raises
+seen_so b b' w l doings stand j worker position (FindsAlive d) raises = same_seen b b' w l doings stand j worker raises
+seen_so b b' w l doings stand j worker position (FindsDead d) raises = same_seen b b' w l doings stand j worker raises
+seen_so b b' w l doings stand j worker position (IsBelowAgain d e) raises = saw_seen b b' w l doings stand j worker e raises
+seen_so b b' w l doings stand j worker position (ReachedAgain d e y) raises = saw_seen b b' w l doings stand j worker e raises
+
 told_as : (turn : Turn) → told_of (step_of turn) ≡ Some (told_by turn)
 told_as (IsBelow d) = refl
 told_as (Reached d y) = refl
@@ -277,7 +287,19 @@ module _ (b b' : Book) (files : Files) (history : List Command) (l : Life) (doin
   words_move : WordsMove j (step_of turned.turn) b b'
   words_move = subst (λ x. WordsMove j x b b') turned.step_is made.moved.words
 
-  meets_case : StepsJob (world_of files history l) l (job_of l j) m end
+  abbrev seen_after_step : List ℕ
+  seen_after_step = slice_set l.seen j (seen_after (world_of files history l) l (seen_by l j) m end)
+
+  sees : SeenStand b' seen_after_step
+  sees =
+      let own : seen_after (world_of files history l) l (seen_by l j) (told_by turned.turn) (end_of position turned.turn) ≡ reach (record_of j b') =
+      seen_so b b' (world_of files history l) l doings stand j worker position turned.turn (subst (λ x. Raises j x b b') turned.step_is made.moved.raises) in
+      let at : seen_after (world_of files history l) l (seen_by l j) m end ≡ reach (record_of j b') =
+      subst (λ x. seen_after (world_of files history l) l (seen_by l j) x end ≡ reach (record_of j b')) (sym told_is)
+      (subst (λ x. seen_after (world_of files history l) l (seen_by l j) (told_by turned.turn) x ≡ reach (record_of j b')) (sym turned.end_is) own) in
+      seen_set b b' (world_of files history l) l doings j (seen_after (world_of files history l) l (seen_by l j) m end) stand worker made.moved.others at
+
+  meets_case : StepsJob (world_of files history l) l j (job_of l j) m end
   meets_case =
       let own : StepsRelease l position (asking_of (steps_of (before turned.turn))) (told_by turned.turn) (end_of position turned.turn) =
       step_meets b b' l j position turned.turn stand.words.durable stand.words.has_failed words_move turned.tells in
@@ -285,7 +307,7 @@ module _ (b b' : Book) (files : Files) (history : List Command) (l : Life) (doin
       subst (λ x. StepsRelease l position x m end) (sym asking_is)
       (subst (λ x. StepsRelease l position (asking_of (steps_of (before turned.turn))) x end) (sym told_is)
       (subst (λ x. StepsRelease l position (asking_of (steps_of (before turned.turn))) (told_by turned.turn) x) (sym turned.end_is) own)) in
-      subst (λ x. StepsJob (world_of files history l) l x m end) (sym job_is) at
+      subst (λ x. StepsJob (world_of files history l) l j x m end) (sym job_is) at
 
   effects : KeepsEffects b b'
   effects = effects_kept b b' (world_of files history l) l doings j m stand worker made
@@ -293,17 +315,19 @@ module _ (b b' : Book) (files : Files) (history : List Command) (l : Life) (doin
   same_books : b'.history ≡ b.history
   same_books = same_history b b' j turned.turn words_move
 
-  after_release : WorkersStand b' (world_of files history (changed l j (job_after (Releasing asked position asking) m end) l.places)) (changed l j (job_after (Releasing asked position asking) m end) l.places) doings'
+  after_release : WorkersStand b' (world_of files history (changed l j (job_after (Releasing asked position asking) m end) seen_after_step l.places))
+      (changed l j (job_after (Releasing asked position asking) m end) seen_after_step l.places) doings'
   after_release =
       let job : Job = job_after (Releasing asked position asking) m end in
       let none : drawn_by job ≡ drawn_by (job_of l j) = undrawn asked position asking m end ∙ sym (ap drawn_by job_is) in
       let stands : JobStands b.stripes (record_of j b') doing job =
       job_stands b.stripes (record_of j b) (record_of j b') walk asked position asking r made.step m made.steps made.told turned.holding turned.calls s doing end allowed leaves in
-      job_changed b b' (world_of files history l) (world_of files history (changed l j job l.places)) l doings doings' j doing job l.places stand worker
+      job_changed b b' (world_of files history l) (world_of files history (changed l j job seen_after_step l.places)) l doings doings' j doing job seen_after_step l.places stand worker
       made.moved.stripes made.moved.passes effects.keeper made.moved.others goes
       (subst (λ n. JobStands n (record_of j b') doing job) (sym made.moved.stripes) stands)
-      (words_moved b b' files history history [] l j job l.places stand.words made.one made.apart made.moved.opening made.moved.stripes effects (same_books ∙ sym (append-nil b.history)) (sym (append-nil history)))
-      (places_kept b b' l (changed l j job l.places) (ap (λ o. o.first) made.moved.opening) (ap length same_books) effects.taken refl refl
+      (words_moved b b' files history history [] l j job seen_after_step l.places stand.words made.one made.apart made.moved.opening made.moved.stripes effects (same_books ∙ sym (append-nil b.history)) (sym (append-nil history)))
+      sees
+      (places_kept b b' l (changed l j job seen_after_step l.places) (ap (λ o. o.first) made.moved.opening) same_books effects.taken refl refl
       (each_job (λ i x. drawn_by x ≡ drawn_by (job_of l i)) l.jobs j job (omega (arith, worker, stand.jobs)) none (λ i ne. refl)) stand.places)
 
   legal_reply : IsLegalCall (whole history) (call position asked r.reply)
@@ -318,7 +342,8 @@ module _ (b b' : Book) (files : Files) (history : List Command) (l : Life) (doin
     meets = fitting (world_of files history l) found (event.Step j) (outcome.Stepped m end) (rw (is_one j worker, job_is) refl) meets_case;
     answers = subst (λ x. ReleasesLegal history (move_of x m end)) (sym job_is)
         (legal_step history b.stripes position r.reply r.begun (record_of j b') asked asking m s doing end allowed leaves legal_reply);
-    stand = subst (λ x. WorkersStand b' (world_of files (history_after history x m) (changed l j (job_after x m end) (places_after l x m))) (changed l j (job_after x m end) (places_after l x m)) doings') (sym job_is) after_release;
+    stand = subst (λ x. WorkersStand b' (world_of files (history_after history x m) (changed l j (job_after x m end) seen_after_step (places_after l x m)))
+        (changed l j (job_after x m end) seen_after_step (places_after l x m)) doings') (sym job_is) after_release;
   }
 
 pub release_steps : ReleaseSteps

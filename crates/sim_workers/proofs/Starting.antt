@@ -11,7 +11,7 @@ use Rattle.atomic_methods.specs.PartState.{PartState}
 use Rattle.disk_model.specs.Files.{Files}
 use Rattle.store_layout.specs.Opening.{Opened, prefix_of}
 use Rattle.ticket_order.specs.declared.record.Record.{Record}
-use Rattle.ticket_order.specs.Records.{enrolling, keeper_at_start, newcomer}
+use Rattle.ticket_order.specs.Records.{enrolling, keeper_at_start, newcomer, reach}
 use Rattle.one_history.specs.declared.book.Book.{Book}
 use Rattle.one_history.specs.Turns.{at_start, maps_of, opening_of, record_of}
 use Rattle.one_history.specs.OneHistory.{HoldApart, HoldsStripe, IsOneHistory}
@@ -29,6 +29,9 @@ idle_at j = elim (cases_lt j 64) [
   | inr l ↦ get_or-eq_default (replicate 64 Idle) Idle {n = j} (omega (arith, l))
 ]
 
+seen_at : (first j : ℕ) → j < 64 → slice_index_or (replicate 64 first) j 0 ≡ first
+seen_at first j l = get_or-replicate 64 j first 0 l
+
 undrawn : (j t : ℕ) → drawn_by (slice_index_or (replicate 64 Idle) j Idle) ≡ Some t → ⊥
 undrawn j t is = let no : None ≡ Some t = sym (ap drawn_by (idle_at j)) ∙ is in cc
 
@@ -45,6 +48,9 @@ module _ (first : ℕ) (parts : List PartState) where
       let within : j < length (replicate 64 newest) = omega (arith, l) in
       get_or-append (replicate 64 newest) (enrolling (keeper_at_start (opening_of first parts)) 65 ∷ []) (newcomer (opening_of first parts)) j within
       ∙ get_or-replicate 64 j newest (newcomer (opening_of first parts)) l
+
+  worker_sees : (j : ℕ) → j < 64 → reach (record_of j book) ≡ first
+  worker_sees j l = omega (arith, ap reach (worker_is j l))
 
   worker_free : (j : ℕ) → j < 64 → (record_of j book).holding ≡ None
   worker_free j l = ap (λ (r : Record). r.holding) (worker_is j l)
@@ -93,6 +99,7 @@ module _ (first : ℕ) (parts : List PartState) where
       drawn = λ t is. absurd (none_drawn t is);
       drawn_once = λ i j t x y. absurd (drawn_by_none i t x);
       taken = λ t is. absurd (none_taken t is);
+      entries = λ e has. absurd (omega (arith, has.1));
       with_worker = λ t is. absurd (none_of_life t is);
       in_hand = λ t is. absurd (none_of_life t is);
     }
@@ -105,6 +112,8 @@ module _ (first : ℕ) (parts : List PartState) where
       keeper = refl;
       jobs = refl;
       each = λ j l. rw (rest j l, idle_at j) (worker_free j l);
+      seen_count = refl;
+      seen = λ j l. seen_at (prefix_of found) j l ∙ (sym same ∙ sym (worker_sees j l));
       places = places_begin;
       held = λ i. (λ no. absurd cc, λ holds. absurd (keeper_free i holds));
     }

@@ -1,77 +1,32 @@
 -- What the keeper does, and a sweep's GIVE.
-use Rattle.std.proofs.Common.{ℕ, zero, suc, ◌≡◌, ◌+◌, ◌-◌, ◌<◌, ◌⊎◌, List, [], ◌∷◌, ◌++◌, Option, Some, None, Bool, true, false, length, drop, refl, arith, sym, ◌∙◌, ap, subst, inl, inr}
+use Rattle.std.proofs.Common.{ℕ, zero, suc, ◌≡◌, ◌-◌, ◌<◌, ◌⊎◌, List, [], ◌∷◌, ◌++◌, Option, Some, None, Bool, true, false, length, drop, refl, arith, sym, ◌∙◌, ap, subst, inl, inr}
 use Rattle.std.specs.Prelude.{if◌then◌else◌, slice_index_or}
 use Rattle.std.specs.List.{Contains}
-use Rattle.std.proofs.Math.ListN.{get_or-eq_default}
-use Rattle.std.proofs.Math.Seq.{drop-append_seam}
-use Rattle.std.proofs.lemmas.Bool.{cases_lt, eq-eqb, eqb-true}
-use Rattle.std.proofs.lemmas.List.Elements.{All-contains, Contains-append_cases, Contains-append_left, Contains-append_right, Contains-push, filter_passes}
-use Rattle.std.proofs.lemmas.Option.{get_or_from_slice_get}
-use Rattle.java_hash.specs.Stripes.{stripe_of}
+use Rattle.std.proofs.lemmas.Bool.{eq-eqb}
+use Rattle.std.proofs.lemmas.List.Elements.{Contains-append_cases, Contains-append_left, Contains-append_right}
 use Rattle.map_types.specs.declared.commands.Command.{Command}
-use Rattle.map_types.specs.declared.commands.Reply.{Reply}
 use Rattle.map_model.specs.Parts.{is_in_stripe}
-use Rattle.map_model.specs.Histories.{IsLegalChange}
-use Rattle.ticket_order.proofs.Entries.{IsAt, at_ticket, filtered, found, passes}
+use Rattle.ticket_order.proofs.Entries.{IsAt, at_ticket, found}
 use Rattle.ticket_order.specs.declared.stripe.Entry.{Entry}
-use Rattle.ticket_order.specs.declared.record.Asked.{Asked}
-use Rattle.ticket_order.specs.declared.record.Asked.TheVariants.{Changing}
-use Rattle.ticket_order.specs.declared.record.Record.{Record}
 use Rattle.ticket_order.specs.declared.record.StepMade.{StepMade}
 use Rattle.ticket_order.specs.declared.record.StepMade.TheVariants.{Took, FoundHeld, Gave, Drew, Looked, Published, Saw, Failed, FoundAlive}
-use Rattle.ticket_order.specs.Records.{call, entry}
-use Rattle.ticket_order.specs.Legality.{entries_from, entries_of, history_from}
+use Rattle.ticket_order.specs.Records.{entry, reach}
+use Rattle.ticket_order.specs.Legality.{entries_from, entries_of}
 use Rattle.one_history.specs.declared.book.Book.{Book}
 use Rattle.one_history.specs.declared.book.KeeperEffects.{KeeperEffects}
 use Rattle.one_history.specs.Turns.{record_of}
 use Rattle.one_history.specs.OneHistory.{HasDone, Holds, HoldsStripe, IsOneHistory, Knows, stripe_in}
-use Rattle.one_history.specs.Moves.{WordsMove}
-use Rattle.sim_rules.specs.World.{World, Life, Job, Idle, Walks, Keeps, Releasing, Place, WithWorker, InOutbox, InHand, job_of, place_of, stripe_asked}
+use Rattle.one_history.specs.Moves.{IsOutbox, WordsMove}
+use Rattle.sim_rules.specs.World.{World, Life, Idle, Place, WithWorker, InOutbox, InHand, job_of, place_of}
 use Rattle.sim_rules.specs.After.{swept_places}
-use Rattle.sim_workers.specs.Doings.{Doing, Rests, Calls, Waits, Releases, JobStands, stage_from, stage_of}
-use Rattle.sim_workers.specs.WordsInWorld.{IsDrawn, IsOfLife, IsTaken, PlacesStand, WordsStand, drawn_at, drawn_by}
+use Rattle.sim_workers.specs.Doings.{Doing}
+use Rattle.sim_workers.specs.WordsInWorld.{IsDrawn, IsOfLife, IsTaken, PlacesStand, WordsStand, drawn_by}
 use Rattle.sim_workers.specs.Workers.{DrawsNone, Gathers, KeeperMoves, Swept, WorkersStand}
 use Rattle.sim_workers.specs.Laws.{KeeperRests, KeeperSteps}
-use Rattle.sim_workers.proofs.Ways.{Way, Starts, HasStripe, Lives, FindsNone, Sees, Draws, GoesBy, Knows as KnowsWay, steps_on, stripe_on}
-use Rattle.sim_workers.proofs.Holding.{stage_by, way_of}
-use Rattle.sim_workers.proofs.Legal.{legal_in_book}
+use Rattle.sim_workers.proofs.Drawn.{drawn_holder}
+use Rattle.sim_workers.proofs.Moving.{all_commands}
+use Rattle.sim_workers.proofs.Outboxes.{at_of_outbox, boxed_or_taken, of_outbox, own_of_outbox}
 use Rattle.sim_workers.proofs.WorkersInWorld.{places_kept}
-
--- ---- a worker that has drawn a ticket
-
--- the pass holds the stripe of the change with this ticket
-record HoldsTicket (n t : ℕ) (p : Record) : Type 0 where
-  command : Command
-  reply : Reply
-  holds : stripe_in p.holding ≡ Some (stripe_of n command.key)
-  call_is : Contains p.calls (call (t + 1) (Changing command) reply)
-
-drawn_way : (n i t : ℕ) (p : Record) (asked : Asked) (way : Way) → i ≡ stripe_asked n asked → stripe_in p.holding ≡ stripe_on i way → KnowsWay asked way p → drawn_at (stage_of (steps_on i way)) ≡ Some t → HoldsTicket n t p
-unfolding stage_from
-drawn_way n i t p asked Starts own holds knows drawn = absurd cc
-drawn_way n i t p asked (HasStripe es) own holds knows drawn = absurd cc
-drawn_way n i t p asked (Lives es) own holds knows drawn = absurd cc
-drawn_way n i t p asked (FindsNone es) own holds knows drawn = absurd cc
-drawn_way n i t p asked (Sees es q) own holds knows drawn = absurd cc
-drawn_way n i t p asked (Draws es q u) own holds knows drawn =
-    let same : u ≡ t = (let e : Some u ≡ Some t = drawn in cc) in
-    record {
-      command = knows.command;
-      reply = knows.reply;
-      holds = holds ∙ ap (λ k. Some k) (own ∙ ap (stripe_asked n) knows.asked_is);
-      call_is =
-          subst (λ k. Contains p.calls (call k (Changing knows.command) knows.reply)) (knows.position_is ∙ ap (λ k. k + 1) same)
-          (subst (λ cs. Contains cs (call knows.position (Changing knows.command) knows.reply)) (sym knows.calls) (Contains-push knows.before (call knows.position (Changing knows.command) knows.reply)));
-    }
-
-drawn_job : (n t : ℕ) (p : Record) (doing : Doing) (job : Job) → JobStands n p doing job → drawn_by job ≡ Some t → HoldsTicket n t p
-drawn_job n t p Rests Idle stands drawn = absurd cc
-drawn_job n t p (Calls walk) (Walks asked stage) stands drawn =
-    let by : GoesBy n stands.begun asked p = way_of n p walk asked stage stands in
-    drawn_way n (stripe_asked n asked) t p asked by.way refl by.holds by.knows (sym (ap drawn_at (stage_by n p walk asked stage stands)) ∙ drawn)
-drawn_job n t p (Waits held) (Keeps asked position) stands drawn = absurd cc
-drawn_job n t p (Releases walk) (Releasing asked position asking) stands drawn = absurd cc
-drawn_job n t p doing job stands drawn = absurd stands
 
 -- ---- places
 
@@ -171,18 +126,13 @@ other_place e = cc
 
 module _ (b b' : Book) (w : World) (l l' : Life) (doings : ℕ → Doing) (stand : WorkersStand b w l doings) (i : ℕ) (swept : Swept b b' w l l' i) (history : b'.history ≡ b.history) (opening : b'.opening.first ≡ b.opening.first)
     (taken : b'.effects.taken ≡ b.effects.taken ++ swept.held.outbox) (begins : l'.first ≡ l.first) (jobs : l'.jobs ≡ l.jobs) where
-  all_commands : drop l.first w.history ≡ b.history
-  all_commands =
-      let at : l.first ≡ length stand.words.before = stand.words.first ∙ sym stand.words.count in
-      ap (λ k. drop k w.history) at ∙ (ap (drop (length stand.words.before)) stand.words.history ∙ drop-append_seam stand.words.before b.history)
-
   places_are : l'.places ≡ swept_places b.stripes i b.history l.places
-  places_are = swept.places ∙ (ap (λ n. swept_places n i (drop l.first w.history) l.places) stand.words.stripes ∙ ap (λ cs. swept_places b.stripes i cs l.places) all_commands)
+  places_are = swept.places ∙ (ap (λ n. swept_places n i (drop l.first w.history) l.places) stand.words.stripes ∙ ap (λ cs. swept_places b.stripes i cs l.places) (all_commands b w l stand.words))
 
   holds_content : Holds b.opening b.stripes b.history b.authors b.effects (record_of 64 b) swept.held
   holds_content = (knows_keeper b stand.words.one stand.passes).held swept.held swept.holding
 
-  all_is : entries_of b.stripes i (entries_from b.opening.first b.history) ≡ entries_of b.stripes i b.effects.taken ++ swept.held.outbox
+  all_is : IsOutbox b i swept.held.outbox
   all_is = subst (λ k. entries_of b.stripes k (entries_from b.opening.first b.history) ≡ entries_of b.stripes k b.effects.taken ++ swept.held.outbox) swept.stripe_is holds_content.content.outbox_is
 
   keeper_holds_it : HoldsStripe b 64 i
@@ -205,33 +155,12 @@ module _ (b b' : Book) (w : World) (l l' : Life) (doings : ℕ → Doing) (stand
   unfolding FoundAt
   entry_at t is = at_ticket b.opening.first b.history t is.0 is.1
 
-  -- those of the outbox are entries of the stripe
-  in_outbox : (e : Entry) → Contains swept.held.outbox e → Contains (entries_of b.stripes i (entries_from b.opening.first b.history)) e
-  in_outbox e has = subst (λ es. Contains es e) (sym all_is) (Contains-append_right (entries_of b.stripes i b.effects.taken) swept.held.outbox e has)
-
-  at_of_outbox : (e : Entry) → Contains swept.held.outbox e → IsAt b.opening.first b.history e
-  at_of_outbox e has = found b.opening.first b.history e (filtered (λ (x : Entry). is_in_stripe b.stripes i x.command.key) (entries_from b.opening.first b.history) e (in_outbox e has))
-
-  own_of_outbox : (e : Entry) → Contains swept.held.outbox e → is_in_stripe b.stripes i e.command.key ≡ true
-  own_of_outbox e has = All-contains (λ (x : Entry). is_in_stripe b.stripes i x.command.key ≡ true) (entries_of b.stripes i (entries_from b.opening.first b.history)) e
-      (filter_passes (λ (x : Entry). is_in_stripe b.stripes i x.command.key) (entries_from b.opening.first b.history)) (in_outbox e has)
-
-  -- no worker has drawn the ticket of such an entry
+  -- no worker has drawn the ticket of an entry of the outbox
   never_drawn : (e : Entry) → Contains swept.held.outbox e → IsDrawn l e.ticket → ⊥
-  never_drawn e has drawn = elim (cases_lt drawn.0 64) [
-    | inr far ↦ (let none : None ≡ Some e.ticket = sym (ap drawn_by (get_or-eq_default l.jobs Idle {n = drawn.0} (omega (arith, far, stand.jobs)))) ∙ drawn.1 in absurd cc)
-    | inl lt ↦
-        let by : HoldsTicket b.stripes e.ticket (record_of drawn.0 b) = drawn_job b.stripes e.ticket (record_of drawn.0 b) (doings drawn.0) (job_of l drawn.0) (stand.each drawn.0 lt) drawn.1 in
-        let legal : IsLegalChange (history_from b.opening b.history) (e.ticket + 1) by.command by.reply =
-        legal_in_book b w l drawn.0 (call (e.ticket + 1) (Changing by.command) by.reply) stand.words (omega (arith, lt, stand.passes)) by.call_is in
-        let at : slice_index_or b.history (legal.ticket - b.opening.first) e.command ≡ by.command = get_or_from_slice_get b.history (legal.ticket - b.opening.first) by.command e.command legal.command in
-        let ticket : e.ticket ≡ legal.ticket = (let p : e.ticket + 1 ≡ legal.ticket + 1 = legal.position_is in omega (arith, p)) in
-        let same : by.command ≡ e.command = sym at ∙ (ap (λ k. slice_index_or b.history (k - b.opening.first) e.command) (sym ticket) ∙ (at_of_outbox e has).there) in
-        let stripe : stripe_of b.stripes by.command.key ≡ i = ap (λ (c : Command). stripe_of b.stripes c.key) same ∙ eqb-true (stripe_of b.stripes e.command.key) i (own_of_outbox e has) in
-        let holds : HoldsStripe b drawn.0 i = record { within = omega (arith, lt, stand.passes); has = by.holds ∙ ap (λ k. Some k) stripe } in
-        let one : drawn.0 ≡ 64 = stand.words.apart i drawn.0 64 holds keeper_holds_it in
-        absurd (omega (arith, one, lt))
-  ]
+  never_drawn e has drawn =
+      let by : (j : ℕ) × (j < 64) × HoldsStripe b j i =
+      drawn_holder b w l doings i e stand (at_of_outbox b i swept.held.outbox all_is e has) (own_of_outbox b i swept.held.outbox all_is e has) drawn in
+      omega (arith, stand.words.apart i by.0 64 by.2 keeper_holds_it, by.1)
 
   taken_still : (t : ℕ) → IsTaken b t → IsTaken b' t
   taken_still t is = (is.0, subst (λ es. Contains es is.0) (sym taken) (Contains-append_left b.effects.taken swept.held.outbox is.0 is.1), is.2)
@@ -256,9 +185,9 @@ module _ (b b' : Book) (w : World) (l l' : Life) (doings : ℕ → Doing) (stand
   was_of_life : (t : ℕ) → IsOfLife b' t → IsOfLife b t
   was_of_life t is = (omega (arith, is.0, opening), omega (arith, is.1, opening, ap length history))
 
-  of_outbox : (t : ℕ) → TakenFrom t → IsOfLife b t
+  life_of_outbox : (t : ℕ) → TakenFrom t → IsOfLife b t
   unfolding TakenFrom
-  of_outbox t from = (let is : IsAt b.opening.first b.history from.0 = at_of_outbox from.0 from.1 in (omega (arith, is.low, from.2), omega (arith, is.high, from.2)))
+  life_of_outbox t from = (let is : IsAt b.opening.first b.history from.0 = at_of_outbox b i swept.held.outbox all_is from.0 from.1 in (omega (arith, is.low, from.2), omega (arith, is.high, from.2)))
 
   same_drawn : (k : ℕ) → drawn_by (job_of l' k) ≡ drawn_by (job_of l k)
   same_drawn k = ap (λ js. drawn_by (slice_index_or js k Idle)) jobs
@@ -271,13 +200,10 @@ module _ (b b' : Book) (w : World) (l l' : Life) (doings : ℕ → Doing) (stand
       let own : Bool = is_in_stripe b.stripes i e.0.key in
       elim (swept_hand own (place_of l t) (sym (place_at (entry t e.0) (found b.opening.first b.history (entry t e.0) e.1)) ∙ at)) [
         | inl old ↦ taken_still t ((stand.places.in_hand t is).0 old)
-        | inr new ↦
-            let in_all : Contains (entries_of b.stripes i b.effects.taken ++ swept.held.outbox) (entry t e.0) =
-            subst (λ es. Contains es (entry t e.0)) all_is (passes (λ (x : Entry). is_in_stripe b.stripes i x.command.key) (entries_from b.opening.first b.history) (entry t e.0) e.1 new.1) in
-            elim (Contains-append_cases (entries_of b.stripes i b.effects.taken) swept.held.outbox (entry t e.0) in_all) [
-              | inl k ↦ (let was : place_of l t ≡ InHand = (stand.places.in_hand t is).1 (entry t e.0, filtered (λ (x : Entry). is_in_stripe b.stripes i x.command.key) b.effects.taken (entry t e.0) k, refl) in absurd (other_place (sym new.0 ∙ was)))
-              | inr k ↦ taken_now (entry t e.0) k
-            ]
+        | inr new ↦ elim (boxed_or_taken b i swept.held.outbox all_is (entry t e.0) e.1 new.1) [
+          | inl k ↦ absurd (other_place (sym new.0 ∙ (stand.places.in_hand t is).1 (entry t e.0, k, refl)))
+          | inr k ↦ taken_now (entry t e.0) k
+        ]
       ]
 
   to_hand : (t : ℕ) → IsOfLife b t → IsTaken b' t → place_of l' t ≡ InHand
@@ -289,7 +215,8 @@ module _ (b b' : Book) (w : World) (l l' : Life) (doings : ℕ → Doing) (stand
     | inr from ↦
         let not : place_of l from.0.ticket ≡ WithWorker → ⊥ = λ at. never_drawn from.0 from.1 ((stand.places.with_worker from.0.ticket (subst (IsOfLife b) (sym from.2) is)).0 at) in
         subst (λ k. place_of l' k ≡ InHand) from.2
-        (place_at from.0 (at_of_outbox from.0 from.1) ∙ own_swept (is_in_stripe b.stripes i from.0.command.key) (place_of l from.0.ticket) (own_of_outbox from.0 from.1) not)
+        (place_at from.0 (at_of_outbox b i swept.held.outbox all_is from.0 from.1)
+        ∙ own_swept (is_in_stripe b.stripes i from.0.command.key) (place_of l from.0.ticket) (own_of_outbox b i swept.held.outbox all_is from.0 from.1) not)
   ]
 
   with_from : (t : ℕ) → IsOfLife b t → place_of l' t ≡ WithWorker → place_of l t ≡ WithWorker
@@ -304,12 +231,19 @@ module _ (b b' : Book) (w : World) (l l' : Life) (doings : ℕ → Doing) (stand
       let e : FoundAt t = entry_at t is in
       place_at (entry t e.0) (found b.opening.first b.history (entry t e.0) e.1) ∙ with_swept (is_in_stripe b.stripes i e.0.key) (place_of l t) at
 
+  entries_taken : (e : Entry) → Contains b'.effects.taken e → Contains (entries_from b.opening.first b.history) e
+  entries_taken e has = elim (Contains-append_cases b.effects.taken swept.held.outbox e (subst (λ es. Contains es e) taken has)) [
+    | inl old ↦ stand.places.entries e old
+    | inr new ↦ of_outbox b i swept.held.outbox all_is e new
+  ]
+
   places_gathered : PlacesStand b' l'
   places_gathered = record {
     count = ap length places_are ∙ (swept_length b.stripes i b.history l.places ∙ (stand.places.count ∙ sym (ap length history)));
     drawn = λ t is. still_of_life t (stand.places.drawn t (is.0, sym (same_drawn is.0) ∙ is.1));
     drawn_once = λ j k t x y. stand.places.drawn_once j k t (sym (same_drawn j) ∙ x) (sym (same_drawn k) ∙ y);
-    taken = λ t is. elim (taken_or t is) [ inl old ↦ still_of_life t (stand.places.taken t old) | inr from ↦ still_of_life t (of_outbox t from) ];
+    taken = λ t is. elim (taken_or t is) [ inl old ↦ still_of_life t (stand.places.taken t old) | inr from ↦ still_of_life t (life_of_outbox t from) ];
+    entries = λ e has. rw (opening, history) (entries_taken e has);
     with_worker = λ t is. (
       λ at. (let was : IsDrawn l t = (stand.places.with_worker t (was_of_life t is)).0 (with_from t (was_of_life t is) at) in (was.0, same_drawn was.0 ∙ was.1)),
       λ x. to_with t (was_of_life t is) ((stand.places.with_worker t (was_of_life t is)).1 (x.0, sym (same_drawn x.0) ∙ x.1)),
@@ -348,7 +282,7 @@ module _ (b b' : Book) (w w' : World) (l l' : Life) (doings : ℕ → Doing) (st
 
   placed_after : (swept : Option ℕ) → Gathers b b' w l l' swept → PlacesStand b' l'
   placed_after None gathers =
-      places_kept b b' l l' (ap (λ o. o.first) moves.moved.opening) (ap length history_same) (sym done_after.0 ∙ (gathers.0 ∙ done_before.0)) gathers.1 moves.first
+      places_kept b b' l l' (ap (λ o. o.first) moves.moved.opening) history_same (sym done_after.0 ∙ (gathers.0 ∙ done_before.0)) gathers.1 moves.first
       (λ k. ap (λ js. drawn_by (slice_index_or js k Idle)) moves.jobs) stand.places
   placed_after (Some i) gathers =
       places_gathered b b' w l l' doings stand i gathers history_same (ap (λ o. o.first) moves.moved.opening)
@@ -361,6 +295,8 @@ module _ (b b' : Book) (w w' : World) (l l' : Life) (doings : ℕ → Doing) (st
     keeper = keeper_same;
     jobs = ap length moves.jobs ∙ stand.jobs;
     each = λ j lt. rw (moves.moved.stripes, moves.moved.others j (λ e. omega (arith, e, lt)), moves.jobs) (stand.each j lt);
+    seen_count = ap length moves.seen ∙ stand.seen_count;
+    seen = λ j lt. ap (λ ns. slice_index_or ns j 0) moves.seen ∙ (stand.seen j lt ∙ sym (ap reach (moves.moved.others j (λ e. omega (arith, e, lt)))));
     places = placed_after swept gathers;
     held = moves.held;
   }
@@ -387,6 +323,8 @@ keeper_rests b w w' l l' doings stand same = record {
   keeper = stand.keeper;
   jobs = ap length same.jobs ∙ stand.jobs;
   each = λ j lt. rw same.jobs (stand.each j lt);
+  seen_count = ap length same.seen ∙ stand.seen_count;
+  seen = λ j lt. ap (λ ns. slice_index_or ns j 0) same.seen ∙ stand.seen j lt;
   places = places_kept b b l l' refl refl refl same.places same.first (λ k. ap (λ js. drawn_by (slice_index_or js k Idle)) same.jobs) stand.places;
   held = λ i. (λ h. (stand.held i).0 (sym (same.held i) ∙ h), λ h. same.held i ∙ (stand.held i).1 h);
 }

@@ -29,7 +29,7 @@ use Rattle.ticket_order.specs.declared.walk.Taken.{Taken}
 use Rattle.ticket_order.specs.declared.walk.Stage as walk_stage
 use Rattle.ticket_order.specs.declared.walk.Stage.TheVariants as stage
 use Rattle.ticket_order.specs.Records.{ticket_limit, call, reach, taking, living, drawing, giving, missing, stripe_held}
-use Rattle.ticket_order.specs.Calls.{walked, FindsFailure, GivesBack, LooksAround, MakesCall}
+use Rattle.ticket_order.specs.Calls.{walked, FindsFailure, FindsNoFailure, GivesBack, LooksAround, MakesCall}
 use Rattle.ticket_order.specs.Walks.{ToChange, ToRead, ToRelease, ToSweep, ToCapture, FitsStage, FitsChange, FitsRead, FitsRelease, FitsSweep, FitsCapture, HasContent, IsRefusing}
 use Rattle.one_history.specs.OneHistory.{stripe_in}
 use Rattle.sim_rules.specs.World.{stripe_asked}
@@ -70,16 +70,23 @@ pub record HasDrawnFor (asked : Asked) (q t : ℕ) (p : Record) : Type 0 where
   pub position_is : position ≡ t + 1
   pub calls : p.calls ≡ before ++ call position (Changing command) reply ∷ []
 
-abbrev pub Knows : Asked → Way → Record → Type 0
-Knows asked (Draws es q t) p = HasDrawnFor asked q t p
-Knows asked way p = Unit {0}
+-- the call is a change
+abbrev pub IsChange : Asked → Type 0
+IsChange (Changing c) = Unit {0}
+IsChange (Reading r) = ⊥
+
+-- A walk that began at b stands at p. Before its TICKET its pass has made no call since, and only a change makes a LOOK.
+abbrev pub Knows : Record → Asked → Way → Record → Type 0
+Knows b asked (Draws es q t) p = HasDrawnFor asked q t p
+Knows b asked (Sees es q) p = IsChange asked × (p.calls ≡ b.calls)
+Knows b asked way p = p.calls ≡ b.calls
 
 -- the record p goes on from b by such steps
 pub record GoesBy (n : ℕ) (b : Record) (asked : Asked) (p : Record) : Type 0 where
   pub way : Way
   pub steps : p.steps ≡ b.steps ++ steps_on (stripe_asked n asked) way
   pub holds : stripe_in p.holding ≡ stripe_on (stripe_asked n asked) way
-  pub knows : Knows asked way p
+  pub knows : Knows b asked way p
 
 -- ---- the task of a call
 
@@ -105,14 +112,19 @@ no_capture (Reading s) i e = cc
 
 -- ---- the steps of each
 
-pub walked_steps : (b : Record) (i : ℕ) (m : Map) (es : List Entry) (x y : List Command) → (walked b i m es x y).steps ≡ b.steps ++ steps_on i (Sees es (reach (walked b i m es x y)))
-walked_steps b i m es x y =
-    let q : ℕ = reach (walked b i m es x y) in
-    onto b.steps (steps_on i (Lives es)) _ (Looked q) (onto b.steps (steps_on i (HasStripe es)) _ (FoundAlive true) refl)
+pub alive_steps : (b : Record) (i : ℕ) (m : Map) (es : List Entry) (last : ℕ) (x : List Command) → (living (taking b i m es last x) true).steps ≡ b.steps ++ steps_on i (Lives es)
+alive_steps b i m es last x = onto b.steps (steps_on i (HasStripe es)) _ (FoundAlive true) refl
 
-pub drawn_steps : (b : Record) (i : ℕ) (m : Map) (es : List Entry) (x y z : List Command) (c : Command) →
-    (drawing (walked b i m es x y) z c).steps ≡ b.steps ++ steps_on i (Draws es (reach (walked b i m es x y)) (b.opening.first + length (((b.seen ++ x) ++ y) ++ z)))
-drawn_steps b i m es x y z c = onto b.steps (steps_on i (Sees es (reach (walked b i m es x y)))) _ (Drew (b.opening.first + length (((b.seen ++ x) ++ y) ++ z))) (walked_steps b i m es x y)
+pub walked_steps : (b : Record) (i : ℕ) (m : Map) (es : List Entry) (last : ℕ) (x y : List Command)
+    → (walked b i m es last x y).steps ≡ b.steps ++ steps_on i (Sees es (reach (walked b i m es last x y)))
+walked_steps b i m es last x y =
+    let q : ℕ = reach (walked b i m es last x y) in
+    onto b.steps (steps_on i (Lives es)) _ (Looked q) (alive_steps b i m es last x)
+
+pub drawn_steps : (b : Record) (i : ℕ) (m : Map) (es : List Entry) (last : ℕ) (x y z : List Command) (c : Command) →
+    (drawing (walked b i m es last x y) z c).steps ≡ b.steps ++ steps_on i (Draws es (reach (walked b i m es last x y)) (b.opening.first + length (((b.seen ++ x) ++ y) ++ z)))
+drawn_steps b i m es last x y z c =
+    onto b.steps (steps_on i (Sees es (reach (walked b i m es last x y)))) _ (Drew (b.opening.first + length (((b.seen ++ x) ++ y) ++ z))) (walked_steps b i m es last x y)
 
 -- a record whose GIVE leaves what that of another leaves has made the same steps, and holds that one's stripe
 module _ (p holder : Record) (t : Taken) (content : HasContent p t) (is : giving Nothing p ≡ giving Nothing holder) where
@@ -129,7 +141,7 @@ module _ (p holder : Record) (t : Taken) (content : HasContent p t) (is : giving
 
 -- with what the stripe i was found
 module _ (n : ℕ) (b : Record) (asked : Asked) (p : Record) (i : ℕ) (own : i ≡ stripe_asked n asked) where
-  pub goes_by : (way : Way) → p.steps ≡ b.steps ++ steps_on i way → stripe_in p.holding ≡ stripe_on i way → Knows asked way p → GoesBy n b asked p
+  pub goes_by : (way : Way) → p.steps ≡ b.steps ++ steps_on i way → stripe_in p.holding ≡ stripe_on i way → Knows b asked way p → GoesBy n b asked p
   goes_by way steps holds knows = record {
     way = way;
     steps = subst (λ k. p.steps ≡ b.steps ++ steps_on k way) own steps;
@@ -137,28 +149,38 @@ module _ (n : ℕ) (b : Record) (asked : Asked) (p : Record) (i : ℕ) (own : i 
     knows = knows;
   }
 
-  pub after_take : (m : Map) (es : List Entry) (x : List Command) → p ≡ taking b i m es x → GoesBy n b asked p
-  after_take m es x is = goes_by (HasStripe es) (ap (λ (r : Record). r.steps) is) (ap (λ (r : Record). stripe_in r.holding) is) tt
+  pub after_take : (m : Map) (es : List Entry) (last : ℕ) (x : List Command) → p ≡ taking b i m es last x → GoesBy n b asked p
+  after_take m es last x is = goes_by (HasStripe es) (ap (λ (r : Record). r.steps) is) (ap (λ (r : Record). stripe_in r.holding) is) (ap (λ (r : Record). r.calls) is)
 
-  pub after_alive : (m : Map) (es : List Entry) (x : List Command) → p ≡ living (taking b i m es x) true → GoesBy n b asked p
-  after_alive m es x is = goes_by (Lives es) (ap (λ (r : Record). r.steps) is ∙ onto b.steps (steps_on i (HasStripe es)) _ (FoundAlive true) refl) (ap (λ (r : Record). stripe_in r.holding) is) tt
+  pub after_alive : (m : Map) (es : List Entry) (last : ℕ) (x : List Command) → p ≡ living (taking b i m es last x) true → GoesBy n b asked p
+  after_alive m es last x is =
+      goes_by (Lives es) (ap (λ (r : Record). r.steps) is ∙ alive_steps b i m es last x) (ap (λ (r : Record). stripe_in r.holding) is) (ap (λ (r : Record). r.calls) is)
 
-  pub after_look : (m : Map) (es : List Entry) (x y : List Command) → p ≡ walked b i m es x y → GoesBy n b asked p
-  after_look m es x y is = goes_by (Sees es (reach (walked b i m es x y))) (ap (λ (r : Record). r.steps) is ∙ walked_steps b i m es x y) (ap (λ (r : Record). stripe_in r.holding) is) tt
+  pub after_look : IsChange asked → (m : Map) (es : List Entry) (last : ℕ) (x y : List Command) → p ≡ walked b i m es last x y → GoesBy n b asked p
+  after_look changes m es last x y is =
+      goes_by (Sees es (reach (walked b i m es last x y))) (ap (λ (r : Record). r.steps) is ∙ walked_steps b i m es last x y) (ap (λ (r : Record). stripe_in r.holding) is)
+      (changes, ap (λ (r : Record). r.calls) is)
 
   after_failure : (t : Taken) → HasContent p t → GivesBack b (FindsFailure b i) (giving Nothing p) → GoesBy n b asked p
   after_failure t content back =
       let dead : FindsFailure b i back.holder = back.before in
       goes_by (FindsNone dead.outbox)
       (given_steps p back.holder t content back.is ∙ (ap (λ (r : Record). r.steps) dead.is ∙ onto b.steps (steps_on i (HasStripe dead.outbox)) _ (FoundAlive false) refl))
-      (given_stripe p back.holder t content back.is ∙ ap (λ (r : Record). Some (stripe_held r.holding)) dead.is) tt
+      (given_stripe p back.holder t content back.is ∙ ap (λ (r : Record). Some (stripe_held r.holding)) dead.is) back.same_calls
 
-  after_spent : (t : Taken) → HasContent p t → GivesBack b (LooksAround b i) (giving Nothing p) → GoesBy n b asked p
-  after_spent t content back =
+  after_unread : (t : Taken) → HasContent p t → GivesBack b (FindsNoFailure b i) (giving Nothing p) → GoesBy n b asked p
+  after_unread t content back =
+      let alive : FindsNoFailure b i back.holder = back.before in
+      goes_by (Lives alive.outbox)
+      (given_steps p back.holder t content back.is ∙ (ap (λ (r : Record). r.steps) alive.is ∙ alive_steps b i alive.part alive.outbox alive.last alive.taken))
+      (given_stripe p back.holder t content back.is ∙ ap (λ (r : Record). Some (stripe_held r.holding)) alive.is) back.same_calls
+
+  after_spent : IsChange asked → (t : Taken) → HasContent p t → GivesBack b (LooksAround b i) (giving Nothing p) → GoesBy n b asked p
+  after_spent changes t content back =
       let look : LooksAround b i back.holder = back.before in
-      goes_by (Sees look.outbox (reach (walked b i look.part look.outbox look.taken look.looked)))
-      (given_steps p back.holder t content back.is ∙ (ap (λ (r : Record). r.steps) look.is ∙ walked_steps b i look.part look.outbox look.taken look.looked))
-      (given_stripe p back.holder t content back.is ∙ ap (λ (r : Record). Some (stripe_held r.holding)) look.is) tt
+      goes_by (Sees look.outbox (reach (walked b i look.part look.outbox look.last look.taken look.looked)))
+      (given_steps p back.holder t content back.is ∙ (ap (λ (r : Record). r.steps) look.is ∙ walked_steps b i look.part look.outbox look.last look.taken look.looked))
+      (given_stripe p back.holder t content back.is ∙ ap (λ (r : Record). Some (stripe_held r.holding)) look.is) (changes, back.same_calls)
 
 -- a GIVE is no TAKE
 never_missed : (b p : Record) (i : ℕ) → giving Nothing p ≡ missing b i → ⊥
@@ -169,14 +191,14 @@ never_missed b p i is =
 by_change : (n : ℕ) (b : Record) (c : Command) (t : Taken) (e : Refusal) (p : Record) → IsRefusing n b (ToChange c) t e p → GoesBy n b (Changing c) p
 by_change n b c t (refusal.Busy j) p is = absurd (never_missed b p (stripe_of n c.key) is.refused.1)
 by_change n b c t refusal.Failed p is = after_failure n b (Changing c) p (stripe_of n c.key) refl t is.content is.refused
-by_change n b c t refusal.TicketsSpent p is = after_spent n b (Changing c) p (stripe_of n c.key) refl t is.content is.refused.0
-by_change n b c t refusal.NoMemory p is = after_spent n b (Changing c) p (stripe_of n c.key) refl t is.content is.refused.0
+by_change n b c t refusal.TicketsSpent p is = after_spent n b (Changing c) p (stripe_of n c.key) refl tt t is.content is.refused.0
+by_change n b c t refusal.NoMemory p is = after_spent n b (Changing c) p (stripe_of n c.key) refl tt t is.content is.refused.0
 by_change n b c t other p is = absurd is.refused
 
 by_read : (n : ℕ) (b : Record) (r : read_type.Read) (t : Taken) (e : Refusal) (p : Record) → IsRefusing n b (ToRead r) t e p → GoesBy n b (Reading r) p
 by_read n b r t (refusal.Busy j) p is = absurd (never_missed b p (stripe_of n r.key) is.refused.1)
 by_read n b r t refusal.Failed p is = after_failure n b (Reading r) p (stripe_of n r.key) refl t is.content is.refused
-by_read n b r t refusal.NoMemory p is = after_spent n b (Reading r) p (stripe_of n r.key) refl t is.content is.refused
+by_read n b r t refusal.NoMemory p is = after_unread n b (Reading r) p (stripe_of n r.key) refl t is.content is.refused
 by_read n b r t other p is = absurd is.refused
 
 by_refusal : (n : ℕ) (b : Record) (asked : Asked) (t : Taken) (e : Refusal) (p : Record) → IsRefusing n b (task_of asked) t e p → GoesBy n b asked p
@@ -187,10 +209,10 @@ by_refusal n b (Reading r) t e p is = by_read n b r t e p is
 by_draw : (n : ℕ) (b : Record) (asked : Asked) (t : Taken) (c : Command) (position : ℕ) (reply : Reply) (p : Record) → asked ≡ Changing c → HasContent p t → MakesCall n b c position reply (giving Nothing p) → GoesBy n b asked p
 by_draw n b asked t c position reply p is content made =
     let i : ℕ = stripe_of n c.key in
-    let holder : Record = drawing (walked b i made.part made.outbox made.taken made.looked) made.drawn c in
+    let holder : Record = drawing (walked b i made.part made.outbox made.last made.taken made.looked) made.drawn c in
     goes_by n b asked p i (ap (stripe_asked n) (sym is))
-    (Draws made.outbox (reach (walked b i made.part made.outbox made.taken made.looked)) (b.opening.first + length (((b.seen ++ made.taken) ++ made.looked) ++ made.drawn)))
-    (given_steps p holder t content made.is ∙ drawn_steps b i made.part made.outbox made.taken made.looked made.drawn c)
+    (Draws made.outbox (reach (walked b i made.part made.outbox made.last made.taken made.looked)) (b.opening.first + length (((b.seen ++ made.taken) ++ made.looked) ++ made.drawn)))
+    (given_steps p holder t content made.is ∙ drawn_steps b i made.part made.outbox made.last made.taken made.looked made.drawn c)
     (given_stripe p holder t content made.is)
     (record {
       command = c;
@@ -200,30 +222,33 @@ by_draw n b asked t c position reply p is content made =
       position = position;
       reply = reply;
       position_is = made.position_is ∙ (ap reach made.is ∙ omega (arith, length-append (((b.seen ++ made.taken) ++ made.looked) ++ made.drawn) (c ∷ [])));
-      calls = sym (append-nil p.calls) ∙ made.grew;
+      calls = made.grew;
     })
 
 begun : (n : ℕ) (b : Record) (asked : Asked) (p : Record) → p ≡ b → b.holding ≡ None → GoesBy n b asked p
-begun n b asked p is free = goes_by n b asked p (stripe_asked n asked) refl Starts (ap (λ (r : Record). r.steps) is ∙ sym (append-nil b.steps)) (ap (λ (r : Record). stripe_in r.holding) is ∙ ap stripe_in free) tt
+begun n b asked p is free = goes_by n b asked p (stripe_asked n asked) refl Starts (ap (λ (r : Record). r.steps) is ∙ sym (append-nil b.steps)) (ap (λ (r : Record). stripe_in r.holding) is ∙ ap stripe_in free) (ap (λ (r : Record). r.calls) is)
 
 change_goes : (n : ℕ) (b : Record) (asked : Asked) (s : ChangeStage) (p : Record) → FitsChange n b (task_of asked) s p → GoesBy n b asked p
 change_goes n b asked (change.Begins new) p fits = begun n b asked p fits.is fits.empty_handed
 change_goes n b asked (change.HasTaken new t) p fits =
-    after_take n b asked p t.stripe (fits.0.stripe_is ∙ ap (stripe_asked n) (sym (asks_change asked new.command fits.0.task_is))) t.content.part.map t.content.outbox.items fits.1.taken fits.1.is
+    after_take n b asked p t.stripe (fits.0.stripe_is ∙ ap (stripe_asked n) (sym (asks_change asked new.command fits.0.task_is)))
+    t.content.part.map t.content.outbox.items t.content.last fits.1.taken fits.1.is
 change_goes n b asked (change.IsAlive new t) p fits =
-    after_alive n b asked p t.stripe (fits.0.stripe_is ∙ ap (stripe_asked n) (sym (asks_change asked new.command fits.0.task_is))) t.content.part.map t.content.outbox.items fits.1.taken fits.1.is
+    after_alive n b asked p t.stripe (fits.0.stripe_is ∙ ap (stripe_asked n) (sym (asks_change asked new.command fits.0.task_is)))
+    t.content.part.map t.content.outbox.items t.content.last fits.1.taken fits.1.is
 change_goes n b asked (change.IsReady new t prepared) p fits =
-    after_look n b asked p t.stripe (fits.0.stripe_is ∙ ap (stripe_asked n) (sym (asks_change asked new.command fits.0.task_is))) t.content.part.map t.content.outbox.items fits.1.taken fits.1.looked fits.1.is
+    after_look n b asked p t.stripe (fits.0.stripe_is ∙ ap (stripe_asked n) (sym (asks_change asked new.command fits.0.task_is)))
+    (subst IsChange (sym (asks_change asked new.command fits.0.task_is)) tt) t.content.part.map t.content.outbox.items t.content.last fits.1.taken fits.1.looked fits.1.is
 change_goes n b asked (change.HasDrawn t h) p fits = by_draw n b asked t fits.command h.position h.reply p (asks_change asked fits.command fits.task_is) fits.content fits.made
 
 read_goes : (n : ℕ) (b : Record) (asked : Asked) (s : ReadStage) (p : Record) → FitsRead n b (task_of asked) s p → GoesBy n b asked p
 read_goes n b asked (read.Begins r) p fits = begun n b asked p fits.is fits.empty_handed
 read_goes n b asked (read.HasTaken r t) p fits =
-    after_take n b asked p t.stripe (fits.0.stripe_is ∙ ap (stripe_asked n) (sym (asks_read asked r fits.0.task_is))) t.content.part.map t.content.outbox.items fits.1.taken fits.1.is
-read_goes n b asked (read.IsAlive r t) p fits =
-    after_alive n b asked p t.stripe (fits.0.stripe_is ∙ ap (stripe_asked n) (sym (asks_read asked r fits.0.task_is))) t.content.part.map t.content.outbox.items fits.1.taken fits.1.is
+    after_take n b asked p t.stripe (fits.0.stripe_is ∙ ap (stripe_asked n) (sym (asks_read asked r fits.0.task_is)))
+    t.content.part.map t.content.outbox.items t.content.last fits.1.between fits.1.is
 read_goes n b asked (read.HasRead r t h) p fits =
-    after_look n b asked p t.stripe (fits.0.stripe_is ∙ ap (stripe_asked n) (sym (asks_read asked r fits.0.task_is))) t.content.part.map t.content.outbox.items fits.1.taken fits.1.looked fits.1.is
+    after_alive n b asked p t.stripe (fits.0.stripe_is ∙ ap (stripe_asked n) (sym (asks_read asked r fits.0.task_is)))
+    t.content.part.map t.content.outbox.items t.content.last fits.1.took.between (fits.1.is ∙ ap (λ v. living v true) fits.1.took.is)
 
 release_goes : (n : ℕ) (b : Record) (asked : Asked) (s : ReleaseStage) (p : Record) → FitsRelease b (task_of asked) s p → GoesBy n b asked p
 release_goes n b asked (release.Begins h) p fits = absurd (no_release asked h.position h.reply fits.0)

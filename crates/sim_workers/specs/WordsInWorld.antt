@@ -4,6 +4,7 @@ use Rattle.std.specs.List.{Contains}
 use Rattle.map_types.specs.declared.commands.Command.{Command}
 use Rattle.map_model.specs.Steps.{fold_of}
 use Rattle.ticket_order.specs.declared.stripe.Entry.{Entry}
+use Rattle.ticket_order.specs.Legality.{entries_from}
 use Rattle.one_history.specs.declared.book.Book.{Book}
 use Rattle.one_history.specs.OneHistory.{IsOneHistory, HoldApart}
 use Rattle.sim_rules.specs.World.{World, Life, Job, Walks, Stage, HasDrawn, WithWorker, InHand, job_of, place_of}
@@ -51,5 +52,7 @@ pub record PlacesStand (b : Book) (l : Life) : Type 0 where
   pub drawn : (ticket : ℕ) → IsDrawn l ticket → IsOfLife b ticket
   pub drawn_once : (i j ticket : ℕ) → drawn_by (job_of l i) ≡ Some ticket → drawn_by (job_of l j) ≡ Some ticket → i ≡ j
   pub taken : (ticket : ℕ) → IsTaken b ticket → IsOfLife b ticket
+  -- each entry that a sweep took is one of the history
+  pub entries : (e : Entry) → Contains b.effects.taken e → Contains (entries_from b.opening.first b.history) e
   pub with_worker : (ticket : ℕ) → IsOfLife b ticket → (place_of l ticket ≡ WithWorker) ↔ IsDrawn l ticket
   pub in_hand : (ticket : ℕ) → IsOfLife b ticket → (place_of l ticket ≡ InHand) ↔ IsTaken b ticket

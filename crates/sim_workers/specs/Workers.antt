@@ -6,13 +6,14 @@ use Rattle.ticket_order.specs.declared.record.StepMade.TheVariants.{Drew}
 use Rattle.ticket_order.specs.declared.walk.Walk.{Walk}
 use Rattle.ticket_order.specs.declared.walk.Stepped.{Stepped}
 use Rattle.ticket_order.specs.declared.record.Record.{Record}
+use Rattle.ticket_order.specs.Records.{reach}
 use Rattle.ticket_order.specs.Walks.{Task, Fits, Next}
 use Rattle.one_history.specs.declared.book.Book.{Book}
 use Rattle.one_history.specs.Turns.{record_of}
 use Rattle.one_history.specs.OneHistory.{IsOneHistory, HoldApart, HoldsStripe}
 use Rattle.one_history.specs.Moves.{BookMoves}
 use Rattle.sim_rules.specs.declared.outcome.Made.{Made}
-use Rattle.sim_rules.specs.World.{World, Life, job_of, keeper_holds}
+use Rattle.sim_rules.specs.World.{World, Life, job_of, keeper_holds, seen_by}
 use Rattle.sim_rules.specs.After.{places_swept}
 use Rattle.sim_rules.specs.Told.{told_of}
 use Rattle.sim_workers.specs.Doings.{Doing, JobStands}
@@ -25,6 +26,9 @@ pub record WorkersStand (b : Book) (w : World) (l : Life) (doings : ℕ → Doin
   pub keeper : b.effects.keeper ≡ 64
   pub jobs : length l.jobs ≡ 64
   pub each : (j : ℕ) → j < 64 → JobStands b.stripes (record_of j b) (doings j) (job_of l j)
+  -- the life says of each worker's pass the greatest position that it has seen
+  pub seen_count : length l.seen ≡ 64
+  pub seen : (j : ℕ) → j < 64 → seen_by l j ≡ reach (record_of j b)
   pub places : PlacesStand b l
   -- the keeper's walk has the word of a stripe exactly if its pass holds that stripe
   pub held : (i : ℕ) → (keeper_holds l i l.walk ≡ true) ↔ HoldsStripe b 64 i
@@ -63,6 +67,7 @@ pub record ConcernsNone (w w' : World) (l l' : Life) : Type 0 where
   pub stripes : l'.stripes ≡ l.stripes
   pub first : l'.first ≡ l.first
   pub jobs : l'.jobs ≡ l.jobs
+  pub seen : l'.seen ≡ l.seen
   pub places : l'.places ≡ l.places
   pub durable : l'.durable ≡ l.durable
   pub has_failed : l'.has_failed ≡ l.has_failed
@@ -84,6 +89,7 @@ pub record KeeperMoves (b b' : Book) (w w' : World) (l l' : Life) : Type 0 where
   pub stripes : l'.stripes ≡ l.stripes
   pub first : l'.first ≡ l.first
   pub jobs : l'.jobs ≡ l.jobs
+  pub seen : l'.seen ≡ l.seen
   pub durable : l'.durable ≡ (record_of 64 b').published
   pub has_failed : l'.has_failed ≡ (record_of 64 b').failed
   pub held : (i : ℕ) → (keeper_holds l' i l'.walk ≡ true) ↔ HoldsStripe b' 64 i
