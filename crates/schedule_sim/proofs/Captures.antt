@@ -26,6 +26,7 @@ pub record StaysForWorkers (w w' : World) (l l' : Life) : Type 0 where
   pub stripes : l'.stripes ≡ l.stripes
   pub first : l'.first ≡ l.first
   pub jobs : l'.jobs ≡ l.jobs
+  pub seen : l'.seen ≡ l.seen
   pub places : l'.places ≡ l.places
 
 -- the keeper made a step that took no entry, and the workers stand as before
@@ -40,4 +41,5 @@ workers_after keeper b b' w w' l l' doings kind m done steps stripe counts stand
       stripes = stays.stripes;
       first = stays.first;
       jobs = stays.jobs;
+      seen = stays.seen;
     })) (taken, stays.places)

@@ -89,6 +89,7 @@ changes_quietly w files l broken committed log newest gate sealed checkpoint res
   stripes = refl;
   first = refl;
   jobs = refl;
+  seen = refl;
   places = refl;
   durable = refl;
   has_failed = refl;

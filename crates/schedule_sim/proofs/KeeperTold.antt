@@ -114,6 +114,7 @@ pub record SameWorkers (l l' : Life) : Type 0 where
   pub stripes : l'.stripes ≡ l.stripes
   pub first : l'.first ≡ l.first
   pub jobs : l'.jobs ≡ l.jobs
+  pub seen : l'.seen ≡ l.seen
 
 pass_holds : (p : Record) (i : ℕ) (o : Option Holding) → p.holding ≡ o → stripe_in o ≡ Some i → PassHolds p i
 pass_holds p i None is has = absurd cc
@@ -135,6 +136,7 @@ keeper_moves stripe counts b b' w w' l l' doings kind m done keeper stand made n
       stripes = same.stripes;
       first = same.first;
       jobs = same.jobs;
+      seen = same.seen;
       durable = told.0;
       has_failed = told.1;
       held = λ i.

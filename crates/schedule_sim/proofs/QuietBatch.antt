@@ -62,6 +62,7 @@ stages_quietly w l n resting = record {
   stripes = refl;
   first = refl;
   jobs = refl;
+  seen = refl;
   places = refl;
   durable = refl;
   has_failed = refl;

@@ -43,7 +43,6 @@ told_stage n (stage.Change (change.IsReady new t prepared)) = tt
 told_stage n (stage.Change (change.HasDrawn t h)) = tt
 told_stage n (stage.Read (read.Begins r)) = tt
 told_stage n (stage.Read (read.HasTaken r t)) = tt
-told_stage n (stage.Read (read.IsAlive r t)) = tt
 told_stage n (stage.Read (read.HasRead r t h)) = tt
 told_stage n (stage.Release (release.Begins h)) = tt
 told_stage n (stage.Release (release.HasMissed h)) = tt

@@ -31,6 +31,10 @@ impl Steps for Watched<'_> {
         self.words.stripes()
     }
 
+    fn seen(&self) -> u64 {
+        self.words.seen(self.pass)
+    }
+
     fn take(&mut self, stripe: usize) -> Option<Stripe> {
         let taken = At::new(self.words, self.pass).take(stripe);
         self.made = Some(match &taken {

@@ -46,7 +46,7 @@ back_holds b i (refusal.Busy j) p r = absurd (not_held (stripe_held p.holding) i
     not_held : (a b : ℕ) → Gave a ≡ FoundHeld b → ⊥
     not_held a b e = cc
 back_holds b i refusal.NoMemory p r =
-    let is : giving Nothing p ≡ giving Nothing (taking b i r.before.part r.before.outbox r.before.taken) = r.is ∙ ap (giving Nothing) r.before.is in
+    let is : giving Nothing p ≡ giving Nothing (taking b i r.before.part r.before.outbox r.before.last r.before.taken) = r.is ∙ ap (giving Nothing) r.before.is in
     same_give (same_from_push p.steps _ (Gave (stripe_held p.holding)) (Gave i) (ap (λ (y : Record). y.steps) is)).1
   where
     same_give : {a b : ℕ} → Gave a ≡ Gave b → a ≡ b

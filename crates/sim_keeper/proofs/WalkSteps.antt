@@ -91,7 +91,7 @@ back_swept : (b : Record) (i : ℕ) (e : Refusal) (p : Record) → RefusesSweep 
 back_swept b i (refusal.Busy j) p r = absurd (gave_not_held (stripe_held p.holding) i (same_from_push p.steps b.steps (Gave (stripe_held p.holding)) (FoundHeld i) (ap (λ (x : Record). x.steps) r.1)).1)
 back_swept b i refusal.NoMemory p r =
     let x = r.before in
-    let is : giving Nothing p ≡ giving Nothing (taking b i x.part x.outbox x.taken) = r.is ∙ ap (giving Nothing) x.is in
+    let is : giving Nothing p ≡ giving Nothing (taking b i x.part x.outbox x.last x.taken) = r.is ∙ ap (giving Nothing) x.is in
     (x.outbox, (same_from_push p.steps (b.steps ++ Took i x.outbox ∷ []) (Gave (stripe_held p.holding)) (Gave i) (ap (λ (y : Record). y.steps) is)).0)
 back_swept b i e p r = absurd r
 
@@ -151,10 +151,10 @@ looked_stage n b i (stage.Release s) p k j give two = absurd (by_release n b i s
 looked_stage n b i (stage.Sweep s) p k j give two = absurd (by_sweep n b i s p k)
 looked_stage n b i (stage.Capture (capture.Begins alloc x)) p k j give two = absurd cc
 looked_stage n b i (stage.Capture (capture.HasTaken alloc t)) p k j give two = absurd cc
-looked_stage n b i (stage.Capture (capture.HasLooked t z)) p k j give two = looks_at (taking b t.stripe t.content.part.map t.content.outbox.items k.1.taken) k.1.looked p k.1.is
+looked_stage n b i (stage.Capture (capture.HasLooked t z)) p k j give two = looks_at (taking b t.stripe t.content.part.map t.content.outbox.items t.content.last k.1.taken) k.1.looked p k.1.is
 looked_stage n b i (stage.GivingBack t e) p k j give two =
     let back = third_put_back b i e (giving Nothing p) k.refused (omega (arith, two, length_push p.steps (Gave (stripe_held p.holding)))) in
-    put_back_last p back.at back.is (looks_at (taking b i back.looked.part back.looked.outbox back.looked.taken) back.looked.looked back.at back.looked.is)
+    put_back_last p back.at back.is (looks_at (taking b i back.looked.part back.looked.outbox back.looked.last back.looked.taken) back.looked.looked back.at back.looked.is)
 
 pub looks_last : (n : ℕ) (b : Record) (i : ℕ) (walk : Walk) (p : Record) → HasLooked n b i walk p → LooksLast p
 looks_last n b i walk p k = looked_stage n b i walk.stage p k.fits i k.next k.two_made
