@@ -71,6 +71,10 @@ pub(crate) struct Life<'a> {
     first: u64,
     held: Vec<bool>,
     jobs: Vec<Job<'a>>,
+    // The greatest position that each worker has seen.
+    seen: Vec<u64>,
+    // One past the last ticket of each stripe.
+    lasts: Vec<u64>,
     entries: Vec<Entry>,
 }
 
@@ -123,6 +127,8 @@ impl<'a> Life<'a> {
             first,
             held: vec![in alloc; false; stripes]?,
             jobs,
+            seen: vec![in alloc; first; WORKERS]?,
+            lasts: vec![in alloc; first; stripes]?,
             entries: Vec::new(alloc),
         })
     }
@@ -187,6 +193,33 @@ impl<'a> Life<'a> {
         }
     }
 
+    // The worker has seen this position from now on.
+    fn see(&mut self, worker: usize, position: u64) {
+        if let Some(seen) = self.seen.get_mut(worker) {
+            *seen = (*seen).max(position);
+        }
+    }
+
+    // One past the greatest ticket that lies in the stripe's outbox, or 0.
+    fn past_outbox(&self, stripe: usize) -> u64 {
+        let mut number = self.first;
+        let mut past = 0;
+        for entry in &self.entries {
+            number = number.saturating_add(1);
+            if entry.stripe == stripe && !entry.is_in_hand {
+                past = number;
+            }
+        }
+        past
+    }
+
+    // The greater of what the worker has seen and of one past the last ticket of the stripe.
+    fn read_position(&self, worker: usize, stripe: usize) -> u64 {
+        let seen = self.seen.get(worker).copied().unwrap_or(0);
+        let last = self.lasts.get(stripe).copied().unwrap_or(0);
+        seen.max(last)
+    }
+
     fn take_job(&mut self, worker: usize) -> Job<'a> {
         match self.jobs.get_mut(worker) {
             Some(job) => mem::replace(job, Job::Idle),
@@ -221,8 +254,8 @@ impl<'a> Life<'a> {
         worker: usize,
     ) -> Result<PlainOutcome, AllocError> {
         let (job, outcome) = match self.take_job(worker) {
-            Job::Calling(call, step) => self.step_call(past, call, step)?,
-            Job::Releasing(held, step) => self.step_release(held, step),
+            Job::Calling(call, step) => self.step_call(past, worker, call, step)?,
+            Job::Releasing(held, step) => self.step_release(worker, held, step),
             job => (job, PlainOutcome::Skipped),
         };
         self.put_job(worker, job);
@@ -232,26 +265,24 @@ impl<'a> Life<'a> {
     fn step_call(
         &mut self,
         past: &mut Past<'a>,
+        worker: usize,
         call: Call<'a>,
         step: CallStep,
     ) -> Result<(Job<'a>, PlainOutcome), AllocError> {
         let stripe = call.stripe(self.stripes);
         match step {
-            CallStep::Take => Ok(self.step_take(call, stripe)),
-            CallStep::Alive => {
-                let is_alive = !self.has_failed;
-                let next = if is_alive {
-                    CallStep::Look
-                } else {
-                    CallStep::GiveBack
-                };
-                let outcome = stepped(Made::FoundAlive(is_alive), PlainEnd::Goes);
-                Ok((Job::Calling(call, next), outcome))
+            CallStep::Take => Ok(self.step_take(worker, call, stripe)),
+            CallStep::Alive => self.step_alive(past, worker, call, stripe),
+            CallStep::Look => {
+                let count = past.count();
+                self.see(worker, count);
+                let outcome = stepped(Made::Looked(count), PlainEnd::Goes);
+                Ok((Job::Calling(call, CallStep::Ticket), outcome))
             }
-            CallStep::Look => step_look(past, call),
-            CallStep::Ticket => self.step_ticket(past, call, stripe),
+            CallStep::Ticket => self.step_ticket(past, worker, call, stripe),
             CallStep::Give(held) => {
                 self.give(stripe);
+                self.see(worker, held.position);
                 let outcome = stepped(Made::Gave(stripe), PlainEnd::Held(held.position));
                 Ok((Job::Holding(held), outcome))
             }
@@ -263,8 +294,14 @@ impl<'a> Life<'a> {
         }
     }
 
-    fn step_take(&mut self, call: Call<'a>, stripe: usize) -> (Job<'a>, PlainOutcome) {
+    fn step_take(
+        &mut self,
+        worker: usize,
+        call: Call<'a>,
+        stripe: usize,
+    ) -> (Job<'a>, PlainOutcome) {
         if self.take(stripe) {
+            self.see(worker, self.past_outbox(stripe));
             let outcome = stepped(Made::Took(stripe), PlainEnd::Goes);
             return (Job::Calling(call, CallStep::Alive), outcome);
         }
@@ -272,9 +309,31 @@ impl<'a> Life<'a> {
         (Job::Idle, stepped(Made::FoundHeld(stripe), end))
     }
 
+    // ALIVE of a call: a change goes on with its LOOK, and a read with its GIVE. The reply of a read
+    // is that of the map now, as nobody else changes the stripe.
+    fn step_alive(
+        &self,
+        past: &Past<'a>,
+        worker: usize,
+        call: Call<'a>,
+        stripe: usize,
+    ) -> Result<(Job<'a>, PlainOutcome), AllocError> {
+        let next = match call {
+            _ if self.has_failed => CallStep::GiveBack,
+            Call::Change(_) => CallStep::Look,
+            Call::Read(read) => CallStep::Give(Held {
+                position: self.read_position(worker, stripe),
+                reply: past.answer(read)?,
+            }),
+        };
+        let outcome = stepped(Made::FoundAlive(!self.has_failed), PlainEnd::Goes);
+        Ok((Job::Calling(call, next), outcome))
+    }
+
     fn step_ticket(
         &mut self,
         past: &mut Past<'a>,
+        worker: usize,
         call: Call<'a>,
         stripe: usize,
     ) -> Result<(Job<'a>, PlainOutcome), AllocError> {
@@ -287,19 +346,27 @@ impl<'a> Life<'a> {
             stripe,
             is_in_hand: false,
         })?;
-        let held = Held {
-            position: past.count(),
-            reply,
-        };
+        let position = past.count();
+        self.see(worker, position);
+        if let Some(last) = self.lasts.get_mut(stripe) {
+            *last = position;
+        }
+        let held = Held { position, reply };
         let outcome = stepped(Made::Drew(ticket), PlainEnd::Goes);
         Ok((Job::Calling(call, CallStep::Give(held)), outcome))
     }
 
-    fn step_release(&self, held: Held, step: ReleaseStep) -> (Job<'a>, PlainOutcome) {
+    fn step_release(
+        &mut self,
+        worker: usize,
+        held: Held,
+        step: ReleaseStep,
+    ) -> (Job<'a>, PlainOutcome) {
         let durable = self.durable;
         if matches!(step, ReleaseStep::Alive) {
-            return self.step_alive(held);
+            return self.ask_alive(held);
         }
+        self.see(worker, durable);
         if held.position <= durable {
             let Held { position, reply } = held;
             let end = PlainEnd::Replied { position, reply };
@@ -312,7 +379,8 @@ impl<'a> Life<'a> {
         (Job::Releasing(held, ReleaseStep::Alive), outcome)
     }
 
-    fn step_alive(&self, held: Held) -> (Job<'a>, PlainOutcome) {
+    // ALIVE of a release.
+    fn ask_alive(&self, held: Held) -> (Job<'a>, PlainOutcome) {
         if self.has_failed {
             let outcome = stepped(Made::FoundAlive(false), PlainEnd::Goes);
             return (Job::Releasing(held, ReleaseStep::SeeAgain), outcome);
@@ -320,18 +388,4 @@ impl<'a> Life<'a> {
         let outcome = stepped(Made::FoundAlive(true), PlainEnd::NotYet);
         (Job::Holding(held), outcome)
     }
-}
-
-// LOOK: the reply of a read is that of the map now.
-fn step_look<'a>(past: &Past<'a>, call: Call<'a>) -> Result<(Job<'a>, PlainOutcome), AllocError> {
-    let position = past.count();
-    let next = match call {
-        Call::Change(_) => CallStep::Ticket,
-        Call::Read(read) => CallStep::Give(Held {
-            position,
-            reply: past.answer(read)?,
-        }),
-    };
-    let outcome = stepped(Made::Looked(position), PlainEnd::Goes);
-    Ok((Job::Calling(call, next), outcome))
 }

@@ -2,7 +2,7 @@
 ghost use Rattle.std.specs.Prelude.{IfOk};
 ghost use Rattle.durable_map.specs.Maps.{IsHeldOf, IsReady};
 
-use crate::calls::{commit_batch, is_now, key, open, was, was_absent};
+use crate::calls::{commit_batch, is_absent_now, is_now, key, open, was, was_absent};
 use disk_model::MemDisk;
 use durable_map::DurableMap;
 use map_types::{Change, Command, Question, Read, Refusal, Value};
@@ -96,5 +96,26 @@ fn begun_calls_share_a_batch(rt: HostRuntime) -> Result<(), Refusal> {
     let alloc = rt.alloc();
     let map = open(&rt, alloc, MemDisk::new(alloc))?;
     assert!(rt; share_a_batch(&rt, &map, alloc)?);
+    Ok(())
+}
+
+// Whether a pass gets the absent `b` while another's put of `a`, on another stripe, isn't committed.
+fn gets_beside_a_put<R: Wait>(
+    rt: &R,
+    map: &DurableMap<MemDisk>,
+    alloc: Global,
+) -> Result<bool, Refusal> {
+    let mut writer = map.pass()?;
+    let mut reader = map.pass()?;
+    let put = begin_put(rt, map, &mut writer, alloc, 1)?;
+    let got = is_absent_now(map.get(rt, &mut reader, key(alloc, "b")?));
+    Ok(got && !map.may_finish(&put))
+}
+
+#[test]
+fn a_read_of_another_stripe_waits_for_no_commit(rt: HostRuntime) -> Result<(), Refusal> {
+    let alloc = rt.alloc();
+    let map = open(&rt, alloc, MemDisk::new(alloc))?;
+    assert!(rt; gets_beside_a_put(&rt, &map, alloc)?);
     Ok(())
 }

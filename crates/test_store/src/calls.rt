@@ -80,7 +80,8 @@ pub(crate) fn is_now(reply: Result<Reply, Refusal>, wanted: i64) -> bool {
     }
 }
 
-fn is_absent_now(reply: Result<Reply, Refusal>) -> bool {
+// Whether nothing is there now.
+pub(crate) fn is_absent_now(reply: Result<Reply, Refusal>) -> bool {
     matches!(reply, Ok(Reply::Now(None)))
 }
 

@@ -6,7 +6,7 @@ use Rattle.run_memory.proofs.showing.show_stripe.Goals as goal
 pub give-requires : goal.give-requires
 give-requires g c =
     let step = c.in-Some.ensures.step in
-    let held : Holding = record { stripe = c.args.stripe; part = c.in-Some.content.part.map; outbox = c.in-Some.content.outbox.items; has_drawn = false; looked = None } in
+    let held : Holding = record { stripe = c.args.stripe; part = c.in-Some.content.part.map; outbox = c.in-Some.content.outbox.items; last = c.in-Some.content.last; has_drawn = false; looked = None } in
     record {
       fits = record {
         held = held;
@@ -14,6 +14,7 @@ give-requires g c =
         stripe_is = refl;
         part_is = refl;
         outbox_is = refl;
+        last_is = refl;
         suits = tt;
       };
     }
