@@ -35,6 +35,7 @@ struct asked {
 
 struct connection {
     int socket;
+    unsigned index;
     bool waits_to_write;
     uint64_t random;
     struct asked *flight; /* a ring */
@@ -100,6 +101,18 @@ static double nanoseconds_of(unsigned bucket) {
     return (double)(STEPS + step + 1) * (double)(1ULL << (power - 5));
 }
 
+static bool splits_stripes(void) {
+    return options.kind == MIXED || options.kind == APART;
+}
+
+static enum kind next_kind(const struct connection *connection, uint64_t drawn) {
+    switch (options.kind) {
+    case HALF: case MIXED: return drawn & 1 << 20 ? PUT : GET;
+    case APART: return connection->index % 2 ? GET : PUT;
+    default: return options.kind;
+    }
+}
+
 /* The next request of a connection: false if there is none. */
 static bool next_request(struct connection *connection, struct request *request) {
     if (options.fills) {
@@ -109,9 +122,11 @@ static bool next_request(struct connection *connection, struct request *request)
         return true;
     }
     uint64_t drawn = draw(connection);
-    request->key = (unsigned)((drawn >> 32) % options.keys);
     request->number = (unsigned)(drawn & 0xFFFFF) % 1000000;
-    request->kind = options.kind == HALF ? (drawn & 1 << 20 ? PUT : GET) : options.kind;
+    request->kind = next_kind(connection, drawn);
+    request->key = (unsigned)((drawn >> 32) % options.keys);
+    while (splits_stripes() && has_upper_stripe(request->key) != (request->kind == GET))
+        request->key = (request->key + 1) % options.keys;
     return true;
 }
 
@@ -163,7 +178,8 @@ static void take_replies(struct connection *connection, int64_t time) {
         connection->count--;
         load->under_way--;
         load->all++;
-        if (time >= count_from && time < end_at) {
+        bool counts = !splits_stripes() || asked->kind == GET;
+        if (counts && time >= count_from && time < end_at) {
             load->replies++;
             load->buckets[bucket_of((uint64_t)(time - asked->nanoseconds))]++;
         }
@@ -204,6 +220,7 @@ static struct connection *connect_to(struct load *load, unsigned index) {
     struct connection *connection = calloc(1, sizeof *connection);
     if (!connection) fail("no memory");
     connection->load = load;
+    connection->index = index;
     connection->random = 0x9E3779B97F4A7C15ULL * (options.seed * 1000 + index + 1);
     connection->flight = calloc(options.flight, sizeof *connection->flight);
     connection->out_room = options.flight * options.most_bytes;

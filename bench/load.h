@@ -9,12 +9,14 @@
 /* The longest text of a value. */
 enum { MOST_TEXT = 4096 };
 
-enum kind { PUT, MERGE, GET, HALF };
+/* MIXED: half of each connection's requests are Puts and half Gets; APART: half of the connections put and the others get.
+ * In both the Gets are of keys on stripes that no Put is of, and the Gets alone are counted. */
+enum kind { PUT, MERGE, GET, HALF, MIXED, APART };
 
 enum protocol { DCHM, REDIS };
 
 struct request {
-    enum kind kind; /* not HALF */
+    enum kind kind; /* PUT, MERGE or GET */
     unsigned key, number;
 };
 
@@ -31,6 +33,9 @@ struct options {
 void fail(const char *form, ...) __attribute__((noreturn, format(printf, 1, 2)));
 
 void read_options(struct options *options, int count, char **words);
+
+/* Whether a key's stripe, of the 16 that `dchm init` makes, is one of the upper eight. */
+bool has_upper_stripe(unsigned key);
 
 /* Writes a request, and returns its length. */
 size_t put_request(const struct options *options, const struct request *request, unsigned char *out);

@@ -8,7 +8,7 @@
 #include <getopt.h>
 
 static const char usage[] =
-    "load dchm|redis --port P [--host ADDRESS] [--connections C] [--flight F] [--kind put|merge|get|half|fill]\n"
+    "load dchm|redis --port P [--host ADDRESS] [--connections C] [--flight F] [--kind put|merge|get|half|mixed|apart|fill]\n"
     "     [--keys N] [--size BYTES, 0 for numbers] [--seconds S] [--warm S] [--threads T] [--seed N]\n";
 
 static unsigned number_of(const char *word, unsigned least, unsigned most) {
@@ -19,13 +19,16 @@ static unsigned number_of(const char *word, unsigned least, unsigned most) {
 }
 
 static void set_kind(struct options *options, const char *word) {
-    static const char *const names[] = {"put", "merge", "get", "half"};
+    static const char *const names[] = {"put", "merge", "get", "half", "mixed", "apart"};
     options->fills = strcmp(word, "fill") == 0;
     options->kind = PUT;
-    for (unsigned i = 0; i < 4; i++) {
-        if (strcmp(word, names[i]) == 0) options->kind = (enum kind)i;
-        else if (i == 3 && !options->fills && options->kind == PUT && strcmp(word, "put")) fail("no kind %s", word);
+    if (options->fills) return;
+    for (unsigned i = 0; i < sizeof names / sizeof *names; i++) {
+        if (strcmp(word, names[i])) continue;
+        options->kind = (enum kind)i;
+        return;
     }
+    fail("no kind %s", word);
 }
 
 static void set_option(struct options *options, int option) {
@@ -69,6 +72,15 @@ static unsigned char *put_key(unsigned char *out, unsigned key) {
     memcpy(out, "key", 3);
     for (int i = KEY_BYTES - 1; i >= 3; i--, key /= 10) out[i] = (unsigned char)('0' + key % 10);
     return out + KEY_BYTES;
+}
+
+/* Java's String.hashCode, spread as ConcurrentHashMap does it. */
+bool has_upper_stripe(unsigned key) {
+    unsigned char text[KEY_BYTES];
+    put_key(text, key);
+    uint32_t hash = 0;
+    for (int i = 0; i < KEY_BYTES; i++) hash = 31 * hash + text[i];
+    return ((hash ^ hash >> 16) & 15) >= 8;
 }
 
 static unsigned char *put_number(unsigned char *out, unsigned number) {
