@@ -35,15 +35,15 @@ use Rattle.checkpoint_walk.proofs.CaptureWalks.{same_stripe, by_change, by_read,
 -- ---- its steps
 
 -- TAKE, LOOK, GIVE
-abbrev made_by : List StepMade → ℕ → List Entry → ℕ → ℕ → List StepMade
-made_by steps i outbox q j = ((steps ++ Took i outbox ∷ []) ++ Looked q ∷ []) ++ Gave j ∷ []
+abbrev made_by : List StepMade → ℕ → List Entry → ℕ → ℕ → ℕ → List StepMade
+made_by steps i outbox last q j = ((steps ++ Took i outbox last ∷ []) ++ Looked q ∷ []) ++ Gave j ∷ []
 
-three : (steps : List StepMade) (i : ℕ) (outbox : List Entry) (q j : ℕ) → length (made_by steps i outbox q j) ≡ length steps + 3
-three steps i outbox q j = omega (
+three : (steps : List StepMade) (i : ℕ) (outbox : List Entry) (last q j : ℕ) → length (made_by steps i outbox last q j) ≡ length steps + 3
+three steps i outbox last q j = omega (
   arith,
-  length_push ((steps ++ Took i outbox ∷ []) ++ Looked q ∷ []) (Gave j),
-  length_push (steps ++ Took i outbox ∷ []) (Looked q),
-  length_push steps (Took i outbox),
+  length_push ((steps ++ Took i outbox last ∷ []) ++ Looked q ∷ []) (Gave j),
+  length_push (steps ++ Took i outbox last ∷ []) (Looked q),
+  length_push steps (Took i outbox last),
 )
 
 -- a stripe that was put back, once it was looked at
@@ -80,13 +80,13 @@ refused_by b i refusal.NotText w r = absurd r
 refused_by b i refusal.SeatsSpent w r = absurd r
 
 back_long : (b : Record) (i : ℕ) (w : Record) → IsPutBack b i w → length w.steps ≡ length b.steps + 3
-back_long b i w k = ap (λ (z : Record). length z.steps) (back_is b i w k) ∙ three b.steps i k.looked.outbox _ _
+back_long b i w k = ap (λ (z : Record). length z.steps) (back_is b i w k) ∙ three b.steps i k.looked.outbox k.looked.last _ _
 
 missed_long : (b : Record) (i : ℕ) (w : Record) → w ≡ missing b i → length w.steps ≡ length b.steps + 1
 missed_long b i w is = ap (λ (z : Record). length z.steps) is ∙ length_push b.steps (FoundHeld i)
 
 captured_long : (n : ℕ) (b : Record) (i mark : ℕ) (es : List (List ℕ × Value)) (w : Record) → CapturesStripe n b i mark es w → length w.steps ≡ length b.steps + 3
-captured_long n b i mark es w k = ap (λ (z : Record). length z.steps) k.is ∙ three b.steps i k.outbox _ _
+captured_long n b i mark es w k = ap (λ (z : Record). length z.steps) k.is ∙ three b.steps i k.outbox k.last _ _
 
 -- a refusal after so many steps
 pub one_missed : (b : Record) (i : ℕ) (e : Refusal) (w : Record) → RefusesCapture b i e w → length w.steps ≡ length b.steps + 1 → w ≡ missing b i
@@ -113,8 +113,8 @@ taken_at n b i (stage.Capture (capture.HasTaken alloc t)) p k made = refl
 taken_at n b i (stage.Capture (capture.HasLooked t z)) p k made = (
     let at = taking b t.stripe t.content.part.map t.content.outbox.items t.content.last k.1.taken in
     let q = at.opening.first + length (at.seen ++ k.1.looked) in
-    let long : length p.steps ≡ length ((b.steps ++ Took t.stripe t.content.outbox.items ∷ []) ++ Looked q ∷ []) = ap (λ (x : Record). length x.steps) k.1.is in
-    absurd (omega (arith, long, length_push (b.steps ++ Took t.stripe t.content.outbox.items ∷ []) (Looked q), length_push b.steps (Took t.stripe t.content.outbox.items), made))
+    let long : length p.steps ≡ length ((b.steps ++ Took t.stripe t.content.outbox.items t.content.last ∷ []) ++ Looked q ∷ []) = ap (λ (x : Record). length x.steps) k.1.is in
+    absurd (omega (arith, long, length_push (b.steps ++ Took t.stripe t.content.outbox.items t.content.last ∷ []) (Looked q), length_push b.steps (Took t.stripe t.content.outbox.items t.content.last), made))
     )
 taken_at n b i (stage.GivingBack t e) p k made = absurd (no_second b i e (giving Nothing p) k.refused (omega (arith, length_push p.steps (Gave (stripe_held p.holding)), made)))
 
@@ -137,8 +137,8 @@ looked_at n b i (stage.Release s) p k made = absurd (by_release n b i s p k)
 looked_at n b i (stage.Sweep s) p k made = absurd (by_sweep n b i s p k)
 looked_at n b i (stage.Capture (capture.Begins alloc j)) p k made = absurd (omega (arith, ap (λ (z : Record). length z.steps) k.0.is, made))
 looked_at n b i (stage.Capture (capture.HasTaken alloc t)) p k made = (
-    let long : length p.steps ≡ length (b.steps ++ Took t.stripe t.content.outbox.items ∷ []) = ap (λ (x : Record). length x.steps) k.1.is in
-    absurd (omega (arith, long, length_push b.steps (Took t.stripe t.content.outbox.items), made))
+    let long : length p.steps ≡ length (b.steps ++ Took t.stripe t.content.outbox.items t.content.last ∷ []) = ap (λ (x : Record). length x.steps) k.1.is in
+    absurd (omega (arith, long, length_push b.steps (Took t.stripe t.content.outbox.items t.content.last), made))
     )
 looked_at n b i (stage.Capture (capture.HasLooked t z)) p k made = ap Give (sym (same_stripe i t.stripe k.0))
 looked_at n b i (stage.GivingBack t e) p k made = ap Give (gave_of b i p (third_put_back b i e (giving Nothing p) k.refused (omega (arith, length_push p.steps (Gave (stripe_held p.holding)), made))) t k.content)
@@ -150,8 +150,8 @@ one_left n b i (stage.Release s) p k made = absurd (by_release n b i s p k)
 one_left n b i (stage.Sweep s) p k made = absurd (by_sweep n b i s p k)
 one_left n b i (stage.Capture (capture.Begins alloc j)) p k made = absurd (omega (arith, ap (λ (z : Record). length z.steps) k.0.is, made))
 one_left n b i (stage.Capture (capture.HasTaken alloc t)) p k made = (
-    let long : length p.steps ≡ length (b.steps ++ Took t.stripe t.content.outbox.items ∷ []) = ap (λ (x : Record). length x.steps) k.1.is in
-    absurd (omega (arith, long, length_push b.steps (Took t.stripe t.content.outbox.items), made))
+    let long : length p.steps ≡ length (b.steps ++ Took t.stripe t.content.outbox.items t.content.last ∷ []) = ap (λ (x : Record). length x.steps) k.1.is in
+    absurd (omega (arith, long, length_push b.steps (Took t.stripe t.content.outbox.items t.content.last), made))
     )
 one_left n b i (stage.Capture (capture.HasLooked t z)) p k made = refl
 one_left n b i (stage.GivingBack t e) p k made = refl
@@ -164,8 +164,8 @@ refused_at n b i (stage.Release s) p e k made kept refused = absurd (by_release 
 refused_at n b i (stage.Sweep s) p e k made kept refused = absurd (by_sweep n b i s p k)
 refused_at n b i (stage.Capture (capture.Begins alloc j)) p e k made kept refused = absurd (omega (arith, ap (λ (z : Record). length z.steps) k.0.is, made))
 refused_at n b i (stage.Capture (capture.HasTaken alloc t)) p e k made kept refused = (
-    let long : length p.steps ≡ length (b.steps ++ Took t.stripe t.content.outbox.items ∷ []) = ap (λ (x : Record). length x.steps) k.1.is in
-    absurd (omega (arith, long, length_push b.steps (Took t.stripe t.content.outbox.items), made))
+    let long : length p.steps ≡ length (b.steps ++ Took t.stripe t.content.outbox.items t.content.last ∷ []) = ap (λ (x : Record). length x.steps) k.1.is in
+    absurd (omega (arith, long, length_push b.steps (Took t.stripe t.content.outbox.items t.content.last), made))
     )
 refused_at n b i (stage.Capture (capture.HasLooked t z)) p e k made kept refused = cc
 refused_at n b i (stage.GivingBack t f) p e k made kept refused = cc
@@ -216,7 +216,7 @@ beside_begun : (b : Record) → IsBeside b b
 beside_begun b = record { opening = refl; keeper = refl; taken = refl; published = refl; failed = refl; seen = record { more = []; is = sym (append-nil b.seen) }; made = []; steps = sym (append-nil b.steps) }
 
 beside_taken : (b : Record) (i : ℕ) (m : Map) (es : List Entry) (last : ℕ) (taken : List Command) → IsBeside b (taking b i m es last taken)
-beside_taken b i m es last taken = record { opening = refl; keeper = refl; taken = refl; published = refl; failed = refl; seen = record { more = taken; is = refl }; made = Took i es ∷ []; steps = refl }
+beside_taken b i m es last taken = record { opening = refl; keeper = refl; taken = refl; published = refl; failed = refl; seen = record { more = taken; is = refl }; made = Took i es last ∷ []; steps = refl }
 
 beside_looked : (b : Record) (i : ℕ) (m : Map) (es : List Entry) (last : ℕ) (taken looked : List Command) → IsBeside b (looking (taking b i m es last taken) looked)
 beside_looked b i m es last taken looked = record {
@@ -226,8 +226,8 @@ beside_looked b i m es last taken looked = record {
   published = refl;
   failed = refl;
   seen = record { more = taken ++ looked; is = append_assoc b.seen taken looked };
-  made = Took i es ∷ (Looked _ ∷ []);
-  steps = append_assoc b.steps (Took i es ∷ []) (Looked _ ∷ []);
+  made = Took i es last ∷ (Looked _ ∷ []);
+  steps = append_assoc b.steps (Took i es last ∷ []) (Looked _ ∷ []);
 }
 
 beside_given : (b v : Record) (g : StepMade) (w : Record) → w.opening ≡ v.opening → w.keeper ≡ v.keeper → w.taken ≡ v.taken → w.published ≡ v.published → w.failed ≡ v.failed → w.seen ≡ v.seen → w.steps ≡ v.steps ++ g ∷ [] → IsBeside b v → IsBeside b w

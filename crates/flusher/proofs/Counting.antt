@@ -19,7 +19,7 @@ use Rattle.flusher.specs.KeeperSteps.{AreOfSweep, MakesSweep, looks_of}
 
 looks_more : (xs ys : List StepMade) → looks_of (xs ++ ys) ≡ looks_of xs ++ looks_of ys
 looks_more [] ys = refl
-looks_more (step.Took i es ∷ xs) ys = looks_more xs ys
+looks_more (step.Took i es last ∷ xs) ys = looks_more xs ys
 looks_more (step.FoundHeld i ∷ xs) ys = looks_more xs ys
 looks_more (step.Gave i ∷ xs) ys = looks_more xs ys
 looks_more (step.Drew t ∷ xs) ys = looks_more xs ys
@@ -34,7 +34,7 @@ more_by : (xs : List StepMade) (made : StepMade) → looks_of (made ∷ []) ≡ 
 more_by xs made none = looks_more xs (made ∷ []) ∙ (ap (λ z. looks_of xs ++ z) none ∙ append-nil (looks_of xs))
 
 none_taken : (made : StepMade) (i : ℕ) → kind_of made ≡ Take i → looks_of (made ∷ []) ≡ []
-none_taken (step.Took j es) i is = refl
+none_taken (step.Took j es last) i is = refl
 none_taken (step.FoundHeld j) i is = refl
 none_taken (step.Gave j) i is = refl
 none_taken (step.Drew t) i is = refl
@@ -45,7 +45,7 @@ none_taken step.Failed i is = refl
 none_taken (step.FoundAlive b) i is = refl
 
 none_given : (made : StepMade) (i : ℕ) → kind_of made ≡ Give i → looks_of (made ∷ []) ≡ []
-none_given (step.Took j es) i is = refl
+none_given (step.Took j es last) i is = refl
 none_given (step.FoundHeld j) i is = refl
 none_given (step.Gave j) i is = refl
 none_given (step.Drew t) i is = refl

@@ -178,7 +178,7 @@ put_back n sweep hand gone p w i k r =
       free = refl;
       within = k.within;
       below = record {
-        looked = Contains-append_left (p.steps ++ Took i x.outbox ∷ []) (Gave i ∷ []) (Looked sweep.count) (Contains-append_left p.steps (Took i x.outbox ∷ []) (Looked sweep.count) k.below.looked);
+        looked = Contains-append_left (p.steps ++ Took i x.outbox x.last ∷ []) (Gave i ∷ []) (Looked sweep.count) (Contains-append_left p.steps (Took i x.outbox x.last ∷ []) (Looked sweep.count) k.below.looked);
         reached = omega (arith, k.below.reached, length-append p.seen x.taken);
         all = taken_later n sweep.count sweep.stripe p.opening.first p.taken (p.taken ++ []) p.seen x.taken k.below.all k.below.reached (λ e has. Contains-append_left p.taken [] e has);
       };
@@ -208,7 +208,7 @@ drained n sweep old new gone p w es k s g =
     subst (HasDrained n sweep.count sweep.stripe new gone) (sym s.is) (record {
       free = refl;
       below = record {
-        looked = Contains-append_left (p.steps ++ Took sweep.stripe es ∷ []) (Gave sweep.stripe ∷ []) (Looked sweep.count) (Contains-append_left p.steps (Took sweep.stripe es ∷ []) (Looked sweep.count) k.below.looked);
+        looked = Contains-append_left (p.steps ++ Took sweep.stripe es s.last ∷ []) (Gave sweep.stripe ∷ []) (Looked sweep.count) (Contains-append_left p.steps (Took sweep.stripe es s.last ∷ []) (Looked sweep.count) k.below.looked);
         reached = omega (arith, k.below.reached, length-append p.seen s.between);
         all = λ e has low before. elim (cases_eq (stripe_of n e.command.key) sweep.stripe) [
           | inl same ↦ stripe_taken n sweep.stripe first p.taken es seen x.more is e has same

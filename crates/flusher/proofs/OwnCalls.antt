@@ -41,7 +41,7 @@ pub then : (a b d : Record) → GoesOnByCalls a b → GoesOnByCalls b d → Goes
 then a b d k j = record { beside = both a b d k.beside j.beside; sections = j.sections ∙ k.sections }
 
 takes : (v : Record) (i : ℕ) (m : Map) (es : List Entry) (last : ℕ) (a : List Command) → GoesOnByCalls v (taking v i m es last a)
-takes v i m es last a = record { beside = record { opening = refl; keeper = refl; taken = refl; published = refl; failed = refl; seen = record { more = a; is = refl }; made = Took i es ∷ []; steps = refl }; sections = refl }
+takes v i m es last a = record { beside = record { opening = refl; keeper = refl; taken = refl; published = refl; failed = refl; seen = record { more = a; is = refl }; made = Took i es last ∷ []; steps = refl }; sections = refl }
 
 misses : (v : Record) (i : ℕ) → GoesOnByCalls v (missing v i)
 misses v i = record { beside = record { opening = refl; keeper = refl; taken = refl; published = refl; failed = refl; seen = record { more = []; is = sym (append-nil v.seen) }; made = FoundHeld i ∷ []; steps = refl }; sections = refl }

@@ -1,9 +1,10 @@
 -- What a pass has seen only grows while its keeper sweeps.
-use Rattle.std.proofs.Common.{◌≡◌, inl, inr, ℕ, ◌≤◌, List, [], ◌++◌, Option, Some, None, Result, Ok, Err, append-nil, refl, sym, ◌∙◌, ap, subst, arith}
+use Rattle.std.proofs.Common.{◌≡◌, inl, inr, ℕ, ◌≤◌, List, [], ◌++◌, length, Option, Some, None, Result, Ok, Err, append-nil, refl, sym, ◌∙◌, ap, subst, arith}
 use Rattle.std.proofs.lemmas.List.{append_assoc}
 use Rattle.map_types.specs.declared.commands.Command.{Command}
 use Rattle.map_types.specs.declared.refusals.Refusal.{Refusal}
 use Rattle.map_types.specs.declared.refusals.Refusal.TheVariants as refusal
+use Rattle.map_model.specs.Maps.{Map}
 use Rattle.ticket_order.specs.declared.sweep_walk.SweepStage.TheVariants as sweep_stage
 use Rattle.ticket_order.specs.declared.walk.Stage.{Stage}
 use Rattle.ticket_order.specs.declared.walk.Stage.TheVariants as stage
@@ -50,6 +51,14 @@ rises_known b p count same (inl low) =
 rises_known b p count same (inr high) =
     let first : p.opening.first ≡ b.opening.first = ap (λ (o : Opening). o.first) same in inl (omega (arith, high.0, high.1, first), omega (arith, first))
 
+-- what a TAKE shows is seen already, if all is that it was followed by
+taken_known : (b at : Record) (xs : List Command) (count i : ℕ) (m : Map) (es : List Entry) (last : ℕ) → at.opening ≡ b.opening → at.seen ≡ xs → Rises b count at → Rises (knowing b xs) count (taking (knowing b xs) i m es last [])
+taken_known b at xs count i m es last opening seen rises =
+    let first : at.opening.first ≡ b.opening.first = ap (λ (o : Opening). o.first) opening in
+    let all : length at.seen ≡ length xs = ap length seen in
+    let same : length (xs ++ []) ≡ length xs = ap length (append-nil xs) in
+    elim rises [ inl low ↦ inl (omega (arith, low.0, low.1, first, all), omega (arith, same)) | inr high ↦ inl (omega (arith, high.1, first, all), omega (arith, same)) ]
+
 refused_known : (b p : Record) (i : ℕ) (e : Refusal) (w : Record) → w.seen ≡ p.seen → RefusesSweep b i e w → RefusesSweep (knowing b p.seen) i e w
 refused_known b p i (refusal.Busy j) w same r = (r.0, r.1 ∙ ap (λ (xs : List Command). record (missing b i) { seen = xs }) (sym (ap (λ (v : Record). v.seen) r.1) ∙ same))
 refused_known b p i refusal.NoMemory w same r =
@@ -58,7 +67,7 @@ refused_known b p i refusal.NoMemory w same r =
     let is : w ≡ giving Nothing first = r.is ∙ ap (giving Nothing) x.is in
     record {
       holder = taking (knowing b p.seen) i x.part x.outbox x.last [];
-      before = record { part = x.part; outbox = x.outbox; last = x.last; taken = []; is = refl };
+      before = record { part = x.part; outbox = x.outbox; last = x.last; taken = []; rises = taken_known b first p.seen (past x.outbox) i x.part x.outbox x.last refl (sym (ap (λ (v : Record). v.seen) is) ∙ same) x.rises; is = refl };
       is = is ∙ ap (λ (xs : List Command). record (giving Nothing first) { seen = xs }) (sym (ap (λ (v : Record). v.seen) is) ∙ same ∙ sym (append-nil p.seen));
       same_calls = r.same_calls;
     }

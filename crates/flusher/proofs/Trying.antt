@@ -62,7 +62,7 @@ brought n i old new gone p w o =
         accounts = accounts_more old new gone first p.taken es p.seen seen k.accounts o.collects (λ e has. grown first p.seen s.between e has) (taken_of_history n i first p.taken es seen x.more is high);
       };
       below = λ count stripe k. record {
-        looked = Contains-append_left (p.steps ++ Took i es ∷ []) (Gave i ∷ []) (Looked count) (Contains-append_left p.steps (Took i es ∷ []) (Looked count) k.looked);
+        looked = Contains-append_left (p.steps ++ Took i es s.last ∷ []) (Gave i ∷ []) (Looked count) (Contains-append_left p.steps (Took i es s.last ∷ []) (Looked count) k.looked);
         reached = omega (arith, k.reached, length-append p.seen s.between);
         all = taken_later n count stripe first p.taken (p.taken ++ es) p.seen s.between k.all k.reached (λ f in_. Contains-append_left p.taken es f in_);
       };
@@ -90,8 +90,8 @@ left_by b i refusal.NoMemory w free r =
       taken = append-nil b.taken;
       more = x.taken;
       seen = refl;
-      made = Took i x.outbox ∷ [] ++ Gave i ∷ [];
-      steps = append_assoc b.steps (Took i x.outbox ∷ []) (Gave i ∷ []);
+      made = Took i x.outbox x.last ∷ [] ++ Gave i ∷ [];
+      steps = append_assoc b.steps (Took i x.outbox x.last ∷ []) (Gave i ∷ []);
     })
 left_by b i refusal.NullValue w free r = absurd r
 left_by b i refusal.KeyTooLong w free r = absurd r

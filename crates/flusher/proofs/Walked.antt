@@ -16,10 +16,10 @@ use Rattle.ticket_order.specs.Calls.{SweepsStripe, RefusesSweep}
 use Rattle.ticket_order.specs.Walks.{ToSweep, Next, HasFewerLeft, Kind, Give, kind_of, MakesOne, KeepsRefusal}
 use Rattle.ticket_order.proofs.Left.{some_left}
 
-swept_steps : (n : ℕ) (b : Record) (i : ℕ) (es : List Entry) (w : Record) → SweepsStripe n b i es w → w.steps ≡ (b.steps ++ Took i es ∷ []) ++ Gave i ∷ []
+swept_steps : (n : ℕ) (b : Record) (i : ℕ) (es : List Entry) (w : Record) (s : SweepsStripe n b i es w) → w.steps ≡ (b.steps ++ Took i es s.last ∷ []) ++ Gave i ∷ []
 swept_steps n b i es w s = ap (λ (z : Record). z.steps) s.is
 
-back_steps : (b : Record) (i : ℕ) (w : Record) (r : RefusesSweep b i refusal.NoMemory w) → w.steps ≡ (b.steps ++ Took i r.before.outbox ∷ []) ++ Gave i ∷ []
+back_steps : (b : Record) (i : ℕ) (w : Record) (r : RefusesSweep b i refusal.NoMemory w) → w.steps ≡ (b.steps ++ Took i r.before.outbox r.before.last ∷ []) ++ Gave i ∷ []
 back_steps b i w r = ap (λ (z : Record). z.steps) (r.is ∙ ap (giving Nothing) r.before.is)
 
 one_or_two : (xs : List StepMade) (a x y : StepMade) → xs ++ a ∷ [] ≡ (xs ++ x ∷ []) ++ y ∷ [] → ⊥
@@ -102,11 +102,11 @@ gave recorded moves kind old new i front m is = record {
 
 pub gave_swept : {T : Type 0} (recorded : T → Record) (moves : T → StepMade → T → Type 0) (kind : Kind) (old new : T) (n i : ℕ) (b : Record) (es : List Entry) → MakesOne recorded moves kind old new
     → SweepsStripe n b i es (recorded new) → MakesOne recorded moves (Give i) old new
-gave_swept recorded moves kind old new n i b es m s = gave recorded moves kind old new i (b.steps ++ Took i es ∷ []) m (swept_steps n b i es (recorded new) s)
+gave_swept recorded moves kind old new n i b es m s = gave recorded moves kind old new i (b.steps ++ Took i es s.last ∷ []) m (swept_steps n b i es (recorded new) s)
 
 pub gave_back : {T : Type 0} (recorded : T → Record) (moves : T → StepMade → T → Type 0) (kind : Kind) (old new : T) (i : ℕ) (b : Record) → MakesOne recorded moves kind old new
     → RefusesSweep b i refusal.NoMemory (recorded new) → MakesOne recorded moves (Give i) old new
-gave_back recorded moves kind old new i b m r = gave recorded moves kind old new i (b.steps ++ Took i r.before.outbox ∷ []) m (back_steps b i (recorded new) r)
+gave_back recorded moves kind old new i b m r = gave recorded moves kind old new i (b.steps ++ Took i r.before.outbox r.before.last ∷ []) m (back_steps b i (recorded new) r)
 
 -- a walk that hands entries out was not to refuse
 pub no_refusal : (r : Option Refusal) (es : _) → KeepsRefusal r (stepped.Swept es) → r ≡ None

@@ -57,13 +57,20 @@ last_small n i o h = omega (arith, past_of n i (entries_from o.first h), past_fr
 fold_push : (m : Map) (h : List Command) (c : Command) → map_after m (h ++ c ∷ []) ≡ (step (map_after m h) c).map
 fold_push m h c = map_after-append m h (c ∷ [])
 
+-- the last of the stripe whose change it is, and of another
+pub last_drawn : (n i : ℕ) (o : Opening) (h : List Command) (c : Command) → is_in_stripe n i c.key ≡ true → last_of n i o.first (h ++ c ∷ []) ≡ o.first + length h + 1
+last_drawn n i o h c own = omega (arith, last_push n i o h c, ap past (own_of n i (entry (o.first + length h) c) own), last_small n i o h)
+
+pub last_other : (n i : ℕ) (o : Opening) (h : List Command) (c : Command) → is_in_stripe n i c.key ≡ false → last_of n i o.first (h ++ c ∷ []) ≡ last_of n i o.first h
+last_other n i o h c other = omega (arith, last_push n i o h c, ap past (other_of n i (entry (o.first + length h) c) other))
+
 -- the holder of the stripe makes the change
 pub content_drawn : (o : Opening) (n : ℕ) (h : List Command) (taken : List Entry) (i : ℕ) (m : Map) (es : List Entry) (last : ℕ) (c : Command) → is_in_stripe n i c.key ≡ true → IsContent o n h taken i m es last
     → IsContent o n (h ++ c ∷ []) taken i (step m c).map (es ++ entry (o.first + length h) c ∷ []) (o.first + length h + 1)
 content_drawn o n h taken i m es last c own k = record {
   part_is = ap (part_of n i) (fold_push o.map h c) ∙ (ap (λ (s : Stepped). s.map) (sym (step-part_of n i (map_after o.map h) c own)) ∙ ap (λ p. (step p c).map) k.part_is);
   outbox_is = of_append n i o h (c ∷ []) ∙ (ap (λ w. w ++ entries_of n i (entry (o.first + length h) c ∷ [])) k.outbox_is ∙ (ap (λ w. (entries_of n i taken ++ es) ++ w) (own_of n i (entry (o.first + length h) c) own) ∙ append_assoc (entries_of n i taken) es (entry (o.first + length h) c ∷ [])));
-  last_is = omega (arith, last_push n i o h c, ap past (own_of n i (entry (o.first + length h) c) own), last_small n i o h);
+  last_is = sym (last_drawn n i o h c own);
 }
 
 -- a change of another stripe
@@ -71,7 +78,7 @@ pub content_other : (o : Opening) (n : ℕ) (h : List Command) (taken : List Ent
 content_other o n h taken i m es last c other k = record {
   part_is = ap (part_of n i) (fold_push o.map h c) ∙ (step-part_of_other n i (map_after o.map h) c other ∙ k.part_is);
   outbox_is = of_append n i o h (c ∷ []) ∙ (ap (λ w. entries_of n i (entries_from o.first h) ++ w) (other_of n i (entry (o.first + length h) c) other) ∙ (append-nil (entries_of n i (entries_from o.first h)) ∙ k.outbox_is));
-  last_is = omega (arith, k.last_is, last_push n i o h c, ap past (other_of n i (entry (o.first + length h) c) other));
+  last_is = k.last_is ∙ sym (last_other n i o h c other);
 }
 
 -- the reply of the part is that of the map

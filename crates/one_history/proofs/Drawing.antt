@@ -1,8 +1,8 @@
 -- TICKET.
-use Rattle.std.proofs.Common.{ℕ, ◌≡◌, ◌≢◌, ◌+◌, ◌<◌, ◌≤◌, ◌^◌, ◌++◌, List, [], ◌∷◌, Bool, true, false, Option, Some, None, length, refl, arith, sym, ◌∙◌, ap, subst, append_assoc, length-append}
+use Rattle.std.proofs.Common.{ℕ, ◌≡◌, ◌≢◌, ◌+◌, ◌<◌, ◌≤◌, ◌^◌, ◌++◌, List, [], ◌∷◌, Bool, true, false, Option, Some, None, length, refl, arith, sym, ◌∙◌, ap, subst, inl, inr, append_assoc, length-append}
 use Rattle.std.specs.Prelude.{if◌then◌else◌}
 use Rattle.std.proofs.Math.ListN.{length-set}
-use Rattle.std.proofs.lemmas.Bool.{eq-eqb, ne_eqb}
+use Rattle.std.proofs.lemmas.Bool.{cases_eq, eq-eqb, ne_eqb}
 use Rattle.std.proofs.lemmas.List.Elements.{All-push, All-weaker}
 use Rattle.map_types.specs.declared.commands.Command.{Command}
 use Rattle.map_model.specs.Parts.{is_in_stripe}
@@ -17,19 +17,20 @@ use Rattle.ticket_order.specs.declared.record.StepMade.TheVariants as made
 use Rattle.ticket_order.specs.declared.record.Holding.{Holding}
 use Rattle.ticket_order.specs.declared.record.Record.{Record}
 use Rattle.ticket_order.specs.Records.{reach, call, entry, drawing, drawing_at, part_held}
-use Rattle.ticket_order.specs.Legality.{IsContent, history_of}
+use Rattle.ticket_order.specs.Legality.{IsContent, history_of, last_of}
 use Rattle.ticket_order.specs.StepRules.{MayDraw, Draws}
 use Rattle.ticket_order.proofs.Longer.{sections_longer}
 use Rattle.one_history.specs.declared.book.Book.{Book}
 use Rattle.one_history.specs.declared.slot.Slot.{Slot}
 use Rattle.one_history.specs.declared.slot.Slot.TheVariants.{Home, HeldBy}
+use Rattle.one_history.specs.Interleaving.{is_held_by, with_last}
 use Rattle.one_history.specs.Turns.{record_of, words_of, unseen, drew}
 use Rattle.one_history.specs.OneHistory.{IsFront, IsUpTo, Holds, Knows, AreOf, IsOneHistory, changes_by, stripe_in}
 use Rattle.one_history.specs.Moves.{BookMoves}
-use Rattle.one_history.specs.SharedWords.{slot_of, Lies, draws_left, IsKept}
+use Rattle.one_history.specs.SharedWords.{slot_of, holder_in, Lies, draws_left, IsKept}
 use Rattle.one_history.proofs.Fronts.{front_refl, front_trans, front_one}
 use Rattle.one_history.proofs.Legal.{calls_longer, calls_both}
-use Rattle.one_history.proofs.Contents.{content_drawn, content_other, own_reply}
+use Rattle.one_history.proofs.Contents.{last_drawn, last_other, content_drawn, content_other, own_reply}
 use Rattle.one_history.proofs.Orders.{order_push, push_change, own_more, other_more}
 use Rattle.one_history.proofs.Knowing.{up_to_more, done_same}
 use Rattle.one_history.proofs.Slots.{holders_turned, one_turned, same_record, other_records, holds_still, held_before, room_drawn, count_small}
@@ -173,6 +174,33 @@ module _ (n t durable : ℕ) (has_failed : Bool) (slots : List Slot) (b : Book) 
   more_by_one : length (b.history ++ c ∷ []) ≡ length b.history + 1
   more_by_one = length-append b.history (c ∷ [])
 
+  -- whom the words have for the holder of the stripe l: this pass, if the stripe is the change's, and no or another pass,
+  -- if it isn't
+  holder_here : is_held_by j ((words_of b).holders may.held.stripe) ≡ true
+  holder_here = ap (is_held_by j) (kept.holders may.held.stripe holds_it.within ∙ ap holder_in slot_here) ∙ eq-eqb j j refl
+
+  holder_there : (l : ℕ) → l ≢ may.held.stripe → (x : Slot) → Lies b l x → is_held_by j (holder_in x) ≡ false
+  holder_there l ne (Home content) lies = refl
+  holder_there l ne (HeldBy u) lies =
+      ne_eqb u j (λ e.
+      let has : stripe_in (record_of j b).holding ≡ Some l = subst (λ v. stripe_in (record_of v b).holding ≡ Some l) e lies.has in
+      let both : Some may.held.stripe ≡ Some l = sym (ap stripe_in may.holding) ∙ has in
+      ne (cc))
+
+  -- one past the last ticket of the stripe l is what it was, but for the stripe of the change
+  lasts_drawn : (l : ℕ) → l < b.stripes → with_last j (r.opening.first + length (r.seen ++ between) + 1) (words_of b).holders (words_of b).lasts l ≡ last_of b.stripes l b.opening.first h'
+  lasts_drawn l lt =
+      let new : ℕ = r.opening.first + length (r.seen ++ between) + 1 in
+      let was : (words_of b).lasts l ≡ last_of b.stripes l b.opening.first b.history = kept.one.words.lasts l lt in
+      elim (cases_eq l may.held.stripe) [
+        | inl e ↦
+            ap (λ t. if t then new else (words_of b).lasts l) (ap (λ u. is_held_by j ((words_of b).holders u)) e ∙ holder_here)
+            ∙ (ap (λ p. p + 1) ticket_is ∙ sym (last_drawn b.stripes l b.opening b.history c (subst (λ u. is_in_stripe b.stripes u c.key ≡ true) (sym e) own)))
+        | inr ne ↦
+            ap (λ t. if t then new else (words_of b).lasts l) (ap (is_held_by j) (kept.holders l lt) ∙ holder_there l ne (slot_of l slots) (kept.each_slot l lt))
+            ∙ (was ∙ sym (last_other b.stripes l b.opening b.history c (other_stripe l ne)))
+      ]
+
   one_drew : IsOneHistory (drew j c b)
   one_drew =
       let words : AreOf b (words_of b) = kept.one.words in
@@ -185,7 +213,7 @@ module _ (n t durable : ℕ) (has_failed : Bool) (slots : List Slot) (b : Book) 
       (record {
         recorded = refl;
         finds = ticket_is ∙ sym counted;
-        words = record { tickets = omega (arith, more_by_one); durable = words.durable; failed = words.failed };
+        words = record { tickets = omega (arith, more_by_one); durable = words.durable; failed = words.failed; lasts = lasts_drawn };
       })
 
   same : stripe_in w.holding ≡ stripe_in (record_of j b).holding

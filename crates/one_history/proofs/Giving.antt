@@ -147,7 +147,7 @@ module _ (n t durable : ℕ) (has_failed : Bool) (slots : List Slot) (b : Book) 
       (record {
         recorded = after.steps;
         finds = subst (λ u. (words_of b).holders u ≡ Some j) (sym stripe_here) (kept.holders d.stripe holds_it.within ∙ ap holder_in slot_here);
-        words = record { tickets = words.tickets; durable = words.durable; failed = words.failed };
+        words = record { tickets = words.tickets; durable = words.durable; failed = words.failed; lasts = words.lasts };
       })
 
   pub in_slots : i < length slots

@@ -121,7 +121,7 @@ one_at_start o stripes n = record {
   ];
   steps = none_stepped o n;
   found = tt;
-  words = record { tickets = omega arith; durable = refl; failed = refl };
+  words = record { tickets = omega arith; durable = refl; failed = refl; lasts = λ i lt. omega arith };
 }
 
 -- no stripe is held

@@ -15,7 +15,7 @@ use Rattle.one_history.specs.Turns.{record_of, pass_step, words_of}
 use Rattle.one_history.specs.OneHistory.{AreOf, IsOneHistory, StaysSo}
 
 durable_moved : (j : ℕ) (s : StepMade) (w : Words) → w.durable ≤ (moved_by j s w).durable
-durable_moved j (Took i outbox) w = omega arith
+durable_moved j (Took i outbox last) w = omega arith
 durable_moved j (FoundHeld i) w = omega arith
 durable_moved j (Gave i) w = omega arith
 durable_moved j (Drew t) w = omega arith
@@ -26,7 +26,7 @@ durable_moved j Failed w = omega arith
 durable_moved j (FoundAlive is_alive) w = omega arith
 
 failed_moved : (j : ℕ) (s : StepMade) (w : Words) → w.failed ≡ true → (moved_by j s w).failed ≡ true
-failed_moved j (Took i outbox) w f = f
+failed_moved j (Took i outbox last) w f = f
 failed_moved j (FoundHeld i) w f = f
 failed_moved j (Gave i) w f = f
 failed_moved j (Drew t) w f = f
@@ -48,7 +48,7 @@ failed_after w (s ∷ xs) f = failed_after (moved_by s.pass s.step w) xs (failed
 
 module _ (b : Book) where
   abbrev Took_in : ℕ → ℕ → Type 0
-  Took_in l i = (outbox : List Entry) × Contains b.interleaving (pass_step l (Took i outbox))
+  Took_in l i = (outbox : List Entry) × (last : ℕ) × Contains b.interleaving (pass_step l (Took i outbox last))
 
   -- each holder has taken its stripe
   abbrev HaveTaken : Words → Type 0
@@ -61,7 +61,7 @@ module _ (b : Book) where
   ]
 
   holders_moved : (j : ℕ) (s : StepMade) (w : Words) → HaveTaken w → Contains b.interleaving (pass_step j s) → HaveTaken (moved_by j s w)
-  holders_moved j (Took i outbox) w had there = λ k l is. held_as i j k l (Some j) w.holders had (λ e. (outbox, subst (λ u. Contains b.interleaving (pass_step u (Took i outbox))) (let f : Some j ≡ Some l = e in cc) there)) is
+  holders_moved j (Took i outbox last) w had there = λ k l is. held_as i j k l (Some j) w.holders had (λ e. (outbox, last, subst (λ u. Contains b.interleaving (pass_step u (Took i outbox last))) (let f : Some j ≡ Some l = e in cc) there)) is
   holders_moved j (FoundHeld i) w had there = λ k l is. had k l is
   holders_moved j (Gave i) w had there = λ k l is. held_as i j k l None w.holders had (λ e. absurd (let no : None ≡ Some l = e in cc)) is
   holders_moved j (Drew t) w had there = λ k l is. had k l is
@@ -72,8 +72,8 @@ module _ (b : Book) where
   holders_moved j (FoundAlive is_alive) w had there = λ k l is. had k l is
 
   stays : (j : ℕ) (s : StepMade) (w : Words) → w.durable ≤ b.effects.durable → (w.failed ≡ true → b.effects.failed ≡ true) → HaveTaken w → Finds j s w → StaysSo b j s
-  stays j (Took i outbox) w low failed had f = tt
-  stays j (FoundHeld i) w low failed had f = let x = had i f.other f.is in record { taker = f.other; outbox = x.0; apart = f.apart; took = x.1 }
+  stays j (Took i outbox last) w low failed had f = tt
+  stays j (FoundHeld i) w low failed had f = let x = had i f.other f.is in record { taker = f.other; outbox = x.0; last = x.1; apart = f.apart; took = x.2 }
   stays j (Gave i) w low failed had f = tt
   stays j (Drew t) w low failed had f = tt
   stays j (Looked q) w low failed had f = tt

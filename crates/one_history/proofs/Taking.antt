@@ -15,7 +15,7 @@ use Rattle.ticket_order.specs.declared.record.Holding.{Holding}
 use Rattle.ticket_order.specs.declared.record.Record.{Record}
 use Rattle.ticket_order.specs.Records.{past, taking}
 use Rattle.ticket_order.specs.Legality.{IsContent, entries_of, entries_from, last_of}
-use Rattle.ticket_order.specs.StepRules.{Rises, Collects, IsLast, TakesStripe}
+use Rattle.ticket_order.specs.StepRules.{Rises, Collects, EndsAt, IsLast, TakesStripe}
 use Rattle.one_history.specs.declared.book.Book.{Book}
 use Rattle.one_history.specs.declared.slot.Slot.{Slot}
 use Rattle.one_history.specs.declared.slot.Slot.TheVariants.{Home, HeldBy}
@@ -53,7 +53,7 @@ module _ (n t durable : ℕ) (has_failed : Bool) (slots : List Slot) (b : Book) 
   sees_outbox = sees_to (record_of j b).opening.first (past es) (record_of j b).seen b.history here.front (omega (arith, ap (λ (o : Opening). o.first) here.opening, past_within b.opening b.stripes b.history b.effects.taken i m es content.last at_home))
 
   abbrev s : StepMade
-  s = made.Took i content.outbox.items
+  s = made.Took i content.outbox.items content.last
 
   in_slots : i < length slots
   in_slots = (let s : b.stripes ≡ n = kept.stripes_are in let l : length slots ≡ n = kept.sized in omega arith)
@@ -68,6 +68,9 @@ module _ (n t durable : ℕ) (has_failed : Bool) (slots : List Slot) (b : Book) 
   pub free_before : IsFree i b
   free_before l x = let e : HeldBy l ≡ Home content = sym (kept.carried i l x) ∙ home in cc
 
+  ends : EndsAt es content.last
+  ends = outbox_ends b.opening b.stripes b.history b.effects.taken i m es content.last at_home
+
   one_took : IsOneHistory (took j i content b)
   unfolding here
   one_took =
@@ -80,7 +83,7 @@ module _ (n t durable : ℕ) (has_failed : Bool) (slots : List Slot) (b : Book) 
       let is : new ≡ d = (let f : Some new ≡ Some d = e in cc) in
       subst (Holds b.opening b.stripes b.history b.authors b.effects w) is (record { within = lt; content = at_home; looked = λ q f. absurd (let no : None ≡ Some q = f in cc) })))
       (λ l ll ne. kept.one.passes l ll)
-      (record { recorded = refl; finds = kept.holders i lt ∙ ap holder_in home; words = record { tickets = words.tickets; durable = words.durable; failed = words.failed } })
+      (record { recorded = refl; finds = (kept.holders i lt ∙ ap holder_in home, at_home.last_is ∙ sym (words.lasts i lt), ends); words = record { tickets = words.tickets; durable = words.durable; failed = words.failed; lasts = words.lasts } })
 
   -- another pass holds another stripe
   apart : (l k : ℕ) → HoldsStripe b l k → l ≢ j
@@ -160,17 +163,17 @@ module _ (n t durable : ℕ) (has_failed : Bool) (slots : List Slot) (b : Book) 
       }
 
   pub takes_stripe : TakesStripe b.stripes (record_of j b) i content (record_of j (took j i content b))
-  takes_stripe = rw (same_record b j s w b.history b.authors b.effects within) (record { between = between; is = refl; rises = sees_outbox.rises; collects = collects; last = last_seen; ends = outbox_ends b.opening b.stripes b.history b.effects.taken i m es content.last at_home })
+  takes_stripe = rw (same_record b j s w b.history b.authors b.effects within) (record { between = between; is = refl; rises = sees_outbox.rises; collects = collects; last = last_seen; ends = ends })
 
   same_now : record_of j (took j i content b) ≡ w
   same_now = same_record b j s w b.history b.authors b.effects within
 
-  pub moves_took : BookMoves j (made.Took i es) b (took j i content b)
+  pub moves_took : BookMoves j (made.Took i es content.last) b (took j i content b)
   moves_took = record {
     opening = refl;
     stripes = refl;
     passes = length-set b.passes j w;
     others = λ l ne. other_records b j l s w b.history b.authors b.effects ne;
     words = (record { same = record { history = refl; authors = refl }; effects = refl }, free_before);
-    raises = (subst (λ (y : Record). Rises (record_of j b) (past es) y) (sym same_now) sees_outbox.rises, at_home.outbox_is);
+    raises = (subst (λ (y : Record). Rises (record_of j b) (past es) y) (sym same_now) sees_outbox.rises, at_home.outbox_is, at_home.last_is);
   }

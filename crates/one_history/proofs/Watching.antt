@@ -54,7 +54,7 @@ module _ (n t durable : ℕ) (has_failed : Bool) (slots : List Slot) (b : Book) 
   step_watched s w recorded finds same = record {
     recorded = recorded;
     finds = finds;
-    words = subst (AreOf (turned b j s w b.history b.authors b.effects)) (sym same) (record { tickets = kept.one.words.tickets; durable = kept.one.words.durable; failed = kept.one.words.failed });
+    words = subst (AreOf (turned b j s w b.history b.authors b.effects)) (sym same) (record { tickets = kept.one.words.tickets; durable = kept.one.words.durable; failed = kept.one.words.failed; lasts = kept.one.words.lasts });
   }
 
   pub whole : (record_of j b).seen ++ unseen (record_of j b) b.history ≡ b.history
@@ -233,7 +233,7 @@ module _ (n t durable : ℕ) (has_failed : Bool) (slots : List Slot) (b : Book) 
       (record {
         recorded = refl;
         finds = (within_count, words.failed ∙ (sym own_failed ∙ may.unfailed));
-        words = record { tickets = words.tickets; durable = ap (λ y. max y x) words.durable; failed = words.failed };
+        words = record { tickets = words.tickets; durable = ap (λ y. max y x) words.durable; failed = words.failed; lasts = words.lasts };
       }))
 
   pub publishes : (x : ℕ) → record_of j (published j x b) ≡ publishing (record_of j b) x
@@ -255,7 +255,7 @@ module _ (n t durable : ℕ) (has_failed : Bool) (slots : List Slot) (b : Book) 
       (room_turned b j made.Failed w k' within (omega arith) kept.room)
       (one_kept k' made.Failed w keeper refl refl kept.one.begun kept.one.reached (nothing_more r w refl refl refl) refl refl refl
       (subst (HasDone b.opening k' w) (sym keeper) (was.0, was.1, refl))
-      (record { recorded = refl; finds = tt; words = record { tickets = words.tickets; durable = words.durable; failed = refl } }))
+      (record { recorded = refl; finds = tt; words = record { tickets = words.tickets; durable = words.durable; failed = refl; lasts = words.lasts } }))
 
   pub fails : record_of j (failed j b) ≡ failing (record_of j b)
   fails = same_record b j made.Failed (failing (record_of j b)) b.history b.authors (record b.effects { failed = true }) within

@@ -3,29 +3,40 @@ use Rattle.std.specs.Prelude.{◌≡◌, ◌≢◌, ℕ, ◌+◌, ◌≤◌, ◌
 use Rattle.ticket_order.specs.declared.record.Opening.{Opening}
 use Rattle.ticket_order.specs.declared.record.StepMade.{StepMade}
 use Rattle.ticket_order.specs.declared.record.StepMade.TheVariants.{Took, FoundHeld, Gave, Drew, Looked, Published, Saw, Failed, FoundAlive}
+use Rattle.ticket_order.specs.StepRules.{EndsAt}
 use Rattle.one_history.specs.declared.book.PassStep.{PassStep}
 
--- the ticket count, the durable count, whether a FAIL was made, and for each stripe the pass that holds it
+-- the ticket count, the durable count, whether a FAIL was made, and for each stripe the pass that holds it and one past
+-- the last ticket that was drawn on it
 pub record Words : Type 0 where
   pub tickets : ℕ
   pub durable : ℕ
   pub failed : Bool
   pub holders : ℕ → Option ℕ
+  pub lasts : ℕ → ℕ
 
--- before any step
+-- before any step: no ticket was drawn on any stripe, which the first ticket stands for
 abbrev pub words_at : Opening → Words
-words_at o = record { tickets = o.first; durable = o.first; failed = false; holders = λ i. None }
+words_at o = record { tickets = o.first; durable = o.first; failed = false; holders = λ i. None; lasts = λ i. o.first }
 
 -- the holders, but with this one for stripe i
 abbrev pub with_holder : ℕ → Option ℕ → (ℕ → Option ℕ) → ℕ → Option ℕ
 with_holder i holder holders k = if k == i then holder else holders k
 
+abbrev pub is_held_by : ℕ → Option ℕ → Bool
+is_held_by j None = false
+is_held_by j (Some holder) = holder == j
+
+-- the last tickets, but with this one for each stripe that the pass j holds
+abbrev pub with_last : ℕ → ℕ → (ℕ → Option ℕ) → (ℕ → ℕ) → ℕ → ℕ
+with_last j last holders lasts k = if is_held_by j (holders k) then last else lasts k
+
 -- what a step of the pass j leaves in the words
 abbrev pub moved_by : ℕ → StepMade → Words → Words
-moved_by j (Took i outbox) w = record w { holders = with_holder i (Some j) w.holders }
+moved_by j (Took i outbox last) w = record w { holders = with_holder i (Some j) w.holders }
 moved_by j (FoundHeld i) w = w
 moved_by j (Gave i) w = record w { holders = with_holder i None w.holders }
-moved_by j (Drew t) w = record w { tickets = w.tickets + 1 }
+moved_by j (Drew t) w = record w { tickets = w.tickets + 1; lasts = with_last j (t + 1) w.holders w.lasts }
 moved_by j (Looked q) w = w
 moved_by j (Published x) w = record w { durable = max w.durable x }
 moved_by j (Saw d) w = w
@@ -38,9 +49,10 @@ pub record IsAnother (j : ℕ) (holder : Option ℕ) : Type 0 where
   pub is : holder ≡ Some other
   pub apart : other ≢ j
 
--- what the step of the pass j finds in the words: a TAKE whether the stripe is free, the others what their word holds
+-- What the step of the pass j finds in the words: a TAKE whether the stripe is free, its `last`, and an outbox that ends
+-- there, if it has entries; the others what their word holds.
 abbrev pub Finds : ℕ → StepMade → Words → Type 0
-Finds j (Took i outbox) w = w.holders i ≡ None
+Finds j (Took i outbox last) w = (w.holders i ≡ None) × (last ≡ w.lasts i) × EndsAt outbox last
 Finds j (FoundHeld i) w = IsAnother j (w.holders i)
 Finds j (Gave i) w = w.holders i ≡ Some j
 Finds j (Drew t) w = t ≡ w.tickets

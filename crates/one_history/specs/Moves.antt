@@ -51,7 +51,7 @@ pub record GainsTaken (j : ℕ) (b b' : Book) : Type 0 where
   pub taken : (record_of j b').taken ≡ (record_of j b).taken ++ entries
 
 abbrev pub WordsMove : ℕ → StepMade → Book → Book → Type 0
-WordsMove j (Took i es) b b' = SameWords b b' × IsFree i b
+WordsMove j (Took i es last) b b' = SameWords b b' × IsFree i b
 WordsMove j (FoundHeld i) b b' = SameWords b b' × IsHeldByAnother j i b
 WordsMove j (Gave i) b b' = SameHistory b b' × GainsTaken j b b'
 WordsMove j (Drew t) b b' = GainsOne j t b b'
@@ -65,6 +65,10 @@ WordsMove j (FoundAlive is_alive) b b' = SameWords b b' × (is_alive ≡ not b.e
 abbrev pub IsOutbox : Book → ℕ → List Entry → Type 0
 IsOutbox b i es = entries_of b.stripes i (entries_from b.opening.first b.history) ≡ entries_of b.stripes i b.effects.taken ++ es
 
+-- one past the greatest ticket of the stripe's changes
+abbrev pub IsLastOf : Book → ℕ → ℕ → Type 0
+IsLastOf b i last = last ≡ last_of b.stripes i b.opening.first b.history
+
 -- the pass has made no further call, and seen no more
 pub record SeesNoMore (v w : Record) : Type 0 where
   pub calls : w.calls ≡ v.calls
@@ -77,10 +81,10 @@ pub record SeesRead (v : Record) (n : ℕ) (w : Record) : Type 0 where
   pub rises : Rises v n w
 
 -- How a step of the pass j raises the greatest position that it has seen. A TAKE raises it to one past the greatest
--- ticket in the outbox. A LOOK and a SEE raise it to what they found, and a TICKET to one past its ticket. A GIVE that
+-- ticket in the outbox, and finds the stripe's `last`. A LOOK and a SEE raise it to what they found, and a TICKET to one past its ticket. A GIVE that
 -- makes a read raises it to one past the last ticket of its stripe.
 abbrev pub Raises : ℕ → StepMade → Book → Book → Type 0
-Raises j (Took i es) b b' = Rises (record_of j b) (past es) (record_of j b') × IsOutbox b i es
+Raises j (Took i es last) b b' = Rises (record_of j b) (past es) (record_of j b') × IsOutbox b i es × IsLastOf b i last
 Raises j (Drew t) b b' = reach (record_of j b') ≡ t + 1
 Raises j (Looked q) b b' = reach (record_of j b') ≡ q
 Raises j (Saw d) b b' = Rises (record_of j b) d (record_of j b')

@@ -14,7 +14,7 @@ use Rattle.ticket_order.specs.declared.record.Call.{Call}
 use Rattle.ticket_order.specs.declared.record.Holding.{Holding}
 use Rattle.ticket_order.specs.declared.record.Record.{Record}
 use Rattle.ticket_order.specs.Records.{reach}
-use Rattle.ticket_order.specs.Legality.{history_of, IsLegalSection, IsContent}
+use Rattle.ticket_order.specs.Legality.{history_of, IsLegalSection, IsContent, last_of}
 use Rattle.ticket_order.specs.StepRules.{AllLegalCalls, AllLegalSections}
 use Rattle.one_history.specs.declared.book.Book.{Book}
 use Rattle.one_history.specs.declared.book.KeeperEffects.{KeeperEffects}
@@ -83,11 +83,13 @@ module _ (o : Opening) (n : ℕ) (h : List Command) (authors : List ℕ) (k : Ke
     pub done : HasDone o k v v.keeper
     pub held : (d : Holding) → v.holding ≡ Some d → Holds v d
 
--- the words hold what the history and the effects say
+-- The words hold what the history and the effects say. One past the last ticket drawn on a stripe is one past the
+-- greatest ticket of the changes of its keys.
 pub record AreOf (b : Book) (w : Words) : Type 0 where
   pub tickets : w.tickets ≡ b.opening.first + length b.history
   pub durable : w.durable ≡ b.effects.durable
   pub failed : w.failed ≡ b.effects.failed
+  pub lasts : (i : ℕ) → i < b.stripes → w.lasts i ≡ last_of b.stripes i b.opening.first b.history
 
 -- Each change of the history is a pass's, and the records of all passes agree with it. The steps that they recorded are those of one interleaving, in
 -- which each step finds what the steps before it left in the words.
@@ -106,8 +108,9 @@ pub record IsOneHistory (b : Book) : Type 0 where
 pub record IsTakenByAnother (b : Book) (j i : ℕ) : Type 0 where
   pub taker : ℕ
   pub outbox : List Entry
+  pub last : ℕ
   pub apart : taker ≢ j
-  pub took : Contains b.interleaving (pass_step taker (Took i outbox))
+  pub took : Contains b.interleaving (pass_step taker (Took i outbox last))
 
 -- What stays so once the pass j made this step. A SEE found no more than the durable count. An ALIVE says no only after
 -- a FAIL. A TAKE finds its stripe held only after another pass took it.

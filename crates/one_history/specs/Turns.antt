@@ -43,7 +43,7 @@ unseen_to n v h = unseen v (take (n - v.opening.first) h)
 abbrev pub took : ℕ → ℕ → Stripe → Book → Book
 took j i content b =
     let v : Record = record_of j b in
-    with_step_by j (made.Took i content.outbox.items) (taking v i content.part.map content.outbox.items content.last (unseen_to (past content.outbox.items) v b.history)) b
+    with_step_by j (made.Took i content.outbox.items content.last) (taking v i content.part.map content.outbox.items content.last (unseen_to (past content.outbox.items) v b.history)) b
 
 -- TAKE of a stripe that another holds
 abbrev pub found_held : ℕ → ℕ → Book → Book

@@ -98,7 +98,7 @@ module _ (n t durable : ℕ) (has_failed : Bool) (slots : List Slot) (b : Book) 
 
   pub seen_took : (i : ℕ) (content : Stripe) → i < b.stripes → (record_of j b).holding ≡ None → slot_of i slots ≡ Home content → HaveSeen (raised j (past content.outbox.items) seen) (took j i content b)
   seen_took i content lt empty home =
-      seen_raised seen b (took j i content b) j (past content.outbox.items) (made.Took i content.outbox.items) have within (moves_took n t durable has_failed slots b j kept within i content lt empty home)
+      seen_raised seen b (took j i content b) j (past content.outbox.items) (made.Took i content.outbox.items content.last) have within (moves_took n t durable has_failed slots b j kept within i content lt empty home)
       (takes_stripe n t durable has_failed slots b j kept within i content lt empty home).rises
 
   pub seen_drew : (c : Command) → MayDraw b.stripes (record_of j b) c → HaveSeen (set seen j (t + 1)) (drew j c b)

@@ -36,7 +36,7 @@ DrawsNoTicket kind = Unit {0}
 
 undrawn_step : (s : StepMade) → DrawsNoTicket (kind_of s) → DrawsNone s
 undrawn_step (Drew t) is = absurd is
-undrawn_step (Took i outbox) is = tt
+undrawn_step (Took i outbox last) is = tt
 undrawn_step (FoundHeld i) is = tt
 undrawn_step (Gave i) is = tt
 undrawn_step (Looked q) is = tt
@@ -49,7 +49,7 @@ pub undrawn : (s : StepMade) (kind : Kind) → kind_of s ≡ kind → DrawsNoTic
 undrawn s kind e is = undrawn_step s (subst DrawsNoTicket (sym e) is)
 
 pub history_kept : (s : StepMade) (b b' : Book) → DrawsNone s → WordsMove 64 s b b' → b'.history ≡ b.history
-history_kept (Took i outbox) b b' none moved = moved.0.same.history
+history_kept (Took i outbox last) b b' none moved = moved.0.same.history
 history_kept (FoundHeld i) b b' none moved = moved.0.same.history
 history_kept (Gave i) b b' none moved = moved.0.history
 history_kept (Drew t) b b' none moved = absurd none
@@ -72,7 +72,7 @@ count_told b w l words = sym (ap length words.history ∙ length-append words.be
 
 pub agrees : FreeIsTold → HeldIsTold → (b b' : Book) (w : World) (l : Life) (doings : ℕ → Doing) (s : StepMade) (m : Made) → WorkersStand b w l doings → WordsMove 64 s b b' → told_of s ≡ Some m
     → telling.AgreesWith w l m
-agrees free held b b' w l doings (Took i outbox) m stand moved e = subst (telling.AgreesWith w l) (some_same e) (free b w l doings i stand moved.1)
+agrees free held b b' w l doings (Took i outbox last) m stand moved e = subst (telling.AgreesWith w l) (some_same e) (free b w l doings i stand moved.1)
 agrees free held b b' w l doings (FoundHeld i) m stand moved e =
     subst (telling.AgreesWith w l) (some_same e) (held b w l doings moved.1.holder i stand moved.1.holds)
 agrees free held b b' w l doings (Gave i) m stand moved e = subst (telling.AgreesWith w l) (some_same e) tt

@@ -25,7 +25,7 @@ use Rattle.schedule_sim.specs.WatchedWords.{watched_record, watched_moves}
 
 -- a step of a kind that is told is told
 pub told : (s : StepMade) → IsTold (kind_of s) → (made : Made) × (told_of s ≡ Some made)
-told (Took i outbox) k = (_, refl)
+told (Took i outbox last) k = (_, refl)
 told (FoundHeld i) k = (_, refl)
 told (Gave i) k = (_, refl)
 told (Drew t) k = (_, refl)

@@ -38,13 +38,13 @@ same_fold q w l mark s low high =
 -- its mark is what its LOOK found
 pub same_mark : (n i mark : ℕ) (entries : List (List ℕ × Value)) (b p q : Record) (step : StepMade) → CapturesStripe n b i mark entries q → LooksLast p → q.steps ≡ p.steps ++ step ∷ [] → mark ≡ reach p
 same_mark n i mark entries b p q step k last steps =
-    k.mark_is ∙ sym (looks (same_from_push last.front (b.steps ++ Took i k.outbox ∷ []) (Looked (reach p)) (Looked (reach q)) (sym last.is ∙ before)).1)
+    k.mark_is ∙ sym (looks (same_from_push last.front (b.steps ++ Took i k.outbox k.last ∷ []) (Looked (reach p)) (Looked (reach q)) (sym last.is ∙ before)).1)
   where
     looks : {a b : ℕ} → Looked a ≡ Looked b → a ≡ b
     looks e = cc
 
-    whole : q.steps ≡ ((b.steps ++ Took i k.outbox ∷ []) ++ Looked (reach q) ∷ []) ++ Gave i ∷ []
-    whole = subst (λ (x : Record). x.steps ≡ ((b.steps ++ Took i k.outbox ∷ []) ++ Looked (reach x) ∷ []) ++ Gave i ∷ []) (sym k.is) refl
+    whole : q.steps ≡ ((b.steps ++ Took i k.outbox k.last ∷ []) ++ Looked (reach q) ∷ []) ++ Gave i ∷ []
+    whole = subst (λ (x : Record). x.steps ≡ ((b.steps ++ Took i k.outbox k.last ∷ []) ++ Looked (reach x) ∷ []) ++ Gave i ∷ []) (sym k.is) refl
 
-    before : p.steps ≡ (b.steps ++ Took i k.outbox ∷ []) ++ Looked (reach q) ∷ []
-    before = (same_from_push p.steps ((b.steps ++ Took i k.outbox ∷ []) ++ Looked (reach q) ∷ []) step (Gave i) (sym steps ∙ whole)).0
+    before : p.steps ≡ (b.steps ++ Took i k.outbox k.last ∷ []) ++ Looked (reach q) ∷ []
+    before = (same_from_push p.steps ((b.steps ++ Took i k.outbox k.last ∷ []) ++ Looked (reach q) ∷ []) step (Gave i) (sym steps ∙ whole)).0

@@ -86,7 +86,7 @@ module _ {D : Type 0} (states : D → List Files) (honest : D → Type 0) (n : �
   takes (Ok None) m a t works right =
       let k = take_told t.step stripe m t.kind_is t.told_is in
       let es = capture_took n p stripe a.walk q a.taken in
-      let found : m ≡ told.Took stripe = took p q.steps t.step stripe m k t.steps es.0 es.1 in
+      let found : m ≡ told.Took stripe = took p q.steps t.step stripe m k t.steps es.0 es.1 es.2 in
       (subst (λ m. TakesForCall l stripe m ends.Goes) (sym found) (refl, subst (AgreesWith w l) found t.agrees), after_taken a.walk a.taken.next t.history a.is)
   takes (Ok (Some mark)) m a t works right = absurd a
   takes (Err (refusal.Busy i)) m a t works right =

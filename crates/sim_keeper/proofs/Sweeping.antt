@@ -86,7 +86,7 @@ module _ {D : Type 0} (states : D → List Files) (honest : D → Type 0) (n : �
   takes sweep (Ok More) m a t is =
       let k = take_told t.step sweep.stripe m t.kind_is t.told_is in
       let es = swept_took n p sweep.stripe a.walk q a.taken in
-      let found : m ≡ told.Took sweep.stripe = took p q.steps t.step sweep.stripe m k t.steps es.0 es.1 in (
+      let found : m ≡ told.Took sweep.stripe = took p q.steps t.step sweep.stripe m k t.steps es.0 es.1 es.2 in (
         subst (λ m. TakesForSweep l sweep.stripe m ends.Goes) (sym found) (refl, subst (AgreesWith w l) found t.agrees),
         swept l.places l.sweep SweepGives (is ∙ sym (ap sweep_shown a.sweep_is)) (sym (ap walking_shown a.walking)),
       )

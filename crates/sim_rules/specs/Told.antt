@@ -7,7 +7,7 @@ use Rattle.sim_rules.specs.declared.outcome.Made.TheVariants as told
 
 -- The step as it is told. A DURABLE and a FAIL are the keeper's alone, and aren't told as steps.
 abbrev pub told_of : StepMade → Option Made
-told_of (Took i outbox) = Some (told.Took i)
+told_of (Took i outbox last) = Some (told.Took i)
 told_of (FoundHeld i) = Some (told.FoundHeld i)
 told_of (Gave i) = Some (told.Gave i)
 told_of (Drew t) = Some (told.Drew t)

@@ -60,25 +60,25 @@ module _ (b b' : Book) (w : World) (l : Life) (doings : ℕ → Doing) (stand : 
       → IsCallless b b' w l doings stand j worker begun asked i turn → Tells begun asked turn (record_of j b')
       → StepsCall w l j i asked (stage_of (steps_on i (before turn))) (told_by i turn) (end_of i turn)
   unfolding stage_from
-  step_meets asked i (Takes es) words raises since tells = (refl, held_by_none b w l doings stand i words.1)
+  step_meets asked i (Takes found) words raises since tells = (refl, held_by_none b w l doings stand i words.1)
   step_meets asked i Misses words raises since tells = (refl, refl, held_by_another b w l doings stand i j words.1)
-  step_meets asked i (FindsAlive es) words raises since tells = words.1 ∙ ap not (sym stand.words.has_failed)
-  step_meets asked i (FindsDead es) words raises since tells = words.1 ∙ ap not (sym stand.words.has_failed)
-  step_meets asked i (GivesUp es) words raises since tells = refl
-  step_meets (Changing c) i (Looks es q) words raises since tells = words.1 ∙ sym (counted b w l stand.words)
-  step_meets (Changing c) i (GivesSpent es q) words raises since tells = (refl, tells.1)
-  step_meets (Changing c) i (GivesStarved es q) words raises since tells = (refl, tells.1)
-  step_meets (Changing c) i (DrawsTicket es q t) words raises since tells = (words.ticket_is ∙ sym (counted b w l stand.words), tells.below)
-  step_meets (Changing c) i (GivesUnread es) words raises since tells = absurd tells.0
-  step_meets (Changing c) i (GivesRead es q) words raises since tells = absurd tells.asks
-  step_meets (Changing c) i (GivesChange es q t) words raises since tells = (refl, refl)
-  step_meets (Reading r) i (Looks es q) words raises since tells = absurd tells
-  step_meets (Reading r) i (GivesSpent es q) words raises since tells = absurd tells.0
-  step_meets (Reading r) i (GivesStarved es q) words raises since tells = absurd tells.0
-  step_meets (Reading r) i (GivesUnread es) words raises since tells = refl
-  step_meets (Reading r) i (DrawsTicket es q t) words raises since tells = absurd (no_change r tells.command tells.asked_is)
-  step_meets (Reading r) i (GivesRead es q) words raises since tells = (refl, read_position b b' w l doings stand j worker begun (Reading r) i q raises (since refl) tells)
-  step_meets (Reading r) i (GivesChange es q t) words raises since tells = absurd tells.0
+  step_meets asked i (FindsAlive found) words raises since tells = words.1 ∙ ap not (sym stand.words.has_failed)
+  step_meets asked i (FindsDead found) words raises since tells = words.1 ∙ ap not (sym stand.words.has_failed)
+  step_meets asked i (GivesUp found) words raises since tells = refl
+  step_meets (Changing c) i (Looks found q) words raises since tells = words.1 ∙ sym (counted b w l stand.words)
+  step_meets (Changing c) i (GivesSpent found q) words raises since tells = (refl, tells.1)
+  step_meets (Changing c) i (GivesStarved found q) words raises since tells = (refl, tells.1)
+  step_meets (Changing c) i (DrawsTicket found q t) words raises since tells = (words.ticket_is ∙ sym (counted b w l stand.words), tells.below)
+  step_meets (Changing c) i (GivesUnread found) words raises since tells = absurd tells.0
+  step_meets (Changing c) i (GivesRead found q) words raises since tells = absurd tells.asks
+  step_meets (Changing c) i (GivesChange found q t) words raises since tells = (refl, refl)
+  step_meets (Reading r) i (Looks found q) words raises since tells = absurd tells
+  step_meets (Reading r) i (GivesSpent found q) words raises since tells = absurd tells.0
+  step_meets (Reading r) i (GivesStarved found q) words raises since tells = absurd tells.0
+  step_meets (Reading r) i (GivesUnread found) words raises since tells = refl
+  step_meets (Reading r) i (DrawsTicket found q t) words raises since tells = absurd (no_change r tells.command tells.asked_is)
+  step_meets (Reading r) i (GivesRead found q) words raises since tells = (refl, read_position b b' w l doings stand j worker begun (Reading r) i q raises (since refl) tells)
+  step_meets (Reading r) i (GivesChange found q t) words raises since tells = absurd tells.0
 
 -- ---- the job after the step
 
@@ -155,21 +155,21 @@ drawn_command c d e t position reply reply' xs ys is same =
 
 grew : (b b' : Book) (history : List Command) (asked : Asked) (stage : Stage) (j i : ℕ) (turn : Turn) (begun : Record) → WordsMove j (step_of i turn) b b' → Tells begun asked turn (record_of j b') → Grew b b' history (history_after history (Walks asked stage) (told_by i turn))
 unfolding IsQuiet
-grew b b' history asked stage j i (Takes es) begun words tells = quiet_grew b b' history asked stage j (told.Took i) tt words.0.same.history
+grew b b' history asked stage j i (Takes found) begun words tells = quiet_grew b b' history asked stage j (told.Took i) tt words.0.same.history
 grew b b' history asked stage j i Misses begun words tells = quiet_grew b b' history asked stage j (told.FoundHeld i) tt words.0.same.history
-grew b b' history asked stage j i (FindsAlive es) begun words tells = quiet_grew b b' history asked stage j (told.FoundAlive true) tt words.0.same.history
-grew b b' history asked stage j i (FindsDead es) begun words tells = quiet_grew b b' history asked stage j (told.FoundAlive false) tt words.0.same.history
-grew b b' history asked stage j i (GivesUp es) begun words tells = quiet_grew b b' history asked stage j (told.Gave i) tt words.0.history
-grew b b' history asked stage j i (Looks es q) begun words tells = quiet_grew b b' history asked stage j (told.Looked q) tt words.0.same.history
-grew b b' history asked stage j i (GivesSpent es q) begun words tells = quiet_grew b b' history asked stage j (told.Gave i) tt words.0.history
-grew b b' history asked stage j i (GivesStarved es q) begun words tells = quiet_grew b b' history asked stage j (told.Gave i) tt words.0.history
-grew b b' history (Changing c) stage j i (DrawsTicket es q t) begun words tells =
+grew b b' history asked stage j i (FindsAlive found) begun words tells = quiet_grew b b' history asked stage j (told.FoundAlive true) tt words.0.same.history
+grew b b' history asked stage j i (FindsDead found) begun words tells = quiet_grew b b' history asked stage j (told.FoundAlive false) tt words.0.same.history
+grew b b' history asked stage j i (GivesUp found) begun words tells = quiet_grew b b' history asked stage j (told.Gave i) tt words.0.history
+grew b b' history asked stage j i (Looks found q) begun words tells = quiet_grew b b' history asked stage j (told.Looked q) tt words.0.same.history
+grew b b' history asked stage j i (GivesSpent found q) begun words tells = quiet_grew b b' history asked stage j (told.Gave i) tt words.0.history
+grew b b' history asked stage j i (GivesStarved found q) begun words tells = quiet_grew b b' history asked stage j (told.Gave i) tt words.0.history
+grew b b' history (Changing c) stage j i (DrawsTicket found q t) begun words tells =
     let own : words.command ≡ c = drawn_command c tells.command words.command t tells.position words.reply tells.reply (record_of j b).calls tells.before tells.asked_is (sym words.calls ∙ tells.calls) in
     record { more = c ∷ []; book = words.history ∙ ap (λ d. b.history ++ d ∷ []) own; world = refl }
-grew b b' history (Reading r) stage j i (DrawsTicket es q t) begun words tells = absurd (no_change r tells.command tells.asked_is)
-grew b b' history asked stage j i (GivesUnread es) begun words tells = quiet_grew b b' history asked stage j (told.Gave i) tt words.0.history
-grew b b' history asked stage j i (GivesRead es q) begun words tells = quiet_grew b b' history asked stage j (told.Gave i) tt words.0.history
-grew b b' history asked stage j i (GivesChange es q t) begun words tells = quiet_grew b b' history asked stage j (told.Gave i) tt words.0.history
+grew b b' history (Reading r) stage j i (DrawsTicket found q t) begun words tells = absurd (no_change r tells.command tells.asked_is)
+grew b b' history asked stage j i (GivesUnread found) begun words tells = quiet_grew b b' history asked stage j (told.Gave i) tt words.0.history
+grew b b' history asked stage j i (GivesRead found q) begun words tells = quiet_grew b b' history asked stage j (told.Gave i) tt words.0.history
+grew b b' history asked stage j i (GivesChange found q t) begun words tells = quiet_grew b b' history asked stage j (told.Gave i) tt words.0.history
 
 -- ---- the places after the step
 
@@ -185,36 +185,36 @@ module _ (b b' : Book) (l : Life) (j : ℕ) (seen : List ℕ) (stand : PlacesSta
   placed : (asked : Asked) (i : ℕ) (turn : Turn) → WordsMove j (step_of i turn) b b' → drawn_by (job_of l j) ≡ drawn_at (stage_of (steps_on i (before turn)))
       → Placed b' l j seen asked (stage_of (steps_on i (before turn))) (told_by i turn) (end_of i turn)
   unfolding stage_from Placed
-  placed asked i (Takes es) words was = quiet _ words.0.same.history was refl
+  placed asked i (Takes found) words was = quiet _ words.0.same.history was refl
   placed asked i Misses words was = quiet _ words.0.same.history was refl
-  placed asked i (FindsAlive es) words was = quiet _ words.0.same.history was refl
-  placed asked i (FindsDead es) words was = quiet _ words.0.same.history was refl
-  placed asked i (GivesUp es) words was = quiet _ words.0.history was refl
-  placed asked i (Looks es q) words was = quiet _ words.0.same.history was refl
-  placed asked i (GivesSpent es q) words was = quiet _ words.0.history was refl
-  placed asked i (GivesStarved es q) words was = quiet _ words.0.history was refl
-  placed asked i (DrawsTicket es q t) words was =
+  placed asked i (FindsAlive found) words was = quiet _ words.0.same.history was refl
+  placed asked i (FindsDead found) words was = quiet _ words.0.same.history was refl
+  placed asked i (GivesUp found) words was = quiet _ words.0.history was refl
+  placed asked i (Looks found q) words was = quiet _ words.0.same.history was refl
+  placed asked i (GivesSpent found q) words was = quiet _ words.0.history was refl
+  placed asked i (GivesStarved found q) words was = quiet _ words.0.history was refl
+  placed asked i (DrawsTicket found q t) words was =
       places_drawn b b' l j t _ seen stand within first begins words.command words.history taken words.ticket_is was refl
-  placed asked i (GivesUnread es) words was = quiet _ words.0.history was refl
-  placed asked i (GivesRead es q) words was = quiet _ words.0.history was refl
-  placed asked i (GivesChange es q t) words was = places_given b b' l j t _ seen stand within first begins words.0.history taken was refl
+  placed asked i (GivesUnread found) words was = quiet _ words.0.history was refl
+  placed asked i (GivesRead found q) words was = quiet _ words.0.history was refl
+  placed asked i (GivesChange found q t) words was = places_given b b' l j t _ seen stand within first begins words.0.history taken was refl
 
 -- ---- the step
 
 -- how it is told
 told_as : (i : ℕ) (turn : Turn) → told_of (step_of i turn) ≡ Some (told_by i turn)
-told_as i (Takes es) = refl
+told_as i (Takes found) = refl
 told_as i Misses = refl
-told_as i (FindsAlive es) = refl
-told_as i (FindsDead es) = refl
-told_as i (GivesUp es) = refl
-told_as i (Looks es q) = refl
-told_as i (GivesSpent es q) = refl
-told_as i (GivesStarved es q) = refl
-told_as i (DrawsTicket es q t) = refl
-told_as i (GivesUnread es) = refl
-told_as i (GivesRead es q) = refl
-told_as i (GivesChange es q t) = refl
+told_as i (FindsAlive found) = refl
+told_as i (FindsDead found) = refl
+told_as i (GivesUp found) = refl
+told_as i (Looks found q) = refl
+told_as i (GivesSpent found q) = refl
+told_as i (GivesStarved found q) = refl
+told_as i (DrawsTicket found q t) = refl
+told_as i (GivesUnread found) = refl
+told_as i (GivesRead found q) = refl
+told_as i (GivesChange found q t) = refl
 
 told_once : (m k : Made) → Some m ≡ Some k → m ≡ k
 told_once m k e = cc

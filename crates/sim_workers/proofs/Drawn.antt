@@ -39,11 +39,11 @@ record HoldsTicket (n t : ℕ) (p : Record) : Type 0 where
 drawn_way : (n i t : ℕ) (begun p : Record) (asked : Asked) (way : Way) → i ≡ stripe_asked n asked → stripe_in p.holding ≡ stripe_on i way → KnowsWay begun asked way p → drawn_at (stage_of (steps_on i way)) ≡ Some t → HoldsTicket n t p
 unfolding stage_from
 drawn_way n i t begun p asked Starts own holds knows drawn = absurd cc
-drawn_way n i t begun p asked (HasStripe es) own holds knows drawn = absurd cc
-drawn_way n i t begun p asked (Lives es) own holds knows drawn = absurd cc
-drawn_way n i t begun p asked (FindsNone es) own holds knows drawn = absurd cc
-drawn_way n i t begun p asked (Sees es q) own holds knows drawn = absurd cc
-drawn_way n i t begun p asked (Draws es q u) own holds knows drawn =
+drawn_way n i t begun p asked (HasStripe found) own holds knows drawn = absurd cc
+drawn_way n i t begun p asked (Lives found) own holds knows drawn = absurd cc
+drawn_way n i t begun p asked (FindsNone found) own holds knows drawn = absurd cc
+drawn_way n i t begun p asked (Sees found q) own holds knows drawn = absurd cc
+drawn_way n i t begun p asked (Draws found q u) own holds knows drawn =
     let same : u ≡ t = (let e : Some u ≡ Some t = drawn in cc) in
     record {
       command = knows.command;

@@ -28,20 +28,20 @@ none_held holding s free has = let no : None ≡ Some s = sym (ap stripe_in free
 way_holds : (i s : ℕ) (way : Way) → stripe_on i way ≡ Some s → (has_stripe (stage_of (steps_on i way)) && i == s) ≡ true
 unfolding stage_from
 way_holds i s Starts has = absurd cc
-way_holds i s (HasStripe es) has = eq-eqb i s cc
-way_holds i s (Lives es) has = eq-eqb i s cc
-way_holds i s (FindsNone es) has = eq-eqb i s cc
-way_holds i s (Sees es q) has = eq-eqb i s cc
-way_holds i s (Draws es q t) has = eq-eqb i s cc
+way_holds i s (HasStripe found) has = eq-eqb i s cc
+way_holds i s (Lives found) has = eq-eqb i s cc
+way_holds i s (FindsNone found) has = eq-eqb i s cc
+way_holds i s (Sees found q) has = eq-eqb i s cc
+way_holds i s (Draws found q t) has = eq-eqb i s cc
 
 holds_way : (i s : ℕ) (way : Way) → (has_stripe (stage_of (steps_on i way)) && i == s) ≡ true → stripe_on i way ≡ Some s
 unfolding stage_from
 holds_way i s Starts has = absurd cc
-holds_way i s (HasStripe es) has = ap (λ k. Some k) (eqb-true i s has)
-holds_way i s (Lives es) has = ap (λ k. Some k) (eqb-true i s has)
-holds_way i s (FindsNone es) has = ap (λ k. Some k) (eqb-true i s has)
-holds_way i s (Sees es q) has = ap (λ k. Some k) (eqb-true i s has)
-holds_way i s (Draws es q t) has = ap (λ k. Some k) (eqb-true i s has)
+holds_way i s (HasStripe found) has = ap (λ k. Some k) (eqb-true i s has)
+holds_way i s (Lives found) has = ap (λ k. Some k) (eqb-true i s has)
+holds_way i s (FindsNone found) has = ap (λ k. Some k) (eqb-true i s has)
+holds_way i s (Sees found q) has = ap (λ k. Some k) (eqb-true i s has)
+holds_way i s (Draws found q t) has = ap (λ k. Some k) (eqb-true i s has)
 
 -- how the walk of the call has come to where it stands
 pub way_of : (n : ℕ) (p : Record) (walk : Walk) (asked : Asked) (stage : Stage) (calling : IsCalling n p walk asked stage) → GoesBy n calling.begun asked p
@@ -56,11 +56,11 @@ stage_by n p walk asked stage calling =
 callless : (i : ℕ) (begun p : Record) (asked : Asked) (way : Way) → Knows begun asked way p → drawn_at (stage_of (steps_on i way)) ≡ None → p.calls ≡ begun.calls
 unfolding stage_from
 callless i begun p asked Starts knows none = knows
-callless i begun p asked (HasStripe es) knows none = knows
-callless i begun p asked (Lives es) knows none = knows
-callless i begun p asked (FindsNone es) knows none = knows
-callless i begun p asked (Sees es q) knows none = knows.1
-callless i begun p asked (Draws es q t) knows none = absurd cc
+callless i begun p asked (HasStripe found) knows none = knows
+callless i begun p asked (Lives found) knows none = knows
+callless i begun p asked (FindsNone found) knows none = knows
+callless i begun p asked (Sees found q) knows none = knows.1
+callless i begun p asked (Draws found q t) knows none = absurd cc
 
 -- before its TICKET the walk made no call
 pub calls_since : (n : ℕ) (p : Record) (walk : Walk) (asked : Asked) (stage : Stage) (calling : IsCalling n p walk asked stage) → drawn_at stage ≡ None → p.calls ≡ calling.begun.calls

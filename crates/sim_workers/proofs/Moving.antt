@@ -62,7 +62,7 @@ never_told : (m : Made) → None ≡ Some m → ⊥
 never_told m e = cc
 
 effects_by : (step : StepMade) (m : Made) (b b' : Book) (j : ℕ) → told_of step ≡ Some m → BookMoves j step b b' → IsOneHistory b' → length b.passes ≡ 65 → b.effects.keeper ≡ 64 → j < 64 → KeepsEffects b b'
-effects_by (Took i es) m b b' j told moved one passes keeper worker = same_effects b b' moved.words.0.effects
+effects_by (Took i es last) m b b' j told moved one passes keeper worker = same_effects b b' moved.words.0.effects
 effects_by (FoundHeld i) m b b' j told moved one passes keeper worker = same_effects b b' moved.words.0.effects
 effects_by (Gave i) m b b' j told moved one passes keeper worker = gave_effects b b' j one (moved.passes ∙ passes) keeper worker moved.words.1
 effects_by (Drew t) m b b' j told moved one passes keeper worker = same_effects b b' moved.words.effects

@@ -96,19 +96,19 @@ module _ (b b' : Book) (w : World) (l : Life) (doings : ℕ → Doing) (stand : 
     pub call_seen : (turn : Turn) → WordsMove j (step_of i turn) b b' → Raises j (step_of i turn) b b' → IsCallless turn → Tells begun asked turn new
         → seen_after w l (seen_by l j) (told_by i turn) (end_of i turn) ≡ reach new
     unfolding stage_from
-    call_seen (Takes es) words raises since tells =
-        ap (λ k. max (seen_by l j) k) (past_outbox_is b w l doings stand i es raises.1 words.1) ∙ (ap (λ k. max k (past es)) was ∙ risen old new (past es) raises.0)
+    call_seen (Takes found) words raises since tells =
+        ap (λ k. max (seen_by l j) k) (past_outbox_is b w l doings stand i found.outbox raises.1 words.1) ∙ (ap (λ k. max k (past found.outbox)) was ∙ risen old new (past found.outbox) raises.0)
     call_seen Misses words raises since tells = was ∙ sym raises
-    call_seen (FindsAlive es) words raises since tells = was ∙ sym raises
-    call_seen (FindsDead es) words raises since tells = was ∙ sym raises
-    call_seen (GivesUp es) words raises since tells = refused raises (since refl) tells
-    call_seen (Looks es q) words raises since tells = omega (arith, was, raises, reach_within, words.1)
-    call_seen (GivesSpent es q) words raises since tells = refused raises (since refl) tells.2
-    call_seen (GivesStarved es q) words raises since tells = refused raises (since refl) tells.2
-    call_seen (DrawsTicket es q t) words raises since tells = omega (arith, was, raises, reach_within, words.ticket_is)
-    call_seen (GivesUnread es) words raises since tells = refused raises (since refl) tells.1
-    call_seen (GivesRead es q) words raises since tells = given q raises tells.reached
-    call_seen (GivesChange es q t) words raises since tells = given (t + 1) raises tells.1
+    call_seen (FindsAlive found) words raises since tells = was ∙ sym raises
+    call_seen (FindsDead found) words raises since tells = was ∙ sym raises
+    call_seen (GivesUp found) words raises since tells = refused raises (since refl) tells
+    call_seen (Looks found q) words raises since tells = omega (arith, was, raises, reach_within, words.1)
+    call_seen (GivesSpent found q) words raises since tells = refused raises (since refl) tells.2
+    call_seen (GivesStarved found q) words raises since tells = refused raises (since refl) tells.2
+    call_seen (DrawsTicket found q t) words raises since tells = omega (arith, was, raises, reach_within, words.ticket_is)
+    call_seen (GivesUnread found) words raises since tells = refused raises (since refl) tells.1
+    call_seen (GivesRead found q) words raises since tells = given q raises tells.reached
+    call_seen (GivesChange found q t) words raises since tells = given (t + 1) raises tells.1
 
   -- ---- the steps of a release
 

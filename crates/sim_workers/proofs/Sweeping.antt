@@ -89,7 +89,7 @@ swept_length n i (x ∷ cs) (InHand ∷ places) = ap (λ k. suc k) (swept_length
 -- ---- the words
 
 pub same_history : (step : StepMade) (b b' : Book) → DrawsNone step → WordsMove 64 step b b' → b'.history ≡ b.history
-same_history (Took i es) b b' none words = words.0.same.history
+same_history (Took i es last) b b' none words = words.0.same.history
 same_history (FoundHeld i) b b' none words = words.0.same.history
 same_history (Gave i) b b' none words = words.0.history
 same_history (Drew t) b b' none words = absurd none
@@ -100,7 +100,7 @@ same_history Failed b b' none words = words.0.history
 same_history (FoundAlive is_alive) b b' none words = words.0.same.history
 
 same_keeper : (step : StepMade) (b b' : Book) → DrawsNone step → WordsMove 64 step b b' → b'.effects.keeper ≡ b.effects.keeper
-same_keeper (Took i es) b b' none words = ap (λ (k : KeeperEffects). k.keeper) words.0.effects
+same_keeper (Took i es last) b b' none words = ap (λ (k : KeeperEffects). k.keeper) words.0.effects
 same_keeper (FoundHeld i) b b' none words = ap (λ (k : KeeperEffects). k.keeper) words.0.effects
 same_keeper (Gave i) b b' none words = ap (λ (k : KeeperEffects). k.keeper) words.1.effects
 same_keeper (Drew t) b b' none words = absurd none

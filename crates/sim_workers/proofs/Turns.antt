@@ -27,78 +27,78 @@ use Rattle.sim_rules.specs.declared.outcome.Made.TheVariants as told
 use Rattle.sim_rules.specs.World.{stripe_asked}
 use Rattle.sim_workers.specs.Doings.{Doing, CallLeaves, task_of}
 use Rattle.sim_workers.proofs.Lists.{ends_same, never_empty, onto, same_rest}
-use Rattle.sim_workers.proofs.Ways.{Way, Starts, HasStripe, Lives, FindsNone, Sees, Draws, GoesBy, HasDrawnFor, IsChange, Knows, alive_steps, call_goes, drawn_steps, steps_on, walked_steps}
+use Rattle.sim_workers.proofs.Ways.{Found, found_in, take_of, Way, Starts, HasStripe, Lives, FindsNone, Sees, Draws, GoesBy, HasDrawnFor, IsChange, Knows, alive_steps, call_goes, drawn_steps, steps_on, walked_steps}
 
 -- A step of a call: from where it was made, what it was, and how the walk went on or ended.
 pub data Turn : Type 0 where
-  Takes : List Entry → Turn
+  Takes : Found → Turn
   Misses : Turn
-  FindsAlive : List Entry → Turn
-  FindsDead : List Entry → Turn
-  GivesUp : List Entry → Turn
-  Looks : List Entry → ℕ → Turn
-  GivesSpent : List Entry → ℕ → Turn
-  GivesStarved : List Entry → ℕ → Turn
-  DrawsTicket : List Entry → ℕ → ℕ → Turn
-  GivesUnread : List Entry → Turn
-  GivesRead : List Entry → ℕ → Turn
-  GivesChange : List Entry → ℕ → ℕ → Turn
+  FindsAlive : Found → Turn
+  FindsDead : Found → Turn
+  GivesUp : Found → Turn
+  Looks : Found → ℕ → Turn
+  GivesSpent : Found → ℕ → Turn
+  GivesStarved : Found → ℕ → Turn
+  DrawsTicket : Found → ℕ → ℕ → Turn
+  GivesUnread : Found → Turn
+  GivesRead : Found → ℕ → Turn
+  GivesChange : Found → ℕ → ℕ → Turn
 
 abbrev pub before : Turn → Way
-before (Takes es) = Starts
+before (Takes found) = Starts
 before Misses = Starts
-before (FindsAlive es) = HasStripe es
-before (FindsDead es) = HasStripe es
-before (GivesUp es) = FindsNone es
-before (Looks es q) = Lives es
-before (GivesSpent es q) = Sees es q
-before (GivesStarved es q) = Sees es q
-before (DrawsTicket es q t) = Sees es q
-before (GivesUnread es) = Lives es
-before (GivesRead es q) = Lives es
-before (GivesChange es q t) = Draws es q t
+before (FindsAlive found) = HasStripe found
+before (FindsDead found) = HasStripe found
+before (GivesUp found) = FindsNone found
+before (Looks found q) = Lives found
+before (GivesSpent found q) = Sees found q
+before (GivesStarved found q) = Sees found q
+before (DrawsTicket found q t) = Sees found q
+before (GivesUnread found) = Lives found
+before (GivesRead found q) = Lives found
+before (GivesChange found q t) = Draws found q t
 
 abbrev pub step_of : ℕ → Turn → StepMade
-step_of i (Takes es) = Took i es
+step_of i (Takes found) = take_of i found
 step_of i Misses = FoundHeld i
-step_of i (FindsAlive es) = FoundAlive true
-step_of i (FindsDead es) = FoundAlive false
-step_of i (GivesUp es) = Gave i
-step_of i (Looks es q) = Looked q
-step_of i (GivesSpent es q) = Gave i
-step_of i (GivesStarved es q) = Gave i
-step_of i (DrawsTicket es q t) = Drew t
-step_of i (GivesUnread es) = Gave i
-step_of i (GivesRead es q) = Gave i
-step_of i (GivesChange es q t) = Gave i
+step_of i (FindsAlive found) = FoundAlive true
+step_of i (FindsDead found) = FoundAlive false
+step_of i (GivesUp found) = Gave i
+step_of i (Looks found q) = Looked q
+step_of i (GivesSpent found q) = Gave i
+step_of i (GivesStarved found q) = Gave i
+step_of i (DrawsTicket found q t) = Drew t
+step_of i (GivesUnread found) = Gave i
+step_of i (GivesRead found q) = Gave i
+step_of i (GivesChange found q t) = Gave i
 
 abbrev pub told_by : ℕ → Turn → Made
-told_by i (Takes es) = told.Took i
+told_by i (Takes found) = told.Took i
 told_by i Misses = told.FoundHeld i
-told_by i (FindsAlive es) = told.FoundAlive true
-told_by i (FindsDead es) = told.FoundAlive false
-told_by i (GivesUp es) = told.Gave i
-told_by i (Looks es q) = told.Looked q
-told_by i (GivesSpent es q) = told.Gave i
-told_by i (GivesStarved es q) = told.Gave i
-told_by i (DrawsTicket es q t) = told.Drew t
-told_by i (GivesUnread es) = told.Gave i
-told_by i (GivesRead es q) = told.Gave i
-told_by i (GivesChange es q t) = told.Gave i
+told_by i (FindsAlive found) = told.FoundAlive true
+told_by i (FindsDead found) = told.FoundAlive false
+told_by i (GivesUp found) = told.Gave i
+told_by i (Looks found q) = told.Looked q
+told_by i (GivesSpent found q) = told.Gave i
+told_by i (GivesStarved found q) = told.Gave i
+told_by i (DrawsTicket found q t) = told.Drew t
+told_by i (GivesUnread found) = told.Gave i
+told_by i (GivesRead found q) = told.Gave i
+told_by i (GivesChange found q t) = told.Gave i
 
 abbrev pub end_of : ℕ → Turn → End
-end_of i (Takes es) = ends.Goes
+end_of i (Takes found) = ends.Goes
 end_of i Misses = ends.Refused (refusal.Busy i)
-end_of i (FindsAlive es) = ends.Goes
-end_of i (FindsDead es) = ends.Goes
-end_of i (GivesUp es) = ends.Refused refusal.Failed
-end_of i (Looks es q) = ends.Goes
-end_of i (GivesSpent es q) = ends.Refused refusal.TicketsSpent
-end_of i (GivesStarved es q) = ends.Refused refusal.NoMemory
-end_of i (DrawsTicket es q t) = ends.Goes
-end_of i (GivesUnread es) = ends.Refused refusal.NoMemory
-end_of i (GivesRead es q) = ends.Held q
-end_of i (GivesChange es q t) = ends.Held (t + 1)
+end_of i (FindsAlive found) = ends.Goes
+end_of i (FindsDead found) = ends.Goes
+end_of i (GivesUp found) = ends.Refused refusal.Failed
+end_of i (Looks found q) = ends.Goes
+end_of i (GivesSpent found q) = ends.Refused refusal.TicketsSpent
+end_of i (GivesStarved found q) = ends.Refused refusal.NoMemory
+end_of i (DrawsTicket found q t) = ends.Goes
+end_of i (GivesUnread found) = ends.Refused refusal.NoMemory
+end_of i (GivesRead found q) = ends.Held q
+end_of i (GivesChange found q t) = ends.Held (t + 1)
 
 -- the call is a read
 abbrev pub IsRead : Asked → Type 0
@@ -114,14 +114,14 @@ pub record HasRead (b : Record) (asked : Asked) (q : ℕ) (p : Record) : Type 0 
 
 -- what the turn says of its walk, which began at b, and of the record p that it left
 abbrev pub Tells : Record → Asked → Turn → Record → Type 0
-Tells b asked (GivesUp es) p = p.calls ≡ b.calls
-Tells b asked (Looks es q) p = IsChange asked
-Tells b asked (DrawsTicket es q t) p = HasDrawnFor asked q t p
-Tells b asked (GivesSpent es q) p = IsChange asked × (ticket_limit ≤ q) × (p.calls ≡ b.calls)
-Tells b asked (GivesStarved es q) p = IsChange asked × (q < ticket_limit) × (p.calls ≡ b.calls)
-Tells b asked (GivesUnread es) p = IsRead asked × (p.calls ≡ b.calls)
-Tells b asked (GivesRead es q) p = HasRead b asked q p
-Tells b asked (GivesChange es q t) p = IsChange asked × (t + 1 ≡ reach p)
+Tells b asked (GivesUp found) p = p.calls ≡ b.calls
+Tells b asked (Looks found q) p = IsChange asked
+Tells b asked (DrawsTicket found q t) p = HasDrawnFor asked q t p
+Tells b asked (GivesSpent found q) p = IsChange asked × (ticket_limit ≤ q) × (p.calls ≡ b.calls)
+Tells b asked (GivesStarved found q) p = IsChange asked × (q < ticket_limit) × (p.calls ≡ b.calls)
+Tells b asked (GivesUnread found) p = IsRead asked × (p.calls ≡ b.calls)
+Tells b asked (GivesRead found q) p = HasRead b asked q p
+Tells b asked (GivesChange found q t) p = IsChange asked × (t + 1 ≡ reach p)
 Tells b asked turn p = Unit {0}
 
 -- The step was made after these, since the walk began at b, and it left the record p.
@@ -141,11 +141,11 @@ module _ (i : ℕ) (b : Record) (asked : Asked) (made : List StepMade) (step : S
   -- the walk goes on
   goes_on : (way : Way) → Knows b asked way p → steps_on i way ≡ made ++ step ∷ [] → end ≡ ends.Goes → IsTurn i b asked made step end p
   goes_on Starts knows is end_is = absurd (never_empty made step is)
-  goes_on (HasStripe es) knows is end_is = turns (Takes es) (sym is) end_is tt
-  goes_on (Lives es) knows is end_is = turns (FindsAlive es) (sym is) end_is tt
-  goes_on (FindsNone es) knows is end_is = turns (FindsDead es) (sym is) end_is tt
-  goes_on (Sees es q) knows is end_is = turns (Looks es q) (sym is) end_is knows.0
-  goes_on (Draws es q t) knows is end_is = turns (DrawsTicket es q t) (sym is) end_is knows
+  goes_on (HasStripe found) knows is end_is = turns (Takes found) (sym is) end_is tt
+  goes_on (Lives found) knows is end_is = turns (FindsAlive found) (sym is) end_is tt
+  goes_on (FindsNone found) knows is end_is = turns (FindsDead found) (sym is) end_is tt
+  goes_on (Sees found q) knows is end_is = turns (Looks found q) (sym is) end_is knows.0
+  goes_on (Draws found q t) knows is end_is = turns (DrawsTicket found q t) (sym is) end_is knows
 
 -- the record after the step, of which the walk began at b
 module _ (n : ℕ) (b : Record) (made : List StepMade) (step : StepMade) (end : End) (p p' : Record) (since : p.steps ≡ b.steps ++ made) (steps : p'.steps ≡ p.steps ++ step ∷ []) where
@@ -165,18 +165,18 @@ module _ (n : ℕ) (b : Record) (made : List StepMade) (step : StepMade) (end : 
       let q : ℕ = reach (walked b i is.part is.outbox is.last is.taken is.looked) in
       let t : ℕ = b.opening.first + length (((b.seen ++ is.taken) ++ is.looked) ++ is.drawn) in
       let position : h.position ≡ t + 1 = is.position_is ∙ (ap reach is.is ∙ omega (arith, length-append (((b.seen ++ is.taken) ++ is.looked) ++ is.drawn) (c ∷ []))) in
-      turns i b (Changing c) made step end p' (GivesChange is.outbox q t)
-      (rest (steps_on i (Draws is.outbox q t) ++ Gave i ∷ [])
-      (ap (λ (r : Record). r.steps) is.is ∙ onto b.steps (steps_on i (Draws is.outbox q t)) _ (Gave i) (drawn_steps b i is.part is.outbox is.last is.taken is.looked is.drawn c)))
+      turns i b (Changing c) made step end p' (GivesChange (found_in is.outbox is.last) q t)
+      (rest (steps_on i (Draws (found_in is.outbox is.last) q t) ++ Gave i ∷ [])
+      (ap (λ (r : Record). r.steps) is.is ∙ onto b.steps (steps_on i (Draws (found_in is.outbox is.last) q t)) _ (Gave i) (drawn_steps b i is.part is.outbox is.last is.taken is.looked is.drawn c)))
       (end_is ∙ ap (λ k. ends.Held k) position) (tt, sym position ∙ is.position_is)
 
   -- a read was made
   read_turn : (r : read_type.Read) (h : Held) → MakesRead n b r h.position h.reply p' → end ≡ ends.Held h.position → IsTurn (stripe_of n r.key) b (Reading r) made step end p'
   read_turn r h is end_is =
       let i : ℕ = stripe_of n r.key in
-      turns i b (Reading r) made step end p' (GivesRead is.outbox h.position)
-      (rest (steps_on i (Lives is.outbox) ++ Gave i ∷ [])
-      (ap (λ (v : Record). v.steps) is.is ∙ onto b.steps (steps_on i (Lives is.outbox)) _ (Gave i) (alive_steps b i is.part is.outbox is.last is.taken)))
+      turns i b (Reading r) made step end p' (GivesRead (found_in is.outbox is.last) h.position)
+      (rest (steps_on i (Lives (found_in is.outbox is.last)) ++ Gave i ∷ [])
+      (ap (λ (v : Record). v.steps) is.is ∙ onto b.steps (steps_on i (Lives (found_in is.outbox is.last))) _ (Gave i) (alive_steps b i is.part is.outbox is.last is.taken)))
       end_is (record { asks = tt; reached = is.reached; read = call h.position (Reading r) h.reply; calls = is.grew })
 
   -- it was refused
@@ -189,9 +189,9 @@ module _ (n : ℕ) (b : Record) (made : List StepMade) (step : StepMade) (end : 
       let i : ℕ = stripe_asked n asked in
       let dead : FindsFailure b i back.holder = back.before in
       let is : p' ≡ giving Nothing (living (taking b i dead.part dead.outbox dead.last dead.taken) false) = back.is ∙ ap (giving Nothing) dead.is in
-      turns i b asked made step end p' (GivesUp dead.outbox)
-      (rest (steps_on i (FindsNone dead.outbox) ++ Gave i ∷ [])
-      (ap (λ (r : Record). r.steps) is ∙ onto b.steps (steps_on i (FindsNone dead.outbox)) _ (Gave i) (onto b.steps (steps_on i (HasStripe dead.outbox)) _ (FoundAlive false) refl)))
+      turns i b asked made step end p' (GivesUp (found_in dead.outbox dead.last))
+      (rest (steps_on i (FindsNone (found_in dead.outbox dead.last)) ++ Gave i ∷ [])
+      (ap (λ (r : Record). r.steps) is ∙ onto b.steps (steps_on i (FindsNone (found_in dead.outbox dead.last))) _ (Gave i) (onto b.steps (steps_on i (HasStripe (found_in dead.outbox dead.last))) _ (FoundAlive false) refl)))
       end_is back.same_calls
 
   unread_turn : (r : read_type.Read) → GivesBack b (FindsNoFailure b (stripe_of n r.key)) p' → end ≡ ends.Refused refusal.NoMemory → IsTurn (stripe_of n r.key) b (Reading r) made step end p'
@@ -199,19 +199,19 @@ module _ (n : ℕ) (b : Record) (made : List StepMade) (step : StepMade) (end : 
       let i : ℕ = stripe_of n r.key in
       let alive : FindsNoFailure b i back.holder = back.before in
       let is : p' ≡ giving Nothing (living (taking b i alive.part alive.outbox alive.last alive.taken) true) = back.is ∙ ap (giving Nothing) alive.is in
-      turns i b (Reading r) made step end p' (GivesUnread alive.outbox)
-      (rest (steps_on i (Lives alive.outbox) ++ Gave i ∷ [])
-      (ap (λ (v : Record). v.steps) is ∙ onto b.steps (steps_on i (Lives alive.outbox)) _ (Gave i) (alive_steps b i alive.part alive.outbox alive.last alive.taken)))
+      turns i b (Reading r) made step end p' (GivesUnread (found_in alive.outbox alive.last))
+      (rest (steps_on i (Lives (found_in alive.outbox alive.last)) ++ Gave i ∷ [])
+      (ap (λ (v : Record). v.steps) is ∙ onto b.steps (steps_on i (Lives (found_in alive.outbox alive.last))) _ (Gave i) (alive_steps b i alive.part alive.outbox alive.last alive.taken)))
       end_is (tt, back.same_calls)
 
   module _ (i : ℕ) (holder : Record) (look : LooksAround b i holder) (is : p' ≡ giving Nothing holder) where
     abbrev looked_at : ℕ
     looked_at = reach (walked b i look.part look.outbox look.last look.taken look.looked)
 
-    spent_steps : p'.steps ≡ b.steps ++ (steps_on i (Sees look.outbox looked_at) ++ Gave i ∷ [])
+    spent_steps : p'.steps ≡ b.steps ++ (steps_on i (Sees (found_in look.outbox look.last) looked_at) ++ Gave i ∷ [])
     spent_steps =
         ap (λ (r : Record). r.steps) (is ∙ ap (giving Nothing) look.is)
-        ∙ onto b.steps (steps_on i (Sees look.outbox looked_at)) _ (Gave i) (walked_steps b i look.part look.outbox look.last look.taken look.looked)
+        ∙ onto b.steps (steps_on i (Sees (found_in look.outbox look.last) looked_at)) _ (Gave i) (walked_steps b i look.part look.outbox look.last look.taken look.looked)
 
     spent_reach : reach p' ≡ looked_at
     spent_reach = ap reach (is ∙ ap (giving Nothing) look.is)
@@ -221,7 +221,7 @@ module _ (n : ℕ) (b : Record) (made : List StepMade) (step : StepMade) (end : 
       let i : ℕ = stripe_of n c.key in
       let look : LooksAround b i back.holder = back.before in
       let q : ℕ = looked_at i back.holder look back.is in
-      turns i b (Changing c) made step end p' (GivesSpent look.outbox q) (rest (steps_on i (Sees look.outbox q) ++ Gave i ∷ []) (spent_steps i back.holder look back.is)) end_is
+      turns i b (Changing c) made step end p' (GivesSpent (found_in look.outbox look.last) q) (rest (steps_on i (Sees (found_in look.outbox look.last) q) ++ Gave i ∷ []) (spent_steps i back.holder look back.is)) end_is
       (tt, subst (λ k. ticket_limit ≤ k) (spent_reach i back.holder look back.is) far, back.same_calls)
 
   starved_turn : (c : Command) → GivesBack b (LooksAround b (stripe_of n c.key)) p' → reach p' < ticket_limit → end ≡ ends.Refused refusal.NoMemory → IsTurn (stripe_of n c.key) b (Changing c) made step end p'
@@ -229,7 +229,7 @@ module _ (n : ℕ) (b : Record) (made : List StepMade) (step : StepMade) (end : 
       let i : ℕ = stripe_of n c.key in
       let look : LooksAround b i back.holder = back.before in
       let q : ℕ = looked_at i back.holder look back.is in
-      turns i b (Changing c) made step end p' (GivesStarved look.outbox q) (rest (steps_on i (Sees look.outbox q) ++ Gave i ∷ []) (spent_steps i back.holder look back.is)) end_is
+      turns i b (Changing c) made step end p' (GivesStarved (found_in look.outbox look.last) q) (rest (steps_on i (Sees (found_in look.outbox look.last) q) ++ Gave i ∷ []) (spent_steps i back.holder look back.is)) end_is
       (tt, subst (λ k. k < ticket_limit) (spent_reach i back.holder look back.is) low, back.same_calls)
 
   change_refused : (c : Command) (e : Refusal) → RefusesChange b (stripe_of n c.key) e p' → end ≡ ends.Refused e → IsTurn (stripe_of n c.key) b (Changing c) made step end p'

@@ -36,23 +36,34 @@ use Rattle.sim_rules.specs.World.{stripe_asked}
 use Rattle.sim_workers.specs.Doings.{task_of}
 use Rattle.sim_workers.proofs.Lists.{ends_same, onto}
 
+-- What a TAKE finds: the outbox of its stripe, and one past the last ticket that was drawn there.
+pub record Found : Type 0 where
+  pub outbox : List Entry
+  pub last : ℕ
+
+abbrev pub found_in : List Entry → ℕ → Found
+found_in outbox last = record { outbox = outbox; last = last }
+
+abbrev pub take_of : ℕ → Found → StepMade
+take_of i f = Took i f.outbox f.last
+
 -- What the steps of a call were, from none on, up to its GIVE.
 pub data Way : Type 0 where
   Starts : Way
-  HasStripe : List Entry → Way
-  Lives : List Entry → Way
-  FindsNone : List Entry → Way
-  Sees : List Entry → ℕ → Way
-  Draws : List Entry → ℕ → ℕ → Way
+  HasStripe : Found → Way
+  Lives : Found → Way
+  FindsNone : Found → Way
+  Sees : Found → ℕ → Way
+  Draws : Found → ℕ → ℕ → Way
 
 -- the steps, on the stripe i
 abbrev pub steps_on : ℕ → Way → List StepMade
 steps_on i Starts = []
-steps_on i (HasStripe es) = Took i es ∷ []
-steps_on i (Lives es) = Took i es ∷ FoundAlive true ∷ []
-steps_on i (FindsNone es) = Took i es ∷ FoundAlive false ∷ []
-steps_on i (Sees es q) = Took i es ∷ FoundAlive true ∷ Looked q ∷ []
-steps_on i (Draws es q t) = Took i es ∷ FoundAlive true ∷ Looked q ∷ Drew t ∷ []
+steps_on i (HasStripe found) = take_of i found ∷ []
+steps_on i (Lives found) = take_of i found ∷ FoundAlive true ∷ []
+steps_on i (FindsNone found) = take_of i found ∷ FoundAlive false ∷ []
+steps_on i (Sees found q) = take_of i found ∷ FoundAlive true ∷ Looked q ∷ []
+steps_on i (Draws found q t) = take_of i found ∷ FoundAlive true ∷ Looked q ∷ Drew t ∷ []
 
 -- the stripe that is held
 abbrev pub stripe_on : ℕ → Way → Option ℕ
@@ -77,8 +88,8 @@ IsChange (Reading r) = ⊥
 
 -- A walk that began at b stands at p. Before its TICKET its pass has made no call since, and only a change makes a LOOK.
 abbrev pub Knows : Record → Asked → Way → Record → Type 0
-Knows b asked (Draws es q t) p = HasDrawnFor asked q t p
-Knows b asked (Sees es q) p = IsChange asked × (p.calls ≡ b.calls)
+Knows b asked (Draws found q t) p = HasDrawnFor asked q t p
+Knows b asked (Sees found q) p = IsChange asked × (p.calls ≡ b.calls)
 Knows b asked way p = p.calls ≡ b.calls
 
 -- the record p goes on from b by such steps
@@ -112,19 +123,19 @@ no_capture (Reading s) i e = cc
 
 -- ---- the steps of each
 
-pub alive_steps : (b : Record) (i : ℕ) (m : Map) (es : List Entry) (last : ℕ) (x : List Command) → (living (taking b i m es last x) true).steps ≡ b.steps ++ steps_on i (Lives es)
-alive_steps b i m es last x = onto b.steps (steps_on i (HasStripe es)) _ (FoundAlive true) refl
+pub alive_steps : (b : Record) (i : ℕ) (m : Map) (es : List Entry) (last : ℕ) (x : List Command) → (living (taking b i m es last x) true).steps ≡ b.steps ++ steps_on i (Lives (found_in es last))
+alive_steps b i m es last x = onto b.steps (steps_on i (HasStripe (found_in es last))) _ (FoundAlive true) refl
 
 pub walked_steps : (b : Record) (i : ℕ) (m : Map) (es : List Entry) (last : ℕ) (x y : List Command)
-    → (walked b i m es last x y).steps ≡ b.steps ++ steps_on i (Sees es (reach (walked b i m es last x y)))
+    → (walked b i m es last x y).steps ≡ b.steps ++ steps_on i (Sees (found_in es last) (reach (walked b i m es last x y)))
 walked_steps b i m es last x y =
     let q : ℕ = reach (walked b i m es last x y) in
-    onto b.steps (steps_on i (Lives es)) _ (Looked q) (alive_steps b i m es last x)
+    onto b.steps (steps_on i (Lives (found_in es last))) _ (Looked q) (alive_steps b i m es last x)
 
 pub drawn_steps : (b : Record) (i : ℕ) (m : Map) (es : List Entry) (last : ℕ) (x y z : List Command) (c : Command) →
-    (drawing (walked b i m es last x y) z c).steps ≡ b.steps ++ steps_on i (Draws es (reach (walked b i m es last x y)) (b.opening.first + length (((b.seen ++ x) ++ y) ++ z)))
+    (drawing (walked b i m es last x y) z c).steps ≡ b.steps ++ steps_on i (Draws (found_in es last) (reach (walked b i m es last x y)) (b.opening.first + length (((b.seen ++ x) ++ y) ++ z)))
 drawn_steps b i m es last x y z c =
-    onto b.steps (steps_on i (Sees es (reach (walked b i m es last x y)))) _ (Drew (b.opening.first + length (((b.seen ++ x) ++ y) ++ z))) (walked_steps b i m es last x y)
+    onto b.steps (steps_on i (Sees (found_in es last) (reach (walked b i m es last x y)))) _ (Drew (b.opening.first + length (((b.seen ++ x) ++ y) ++ z))) (walked_steps b i m es last x y)
 
 -- a record whose GIVE leaves what that of another leaves has made the same steps, and holds that one's stripe
 module _ (p holder : Record) (t : Taken) (content : HasContent p t) (is : giving Nothing p ≡ giving Nothing holder) where
@@ -150,35 +161,35 @@ module _ (n : ℕ) (b : Record) (asked : Asked) (p : Record) (i : ℕ) (own : i 
   }
 
   pub after_take : (m : Map) (es : List Entry) (last : ℕ) (x : List Command) → p ≡ taking b i m es last x → GoesBy n b asked p
-  after_take m es last x is = goes_by (HasStripe es) (ap (λ (r : Record). r.steps) is) (ap (λ (r : Record). stripe_in r.holding) is) (ap (λ (r : Record). r.calls) is)
+  after_take m es last x is = goes_by (HasStripe (found_in es last)) (ap (λ (r : Record). r.steps) is) (ap (λ (r : Record). stripe_in r.holding) is) (ap (λ (r : Record). r.calls) is)
 
   pub after_alive : (m : Map) (es : List Entry) (last : ℕ) (x : List Command) → p ≡ living (taking b i m es last x) true → GoesBy n b asked p
   after_alive m es last x is =
-      goes_by (Lives es) (ap (λ (r : Record). r.steps) is ∙ alive_steps b i m es last x) (ap (λ (r : Record). stripe_in r.holding) is) (ap (λ (r : Record). r.calls) is)
+      goes_by (Lives (found_in es last)) (ap (λ (r : Record). r.steps) is ∙ alive_steps b i m es last x) (ap (λ (r : Record). stripe_in r.holding) is) (ap (λ (r : Record). r.calls) is)
 
   pub after_look : IsChange asked → (m : Map) (es : List Entry) (last : ℕ) (x y : List Command) → p ≡ walked b i m es last x y → GoesBy n b asked p
   after_look changes m es last x y is =
-      goes_by (Sees es (reach (walked b i m es last x y))) (ap (λ (r : Record). r.steps) is ∙ walked_steps b i m es last x y) (ap (λ (r : Record). stripe_in r.holding) is)
+      goes_by (Sees (found_in es last) (reach (walked b i m es last x y))) (ap (λ (r : Record). r.steps) is ∙ walked_steps b i m es last x y) (ap (λ (r : Record). stripe_in r.holding) is)
       (changes, ap (λ (r : Record). r.calls) is)
 
   after_failure : (t : Taken) → HasContent p t → GivesBack b (FindsFailure b i) (giving Nothing p) → GoesBy n b asked p
   after_failure t content back =
       let dead : FindsFailure b i back.holder = back.before in
-      goes_by (FindsNone dead.outbox)
-      (given_steps p back.holder t content back.is ∙ (ap (λ (r : Record). r.steps) dead.is ∙ onto b.steps (steps_on i (HasStripe dead.outbox)) _ (FoundAlive false) refl))
+      goes_by (FindsNone (found_in dead.outbox dead.last))
+      (given_steps p back.holder t content back.is ∙ (ap (λ (r : Record). r.steps) dead.is ∙ onto b.steps (steps_on i (HasStripe (found_in dead.outbox dead.last))) _ (FoundAlive false) refl))
       (given_stripe p back.holder t content back.is ∙ ap (λ (r : Record). Some (stripe_held r.holding)) dead.is) back.same_calls
 
   after_unread : (t : Taken) → HasContent p t → GivesBack b (FindsNoFailure b i) (giving Nothing p) → GoesBy n b asked p
   after_unread t content back =
       let alive : FindsNoFailure b i back.holder = back.before in
-      goes_by (Lives alive.outbox)
+      goes_by (Lives (found_in alive.outbox alive.last))
       (given_steps p back.holder t content back.is ∙ (ap (λ (r : Record). r.steps) alive.is ∙ alive_steps b i alive.part alive.outbox alive.last alive.taken))
       (given_stripe p back.holder t content back.is ∙ ap (λ (r : Record). Some (stripe_held r.holding)) alive.is) back.same_calls
 
   after_spent : IsChange asked → (t : Taken) → HasContent p t → GivesBack b (LooksAround b i) (giving Nothing p) → GoesBy n b asked p
   after_spent changes t content back =
       let look : LooksAround b i back.holder = back.before in
-      goes_by (Sees look.outbox (reach (walked b i look.part look.outbox look.last look.taken look.looked)))
+      goes_by (Sees (found_in look.outbox look.last) (reach (walked b i look.part look.outbox look.last look.taken look.looked)))
       (given_steps p back.holder t content back.is ∙ (ap (λ (r : Record). r.steps) look.is ∙ walked_steps b i look.part look.outbox look.last look.taken look.looked))
       (given_stripe p back.holder t content back.is ∙ ap (λ (r : Record). Some (stripe_held r.holding)) look.is) (changes, back.same_calls)
 
@@ -211,7 +222,7 @@ by_draw n b asked t c position reply p is content made =
     let i : ℕ = stripe_of n c.key in
     let holder : Record = drawing (walked b i made.part made.outbox made.last made.taken made.looked) made.drawn c in
     goes_by n b asked p i (ap (stripe_asked n) (sym is))
-    (Draws made.outbox (reach (walked b i made.part made.outbox made.last made.taken made.looked)) (b.opening.first + length (((b.seen ++ made.taken) ++ made.looked) ++ made.drawn)))
+    (Draws (found_in made.outbox made.last) (reach (walked b i made.part made.outbox made.last made.taken made.looked)) (b.opening.first + length (((b.seen ++ made.taken) ++ made.looked) ++ made.drawn)))
     (given_steps p holder t content made.is ∙ drawn_steps b i made.part made.outbox made.last made.taken made.looked made.drawn c)
     (given_stripe p holder t content made.is)
     (record {

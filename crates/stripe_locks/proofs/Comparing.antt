@@ -38,7 +38,7 @@ commands_are t [] = refl
 commands_are t (c ∷ cs) = ap (λ l. c ∷ l) (commands_are (t + 1) cs)
 
 borne_out : (b : Book) (j : ℕ) (w : Record) (s : StepMade) → w.published ≡ b.effects.durable → w.failed ≡ b.effects.failed → StaysSo b j s → BearsOut w.published w.failed s
-borne_out b j w (Took i outbox) durable failed x = tt
+borne_out b j w (Took i outbox last) durable failed x = tt
 borne_out b j w (FoundHeld i) durable failed x = tt
 borne_out b j w (Gave i) durable failed x = tt
 borne_out b j w (Drew t) durable failed x = tt

@@ -57,7 +57,7 @@ read_in_time n v r content t position reply w k m = record {
 }
 
 pub found_in_time : (n : ℕ) (v : Record) (i : ℕ) (content : Stripe) (t : Record) (k : TakesInTime n v i content t) → HasFound k.waited i content t
-found_in_time n v i content t k = record { between = k.takes.between; is = k.takes.is }
+found_in_time n v i content t k = record { between = k.takes.between; rises = k.takes.rises; is = k.takes.is }
 
 -- the answer of a call that the maker's record grew by
 pub held_of : (s : Stripes) (x : Held) (asked : Asked) (b : Record) → IsPassOf s x.maker.value → (recorded x.maker.value).calls ≡ b.calls ++ call (position_of x) asked (reply_of x) ∷ [] → IsHeldOf s x

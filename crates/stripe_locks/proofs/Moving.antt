@@ -107,7 +107,7 @@ module _ (o : Opening) (n id : ℕ) (me : M) (i number : ℕ) (is_pass : me.0.en
         w,
         takes i (Some f.content),
         f.home_is,
-        turned o s k id me.0 at is_pass (made.Took i f.content.outbox.items) b' (set k.slots i (HeldBy q.place)) words' (set s.homes i none) (moves_took _ _ _ _ _ k.book q.place k.kept in_it i f.content of_book no_stripe f.slot_is) refl (front_refl k.book.history) same
+        turned o s k id me.0 at is_pass (made.Took i f.content.outbox.items f.content.last) b' (set k.slots i (HeldBy q.place)) words' (set s.homes i none) (moves_took _ _ _ _ _ k.book q.place k.kept in_it i f.content of_book no_stripe f.slot_is) refl (front_refl k.book.history) same
             (rw (zero_on, one_on) kept') (length-set s.words (i + 4) number) (length-set s.homes i none) (get_or-set_other s.words (i + 4) 2 number 0 (λ e. omega arith) ∙ k.failure) (get_or-set_other s.words (i + 4) 3 number 0 (λ e. omega arith))
             (all_stand s.words s.homes k.slots i number none (HeldBy q.place) sized k.each_stripe holds),
         ((λ _. subst (λ (m : ℕ). TakesHome n m me (w, (i, Some f.content) ∷ me.1)) (sym minus) (record { content = f.content; has = refl; takes = told'; same = same })), λ held. absurd (held zero)),

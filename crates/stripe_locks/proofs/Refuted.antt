@@ -1,22 +1,27 @@
 -- Laws: what can't be. Steps that the rule of the shared words allows no pass: of each there is a table that the rule holds of, so that it isn't allowed there.
--- And a release over other stripes than those on which the call was made.
+-- A read below one past the last ticket of its stripe. And a release over other stripes than those on which the call was made.
 use Rattle.std.proofs.Common.{ℕ, ◌≡◌, ◌≢◌, ◌<◌, ◌≤◌, ◌^◌, ◌==◌, ◌++◌, List, [], ◌∷◌, zero, suc, eqb, Bool, true, false, Option, length, get_or, set, max, refl, arith, sym, ◌∙◌, ap, subst}
 use Rattle.std.specs.Prelude.{if◌then◌else◌}
 use Rattle.std.specs.List.{All}
-use Rattle.std.proofs.lemmas.List.{set-get_or, get_or_past}
+use Rattle.std.proofs.lemmas.List.{set-get_or, get_or_past, same_from_push}
 use Rattle.std.proofs.lemmas.List.Elements.{All-head, All-tail}
 use Rattle.std.proofs.lemmas.Bool.{eq-eqb, ne_eqb}
 use mathlib.Core.Option.{some, none, some-ne-none}
 use lib.ListN.{get_elem?}
 use Rattle.atomic_table.specs.Table.{step, Allows, stepped, Act}
 use Rattle.atomic_table.proofs.Lists.{set_here}
+use Rattle.java_hash.specs.Stripes.{stripe_of}
+use Rattle.map_types.specs.declared.commands.Read.{Read}
+use Rattle.map_types.specs.declared.commands.Reply.{Reply}
+use Rattle.ticket_order.specs.declared.stripe.Entry.{Entry}
 use Rattle.ticket_order.specs.declared.stripe.Stripe.{Stripe}
 use Rattle.ticket_order.specs.declared.record.Opening.{Opening}
 use Rattle.ticket_order.specs.declared.record.StepMade.{StepMade}
 use Rattle.ticket_order.specs.declared.record.StepMade.TheVariants as made
 use Rattle.ticket_order.specs.declared.record.Record.{Record}
 use Rattle.ticket_order.specs.Records.{newcomer, missing}
-use Rattle.ticket_order.specs.StepRules.{Sees, Lives}
+use Rattle.ticket_order.specs.StepRules.{TakesStripe, Sees, Lives}
+use Rattle.ticket_order.specs.Calls.{MakesRead}
 use Rattle.one_history.specs.declared.book.PassStep.{PassStep}
 use Rattle.one_history.specs.Interleaving.{steps_by}
 use Rattle.one_history.specs.Turns.{record_of, pass_step}
@@ -91,7 +96,7 @@ module _ (o : Opening) (s : St) (k : Kept o s) (id : ℕ) (me : M) (at : get_ele
       let beyond : length kept.book.passes ≤ taken.taker = (let apart : taken.taker ≢ place.place = taken.apart in omega (arith, apart)) in
       let nobody : record_of taken.taker kept.book ≡ newcomer kept.book.opening = get_or_past kept.book.passes taken.taker (newcomer kept.book.opening) beyond in
       let none_made : steps_by taken.taker kept.book.interleaving ≡ [] = sym (kept.kept.one.steps taken.taker) ∙ ap (λ (r : Record). r.steps) nobody in
-      made_by taken.taker (made.Took stripe taken.outbox) kept.book.interleaving taken.took.0 taken.took.1 taken.took.2 none_made
+      made_by taken.taker (made.Took stripe taken.outbox taken.last) kept.book.interleaving taken.took.0 taken.took.1 taken.took.2 none_made
 
 -- No SEE of the ticket count is allowed, where a ticket isn't durable.
 pub no_see_of_the_ticket_count : (o : Opening) (n id : ℕ) (me : M) (s : St) → Kept o s → length s.homes ≡ n → get_elem? s.views id ≡ some me.0 → get_or s.words 0 0 < 2 ^ 64 → me.0.enrolled ≡ true
@@ -118,6 +123,23 @@ no_take_without_a_look o n id me s stripe k wide at range is_pass alone allows =
     let did = allows s k wide at range in
     let told : did.0 ≡ missing me.0 stripe = did.4.1 in
     finds_none_held o s k id me at 0 did.0 did.1 did.3 (ap (λ (r : Record). r.enrolled) told ∙ is_pass) me.0.steps stripe (ap (λ (r : Record). r.steps) told) alone
+
+-- equal TAKEs found the same last
+same_last : (i j : ℕ) (es fs : List Entry) (l m : ℕ) → made.Took i es l ≡ made.Took j fs m → l ≡ m
+same_last i j es fs l m e = cc
+
+-- No read is made below one past the last ticket that its TAKE found, whoever records it.
+pub no_read_behind_its_last : (n : ℕ) (v t w : Record) (i position : ℕ) (content : Stripe) (r : Read) (reply : Reply) → TakesStripe n v i content t
+    → w.steps ≡ (t.steps ++ made.FoundAlive true ∷ []) ++ made.Gave i ∷ [] → position < content.last → MakesRead n v r position reply w → ⊥
+no_read_behind_its_last n v t w i position content r reply took steps low read =
+    let stripe : ℕ = stripe_of n r.key in
+    let theirs : List StepMade = v.steps ++ made.Took stripe read.outbox read.last ∷ [] in
+    let recorded : w.steps ≡ (theirs ++ made.FoundAlive true ∷ []) ++ made.Gave stripe ∷ [] = ap (λ (x : Record). x.steps) read.is in
+    let alive = (same_from_push (t.steps ++ made.FoundAlive true ∷ []) (theirs ++ made.FoundAlive true ∷ []) (made.Gave i) (made.Gave stripe) (sym steps ∙ recorded)).0 in
+    let taken : t.steps ≡ theirs = (same_from_push t.steps theirs (made.FoundAlive true) (made.FoundAlive true) alive).0 in
+    let found : t.steps ≡ v.steps ++ made.Took i content.outbox.items content.last ∷ [] = ap (λ (x : Record). x.steps) took.is in
+    let both = (same_from_push v.steps v.steps (made.Took i content.outbox.items content.last) (made.Took stripe read.outbox read.last) (sym found ∙ taken)).1 in
+    omega (arith, read.position_is, low, same_last i stripe content.outbox.items read.outbox content.last read.last both)
 
 -- A reply that is held over other stripes isn't one of these, as a release over these asks for.
 pub none_held_elsewhere : (s t : Stripes) (h : Held) → t.table.shared.table_id ≢ s.table.shared.table_id → IsHeldOf t h → IsHeldOf s h → ⊥

@@ -59,7 +59,7 @@ swept_back n b p task t k = record {
   };
   refused = subst (λ z. Refuses n b z refusal.NoMemory (giving Nothing p)) (sym k.task_is) (record {
     holder = p;
-    before = record { part = t.content.part.map; outbox = t.content.outbox.items; last = t.content.last; taken = k.took.between; is = k.took.is };
+    before = record { part = t.content.part.map; outbox = t.content.outbox.items; last = t.content.last; taken = k.took.between; rises = subst (Rises b (past t.content.outbox.items)) k.took.is k.took.rises; is = k.took.is };
     is = refl;
     same_calls = ap (λ (z : Record). z.calls) k.took.is;
   });

@@ -25,17 +25,17 @@ pub may_give_back : (n : ℕ) (p : Record) (t : Taken) → HasContent p t → Ma
 may_give_back n p t h = record { held = h.held; holding = h.holding; stripe_is = h.stripe_is; part_is = h.part_is; outbox_is = h.outbox_is; last_is = h.last_is; suits = tt }
 
 pub found_content : (b p : Record) (t : Taken) → HasFound b t.stripe t.content p → TookContent b t p
-found_content b p t f = record { taken = f.between; is = f.is }
+found_content b p t f = record { taken = f.between; rises = f.rises; is = f.is }
 
 pub taken_content : (n : ℕ) (b p : Record) (t : Taken) → TakesStripe n b t.stripe t.content p → TookContent b t p
-taken_content n b p t k = record { taken = k.between; is = k.is }
+taken_content n b p t k = record { taken = k.between; rises = k.rises; is = k.is }
 
 -- since b: TAKE, and ALIVE that said this
 lived : (b p w : Record) (t : Taken) (x : Bool) (k : TookContent b t p) → Lives p x w → w ≡ living (taking b t.stripe t.content.part.map t.content.outbox.items t.content.last k.taken) x
 lived b p w t x k l = l.is ∙ ap (λ (y : Record). living y x) k.is
 
 pub took_alive : (b p w : Record) (t : Taken) → TookContent b t p → Lives p true w → TookAlive b t w
-took_alive b p w t k l = record { taken = k.taken; is = lived b p w t true k l }
+took_alive b p w t k l = record { taken = k.taken; rises = subst (Rises b (past t.content.outbox.items)) (sym l.is) k.rises; is = lived b p w t true k l }
 
 content_lived : (b p w : Record) (t : Taken) (x : Bool) → TookContent b t p → Lives p x w → HasContent w t
 content_lived b p w t x k l = record {
@@ -52,7 +52,7 @@ failed b p w t j k l e =
     let is = lived b p w t false k l in
     subst (λ z. GivesBack b (FindsFailure b z) (giving Nothing w)) e (record {
       holder = w;
-      before = record { part = t.content.part.map; outbox = t.content.outbox.items; last = t.content.last; taken = k.taken; is = is };
+      before = record { part = t.content.part.map; outbox = t.content.outbox.items; last = t.content.last; taken = k.taken; rises = subst (Rises b (past t.content.outbox.items)) k.is k.rises; is = is };
       is = refl;
       same_calls = ap (λ (y : Record). y.calls) is;
     })
@@ -62,7 +62,7 @@ unfailed b p w t j k l e =
     let is = lived b p w t true k l in
     subst (λ z. GivesBack b (FindsNoFailure b z) (giving Nothing w)) e (record {
       holder = w;
-      before = record { part = t.content.part.map; outbox = t.content.outbox.items; last = t.content.last; taken = k.taken; is = is };
+      before = record { part = t.content.part.map; outbox = t.content.outbox.items; last = t.content.last; taken = k.taken; rises = subst (Rises b (past t.content.outbox.items)) k.is k.rises; is = is };
       is = refl;
       same_calls = ap (λ (y : Record). y.calls) is;
     })
@@ -216,7 +216,7 @@ may_answer n b p r t key k = record {
 }
 
 pub answered_alive : (n : ℕ) (b p : Record) (r : read_type.Read) (t : Taken) (h : Held) → HasAnswer n b r t h p → TookAlive b t p
-answered_alive n b p r t h a = record { taken = a.took.between; is = a.is ∙ ap (λ (y : Record). living y true) a.took.is }
+answered_alive n b p r t h a = record { taken = a.took.between; rises = subst (Rises b (past t.content.outbox.items)) (sym a.is) a.took.rises; is = a.is ∙ ap (λ (y : Record). living y true) a.took.is }
 
 -- the greater of both numbers is reached
 risen : (v w : Record) (x : ℕ) → Rises v x w → reach w ≡ max (reach v) x

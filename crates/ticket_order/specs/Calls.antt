@@ -61,6 +61,7 @@ pub record MakesRead (n : ℕ) (v : Record) (r : Read) (position : ℕ) (reply :
 -- the record after a TAKE of stripe i that found this content
 pub record HasFound (v : Record) (i : ℕ) (content : Stripe) (w : Record) : Type 0 where
   pub between : List Command
+  pub rises : Rises v (past content.outbox.items) w
   pub is : w ≡ taking v i content.part.map content.outbox.items content.last between
 
 abbrev pub IsNotBusy : Refusal → Type 0
@@ -72,6 +73,7 @@ pub record FindsFailure (v : Record) (i : ℕ) (w : Record) : Type 0 where
   pub outbox : List Entry
   pub last : ℕ
   pub taken : List Command
+  pub rises : Rises v (past outbox) (taking v i part outbox last taken)
   pub is : w ≡ living (taking v i part outbox last taken) false
 
 -- TAKE, and ALIVE that says yes
@@ -80,6 +82,7 @@ pub record FindsNoFailure (v : Record) (i : ℕ) (w : Record) : Type 0 where
   pub outbox : List Entry
   pub last : ℕ
   pub taken : List Command
+  pub rises : Rises v (past outbox) (taking v i part outbox last taken)
   pub is : w ≡ living (taking v i part outbox last taken) true
 
 -- TAKE, ALIVE and LOOK
@@ -158,6 +161,7 @@ pub record HasTaken (v : Record) (i : ℕ) (w : Record) : Type 0 where
   pub outbox : List Entry
   pub last : ℕ
   pub taken : List Command
+  pub rises : Rises v (past outbox) (taking v i part outbox last taken)
   pub is : w ≡ taking v i part outbox last taken
 
 -- what a refused sweep of stripe i leaves

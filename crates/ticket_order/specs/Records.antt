@@ -9,7 +9,7 @@ use Rattle.std.specs.FinMap as finite
 use Rattle.ticket_order.specs.declared.stripe.Entry.{Entry}
 use Rattle.ticket_order.specs.declared.record.Opening.{Opening}
 use Rattle.ticket_order.specs.declared.record.Purpose.{Purpose}
-use Rattle.ticket_order.specs.declared.record.Purpose.TheVariants.{Answer, Sweep, Capture}
+use Rattle.ticket_order.specs.declared.record.Purpose.TheVariants.{Sweep, Capture}
 use Rattle.ticket_order.specs.declared.record.StepMade.{StepMade}
 use Rattle.ticket_order.specs.declared.record.StepMade.TheVariants.{Took, FoundHeld, Gave, Drew, Looked, Published, Saw, Failed, FoundAlive}
 use Rattle.ticket_order.specs.declared.record.Asked.{Asked}
@@ -55,7 +55,7 @@ missing v i = with_step (FoundHeld i) v
 
 -- TAKE of a free stripe with this content; `between` is what the pass sees of the history from now on besides
 abbrev pub taking : Record → ℕ → Map → List Entry → ℕ → List Command → Record
-taking v i m es last between = record v { steps = v.steps ++ Took i es ∷ []; seen = v.seen ++ between; holding = Some record { stripe = i; part = m; outbox = es; last = last; has_drawn = false; looked = None } }
+taking v i m es last between = record v { steps = v.steps ++ Took i es last ∷ []; seen = v.seen ++ between; holding = Some record { stripe = i; part = m; outbox = es; last = last; has_drawn = false; looked = None } }
 
 abbrev pub looking_at : ℕ → Option Holding → Option Holding
 looking_at q None = None

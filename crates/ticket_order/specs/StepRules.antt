@@ -54,7 +54,7 @@ Takes n v i (Some content) w = TakesStripe n v i content w
 -- the name of a TAKE with what it found
 abbrev pub take_made : ℕ → Option Stripe → StepMade
 take_made i None = FoundHeld i
-take_made i (Some content) = Took i content.outbox.items
+take_made i (Some content) = Took i content.outbox.items content.last
 
 -- LOOK: the count of tickets, all of which the pass has then seen
 pub record Looks (v : Record) (q : ℕ) (w : Record) : Type 0 where

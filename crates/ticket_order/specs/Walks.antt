@@ -32,9 +32,9 @@ use Rattle.ticket_order.specs.declared.walk.Stage.TheVariants as stage
 use Rattle.ticket_order.specs.declared.walk.Walk.{Walk}
 use Rattle.ticket_order.specs.declared.walk.Stepped.{Stepped}
 use Rattle.ticket_order.specs.declared.walk.Stepped.TheVariants as stepped
-use Rattle.ticket_order.specs.Records.{ticket_limit, entry, reach, taking, living, looking, giving}
+use Rattle.ticket_order.specs.Records.{ticket_limit, entry, past, reach, taking, living, looking, giving}
 use Rattle.ticket_order.specs.Memory.{HasMemory}
-use Rattle.ticket_order.specs.StepRules.{TakesStripe}
+use Rattle.ticket_order.specs.StepRules.{Rises, TakesStripe}
 use Rattle.ticket_order.specs.Calls.{walked, MakesCall, MakesRead, RefusesChange, RefusesRead, RefusesSweep, RefusesCapture, HasTooMany, Misses, MissesAlive, Releases, SweepsStripe, CapturesStripe}
 
 -- what a walk is for
@@ -57,7 +57,7 @@ pub data Kind : Type 0 where
   Alive : Kind
 
 abbrev pub kind_of : StepMade → Kind
-kind_of (Took i outbox) = Take i
+kind_of (Took i outbox last) = Take i
 kind_of (FoundHeld i) = Take i
 kind_of (Gave i) = Give i
 kind_of (Drew t) = Ticket
@@ -238,11 +238,13 @@ pub record HasBegun (b : Record) (task : Task) (same : Task) (p : Record) : Type
 -- since b: TAKE of this stripe, which had this content
 pub record TookContent (b : Record) (t : Taken) (p : Record) : Type 0 where
   pub taken : List Command
+  pub rises : Rises b (past t.content.outbox.items) p
   pub is : p ≡ taking b t.stripe t.content.part.map t.content.outbox.items t.content.last taken
 
 -- since b: TAKE, and ALIVE that said yes
 pub record TookAlive (b : Record) (t : Taken) (p : Record) : Type 0 where
   pub taken : List Command
+  pub rises : Rises b (past t.content.outbox.items) p
   pub is : p ≡ living (taking b t.stripe t.content.part.map t.content.outbox.items t.content.last taken) true
 
 -- since b: TAKE, ALIVE and LOOK

@@ -46,10 +46,11 @@ pub enum Purpose {
 
 /// A step of a pass, with what it found.
 pub enum StepMade {
-    /// TAKE of a free stripe, with the outbox that was in it.
+    /// TAKE of a free stripe, with the outbox and the `last` that were in it.
     Took {
         stripe: usize,
         outbox: LinkedList<Entry>,
+        last: u64,
     },
     /// TAKE of a stripe that another holds.
     FoundHeld {

@@ -102,7 +102,7 @@ found_held : (p : Record) (i : ℕ) → Goes p (missing p i)
 found_held p i = record { made = FoundHeld i; between = []; steps_are = refl; seen_is = sym (append-nil p.seen); opening = refl; sections = refl; calls = refl; keeper = refl; taken = refl; published = refl; failed = refl; enrolled = refl; passes = refl }
 
 took : (p : Record) (i : ℕ) (m : Map) (es : List Entry) (last : ℕ) (between : List Command) → Goes p (taking p i m es last between)
-took p i m es last between = record { made = Took i es; between = between; steps_are = refl; seen_is = refl; opening = refl; sections = refl; calls = refl; keeper = refl; taken = refl; published = refl; failed = refl; enrolled = refl; passes = refl }
+took p i m es last between = record { made = Took i es last; between = between; steps_are = refl; seen_is = refl; opening = refl; sections = refl; calls = refl; keeper = refl; taken = refl; published = refl; failed = refl; enrolled = refl; passes = refl }
 
 looked : (p : Record) (between : List Command) → Goes p (looking p between)
 looked p between = record { made = Looked (p.opening.first + length (p.seen ++ between)); between = between; steps_are = refl; seen_is = refl; opening = refl; sections = refl; calls = refl; keeper = refl; taken = refl; published = refl; failed = refl; enrolled = refl; passes = refl }

@@ -8,13 +8,13 @@ change_on-requires-clause-stripe g c =
     rw c.in-Some.ensures.stripes here
 
 pub change_on-requires-clause-found : goal.change_on-requires-clause-found
-change_on-requires-clause-found g c = (g.S.Steps.recorded c.args.steps.now, record { between = c.in-Some.ensures.step.between; is = c.in-Some.ensures.step.is })
+change_on-requires-clause-found g c = (g.S.Steps.recorded c.args.steps.now, record { between = c.in-Some.ensures.step.between; rises = c.in-Some.ensures.step.rises; is = c.in-Some.ensures.step.is })
 
 pub returns-in-Some-clause-made : goal.returns-in-Some-clause-made
-returns-in-Some-clause-made g c = rw (← c.in-Some.ensures.stripes) (c.change_on.ensures.made _ (record { between = c.in-Some.ensures.step.between; is = c.in-Some.ensures.step.is }))
+returns-in-Some-clause-made g c = rw (← c.in-Some.ensures.stripes) (c.change_on.ensures.made _ (record { between = c.in-Some.ensures.step.between; rises = c.in-Some.ensures.step.rises; is = c.in-Some.ensures.step.is }))
 
 pub returns-in-Some-clause-refused : goal.returns-in-Some-clause-refused
-returns-in-Some-clause-refused g c = rw (← c.in-Some.ensures.stripes) (c.change_on.ensures.refused _ (record { between = c.in-Some.ensures.step.between; is = c.in-Some.ensures.step.is }))
+returns-in-Some-clause-refused g c = rw (← c.in-Some.ensures.stripes) (c.change_on.ensures.refused _ (record { between = c.in-Some.ensures.step.between; rises = c.in-Some.ensures.step.rises; is = c.in-Some.ensures.step.is }))
 
 pub returns-in-None-clause-refused : goal.returns-in-None-clause-refused
 returns-in-None-clause-refused g c =
