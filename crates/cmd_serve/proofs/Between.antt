@@ -62,17 +62,17 @@ nothing v w is = subst (λ (x : Record). GoesOn v x) (sym is) (same v)
 
 -- ---- one move
 
-begins : (v w : Record) (asked : Asked) (result : Result Held Refusal) → Begins v asked result w → GoesOn v w
-begins v w asked (Ok held) k = record { others = call (position_of held) asked (reply_of held) ∷ []; goes_on = record { beside = k.goes_on.beside; calls = k.adds.grew } }
-begins v w asked (Err refusal) k = record { others = []; goes_on = record { beside = k.goes_on.beside; calls = as_it_was v.calls w.calls k.adds.1 } }
+begins : (n : ℕ) (v w : Record) (asked : Asked) (result : Result Held Refusal) → Begins n v asked result w → GoesOn v w
+begins n v w asked (Ok held) k = record { others = call (position_of held) asked (reply_of held) ∷ []; goes_on = record { beside = k.goes_on.beside; calls = k.adds.grew } }
+begins n v w asked (Err refusal) k = record { others = []; goes_on = record { beside = k.goes_on.beside; calls = as_it_was v.calls w.calls k.adds.calls } }
 
 began : (a b : WorkerState) (r : Request) (result : Result Begun Refusal) → Began a r result b → GoesOn a.pass b.pass
-began a b (request.Change command) (Ok (begun.Call number held)) k = begins a.pass b.pass (Changing command) (Ok held) k.begins
+began a b (request.Change command) (Ok (begun.Call number held)) k = begins a.stripes a.pass b.pass (Changing command) (Ok held) k.begins
 began a b (request.Change command) (Ok (begun.View number bulk)) k = absurd k.begins
-began a b (request.Change command) (Err refusal) k = begins a.pass b.pass (Changing command) (Err refusal) k.begins
-began a b (request.Read read) (Ok (begun.Call number held)) k = begins a.pass b.pass (Reading read) (Ok held) k.begins
+began a b (request.Change command) (Err refusal) k = begins a.stripes a.pass b.pass (Changing command) (Err refusal) k.begins
+began a b (request.Read read) (Ok (begun.Call number held)) k = begins a.stripes a.pass b.pass (Reading read) (Ok held) k.begins
 began a b (request.Read read) (Ok (begun.View number bulk)) k = absurd k.begins
-began a b (request.Read read) (Err refusal) k = begins a.pass b.pass (Reading read) (Err refusal) k.begins
+began a b (request.Read read) (Err refusal) k = begins a.stripes a.pass b.pass (Reading read) (Err refusal) k.begins
 began a b (request.Bulk bulk) (Ok (begun.Call number held)) k = absurd k.begins
 began a b (request.Bulk bulk) (Ok (begun.View number kept)) k = nothing a.pass b.pass k.begins.1
 began a b (request.Bulk bulk) (Err refusal) k = absurd k.begins
@@ -95,15 +95,15 @@ through : (a b : WorkerState) (states : List WorkerState) → CallsThrough a sta
 through a b [] k = unchanged a b k
 through a b (next ∷ states) k = then a.pass next.pass b.pass (called a next k.0) (through next b states k.1)
 
-call_begun : (a b : WorkerState) (r : Request) (asked : Asked) (number : Option ℕ) (held : Held) → AsksFor r asked → Began a r (Ok (begun.Call number held)) b → Begins a.pass asked (Ok held) b.pass
-call_begun a b (request.Change command) asked number held asks k = subst (λ (x : Asked). Begins a.pass x (Ok held) b.pass) (sym asks) k.begins
-call_begun a b (request.Read read) asked number held asks k = subst (λ (x : Asked). Begins a.pass x (Ok held) b.pass) (sym asks) k.begins
+call_begun : (a b : WorkerState) (r : Request) (asked : Asked) (number : Option ℕ) (held : Held) → AsksFor r asked → Began a r (Ok (begun.Call number held)) b → Begins a.stripes a.pass asked (Ok held) b.pass
+call_begun a b (request.Change command) asked number held asks k = subst (λ (x : Asked). Begins a.stripes a.pass x (Ok held) b.pass) (sym asks) k.begins
+call_begun a b (request.Read read) asked number held asks k = subst (λ (x : Asked). Begins a.stripes a.pass x (Ok held) b.pass) (sym asks) k.begins
 call_begun a b (request.Bulk bulk) asked number held asks k = absurd asks
 
 abbrev pub Law : Type 0
-Law = (v u x w : Record) (asked : Asked) (held : Held) (others : List Call) (answer : Answer) → Begins v asked (Ok held) u → GoesOnWith u others x → Finishes x held answer w → CompletesAmong v asked answer w
+Law = (n : ℕ) (v u x w : Record) (asked : Asked) (held : Held) (others : List Call) (answer : Answer) → Begins n v asked (Ok held) u → GoesOnWith u others x → Finishes x held answer w → CompletesAmong n v asked answer w
 
 pub complete : Law → BegunRequestsComplete
 complete law = λ r asked number held states answer a b c d asks start between end.
     let on = through b c states between in
-    law a.pass b.pass c.pass d.pass asked held on.others answer (call_begun a b r asked number held asks start) on.goes_on end.finishes
+    law a.stripes a.pass b.pass c.pass d.pass asked held on.others answer (call_begun a b r asked number held asks start) on.goes_on end.finishes

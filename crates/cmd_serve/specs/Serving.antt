@@ -44,11 +44,11 @@ Owns worker (begun.View number bulk) = Unit {0}
 
 -- ---- a request that is begun
 
--- a change or a read was begun so on the record of a pass: its call was made, and its reply is held
-abbrev pub BeginsCall : Record → Asked → Result Begun Refusal → Record → Type 0
-BeginsCall v asked (Ok (begun.Call number held)) w = Begins v asked (Ok held) w
-BeginsCall v asked (Ok (begun.View number bulk)) w = ⊥
-BeginsCall v asked (Err refusal) w = Begins v asked (Err refusal) w
+-- a change or a read over n stripes was begun so on the record of a pass: its call was made, and its reply is held
+abbrev pub BeginsCall : ℕ → Record → Asked → Result Begun Refusal → Record → Type 0
+BeginsCall n v asked (Ok (begun.Call number held)) w = Begins n v asked (Ok held) w
+BeginsCall n v asked (Ok (begun.View number bulk)) w = ⊥
+BeginsCall n v asked (Err refusal) w = Begins n v asked (Err refusal) w
 
 -- a request of the whole map is held as it is, and nothing else is done
 abbrev pub HoldsBulk : Record → Bulk → Result Begun Refusal → Record → Type 0
@@ -56,15 +56,15 @@ HoldsBulk v bulk (Ok (begun.Call number held)) w = ⊥
 HoldsBulk v bulk (Ok (begun.View number kept)) w = (kept ≡ bulk) × (w ≡ v)
 HoldsBulk v bulk (Err refusal) w = ⊥
 
-abbrev pub BeginsRequest : Record → Request → Result Begun Refusal → Record → Type 0
-BeginsRequest v (request.Change command) result w = BeginsCall v (Changing command) result w
-BeginsRequest v (request.Read read) result w = BeginsCall v (Reading read) result w
-BeginsRequest v (request.Bulk bulk) result w = HoldsBulk v bulk result w
+abbrev pub BeginsRequest : ℕ → Record → Request → Result Begun Refusal → Record → Type 0
+BeginsRequest n v (request.Change command) result w = BeginsCall n v (Changing command) result w
+BeginsRequest n v (request.Read read) result w = BeginsCall n v (Reading read) result w
+BeginsRequest n v (request.Bulk bulk) result w = HoldsBulk v bulk result w
 
 -- a request was begun so, or refused, and led from one state of the worker to another
 pub record Began (before : WorkerState) (request : Request) (result : Result Begun Refusal) (after : WorkerState) : Type 0 where
   pub same : IsSameWorker before after
-  pub begins : BeginsRequest before.pass request result after.pass
+  pub begins : BeginsRequest before.stripes before.pass request result after.pass
 
 -- ---- a request that was begun
 
@@ -107,7 +107,7 @@ abbrev pub BegunRequestsComplete : Type 0
 BegunRequestsComplete =
     (request : Request) (asked : Asked) (number : Option ℕ) (held : Held) (states : List WorkerState) (answer : Answer) (a b c d : WorkerState)
     → AsksFor request asked → Began a request (Ok (begun.Call number held)) b → CallsThrough b states c
-    → Finished c (begun.Call number held) answer d → CompletesAmong a.pass asked answer d.pass
+    → Finished c (begun.Call number held) answer d → CompletesAmong a.stripes a.pass asked answer d.pass
 
 -- ---- what a server prints
 

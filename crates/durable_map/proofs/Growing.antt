@@ -1,29 +1,62 @@
 -- How a record grows by the steps of a call.
-use Rattle.std.proofs.Common.{◌≡◌, ◌⊎◌, inl, inr, ℕ, List, [], ◌∷◌, ◌++◌, append-nil, append_assoc, Bool, false, refl, sym, ap, ◌∙◌}
+use Rattle.std.proofs.Common.{◌≡◌, ◌⊎◌, inl, inr, ℕ, max, List, [], ◌∷◌, ◌++◌, append-nil, append_assoc, Bool, false, refl, sym, ap, ◌∙◌, arith}
+use Rattle.std.proofs.lemmas.List.Elements.{All-nil, All-cons, All-append}
 use Rattle.ticket_order.specs.declared.record.Record.{Record}
 use Rattle.ticket_order.specs.declared.record.StepMade.{StepMade}
 use Rattle.ticket_order.specs.declared.record.StepMade.TheVariants.{FoundAlive, Saw}
-use Rattle.ticket_order.specs.StepRules.{Lives, Sees}
+use Rattle.ticket_order.specs.Records.{reach}
+use Rattle.ticket_order.specs.StepRules.{Lives, Rises, Sees}
 use Rattle.ticket_order.specs.Calls.{Misses, MissesAlive, Reaches, SeesAgain}
 use Rattle.flusher.proofs.OwnCalls.{lives, none_goes_on, sees, then}
-use Rattle.durable_map.specs.Durable.{EndsDurable, EndsFailed, GrewBy, MakesNoCall}
+use Rattle.durable_map.specs.Durable.{Awaits, EndsDurable, EndsFailed, GrewBy, IsSeeOrAlive, MakesNoCall, seen_at, seen_by}
 
 pub grew_on : (v u w : Record) (a b : List StepMade) → GrewBy v a u → GrewBy u b w → GrewBy v (a ++ b) w
 grew_on v u w a b e f = f ∙ (ap (λ l. l ++ b) e ∙ append_assoc v.steps a b)
 
+-- ---- steps that are SEE and ALIVE alone
+
+seen_append : (q : ℕ) (a b : List StepMade) → seen_by q (a ++ b) ≡ seen_by (seen_by q a) b
+seen_append q [] b = refl
+seen_append q (step ∷ a) b = seen_append (seen_at q step) a b
+
+awaits_none : (v : Record) → Awaits v [] v
+awaits_none v = record { steps = sym (append-nil v.steps); only = All-nil IsSeeOrAlive; seen = refl }
+
+pub awaits_on : (v u w : Record) (a b : List StepMade) → Awaits v a u → Awaits u b w → Awaits v (a ++ b) w
+awaits_on v u w a b x y = record {
+  steps = grew_on v u w a b x.steps y.steps;
+  only = All-append IsSeeOrAlive a b x.only y.only;
+  seen = y.seen ∙ (ap (λ q. seen_by q b) x.seen ∙ sym (seen_append (reach v) a b));
+}
+
+risen : (v w : Record) (d : ℕ) → Rises v d w → reach w ≡ max (reach v) d
+risen v w d r = elim r [ inl stays ↦ omega (arith, stays.0, stays.1) | inr rises ↦ omega (arith, rises.0, rises.1) ]
+
+awaits_see : (v w : Record) (d : ℕ) → Sees v d w → Awaits v (Saw d ∷ []) w
+awaits_see v w d s = record { steps = ap (λ (r : Record). r.steps) s.is; only = All-cons IsSeeOrAlive (Saw d) [] tt (All-nil IsSeeOrAlive); seen = risen v w d s.rises }
+
+awaits_alive : (v w : Record) (b : Bool) → Lives v b w → Awaits v (FoundAlive b ∷ []) w
+awaits_alive v w b s = record { steps = ap (λ (r : Record). r.steps) s.is; only = All-cons IsSeeOrAlive (FoundAlive b) [] tt (All-nil IsSeeOrAlive); seen = ap reach s.is }
+
 -- ---- steps that make no call
 
 pub makes_none : (v : Record) → MakesNoCall v v
-makes_none v = record { goes_on = none_goes_on v; calls = refl; holding = refl }
+makes_none v = record { goes_on = none_goes_on v; calls = refl; holding = refl; made = []; awaits = awaits_none v }
 
 pub goes_on : (v u w : Record) → MakesNoCall v u → MakesNoCall u w → MakesNoCall v w
-goes_on v u w a b = record { goes_on = then v u w a.goes_on b.goes_on; calls = b.calls ∙ a.calls; holding = b.holding ∙ a.holding }
+goes_on v u w a b = record {
+  goes_on = then v u w a.goes_on b.goes_on;
+  calls = b.calls ∙ a.calls;
+  holding = b.holding ∙ a.holding;
+  made = a.made ++ b.made;
+  awaits = awaits_on v u w a.made b.made a.awaits b.awaits;
+}
 
 sees_none : (v w : Record) (d : ℕ) → Sees v d w → MakesNoCall v w
-sees_none v w d s = record { goes_on = sees v d w s; calls = ap (λ (r : Record). r.calls) s.is; holding = ap (λ (r : Record). r.holding) s.is }
+sees_none v w d s = record { goes_on = sees v d w s; calls = ap (λ (r : Record). r.calls) s.is; holding = ap (λ (r : Record). r.holding) s.is; made = Saw d ∷ []; awaits = awaits_see v w d s }
 
 lives_none : (v w : Record) (b : Bool) → Lives v b w → MakesNoCall v w
-lives_none v w b s = record { goes_on = lives v b w s; calls = ap (λ (r : Record). r.calls) s.is; holding = ap (λ (r : Record). r.holding) s.is }
+lives_none v w b s = record { goes_on = lives v b w s; calls = ap (λ (r : Record). r.calls) s.is; holding = ap (λ (r : Record). r.holding) s.is; made = FoundAlive b ∷ []; awaits = awaits_alive v w b s }
 
 pub missed : (p : ℕ) (b : Bool) (v w : Record) → MissesAlive p b v w → MakesNoCall v w
 missed p b v w m = goes_on v m.between w (sees_none v m.between m.misses.durable m.misses.sees) (lives_none m.between w b m.lives)

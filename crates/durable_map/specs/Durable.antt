@@ -1,23 +1,24 @@
 -- What a call that returns once its position is durable leaves of the record of its pass.
-use Rattle.std.specs.Prelude.{◌≡◌, ◌⊎◌, ℕ, ◌<◌, ◌≤◌, List, [], ◌∷◌, ◌++◌, false, Result, Ok, Err}
+use Rattle.std.specs.Prelude.{◌≡◌, ◌⊎◌, ℕ, ◌<◌, ◌≤◌, max, List, [], ◌∷◌, ◌++◌, false, Result, Ok, Err}
+use Rattle.std.specs.List.{All}
 use Rattle.map_types.specs.declared.commands.Reply.{Reply}
 use Rattle.map_types.specs.declared.refusals.Refusal.{Refusal}
-use Rattle.map_types.specs.declared.refusals.Refusal.TheVariants.{Failed, NoMemory, TicketsSpent}
+use Rattle.map_types.specs.declared.refusals.Refusal.TheVariants.{Failed}
 use Rattle.java_hash.specs.Stripes.{stripe_of}
 use Rattle.ticket_order.specs.declared.record.Asked.{Asked}
 use Rattle.ticket_order.specs.declared.record.Call.{Call}
 use Rattle.ticket_order.specs.declared.record.Asked.TheVariants.{Changing, Reading}
 use Rattle.ticket_order.specs.declared.record.Record.{Record}
 use Rattle.ticket_order.specs.declared.record.StepMade.{StepMade}
-use Rattle.ticket_order.specs.declared.record.StepMade.TheVariants.{FoundAlive, Looked, Saw}
-use Rattle.ticket_order.specs.Records.{call, reach, ticket_limit}
+use Rattle.ticket_order.specs.declared.record.StepMade.TheVariants.{FoundAlive, Saw}
+use Rattle.ticket_order.specs.Records.{call, reach}
 use Rattle.ticket_order.specs.Calls.{MakesCall, MakesRead, RefusesChange, RefusesRead}
 use Rattle.ticket_order.specs.Legality.{IsLegal, history_of}
 use Rattle.ticket_order.specs.Walks.{Kind, kind_of}
 use Rattle.one_history.specs.OneHistory.{Follows}
 use Rattle.stripe_locks.specs.Holding.{position_of, reply_of}
 use Rattle.stripe_locks.specs.declared.held.Held.{Held}
-use Rattle.stripe_locks.specs.Waits.{MakesCallInTime, MakesReadInTime}
+use Rattle.stripe_locks.specs.Waits.{MakesCallInTime, MakesReadInTime, RefusesChangeInTime, RefusesReadInTime}
 use Rattle.flusher.specs.Fitting.{GoesOnByCalls, IsBeside}
 use Rattle.durable_map.specs.declared.map.DurableMap.{DurableMap}
 use Rattle.durable_map.specs.Maps.{IsHeldOf, stripe_count}
@@ -32,11 +33,34 @@ pub record MakesStep (kind : Kind) (v w : Record) : Type 0 where
   pub steps : GrewBy v (made ∷ []) w
   pub kind_is : kind_of made ≡ kind
 
--- The pass made steps that add no call, and took no stripe.
+-- a SEE or an ALIVE
+abbrev pub IsSeeOrAlive : StepMade → Type 0
+IsSeeOrAlive (Saw durable) = Unit {0}
+IsSeeOrAlive (FoundAlive is_alive) = Unit {0}
+IsSeeOrAlive step = ⊥
+
+-- the greatest position that a pass has seen after such a step, which had seen `reached` before it
+abbrev pub seen_at : ℕ → StepMade → ℕ
+seen_at reached (Saw durable) = max reached durable
+seen_at reached step = reached
+
+abbrev pub seen_by : ℕ → List StepMade → ℕ
+seen_by reached [] = reached
+seen_by reached (step ∷ rest) = seen_by (seen_at reached step) rest
+
+-- The pass made these steps, which are SEE and ALIVE alone. It has then seen what it had, and what they found.
+pub record Awaits (v : Record) (made : List StepMade) (w : Record) : Type 0 where
+  pub steps : GrewBy v made w
+  pub only : All IsSeeOrAlive made
+  pub seen : reach w ≡ seen_by (reach v) made
+
+-- The pass made SEE and ALIVE alone, and has seen what they found. It added no call, and holds what it held.
 pub record MakesNoCall (v w : Record) : Type 0 where
   pub goes_on : GoesOnByCalls v w
   pub calls : w.calls ≡ v.calls
   pub holding : w.holding ≡ v.holding
+  pub made : List StepMade
+  pub awaits : Awaits v made w
 
 -- the last step that was made is a SEE that reached the position
 pub record EndsDurable (v : Record) (position : ℕ) (w : Record) : Type 0 where
@@ -54,20 +78,6 @@ pub record EndsFailed (v : Record) (position : ℕ) (w : Record) : Type 0 where
   pub missed : first < position
   pub missed_again : second < position
 
--- an ALIVE that was made said no
-pub record FoundFailure (v w : Record) : Type 0 where
-  pub before : List StepMade
-  pub after : List StepMade
-  pub steps : GrewBy v (before ++ FoundAlive false ∷ after) w
-
--- a LOOK that was made found the tickets spent
-pub record FoundSpent (v w : Record) : Type 0 where
-  pub before : List StepMade
-  pub after : List StepMade
-  pub count : ℕ
-  pub steps : GrewBy v (before ++ Looked count ∷ after) w
-  pub spent : ticket_limit ≤ count
-
 -- this call alone was added
 abbrev pub GrewByCall : Record → ℕ → Asked → Reply → Record → Type 0
 GrewByCall v position asked reply w = w.calls ≡ v.calls ++ call position asked reply ∷ []
@@ -77,70 +87,70 @@ abbrev pub MakesInTime : ℕ → Record → Asked → ℕ → Reply → Record �
 MakesInTime n v (Changing command) position reply w = MakesCallInTime n v command position reply w
 MakesInTime n v (Reading read) position reply w = MakesReadInTime n v read position reply w
 
--- The first of the steps are those that made the call.
-pub record IsMadeFirst (v : Record) (asked : Asked) (position : ℕ) (reply : Reply) (w : Record) : Type 0 where
-  pub stripes : ℕ
+-- The first of the steps are those that made the call over n stripes.
+pub record IsMadeFirst (n : ℕ) (v : Record) (asked : Asked) (position : ℕ) (reply : Reply) (w : Record) : Type 0 where
   pub at : Record
-  pub made : MakesInTime stripes v asked position reply at
+  pub made : MakesInTime n v asked position reply at
   pub after : List StepMade
   pub steps : GrewBy at after w
 
--- The record grew by this call alone, which was made by its steps. A change's position is past all that the pass had
--- seen, and a read's is no less. The reply is legal there, and the position was durable when the call returned.
-pub record AnswersCall (v : Record) (asked : Asked) (reply : Reply) (w : Record) : Type 0 where
+-- The record grew by this call alone, which was made by its steps. Those behind them are SEE and ALIVE alone. A change's
+-- position is past all that the pass had seen, and a read's is no less. The reply is legal there, and the position was
+-- durable when the call returned.
+pub record AnswersCall (n : ℕ) (v : Record) (asked : Asked) (reply : Reply) (w : Record) : Type 0 where
   pub position : ℕ
   pub grew : GrewByCall v position asked reply w
-  pub made : IsMadeFirst v asked position reply w
+  pub made : IsMadeFirst n v asked position reply w
+  pub awaited : Awaits made.at made.after w
   pub later : Follows (reach v) asked position
   pub legal : IsLegal (history_of w) position asked reply
   pub durable : EndsDurable v position w
 
--- An ALIVE said no, and no call was added.
-pub record MakesNone (v w : Record) : Type 0 where
-  pub failure : FoundFailure v w
-  pub calls : w.calls ≡ v.calls
-
--- The record grew by this call alone, which was made by its steps. The store has failed before its position became durable.
-pub record LosesCall (v : Record) (asked : Asked) (w : Record) : Type 0 where
+-- The record grew by this call alone, which was made by its steps. Those behind them are SEE and ALIVE alone. The store has
+-- failed before its position became durable.
+pub record LosesCall (n : ℕ) (v : Record) (asked : Asked) (w : Record) : Type 0 where
   pub position : ℕ
   pub reply : Reply
   pub grew : GrewByCall v position asked reply w
-  pub made : IsMadeFirst v asked position reply w
+  pub made : IsMadeFirst n v asked position reply w
+  pub awaited : Awaits made.at made.after w
   pub failed : EndsFailed v position w
 
--- whether a call may be refused because the tickets are spent
-abbrev pub DrawsTicket : Asked → Type 0
-DrawsTicket (Changing command) = Unit {0}
-DrawsTicket (Reading read) = ⊥
+-- The steps of a call of n stripes that was refused before it was made, and no others: it waited for its stripe, which was
+-- never the cause.
+abbrev pub RefusesInTime : ℕ → Record → Asked → Refusal → Record → Type 0
+RefusesInTime n v (Changing command) refusal w = RefusesChangeInTime v (stripe_of n command.key) refusal w
+RefusesInTime n v (Reading read) refusal w = RefusesReadInTime v (stripe_of n read.key) refusal w
 
--- What a refused call leaves. Its stripe was never the cause. After `Failed` an ALIVE of this call said no: either no call was added, or the call was
--- made, and ended as a release does. After any other refusal no call was added.
-abbrev pub RefusesCall : Record → Asked → Refusal → Record → Type 0
-RefusesCall v asked NoMemory w = w.calls ≡ v.calls
-RefusesCall v asked TicketsSpent w = DrawsTicket asked × FoundSpent v w × (w.calls ≡ v.calls)
-RefusesCall v asked Failed w = MakesNone v w ⊎ LosesCall v asked w
-RefusesCall v asked other w = ⊥
+-- The call was refused before it was made, and no call was added.
+pub record IsRefused (n : ℕ) (v : Record) (asked : Asked) (refusal : Refusal) (w : Record) : Type 0 where
+  pub refused : RefusesInTime n v asked refusal w
+  pub calls : w.calls ≡ v.calls
+
+-- What a refused call leaves: it was refused before it was made. Or, after `Failed` alone, it was made, and ended as a
+-- release does.
+abbrev pub RefusesCall : ℕ → Record → Asked → Refusal → Record → Type 0
+RefusesCall n v asked refusal w = IsRefused n v asked refusal w ⊎ ((refusal ≡ Failed) × LosesCall n v asked w)
 
 -- ---- calls that are begun, and finished later
 
 -- A call was made by its steps, and its reply is held. The record grew by this call alone. A change's position is past
 -- all that the pass had seen, and a read's is no less. The reply is legal there.
-pub record HoldsCall (v : Record) (asked : Asked) (held : Held) (w : Record) : Type 0 where
+pub record HoldsCall (n : ℕ) (v : Record) (asked : Asked) (held : Held) (w : Record) : Type 0 where
   pub grew : GrewByCall v (position_of held) asked (reply_of held) w
-  pub stripes : ℕ
-  pub made : MakesInTime stripes v asked (position_of held) (reply_of held) w
+  pub made : MakesInTime n v asked (position_of held) (reply_of held) w
   pub later : Follows (reach v) asked (position_of held)
   pub legal : IsLegal (history_of w) (position_of held) asked (reply_of held)
 
 -- what a call adds to the record when it is begun; none is added if it is refused
-abbrev pub AddsBegun : Record → Asked → Result Held Refusal → Record → Type 0
-AddsBegun v asked (Ok held) w = HoldsCall v asked held w
-AddsBegun v asked (Err refusal) w = RefusesCall v asked refusal w × (w.calls ≡ v.calls)
+abbrev pub AddsBegun : ℕ → Record → Asked → Result Held Refusal → Record → Type 0
+AddsBegun n v asked (Ok held) w = HoldsCall n v asked held w
+AddsBegun n v asked (Err refusal) w = IsRefused n v asked refusal w
 
--- What the beginning of a call leaves. Whatever it returns, the pass goes on from what it was.
-pub record Begins (v : Record) (asked : Asked) (result : Result Held Refusal) (w : Record) : Type 0 where
+-- What the beginning of a call over n stripes leaves. Whatever it returns, the pass goes on from what it was.
+pub record Begins (n : ℕ) (v : Record) (asked : Asked) (result : Result Held Refusal) (w : Record) : Type 0 where
   pub goes_on : GoesOnByCalls v w
-  pub adds : AddsBegun v asked result w
+  pub adds : AddsBegun n v asked result w
 
 -- How a call ends that was made with this reply. It is given out once its position was found durable; or `Failed` is
 -- returned, once the store has failed before that.
@@ -160,12 +170,12 @@ pub record GoesOnWith (v : Record) (others : List Call) (w : Record) : Type 0 wh
 
 -- A call was begun, and finished with other calls of its pass between. It was made by its steps, its reply is legal at
 -- its position in all that the pass has seen, and it ended with this answer.
-pub record CompletesAmong (v : Record) (asked : Asked) (answer : Result Reply Refusal) (w : Record) : Type 0 where
+pub record CompletesAmong (n : ℕ) (v : Record) (asked : Asked) (answer : Result Reply Refusal) (w : Record) : Type 0 where
   pub position : ℕ
   pub reply : Reply
   pub others : List Call
   pub grew : w.calls ≡ v.calls ++ call position asked reply ∷ others
-  pub made : IsMadeFirst v asked position reply w
+  pub made : IsMadeFirst n v asked position reply w
   pub later : Follows (reach v) asked position
   pub legal : IsLegal (history_of w) position asked reply
   pub ends : EndsWith v position reply answer w
@@ -173,15 +183,15 @@ pub record CompletesAmong (v : Record) (asked : Asked) (answer : Result Reply Re
 -- ---- whole calls
 
 -- what a call adds to the record, by its answer
-abbrev pub Adds : Record → Asked → Result Reply Refusal → Record → Type 0
-Adds v asked (Ok reply) w = AnswersCall v asked reply w
-Adds v asked (Err refusal) w = RefusesCall v asked refusal w
+abbrev pub Adds : ℕ → Record → Asked → Result Reply Refusal → Record → Type 0
+Adds n v asked (Ok reply) w = AnswersCall n v asked reply w
+Adds n v asked (Err refusal) w = RefusesCall n v asked refusal w
 
--- What a call leaves. Whatever it returns, the pass goes on from what it was, so that calls of one pass are calls of
+-- What a call over n stripes leaves. Whatever it returns, the pass goes on from what it was, so that calls of one pass are calls of
 -- one history.
-pub record Completes (v : Record) (asked : Asked) (result : Result Reply Refusal) (w : Record) : Type 0 where
+pub record Completes (n : ℕ) (v : Record) (asked : Asked) (result : Result Reply Refusal) (w : Record) : Type 0 where
   pub goes_on : GoesOnByCalls v w
-  pub adds : Adds v asked result w
+  pub adds : Adds n v asked result w
 
 -- Two calls of a pass, one after the other. Both are legal in the history that it has seen at last, and the second
 -- stands behind the first.

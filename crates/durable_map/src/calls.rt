@@ -4,7 +4,7 @@ ghost use Rattle.std.specs.Prelude.{IfOk};
 ghost use Rattle.ticket_order.specs.declared.record.Asked.TheVariants.{Changing, Reading};
 ghost use Rattle.stripe_locks.specs.Passes.{recorded, IsSamePass};
 ghost use Rattle.durable_map.specs.Durable.{Begins, Completes, Finishes};
-ghost use Rattle.durable_map.specs.Maps.{IsHeldOf, IsReady};
+ghost use Rattle.durable_map.specs.Maps.{IsHeldOf, IsReady, stripe_count};
 
 use crate::map::DurableMap;
 use disk_model::Disk;
@@ -26,7 +26,7 @@ impl<D: Disk + Drop> DurableMap<D> {
         command: Command,
     ) -> Result<Held, Refusal>
         requires { IsReady self.now pass.old }
-        ensures begins { Begins (recorded pass.old) (Changing command) result (recorded pass.new) }
+        ensures begins { Begins (stripe_count self.now) (recorded pass.old) (Changing command) result (recorded pass.new) }
         ensures held { IfOk result (IsHeldOf self.now) }
         ensures ready { IsReady self.now pass.new }
         ensures same { IsSamePass pass.old pass.new }
@@ -46,7 +46,7 @@ impl<D: Disk + Drop> DurableMap<D> {
     /// `Failed` if the store has failed, and `NoMemory`.
     pub fn begin_read<R: Wait>(&self, rt: &R, pass: &mut Pass, read: Read) -> Result<Held, Refusal>
         requires { IsReady self.now pass.old }
-        ensures begins { Begins (recorded pass.old) (Reading read) result (recorded pass.new) }
+        ensures begins { Begins (stripe_count self.now) (recorded pass.old) (Reading read) result (recorded pass.new) }
         ensures held { IfOk result (IsHeldOf self.now) }
         ensures ready { IsReady self.now pass.new }
         ensures same { IsSamePass pass.old pass.new }
@@ -100,7 +100,7 @@ impl<D: Disk + Drop> DurableMap<D> {
         command: Command,
     ) -> Result<Reply, Refusal>
         requires { IsReady self.now pass.old }
-        ensures completes { Completes (recorded pass.old) (Changing command) result
+        ensures completes { Completes (stripe_count self.now) (recorded pass.old) (Changing command) result
             (recorded pass.new) }
         ensures ready { IsReady self.now pass.new }
         ensures same { IsSamePass pass.old pass.new }
@@ -116,7 +116,7 @@ impl<D: Disk + Drop> DurableMap<D> {
     /// `Failed` if the store has failed. `NoMemory`.
     pub fn read<R: Wait>(&self, rt: &R, pass: &mut Pass, read: Read) -> Result<Reply, Refusal>
         requires { IsReady self.now pass.old }
-        ensures completes { Completes (recorded pass.old) (Reading read) result
+        ensures completes { Completes (stripe_count self.now) (recorded pass.old) (Reading read) result
             (recorded pass.new) }
         ensures ready { IsReady self.now pass.new }
         ensures same { IsSamePass pass.old pass.new }

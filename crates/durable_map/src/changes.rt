@@ -5,7 +5,7 @@ ghost use Rattle.map_types.specs.declared.commands.Change.TheVariants.{Put, PutI
 ghost use Rattle.ticket_order.specs.declared.record.Asked.TheVariants.{Changing};
 ghost use Rattle.stripe_locks.specs.Passes.{recorded, IsSamePass};
 ghost use Rattle.durable_map.specs.Durable.{Completes};
-ghost use Rattle.durable_map.specs.Maps.{IsReady};
+ghost use Rattle.durable_map.specs.Maps.{IsReady, stripe_count};
 
 use crate::map::DurableMap;
 use disk_model::Disk;
@@ -23,7 +23,7 @@ impl<D: Disk + Drop> DurableMap<D> {
         value: Value,
     ) -> Result<Reply, Refusal>
         requires { IsReady self.now pass.old }
-        ensures completes { Completes (recorded pass.old)
+        ensures completes { Completes (stripe_count self.now) (recorded pass.old)
             (Changing (record { key = key; change = Put value })) result (recorded pass.new) }
         ensures ready { IsReady self.now pass.new }
         ensures same { IsSamePass pass.old pass.new }
@@ -41,7 +41,7 @@ impl<D: Disk + Drop> DurableMap<D> {
         value: Value,
     ) -> Result<Reply, Refusal>
         requires { IsReady self.now pass.old }
-        ensures completes { Completes (recorded pass.old)
+        ensures completes { Completes (stripe_count self.now) (recorded pass.old)
             (Changing (record { key = key; change = PutIfAbsent value })) result
             (recorded pass.new) }
         ensures ready { IsReady self.now pass.new }
@@ -54,7 +54,7 @@ impl<D: Disk + Drop> DurableMap<D> {
     /// Java's `remove(key)`: the value before, or absent.
     pub fn remove<R: Wait>(&self, rt: &R, pass: &mut Pass, key: Key) -> Result<Reply, Refusal>
         requires { IsReady self.now pass.old }
-        ensures completes { Completes (recorded pass.old)
+        ensures completes { Completes (stripe_count self.now) (recorded pass.old)
             (Changing (record { key = key; change = Remove })) result (recorded pass.new) }
         ensures ready { IsReady self.now pass.new }
         ensures same { IsSamePass pass.old pass.new }
@@ -72,7 +72,7 @@ impl<D: Disk + Drop> DurableMap<D> {
         value: Value,
     ) -> Result<Reply, Refusal>
         requires { IsReady self.now pass.old }
-        ensures completes { Completes (recorded pass.old)
+        ensures completes { Completes (stripe_count self.now) (recorded pass.old)
             (Changing (record { key = key; change = RemoveIf value })) result (recorded pass.new) }
         ensures ready { IsReady self.now pass.new }
         ensures same { IsSamePass pass.old pass.new }
@@ -90,7 +90,7 @@ impl<D: Disk + Drop> DurableMap<D> {
         value: Value,
     ) -> Result<Reply, Refusal>
         requires { IsReady self.now pass.old }
-        ensures completes { Completes (recorded pass.old)
+        ensures completes { Completes (stripe_count self.now) (recorded pass.old)
             (Changing (record { key = key; change = Replace value })) result (recorded pass.new) }
         ensures ready { IsReady self.now pass.new }
         ensures same { IsSamePass pass.old pass.new }
@@ -109,7 +109,7 @@ impl<D: Disk + Drop> DurableMap<D> {
         new: Value,
     ) -> Result<Reply, Refusal>
         requires { IsReady self.now pass.old }
-        ensures completes { Completes (recorded pass.old)
+        ensures completes { Completes (stripe_count self.now) (recorded pass.old)
             (Changing (record { key = key; change = ReplaceIf old new })) result
             (recorded pass.new) }
         ensures ready { IsReady self.now pass.new }
@@ -129,7 +129,7 @@ impl<D: Disk + Drop> DurableMap<D> {
         argument: Option<Value>,
     ) -> Result<Reply, Refusal>
         requires { IsReady self.now pass.old }
-        ensures completes { Completes (recorded pass.old)
+        ensures completes { Completes (stripe_count self.now) (recorded pass.old)
             (Changing (record { key = key; change = Compute func argument })) result
             (recorded pass.new) }
         ensures ready { IsReady self.now pass.new }
@@ -149,7 +149,7 @@ impl<D: Disk + Drop> DurableMap<D> {
         argument: Option<Value>,
     ) -> Result<Reply, Refusal>
         requires { IsReady self.now pass.old }
-        ensures completes { Completes (recorded pass.old)
+        ensures completes { Completes (stripe_count self.now) (recorded pass.old)
             (Changing (record { key = key; change = ComputeIfAbsent func argument })) result
             (recorded pass.new) }
         ensures ready { IsReady self.now pass.new }
@@ -169,7 +169,7 @@ impl<D: Disk + Drop> DurableMap<D> {
         argument: Option<Value>,
     ) -> Result<Reply, Refusal>
         requires { IsReady self.now pass.old }
-        ensures completes { Completes (recorded pass.old)
+        ensures completes { Completes (stripe_count self.now) (recorded pass.old)
             (Changing (record { key = key; change = ComputeIfPresent func argument })) result
             (recorded pass.new) }
         ensures ready { IsReady self.now pass.new }
@@ -189,7 +189,7 @@ impl<D: Disk + Drop> DurableMap<D> {
         value: Value,
     ) -> Result<Reply, Refusal>
         requires { IsReady self.now pass.old }
-        ensures completes { Completes (recorded pass.old)
+        ensures completes { Completes (stripe_count self.now) (recorded pass.old)
             (Changing (record { key = key; change = Merge func value })) result
             (recorded pass.new) }
         ensures ready { IsReady self.now pass.new }

@@ -1,5 +1,5 @@
 //! What follows from the contracts of whole calls, and of calls that are begun.
-ghost use Rattle.std.specs.Prelude.{List, Result, Ok};
+ghost use Rattle.std.specs.Prelude.{ℕ, List, Result, Ok};
 ghost use Rattle.map_types.specs.declared.commands.Reply.{Reply};
 ghost use Rattle.map_types.specs.declared.refusals.Refusal.{Refusal};
 ghost use Rattle.ticket_order.specs.declared.record.Asked.{Asked};
@@ -12,16 +12,16 @@ ghost use Rattle.durable_map.specs.Durable.{Begins, Completes, CompletesAmong, F
 /// other, both replies are legal in what the pass has seen at last, and the second stands behind
 /// the first.
 pub fn calls_follow_each_other()
-    ensures { (v u w : Record) (first second : Asked) (one other : Reply)
-        → Completes v first (Ok one) u → Completes u second (Ok other) w
+    ensures { (n : ℕ) (v u w : Record) (first second : Asked) (one other : Reply)
+        → Completes n v first (Ok one) u → Completes n u second (Ok other) w
         → FollowEachOther v first one second other w }
 {}
 
-/// A call that was begun, and finished with others of its pass between, is completed as a whole
-/// call is. Its reply is legal in what the pass has seen, and was given out once its position was
-/// durable.
+/// A call that was begun, and finished with others of its pass between, was made and ends as a
+/// whole call does. Its reply is legal in what the pass has seen, and was given out once its
+/// position was durable.
 pub fn begun_calls_complete()
-    ensures { (v u x w : Record) (asked : Asked) (held : Held) (others : List Call)
-        (answer : Result Reply Refusal) → Begins v asked (Ok held) u → GoesOnWith u others x
-        → Finishes x held answer w → CompletesAmong v asked answer w }
+    ensures { (n : ℕ) (v u x w : Record) (asked : Asked) (held : Held) (others : List Call)
+        (answer : Result Reply Refusal) → Begins n v asked (Ok held) u → GoesOnWith u others x
+        → Finishes x held answer w → CompletesAmong n v asked answer w }
 {}

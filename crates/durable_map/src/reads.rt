@@ -5,7 +5,7 @@ ghost use Rattle.map_types.specs.declared.commands.Question.TheVariants.{Get, Ge
 ghost use Rattle.ticket_order.specs.declared.record.Asked.TheVariants.{Reading};
 ghost use Rattle.stripe_locks.specs.Passes.{recorded, IsSamePass};
 ghost use Rattle.durable_map.specs.Durable.{Completes};
-ghost use Rattle.durable_map.specs.Maps.{IsReady};
+ghost use Rattle.durable_map.specs.Maps.{IsReady, stripe_count};
 
 use crate::map::DurableMap;
 use disk_model::Disk;
@@ -17,7 +17,7 @@ impl<D: Disk + Drop> DurableMap<D> {
     /// Java's `get`: the value now, or absent.
     pub fn get<R: Wait>(&self, rt: &R, pass: &mut Pass, key: Key) -> Result<Reply, Refusal>
         requires { IsReady self.now pass.old }
-        ensures completes { Completes (recorded pass.old)
+        ensures completes { Completes (stripe_count self.now) (recorded pass.old)
             (Reading (record { key = key; question = Get })) result (recorded pass.new) }
         ensures ready { IsReady self.now pass.new }
         ensures same { IsSamePass pass.old pass.new }
@@ -35,7 +35,7 @@ impl<D: Disk + Drop> DurableMap<D> {
         default: Value,
     ) -> Result<Reply, Refusal>
         requires { IsReady self.now pass.old }
-        ensures completes { Completes (recorded pass.old)
+        ensures completes { Completes (stripe_count self.now) (recorded pass.old)
             (Reading (record { key = key; question = GetOrDefault default })) result
             (recorded pass.new) }
         ensures ready { IsReady self.now pass.new }
@@ -48,7 +48,7 @@ impl<D: Disk + Drop> DurableMap<D> {
     /// Java's `containsKey`: whether the key is mapped.
     pub fn contains_key<R: Wait>(&self, rt: &R, pass: &mut Pass, key: Key) -> Result<Reply, Refusal>
         requires { IsReady self.now pass.old }
-        ensures completes { Completes (recorded pass.old)
+        ensures completes { Completes (stripe_count self.now) (recorded pass.old)
             (Reading (record { key = key; question = ContainsKey })) result (recorded pass.new) }
         ensures ready { IsReady self.now pass.new }
         ensures same { IsSamePass pass.old pass.new }

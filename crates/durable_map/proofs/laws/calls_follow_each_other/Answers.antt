@@ -2,4 +2,4 @@ use Rattle.durable_map.proofs.Answering.{in_turn}
 use Rattle.durable_map.proofs.laws.calls_follow_each_other.Goals as goal
 
 pub returns : goal.returns
-returns c = λ v u w first second one other a b. in_turn v u w first second one other a b
+returns c = λ n v u w first second one other a b. in_turn n v u w first second one other a b
