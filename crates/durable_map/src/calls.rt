@@ -26,7 +26,8 @@ impl<D: Disk + Drop> DurableMap<D> {
         command: Command,
     ) -> Result<Held, Refusal>
         requires { IsReady self.now pass.old }
-        ensures begins { Begins (stripe_count self.now) (recorded pass.old) (Changing command) result (recorded pass.new) }
+        ensures begins { Begins (stripe_count self.now) (recorded pass.old) (Changing command)
+            result (recorded pass.new) }
         ensures held { IfOk result (IsHeldOf self.now) }
         ensures ready { IsReady self.now pass.new }
         ensures same { IsSamePass pass.old pass.new }
@@ -46,7 +47,8 @@ impl<D: Disk + Drop> DurableMap<D> {
     /// `Failed` if the store has failed, and `NoMemory`.
     pub fn begin_read<R: Wait>(&self, rt: &R, pass: &mut Pass, read: Read) -> Result<Held, Refusal>
         requires { IsReady self.now pass.old }
-        ensures begins { Begins (stripe_count self.now) (recorded pass.old) (Reading read) result (recorded pass.new) }
+        ensures begins { Begins (stripe_count self.now) (recorded pass.old) (Reading read) result
+            (recorded pass.new) }
         ensures held { IfOk result (IsHeldOf self.now) }
         ensures ready { IsReady self.now pass.new }
         ensures same { IsSamePass pass.old pass.new }
@@ -100,8 +102,8 @@ impl<D: Disk + Drop> DurableMap<D> {
         command: Command,
     ) -> Result<Reply, Refusal>
         requires { IsReady self.now pass.old }
-        ensures completes { Completes (stripe_count self.now) (recorded pass.old) (Changing command) result
-            (recorded pass.new) }
+        ensures completes { Completes (stripe_count self.now) (recorded pass.old) (Changing command)
+            result (recorded pass.new) }
         ensures ready { IsReady self.now pass.new }
         ensures same { IsSamePass pass.old pass.new }
     {
@@ -116,8 +118,8 @@ impl<D: Disk + Drop> DurableMap<D> {
     /// `Failed` if the store has failed. `NoMemory`.
     pub fn read<R: Wait>(&self, rt: &R, pass: &mut Pass, read: Read) -> Result<Reply, Refusal>
         requires { IsReady self.now pass.old }
-        ensures completes { Completes (stripe_count self.now) (recorded pass.old) (Reading read) result
-            (recorded pass.new) }
+        ensures completes { Completes (stripe_count self.now) (recorded pass.old) (Reading read)
+            result (recorded pass.new) }
         ensures ready { IsReady self.now pass.new }
         ensures same { IsSamePass pass.old pass.new }
     {

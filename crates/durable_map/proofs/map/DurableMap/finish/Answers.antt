@@ -1,8 +1,23 @@
 use Rattle.std.proofs.Common.{rules, ◌∙◌, ℕ, refl, subst}
 use Rattle.stripe_locks.specs.Passes.{recorded}
 use Rattle.durable_map.specs.Durable.{EndsDurable, EndsFailed}
-use Rattle.durable_map.proofs.Growing.{ends_after, failed, fails_after, goes_on, released}
+use Rattle.durable_map.proofs.Growing.{ends_after, failed, fails_after, goes_on, missed, released}
 use Rattle.durable_map.proofs.map.DurableMap.finish.Goals as goal
+
+pub loop-turn-preserved : goal.loop-turn-preserved
+loop-turn-preserved g c =
+    let turn = c.loop-turn.invariant in
+    let r = c.in-NotYet.ensures.released in
+    record {
+      next = search rules;
+      finite = search rules;
+      own = search rules;
+      same = search rules;
+      beside = goes_on _ _ _ turn.beside (missed _ _ _ _ r.2);
+      held = search rules;
+      position_is = r.0 ∙ turn.position_is;
+      reply_is = r.1 ∙ turn.reply_is;
+    }
 
 pub returns-in-Reply-clause-finishes : goal.returns-in-Reply-clause-finishes
 returns-in-Reply-clause-finishes g c =
