@@ -1,6 +1,7 @@
 -- A call that waited for its stripe.
 use Rattle.std.proofs.Common.{ℕ, ◌≡◌, ◌<◌, ◌≤◌, List, None, subst, ◌++◌, [], ◌∷◌, zero, suc, replicate, refl, arith, sym, ◌∙◌, ap, append_assoc, append-nil}
 use Rattle.std.specs.Prelude.{Result, Ok, Err, IfOk, IfErr}
+use Rattle.std.proofs.lemmas.Result.{IfErr-weaker}
 use Rattle.java_hash.specs.Stripes.{stripe_of}
 use Rattle.map_types.specs.declared.commands.Command.{Command}
 use Rattle.map_types.specs.declared.commands.Read.{Read}
@@ -20,8 +21,8 @@ use Rattle.ticket_order.specs.declared.record.Asked.TheVariants.{Changing, Readi
 use Rattle.ticket_order.specs.declared.record.StepMade.{StepMade}
 use Rattle.ticket_order.specs.declared.record.StepMade.TheVariants.{FoundHeld}
 use Rattle.ticket_order.specs.declared.record.Record.{Record}
-use Rattle.ticket_order.specs.Records.{missing}
-use Rattle.ticket_order.specs.Records.{call, reach}
+use Rattle.ticket_order.specs.Records.{missing, call, past, reach}
+use Rattle.ticket_order.specs.StepRules.{Rises}
 use Rattle.ticket_order.specs.Calls.{HasFound, IsNotBusy, MakesCall, MakesRead, RefusesChange, RefusesRead}
 use Rattle.stripe_locks.specs.Waits.{Waits, TakesInTime, MakesCallInTime, MakesReadInTime}
 
@@ -57,7 +58,12 @@ read_in_time n v r content t position reply w k m = record {
 }
 
 pub found_in_time : (n : ℕ) (v : Record) (i : ℕ) (content : Stripe) (t : Record) (k : TakesInTime n v i content t) → HasFound k.waited i content t
-found_in_time n v i content t k = record { between = k.takes.between; rises = k.takes.rises; is = k.takes.is }
+found_in_time n v i content t k = record { between = k.takes.between; is = k.takes.is }
+
+-- the TAKE raised what the pass had seen
+pub refused_in_time : {T : Type 0} (n : ℕ) (v : Record) (i : ℕ) (content : Stripe) (t w : Record) (k : TakesInTime n v i content t) (r : Result T Refusal)
+    → IfErr r (λ e. (e ≡ refusal.Failed → Rises k.waited (past content.outbox.items) t) → RefusesChange k.waited i e w) → IfErr r (λ e. RefusesChange k.waited i e w)
+refused_in_time n v i content t w k r refused = IfErr-weaker r _ _ (λ e f. f (λ failed. k.takes.rises)) refused
 
 -- the answer of a call that the maker's record grew by
 pub held_of : (s : Stripes) (x : Held) (asked : Asked) (b : Record) → IsPassOf s x.maker.value → (recorded x.maker.value).calls ≡ b.calls ++ call (position_of x) asked (reply_of x) ∷ [] → IsHeldOf s x

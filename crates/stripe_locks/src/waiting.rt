@@ -1,7 +1,8 @@
 //! Whole calls of a pass that wait for their stripe.
 ghost use Rattle.std.specs.Prelude.{◌≡◌, ◌<◌, None, IfOk, IfErr};
 ghost use Rattle.ticket_order.specs.declared.record.Record.{Record};
-ghost use Rattle.ticket_order.specs.StepRules.{TakesStripe};
+ghost use Rattle.ticket_order.specs.Records.{past};
+ghost use Rattle.ticket_order.specs.StepRules.{Rises, TakesStripe};
 ghost use Rattle.ticket_order.specs.Calls.{HasFound, IsNotBusy, MakesCall, MakesRead, RefusesChange, RefusesRead};
 ghost use Rattle.java_hash.specs.Hash.{hash_of, spread_of};
 ghost use Rattle.java_hash.specs.Stripes.{stripe_of};
@@ -78,7 +79,8 @@ impl Stripes {
         requires found { (b : Record) × HasFound b (stripe_of (stripe_count self.now) command.key)
             content (recorded pass.old) }
 
-        // The record grows by this call; or it is refused, but not as busy.
+        // The record grows by this call; or it is refused, but not as busy. `Failed` tells what the
+        // TAKE showed.
         ensures made { (b : Record) → HasFound b (stripe_of (stripe_count self.now) command.key)
             content (recorded pass.old)
             → IfOk result (λ held.
@@ -87,7 +89,8 @@ impl Stripes {
         ensures refused { (b : Record) → HasFound b (stripe_of (stripe_count self.now) command.key)
             content (recorded pass.old)
             → IfErr result (λ refusal.
-            RefusesChange b (stripe_of (stripe_count self.now) command.key) refusal
+            (refusal ≡ Refusal.Failed → Rises b (past content.outbox.items) (recorded pass.old))
+            → RefusesChange b (stripe_of (stripe_count self.now) command.key) refusal
             (recorded pass.new)) }
         ensures held { IfOk result (IsHeldOf self.now) }
         ensures not_busy { IfErr result IsNotBusy }

@@ -25,19 +25,19 @@ pub may_give_back : (n : ℕ) (p : Record) (t : Taken) → HasContent p t → Ma
 may_give_back n p t h = record { held = h.held; holding = h.holding; stripe_is = h.stripe_is; part_is = h.part_is; outbox_is = h.outbox_is; last_is = h.last_is; suits = tt }
 
 pub found_content : (b p : Record) (t : Taken) → HasFound b t.stripe t.content p → TookContent b t p
-found_content b p t f = record { taken = f.between; rises = f.rises; is = f.is }
+found_content b p t f = record { taken = f.between; is = f.is }
 
 pub taken_content : (n : ℕ) (b p : Record) (t : Taken) → TakesStripe n b t.stripe t.content p → TookContent b t p
-taken_content n b p t k = record { taken = k.between; rises = k.rises; is = k.is }
+taken_content n b p t k = record { taken = k.between; is = k.is }
 
 -- since b: TAKE, and ALIVE that said this
 lived : (b p w : Record) (t : Taken) (x : Bool) (k : TookContent b t p) → Lives p x w → w ≡ living (taking b t.stripe t.content.part.map t.content.outbox.items t.content.last k.taken) x
 lived b p w t x k l = l.is ∙ ap (λ (y : Record). living y x) k.is
 
 pub took_alive : (b p w : Record) (t : Taken) → TookContent b t p → Lives p true w → TookAlive b t w
-took_alive b p w t k l = record { taken = k.taken; rises = subst (Rises b (past t.content.outbox.items)) (sym l.is) k.rises; is = lived b p w t true k l }
+took_alive b p w t k l = record { taken = k.taken; is = lived b p w t true k l }
 
-content_lived : (b p w : Record) (t : Taken) (x : Bool) → TookContent b t p → Lives p x w → HasContent w t
+pub content_lived : (b p w : Record) (t : Taken) (x : Bool) → TookContent b t p → Lives p x w → HasContent w t
 content_lived b p w t x k l = record {
   held = record { stripe = t.stripe; part = t.content.part.map; outbox = t.content.outbox.items; last = t.content.last; has_drawn = false; looked = None };
   holding = ap (λ (y : Record). y.holding) (lived b p w t x k l);
@@ -47,27 +47,27 @@ content_lived b p w t x k l = record {
   last_is = refl;
 }
 
-failed : (b p w : Record) (t : Taken) (j : ℕ) → TookContent b t p → Lives p false w → t.stripe ≡ j → GivesBack b (FindsFailure b j) (giving Nothing w)
-failed b p w t j k l e =
+failed : (b p w : Record) (t : Taken) (j : ℕ) → TookContent b t p → Rises b (past t.content.outbox.items) p → Lives p false w → t.stripe ≡ j → GivesBack b (FindsFailure b j) (giving Nothing w)
+failed b p w t j k r l e =
     let is = lived b p w t false k l in
     subst (λ z. GivesBack b (FindsFailure b z) (giving Nothing w)) e (record {
       holder = w;
-      before = record { part = t.content.part.map; outbox = t.content.outbox.items; last = t.content.last; taken = k.taken; rises = subst (Rises b (past t.content.outbox.items)) k.is k.rises; is = is };
+      before = record { part = t.content.part.map; outbox = t.content.outbox.items; last = t.content.last; taken = k.taken; rises = subst (Rises b (past t.content.outbox.items)) k.is r; is = is };
       is = refl;
       same_calls = ap (λ (y : Record). y.calls) is;
     })
 
-unfailed : (b p w : Record) (t : Taken) (j : ℕ) → TookContent b t p → Lives p true w → t.stripe ≡ j → GivesBack b (FindsNoFailure b j) (giving Nothing w)
-unfailed b p w t j k l e =
+unfailed : (b p w : Record) (t : Taken) (j : ℕ) → TookContent b t p → Rises b (past t.content.outbox.items) p → Lives p true w → t.stripe ≡ j → GivesBack b (FindsNoFailure b j) (giving Nothing w)
+unfailed b p w t j k r l e =
     let is = lived b p w t true k l in
     subst (λ z. GivesBack b (FindsNoFailure b z) (giving Nothing w)) e (record {
       holder = w;
-      before = record { part = t.content.part.map; outbox = t.content.outbox.items; last = t.content.last; taken = k.taken; rises = subst (Rises b (past t.content.outbox.items)) k.is k.rises; is = is };
+      before = record { part = t.content.part.map; outbox = t.content.outbox.items; last = t.content.last; taken = k.taken; rises = subst (Rises b (past t.content.outbox.items)) k.is r; is = is };
       is = refl;
       same_calls = ap (λ (y : Record). y.calls) is;
     })
 
-content_looked : (b p : Record) (t u : Taken) → TookLooked b t p → u.stripe ≡ t.stripe → u.content.part.map ≡ t.content.part.map → u.content.outbox.items ≡ t.content.outbox.items → u.content.last ≡ t.content.last → HasContent p u
+pub content_looked : (b p : Record) (t u : Taken) → TookLooked b t p → u.stripe ≡ t.stripe → u.content.part.map ≡ t.content.part.map → u.content.outbox.items ≡ t.content.outbox.items → u.content.last ≡ t.content.last → HasContent p u
 content_looked b p t u k stripe part outbox last = record {
   held = record { stripe = t.stripe; part = t.content.part.map; outbox = t.content.outbox.items; last = t.content.last; has_drawn = false; looked = Some (b.opening.first + length ((b.seen ++ k.taken) ++ k.looked)) };
   holding = ap (λ (z : Record). z.holding) k.is;
@@ -97,10 +97,10 @@ looked_around b w t j k e =
       same_calls = ap (λ (y : Record). y.calls) k.is;
     })
 
-pub change_failed : (n : ℕ) (b p w : Record) (task : Task) (c : Command) (t : Taken) → OfTask n task (ToChange c) t.stripe (stripe_of n c.key) → TookContent b t p → Lives p false w → IsRefusing n b task t refusal.Failed w
-change_failed n b p w task c t o k l = record {
+pub change_failed : (n : ℕ) (b p w : Record) (task : Task) (c : Command) (t : Taken) → OfTask n task (ToChange c) t.stripe (stripe_of n c.key) → TookContent b t p → Rises b (past t.content.outbox.items) p → Lives p false w → IsRefusing n b task t refusal.Failed w
+change_failed n b p w task c t o k rises l = record {
   content = content_lived b p w t false k l;
-  refused = subst (λ z. Refuses n b z refusal.Failed (giving Nothing w)) (sym o.task_is) (failed b p w t _ k l o.stripe_is);
+  refused = subst (λ z. Refuses n b z refusal.Failed (giving Nothing w)) (sym o.task_is) (failed b p w t _ k rises l o.stripe_is);
   too_many = λ full. absurd (not_full_by_failure full);
 }
 
@@ -189,18 +189,18 @@ drawn n b p w task c ticket t u h o k small d m = record {
   made = made_change n b p w c ticket t u h o.stripe_is k small d m;
 }
 
-pub read_failed : (n : ℕ) (b p w : Record) (task : Task) (r : read_type.Read) (t : Taken) → OfTask n task (ToRead r) t.stripe (stripe_of n r.key) → TookContent b t p → Lives p false w → IsRefusing n b task t refusal.Failed w
-read_failed n b p w task r t o k l = record {
+pub read_failed : (n : ℕ) (b p w : Record) (task : Task) (r : read_type.Read) (t : Taken) → OfTask n task (ToRead r) t.stripe (stripe_of n r.key) → TookContent b t p → Rises b (past t.content.outbox.items) p → Lives p false w → IsRefusing n b task t refusal.Failed w
+read_failed n b p w task r t o k rises l = record {
   content = content_lived b p w t false k l;
-  refused = subst (λ z. Refuses n b z refusal.Failed (giving Nothing w)) (sym o.task_is) (failed b p w t _ k l o.stripe_is);
+  refused = subst (λ z. Refuses n b z refusal.Failed (giving Nothing w)) (sym o.task_is) (failed b p w t _ k rises l o.stripe_is);
   too_many = λ full. absurd (not_full_by_failure full);
 }
 
-pub read_starved : (n : ℕ) (b p w : Record) (task : Task) (r : read_type.Read) (t : Taken) (e : Refusal) → OfTask n task (ToRead r) t.stripe (stripe_of n r.key) → TookContent b t p → Lives p true w
+pub read_starved : (n : ℕ) (b p w : Record) (task : Task) (r : read_type.Read) (t : Taken) (e : Refusal) → OfTask n task (ToRead r) t.stripe (stripe_of n r.key) → TookContent b t p → Rises b (past t.content.outbox.items) p → Lives p true w
     → e ≡ refusal.NoMemory → IsRefusing n b task t e w
-read_starved n b p w task r t e o k l starved = record {
+read_starved n b p w task r t e o k rises l starved = record {
   content = content_lived b p w t true k l;
-  refused = subst (λ z. Refuses n b task z (giving Nothing w)) (sym starved) (subst (λ z. Refuses n b z refusal.NoMemory (giving Nothing w)) (sym o.task_is) (unfailed b p w t _ k l o.stripe_is));
+  refused = subst (λ z. Refuses n b task z (giving Nothing w)) (sym starved) (subst (λ z. Refuses n b z refusal.NoMemory (giving Nothing w)) (sym o.task_is) (unfailed b p w t _ k rises l o.stripe_is));
   too_many = λ full. absurd (not_full_by_memory (sym starved ∙ full));
 }
 
@@ -216,7 +216,7 @@ may_answer n b p r t key k = record {
 }
 
 pub answered_alive : (n : ℕ) (b p : Record) (r : read_type.Read) (t : Taken) (h : Held) → HasAnswer n b r t h p → TookAlive b t p
-answered_alive n b p r t h a = record { taken = a.took.between; rises = subst (Rises b (past t.content.outbox.items)) (sym a.is) a.took.rises; is = a.is ∙ ap (λ (y : Record). living y true) a.took.is }
+answered_alive n b p r t h a = record { taken = a.took.between; is = a.is ∙ ap (λ (y : Record). living y true) a.took.is }
 
 -- the greater of both numbers is reached
 risen : (v w : Record) (x : ℕ) → Rises v x w → reach w ≡ max (reach v) x

@@ -61,7 +61,6 @@ pub record MakesRead (n : ℕ) (v : Record) (r : Read) (position : ℕ) (reply :
 -- the record after a TAKE of stripe i that found this content
 pub record HasFound (v : Record) (i : ℕ) (content : Stripe) (w : Record) : Type 0 where
   pub between : List Command
-  pub rises : Rises v (past content.outbox.items) w
   pub is : w ≡ taking v i content.part.map content.outbox.items content.last between
 
 abbrev pub IsNotBusy : Refusal → Type 0

@@ -238,13 +238,11 @@ pub record HasBegun (b : Record) (task : Task) (same : Task) (p : Record) : Type
 -- since b: TAKE of this stripe, which had this content
 pub record TookContent (b : Record) (t : Taken) (p : Record) : Type 0 where
   pub taken : List Command
-  pub rises : Rises b (past t.content.outbox.items) p
   pub is : p ≡ taking b t.stripe t.content.part.map t.content.outbox.items t.content.last taken
 
 -- since b: TAKE, and ALIVE that said yes
 pub record TookAlive (b : Record) (t : Taken) (p : Record) : Type 0 where
   pub taken : List Command
-  pub rises : Rises b (past t.content.outbox.items) p
   pub is : p ≡ living (taking b t.stripe t.content.part.map t.content.outbox.items t.content.last taken) true
 
 -- since b: TAKE, ALIVE and LOOK
@@ -292,7 +290,7 @@ pub record HasAnswer (n : ℕ) (b : Record) (r : read_type.Read) (t : Taken) (h 
 -- the walk of a change, which began at the record b, stands at the record p
 abbrev pub FitsChange : ℕ → Record → Task → ChangeStage → Record → Type 0
 FitsChange n b task (change.Begins new) p = HasBegun b task (ToChange new.command) p
-FitsChange n b task (change.HasTaken new t) p = OfTask n task (ToChange new.command) t.stripe (stripe_of n new.command.key) × TookContent b t p
+FitsChange n b task (change.HasTaken new t) p = OfTask n task (ToChange new.command) t.stripe (stripe_of n new.command.key) × TookContent b t p × Rises b (past t.content.outbox.items) p
 FitsChange n b task (change.IsAlive new t) p = OfTask n task (ToChange new.command) t.stripe (stripe_of n new.command.key) × TookAlive b t p
 FitsChange n b task (change.IsReady new t prepared) p = OfTask n task (ToChange new.command) t.stripe (stripe_of n new.command.key) × TookLooked b t p × (reach p < ticket_limit) × HasMemory new.command t.content prepared
 FitsChange n b task (change.HasDrawn t h) p = HasMade n b task t h p

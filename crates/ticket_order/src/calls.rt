@@ -3,7 +3,8 @@ ghost use Rattle.std.specs.Prelude.{◌≡◌, None, IfOk, IfErr};
 ghost use Rattle.java_hash.specs.Hash.{hash_of, spread_of};
 ghost use Rattle.java_hash.specs.Stripes.{stripe_of};
 ghost use Rattle.ticket_order.specs.declared.record.Record.{Record};
-ghost use Rattle.ticket_order.specs.StepRules.{TakesStripe};
+ghost use Rattle.ticket_order.specs.Records.{past};
+ghost use Rattle.ticket_order.specs.StepRules.{Rises, TakesStripe};
 ghost use Rattle.ticket_order.specs.Calls.{HasFound, IsNotBusy, MakesCall, MakesRead, RefusesChange, RefusesRead, Releases};
 ghost use Rattle.ticket_order.specs.Walks.{ToChange, FitsChange};
 
@@ -107,11 +108,12 @@ pub fn call_on<S: Steps>(
         MakesCall (S.stripe_count steps.old) b command held.position held.reply
         (S.recorded steps.new)) }
 
-    // Or it is refused, but not as busy, and no call is added.
+    // Or it is refused, but not as busy, and no call is added. `Failed` tells what the TAKE showed.
     ensures refused { (b : Record) → HasFound b (stripe_of (S.stripe_count steps.old) command.key)
         content (S.recorded steps.old)
         → IfErr result (λ refusal.
-        RefusesChange b (stripe_of (S.stripe_count steps.old) command.key) refusal
+        (refusal ≡ Refusal.Failed → Rises b (past content.outbox.items) (S.recorded steps.old))
+        → RefusesChange b (stripe_of (S.stripe_count steps.old) command.key) refusal
         (S.recorded steps.new)) }
     ensures not_busy { IfErr result IsNotBusy }
 
@@ -181,10 +183,13 @@ fn change_on<S: Steps>(
         IfOk result (λ held. MakesCall (S.stripe_count steps.old) b new.command
         held.position held.reply (S.recorded steps.new)) }
 
-    // Or it is refused, but not as busy, and no call is added.
-    ensures refused { (b : Record) → HasFound b taken.stripe taken.content (S.recorded steps.old) →
-        IfErr result (λ refusal. RefusesChange b
-        (stripe_of (S.stripe_count steps.old) new.command.key) refusal (S.recorded steps.new)) }
+    // Or it is refused, but not as busy, and no call is added. `Failed` tells what the TAKE showed.
+    ensures refused { (b : Record) → HasFound b taken.stripe taken.content (S.recorded steps.old)
+        → IfErr result (λ refusal.
+        (refusal ≡ Refusal.Failed
+        → Rises b (past taken.content.outbox.items) (S.recorded steps.old))
+        → RefusesChange b (stripe_of (S.stripe_count steps.old) new.command.key) refusal
+        (S.recorded steps.new)) }
     ensures not_busy { IfErr result IsNotBusy }
 
     // It is the same pass, over as many stripes.

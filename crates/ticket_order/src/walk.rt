@@ -2,7 +2,7 @@
 ghost use Rattle.std.specs.Prelude.{◌≡◌, ◌<◌, ℕ, Some, None, true, false, length};
 ghost use Rattle.std.specs.Option.{option_copied};
 ghost use Rattle.ticket_order.specs.declared.record.Record.{Record};
-ghost use Rattle.ticket_order.specs.Walks.{Task, ToChange, ToRead, ToRelease, ToSweep, ToCapture, Fits, IsUnderWay, Next, MakesOne, next_kind, Take, Give, IsRefusing, Refuses, HasFewerLeft, steps_left, entries_of_walk, KeepsEntries, captured_of_walk, KeepsCaptured, refusal_of_walk, KeepsRefusal, is_holding};
+ghost use Rattle.ticket_order.specs.Walks.{Task, ToChange, ToRead, ToRelease, ToSweep, ToCapture, Fits, IsUnderWay, Next, MakesOne, next_kind, Take, Give, HasContent, IsRefusing, Refuses, HasFewerLeft, steps_left, entries_of_walk, KeepsEntries, captured_of_walk, KeepsCaptured, refusal_of_walk, KeepsRefusal, is_holding};
 
 use crate::capture_walk::{CaptureStage, Captured};
 use crate::change_walk::{ChangeStage, NewChange};
@@ -66,11 +66,10 @@ impl Taken {
 
     // Gives the stripe back as it was taken, since the call is refused.
     pub(crate) fn give_back<S: Steps>(self, refusal: Refusal, steps: &mut S) -> Refusal
-        // The stripe is held, and a GIVE of it refuses the task.
-        requires { (b : Record) × (task : Task)
-            × IsRefusing (S.stripe_count steps.old) b task self refusal (S.recorded steps.old) }
+        // The stripe is held, with this content.
+        requires { HasContent (S.recorded steps.old) self }
 
-        // One step, that GIVE; the task is refused, with the same refusal.
+        // One step, its GIVE; a task that it refuses is refused, with the same refusal.
         ensures one { MakesOne S.recorded S.moves (Give self.stripe) steps.old steps.new }
         ensures refused { (b : Record) (task : Task)
             → IsRefusing (S.stripe_count steps.old) b task self refusal (S.recorded steps.old)

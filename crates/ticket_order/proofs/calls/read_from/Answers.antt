@@ -1,20 +1,19 @@
-use Rattle.std.proofs.Common.{◌≡◌, max, ◌∙◌, ap, refl}
+use Rattle.std.proofs.Common.{◌≡◌, max, true, false, ◌∙◌, ap, refl}
 use Rattle.java_hash.specs.Stripes.{stripe_of}
 use Rattle.ticket_order.specs.Walks.{ToRead}
-use Rattle.ticket_order.proofs.Walking.{taken_content, took_alive, may_answer, read_failed, read_starved, made_read}
+use Rattle.ticket_order.proofs.Walking.{taken_content, content_lived, took_alive, may_answer, read_failed, read_starved, made_read}
 use Rattle.ticket_order.proofs.calls.read_from.Goals as goal
 
 pub give_back-requires : goal.give_back-requires
 give_back-requires g c =
     let f = c.requires.found in
-    let at : c.args.taken.stripe ≡ stripe_of (g.S.Steps.stripe_count c.alive.new.self) c.args.read.key = rw c.alive.ensures.stripes c.requires.stripe in
-    (f.0, ToRead c.args.read, read_failed _ _ _ _ _ c.args.read c.args.taken (record { task_is = refl; stripe_is = at }) (taken_content _ _ _ _ f.1) (rw c.if-not-alive.true at c.alive.ensures.step))
+    content_lived f.0 _ _ c.args.taken false (taken_content _ _ _ _ f.1) (rw c.if-not-alive.true at c.alive.ensures.step)
 
 pub returns-then-not-alive-clause-refused : goal.returns-then-not-alive-clause-refused
 returns-then-not-alive-clause-refused g c = λ b f.
     let at : c.args.taken.stripe ≡ stripe_of (g.S.Steps.stripe_count c.alive.new.self) c.args.read.key = rw c.alive.ensures.stripes c.requires.stripe in
     rw c.give_back.ensures.same (rw (← c.alive.ensures.stripes)
-    (c.give_back.ensures.refused b (ToRead c.args.read) (read_failed _ _ _ _ _ c.args.read c.args.taken (record { task_is = refl; stripe_is = at }) (taken_content _ _ _ _ f) (rw c.if-not-alive.true at c.alive.ensures.step))))
+    (c.give_back.ensures.refused b (ToRead c.args.read) (read_failed _ _ _ _ _ c.args.read c.args.taken (record { task_is = refl; stripe_is = at }) (taken_content _ _ _ _ f) f.rises (rw c.if-not-alive.true at c.alive.ensures.step))))
 
 pub give-requires : goal.give-requires
 give-requires g c =
@@ -30,11 +29,10 @@ returns-in-Ok-clause-made g c = λ b f.
 pub give_back-requires-in-Err : goal.give_back-requires-in-Err
 give_back-requires-in-Err g c =
     let f = c.requires.found in
-    let at : c.args.taken.stripe ≡ stripe_of (g.S.Steps.stripe_count c.alive.new.self) c.args.read.key = rw c.alive.ensures.stripes c.requires.stripe in
-    (f.0, ToRead c.args.read, read_starved _ _ _ _ _ c.args.read c.args.taken _ (record { task_is = refl; stripe_is = at }) (taken_content _ _ _ _ f.1) (rw c.if-not-alive.false at c.alive.ensures.step) c.in-Err.ensures.err)
+    content_lived f.0 _ _ c.args.taken true (taken_content _ _ _ _ f.1) (rw c.if-not-alive.false at c.alive.ensures.step)
 
 pub returns-in-Err-clause-refused : goal.returns-in-Err-clause-refused
 returns-in-Err-clause-refused g c = λ b f.
     let at : c.args.taken.stripe ≡ stripe_of (g.S.Steps.stripe_count c.alive.new.self) c.args.read.key = rw c.alive.ensures.stripes c.requires.stripe in
     rw c.give_back-in-Err.ensures.same (rw (← c.alive.ensures.stripes)
-    (c.give_back-in-Err.ensures.refused b (ToRead c.args.read) (read_starved _ _ _ _ _ c.args.read c.args.taken _ (record { task_is = refl; stripe_is = at }) (taken_content _ _ _ _ f) (rw c.if-not-alive.false at c.alive.ensures.step) c.in-Err.ensures.err)))
+    (c.give_back-in-Err.ensures.refused b (ToRead c.args.read) (read_starved _ _ _ _ _ c.args.read c.args.taken _ (record { task_is = refl; stripe_is = at }) (taken_content _ _ _ _ f) f.rises (rw c.if-not-alive.false at c.alive.ensures.step) c.in-Err.ensures.err)))

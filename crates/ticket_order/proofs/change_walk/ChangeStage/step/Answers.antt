@@ -5,7 +5,7 @@ use Rattle.ticket_order.proofs.change_walk.ChangeStage.step.Goals as goal
 pub returns-else-alive-clause-next : goal.returns-else-alive-clause-next
 returns-else-alive-clause-next g c = λ b task f.
     let h = rw c.in-HasTaken.is at f in
-    rw c.refused.ensures (change_failed _ b _ _ task c.in-HasTaken.new.command c.in-HasTaken.taken h.0 h.1 (rw c.if-alive.false at c.alive.ensures.step))
+    rw c.refused.ensures (change_failed _ b _ _ task c.in-HasTaken.new.command c.in-HasTaken.taken h.0 h.1 h.2 (rw c.if-alive.false at c.alive.ensures.step))
 
 pub returns-then-look-ge-TICKET_LIMIT-clause-next : goal.returns-then-look-ge-TICKET_LIMIT-clause-next
 returns-then-look-ge-TICKET_LIMIT-clause-next g c = λ b task f.

@@ -5,7 +5,7 @@ use Rattle.ticket_order.proofs.read_walk.ReadStage.step.Goals as goal
 pub returns-then-not-alive-clause-next : goal.returns-then-not-alive-clause-next
 returns-then-not-alive-clause-next g c = λ b task f.
     let h = rw c.in-HasTaken.is at f in
-    rw c.refused.ensures (read_failed _ b _ _ task c.in-HasTaken.read c.in-HasTaken.taken h.0 (taken_content _ b _ _ h.1) (rw c.if-not-alive.true at c.alive.ensures.step))
+    rw c.refused.ensures (read_failed _ b _ _ task c.in-HasTaken.read c.in-HasTaken.taken h.0 (taken_content _ b _ _ h.1) h.1.rises (rw c.if-not-alive.true at c.alive.ensures.step))
 
 pub returns-in-Ok-clause-next : goal.returns-in-Ok-clause-next
 returns-in-Ok-clause-next g c = λ b task f.
@@ -15,7 +15,7 @@ returns-in-Ok-clause-next g c = λ b task f.
 pub returns-in-Err-clause-next : goal.returns-in-Err-clause-next
 returns-in-Err-clause-next g c = λ b task f.
     let h = rw c.in-HasTaken.is at f in
-    rw c.refused-in-Err.ensures (read_starved _ b _ _ task c.in-HasTaken.read c.in-HasTaken.taken _ h.0 (taken_content _ b _ _ h.1) (rw c.if-not-alive.false at c.alive.ensures.step) c.in-Err.ensures.err)
+    rw c.refused-in-Err.ensures (read_starved _ b _ _ task c.in-HasTaken.read c.in-HasTaken.taken _ h.0 (taken_content _ b _ _ h.1) h.1.rises (rw c.if-not-alive.false at c.alive.ensures.step) c.in-Err.ensures.err)
 
 pub give-requires : goal.give-requires
 give-requires g c =

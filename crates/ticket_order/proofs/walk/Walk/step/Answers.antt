@@ -16,4 +16,6 @@ pub step-requires-in-Capture : goal.step-requires-in-Capture
 step-requires-in-Capture g c = (c.requires.0, c.requires.1, rw c.in-Capture.is at c.requires.2)
 
 pub give_back-requires : goal.give_back-requires
-give_back-requires g c = (c.requires.0, c.requires.1, rw c.in-GivingBack.is at c.requires.2)
+give_back-requires g c =
+    let h = rw c.in-GivingBack.is at c.requires.2 in
+    h.content
