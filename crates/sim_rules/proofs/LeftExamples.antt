@@ -1,8 +1,8 @@
 -- What a stop may leave of the log's file in the commit of one change.
-use Rattle.std.proofs.Common.{◌≡◌, ◌≢◌, ◌⊎◌, inl, inr, ℕ, zero, suc, ◌<◌, ◌≤◌, ◌+◌, ◌&&◌, ◌||◌, Bool, true, false, nat_le, nat_lt, List, [], ◌∷◌, ◌++◌, length, take, drop, refl, sym, ap, ◌∙◌, subst, arith}
+use Rattle.std.proofs.Common.{◌≡◌, ◌⊎◌, inl, inr, ℕ, zero, suc, ◌<◌, ◌≤◌, ◌+◌, ◌&&◌, ◌||◌, false, nat_le, nat_lt, List, [], ◌∷◌, ◌++◌, length, take, drop, refl, sym, ap, ◌∙◌, arith}
 use Rattle.std.proofs.lemmas.Bool.Decides.{nat_tests}
-use Rattle.std.proofs.lemmas.List.{append_assoc, ext_get_or, get_or-take, get_or_append_left, length-append, length-take-le, take-append-drop}
-use Rattle.disk_model.specs.Files.{File, MayLeave, at_rest, byte_at, is_pending, synced, written}
+use Rattle.std.proofs.lemmas.List.{append_assoc, ext_get_or, get_or-take, get_or_append_left, length-take-le, take-append-drop}
+use Rattle.disk_model.specs.Files.{MayLeave, at_rest, byte_at, written}
 use Rattle.log_records.specs.Layout.{first_layout}
 use Rattle.store_layout.specs.Examples.{log_with_five}
 use Rattle.store_layout.specs.FirstFiles.{first_log}

@@ -1,8 +1,6 @@
 -- The opening of a new store is a run.
-use Rattle.std.proofs.Common.{◌≡◌, ℕ, ◌≤◌, List, [], ◌∷◌, None, refl, sym, ap, subst, arith}
+use Rattle.std.proofs.Common.{◌≡◌, ℕ, List, [], ◌∷◌, None, refl, sym, ap, subst, arith}
 use Rattle.std.specs.FinMap as finite
-use Rattle.std.specs.Global.{Vec}
-use Rattle.java_hash.specs.declared.stripe_count.StripeCount.{StripeCount}
 use Rattle.disk_model.specs.Files.{Contents, Leaves}
 use Rattle.log_records.specs.Layout.{first_layout}
 use Rattle.store_layout.specs.Checkpoints.{IsCheckpoint, is_sealed}
@@ -11,10 +9,9 @@ use Rattle.store_layout.specs.Logs.{IsClosed}
 use Rattle.store_layout.specs.Opening.{StandsFor, first_checkpoint}
 use Rattle.store_layout.specs.OpeningLaws.{FirstIsWhole, FirstStands, OneStanding}
 use Rattle.sim_rules.specs.declared.event.Event.TheVariants as event
-use Rattle.sim_rules.specs.declared.outcome.MapEntry.{MapEntry}
 use Rattle.sim_rules.specs.declared.outcome.Outcome.TheVariants as outcome
 use Rattle.sim_rules.specs.World.{World, begun_by, seen_of, start}
-use Rattle.sim_rules.specs.Runs.{Row, IsRun, least_of, rows_onto}
+use Rattle.sim_rules.specs.Runs.{Row, least_of, rows_onto}
 use Rattle.sim_rules.specs.Sound.{AreAbove, IsSound, Stays}
 use Rattle.sim_rules.specs.Examples.{OpeningIsRun, new_store, opened}
 use Rattle.sim_rules.proofs.FileLaws.{first_closed, first_sealed}

@@ -1,5 +1,5 @@
 -- Rows in which no reply is released keep what a run keeps.
-use Rattle.std.proofs.Common.{◌≡◌, ◌≤◌, ℕ, ◌+◌, Bool, true, false, ◌&&◌, nat_le, List, [], ◌∷◌, ◌++◌, length, map, Option, None, Some, refl, sym, ap, ◌∙◌, subst, arith}
+use Rattle.std.proofs.Common.{◌≡◌, ◌≤◌, ℕ, ◌+◌, Bool, true, false, ◌&&◌, nat_le, List, [], ◌∷◌, ◌++◌, length, Option, None, Some, refl, sym, ap, subst, arith}
 use Rattle.std.proofs.lemmas.Bool.Decides.{nat_tests}
 use Rattle.std.specs.FinMap as finite
 use Rattle.std.specs.List.{AllByRecursion}
@@ -17,13 +17,13 @@ use Rattle.sim_rules.specs.declared.outcome.Outcome.TheVariants as outcome
 use Rattle.sim_rules.specs.Machine.{Move, Calls, Releases, Stops, Opens, whole}
 use Rattle.sim_rules.specs.World.{World, Life, count, seen_of}
 use Rattle.sim_rules.specs.After.{after}
-use Rattle.sim_rules.specs.Runs.{Row, OpensWell, least_of, most_of, move_of_step, rows_onto, staged_in, stopped_in}
+use Rattle.sim_rules.specs.Runs.{Row, OpensWell, least_of, most_of, move_of_step, staged_in, stopped_in}
 use Rattle.sim_rules.specs.Sound.{AnswersLegally, AreAbove, IsSound, IsSoundInside, IsSoundWith, ReleasesLegal, Stays, durable_or, released_by, released_with}
 use Rattle.sim_rules.specs.Examples.{AllMeet, after_rows, put_a}
 use Rattle.sim_rules.proofs.LifeGoing.{life_goes_on}
 use Rattle.sim_rules.proofs.OpeningRun.{none_above}
 use Rattle.sim_rules.proofs.StillFiles.{is_still, row_still}
-use Rattle.sim_rules.proofs.UnwrittenExample.{onto, rows_again}
+use Rattle.sim_rules.proofs.UnwrittenExample.{onto}
 
 -- ---- rows in which no reply is released
 

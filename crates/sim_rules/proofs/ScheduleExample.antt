@@ -1,5 +1,5 @@
 -- The whole example is a run.
-use Rattle.std.proofs.Common.{◌≡◌, ◌⊎◌, inl, inr, ◌≤◌, ℕ, zero, suc, Bool, true, false, List, [], ◌∷◌, ◌++◌, map, take, Option, None, Some, refl, sym, ap, ap₂, ◌∙◌, subst, arith}
+use Rattle.std.proofs.Common.{◌≡◌, ◌⊎◌, inl, inr, ℕ, true, false, List, [], ◌∷◌, ◌++◌, map, take, Option, None, Some, refl, sym, ap, ap₂, ◌∙◌, subst, arith}
 use Rattle.std.proofs.lemmas.List.{length-map}
 use Rattle.std.specs.FinMap as finite
 use Rattle.std.specs.Global.{Vec}
@@ -14,7 +14,7 @@ use Rattle.java_hash.specs.Units.{units_of}
 use Rattle.map_types.specs.declared.commands.Reply.TheVariants.{Was}
 use Rattle.map_types.specs.declared.texts.Value.{Value}
 use Rattle.ticket_order.specs.declared.record.Call.{Call}
-use Rattle.disk_model.specs.Files.{Contents, File, Files, Leaves, MayLeave, at_rest, byte_at, synced, written as overwritten_file}
+use Rattle.disk_model.specs.Files.{Contents, File, Files, MayLeave, at_rest, byte_at, synced, written as overwritten_file}
 use Rattle.log_records.specs.Layout.{first_layout}
 use Rattle.store_layout.specs.Checkpoints.{IsCheckpoint, is_sealed}
 use Rattle.store_layout.specs.Examples.{a, log_with_five}
@@ -22,20 +22,14 @@ use Rattle.store_layout.specs.FirstFiles.{first_log, new_contents}
 use Rattle.store_layout.specs.Logs.{IsClosed, frame, header}
 use Rattle.store_layout.specs.Opening.{Opened, StandsFor, first_checkpoint}
 use Rattle.store_layout.specs.OpeningLaws.{FirstIsWhole, FirstStands, OneStanding}
-use Rattle.sim_rules.specs.declared.event.Ending.TheVariants as ending
-use Rattle.sim_rules.specs.declared.event.Event.{Event}
 use Rattle.sim_rules.specs.declared.event.Event.TheVariants as event
-use Rattle.sim_rules.specs.declared.event.Side.TheVariants as side
-use Rattle.sim_rules.specs.declared.outcome.DeviceCall.TheVariants as device
 use Rattle.sim_rules.specs.declared.outcome.End.TheVariants as ends
 use Rattle.sim_rules.specs.declared.outcome.Made.TheVariants as made
 use Rattle.sim_rules.specs.declared.outcome.MapEntry.{MapEntry}
-use Rattle.sim_rules.specs.declared.outcome.Outcome.{Outcome}
 use Rattle.sim_rules.specs.declared.outcome.Outcome.TheVariants as outcome
-use Rattle.store_layout.specs.declared.log_phase.Phase.TheVariants as log_phase
 use Rattle.sim_rules.specs.World.{World, Life, begun_by, count, seen_of, start}
 use Rattle.sim_rules.specs.After.{after}
-use Rattle.sim_rules.specs.Runs.{Row, IsRun, OpensWell, rows_onto}
+use Rattle.sim_rules.specs.Runs.{Row, IsRun, OpensWell}
 use Rattle.sim_rules.specs.Sound.{AnswersLegally, AreAbove, IsSound, IsSoundInside, IsSoundWith, Stays, durable_or, released_by}
 use Rattle.sim_rules.specs.Examples.{AllMeet, ScheduleIsRun, after_rows, frame_bytes, new_store, opened, put_a, released_rows, schedule_rows, staged_rows}
 use Rattle.sim_rules.specs.Examples.{withheld_rows, written_rows}
@@ -45,8 +39,8 @@ use Rattle.sim_rules.proofs.LeftExamples.{left_of_gate, same_or_not, shut_once_s
 use Rattle.sim_rules.proofs.LifeGoing.{life_goes_on}
 use Rattle.sim_rules.proofs.NextLife.{next_life_begins}
 use Rattle.sim_rules.proofs.OpeningExamples.{new_map, new_store_opens}
-use Rattle.sim_rules.proofs.OpeningRun.{at_start, none_above, once_opened, read_then}
-use Rattle.sim_rules.proofs.PlainRows.{AllNow, Now, StandForFive, StandForNone, all_new, all_now_on, all_open_well, are_new, are_plain, are_unrefused, durable_in, five_now, is_late, is_living, is_new, is_plain, is_quiet, is_unrefused, living_life, no_stop, none_now, now_late, now_new, rows_keep, with_five}
+use Rattle.sim_rules.proofs.OpeningRun.{at_start, once_opened, read_then}
+use Rattle.sim_rules.proofs.PlainRows.{AllNow, Now, StandForFive, StandForNone, all_new, all_now_on, all_open_well, are_new, are_plain, are_unrefused, durable_in, five_now, is_late, is_living, is_new, is_plain, is_quiet, is_unrefused, living_life, no_stop, none_now, now_late, now_new, rows_keep}
 use Rattle.sim_rules.proofs.RunLaws.{sound_at_start, sound_is_run}
 use Rattle.sim_rules.proofs.StillFiles.{is_still}
 use Rattle.sim_rules.proofs.StopExamples.{gated, log_file, open_stands, shut_stands}

@@ -1,6 +1,5 @@
 -- Rows that leave the files as they are.
-use Rattle.std.proofs.Common.{◌≡◌, ℕ, Bool, true, false, Option, Some, None, refl}
-use Rattle.disk_model.specs.Files.{Files}
+use Rattle.std.proofs.Common.{◌≡◌, Bool, true, false, Option, Some, None, refl}
 use Rattle.store_layout.specs.Opening.{Opened}
 use Rattle.sim_rules.specs.declared.event.Event.{Event}
 use Rattle.sim_rules.specs.declared.event.Event.TheVariants as event

@@ -1,5 +1,5 @@
 -- A commit of which nothing is written is no run.
-use Rattle.std.proofs.Common.{◌≡◌, ℕ, ◌+◌, if◌then◌else◌, Bool, true, false, List, [], ◌∷◌, ◌++◌, map, Option, None, Some, refl, sym, ap, ◌∙◌, subst, arith}
+use Rattle.std.proofs.Common.{◌≡◌, ℕ, ◌+◌, if◌then◌else◌, Bool, true, false, List, [], ◌∷◌, ◌++◌, map, Option, None, Some, refl, ap, ◌∙◌, subst, arith}
 use Rattle.std.specs.FinMap as finite
 use Rattle.std.specs.Global.{Vec}
 use Rattle.std.specs.Str.{chars}
@@ -8,9 +8,8 @@ use Rattle.java_hash.specs.Hash.{hash_of, weighted_sum}
 use Rattle.java_hash.specs.Stripes.{stripe_of}
 use Rattle.java_hash.specs.Units.{units_of}
 use Rattle.map_model.specs.Histories.{fold_to}
-use Rattle.log_records.specs.Layout.{first_layout}
-use Rattle.store_layout.specs.Logs.{IsClosed, frame, header}
-use Rattle.store_layout.specs.Opening.{Opened, StandsFor, StandsForFront, prefix_of}
+use Rattle.store_layout.specs.Logs.{frame, header}
+use Rattle.store_layout.specs.Opening.{Opened, StandsFor, prefix_of}
 use Rattle.store_layout.specs.OpeningLaws.{FirstIsWhole, FirstStands, OneStanding}
 use Rattle.sim_rules.specs.declared.event.Event.{Event}
 use Rattle.sim_rules.specs.declared.event.Event.TheVariants as event
@@ -19,8 +18,8 @@ use Rattle.sim_rules.specs.declared.outcome.Outcome.{Outcome}
 use Rattle.sim_rules.specs.declared.outcome.Outcome.TheVariants as outcome
 use Rattle.sim_rules.specs.Machine.{Machine, whole}
 use Rattle.sim_rules.specs.World.{World, Life, begun_by, seen_of, start}
-use Rattle.sim_rules.specs.After.{after, after_with, opened_or, synced_below}
-use Rattle.sim_rules.specs.Runs.{AreKept, Row, Happens, IsRun, LeadsTo, least_of, rows_of, rows_onto}
+use Rattle.sim_rules.specs.After.{after, after_with, synced_below}
+use Rattle.sim_rules.specs.Runs.{AreKept, Row, LeadsTo, least_of, rows_onto}
 use Rattle.sim_rules.specs.Examples.{UnwrittenIsNoRun, after_rows, new_store, opened_rows, staged_rows, unwritten_rows}
 use Rattle.sim_rules.proofs.FileLaws.{first_closed, first_sealed}
 

@@ -1,5 +1,5 @@
 -- The device call that is due, by what the events and outcomes so far say.
-use Rattle.std.specs.Prelude.{◌≡◌, ℕ, ◌+◌, ◌-◌, List, [], ◌∷◌, ◌++◌, length, take, drop, replicate, Option, Some, None, nat_lt, ◌==◌, if◌then◌else◌}
+use Rattle.std.specs.Prelude.{ℕ, ◌+◌, ◌-◌, List, [], ◌∷◌, ◌++◌, length, take, drop, replicate, Option, Some, None, nat_lt, ◌==◌, if◌then◌else◌}
 use Rattle.log_records.specs.Layout.{first_layout}
 use Rattle.disk_model.specs.Gates.{Call, writes, syncs, open_gate}
 use Rattle.store_layout.specs.Checkpoints.{Section, body_offset, checkpoint_file, checkpoint_header, checkpoint_header_bytes, greatest_mark, sections_bytes}
