@@ -11,7 +11,7 @@ ghost use Rattle.checkpoint_file.specs.Loads.{IsAbove};
 
 use byteorder::{BigEndian, ByteOrder};
 use java_hash::{StripeCount, stripe_of};
-use log_records::{key_at, some_value_at};
+use log_records::{Version, key_at, some_value_at};
 use map_types::{Key, Refusal, Value};
 use std::alloc::Global;
 
@@ -38,7 +38,7 @@ fn key_and_value(alloc: Global, bytes: &[u8]) -> Result<((Key, Value), &[u8]), R
     ensures { Gives (λ x. (x.0, x.1.now)) result
         (both_at (key_at first_layout) some_value_at bytes.now) }
 {
-    let (key, rest) = key_at(alloc, bytes)?;
+    let (key, rest) = key_at(Version::First, alloc, bytes)?;
     let (value, rest) = some_value_at(alloc, rest)?;
     Ok(((key, value), rest))
 }

@@ -6,7 +6,7 @@ ghost use Rattle.store_layout.specs.Checkpoints.{checkpoint_header, entries_byte
 ghost use Rattle.checkpoint_file.specs.States.{AreWellFormed};
 
 use java_hash::StripeCount;
-use log_records::{put_key, put_number, put_value};
+use log_records::{Version, put_key, put_number, put_value};
 use map_types::{Key, Refusal, Value};
 use std::alloc::Global;
 use store_layout::{CHECKPOINT_HEADER_BYTES, VERSION};
@@ -39,7 +39,7 @@ fn append_entries(entries: &[(Key, Value)], out: &mut Vec<u8>) -> Result<(), Ref
     ensures err { IfErr result (λ refusal. refusal ≡ Refusal.NoMemory) }
 {
     for (key, value) in entries {
-        put_key(key, out)?;
+        put_key(Version::First, key, out)?;
         put_value(value, out)?;
     }
     Ok(())

@@ -9,7 +9,7 @@ ghost use Rattle.store_layout.specs.Logs.{frame, most_frame_bytes};
 ghost use Rattle.store_layout.specs.Hands.{Hand, most_from, IsRun, IsLongest};
 ghost use Rattle.flusher.specs.HandSteps.{MakesRoom, Gains};
 
-use log_records::record_len;
+use log_records::{Version, record_len};
 use map_types::Command;
 use std::alloc::{AllocError, Global};
 use std::collections::VecDeque;
@@ -149,7 +149,7 @@ impl InHand {
             let Some(command) = self.command_at(index as usize) else {
                 return run_of(index, room);
             };
-            let len = record_len(command);
+            let len = record_len(Version::First, command);
             if room < len {
                 return run_of(index, room);
             }

@@ -6,7 +6,7 @@ ghost use Rattle.log_records.specs.Spelling.{IsCommand};
 ghost use Rattle.store_layout.specs.Logs.{end_frame, frame, header, records_bytes, most_commands};
 ghost use Rattle.gate_log.specs.States.{batch_of, commands_of};
 
-use log_records::{encode, put_number, record_len};
+use log_records::{Version, encode, put_number, record_len};
 use map_types::Refusal;
 use std::alloc::Global;
 use store_layout::{BATCH_KIND, CLOSED_GATE, END_KIND, FRAME_HEAD_BYTES, NUMBERS_BYTES, VERSION};
@@ -40,7 +40,7 @@ fn records_len(entries: &[Entry]) -> usize
 {
     let mut len = 0;
     for entry in entries {
-        len += record_len(&entry.command);
+        len += record_len(Version::First, &entry.command);
     }
     len
 }
@@ -61,7 +61,7 @@ fn append_records(entries: &[Entry], out: &mut Vec<u8>) -> Result<(), Refusal>
     ensures err { IfErr result (λ refusal. refusal ≡ Refusal.NoMemory) }
 {
     for entry in entries {
-        encode(&entry.command, out)?;
+        encode(Version::First, &entry.command, out)?;
     }
     Ok(())
 }

@@ -11,7 +11,7 @@ ghost use Rattle.gate_log.specs.Scan.{failed_in};
 ghost use Rattle.gate_log.specs.ScanParts.{AreEntries, IsBody, IsAheadOf, most_body_bytes};
 
 use byteorder::{BigEndian, ByteOrder};
-use log_records::decode;
+use log_records::{Version, decode};
 use map_types::{Command, Refusal};
 use std::alloc::Global;
 use store_layout::{
@@ -103,7 +103,7 @@ fn command_at(alloc: Global, bytes: &[u8]) -> Result<Option<(Command, &[u8])>, R
         → bytes.now ≢ record_bytes first_layout command ++ rest)) }
     ensures err { IfErr result (λ refusal. refusal ≡ Refusal.NoMemory) }
 {
-    match decode(alloc, bytes) {
+    match decode(Version::First, alloc, bytes) {
         Ok((command, used)) => Ok(Some((command, &bytes[used..]))),
         Err(refusal) => match refusal {
             Refusal::NoMemory => Err(refusal),

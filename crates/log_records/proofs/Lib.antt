@@ -1,3 +1,4 @@
+pub mod Layouts
 pub mod Digits
 pub mod Numbered
 pub mod Agreeing

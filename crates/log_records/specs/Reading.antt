@@ -1,5 +1,5 @@
 -- Reading from left to right, with the first refusal that is met. Each reader gives what it read and the bytes behind it.
-use Rattle.std.specs.Prelude.{◌≡◌, ◌⊎◌, ℕ, ℤ, zero, suc, List, [], ◌∷◌, length, take, drop, Option, Some, None, Result, Ok, Err, nat_lt, ◌==◌, if◌then◌else◌}
+use Rattle.std.specs.Prelude.{◌≡◌, ◌⊎◌, ◌<◌, ◌+◌, ◌^◌, ℕ, ℤ, zero, suc, List, [], ◌∷◌, length, take, drop, Option, Some, None, Result, Ok, Err, nat_lt, ◌==◌, if◌then◌else◌}
 use Rattle.std.specs.Int.{w64, cast_signed}
 use Rattle.std.specs.Str.{is_utf8}
 use Rattle.byteorder.specs.Endian.{big_number}
@@ -130,13 +130,14 @@ record_at layout bytes = do
   arguments ← change_at method.0 key.1
   Ok (record { key = key.0; change = arguments.0 }, arguments.1)
 
--- the refusals that a record of the first layout can meet: in it a key's length says at most the limit
-abbrev pub IsRecordRefusal : Refusal → Type 0
-IsRecordRefusal NullValue = Unit {0}
-IsRecordRefusal ValueTooLong = Unit {0}
-IsRecordRefusal UnknownMethod = Unit {0}
-IsRecordRefusal UnknownFunction = Unit {0}
-IsRecordRefusal BadFrame = Unit {0}
-IsRecordRefusal NoMemory = Unit {0}
-IsRecordRefusal NotText = Unit {0}
-IsRecordRefusal _ = ⊥
+-- the refusals that a record can meet; a key is too long only where its length can say more than the limit
+abbrev pub IsRecordRefusal : Layout → Refusal → Type 0
+IsRecordRefusal layout NullValue = Unit {0}
+IsRecordRefusal layout KeyTooLong = layout.key_limit + 1 < 256 ^ layout.key_width
+IsRecordRefusal layout ValueTooLong = Unit {0}
+IsRecordRefusal layout UnknownMethod = Unit {0}
+IsRecordRefusal layout UnknownFunction = Unit {0}
+IsRecordRefusal layout BadFrame = Unit {0}
+IsRecordRefusal layout NoMemory = Unit {0}
+IsRecordRefusal layout NotText = Unit {0}
+IsRecordRefusal layout _ = ⊥

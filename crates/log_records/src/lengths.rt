@@ -1,9 +1,10 @@
 //! How many bytes a record takes.
-ghost use Rattle.std.specs.Prelude.{◌≡◌, ◌≤◌, length, Some};
-ghost use Rattle.log_records.specs.Layout.{first_layout};
+ghost use Rattle.std.specs.Prelude.{◌≡◌, ◌≤◌, ◌+◌, length, Some};
+ghost use Rattle.log_records.specs.Layout.{layout_of};
 ghost use Rattle.log_records.specs.Spelling.{value_bytes, argument_bytes, record_bytes};
 
-use crate::reading::{KEY_WIDTH, TEXT_WIDTH};
+use crate::reading::TEXT_WIDTH;
+use crate::versions::Version;
 use map_types::{Change, Command, Value};
 
 fn value_len(value: &Value) -> usize
@@ -45,9 +46,10 @@ fn arguments_len(change: &Change) -> usize
 }
 
 /// How many bytes the record of a command takes.
-pub fn record_len(command: &Command) -> usize
-    ensures len { result ≡ length (record_bytes first_layout command.now) }
-    ensures bound { result ≤ 8455 }
+pub fn record_len(version: Version, command: &Command) -> usize
+    ensures len { result ≡ length (record_bytes (layout_of version) command.now) }
+    ensures bound { let layout = layout_of version in
+        result ≤ 1 + layout.key_width + layout.key_limit + 8198 }
 {
-    1 + KEY_WIDTH + command.key.as_str().len() + arguments_len(&command.change)
+    1 + version.key_width() + command.key.as_str().len() + arguments_len(&command.change)
 }

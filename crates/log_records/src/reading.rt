@@ -4,17 +4,16 @@
 ghost use Rattle.std.specs.Prelude.{◌≡◌, ◌≤◌, ◌⊎◌, ◌++◌, ℕ, List, Ok, Err, length, take, IfOk, IfErr, MatchResult};
 ghost use Rattle.map_types.specs.declared.commands.Command.{Command};
 ghost use Rattle.map_types.specs.declared.refusals.Refusal.TheVariants.{NoMemory};
-ghost use Rattle.log_records.specs.Layout.{first_layout};
+ghost use Rattle.log_records.specs.Layout.{layout_of};
 ghost use Rattle.log_records.specs.Spelling.{IsRecord};
 ghost use Rattle.log_records.specs.Reading.{Reads, Gives, utf8_of, number_at, text_at, sized_at, key_at, int_at, value_at, some_value_at, both_at, func_at, method_at, change_at, record_at, IsRecordRefusal};
 
 use crate::methods::Method;
+use crate::versions::Version;
 use byteorder::{BigEndian, ByteOrder};
 use map_types::{Change, Command, Func, Key, Refusal, Text, Value};
 use std::alloc::Global;
 
-/// How many bytes the length of a key takes.
-pub(crate) const KEY_WIDTH: usize = 1;
 /// How many bytes the length of a text takes.
 pub(crate) const TEXT_WIDTH: usize = 2;
 
@@ -81,10 +80,12 @@ fn sized_at(
 
 /// A key.
 #[tactic(auto, unfolding(crate::specs::Reading::key_at))]
-pub fn key_at(alloc: Global, bytes: &[u8]) -> Result<(Key, &[u8]), Refusal>
-    ensures { Gives (λ x. (x.0, x.1.now)) result (key_at first_layout bytes.now) }
+pub fn key_at(version: Version, alloc: Global, bytes: &[u8]) -> Result<(Key, &[u8]), Refusal>
+    ensures { Gives (λ x. (x.0, x.1.now)) result (key_at (layout_of version) bytes.now) }
 {
-    let (text, rest) = sized_at(KEY_WIDTH, Key::MOST_BYTES, Refusal::KeyTooLong, bytes)?;
+    let width = version.key_width();
+    let most = version.key_limit() as usize;
+    let (text, rest) = sized_at(width, most, Refusal::KeyTooLong, bytes)?;
     let key = Key::new(alloc, text)?;
     Ok((key, rest))
 }
@@ -218,31 +219,32 @@ fn change_at(alloc: Global, method: Method, bytes: &[u8]) -> Result<(Change, &[u
 
 /// A record at the front.
 #[tactic(auto, unfolding(crate::specs::Reading::record_at))]
-pub fn record_at(alloc: Global, bytes: &[u8]) -> Result<(Command, &[u8]), Refusal>
-    ensures { Gives (λ x. (x.0, x.1.now)) result (record_at first_layout bytes.now) }
+pub fn record_at(version: Version, alloc: Global, bytes: &[u8]) -> Result<(Command, &[u8]), Refusal>
+    ensures { Gives (λ x. (x.0, x.1.now)) result (record_at (layout_of version) bytes.now) }
 {
     let (method, rest) = method_at(bytes)?;
-    let (key, rest) = key_at(alloc, rest)?;
+    let (key, rest) = key_at(version, alloc, rest)?;
     let (change, rest) = change_at(alloc, method, rest)?;
     Ok((Command { key, change }, rest))
 }
 
 /// The record at the front of the bytes, and how many bytes it takes. What follows is left.
-pub fn decode(alloc: Global, bytes: &[u8]) -> Result<(Command, usize), Refusal>
+pub fn decode(version: Version, alloc: Global, bytes: &[u8]) -> Result<(Command, usize), Refusal>
     // What is read is spelled so.
-    ensures found { IfOk result (λ x. IsRecord first_layout (take x.1 bytes.now) x.0
+    ensures found { IfOk result (λ x. IsRecord (layout_of version) (take x.1 bytes.now) x.0
         × (x.1 ≤ length bytes.now)) }
     // What is spelled so at the front is read, unless memory runs out.
-    ensures only { (front rest : List ℕ) (command : Command) → IsRecord first_layout front command
+    ensures only { (front rest : List ℕ) (command : Command)
+        → IsRecord (layout_of version) front command
         → bytes.now ≡ front ++ rest
         → MatchResult result (λ x. (x.0 ≡ command) × (x.1 ≡ length front)) (λ refusal.
         refusal ≡ NoMemory) }
     // The refusal is the first from left to right.
     ensures refused { IfErr result (λ refusal. (refusal ≡ NoMemory)
-        ⊎ (record_at first_layout bytes.now ≡ Err refusal)) }
-    ensures kinds { IfErr result IsRecordRefusal }
+        ⊎ (record_at (layout_of version) bytes.now ≡ Err refusal)) }
+    ensures kinds { IfErr result (IsRecordRefusal (layout_of version)) }
 {
-    let (command, rest) = record_at(alloc, bytes)?;
+    let (command, rest) = record_at(version, alloc, bytes)?;
     let used = bytes.len() - rest.len();
     Ok((command, used))
 }

@@ -4,11 +4,12 @@ ghost use Rattle.std.specs.Prelude.{◌≡◌, ◌≤◌, ◌<◌, ◌^◌, ◌+
 ghost use Rattle.byteorder.specs.Endian.{big_bytes};
 ghost use Rattle.map_types.specs.Numbers.{func_number};
 ghost use Rattle.map_types.specs.declared.refusals.Refusal.TheVariants.{NoMemory};
-ghost use Rattle.log_records.specs.Layout.{first_layout};
+ghost use Rattle.log_records.specs.Layout.{layout_of};
 ghost use Rattle.log_records.specs.Spelling.{IsText, IsValue, IsArgument, IsChange, IsCommand, sized_bytes, key_bytes, value_bytes, argument_bytes, record_bytes};
 
 use crate::methods::Method;
-use crate::reading::{KEY_WIDTH, TEXT_WIDTH};
+use crate::reading::TEXT_WIDTH;
+use crate::versions::Version;
 use byteorder::{BigEndian, ByteOrder};
 use map_types::{Change, Command, Func, Key, Refusal, Value};
 use std::alloc::AllocError;
@@ -106,26 +107,37 @@ fn append_arguments(change: &Change, out: &mut Vec<u8>) -> Result<(), AllocError
     }
 }
 
-/// Puts a record at the end, or some of it if no memory is found.
-fn append_record(command: &Command, out: &mut Vec<u8>) -> Result<(), AllocError>
+/// Puts a key at the end, or some of it if no memory is found.
+fn append_key(version: Version, key: &Key, out: &mut Vec<u8>) -> Result<(), AllocError>
     ensures ok { OnOk result
-        (out.new.items ≡ out.old.items ++ record_bytes first_layout command.now) }
-    ensures fits { OnOk result (IsCommand first_layout command.now) }
+        (out.new.items ≡ out.old.items ++ key_bytes (layout_of version) key.now) }
+    ensures fits { OnOk result (IsText (layout_of version).key_limit key.now) }
+    ensures err { OnErr result (take (length out.old.items) out.new.items ≡ out.old.items) }
+{
+    append_sized(version.key_width(), key.as_str(), out)
+}
+
+/// Puts a record at the end, or some of it if no memory is found.
+fn append_record(version: Version, command: &Command, out: &mut Vec<u8>) -> Result<(), AllocError>
+    ensures ok { OnOk result
+        (out.new.items ≡ out.old.items ++ record_bytes (layout_of version) command.now) }
+    ensures fits { OnOk result (IsCommand (layout_of version) command.now) }
     ensures err { OnErr result (take (length out.old.items) out.new.items ≡ out.old.items) }
 {
     out.push(Method::of(&command.change).number())?;
-    append_sized(KEY_WIDTH, command.key.as_str(), out)?;
+    append_key(version, &command.key, out)?;
     append_arguments(&command.change, out)
 }
 
 /// Puts a key at the end.
-pub fn put_key(key: &Key, out: &mut Vec<u8>) -> Result<(), Refusal>
-    ensures ok { OnOk result (out.new.items ≡ out.old.items ++ key_bytes first_layout key.now) }
-    ensures fits { OnOk result (IsText first_layout.key_limit key.now) }
+pub fn put_key(version: Version, key: &Key, out: &mut Vec<u8>) -> Result<(), Refusal>
+    ensures ok { OnOk result
+        (out.new.items ≡ out.old.items ++ key_bytes (layout_of version) key.now) }
+    ensures fits { OnOk result (IsText (layout_of version).key_limit key.now) }
     ensures err { IfErr result (λ refusal. (refusal ≡ NoMemory) × (out.new.items ≡ out.old.items)) }
 {
     let len = out.len();
-    match append_sized(KEY_WIDTH, key.as_str(), out) {
+    match append_key(version, key, out) {
         Ok(()) => Ok(()),
         Err(_) => {
             out.truncate(len);
@@ -151,14 +163,14 @@ pub fn put_value(value: &Value, out: &mut Vec<u8>) -> Result<(), Refusal>
 }
 
 /// Puts a command's record at the end.
-pub fn encode(command: &Command, out: &mut Vec<u8>) -> Result<(), Refusal>
+pub fn encode(version: Version, command: &Command, out: &mut Vec<u8>) -> Result<(), Refusal>
     ensures ok { OnOk result
-        (out.new.items ≡ out.old.items ++ record_bytes first_layout command.now) }
-    ensures fits { OnOk result (IsCommand first_layout command.now) }
+        (out.new.items ≡ out.old.items ++ record_bytes (layout_of version) command.now) }
+    ensures fits { OnOk result (IsCommand (layout_of version) command.now) }
     ensures err { IfErr result (λ refusal. (refusal ≡ NoMemory) × (out.new.items ≡ out.old.items)) }
 {
     let len = out.len();
-    match append_record(command, out) {
+    match append_record(version, command, out) {
         Ok(()) => Ok(()),
         Err(_) => {
             out.truncate(len);

@@ -4,6 +4,7 @@ use crate::maps::calls;
 use crate::records::{fields, read_record, record};
 use crate::replies::{answer, reply};
 use crate::requests::{messages, request};
+use log_records::Version;
 use map_types::Refusal;
 use run_cases::{Names, Plays};
 use std::alloc::Global;
@@ -19,9 +20,14 @@ fn come_of(
     match kind {
         "functions" => applied(alloc, words),
         "calls" => calls(alloc, input),
-        "records" => record(alloc, words),
-        "refused_records" => read_record(alloc, names, words),
-        "fields" => fields(alloc, words),
+        "records" => record(Version::First, alloc, words),
+        "records_of_the_second_version" => record(Version::Second, alloc, words),
+        "refused_records" => read_record(Version::First, alloc, names, words),
+        "refused_records_of_the_second_version" => {
+            read_record(Version::Second, alloc, names, words)
+        }
+        "fields" => fields(Version::First, alloc, words),
+        "fields_of_the_second_version" => fields(Version::Second, alloc, words),
         "requests" => request(alloc, words),
         "messages" => messages(alloc, names, words),
         "replies" => reply(alloc, names, words),

@@ -1,27 +1,33 @@
 //! The records of changes, and their fields.
 use call_text::{Asked, parse_call};
 use log_records::{
-    decode, encode, key_at, number_at, put_key, put_number, put_value, record_len, some_value_at,
+    Version, decode, encode, key_at, number_at, put_key, put_number, put_value, record_len,
+    some_value_at,
 };
 use map_types::{Command, Key, Refusal, Value};
 use run_cases::{Names, hexadecimal, number};
 use std::alloc::Global;
 
 // Whether a record is read as this command to its end, whatever follows it.
-fn is_read(alloc: Global, bytes: &[u8], command: &Command) -> Result<bool, Refusal> {
+fn is_read(
+    version: Version,
+    alloc: Global,
+    bytes: &[u8],
+    command: &Command,
+) -> Result<bool, Refusal> {
     let mut followed = bytes.to_vec(alloc)?;
     followed.push(0x10)?;
-    let (read, used) = decode(alloc, &followed)?;
-    Ok(used == bytes.len() && record_len(&read) == used && read == *command)
+    let (read, used) = decode(version, alloc, &followed)?;
+    Ok(used == bytes.len() && record_len(version, &read) == used && read == *command)
 }
 
-fn is_cut(alloc: Global, front: &[u8]) -> bool {
-    matches!(decode(alloc, front), Err(Refusal::BadFrame))
+fn is_cut(version: Version, alloc: Global, front: &[u8]) -> bool {
+    matches!(decode(version, alloc, front), Err(Refusal::BadFrame))
 }
 
-fn are_cut(alloc: Global, bytes: &[u8]) -> bool {
+fn are_cut(version: Version, alloc: Global, bytes: &[u8]) -> bool {
     for len in 0..bytes.len() {
-        if !is_cut(alloc, &bytes[..len]) {
+        if !is_cut(version, alloc, &bytes[..len]) {
             return false;
         }
     }
@@ -35,9 +41,14 @@ fn change_of(alloc: Global, words: &[&str]) -> Result<Command, Refusal> {
     }
 }
 
-fn record_text(alloc: Global, bytes: &[u8], command: &Command) -> Result<String, Refusal> {
-    let is_read = is_read(alloc, bytes, command)?;
-    if is_read && are_cut(alloc, bytes) {
+fn record_text(
+    version: Version,
+    alloc: Global,
+    bytes: &[u8],
+    command: &Command,
+) -> Result<String, Refusal> {
+    let is_read = is_read(version, alloc, bytes, command)?;
+    if is_read && are_cut(version, alloc, bytes) {
         return Ok(hexadecimal(alloc, bytes)?);
     }
     Ok(String::from_str(alloc, "read otherwise")?)
@@ -45,26 +56,36 @@ fn record_text(alloc: Global, bytes: &[u8], command: &Command) -> Result<String,
 
 /// The record of the change that the words ask for. It is read as that change again, and each front of it
 /// is refused as `BadFrame`.
-pub(crate) fn record(alloc: Global, words: &[&str]) -> Result<String, Refusal> {
+pub(crate) fn record(version: Version, alloc: Global, words: &[&str]) -> Result<String, Refusal> {
     let command = change_of(alloc, words)?;
     let mut bytes = Vec::new(alloc);
-    encode(&command, &mut bytes)?;
-    record_text(alloc, &bytes, &command)
+    encode(version, &command, &mut bytes)?;
+    record_text(version, alloc, &bytes, &command)
 }
 
 /// How bytes are refused as a record.
-pub(crate) fn read_record(alloc: Global, names: &Names, words: &[&str]) -> Result<String, Refusal> {
+pub(crate) fn read_record(
+    version: Version,
+    alloc: Global,
+    names: &Names,
+    words: &[&str],
+) -> Result<String, Refusal> {
     let [word] = words else {
         return Err(Refusal::WrongPhase);
     };
     let bytes = names.bytes(alloc, word)?;
-    let (_command, used) = decode(alloc, &bytes)?;
+    let (_command, used) = decode(version, alloc, &bytes)?;
     Ok(format!(in alloc; "a record of {used} bytes")?)
 }
 
 // What follows the key, if it is this one.
-fn after_key<'a>(alloc: Global, bytes: &'a [u8], expected: &Key) -> Option<&'a [u8]> {
-    match key_at(alloc, bytes) {
+fn after_key<'a>(
+    version: Version,
+    alloc: Global,
+    bytes: &'a [u8],
+    expected: &Key,
+) -> Option<&'a [u8]> {
+    match key_at(version, alloc, bytes) {
         Ok((key, rest)) if key == *expected => Some(rest),
         _ => None,
     }
@@ -78,9 +99,16 @@ fn is_value(alloc: Global, bytes: &[u8], expected: &Value) -> bool {
     }
 }
 
-fn are_read(alloc: Global, bytes: &[u8], expected: u64, key: &Key, value: &Value) -> bool {
+fn are_read(
+    version: Version,
+    alloc: Global,
+    bytes: &[u8],
+    expected: u64,
+    key: &Key,
+    value: &Value,
+) -> bool {
     match number_at(2, bytes) {
-        Ok((number, rest)) if number == expected => match after_key(alloc, rest, key) {
+        Ok((number, rest)) if number == expected => match after_key(version, alloc, rest, key) {
             Some(rest) => is_value(alloc, rest, value),
             None => false,
         },
@@ -89,22 +117,28 @@ fn are_read(alloc: Global, bytes: &[u8], expected: u64, key: &Key, value: &Value
 }
 
 // A number in two bytes, a key and a value, which are read again.
-fn spelled(alloc: Global, number: u64, key: &Key, value: &Value) -> Result<String, Refusal> {
+fn spelled(
+    version: Version,
+    alloc: Global,
+    number: u64,
+    key: &Key,
+    value: &Value,
+) -> Result<String, Refusal> {
     let mut bytes = Vec::new(alloc);
     if number > 0xFFFF {
         return Err(Refusal::WrongPhase);
     }
     put_number(2, number, &mut bytes)?;
-    put_key(key, &mut bytes)?;
+    put_key(version, key, &mut bytes)?;
     put_value(value, &mut bytes)?;
-    if !are_read(alloc, &bytes, number, key, value) {
+    if !are_read(version, alloc, &bytes, number, key, value) {
         return Ok(String::from_str(alloc, "read otherwise")?);
     }
     Ok(hexadecimal(alloc, &bytes)?)
 }
 
 /// The bytes of a number, a key and a number as a value.
-pub(crate) fn fields(alloc: Global, words: &[&str]) -> Result<String, Refusal> {
+pub(crate) fn fields(version: Version, alloc: Global, words: &[&str]) -> Result<String, Refusal> {
     let [first, key, value] = words else {
         return Err(Refusal::WrongPhase);
     };
@@ -112,5 +146,5 @@ pub(crate) fn fields(alloc: Global, words: &[&str]) -> Result<String, Refusal> {
         return Err(Refusal::WrongPhase);
     };
     let key = Key::new(alloc, key)?;
-    spelled(alloc, number(first)?, &key, &Value::Int(value))
+    spelled(version, alloc, number(first)?, &key, &Value::Int(value))
 }

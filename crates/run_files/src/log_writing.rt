@@ -11,7 +11,7 @@ use crate::fills::{failure_of, stop};
 use call_text::refusal_text;
 use disk_model::{Disk, Failure, Fill, MemDisk};
 use gate_log::{Found, GateLog, Phase, Scan, commit_staged};
-use log_records::record_len;
+use log_records::{Version, record_len};
 use map_types::{Change, Command, Key, Refusal, Value};
 use run_cases::number;
 use std::alloc::Global;
@@ -47,7 +47,7 @@ fn stage_one(log: &mut GateLog, command: Command) -> Result<(), Refusal>
     if ticket > 1000 {
         return Err(Refusal::TicketsSpent);
     }
-    let _len = record_len(&command);
+    let _len = record_len(Version::First, &command);
     log.stage(&[Entry {
         ticket: Ticket::new(ticket),
         command,
@@ -65,8 +65,8 @@ fn stage_two(log: &mut GateLog, one: Command, other: Command) -> Result<(), Refu
     if ticket > 1000 {
         return Err(Refusal::TicketsSpent);
     }
-    let _one_len = record_len(&one);
-    let _other_len = record_len(&other);
+    let _one_len = record_len(Version::First, &one);
+    let _other_len = record_len(Version::First, &other);
     log.stage(&[
         Entry {
             ticket: Ticket::new(ticket),

@@ -2,7 +2,7 @@
 use crate::disks::{disk_with, plan};
 use disk_model::MemDisk;
 use gate_log::{Found, Scan};
-use log_records::{encode, put_number};
+use log_records::{Version, encode, put_number};
 use map_types::Refusal;
 use run_cases::{Names, hexadecimal};
 use std::alloc::Global;
@@ -16,7 +16,7 @@ fn records(alloc: Global, entries: &[Entry]) -> Result<String, Refusal> {
     let mut bytes = Vec::new(alloc);
     for entry in entries {
         put_number(8, entry.ticket.number(), &mut bytes)?;
-        encode(&entry.command, &mut bytes)?;
+        encode(Version::First, &entry.command, &mut bytes)?;
     }
     Ok(hexadecimal(alloc, &bytes)?)
 }

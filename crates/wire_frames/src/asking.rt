@@ -6,7 +6,7 @@ ghost use Rattle.wire_frames.specs.Messages.{frame};
 ghost use Rattle.wire_frames.specs.Requests.{argument_bytes, question_number, request_bytes};
 
 use crate::requests::{Bulk, COUNT, REDUCE, Request, SEARCH, THRESHOLD_WIDTH};
-use log_records::{encode, put_key, put_number, put_value, record_len};
+use log_records::{Version, encode, put_key, put_number, put_value, record_len};
 use map_types::{Question, Read, Refusal};
 use std::alloc::Global;
 
@@ -41,7 +41,7 @@ fn put_read(read: &Read, out: &mut Vec<u8>) -> Result<(), Refusal>
     ensures err { IfErr result (λ refusal. refusal ≡ NoMemory) }
 {
     out.push(number_of(&read.question))?;
-    put_key(&read.key, out)?;
+    put_key(Version::First, &read.key, out)?;
     put_argument(&read.question, out)
 }
 
@@ -76,8 +76,8 @@ fn put_request(request: &Request, out: &mut Vec<u8>) -> Result<(), Refusal>
     match request {
         Request::Read(read) => put_read(read, out),
         Request::Change(command) => {
-            let _len = record_len(command);
-            encode(command, out)
+            let _len = record_len(Version::First, command);
+            encode(Version::First, command, out)
         }
         Request::Bulk(bulk) => put_bulk(bulk, out),
     }

@@ -5,7 +5,7 @@ ghost use Rattle.log_records.specs.Reading.{Gives, Reads};
 ghost use Rattle.wire_frames.specs.Requests.{HasBulkMethod, IsBulkMethod, ReadIsSpelled, SpelledIsRead, change_at, get_or_default_at, question_at, reduce_at, reduces, reducing_at, request_at, request_of, search_at};
 
 use log_records::{
-    fields_agree, func_at, key_at, number_at, record_agrees, record_at, some_value_at,
+    Version, fields_agree, func_at, key_at, number_at, record_agrees, record_at, some_value_at,
 };
 use map_types::{Command, Func, Question, Read, Refusal, Value};
 use std::alloc::Global;
@@ -48,7 +48,7 @@ pub enum Request {
 fn get_or_default_at(alloc: Global, bytes: &[u8]) -> Result<(Request, &[u8]), Refusal>
     ensures { Gives (λ x. (x.0, x.1.now)) result (get_or_default_at bytes.now) }
 {
-    let (key, rest) = key_at(alloc, bytes)?;
+    let (key, rest) = key_at(Version::First, alloc, bytes)?;
     let (value, rest) = some_value_at(alloc, rest)?;
     let question = Question::GetOrDefault(value);
     Ok((Request::Read(Read { key, question }), rest))
@@ -59,7 +59,7 @@ fn get_or_default_at(alloc: Global, bytes: &[u8]) -> Result<(Request, &[u8]), Re
 fn question_at(alloc: Global, question: Question, bytes: &[u8]) -> Result<(Request, &[u8]), Refusal>
     ensures { Gives (λ x. (x.0, x.1.now)) result (question_at question bytes.now) }
 {
-    let (key, rest) = key_at(alloc, bytes)?;
+    let (key, rest) = key_at(Version::First, alloc, bytes)?;
     Ok((Request::Read(Read { key, question }), rest))
 }
 
@@ -68,7 +68,7 @@ fn question_at(alloc: Global, question: Question, bytes: &[u8]) -> Result<(Reque
 fn change_at(alloc: Global, bytes: &[u8]) -> Result<(Request, &[u8]), Refusal>
     ensures { Gives (λ x. (x.0, x.1.now)) result (change_at bytes.now) }
 {
-    let (command, rest) = record_at(alloc, bytes)?;
+    let (command, rest) = record_at(Version::First, alloc, bytes)?;
     Ok((Request::Change(command), rest))
 }
 
