@@ -101,6 +101,7 @@ static unsigned char *put_text(unsigned char *out, unsigned size) {
 static size_t put_frame(const struct options *options, const struct request *request, unsigned char *out) {
     unsigned char *end = out + 2;
     *end++ = request->kind == GET ? METHOD_GET : request->kind == PUT ? METHOD_PUT : METHOD_MERGE;
+    *end++ = 0;
     *end++ = KEY_BYTES;
     end = put_key(end, request->key);
     if (request->kind == MERGE) *end++ = SUM;

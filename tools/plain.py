@@ -5,6 +5,8 @@ docs/FORMATS.md and docs/PROTOCOL.md say the same in words. Nothing here is take
 import dataclasses
 
 KEY_LIMIT, TEXT_LIMIT, FRAME_LIMIT = 255, 4096, 16384
+# How many bytes the length of a key takes in files and in requests.
+FILE_KEY_WIDTH, REQUEST_KEY_WIDTH = 1, 2
 OPEN_GATE, VERSION = 0xA5, 1
 # Refusals by number, and their names as the program prints them.
 NULL_VALUE, KEY_TOO_LONG, VALUE_TOO_LONG, UNKNOWN_METHOD, UNKNOWN_FUNCTION, BAD_FRAME = 1, 2, 3, 4, 5, 6
@@ -54,8 +56,11 @@ class Bytes:
         except UnicodeDecodeError:
             raise Refused(NOT_TEXT) from None
 
-    def key(self):
-        return self.text(self.number(1))
+    def key(self, width):
+        count = self.number(width)
+        if count > KEY_LIMIT:
+            raise Refused(KEY_TOO_LONG)
+        return self.text(count)
 
     def value(self, may_be_absent=False):
         kind = self.number(1)
@@ -104,12 +109,12 @@ def arguments_at(read, method):
     return read.function(), read.value()
 
 
-def record_at(read):
-    """A change: its method, its key, its arguments."""
+def record_at(read, key_width):
+    """A change: its method, its key behind a length of this many bytes, its arguments."""
     method = read.number(1)
     if method not in range(16, 26):
         raise Refused(UNKNOWN_METHOD)
-    key = read.key()
+    key = read.key(key_width)
     return method, key, arguments_at(read, method)
 
 
@@ -130,12 +135,12 @@ def request_of(body):
     """The request of a frame's body."""
     read = Bytes(body)
     if body[0] in (1, 2, 3):
-        method, key = read.number(1), read.key()
+        method, key = read.number(1), read.key(REQUEST_KEY_WIDTH)
         request = method, key, (read.value(),) if method == 2 else ()
     elif body[0] in (COUNT, REDUCE, SEARCH):
         request = whole_map_at(read)
     else:
-        request = record_at(read)
+        request = record_at(read, REQUEST_KEY_WIDTH)
     if read.rest():
         raise Refused(BAD_FRAME)
     return request
@@ -335,7 +340,7 @@ def section_at(read, file, stripe, stripes):
     for _ in range(count):
         start = read.at
         try:
-            key, value = read.key(), read.value()
+            key, value = read.key(FILE_KEY_WIDTH), read.value()
         except Refused:
             raise Refused(DAMAGED, file, start) from None
         if (last is not None and key.encode() <= last) or stripe_of(key, stripes) != stripe:
@@ -372,7 +377,7 @@ def batch_in(body, expected):
         first, count = read.number(8), read.number(4)
         if first != expected or not 1 <= count <= 65536 or first + count >= 1 << 64 or len(body) > (1 << 20) - 5:
             return None
-        records = [record_at(read) for _ in range(count)]
+        records = [record_at(read, FILE_KEY_WIDTH) for _ in range(count)]
     except Refused:
         return None
     return None if read.rest() else records

@@ -30,7 +30,7 @@ class Dchm:
 
     @classmethod
     def request(cls, kind, key, number=None):
-        body = bytes([cls.METHODS[kind], len(key)]) + key
+        body = bytes([cls.METHODS[kind]]) + len(key).to_bytes(2, "big") + key
         if kind == "merge":
             body += cls.SUM
         if kind != "get":

@@ -27,7 +27,7 @@ const PUT_BYTES: u64 = 12;
 fn numbered_puts(alloc: Global) -> Result<Vec<u8>, Fail> {
     let mut requests = Vec::new(alloc);
     for n in 1..=PUTS {
-        requests.extend_from_slice(b"\x00\x0C\x10\x01a\x01")?;
+        requests.extend_from_slice(b"\x00\x0D\x10\x00\x01a\x01")?;
         requests.extend_from_slice(&n.to_be_bytes())?;
     }
     Ok(requests)

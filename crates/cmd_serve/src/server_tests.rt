@@ -25,7 +25,7 @@ const MOST_CALLS: u64 = 1_000;
 const NO_CHECKPOINT: u64 = 1_000_000;
 
 /// A put of 5 at `a`, and its reply at first and later.
-const PUT: &[u8] = b"\x00\x0C\x10\x01a\x01\x00\x00\x00\x00\x00\x00\x00\x05";
+const PUT: &[u8] = b"\x00\x0D\x10\x00\x01a\x01\x00\x00\x00\x00\x00\x00\x00\x05";
 
 pub(crate) const WAS_ABSENT: &[u8] = b"\x00\x02\x00\x00";
 
@@ -42,9 +42,9 @@ const ALL_FAILED: &[u8] = b"\x00\x02\x89\x00\x00\x02\x89\x00\x00\x02\x89\x00";
 
 /// Two merges of 1 with the sum, two questions, and their answers after 800 were added to each.
 const ADD_TO_A_AND_B: &[u8] =
-    b"\x00\x0D\x19\x01a\x04\x01\x00\x00\x00\x00\x00\x00\x00\x01\x00\x0D\x19\x01b\x04\x01\x00\x00\x00\x00\x00\x00\x00\x01";
+    b"\x00\x0E\x19\x00\x01a\x04\x01\x00\x00\x00\x00\x00\x00\x00\x01\x00\x0E\x19\x00\x01b\x04\x01\x00\x00\x00\x00\x00\x00\x00\x01";
 
-const GET_A_AND_B: &[u8] = b"\x00\x03\x01\x01a\x00\x03\x01\x01b";
+const GET_A_AND_B: &[u8] = b"\x00\x04\x01\x00\x01a\x00\x04\x01\x00\x01b";
 
 const BOTH_ARE_800: &[u8] =
     b"\x00\x0A\x01\x01\x00\x00\x00\x00\x00\x00\x03\x20\x00\x0A\x01\x01\x00\x00\x00\x00\x00\x00\x03\x20";
@@ -223,7 +223,7 @@ fn a_connection_breaks_off_alone(rt: HostRuntime) -> Result<(), Fail> {
     let server = server_over(rt.alloc(), None)?;
     let (mut clients, mut listed) = connected(&rt, rt.alloc(), 5)?;
     leave_before_last(&mut clients)?;
-    let long = b"\x00\x00\x00\x03\x01\x01a";
+    let long = b"\x00\x00\x00\x04\x01\x00\x01a";
     send_each(clients.as_slice(), &[b"", &PUT[..9], long, PUT])?;
     run(&rt, &server, &NoGate, &mut listed, 1).map_err(|_| "threads start")?;
     let sent = received(rt.alloc(), clients.as_slice());
@@ -298,10 +298,10 @@ fn a_client_that_stalls_holds_up_no_other(rt: HostRuntime) -> Result<(), Fail> {
 /// connection holds of what isn't read.
 fn questions_for_long(alloc: Global) -> Result<Vec<u8>, Fail> {
     let mut requests = Vec::new(alloc);
-    requests.extend_from_slice(b"\x10\x06\x10\x01k\x02\x10\x00")?;
-    requests.resize(8 + 4_096, b't')?;
+    requests.extend_from_slice(b"\x10\x07\x10\x00\x01k\x02\x10\x00")?;
+    requests.resize(9 + 4_096, b't')?;
     for _ in 0..4_000 {
-        requests.extend_from_slice(b"\x00\x03\x01\x01k")?;
+        requests.extend_from_slice(b"\x00\x04\x01\x00\x01k")?;
     }
     Ok(requests)
 }

@@ -35,7 +35,7 @@ fn is_asked(alloc: Global, answer: &[u8], expected: Printed) -> Result<bool, Ref
         &mut output,
         &mut error,
     );
-    let is_sent = writer.as_slice() == b"\x00\x03\x01\x01a".as_slice();
+    let is_sent = writer.as_slice() == b"\x00\x04\x01\x00\x01a".as_slice();
     Ok(is_sent && is_printed(status, &output, &error, expected))
 }
 

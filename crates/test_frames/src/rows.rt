@@ -94,7 +94,7 @@ fn served(alloc: Global, value: Value, frames: &[u8]) -> Result<(Vec<Did>, Vec<u
 }
 
 /// A put of `a`.
-const PUT: &[u8] = b"\x00\x0C\x10\x01a\x01\x00\x00\x00\x00\x00\x00\x00\x05";
+const PUT: &[u8] = b"\x00\x0D\x10\x00\x01a\x01\x00\x00\x00\x00\x00\x00\x00\x05";
 
 /// A count.
 const COUNT: &[u8] = b"\x00\x01\x20";

@@ -10,7 +10,7 @@ use std::test::Fail;
 const LOG_A: usize = 2;
 
 /// A frame of `Put "a" Int n`: its length, the method, the key with its length, and the number.
-const PUT_FRONT: &[u8] = b"\x00\x0C\x10\x01a\x01\x00\x00\x00\x00\x00\x00\x00";
+const PUT_FRONT: &[u8] = b"\x00\x0D\x10\x00\x01a\x01\x00\x00\x00\x00\x00\x00\x00";
 
 /// The reply to the first put, which found no value.
 const WAS_ABSENT: &[u8] = b"\x00\x02\x00\x00";

@@ -9,7 +9,7 @@ use Rattle.map_types.specs.declared.commands.Func.{Func}
 use Rattle.map_types.specs.declared.commands.Question.{Question}
 use Rattle.map_types.specs.declared.commands.Question.TheVariants.{Get, GetOrDefault, ContainsKey}
 use Rattle.log_records.specs.Agreement.{IsBytes}
-use Rattle.log_records.specs.Layout.{Layout, first_layout}
+use Rattle.log_records.specs.Layout.{Layout, second_layout}
 use Rattle.log_records.specs.Spelling.{IsText, IsValue, IsCommand, key_bytes, value_bytes, record_bytes}
 use Rattle.log_records.specs.Reading.{◌>>=◌, key_at, number_at, some_value_at, func_at, record_at}
 use Rattle.wire_frames.specs.declared.requests.Bulk.{Bulk}
@@ -17,9 +17,9 @@ use Rattle.wire_frames.specs.declared.requests.Bulk.TheVariants.{Count, Reduce, 
 use Rattle.wire_frames.specs.declared.requests.Request.{Request}
 use Rattle.wire_frames.specs.declared.requests.Request.TheVariants as requests
 
--- the layout of keys in requests
+-- the layout of keys in requests: the newest, whatever version the files have
 abbrev pub wire_layout : Layout
-wire_layout = first_layout
+wire_layout = second_layout
 
 -- ---- the one spelling of each request
 

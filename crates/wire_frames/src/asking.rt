@@ -37,11 +37,11 @@ fn put_argument(question: &Question, out: &mut Vec<u8>) -> Result<(), Refusal>
 fn put_read(read: &Read, out: &mut Vec<u8>) -> Result<(), Refusal>
     ensures ok { OnOk result
         (out.new.items ≡ out.old.items ++ request_bytes (Request.Read read.now)) }
-    ensures bound { OnOk result (length (request_bytes (Request.Read read.now)) ≤ 4356) }
+    ensures bound { OnOk result (length (request_bytes (Request.Read read.now)) ≤ 4357) }
     ensures err { IfErr result (λ refusal. refusal ≡ NoMemory) }
 {
     out.push(number_of(&read.question))?;
-    put_key(Version::First, &read.key, out)?;
+    put_key(Version::Second, &read.key, out)?;
     put_argument(&read.question, out)
 }
 
@@ -70,14 +70,14 @@ fn put_bulk(bulk: &Bulk, out: &mut Vec<u8>) -> Result<(), Refusal>
 /// Puts a request at the end.
 fn put_request(request: &Request, out: &mut Vec<u8>) -> Result<(), Refusal>
     ensures ok { OnOk result (out.new.items ≡ out.old.items ++ request_bytes request.now) }
-    ensures bound { OnOk result (length (request_bytes request.now) ≤ 8455) }
+    ensures bound { OnOk result (length (request_bytes request.now) ≤ 8456) }
     ensures err { IfErr result (λ refusal. refusal ≡ NoMemory) }
 {
     match request {
         Request::Read(read) => put_read(read, out),
         Request::Change(command) => {
-            let _len = record_len(Version::First, command);
-            encode(Version::First, command, out)
+            let _len = record_len(Version::Second, command);
+            encode(Version::Second, command, out)
         }
         Request::Bulk(bulk) => put_bulk(bulk, out),
     }

@@ -48,7 +48,7 @@ pub enum Request {
 fn get_or_default_at(alloc: Global, bytes: &[u8]) -> Result<(Request, &[u8]), Refusal>
     ensures { Gives (λ x. (x.0, x.1.now)) result (get_or_default_at bytes.now) }
 {
-    let (key, rest) = key_at(Version::First, alloc, bytes)?;
+    let (key, rest) = key_at(Version::Second, alloc, bytes)?;
     let (value, rest) = some_value_at(alloc, rest)?;
     let question = Question::GetOrDefault(value);
     Ok((Request::Read(Read { key, question }), rest))
@@ -59,7 +59,7 @@ fn get_or_default_at(alloc: Global, bytes: &[u8]) -> Result<(Request, &[u8]), Re
 fn question_at(alloc: Global, question: Question, bytes: &[u8]) -> Result<(Request, &[u8]), Refusal>
     ensures { Gives (λ x. (x.0, x.1.now)) result (question_at question bytes.now) }
 {
-    let (key, rest) = key_at(Version::First, alloc, bytes)?;
+    let (key, rest) = key_at(Version::Second, alloc, bytes)?;
     Ok((Request::Read(Read { key, question }), rest))
 }
 
@@ -68,7 +68,7 @@ fn question_at(alloc: Global, question: Question, bytes: &[u8]) -> Result<(Reque
 fn change_at(alloc: Global, bytes: &[u8]) -> Result<(Request, &[u8]), Refusal>
     ensures { Gives (λ x. (x.0, x.1.now)) result (change_at bytes.now) }
 {
-    let (command, rest) = record_at(Version::First, alloc, bytes)?;
+    let (command, rest) = record_at(Version::Second, alloc, bytes)?;
     Ok((Request::Change(command), rest))
 }
 
