@@ -16,7 +16,7 @@ use Rattle.ticket_order.specs.declared.record.Record.{Record}
 use Rattle.ticket_order.specs.Records.{ticket_limit, entry, call, past, reach, taking, living, looking, drawing, giving, answering, part_held, last_held}
 use Rattle.ticket_order.specs.Legality.{history_of}
 use Rattle.ticket_order.specs.StepRules.{Rises, IsLast, EndsAt, TakesStripe, Looks, Draws, Answers, Lives, MayDraw, MayGive}
-use Rattle.ticket_order.specs.Calls.{walked, HasFound, FindsFailure, FindsNoFailure, LooksAround, GivesBack, MakesCall, MakesRead}
+use Rattle.ticket_order.specs.Calls.{walked, HasFound, FindsFailure, FindsNoFailure, FindsAlive, LooksAround, GivesBack, MakesCall, MakesRead, ReadsAt}
 use Rattle.ticket_order.specs.Walks.{Task, ToChange, ToRead, Refuses, HasContent, TookContent, TookAlive, TookLooked, OfTask, HasChanged, HasMade, HasAnswer, IsRefusing}
 use Rattle.ticket_order.proofs.Apart.{not_full_by_memory, not_full_by_failure, not_full_by_tickets}
 
@@ -46,6 +46,17 @@ content_lived b p w t x k l = record {
   outbox_is = refl;
   last_is = refl;
 }
+
+-- the stripe is given back after an ALIVE that said this
+pub given_back_alive : (b p w u : Record) (t : Taken) (j : ℕ) (x : Bool) → TookContent b t p → Lives p x w → u ≡ giving Nothing w → t.stripe ≡ j → GivesBack b (FindsAlive b j x) u
+given_back_alive b p w u t j x k l given e =
+    let is = lived b p w t x k l in
+    subst (λ z. GivesBack b (FindsAlive b z x) u) e (record {
+      holder = w;
+      before = record { part = t.content.part.map; outbox = t.content.outbox.items; last = t.content.last; taken = k.taken; is = is };
+      is = given;
+      same_calls = ap (λ (y : Record). y.calls) given ∙ ap (λ (y : Record). y.calls) is;
+    })
 
 failed : (b p w : Record) (t : Taken) (j : ℕ) → TookContent b t p → Rises b (past t.content.outbox.items) p → Lives p false w → t.stripe ≡ j → GivesBack b (FindsFailure b j) (giving Nothing w)
 failed b p w t j k r l e =
@@ -229,17 +240,16 @@ seen_or_last v w es last r ends = elim ends [
   | inr same ↦ omega (arith, risen v w (past es) r, same)
 ]
 
-pub made_read : (n : ℕ) (b p w : Record) (task : Task) (r : read_type.Read) (t : Taken) (h : Held) → OfTask n task (ToRead r) t.stripe (stripe_of n r.key) → HasAnswer n b r t h p → Answers r p w
-    → MakesRead n b r h.position h.reply w
-unfolding answered_alive
-made_read n b p w task r t h o a g =
-    let k : TookAlive b t p = answered_alive n b p r t h a in
+-- the GIVE of a read makes it, at the greater of what the pass has seen and of one past the last ticket of the stripe
+pub read_at : (n : ℕ) (b p w : Record) (r : read_type.Read) (t : Taken) (h : Held) → t.stripe ≡ stripe_of n r.key → TookAlive b t p → h.position ≡ max (reach p) t.content.last → h.reply ≡ answer t.content.part.map r
+    → Answers r p w → ReadsAt n b r h.position h.reply w
+read_at n b p w r t h at k position_is reply_is g =
     let last : ℕ = t.content.last in
     let own : last_held p.holding ≡ last = ap (λ (y : Record). last_held y.holding) k.is in
-    let reply : answer (part_held p.holding) r ≡ h.reply = ap (λ (y : Record). answer (part_held y.holding) r) k.is ∙ sym a.reply_is in
-    let reached : h.position ≡ reach w = a.position_is ∙ sym (risen p w last (subst (λ x. Rises p x w) own g.rises)) in
+    let reply : answer (part_held p.holding) r ≡ h.reply = ap (λ (y : Record). answer (part_held y.holding) r) k.is ∙ sym reply_is in
+    let reached : h.position ≡ reach w = position_is ∙ sym (risen p w last (subst (λ x. Rises p x w) own g.rises)) in
     let number : h.position ≡ p.opening.first + length (p.seen ++ g.between) = reached ∙ ap reach g.is in
-    let position : h.position ≡ max (reach b) last = a.position_is ∙ (ap (λ (y : Record). max (reach y) last) a.is ∙ seen_or_last b a.found t.content.outbox.items last a.took.rises a.took.ends) in
+    let before : reach p ≡ b.opening.first + length (b.seen ++ k.taken) = ap reach k.is in
     let same : p.calls ≡ b.calls = ap (λ (y : Record). y.calls) k.is in
     record {
       part = t.content.part.map;
@@ -247,11 +257,32 @@ made_read n b p w task r t h o a g =
       last = last;
       taken = k.taken;
       between = g.between;
-      is = g.is ∙ (ap (λ (y : Record). answering r y g.between) k.is ∙ ap (λ j. answering r (living (taking b j t.content.part.map t.content.outbox.items last k.taken) true) g.between) o.stripe_is);
-      last_is = subst (λ j. IsLast n j last (taking b j t.content.part.map t.content.outbox.items last k.taken)) o.stripe_is (subst (λ (y : Record). IsLast n t.stripe last y) a.took.is a.took.last);
-      position_is = position;
+      is = g.is ∙ (ap (λ (y : Record). answering r y g.between) k.is ∙ ap (λ j. answering r (living (taking b j t.content.part.map t.content.outbox.items last k.taken) true) g.between) at);
       reached = reached;
       grew = ap (λ (z : Record). z.calls) g.is ∙ (λ i. same i ++ call (sym number i) (Reading r) (reply i) ∷ []);
-      later = omega (arith, position);
+      later = omega (arith, position_is, before, length-append b.seen k.taken);
       legal = subst (λ q. IsLegalRead (history_of w) q r h.reply) (sym reached) (subst (λ y. IsLegalRead (history_of w) (reach w) r y) reply g.legal);
+    }
+
+pub made_read : (n : ℕ) (b p w : Record) (task : Task) (r : read_type.Read) (t : Taken) (h : Held) → OfTask n task (ToRead r) t.stripe (stripe_of n r.key) → HasAnswer n b r t h p → Answers r p w
+    → MakesRead n b r h.position h.reply w
+unfolding answered_alive read_at
+made_read n b p w task r t h o a g =
+    let k : TookAlive b t p = answered_alive n b p r t h a in
+    let last : ℕ = t.content.last in
+    let made : ReadsAt n b r h.position h.reply w = read_at n b p w r t h o.stripe_is k a.position_is a.reply_is g in
+    let position : h.position ≡ max (reach b) last = a.position_is ∙ (ap (λ (y : Record). max (reach y) last) a.is ∙ seen_or_last b a.found t.content.outbox.items last a.took.rises a.took.ends) in
+    record {
+      part = t.content.part.map;
+      outbox = t.content.outbox.items;
+      last = last;
+      taken = k.taken;
+      between = g.between;
+      is = made.is;
+      last_is = subst (λ j. IsLast n j last (taking b j t.content.part.map t.content.outbox.items last k.taken)) o.stripe_is (subst (λ (y : Record). IsLast n t.stripe last y) a.took.is a.took.last);
+      position_is = position;
+      reached = made.reached;
+      grew = made.grew;
+      later = omega (arith, position);
+      legal = made.legal;
     }

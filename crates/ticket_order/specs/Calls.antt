@@ -58,6 +58,20 @@ pub record MakesRead (n : ℕ) (v : Record) (r : Read) (position : ℕ) (reply :
   pub later : reach v ≤ position
   pub legal : IsLegalRead (history_of w) position r reply
 
+-- TAKE, ALIVE, GIVE, of which it isn't told what the TAKE showed: the read is made and it is legal, at a position that the
+-- pass has seen.
+pub record ReadsAt (n : ℕ) (v : Record) (r : Read) (position : ℕ) (reply : reply_type.Reply) (w : Record) : Type 0 where
+  pub part : Map
+  pub outbox : List Entry
+  pub last : ℕ
+  pub taken : List Command
+  pub between : List Command
+  pub is : w ≡ answering r (living (taking v (stripe_of n r.key) part outbox last taken) true) between
+  pub reached : position ≡ reach w
+  pub grew : w.calls ≡ v.calls ++ call position (Reading r) reply ∷ []
+  pub later : reach v ≤ position
+  pub legal : IsLegalRead (history_of w) position r reply
+
 -- the record after a TAKE of stripe i that found this content
 pub record HasFound (v : Record) (i : ℕ) (content : Stripe) (w : Record) : Type 0 where
   pub between : List Command
@@ -83,6 +97,14 @@ pub record FindsNoFailure (v : Record) (i : ℕ) (w : Record) : Type 0 where
   pub taken : List Command
   pub rises : Rises v (past outbox) (taking v i part outbox last taken)
   pub is : w ≡ living (taking v i part outbox last taken) true
+
+-- TAKE, and an ALIVE that said this; it isn't told what the TAKE showed
+pub record FindsAlive (v : Record) (i : ℕ) (is_alive : Bool) (w : Record) : Type 0 where
+  pub part : Map
+  pub outbox : List Entry
+  pub last : ℕ
+  pub taken : List Command
+  pub is : w ≡ living (taking v i part outbox last taken) is_alive
 
 -- TAKE, ALIVE and LOOK
 pub record LooksAround (v : Record) (i : ℕ) (w : Record) : Type 0 where
@@ -114,6 +136,12 @@ RefusesRead v i (Busy j) w = (j ≡ i) × (w ≡ missing v i)
 RefusesRead v i refusal_type.Failed w = GivesBack v (FindsFailure v i) w
 RefusesRead v i NoMemory w = GivesBack v (FindsNoFailure v i) w
 RefusesRead v i other w = ⊥
+
+-- what a refused read leaves of a stripe that it has taken, if it isn't told what the TAKE showed
+abbrev pub LeavesRead : Record → ℕ → Refusal → Record → Type 0
+LeavesRead v i refusal_type.Failed w = GivesBack v (FindsAlive v i false) w
+LeavesRead v i NoMemory w = GivesBack v (FindsAlive v i true) w
+LeavesRead v i other w = ⊥
 
 -- a SEE reached the position
 pub record Reaches (p : ℕ) (v w : Record) : Type 0 where

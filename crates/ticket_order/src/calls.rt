@@ -1,11 +1,11 @@
 //! Whole calls of one pass, which don't wait. They make the steps that their walks make.
-ghost use Rattle.std.specs.Prelude.{◌≡◌, None, IfOk, IfErr};
+ghost use Rattle.std.specs.Prelude.{◌≡◌, None, Err, IfOk, IfErr, false};
 ghost use Rattle.java_hash.specs.Hash.{hash_of, spread_of};
 ghost use Rattle.java_hash.specs.Stripes.{stripe_of};
 ghost use Rattle.ticket_order.specs.declared.record.Record.{Record};
 ghost use Rattle.ticket_order.specs.Records.{past};
 ghost use Rattle.ticket_order.specs.StepRules.{Rises, TakesStripe};
-ghost use Rattle.ticket_order.specs.Calls.{HasFound, IsNotBusy, MakesCall, MakesRead, RefusesChange, RefusesRead, Releases};
+ghost use Rattle.ticket_order.specs.Calls.{FindsAlive, GivesBack, HasFound, IsNotBusy, LeavesRead, MakesCall, MakesRead, ReadsAt, RefusesChange, RefusesRead, Releases};
 ghost use Rattle.ticket_order.specs.Walks.{ToChange, FitsChange};
 
 use crate::change_walk::{ChangeStage, NewChange, TICKET_LIMIT};
@@ -115,6 +115,9 @@ pub fn call_on<S: Steps>(
         (refusal ≡ Refusal.Failed → Rises b (past content.outbox.items) (S.recorded steps.old))
         → RefusesChange b (stripe_of (S.stripe_count steps.old) command.key) refusal
         (S.recorded steps.new)) }
+    ensures failed { (b : Record) → HasFound b (stripe_of (S.stripe_count steps.old) command.key)
+        content (S.recorded steps.old) → result ≡ Err Refusal.Failed → GivesBack b (FindsAlive b
+        (stripe_of (S.stripe_count steps.old) command.key) false) (S.recorded steps.new) }
     ensures not_busy { IfErr result IsNotBusy }
 
     // It is the same pass, over as many stripes.
@@ -140,10 +143,16 @@ pub fn read_on<S: Steps>(
 ) -> Result<Held, Refusal>
     // The spread is the key's, whose stripe was taken with this content.
     requires spread { spread ≡ spread_of (hash_of read.key) }
-    requires found { (b : Record) × TakesStripe (S.stripe_count steps.old) b
-        (stripe_of (S.stripe_count steps.old) read.key) content (S.recorded steps.old) }
+    requires found { (b : Record) × HasFound b (stripe_of (S.stripe_count steps.old) read.key)
+        content (S.recorded steps.old) }
 
-    // The read is made, and the record grows by this call alone.
+    // The read is made, and the record grows by this call alone. Its place is told if it is known
+    // what the TAKE showed.
+    ensures answered { (b : Record) → HasFound b (stripe_of (S.stripe_count steps.old) read.key)
+        content (S.recorded steps.old)
+        → IfOk result (λ held.
+        ReadsAt (S.stripe_count steps.old) b read held.position held.reply
+        (S.recorded steps.new)) }
     ensures made { (b : Record) → TakesStripe (S.stripe_count steps.old) b
         (stripe_of (S.stripe_count steps.old) read.key) content (S.recorded steps.old)
         → IfOk result (λ held.
@@ -151,6 +160,11 @@ pub fn read_on<S: Steps>(
         (S.recorded steps.new)) }
 
     // Or it is refused, but not as busy, and no call is added.
+    ensures left { (b : Record) → HasFound b (stripe_of (S.stripe_count steps.old) read.key)
+        content (S.recorded steps.old)
+        → IfErr result (λ refusal.
+        LeavesRead b (stripe_of (S.stripe_count steps.old) read.key) refusal
+        (S.recorded steps.new)) }
     ensures refused { (b : Record) → TakesStripe (S.stripe_count steps.old) b
         (stripe_of (S.stripe_count steps.old) read.key) content (S.recorded steps.old)
         → IfErr result (λ refusal.
@@ -190,6 +204,9 @@ fn change_on<S: Steps>(
         → Rises b (past taken.content.outbox.items) (S.recorded steps.old))
         → RefusesChange b (stripe_of (S.stripe_count steps.old) new.command.key) refusal
         (S.recorded steps.new)) }
+    ensures failed { (b : Record) → HasFound b taken.stripe taken.content (S.recorded steps.old)
+        → result ≡ Err Refusal.Failed
+        → GivesBack b (FindsAlive b taken.stripe false) (S.recorded steps.new) }
     ensures not_busy { IfErr result IsNotBusy }
 
     // It is the same pass, over as many stripes.
@@ -235,16 +252,22 @@ fn read_from<S: Steps>(
     // The spread is the key's, whose stripe was taken with this content.
     requires spread { spread ≡ spread_of (hash_of read.key) }
     requires stripe { taken.stripe ≡ stripe_of (S.stripe_count steps.old) read.key }
-    requires found { (b : Record) × TakesStripe (S.stripe_count steps.old) b taken.stripe
-        taken.content (S.recorded steps.old) }
+    requires found { (b : Record) × HasFound b taken.stripe taken.content (S.recorded steps.old) }
 
-    // The read is made, and the record grows by this call alone.
+    // The read is made, and the record grows by this call alone. Its place is told if it is known
+    // what the TAKE showed.
+    ensures answered { (b : Record) → HasFound b taken.stripe taken.content (S.recorded steps.old) →
+        IfOk result (λ held. ReadsAt (S.stripe_count steps.old) b read
+        held.position held.reply (S.recorded steps.new)) }
     ensures made { (b : Record) → TakesStripe (S.stripe_count steps.old) b taken.stripe
         taken.content (S.recorded steps.old) →
         IfOk result (λ held. MakesRead (S.stripe_count steps.old) b read
         held.position held.reply (S.recorded steps.new)) }
 
     // Or it is refused, but not as busy, and no call is added.
+    ensures left { (b : Record) → HasFound b taken.stripe taken.content (S.recorded steps.old) →
+        IfErr result (λ refusal. LeavesRead b
+        (stripe_of (S.stripe_count steps.old) read.key) refusal (S.recorded steps.new)) }
     ensures refused { (b : Record) → TakesStripe (S.stripe_count steps.old) b taken.stripe
         taken.content (S.recorded steps.old) →
         IfErr result (λ refusal. RefusesRead b

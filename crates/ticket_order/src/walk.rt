@@ -2,6 +2,7 @@
 ghost use Rattle.std.specs.Prelude.{◌≡◌, ◌<◌, ℕ, Some, None, true, false, length};
 ghost use Rattle.std.specs.Option.{option_copied};
 ghost use Rattle.ticket_order.specs.declared.record.Record.{Record};
+ghost use Rattle.ticket_order.specs.Records.{giving};
 ghost use Rattle.ticket_order.specs.Walks.{Task, ToChange, ToRead, ToRelease, ToSweep, ToCapture, Fits, IsUnderWay, Next, MakesOne, next_kind, Take, Give, HasContent, IsRefusing, Refuses, HasFewerLeft, steps_left, entries_of_walk, KeepsEntries, captured_of_walk, KeepsCaptured, refusal_of_walk, KeepsRefusal, is_holding};
 
 use crate::capture_walk::{CaptureStage, Captured};
@@ -75,6 +76,7 @@ impl Taken {
             → IsRefusing (S.stripe_count steps.old) b task self refusal (S.recorded steps.old)
             → Refuses (S.stripe_count steps.old) b task refusal (S.recorded steps.new) }
         ensures same { result ≡ refusal }
+        ensures given { S.recorded steps.new ≡ giving Purpose.Nothing (S.recorded steps.old) }
 
         // It is the same pass, over as many stripes.
         ensures place { S.place steps.new ≡ S.place steps.old }

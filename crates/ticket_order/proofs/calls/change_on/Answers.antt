@@ -2,7 +2,7 @@ use Rattle.std.proofs.Common.{◌≡◌, ◌<◌, false, refl, subst}
 use Rattle.java_hash.specs.Stripes.{stripe_of}
 use Rattle.ticket_order.specs.Records.{ticket_limit}
 use Rattle.ticket_order.specs.Walks.{ToChange}
-use Rattle.ticket_order.proofs.Walking.{found_content, content_lived, content_looked, took_alive, took_looked, same_looked, change_failed, change_spent, change_starved}
+use Rattle.ticket_order.proofs.Walking.{found_content, content_lived, content_looked, given_back_alive, took_alive, took_looked, same_looked, change_failed, change_spent, change_starved}
 use Rattle.ticket_order.proofs.calls.change_on.Goals as goal
 
 pub give_back-requires : goal.give_back-requires
@@ -15,6 +15,10 @@ returns-then-not-alive-clause-refused g c = λ b f rises.
     let at : c.args.taken.stripe ≡ stripe_of (g.S.Steps.stripe_count c.alive.new.self) c.args.new.command.key = rw c.alive.ensures.stripes c.requires.stripe in
     rw c.give_back.ensures.same (rw (← c.alive.ensures.stripes)
     (c.give_back.ensures.refused b (ToChange c.args.new.command) (change_failed _ _ _ _ _ c.args.new.command c.args.taken (record { task_is = refl; stripe_is = at }) (found_content _ _ _ f) (rises c.give_back.ensures.same) (rw c.if-not-alive.true at c.alive.ensures.step))))
+
+pub returns-then-not-alive-clause-failed : goal.returns-then-not-alive-clause-failed
+returns-then-not-alive-clause-failed g c = λ b f failed.
+    given_back_alive _ _ _ _ c.args.taken _ false (found_content _ _ _ f) (rw c.if-not-alive.true at c.alive.ensures.step) c.give_back.ensures.given refl
 
 pub give_back-requires-then-look-ge-TICKET_LIMIT : goal.give_back-requires-then-look-ge-TICKET_LIMIT
 give_back-requires-then-look-ge-TICKET_LIMIT g c =

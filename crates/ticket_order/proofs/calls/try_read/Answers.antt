@@ -8,7 +8,7 @@ read_from-requires-clause-stripe g c =
     rw c.in-Some.ensures.stripes here
 
 pub read_from-requires-clause-found : goal.read_from-requires-clause-found
-read_from-requires-clause-found g c = (g.S.Steps.recorded c.args.steps.now, rw c.in-Some.ensures.stripes c.in-Some.ensures.step)
+read_from-requires-clause-found g c = (g.S.Steps.recorded c.args.steps.now, record { between = c.in-Some.ensures.step.between; is = c.in-Some.ensures.step.is })
 
 pub returns-in-Some-clause-made : goal.returns-in-Some-clause-made
 returns-in-Some-clause-made g c = rw (← c.in-Some.ensures.stripes) (c.read_from.ensures.made _ (rw c.in-Some.ensures.stripes c.in-Some.ensures.step))
