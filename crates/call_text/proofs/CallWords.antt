@@ -1,6 +1,7 @@
 -- What is printed is read again, and each call has words.
 use Rattle.std.proofs.Common.{◌≡◌, ◌≤◌, ℕ, List, [], ◌∷◌, Option, Some, None, Ok, length, nat_le, true, refl, ◌∙◌, ap, codes, rules}
 use Rattle.std.specs.Option.{ok_or, option_map}
+use Rattle.map_types.specs.Limits.{most_key_bytes}
 use Rattle.map_types.specs.declared.commands.Func.{Func}
 use Rattle.map_types.specs.declared.commands.Func.TheVariants as func
 use Rattle.map_types.specs.declared.commands.Change.{Change}
@@ -37,8 +38,8 @@ pub value_is_read : (value : Value) → IsValue value → value_of (value_word (
 unfolding value_of
 value_is_read value fits = ap (λ a. a >>= λ found. ok_or found Absent) (printed (Some value) fits)
 
-key_is_read : (key : Text) → length key ≤ 255 → key_of key ≡ Ok key
-key_is_read key fits = choose_yes (nat_le (length key) 255) _ _ (below _ _ fits)
+key_is_read : (key : Text) → length key ≤ most_key_bytes → key_of key ≡ Ok key
+key_is_read key fits = choose_yes (nat_le (length key) most_key_bytes) _ _ (below _ _ fits)
 
 func_has_name : (f : Func) → (name : Text) × (func_of name ≡ Ok f)
 func_has_name func.Const = (codes "CONST", refl)
@@ -132,7 +133,7 @@ changes (change.Merge f value) fits =
     record { name = codes "merge"; method = Merge; words = w.0; is_named = refl; is_made = ap (λ r. r >>= λ x. Ok (change.Merge x.0 x.1)) w.1 }
 
 -- the words of a method, a key, and what is behind it
-parsed : (name key : Text) (method : Method) (words : List Text) (wanted : Asked) → method_named name ≡ Some method → length key ≤ 255 → asked_of method key words ≡ Ok wanted → parse_call (name ∷ key ∷ words) ≡ Ok wanted
+parsed : (name key : Text) (method : Method) (words : List Text) (wanted : Asked) → method_named name ≡ Some method → length key ≤ most_key_bytes → asked_of method key words ≡ Ok wanted → parse_call (name ∷ key ∷ words) ≡ Ok wanted
 unfolding parse_call
 parsed name key method words wanted named fits made =
     ap (λ m. ok_or m NoMethod >>= λ x. call_behind x (key ∷ words)) named

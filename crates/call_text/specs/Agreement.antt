@@ -1,6 +1,7 @@
 -- What is printed is read again, and each call has words.
 use Rattle.std.specs.Prelude.{◌≡◌, ◌<◌, ◌≤◌, ◌^◌, true, length, FitsSigned, List, Option, Some, None, Ok}
 use Rattle.std.specs.Int.{w64}
+use Rattle.map_types.specs.Limits.{most_key_bytes}
 use Rattle.map_types.specs.declared.texts.Value.{Value}
 use Rattle.map_types.specs.declared.texts.Value.TheVariants.{Int, Text as IsText}
 use Rattle.map_types.specs.declared.commands.Change.{Change}
@@ -42,10 +43,10 @@ IsQuestion Get = Unit {0}
 IsQuestion (GetOrDefault value) = IsValue value
 IsQuestion ContainsKey = Unit {0}
 
--- its key has at most 255 bytes, and its values are values
+-- its key has at most 4,095 bytes, and its values are values
 abbrev pub IsAsked : Asked → Type 0
-IsAsked (asked.Read read) = (length read.key ≤ 255) × IsQuestion read.question
-IsAsked (asked.Change command) = (length command.key ≤ 255) × IsChange command.change
+IsAsked (asked.Read read) = (length read.key ≤ most_key_bytes) × IsQuestion read.question
+IsAsked (asked.Change command) = (length command.key ≤ most_key_bytes) × IsChange command.change
 
 -- its threshold has 64 bits too, and a map is reduced by its function
 abbrev pub IsCalled : Called → Type 0

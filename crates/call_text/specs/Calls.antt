@@ -1,6 +1,7 @@
 -- The words of calls.
 use Rattle.std.specs.Prelude.{List, [], ◌∷◌, length, nat_le, if◌then◌else◌, Option, Result, Ok, Err}
 use Rattle.std.specs.Option.{ok_or}
+use Rattle.map_types.specs.Limits.{most_key_bytes}
 use Rattle.map_types.specs.declared.commands.Func.{Func}
 use Rattle.map_types.specs.declared.commands.Change.{Change}
 use Rattle.map_types.specs.declared.commands.Change.TheVariants as change
@@ -22,7 +23,7 @@ use Rattle.call_text.specs.Values.{◌>>=◌, argument_of, value_of}
 
 -- the key of a word
 abbrev pub key_of : Text → Result Text BadWord
-key_of word = if nat_le (length word) 255 then Ok word else Err KeyTooLong
+key_of word = if nat_le (length word) most_key_bytes then Ok word else Err KeyTooLong
 
 -- ---- the words behind a key, by how many values they are
 

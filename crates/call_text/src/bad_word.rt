@@ -28,7 +28,7 @@ pub enum BadWord {
     #[error("a threshold is a number from 0 to 18446744073709551615")]
     Threshold,
     /// It is a key above its limit.
-    #[error("a key has at most 255 bytes")]
+    #[error("a key has at most 4095 bytes")]
     KeyTooLong,
     /// It is a text above its limit.
     #[error("a text has at most 4096 bytes")]

@@ -1,5 +1,6 @@
 -- What differs between the versions of a record.
 use Rattle.std.specs.Prelude.{ℕ, ◌<◌, ◌^◌}
+use Rattle.map_types.specs.Limits.{most_key_bytes}
 use Rattle.log_records.specs.declared.versions.Version.{Version}
 use Rattle.log_records.specs.declared.versions.Version.TheVariants.{First, Second}
 
@@ -15,7 +16,7 @@ first_layout = record { version = 1; key_width = 1; key_limit = 255 }
 
 -- the layout of version 02
 abbrev pub second_layout : Layout
-second_layout = record { version = 2; key_width = 2; key_limit = 255 }
+second_layout = record { version = 2; key_width = 2; key_limit = most_key_bytes }
 
 -- the layout of a version
 abbrev pub layout_of : Version → Layout

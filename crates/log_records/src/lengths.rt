@@ -49,7 +49,7 @@ fn arguments_len(change: &Change) -> usize
 pub fn record_len(version: Version, command: &Command) -> usize
     ensures len { result ≡ length (record_bytes (layout_of version) command.now) }
     ensures bound { let layout = layout_of version in
-        result ≤ 1 + layout.key_width + layout.key_limit + 8198 }
+        result ≤ 1 + layout.key_width + length command.now.key + 8198 }
 {
     1 + version.key_width() + command.key.as_str().len() + arguments_len(&command.change)
 }

@@ -3,6 +3,8 @@ ghost use Rattle.std.specs.Prelude.{◌≡◌, ◌≤◌, ◌<◌, ◌^◌, ◌�
 ghost use Rattle.log_records.specs.declared.versions.Version.{Version};
 ghost use Rattle.log_records.specs.Layout.{layout_of};
 
+use map_types::Key;
+
 /// The first version's byte in a file. The versions count from 1, so that zeros, as where nothing was written, are of
 /// no version.
 const FIRST_BYTE: u8 = 1;
@@ -15,7 +17,7 @@ const SECOND_KEY_WIDTH: usize = 2;
 /// The most bytes of a key in the first version: the greatest length that its one byte can say.
 const FIRST_KEY_LIMIT: u16 = 255;
 /// The most bytes of a key in the second version: as many as a `Key` may have, though its two bytes can say more.
-const SECOND_KEY_LIMIT: u16 = 255;
+const SECOND_KEY_LIMIT: u16 = Key::MOST_BYTES as u16;
 
 /// A version of records.
 #[derive(Clone, Copy, Debug, PartialEq, Eq)]

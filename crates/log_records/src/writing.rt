@@ -109,6 +109,7 @@ fn append_arguments(change: &Change, out: &mut Vec<u8>) -> Result<(), AllocError
 
 /// Puts a key at the end, or some of it if no memory is found.
 fn append_key(version: Version, key: &Key, out: &mut Vec<u8>) -> Result<(), AllocError>
+    requires within { length key.now ≤ (layout_of version).key_limit }
     ensures ok { OnOk result
         (out.new.items ≡ out.old.items ++ key_bytes (layout_of version) key.now) }
     ensures fits { OnOk result (IsText (layout_of version).key_limit key.now) }
@@ -119,6 +120,7 @@ fn append_key(version: Version, key: &Key, out: &mut Vec<u8>) -> Result<(), Allo
 
 /// Puts a record at the end, or some of it if no memory is found.
 fn append_record(version: Version, command: &Command, out: &mut Vec<u8>) -> Result<(), AllocError>
+    requires within { length command.now.key ≤ (layout_of version).key_limit }
     ensures ok { OnOk result
         (out.new.items ≡ out.old.items ++ record_bytes (layout_of version) command.now) }
     ensures fits { OnOk result (IsCommand (layout_of version) command.now) }
@@ -131,6 +133,7 @@ fn append_record(version: Version, command: &Command, out: &mut Vec<u8>) -> Resu
 
 /// Puts a key at the end.
 pub fn put_key(version: Version, key: &Key, out: &mut Vec<u8>) -> Result<(), Refusal>
+    requires within { length key.now ≤ (layout_of version).key_limit }
     ensures ok { OnOk result
         (out.new.items ≡ out.old.items ++ key_bytes (layout_of version) key.now) }
     ensures fits { OnOk result (IsText (layout_of version).key_limit key.now) }
@@ -164,6 +167,7 @@ pub fn put_value(value: &Value, out: &mut Vec<u8>) -> Result<(), Refusal>
 
 /// Puts a command's record at the end.
 pub fn encode(version: Version, command: &Command, out: &mut Vec<u8>) -> Result<(), Refusal>
+    requires within { length command.now.key ≤ (layout_of version).key_limit }
     ensures ok { OnOk result
         (out.new.items ≡ out.old.items ++ record_bytes (layout_of version) command.now) }
     ensures fits { OnOk result (IsCommand (layout_of version) command.now) }

@@ -1,10 +1,11 @@
-//! Keys: UTF-8 text of at most 255 bytes.
-ghost use Rattle.std.specs.Prelude.{◌≡◌, ◌<◌, ◌≤◌, ◌↔◌, IfOk, IfErr, IsOk, length};
+//! Keys: UTF-8 text of at most 4,095 bytes.
+ghost use Rattle.std.specs.Prelude.{◌≡◌, ◌<◌, ◌≤◌, ◌↔◌, IfOk, IfErr, IsOk, length, true, false};
 ghost use Rattle.std.specs.Ordering.{nat_cmp, as_partial_cmp, eq_by_cmp};
 ghost use Rattle.std.specs.Cmp.Lexicographic.{slice_cmp, nat_list_cmp_total};
 ghost use Rattle.std.specs.Cmp.{partial_order_from_own_ties};
 ghost use Rattle.std.specs.Cmp.Rules.{comparing};
 ghost use Rattle.std.proofs.Common.{rules};
+ghost use Rattle.map_types.specs.Limits.{most_key_bytes};
 
 use crate::refusals::Refusal;
 use std::alloc::Global;
@@ -20,25 +21,26 @@ pub struct Key {
 impl Model for Key {
     ghost use Rattle.std.specs.Prelude.{List, ℕ, ◌≤◌, length};
     ghost use Rattle.std.specs.String.{string_bytes};
+    ghost use Rattle.map_types.specs.Limits.{most_key_bytes};
 
     ghost Value = { List ℕ };
 
     ghost view = { λ key. string_bytes key.text };
 
-    ghost invariant = { λ key. length (string_bytes key.text) ≤ 255 };
+    ghost invariant = { λ key. length (string_bytes key.text) ≤ most_key_bytes };
 }
 
 impl Key {
     /// The most bytes that a key may have.
-    pub const MOST_BYTES: usize = 255;
+    pub const MOST_BYTES: usize = 4095;
 
-    /// The key with these bytes. Refuses a text of more than 255 bytes with `KeyTooLong`, and with
+    /// The key with these bytes. Refuses a text of more than 4,095 bytes with `KeyTooLong`, and with
     /// `NoMemory` if no memory is found.
     pub fn new(alloc: Global, text: &str) -> Result<Key, Refusal>
         ensures ok { IfOk result (λ key. key ≡ text.now) }
-        ensures ok_only_within { IsOk result → length text.now ≤ 255 }
-        ensures too_long { (result ≡ Err Refusal.KeyTooLong) ↔ (255 < length text.now) }
-        ensures no_other { length text.now ≤ 255
+        ensures ok_only_within { IsOk result → length text.now ≤ most_key_bytes }
+        ensures too_long { (result ≡ Err Refusal.KeyTooLong) ↔ (most_key_bytes < length text.now) }
+        ensures no_other { length text.now ≤ most_key_bytes
             → IfErr result (λ refusal. refusal ≡ Refusal.NoMemory) }
     {
         if text.len() > Key::MOST_BYTES {
@@ -49,9 +51,17 @@ impl Key {
         })
     }
 
+    /// Whether the key has more bytes than this.
+    pub fn is_above(&self, limit: u16) -> bool
+        ensures above { result ≡ true → limit < length self.now }
+        ensures within { result ≡ false → length self.now ≤ limit }
+    {
+        self.text.len() > usize::from(limit)
+    }
+
     pub fn as_str(&self) -> &str
         ensures text { result.now ≡ self.now }
-        ensures bound { length self.now ≤ 255 }
+        ensures bound { length self.now ≤ most_key_bytes }
     {
         self.text.as_str()
     }

@@ -58,6 +58,9 @@ fn record_text(
 /// is refused as `BadFrame`.
 pub(crate) fn record(version: Version, alloc: Global, words: &[&str]) -> Result<String, Refusal> {
     let command = change_of(alloc, words)?;
+    if command.key.is_above(version.key_limit()) {
+        return Err(Refusal::KeyTooLong);
+    }
     let mut bytes = Vec::new(alloc);
     encode(version, &command, &mut bytes)?;
     record_text(version, alloc, &bytes, &command)
@@ -127,6 +130,9 @@ fn spelled(
     let mut bytes = Vec::new(alloc);
     if number > 0xFFFF {
         return Err(Refusal::WrongPhase);
+    }
+    if key.is_above(version.key_limit()) {
+        return Err(Refusal::KeyTooLong);
     }
     put_number(2, number, &mut bytes)?;
     put_key(version, key, &mut bytes)?;

@@ -1,9 +1,9 @@
 //! Requests as frames.
 
-ghost use Rattle.std.specs.Prelude.{◌≡◌, ◌≤◌, ◌++◌, length, OnOk, IfOk, IfErr};
+ghost use Rattle.std.specs.Prelude.{◌≡◌, ◌≤◌, ◌+◌, ◌++◌, length, OnOk, IfOk, IfErr};
 ghost use Rattle.map_types.specs.declared.refusals.Refusal.TheVariants.{NoMemory};
 ghost use Rattle.wire_frames.specs.Messages.{frame};
-ghost use Rattle.wire_frames.specs.Requests.{argument_bytes, question_number, request_bytes};
+ghost use Rattle.wire_frames.specs.Requests.{argument_bytes, question_number, request_bytes, wire_layout};
 
 use crate::requests::{Bulk, COUNT, REDUCE, Request, SEARCH, THRESHOLD_WIDTH};
 use log_records::{Version, encode, put_key, put_number, put_value, record_len};
@@ -37,9 +37,12 @@ fn put_argument(question: &Question, out: &mut Vec<u8>) -> Result<(), Refusal>
 fn put_read(read: &Read, out: &mut Vec<u8>) -> Result<(), Refusal>
     ensures ok { OnOk result
         (out.new.items ≡ out.old.items ++ request_bytes (Request.Read read.now)) }
-    ensures bound { OnOk result (length (request_bytes (Request.Read read.now)) ≤ 4357) }
+    ensures bound { OnOk result (length (request_bytes (Request.Read read.now))
+        ≤ 1 + wire_layout.key_width + wire_layout.key_limit + 4099) }
     ensures err { IfErr result (λ refusal. refusal ≡ NoMemory) }
 {
+    // Each key is within the limit of requests.
+    let _key = read.key.as_str();
     out.push(number_of(&read.question))?;
     put_key(Version::Second, &read.key, out)?;
     put_argument(&read.question, out)
@@ -70,12 +73,14 @@ fn put_bulk(bulk: &Bulk, out: &mut Vec<u8>) -> Result<(), Refusal>
 /// Puts a request at the end.
 fn put_request(request: &Request, out: &mut Vec<u8>) -> Result<(), Refusal>
     ensures ok { OnOk result (out.new.items ≡ out.old.items ++ request_bytes request.now) }
-    ensures bound { OnOk result (length (request_bytes request.now) ≤ 8456) }
+    ensures bound { OnOk result (length (request_bytes request.now)
+        ≤ 1 + wire_layout.key_width + wire_layout.key_limit + 8198) }
     ensures err { IfErr result (λ refusal. refusal ≡ NoMemory) }
 {
     match request {
         Request::Read(read) => put_read(read, out),
         Request::Change(command) => {
+            let _key = command.key.as_str();
             let _len = record_len(Version::Second, command);
             encode(Version::Second, command, out)
         }
