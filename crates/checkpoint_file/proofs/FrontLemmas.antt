@@ -1,8 +1,8 @@
 -- The reader of a checkpoint's file goes from one place of the body to another.
-use Rattle.std.proofs.Common.{◌≡◌, ◌<◌, ◌≤◌, ◌^◌, ℕ, ◌+◌, List, length, sym, subst, ◌∙◌, arith}
+use Rattle.std.proofs.Common.{◌≤◌, ℕ, sym, subst, ◌∙◌, arith}
 use Rattle.file_pieces.specs.Pieces.{ReaderState, end_of, pieces_in}
 use Rattle.checkpoint_file.specs.declared.unread.Unread.{Unread}
-use Rattle.checkpoint_file.specs.Front.{IsAt, IsBefore}
+use Rattle.checkpoint_file.specs.Front.{IsAt}
 use Rattle.checkpoint_file.specs.Loads.{IsBehind}
 
 pub goes_to : (r : ReaderState) (u v : Unread) → IsAt r u → IsBehind u v → u.at ≤ v.at → v.at ≤ end_of r → IsAt r v

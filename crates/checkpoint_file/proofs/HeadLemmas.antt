@@ -6,6 +6,7 @@ use Rattle.byteorder.specs.Endian.{big_from}
 use Rattle.byteorder.specs.Numbers.{big_from-take}
 use Rattle.map_types.specs.declared.refusals.Refusal.TheVariants.{Damaged, WrongVersion}
 use Rattle.store_layout.specs.Checkpoints.{is_sealed}
+use Rattle.store_layout.specs.Logs.{is_read}
 use Rattle.store_layout.specs.Faults.{generation_in, head_fault, number_in, version_in}
 use Rattle.checkpoint_file.specs.declared.head.Head.{Head}
 use Rattle.checkpoint_file.specs.Heads.{HasFields}
@@ -49,8 +50,8 @@ same_test x y e = grind (arith, nat_tests)
 other_test : (x y : ℕ) → x ≢ y → (x == y) ≡ false
 other_test x y e = grind (arith, nat_tests)
 
-pub faultless : (file : ℕ) (content : List ℕ) → is_sealed content ≡ true → version_in content ≡ 1 → generation_in content % 2 ≡ file → head_fault file content ≡ None
-faultless file content s v g = by (is_sealed content) (version_in content == 1) (generation_in content % 2 == file) s (same_test (version_in content) 1 v) (same_test (generation_in content % 2) file g)
+pub faultless : (file : ℕ) (content : List ℕ) → is_sealed content ≡ true → is_read (version_in content) ≡ true → generation_in content % 2 ≡ file → head_fault file content ≡ None
+faultless file content s v g = by (is_sealed content) (is_read (version_in content)) (generation_in content % 2 == file) s v (same_test (generation_in content % 2) file g)
   where
     by : (x y z : Bool) → x ≡ true → y ≡ true → z ≡ true → cond (not x) None (cond (not y) (Some WrongVersion) (cond (not z) (Some (Damaged file 2)) None)) ≡ None
     by true true true p q r = refl
@@ -58,8 +59,8 @@ faultless file content s v g = by (is_sealed content) (version_in content == 1) 
     by true false z p q r = absurd cc
     by false y z p q r = absurd cc
 
-pub misplaced : (file : ℕ) (content : List ℕ) → is_sealed content ≡ true → version_in content ≡ 1 → generation_in content % 2 ≢ file → head_fault file content ≡ Some (Damaged file 2)
-misplaced file content s v g = by (is_sealed content) (version_in content == 1) (generation_in content % 2 == file) s (same_test (version_in content) 1 v) (other_test (generation_in content % 2) file g)
+pub misplaced : (file : ℕ) (content : List ℕ) → is_sealed content ≡ true → is_read (version_in content) ≡ true → generation_in content % 2 ≢ file → head_fault file content ≡ Some (Damaged file 2)
+misplaced file content s v g = by (is_sealed content) (is_read (version_in content)) (generation_in content % 2 == file) s v (other_test (generation_in content % 2) file g)
   where
     by : (x y z : Bool) → x ≡ true → y ≡ true → z ≡ false → cond (not x) None (cond (not y) (Some WrongVersion) (cond (not z) (Some (Damaged file 2)) None)) ≡ Some (Damaged file 2)
     by true true false p q r = refl

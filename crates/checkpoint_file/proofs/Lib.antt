@@ -1,3 +1,5 @@
+mod Bounds
+pub mod Versions
 mod FileSteps
 mod EntryLemmas
 mod StandingLemmas

@@ -1,6 +1,6 @@
 -- Bytes that stand at a place of a file, and what is behind them.
 use Rattle.std.proofs.Common.{◌≡◌, ◌≤◌, inl, inr, ℕ, ◌+◌, ◌-◌, min, List, ◌++◌, length, take, drop, sym, ap, ap₂, subst, ◌∙◌, append_assoc, arith}
-use Rattle.std.proofs.lemmas.List.{take-append-le, length-append, drop-take, take-take, drop-drop}
+use Rattle.std.proofs.lemmas.List.{take-append-le, length-append}
 use Rattle.std.proofs.Math.Seq.{drop-append_seam}
 use Rattle.disk_model.specs.Calls.{Looks}
 use Rattle.disk_model.specs.Files.{Files}

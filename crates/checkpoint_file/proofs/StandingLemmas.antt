@@ -5,8 +5,8 @@ use Rattle.std.proofs.lemmas.Bool.{cases_eq}
 use Rattle.disk_model.specs.Files.{File, MayLeave, IsTorn, written, synced}
 use Rattle.disk_model.specs.Gates.{Call, IsShut, IsOpening, IsPlaced, called, MayFailTo}
 use Rattle.disk_model.proofs.GateLemmas.{shut_long, shut_written, shut_synced, opening_synced, gate_written, opening_written, opening_torn, left_opening}
-use Rattle.log_records.specs.Layout.{first_layout}
 use Rattle.disk_model.proofs.FileLemmas.{rest_leaves}
+use Rattle.store_layout.specs.Logs.{new_layout}
 use Rattle.store_layout.specs.Checkpoints.{Section, IsWhole, IsCheckpoint, checkpoint_header, greatest_mark, is_sealed, sections_bytes, section_bytes}
 use Rattle.store_layout.proofs.CheckpointLemmas.{sections_push, length-checkpoint_header}
 use Rattle.store_layout.specs.declared.checkpoint_phase.CheckpointPhase.{CheckpointPhase}
@@ -17,7 +17,7 @@ use Rattle.checkpoint_file.proofs.FileSteps.{closed_written, closed_torn, closin
 
 module _ (w : CheckpointState) (sections : List Section) (knows : HasGiven w sections) where
   -- once all sections are there, it may be sealed
-  pub whole : w.count ≡ w.stripes → IsWhole first_layout (checkpoint_of w sections)
+  pub whole : w.count ≡ w.stripes → IsWhole new_layout (checkpoint_of w sections)
   whole all = record {
     generation_fits = knows.generation_fits;
     low_fits = knows.low_fits;
@@ -28,13 +28,13 @@ module _ (w : CheckpointState) (sections : List Section) (knows : HasGiven w sec
     marks = knows.marks;
   }
 
-  sealed : (content rest : List ℕ) → w.count ≡ w.stripes → content ≡ 165 ∷ (written_of w sections ++ rest) → IsCheckpoint first_layout (checkpoint_of w sections) content
+  sealed : (content rest : List ℕ) → w.count ≡ w.stripes → content ≡ 165 ∷ (written_of w sections ++ rest) → IsCheckpoint new_layout (checkpoint_of w sections) content
   sealed content rest all is = record { rest = rest; bytes = is; whole = whole all }
 
   -- ---- what a stop leaves
 
   filled_leaves : (before : List Section) (file : File) (content : List ℕ) → IsFilled before file → MayLeave file content → is_sealed content ≡ false
-  filled_leaves before file content filled left = shut_leaves (filled.space ++ sections_bytes first_layout before) file content filled.shut left
+  filled_leaves before file content filled left = shut_leaves (filled.space ++ sections_bytes new_layout before) file content filled.shut left
 
   opening_leaves : (file : File) (content : List ℕ) → w.count ≡ w.stripes → IsOpening [] (written_of w sections) file → MayLeave file content → IsSealedOrNot w sections content
   opening_leaves file content all opening left =
@@ -45,9 +45,9 @@ module _ (w : CheckpointState) (sections : List Section) (knows : HasGiven w sec
         | inr closed ↦ inl (shut_unsealed parts.0 (behind ++ parts.1) content closed parts.2)
       ]
 
-  settled_leaves : (file : File) (content : List ℕ) → IsSealed w sections file → MayLeave file content → IsCheckpoint first_layout (checkpoint_of w sections) content
+  settled_leaves : (file : File) (content : List ℕ) → IsSealed w sections file → MayLeave file content → IsCheckpoint new_layout (checkpoint_of w sections) content
   settled_leaves file content is left =
-      subst (λ (l : List ℕ). IsCheckpoint first_layout (checkpoint_of w sections) l) (sym (rest_leaves is.content content (subst (λ f. MayLeave f content) is.settled left))) is.checkpoint
+      subst (λ (l : List ℕ). IsCheckpoint new_layout (checkpoint_of w sections) l) (sym (rest_leaves is.content content (subst (λ f. MayLeave f content) is.settled left))) is.checkpoint
 
   -- in each phase
   pub reads_in : (phase : CheckpointPhase) (old : List ℕ) (file : File) → AtPhase phase w old sections file → (content : List ℕ) → MayLeave file content → MayRead phase w old sections content
@@ -69,16 +69,16 @@ module _ (w : CheckpointState) (sections : List Section) (knows : HasGiven w sec
   PlacedIn None file = Unit {0}
   PlacedIn (Some call) file = IsPlaced call file
 
-  filled_long : (before : List Section) (file : File) → IsFilled before file → 36 + length (sections_bytes first_layout before) ≤ length file.seen
+  filled_long : (before : List Section) (file : File) → IsFilled before file → 36 + length (sections_bytes new_layout before) ≤ length file.seen
   filled_long before file filled =
-      omega (arith, shut_long [] (filled.space ++ sections_bytes first_layout before) file filled.shut, length-append filled.space (sections_bytes first_layout before), filled.size)
+      omega (arith, shut_long [] (filled.space ++ sections_bytes new_layout before) file filled.shut, length-append filled.space (sections_bytes new_layout before), filled.size)
 
   -- the bytes before the staged section
-  body_before : (file : File) → (staged : HasStaged w sections file) → w.body ≡ length (sections_bytes first_layout staged.before)
+  body_before : (file : File) → (staged : HasStaged w sections file) → w.body ≡ length (sections_bytes new_layout staged.before)
   body_before file staged =
-      let push : sections_bytes first_layout sections ≡ sections_bytes first_layout staged.before ++ section_bytes first_layout staged.last =
-      ap (sections_bytes first_layout) staged.parts ∙ sections_push first_layout staged.before staged.last in
-      omega (arith, knows.body, ap length push, length-append (sections_bytes first_layout staged.before) (section_bytes first_layout staged.last), ap length staged.bytes)
+      let push : sections_bytes new_layout sections ≡ sections_bytes new_layout staged.before ++ section_bytes new_layout staged.last =
+      ap (sections_bytes new_layout) staged.parts ∙ sections_push new_layout staged.before staged.last in
+      omega (arith, knows.body, ap length push, length-append (sections_bytes new_layout staged.before) (section_bytes new_layout staged.last), ap length staged.bytes)
 
   placed_in : (phase : CheckpointPhase) (old : List ℕ) (file : File) → AtPhase phase w old sections file → PlacedIn (call_in phase w) file
   placed_in Idle old file at = tt
@@ -138,7 +138,7 @@ module _ (w : CheckpointState) (sections : List Section) (knows : HasGiven w sec
 
   cleared : (file : File) → sections ≡ [] → IsShut [] [] file → HasFilled (record w { phase = Ready }) sections (written 1 (replicate 35 0) file)
   cleared file none_given shut =
-      let empty : sections_bytes first_layout sections ≡ [] = ap (sections_bytes first_layout) none_given in
+      let empty : sections_bytes new_layout sections ≡ [] = ap (sections_bytes new_layout) none_given in
       record {
         none_staged = none_left w.section (omega (arith, knows.body, ap length empty));
         filled = record {
@@ -152,29 +152,29 @@ module _ (w : CheckpointState) (sections : List Section) (knows : HasGiven w sec
   section_filled : (file : File) → HasStaged w sections file → IsFilled sections (written (36 + w.body) w.section file)
   section_filled file staged =
       let space = staged.filled.space in
-      let before = sections_bytes first_layout staged.before in
+      let before = sections_bytes new_layout staged.before in
       let at : 1 + length (space ++ before) ≡ 36 + w.body = omega (arith, length-append space before, staged.filled.size, body_before file staged) in
-      let bytes : (space ++ before) ++ w.section ≡ space ++ sections_bytes first_layout sections =
+      let bytes : (space ++ before) ++ w.section ≡ space ++ sections_bytes new_layout sections =
       append_assoc space before w.section
       ∙ ap (λ (l : List ℕ). space ++ (before ++ l)) staged.bytes
-      ∙ ap (λ (l : List ℕ). space ++ l) (sym (ap (sections_bytes first_layout) staged.parts ∙ sections_push first_layout staged.before staged.last)) in
+      ∙ ap (λ (l : List ℕ). space ++ l) (sym (ap (sections_bytes new_layout) staged.parts ∙ sections_push new_layout staged.before staged.last)) in
       record {
         space = space;
         size = staged.filled.size;
-        shut = subst (λ n. IsShut [] (space ++ sections_bytes first_layout sections) (written n w.section file)) at
+        shut = subst (λ n. IsShut [] (space ++ sections_bytes new_layout sections) (written n w.section file)) at
             (subst (λ (l : List ℕ). IsShut [] l (written (1 + length (space ++ before)) w.section file)) bytes (shut_more (space ++ before) w.section file staged.filled.shut));
       }
 
   abbrev header : List ℕ
-  header = checkpoint_header w.generation w.low w.greatest w.stripes w.body
+  header = checkpoint_header new_layout w.generation w.low w.greatest w.stripes w.body
 
   header_shut : (file : File) → HasFilled w sections file → IsShut [] (written_of w sections) (written 1 header file)
   header_shut file has =
-      let body = sections_bytes first_layout sections in
-      let size : length header ≡ length has.filled.space = length-checkpoint_header w.generation w.low w.greatest w.stripes w.body ∙ sym has.filled.size in
+      let body = sections_bytes new_layout sections in
+      let size : length header ≡ length has.filled.space = length-checkpoint_header new_layout w.generation w.low w.greatest w.stripes w.body ∙ sym has.filled.size in
       let body_is : w.body ≡ length body = omega (arith, knows.body, ap length has.none_staged) in
-      let same : header ≡ checkpoint_header w.generation w.low (greatest_mark sections) w.stripes (length body) =
-      ap (λ n. checkpoint_header w.generation w.low n w.stripes w.body) knows.greatest ∙ ap (λ n. checkpoint_header w.generation w.low (greatest_mark sections) w.stripes n) body_is in
+      let same : header ≡ checkpoint_header new_layout w.generation w.low (greatest_mark sections) w.stripes (length body) =
+      ap (λ n. checkpoint_header new_layout w.generation w.low n w.stripes w.body) knows.greatest ∙ ap (λ n. checkpoint_header new_layout w.generation w.low (greatest_mark sections) w.stripes n) body_is in
       subst (λ (l : List ℕ). IsShut [] (l ++ body) (written 1 header file)) same (shut_over header has.filled.space body file size has.filled.shut)
 
   goes_in : (phase : CheckpointPhase) (old : List ℕ) (file : File) → w.phase ≡ phase → AtPhase phase w old sections file
@@ -236,7 +236,7 @@ module _ (w : CheckpointState) (sections : List Section) (knows : HasGiven w sec
 
   filled_torn : (before : List Section) (at size : ℕ) (file new : File) (content : List ℕ) → 1 ≤ at → IsFilled before file → IsTorn at size file new → MayLeave new content → is_sealed content ≡ false
   filled_torn before at size file new content h filled torn left =
-      shut_leaves [] new content (shut_torn_behind at size file new h (shut_less (filled.space ++ sections_bytes first_layout before) file filled.shut) torn) left
+      shut_leaves [] new content (shut_torn_behind at size file new h (shut_less (filled.space ++ sections_bytes new_layout before) file filled.shut) torn) left
 
   failed_reads_in : (phase : CheckpointPhase) (old : List ℕ) (file new : File) → AtPhase phase w old sections file → FailsIn (call_in phase w) file new
       → (content : List ℕ) → MayLeave new content → MayRead phase w old sections content

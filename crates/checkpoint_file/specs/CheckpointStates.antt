@@ -1,9 +1,9 @@
 -- How a checkpoint's file stands between two calls, and what a stop may leave of it.
-use Rattle.std.specs.Prelude.{◌≡◌, ◌≢◌, ◌⊎◌, ℕ, ◌+◌, ◌<◌, ◌^◌, Bool, true, false, ◌==◌, List, [], ◌∷◌, ◌++◌, length}
+use Rattle.std.specs.Prelude.{◌≡◌, ◌≢◌, ◌⊎◌, ℕ, ◌+◌, ◌<◌, ◌^◌, true, false, List, [], ◌∷◌, ◌++◌, length}
 use Rattle.disk_model.specs.Files.{File, Files, MayLeave, at_rest}
 use Rattle.disk_model.specs.Gates.{IsShut, IsOpening, open_gate}
 use Rattle.java_hash.specs.Stripes.{is_stripe_count}
-use Rattle.log_records.specs.Layout.{first_layout}
+use Rattle.store_layout.specs.Logs.{new_layout}
 use Rattle.store_layout.specs.Checkpoints.{Section, Checkpoint, AreMarkedFrom, AreSections, IsCheckpoint, checkpoint_bytes, checkpoint_file, checkpoint_header_bytes, greatest_mark, is_sealed, is_to_close, section_bytes, sections_bytes}
 use Rattle.store_layout.specs.declared.checkpoint_phase.CheckpointPhase.{CheckpointPhase}
 use Rattle.store_layout.specs.declared.checkpoint_phase.CheckpointPhase.TheVariants.{Idle, Gate, GateWritten, GateSynced, Ready, Staged, Header, HeaderWritten, HeaderSynced, Opened, Sealed}
@@ -15,14 +15,14 @@ checkpoint_of w sections = record { generation = w.generation; low = w.low; stri
 
 -- what stands behind the gate once the header is written
 abbrev pub written_of : CheckpointState → List Section → List ℕ
-written_of w sections = checkpoint_bytes first_layout (checkpoint_of w sections)
+written_of w sections = checkpoint_bytes new_layout (checkpoint_of w sections)
 
 -- these sections were given, for the first stripes in order
 pub record HasGiven (w : CheckpointState) (sections : List Section) : Type 0 where
   pub count : w.count ≡ length sections
   pub greatest : w.greatest ≡ greatest_mark sections
-  pub body : w.body + length w.section ≡ length (sections_bytes first_layout sections)
-  pub are : AreSections first_layout w.stripes 0 sections
+  pub body : w.body + length w.section ≡ length (sections_bytes new_layout sections)
+  pub are : AreSections new_layout w.stripes 0 sections
   pub marks : AreMarkedFrom w.low sections
   pub generation_fits : w.generation < 2 ^ 64
   pub low_fits : w.low < 2 ^ 64
@@ -41,14 +41,14 @@ pub record IsClosing (old : List ℕ) (file : File) : Type 0 where
 pub record IsFilled (sections : List Section) (file : File) : Type 0 where
   pub space : List ℕ
   pub size : length space ≡ checkpoint_header_bytes
-  pub shut : IsShut [] (space ++ sections_bytes first_layout sections) file
+  pub shut : IsShut [] (space ++ sections_bytes new_layout sections) file
 
 -- the last of the sections is staged, and those before it are written
 pub record HasStaged (w : CheckpointState) (sections : List Section) (file : File) : Type 0 where
   pub before : List Section
   pub last : Section
   pub parts : sections ≡ before ++ last ∷ []
-  pub bytes : w.section ≡ section_bytes first_layout last
+  pub bytes : w.section ≡ section_bytes new_layout last
   pub filled : IsFilled before file
 
 -- the sections are written, and none is staged
@@ -60,7 +60,7 @@ pub record HasFilled (w : CheckpointState) (sections : List Section) (file : Fil
 pub record IsSealed (w : CheckpointState) (sections : List Section) (file : File) : Type 0 where
   pub content : List ℕ
   pub settled : file ≡ at_rest content
-  pub checkpoint : IsCheckpoint first_layout (checkpoint_of w sections) content
+  pub checkpoint : IsCheckpoint new_layout (checkpoint_of w sections) content
 
 -- how the file stands in each phase
 abbrev pub AtPhase : CheckpointPhase → CheckpointState → List ℕ → List Section → File → Type 0
@@ -85,7 +85,7 @@ pub record Stands (w : CheckpointState) (old : List ℕ) (sections : List Sectio
 
 -- The content is sealed with this very checkpoint, or not at all.
 abbrev pub IsSealedOrNot : CheckpointState → List Section → List ℕ → Type 0
-IsSealedOrNot w sections content = (is_sealed content ≡ false) ⊎ IsCheckpoint first_layout (checkpoint_of w sections) content
+IsSealedOrNot w sections content = (is_sealed content ≡ false) ⊎ IsCheckpoint new_layout (checkpoint_of w sections) content
 
 -- What a stop may leave: the old content, until the closed gate is synced; nothing sealed, until the gate is opened; after the last sync the
 -- sealed checkpoint.
@@ -100,7 +100,7 @@ MayRead Header w old sections content = is_sealed content ≡ false
 MayRead HeaderWritten w old sections content = is_sealed content ≡ false
 MayRead HeaderSynced w old sections content = IsSealedOrNot w sections content
 MayRead Opened w old sections content = IsSealedOrNot w sections content
-MayRead Sealed w old sections content = IsCheckpoint first_layout (checkpoint_of w sections) content
+MayRead Sealed w old sections content = IsCheckpoint new_layout (checkpoint_of w sections) content
 
 -- The other files are as they were at the start, and a stop leaves what the phase allows.
 pub record IsKept (w : CheckpointState) (old : List ℕ) (sections : List Section) (start files : Files) : Type 0 where

@@ -1,7 +1,12 @@
 -- Where the reader of a checkpoint's file has come to.
-use Rattle.std.specs.Prelude.{◌≡◌, ◌<◌, ◌≤◌, ◌^◌, ◌+◌, min}
+use Rattle.std.specs.Prelude.{◌≡◌, ◌<◌, ◌≤◌, ◌^◌, ◌+◌, ℕ, min}
 use Rattle.file_pieces.specs.Pieces.{ReaderState, end_of, pieces_in}
 use Rattle.checkpoint_file.specs.declared.unread.Unread.{Unread}
+
+-- The most bytes of an entry, whatever its version: the length of its key (at most 2), a key of 4,095, and a text of
+-- 4,096 behind its kind and its length (3).
+abbrev pub most_entry_bytes : ℕ
+most_entry_bytes = 8196
 
 -- The reader has not let go of what is unread, all of which the file has, and has read no piece behind it.
 pub record IsBefore (reader : ReaderState) (unread : Unread) : Type 0 where
@@ -19,4 +24,4 @@ pub record IsAt (reader : ReaderState) (unread : Unread) : Type 0 where
 
 -- the next bytes were read, as many as the longest entry has, or all if these are fewer
 abbrev pub Reaches : ReaderState → Unread → Type 0
-Reaches reader unread = unread.at + min unread.left 4355 ≤ end_of reader
+Reaches reader unread = unread.at + min unread.left most_entry_bytes ≤ end_of reader

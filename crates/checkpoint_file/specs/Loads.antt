@@ -8,9 +8,11 @@ use Rattle.disk_model.specs.Files.{Files, now}
 use Rattle.map_types.specs.declared.texts.Value.{Value}
 use Rattle.map_types.specs.declared.refusals.Refusal.{Refusal}
 use Rattle.map_types.specs.declared.refusals.Refusal.TheVariants.{Failed, NoMemory, Damaged}
-use Rattle.log_records.specs.Layout.{first_layout}
+use Rattle.log_records.specs.Layout.{Layout}
 use Rattle.store_layout.specs.Checkpoints.{Section, Checkpoint, IsSection, AreSections, body_offset, entry_bytes, entries_bytes, sections_bytes, is_sealed}
-use Rattle.store_layout.specs.Faults.{AreEntries, head_fault, IsBadCheckpoint}
+use Rattle.store_layout.specs.Faults.{AreEntries, head_fault}
+use Rattle.store_layout.specs.Opening.{IsBadCheckpointIn}
+use Rattle.checkpoint_file.specs.declared.head.Head.{Head}
 use Rattle.checkpoint_file.specs.declared.unread.Unread.{Unread}
 use Rattle.checkpoint_file.specs.declared.loading.LoadedSection.{LoadedSection}
 use Rattle.checkpoint_file.specs.declared.loading.LoadedCheckpoint.{LoadedCheckpoint}
@@ -34,10 +36,10 @@ IsRising read = finite.entries (section_of read).map ≡ read.entries.items
 abbrev pub AreRising : List LoadedSection → Type 0
 AreRising reads = AllByRecursion IsRising reads
 
--- the refusals of a file that no checkpoint is read from
+-- the refusals of a file that no checkpoint is read from; the sections have the layout of the version that the head names
 abbrev pub IsUnloadable : ℕ → List ℕ → Refusal → Type 0
 IsUnloadable file content refusal =
-    (head_fault file content ≡ Some refusal) ⊎ ((is_sealed content ≡ true) × (head_fault file content ≡ None) × IsBadCheckpoint first_layout file content refusal)
+    (head_fault file content ≡ Some refusal) ⊎ ((is_sealed content ≡ true) × (head_fault file content ≡ None) × IsBadCheckpointIn file content refusal)
 
 -- ---- where it stands
 
@@ -59,6 +61,7 @@ ForRest states disk unread P = (rest : List ℕ) → StandsAt (seen_in states di
 -- a later place of the same body
 pub record IsBehind (old new : Unread) : Type 0 where
   pub file : new.file ≡ old.file
+  pub version : new.version ≡ old.version
   pub end : new.at + new.left ≡ old.at + old.left
 
 -- these bytes were read, and what is behind them is not
@@ -79,58 +82,59 @@ abbrev pub IsAbove : List (List ℕ × Value) → List ℕ → Type 0
 IsAbove entries key = (d : List ℕ × Value) → 0 < length entries → is_lt (slice_cmp nat_cmp (get_or entries (length entries - 1) d).0 key) ≡ true
 
 -- no entry that may come next stands at the front
-abbrev pub HasNoNext : ℕ → ℕ → List (List ℕ × Value) → List ℕ → Type 0
-HasNoNext stripes stripe before rest =
-    (entry : List ℕ × Value) (others : List ℕ) → rest ≡ entry_bytes first_layout entry ++ others → AreEntries first_layout stripes stripe (before ++ entry ∷ []) → ⊥
+abbrev pub HasNoNext : Layout → ℕ → ℕ → List (List ℕ × Value) → List ℕ → Type 0
+HasNoNext layout stripes stripe before rest =
+    (entry : List ℕ × Value) (others : List ℕ) → rest ≡ entry_bytes layout entry ++ others → AreEntries layout stripes stripe (before ++ entry ∷ []) → ⊥
 
 -- if the entries before are those of a stripe, they are so with this one behind them
-abbrev pub MayFollow : ℕ → ℕ → List (List ℕ × Value) → List ℕ × Value → Type 0
-MayFollow stripes stripe before entry = AreEntries first_layout stripes stripe before → AreEntries first_layout stripes stripe (before ++ entry ∷ [])
+abbrev pub MayFollow : Layout → ℕ → ℕ → List (List ℕ × Value) → List ℕ × Value → Type 0
+MayFollow layout stripes stripe before entry = AreEntries layout stripes stripe before → AreEntries layout stripes stripe (before ++ entry ∷ [])
 
 -- the entry stands at the front, and takes `used` bytes
-pub record IsNext (entry : List ℕ × Value) (used : ℕ) (rest : List ℕ) : Type 0 where
+pub record IsNext (layout : Layout) (entry : List ℕ × Value) (used : ℕ) (rest : List ℕ) : Type 0 where
   pub others : List ℕ
-  pub spelled : rest ≡ entry_bytes first_layout entry ++ others
-  pub size : used ≡ length (entry_bytes first_layout entry)
+  pub spelled : rest ≡ entry_bytes layout entry ++ others
+  pub size : used ≡ length (entry_bytes layout entry)
 
 -- fewer entries than `count`, and behind these none that may come next
-pub record HasFewer (stripes stripe count : ℕ) (rest : List ℕ) (distance : ℕ) : Type 0 where
+pub record HasFewer (layout : Layout) (stripes stripe count : ℕ) (rest : List ℕ) (distance : ℕ) : Type 0 where
   pub before : List (List ℕ × Value)
-  pub are : AreEntries first_layout stripes stripe before
+  pub are : AreEntries layout stripes stripe before
   pub others : List ℕ
-  pub spelled : rest ≡ entries_bytes first_layout before ++ others
+  pub spelled : rest ≡ entries_bytes layout before ++ others
   pub fewer : length before < count
-  pub none_next : HasNoNext stripes stripe before others
-  pub place : distance ≡ length (entries_bytes first_layout before)
+  pub none_next : HasNoNext layout stripes stripe before others
+  pub place : distance ≡ length (entries_bytes layout before)
 
 -- `count` entries of the stripe were read
-pub record AreSoMany (stripes stripe count : ℕ) (entries : List (List ℕ × Value)) : Type 0 where
-  pub are : AreEntries first_layout stripes stripe entries
+pub record AreSoMany (layout : Layout) (stripes stripe count : ℕ) (entries : List (List ℕ × Value)) : Type 0 where
+  pub are : AreEntries layout stripes stripe entries
   pub so_many : length entries ≡ count
 
 -- ---- sections
 
 -- a section of the stripe was read
-pub record IsLoaded (stripes stripe : ℕ) (read : LoadedSection) : Type 0 where
-  pub fits : IsSection first_layout stripes stripe (section_of read)
+pub record IsLoaded (layout : Layout) (stripes stripe : ℕ) (read : LoadedSection) : Type 0 where
+  pub fits : IsSection layout stripes stripe (section_of read)
   pub rising : IsRising read
 
 -- the sections of the first stripes were read
-pub record AreLoaded (stripes : ℕ) (reads : List LoadedSection) : Type 0 where
-  pub fit : AreSections first_layout stripes 0 (sections_of reads)
+pub record AreLoaded (layout : Layout) (stripes : ℕ) (reads : List LoadedSection) : Type 0 where
+  pub fit : AreSections layout stripes 0 (sections_of reads)
   pub rising : AreRising reads
 
 -- ---- the body
 
 -- the sections of all stripes were read, and they fill the body
-pub record IsBodyOf (stripes : ℕ) (reads : List LoadedSection) (body : List ℕ) : Type 0 where
-  pub loaded : AreLoaded stripes reads
+pub record IsBodyOf (layout : Layout) (stripes : ℕ) (reads : List LoadedSection) (body : List ℕ) : Type 0 where
+  pub loaded : AreLoaded layout stripes reads
   pub one_each : length reads ≡ stripes
-  pub spelled : body ≡ sections_bytes first_layout (sections_of reads)
+  pub spelled : body ≡ sections_bytes layout (sections_of reads)
 
--- where a body of `size` bytes stands
-pub record IsBodyAt (file size : ℕ) (unread : Unread) : Type 0 where
+-- where the body stands of which the file has this head
+pub record IsBodyAt (file : ℕ) (head : Head) (unread : Unread) : Type 0 where
   pub file_is : unread.file ≡ file
+  pub version_is : unread.version ≡ head.version
   pub offset : unread.at ≡ body_offset
-  pub left : unread.left ≡ size
+  pub left : unread.left ≡ head.body_len
   pub fits : unread.at + unread.left < 2 ^ 64

@@ -4,8 +4,9 @@ use Rattle.std.specs.List.{AllByRecursion}
 use Rattle.disk_model.specs.Gates.{Call, writes, syncs, open_gate}
 use Rattle.java_hash.specs.Stripes.{is_stripe_count, stripe_of}
 use Rattle.map_types.specs.declared.texts.Value.{Value}
-use Rattle.log_records.specs.Layout.{first_layout}
+use Rattle.log_records.specs.Layout.{Layout}
 use Rattle.log_records.specs.Spelling.{IsText, IsValue}
+use Rattle.store_layout.specs.Logs.{new_layout}
 use Rattle.store_layout.specs.Checkpoints.{body_offset, checkpoint_header, checkpoint_header_bytes, marked_bytes}
 use Rattle.store_layout.specs.declared.checkpoint_phase.CheckpointPhase.{CheckpointPhase}
 use Rattle.store_layout.specs.declared.checkpoint_phase.CheckpointPhase.TheVariants.{Idle, Gate, GateWritten, GateSynced, Ready, Staged, Header, HeaderWritten, HeaderSynced, Opened, Sealed}
@@ -78,8 +79,8 @@ abbrev pub AreKeysOf : ℕ → ℕ → List (List ℕ × Value) → Type 0
 AreKeysOf stripes stripe entries = AllByRecursion (λ (entry : List ℕ × Value). stripe_of stripes entry.0 ≡ stripe) entries
 
 -- the entries have spellings
-abbrev pub AreWellFormed : List (List ℕ × Value) → Type 0
-AreWellFormed entries = AllByRecursion (λ (entry : List ℕ × Value). IsText first_layout.key_limit entry.0 × IsValue entry.1) entries
+abbrev pub AreWellFormed : Layout → List (List ℕ × Value) → Type 0
+AreWellFormed layout entries = AllByRecursion (λ (entry : List ℕ × Value). IsText layout.key_limit entry.0 × IsValue entry.1) entries
 
 -- a section is staged behind those before it
 abbrev pub with_section : ℕ → List (List ℕ × Value) → CheckpointState → CheckpointState
@@ -87,7 +88,7 @@ with_section mark entries w = record w {
   phase = Staged;
   count = w.count + 1;
   greatest = max w.greatest mark;
-  section = marked_bytes first_layout mark entries;
+  section = marked_bytes new_layout mark entries;
 }
 
 -- the device call that comes next in each phase
@@ -98,7 +99,7 @@ call_in GateWritten w = Some syncs
 call_in GateSynced w = Some (writes 1 (replicate checkpoint_header_bytes 0))
 call_in Ready w = None
 call_in Staged w = Some (writes (body_offset + w.body) w.section)
-call_in Header w = Some (writes 1 (checkpoint_header w.generation w.low w.greatest w.stripes w.body))
+call_in Header w = Some (writes 1 (checkpoint_header new_layout w.generation w.low w.greatest w.stripes w.body))
 call_in HeaderWritten w = Some syncs
 call_in HeaderSynced w = Some (writes 0 (open_gate ∷ []))
 call_in Opened w = Some syncs
@@ -122,5 +123,5 @@ state_after Sealed w = w
 pub record IsSound (w : CheckpointState) : Type 0 where
   pub few : w.count ≤ w.stripes
   pub allowed : is_stripe_count w.stripes ≡ true
-  -- a section has at most 2^45 bytes
-  pub room : w.body + length w.section ≤ w.count * 2 ^ 45
+  -- a section has at most 2^46 bytes
+  pub room : w.body + length w.section ≤ w.count * 2 ^ 46

@@ -5,7 +5,7 @@ ghost use Rattle.file_pieces.specs.Counting.{Made, ReadsPieces, ReadsAtMost};
 ghost use Rattle.file_pieces.specs.Pieces.{Holds, end_of};
 ghost use Rattle.checkpoint_file.specs.Heads.{failed_in};
 ghost use Rattle.checkpoint_file.specs.Loads.{seen_in, StandsAt, ForRest, RefusesIn};
-ghost use Rattle.checkpoint_file.specs.Front.{IsAt, IsBefore, Reaches};
+ghost use Rattle.checkpoint_file.specs.Front.{IsAt, IsBefore, Reaches, most_entry_bytes};
 
 use crate::unread::Unread;
 use disk_model::Disk;
@@ -13,8 +13,9 @@ use file_pieces::{FileReader, ReadFault};
 use map_types::Refusal;
 use std::alloc::Global;
 
-/// The longest entry has a key of 255 bytes and a text of 4,096.
-const MOST_ENTRY_BYTES: usize = 4_355;
+/// An entry has at most a key of 4,095 bytes behind its length (2), and a text of 4,096 behind its
+/// kind and its length (3).
+const MOST_ENTRY_BYTES: usize = 8_196;
 
 /// Begins to read the file of a checkpoint.
 pub(crate) fn begin_file<D: Disk>(
@@ -145,7 +146,7 @@ pub(crate) fn fetch<D: Disk>(
 pub(crate) fn front(reader: &FileReader, unread: Unread) -> &[u8]
     requires at { IsAt reader.now unread }
     requires reaches { Reaches reader.now unread }
-    ensures size { length result.now ≡ min unread.left 4355 }
+    ensures size { length result.now ≡ min unread.left most_entry_bytes }
     ensures same { (content rest : List ℕ) → Holds content reader.now
         → StandsAt content unread.at rest → length rest ≡ unread.left
         → result.now ≡ take (length result.now) rest }

@@ -1,20 +1,24 @@
 //! The head of a checkpoint's file.
-ghost use Rattle.std.specs.Prelude.{◌≡◌, ◌⊎◌, ◌<◌, Some, false, IfOk, IfErr, OnOk, IfSome, IfNone};
+ghost use Rattle.std.specs.Prelude.{◌≡◌, ◌⊎◌, ◌<◌, Some, true, false, IfOk, IfErr, OnOk, IfSome, IfNone};
 ghost use Rattle.disk_model.specs.Calls.{Looks};
 ghost use Rattle.disk_model.specs.Files.{now};
 ghost use Rattle.file_pieces.specs.Counting.{Made};
+ghost use Rattle.log_records.specs.Layout.{layout_of};
 ghost use Rattle.store_layout.specs.Checkpoints.{is_sealed};
 ghost use Rattle.store_layout.specs.Faults.{head_fault};
+ghost use Rattle.store_layout.specs.Logs.{is_read};
 ghost use Rattle.checkpoint_file.specs.Heads.{HasFields, IsHead, failed_in};
 
 use byteorder::{BigEndian, ByteOrder};
 use disk_model::Disk;
+use log_records::Version;
 use map_types::Refusal;
-use store_layout::{BODY_OFFSET, OPEN_GATE, VERSION};
+use store_layout::{BODY_OFFSET, OPEN_GATE};
 
 /// What the header of a sealed checkpoint says.
 #[derive(Clone, Copy, Debug, PartialEq, Eq)]
 pub struct Head {
+    pub version: Version,
     pub generation: u64,
     pub low: u64,
     pub greatest_mark: u64,
@@ -24,11 +28,22 @@ pub struct Head {
     pub body_len: u64,
 }
 
-/// The fields in the gate and the header.
-fn fields_of(bytes: &[u8; BODY_OFFSET]) -> Head
-    ensures { HasFields result bytes.now }
+/// The version with this byte; `None` if an opening doesn't read it.
+fn version_of_file(byte: u8) -> Option<Version>
+    ensures some { IfSome result (λ version. ((layout_of version).version ≡ byte)
+        × (is_read byte ≡ true)) }
+    ensures none { IfNone result (is_read byte ≡ false) }
+{
+    Version::of(byte)
+}
+
+/// The fields in the gate and the header, which are of this version.
+fn fields_of(version: Version, bytes: &[u8; BODY_OFFSET]) -> Head
+    ensures fields { HasFields result bytes.now }
+    ensures version { result.version ≡ version }
 {
     Head {
+        version,
         generation: BigEndian::read_u64(&bytes[2..]),
         low: BigEndian::read_u64(&bytes[10..]),
         greatest_mark: BigEndian::read_u64(&bytes[18..]),
@@ -65,10 +80,10 @@ pub fn read_head<D: Disk>(disk: &mut D, file: usize) -> Result<Option<Head>, Ref
     if count < BODY_OFFSET || bytes[0] != OPEN_GATE {
         return Ok(None);
     }
-    if bytes[1] != VERSION {
+    let Some(version) = version_of_file(bytes[1]) else {
         return Err(Refusal::WrongVersion);
-    }
-    let head = fields_of(&bytes);
+    };
+    let head = fields_of(version, &bytes);
     if head.generation % 2 != file as u64 {
         let file = file as u8;
         return Err(Refusal::Damaged { file, offset: 2 });

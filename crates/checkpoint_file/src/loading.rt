@@ -5,10 +5,11 @@ ghost use Rattle.disk_model.specs.Calls.{Looks};
 ghost use Rattle.disk_model.specs.Files.{now};
 ghost use Rattle.file_pieces.specs.Counting.{Made, MadeAtMost, ReadsPieces, ReadsAtMost};
 ghost use Rattle.file_pieces.specs.Pieces.{Holds, end_of, pieces_in};
-ghost use Rattle.log_records.specs.Layout.{first_layout};
+ghost use Rattle.log_records.specs.Layout.{layout_of};
 ghost use Rattle.store_layout.specs.Checkpoints.{IsCheckpoint, sections_bytes, is_sealed};
 ghost use Rattle.store_layout.specs.Calls.{checkpoint_calls};
-ghost use Rattle.store_layout.specs.Faults.{HasFault, IsBadCheckpoint, body_length_in, size_fault};
+ghost use Rattle.store_layout.specs.Faults.{HasFault, IsBadCheckpoint, body_length_in, size_fault, version_in};
+ghost use Rattle.store_layout.specs.Opening.{IsCheckpointIn};
 ghost use Rattle.checkpoint_file.specs.Heads.{HasFields, IsHead, failed_in};
 ghost use Rattle.checkpoint_file.specs.Loads.{checkpoint_of, sections_of, AreRising, IsUnloadable, seen_in, ForRest, IsBehind, GoesOn, RefusesIn, AreLoaded, IsBodyOf, IsBodyAt};
 ghost use Rattle.checkpoint_file.specs.Front.{IsAt};
@@ -22,6 +23,7 @@ use crate::unread::Unread;
 use disk_model::Disk;
 use file_pieces::FileReader;
 use java_hash::StripeCount;
+use log_records::Version;
 use map_types::{Key, Refusal, Value};
 use std::alloc::Global;
 use store_layout::BODY_OFFSET;
@@ -36,6 +38,7 @@ pub struct LoadedSection {
 /// A sealed checkpoint, with a section for each of its stripes in order.
 #[derive(Drop)]
 pub struct LoadedCheckpoint {
+    pub version: Version,
     pub generation: u64,
     pub low: u64,
     pub stripes: StripeCount,
@@ -67,16 +70,17 @@ fn all_sections<D: Disk>(
     // One section for each stripe; they stand there if the disk is honest.
     ensures behind { IfOk result (λ x. IsBehind unread x.1) }
     ensures many { IfOk result (λ x. length x.0.items ≡ stripes.count) }
-    ensures loaded { IfOk result (λ x. AreLoaded stripes.count x.0.items) }
+    ensures loaded { IfOk result (λ x.
+        AreLoaded (layout_of unread.version) stripes.count x.0.items) }
     ensures ok { D.honest disk.new → ForRest D.states disk.old unread (λ rest. IfOk result (λ x.
         GoesOn (seen_in D.states disk.old unread.file)
-        (sections_bytes first_layout (sections_of x.0.items)) rest x.1)) }
+        (sections_bytes (layout_of unread.version) (sections_of x.0.items)) rest x.1)) }
 
     // Refused: a failed call, no memory, or the first fault in the body.
     ensures err { IfErr result
         (RefusesIn unread.file (λ offset. D.honest disk.new
         → ForRest D.states disk.old unread (λ rest. (distance : ℕ) × (offset ≡ unread.at + distance)
-        × HasFault first_layout stripes.count rest distance))) }
+        × HasFault (layout_of unread.version) stripes.count rest distance))) }
 {
     let mut sections = Vec::new(alloc);
     let mut rest = unread;
@@ -113,15 +117,17 @@ fn whole_body<D: Disk>(
         (ReadsAtMost D.states disk.old disk.new reader.old (unread.at + unread.left)) }
 
     // The stripes' sections. If the disk is honest none is missing, and they fill the body.
-    ensures loaded { IfOk result (λ sections. AreLoaded stripes.count sections.items) }
+    ensures loaded { IfOk result (λ sections.
+        AreLoaded (layout_of unread.version) stripes.count sections.items) }
     ensures ok { D.honest disk.new → ForRest D.states disk.old unread (λ rest.
-        IfOk result (λ sections. IsBodyOf stripes.count sections.items rest)) }
+        IfOk result (λ sections.
+        IsBodyOf (layout_of unread.version) stripes.count sections.items rest)) }
 
     // Refused: a failed call, no memory, or the first fault in the body.
     ensures err { IfErr result
         (RefusesIn unread.file (λ offset. D.honest disk.new
         → ForRest D.states disk.old unread (λ rest. (distance : ℕ) × (offset ≡ unread.at + distance)
-        × HasFault first_layout stripes.count rest distance))) }
+        × HasFault (layout_of unread.version) stripes.count rest distance))) }
 {
     let (sections, behind) = all_sections(alloc, disk, reader, unread, stripes)?;
     if behind.left > 0 {
@@ -137,7 +143,7 @@ fn body_of(file: u8, head: &Head, len: usize) -> Result<(StripeCount, Unread), R
 
     // The count of stripes is allowed, and the body is inside the file.
     ensures place { IfOk result (λ x. (x.0.count ≡ head.now.stripes)
-        × IsBodyAt file head.now.body_len x.1) }
+        × IsBodyAt file head.now x.1) }
     ensures inside { OnOk result (36 + head.now.body_len ≤ len) }
     ensures ok { (content : List ℕ) → len ≡ length content → HasFields head.now content
         → OnOk result (size_fault file content ≡ None) }
@@ -155,6 +161,7 @@ fn body_of(file: u8, head: &Head, len: usize) -> Result<(StripeCount, Unread), R
     }
     let body = Unread {
         file,
+        version: head.version,
         at: BODY_OFFSET,
         left: head.body_len as usize,
     };
@@ -181,7 +188,7 @@ fn sized_body<D: Disk>(
 
     // The reader has come to the body, whose length the header gives.
     ensures place { IfOk result (λ x. (x.0.count ≡ head.now.stripes)
-        × IsBodyAt file head.now.body_len x.1) }
+        × IsBodyAt file head.now x.1) }
     ensures at { IfOk result (λ x. IsAt x.2 x.1) }
     ensures held { D.honest disk.new → IfOk result (λ x. Holds (seen_in D.states disk.new x.1.file)
         x.2) }
@@ -223,16 +230,18 @@ fn load_body<D: Disk>(
 
     // If the disk is honest this is the file's checkpoint. Its keys stand in order.
     ensures ok { D.honest disk.new → IsHead head.now file (seen_in D.states disk.old file)
-        → IfOk result (λ loaded.
-        IsCheckpoint first_layout (checkpoint_of loaded) (seen_in D.states disk.old file)) }
+        → IfOk result (λ loaded. IsCheckpoint (layout_of head.now.version) (checkpoint_of loaded)
+        (seen_in D.states disk.old file)) }
+    ensures version { IfOk result (λ loaded. loaded.version ≡ head.now.version) }
     ensures loaded { IfOk result (λ loaded.
-        AreLoaded loaded.stripes.count loaded.sections.items) }
+        AreLoaded (layout_of loaded.version) loaded.stripes.count loaded.sections.items) }
 
     // Refused: a failed call, no memory, or the first fault behind the head.
     ensures err { IfErr result (λ refusal. (refusal ≡ Refusal.Failed)
         ⊎ ((refusal ≡ Refusal.NoMemory)
         ⊎ (D.honest disk.new → IsHead head.now file (seen_in D.states disk.old file)
-        → IsBadCheckpoint first_layout file (seen_in D.states disk.old file) refusal))) }
+        → IsBadCheckpoint (layout_of head.now.version) file (seen_in D.states disk.old file)
+        refusal))) }
 {
     let (stripes, body, mut reader) = sized_body(alloc, disk, file, head)?;
     let sections = whole_body(alloc, disk, &mut reader, body, stripes)?;
@@ -242,6 +251,7 @@ fn load_body<D: Disk>(
         return Err(Refusal::Damaged { file, offset: 18 });
     }
     Ok(LoadedCheckpoint {
+        version: head.version,
         generation: head.generation,
         low: head.low,
         stripes,
@@ -272,13 +282,17 @@ pub fn load<D: Disk>(
 
     // The checkpoint that is sealed there with its keys in order, or none is sealed.
     ensures some { D.honest disk.new → IfOk result (λ found. IfSome found (λ loaded.
-        IsCheckpoint first_layout (checkpoint_of loaded) (now (D.states disk.old) file).seen)) }
+        IsCheckpointIn (checkpoint_of loaded) (now (D.states disk.old) file).seen)) }
     ensures loaded { IfOk result (λ found. IfSome found (λ loaded.
-        AreLoaded loaded.stripes.count loaded.sections.items)) }
+        AreLoaded (layout_of loaded.version) loaded.stripes.count loaded.sections.items)) }
     ensures rising { IfOk result (λ found. IfSome found (λ loaded.
         AreRising loaded.sections.items)) }
     ensures none { D.honest disk.new → IfOk result (λ found. IfNone found
         (is_sealed (now (D.states disk.old) file).seen ≡ false)) }
+
+    // The version is the one that the file's head names.
+    ensures version { D.honest disk.new → IfOk result (λ found. IfSome found (λ loaded.
+        (layout_of loaded.version).version ≡ version_in (now (D.states disk.old) file).seen)) }
 
     // Refused: a failed call, no memory, or the file's first fault.
     ensures err { IfErr result (λ refusal. (refusal ≡ Refusal.Failed)

@@ -4,7 +4,7 @@ ghost use Rattle.byteorder.specs.Endian.{big_bytes};
 ghost use Rattle.disk_model.specs.Calls.{Looks};
 ghost use Rattle.file_pieces.specs.Counting.{ReadsPieces, ReadsAtMost};
 ghost use Rattle.file_pieces.specs.Pieces.{Holds, end_of};
-ghost use Rattle.log_records.specs.Layout.{first_layout};
+ghost use Rattle.log_records.specs.Layout.{layout_of};
 ghost use Rattle.store_layout.specs.Checkpoints.{entries_bytes, section_bytes};
 ghost use Rattle.store_layout.specs.Faults.{IsFault};
 ghost use Rattle.checkpoint_file.specs.Heads.{failed_in};
@@ -92,19 +92,19 @@ fn next_entry<D: Disk>(
         → OnOk result (Holds (seen_in D.states disk.new unread.file) reader.new) }
     ensures few { IfOk result (λ x. x.1 ≤ unread.left) }
     ensures follows { IfOk result (λ x.
-        MayFollow stripe.of.count stripe.number before.now x.0) }
+        MayFollow (layout_of unread.version) stripe.of.count stripe.number before.now x.0) }
     ensures ok { D.honest disk.new → ForRest D.states disk.old unread (λ rest.
-        IfOk result (λ x. IsNext x.0 x.1 rest)) }
+        IfOk result (λ x. IsNext (layout_of unread.version) x.0 x.1 rest)) }
 
     // Refused: a failed call, no memory, or no entry that may come next.
     ensures err { IfErr result
         (RefusesIn unread.file (λ offset. D.honest disk.new
         → ForRest D.states disk.old unread (λ rest. (offset ≡ unread.at)
-        × HasNoNext stripe.of.count stripe.number before.now rest))) }
+        × HasNoNext (layout_of unread.version) stripe.of.count stripe.number before.now rest))) }
 {
     fetch(disk, reader, unread)?;
     let bytes = front(reader, unread);
-    let Some((entry, others)) = entry_at(alloc, bytes)? else {
+    let Some((entry, others)) = entry_at(unread.version, alloc, bytes)? else {
         return Err(unread.damaged());
     };
     if !may_follow(before, &entry.0, stripe) {
@@ -141,16 +141,17 @@ fn entries<D: Disk>(
     ensures held { D.honest disk.new
         → OnOk result (Holds (seen_in D.states disk.new unread.file) reader.new) }
     ensures behind { IfOk result (λ x. IsBehind unread x.1) }
-    ensures many { IfOk result (λ x. AreSoMany stripe.of.count stripe.number count x.0.items) }
+    ensures many { IfOk result (λ x.
+        AreSoMany (layout_of unread.version) stripe.of.count stripe.number count x.0.items) }
     ensures ok { D.honest disk.new → ForRest D.states disk.old unread (λ rest. IfOk result (λ x.
         GoesOn (seen_in D.states disk.old unread.file)
-        (entries_bytes first_layout x.0.items) rest x.1)) }
+        (entries_bytes (layout_of unread.version) x.0.items) rest x.1)) }
 
     // Refused: a failed call, no memory, or fewer entries than `count`.
     ensures err { IfErr result
         (RefusesIn unread.file (λ offset. D.honest disk.new
         → ForRest D.states disk.old unread (λ rest. (distance : ℕ) × (offset ≡ unread.at + distance)
-        × HasFewer stripe.of.count stripe.number count rest distance))) }
+        × HasFewer (layout_of unread.version) stripe.of.count stripe.number count rest distance))) }
 {
     let mut entries = Vec::new(alloc);
     let mut rest = unread;
@@ -189,16 +190,17 @@ pub(crate) fn section<D: Disk>(
     ensures held { D.honest disk.new
         → OnOk result (Holds (seen_in D.states disk.new unread.file) reader.new) }
     ensures behind { IfOk result (λ x. IsBehind unread x.1) }
-    ensures loaded { IfOk result (λ x. IsLoaded stripe.of.count stripe.number x.0) }
+    ensures loaded { IfOk result (λ x.
+        IsLoaded (layout_of unread.version) stripe.of.count stripe.number x.0) }
     ensures ok { D.honest disk.new → ForRest D.states disk.old unread (λ rest. IfOk result (λ x.
         GoesOn (seen_in D.states disk.old unread.file)
-        (section_bytes first_layout (section_of x.0)) rest x.1)) }
+        (section_bytes (layout_of unread.version) (section_of x.0)) rest x.1)) }
 
     // Refused: a failed call, no memory, or the section's first fault.
     ensures err { IfErr result
         (RefusesIn unread.file (λ offset. D.honest disk.new
         → ForRest D.states disk.old unread (λ rest. (distance : ℕ) × (offset ≡ unread.at + distance)
-        × IsFault first_layout stripe.of.count stripe.number rest distance))) }
+        × IsFault (layout_of unread.version) stripe.of.count stripe.number rest distance))) }
 {
     let (mark, count) = section_head(disk, reader, unread)?;
     let behind = unread.behind(SECTION_HEAD_BYTES);

@@ -1,7 +1,7 @@
 //! The pieces of a section, out of bytes.
 ghost use Rattle.std.specs.Prelude.{◌≡◌, ◌≢◌, ◌↔◌, ◌<◌, ◌^◌, ◌++◌, ℕ, List, length, IfOk, IfErr, IfSome, IfNone, IsTrue};
 ghost use Rattle.byteorder.specs.Endian.{big_bytes};
-ghost use Rattle.log_records.specs.Layout.{first_layout};
+ghost use Rattle.log_records.specs.Layout.{layout_of};
 ghost use Rattle.log_records.specs.Reading.{Gives, both_at, key_at, some_value_at};
 ghost use Rattle.log_records.specs.Spelling.{IsText, IsValue};
 ghost use Rattle.map_types.specs.declared.texts.Value.{Value};
@@ -34,29 +34,36 @@ pub(crate) fn mark_and_count(head: &[u8]) -> (u64, usize)
 }
 
 // The key and the value at the front.
-fn key_and_value(alloc: Global, bytes: &[u8]) -> Result<((Key, Value), &[u8]), Refusal>
+fn key_and_value(
+    version: Version,
+    alloc: Global,
+    bytes: &[u8],
+) -> Result<((Key, Value), &[u8]), Refusal>
     ensures { Gives (λ x. (x.0, x.1.now)) result
-        (both_at (key_at first_layout) some_value_at bytes.now) }
+        (both_at (key_at (layout_of version)) some_value_at bytes.now) }
 {
-    let (key, rest) = key_at(Version::First, alloc, bytes)?;
+    let (key, rest) = key_at(version, alloc, bytes)?;
     let (value, rest) = some_value_at(alloc, rest)?;
     Ok(((key, value), rest))
 }
 
 /// The entry at the front and the bytes behind it; `None` if no entry stands there.
 pub(crate) fn entry_at(
+    version: Version,
     alloc: Global,
     bytes: &[u8],
 ) -> Result<Option<((Key, Value), &[u8])>, Refusal>
-    ensures some { IfOk result (λ found. IfSome found (λ x. IsText 255 x.0.0 × IsValue x.0.1
-        × (bytes.now ≡ entry_bytes first_layout x.0 ++ x.1.now))) }
+    ensures some { IfOk result (λ found. IfSome found (λ x.
+        IsText (layout_of version).key_limit x.0.0 × IsValue x.0.1
+        × (bytes.now ≡ entry_bytes (layout_of version) x.0 ++ x.1.now))) }
     ensures none { IfOk result (λ found.
         IfNone found
-        ((entry : List ℕ × Value) (rest : List ℕ) → IsText 255 entry.0 → IsValue entry.1
-        → bytes.now ≢ entry_bytes first_layout entry ++ rest)) }
+        ((entry : List ℕ × Value) (rest : List ℕ)
+        → IsText (layout_of version).key_limit entry.0 → IsValue entry.1
+        → bytes.now ≢ entry_bytes (layout_of version) entry ++ rest)) }
     ensures err { IfErr result (λ refusal. refusal ≡ Refusal.NoMemory) }
 {
-    match key_and_value(alloc, bytes) {
+    match key_and_value(version, alloc, bytes) {
         Ok(found) => Ok(Some(found)),
         Err(refusal) => match refusal {
             Refusal::NoMemory => Err(refusal),

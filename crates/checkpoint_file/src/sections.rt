@@ -1,15 +1,15 @@
 //! The bytes that a checkpoint writes.
 ghost use Rattle.std.specs.Prelude.{◌≡◌, ◌≤◌, ◌<◌, ◌^◌, ◌+◌, ◌*◌, ◌++◌, length, IfOk, OnOk, IfErr};
 ghost use Rattle.std.specs.List.{AllByRecursion};
-ghost use Rattle.log_records.specs.Layout.{first_layout};
 ghost use Rattle.store_layout.specs.Checkpoints.{checkpoint_header, entries_bytes, marked_bytes};
+ghost use Rattle.store_layout.specs.Logs.{new_layout};
 ghost use Rattle.checkpoint_file.specs.States.{AreWellFormed};
 
 use java_hash::StripeCount;
-use log_records::{Version, put_key, put_number, put_value};
+use log_records::{put_key, put_number, put_value};
 use map_types::{Key, Refusal, Value};
 use std::alloc::Global;
-use store_layout::{CHECKPOINT_HEADER_BYTES, VERSION};
+use store_layout::{CHECKPOINT_HEADER_BYTES, NEW_VERSION};
 
 /// The header of a checkpoint: its generation, its low ticket, its greatest mark, its stripes, and
 /// the length of its body in bytes.
@@ -20,9 +20,9 @@ pub fn header(
     stripes: StripeCount,
     body: u64,
 ) -> [u8; CHECKPOINT_HEADER_BYTES]
-    ensures { result ≡ checkpoint_header generation low greatest stripes.count body }
+    ensures { result ≡ checkpoint_header new_layout generation low greatest stripes.count body }
 {
-    let mut bytes = [VERSION; CHECKPOINT_HEADER_BYTES];
+    let mut bytes = [NEW_VERSION.byte(); CHECKPOINT_HEADER_BYTES];
     bytes[1..9].copy_from_slice(&generation.to_be_bytes());
     bytes[9..17].copy_from_slice(&low.to_be_bytes());
     bytes[17..25].copy_from_slice(&greatest.to_be_bytes());
@@ -34,12 +34,14 @@ pub fn header(
 /// Puts the entries at the end, or some of them if no memory is found.
 fn append_entries(entries: &[(Key, Value)], out: &mut Vec<u8>) -> Result<(), Refusal>
     ensures ok { OnOk result
-        (out.new.items ≡ out.old.items ++ entries_bytes first_layout entries.now) }
-    ensures fits { OnOk result (AreWellFormed entries.now) }
+        (out.new.items ≡ out.old.items ++ entries_bytes new_layout entries.now) }
+    ensures fits { OnOk result (AreWellFormed new_layout entries.now) }
     ensures err { IfErr result (λ refusal. refusal ≡ Refusal.NoMemory) }
 {
     for (key, value) in entries {
-        put_key(Version::First, key, out)?;
+        // Each key is within the limit of the new version.
+        let _key = key.as_str();
+        put_key(NEW_VERSION, key, out)?;
         put_value(value, out)?;
     }
     Ok(())
@@ -52,9 +54,9 @@ pub(crate) fn section_bytes(
     entries: &[(Key, Value)],
 ) -> Result<Vec<u8>, Refusal>
     requires { length entries.now < 2 ^ 32 }
-    ensures ok { IfOk result (λ bytes. bytes.items ≡ marked_bytes first_layout mark entries.now) }
-    ensures fits { OnOk result (AreWellFormed entries.now) }
-    ensures bound { IfOk result (λ bytes. length bytes.items ≤ 2 ^ 45) }
+    ensures ok { IfOk result (λ bytes. bytes.items ≡ marked_bytes new_layout mark entries.now) }
+    ensures fits { OnOk result (AreWellFormed new_layout entries.now) }
+    ensures bound { IfOk result (λ bytes. length bytes.items ≤ 2 ^ 46) }
     ensures err { IfErr result (λ refusal. refusal ≡ Refusal.NoMemory) }
 {
     let mut bytes = Vec::new(alloc);

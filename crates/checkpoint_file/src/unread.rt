@@ -2,12 +2,14 @@
 ghost use Rattle.std.specs.Prelude.{◌≡◌, ◌+◌, ◌≤◌, ◌<◌, ◌^◌};
 ghost use Rattle.checkpoint_file.specs.Loads.{IsBehind};
 
+use log_records::Version;
 use map_types::Refusal;
 
-/// The `left` bytes from the offset `at` of the file on.
+/// The `left` bytes from the offset `at` of the file on, whose entries are of this version.
 #[derive(Clone, Copy)]
 pub(crate) struct Unread {
     pub file: u8,
+    pub version: Version,
     pub at: usize,
     pub left: usize,
 }
@@ -23,6 +25,7 @@ impl Unread {
     {
         Unread {
             file: self.file,
+            version: self.version,
             at: self.at + count,
             left: self.left - count,
         }

@@ -20,6 +20,7 @@ ghost use Rattle.disk_model.specs.Gates.{Call, IsPlaced};
 ghost use Rattle.disk_model.specs.Calls.{Makes, Fails};
 ghost use Rattle.map_model.specs.Maps.{Map};
 ghost use Rattle.store_layout.specs.Checkpoints.{Section, checkpoint_file, checkpoint_header, is_to_close};
+ghost use Rattle.store_layout.specs.Logs.{new_layout};
 ghost use Rattle.checkpoint_file.specs.States.{AreKeysOf, IsOver, TakesSeal, TakesSection, begun, call_in, idle, state_after, with_section};
 ghost use Rattle.checkpoint_file.specs.CheckpointStates.{Stands};
 ghost use Rattle.checkpoint_file.specs.CheckpointSteps.{Advances, MayAdvance};
@@ -239,13 +240,13 @@ impl CheckpointWriter {
         ensures ok { OnOk result
             (Makes D.states D.failures (checkpoint_file self.now.generation)
             (Call.writes 1
-            (checkpoint_header self.now.generation self.now.low self.now.greatest self.now.stripes
-            self.now.body)) disk.old disk.new) }
+            (checkpoint_header new_layout self.now.generation self.now.low self.now.greatest
+            self.now.stripes self.now.body)) disk.old disk.new) }
         ensures err { OnErr result
             (Fails D.states D.failures (checkpoint_file self.now.generation)
             (Call.writes 1
-            (checkpoint_header self.now.generation self.now.low self.now.greatest self.now.stripes
-            self.now.body)) disk.old disk.new) }
+            (checkpoint_header new_layout self.now.generation self.now.low self.now.greatest
+            self.now.stripes self.now.body)) disk.old disk.new) }
     {
         let bytes = header(
             self.generation,

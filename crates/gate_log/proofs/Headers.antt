@@ -1,10 +1,11 @@
 -- The header that was read is the file's.
-use Rattle.std.proofs.Common.{◌≡◌, ℕ, ◌-◌, min, List, [], ◌∷◌, ◌++◌, length, take, drop, sym, ap, ◌∙◌, append_assoc, arith}
+use Rattle.std.proofs.Common.{◌≡◌, ℕ, ◌-◌, min, List, [], ◌∷◌, ◌++◌, length, slice_index_or, take, drop, sym, ap, ◌∙◌, append_assoc, arith}
 use Rattle.std.proofs.lemmas.List.{take_min, length-append, length-take, take-append-drop, append-nil}
 use Rattle.byteorder.specs.Endian.{big_bytes}
 use Rattle.byteorder.specs.Numbers.{length-bytes_high_first}
 use Rattle.map_types.specs.declared.refusals.Refusal.{Refusal}
-use Rattle.log_records.specs.Layout.{first_layout}
+use Rattle.log_records.specs.declared.versions.Version.{Version}
+use Rattle.log_records.specs.Layout.{layout_of}
 use Rattle.store_layout.specs.Logs.{header}
 use Rattle.store_layout.specs.Readings.{HasHeader, IsBadHeader, too_short, wrong_version, wrong_generation, wrong_low}
 use Rattle.file_pieces.specs.Pieces.{ReaderState, Holds}
@@ -20,23 +21,27 @@ header_more version generation low content h = record {
   low_fits = h.low_fits;
 }
 
+-- the version is the first byte
+pub version_first : (version generation low : ℕ) (content : List ℕ) → HasHeader version generation low (take 18 content) → version ≡ slice_index_or content 0 0
+version_first version generation low content h = ap (λ (l : List ℕ). slice_index_or l 0 0) (sym (header_more version generation low content h).bytes)
+
 -- what is wrong with the first 18 bytes is wrong with the file
 pub bad_header : (generation low : ℕ) (content : List ℕ) (refusal : Refusal) → IsBadHeader generation low (take 18 content) refusal → IsBadHeader generation low content refusal
 bad_header generation low content refusal (too_short short is) = too_short (omega (arith, length-take 18 content)) is
 bad_header generation low content refusal (wrong_version v g l h other is) = wrong_version v g l (header_more v g l content h) other is
-bad_header generation low content refusal (wrong_generation g l h other is) = wrong_generation g l (header_more 1 g l content h) other is
-bad_header generation low content refusal (wrong_low l h other is) = wrong_low l (header_more 1 generation l content h) other is
+bad_header generation low content refusal (wrong_generation v g l h known other is) = wrong_generation v g l (header_more v g l content h) known other is
+bad_header generation low content refusal (wrong_low v l h known other is) = wrong_low v l (header_more v generation l content h) known other is
 
-abbrev at_first : ℕ → ℕ → ReaderState → ScanState
-at_first generation low reader = record { generation = generation; gate = 17; expected = low; reader = reader }
+abbrev at_first : Version → ℕ → ℕ → ReaderState → ScanState
+at_first version generation low reader = record { version = version; generation = generation; gate = 17; expected = low; reader = reader }
 
 -- behind the header that was asked for stands the first gate
-pub header_read : (generation low : ℕ) (content : List ℕ) (reader : ReaderState) → HasHeader 1 generation low (take 18 content) → Holds content reader
-    → HasRead first_layout low [] (at_first generation low reader) content
+pub header_read : (version : Version) (generation low : ℕ) (content : List ℕ) (reader : ReaderState) → HasHeader (layout_of version).version generation low (take 18 content) → Holds content reader
+    → HasRead (layout_of version) low [] (at_first version generation low reader) content
 unfolding header
-header_read generation low content reader first held =
-    let h = header_more 1 generation low content first in
-    let head : List ℕ = 1 ∷ (big_bytes 8 generation ++ big_bytes 8 low) in
+header_read version generation low content reader first held =
+    let h = header_more (layout_of version).version generation low content first in
+    let head : List ℕ = (layout_of version).version ∷ (big_bytes 8 generation ++ big_bytes 8 low) in
     let whole : head ++ [] ≡ head = append-nil head in
     let a = length-append (big_bytes 8 generation) (big_bytes 8 low) in
     let b = length-bytes_high_first 8 generation in

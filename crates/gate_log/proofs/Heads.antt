@@ -4,7 +4,7 @@ use Rattle.std.proofs.lemmas.List.{length-append, take-append-drop, length-take-
 use Rattle.std.proofs.Math.Seq.{drop-cons}
 use Rattle.byteorder.specs.Endian.{big_bytes}
 use Rattle.byteorder.specs.Numbers.{length-bytes_high_first}
-use Rattle.log_records.specs.Layout.{first_layout}
+use Rattle.log_records.specs.Layout.{Layout}
 use Rattle.store_layout.specs.Logs.{Batch as LogBatch, IsBatch, end_frame, frame, records_bytes}
 use Rattle.ticket_order.specs.declared.stripe.Entry.{Entry}
 use Rattle.gate_log.specs.States.{batch_of}
@@ -16,32 +16,32 @@ use Rattle.store_layout.proofs.FrameLemmas.{same_rest, same_number, same_parts, 
 use Rattle.gate_log.proofs.Bodies.{frame_whole, body_of}
 
 -- a batch's frame stands here, behind this kind and this length
-pub record HeadOf (batch : LogBatch) (kind len : ℕ) (tail : List ℕ) (after : ℕ) (behind : List ℕ) : Type 0 where
+pub record HeadOf (layout : Layout) (batch : LogBatch) (kind len : ℕ) (tail : List ℕ) (after : ℕ) (behind : List ℕ) : Type 0 where
   pub kind_is : kind ≡ 1
   pub low : 12 ≤ len
   pub high : len ≤ 1048571
-  pub tail_is : tail ≡ body_of batch ++ after ∷ behind
-  pub size : length (body_of batch) ≡ len
-  pub frame_is : frame first_layout batch ≡ 1 ∷ (big_bytes 4 len ++ body_of batch)
+  pub tail_is : tail ≡ body_of layout batch ++ after ∷ behind
+  pub size : length (body_of layout batch) ≡ len
+  pub frame_is : frame layout batch ≡ 1 ∷ (big_bytes 4 len ++ body_of layout batch)
 
-body_length : (batch : LogBatch) → length (body_of batch) ≡ 12 + length (records_bytes first_layout batch.commands)
-body_length batch =
-    let records : List ℕ = records_bytes first_layout batch.commands in
+body_length : (layout : Layout) (batch : LogBatch) → length (body_of layout batch) ≡ 12 + length (records_bytes layout batch.commands)
+body_length layout batch =
+    let records : List ℕ = records_bytes layout batch.commands in
     let b = length-append (big_bytes 8 batch.first) (big_bytes 4 (length batch.commands) ++ records) in
     let c = length-append (big_bytes 4 (length batch.commands)) records in
     let e = length-bytes_high_first 8 batch.first in
     let f = length-bytes_high_first 4 (length batch.commands) in
     omega arith
 
-pub head_of : (batch : LogBatch) (after : ℕ) (behind rest tail : List ℕ) (kind len : ℕ) → IsBatch first_layout batch → rest ≡ frame first_layout batch ++ after ∷ behind
-    → rest ≡ kind ∷ (big_bytes 4 len ++ tail) → len < 2 ^ 32 → HeadOf batch kind len tail after behind
-head_of batch after behind rest tail kind len fits is head len_fits =
-    let size : ℕ = 12 + length (records_bytes first_layout batch.commands) in
-    let whole : rest ≡ 1 ∷ (big_bytes 4 size ++ (body_of batch ++ after ∷ behind)) =
-    is ∙ ap (λ (l : List ℕ). l ++ after ∷ behind) (frame_whole batch) ∙ ap (λ (l : List ℕ). 1 ∷ l) (append_assoc (big_bytes 4 size) (body_of batch) (after ∷ behind)) in
-    let frame_len = frame_length first_layout batch in
+pub head_of : (layout : Layout) (batch : LogBatch) (after : ℕ) (behind rest tail : List ℕ) (kind len : ℕ) → IsBatch layout batch → rest ≡ frame layout batch ++ after ∷ behind
+    → rest ≡ kind ∷ (big_bytes 4 len ++ tail) → len < 2 ^ 32 → HeadOf layout batch kind len tail after behind
+head_of layout batch after behind rest tail kind len fits is head len_fits =
+    let size : ℕ = 12 + length (records_bytes layout batch.commands) in
+    let whole : rest ≡ 1 ∷ (big_bytes 4 size ++ (body_of layout batch ++ after ∷ behind)) =
+    is ∙ ap (λ (l : List ℕ). l ++ after ∷ behind) (frame_whole layout batch) ∙ ap (λ (l : List ℕ). 1 ∷ l) (append_assoc (big_bytes 4 size) (body_of layout batch) (after ∷ behind)) in
+    let frame_len = frame_length layout batch in
     let short = fits.short in
-    let body_len = body_length batch in
+    let body_len = body_length layout batch in
     let kinds = same_rest kind 1 _ _ (sym head ∙ whole) in
     let lens = same_number 4 len size _ _ len_fits (omega arith) kinds.1 in
     let same : size ≡ len = sym lens.0 in
@@ -51,7 +51,7 @@ head_of batch after behind rest tail kind len fits is head len_fits =
       high = omega (arith, same);
       tail_is = lens.1;
       size = body_len ∙ same;
-      frame_is = frame_whole batch ∙ ap (λ (n : ℕ). 1 ∷ (big_bytes 4 n ++ body_of batch)) same;
+      frame_is = frame_whole layout batch ∙ ap (λ (n : ℕ). 1 ∷ (big_bytes 4 n ++ body_of layout batch)) same;
     }
 
 pub end_head : (next after : ℕ) (behind rest tail : List ℕ) (kind len : ℕ) → rest ≡ end_frame next ++ after ∷ behind → rest ≡ kind ∷ (big_bytes 4 len ++ tail) → len < 2 ^ 32
@@ -64,11 +64,11 @@ end_head next after behind rest tail kind len is head len_fits =
 tail_length : (body : List ℕ) (after : ℕ) (behind tail : List ℕ) → tail ≡ body ++ after ∷ behind → length body < length tail
 tail_length body after behind tail e = omega (arith, ap (λ (l : List ℕ). length l) e, length-append body (after ∷ behind))
 
-module _ (expected next : ℕ) (rest : List ℕ) where
+module _ (layout : Layout) (expected next : ℕ) (rest : List ℕ) where
   -- there are fewer bytes than a kind, a length and a byte behind them
-  pub none_short : length rest < 6 → HasNoFrame first_layout expected next rest
+  pub none_short : length rest < 6 → HasNoFrame layout expected next rest
   none_short short = record {
-    no_batch = λ batch after behind fits first e. absurd (omega (arith, tail_length (frame first_layout batch) after behind rest e, frame_length first_layout batch));
+    no_batch = λ batch after behind fits first e. absurd (omega (arith, tail_length (frame layout batch) after behind rest e, frame_length layout batch));
     no_end = λ after behind fits e. absurd (end_short after behind e);
   }
     where
@@ -83,12 +83,12 @@ module _ (expected next : ℕ) (rest : List ℕ) where
 
   module _ (kind len : ℕ) (tail : List ℕ) (head : rest ≡ kind ∷ (big_bytes 4 len ++ tail)) (len_fits : len < 2 ^ 32) where
     -- there is no byte behind as many bytes
-    pub none_cut : length tail ≤ len → HasNoFrame first_layout expected next rest
+    pub none_cut : length tail ≤ len → HasNoFrame layout expected next rest
     none_cut short = record {
       no_batch = λ batch after behind fits first e.
-          let h = head_of batch after behind rest tail kind len fits e head len_fits in
+          let h = head_of layout batch after behind rest tail kind len fits e head len_fits in
           let size = h.size in
-          absurd (omega (arith, tail_length (body_of batch) after behind tail h.tail_is));
+          absurd (omega (arith, tail_length (body_of layout batch) after behind tail h.tail_is));
       no_end = λ after behind fits e.
           let h = end_head next after behind rest tail kind len e head len_fits in
           let size = length-bytes_high_first 8 next in
@@ -97,10 +97,10 @@ module _ (expected next : ℕ) (rest : List ℕ) where
     }
 
     -- no frame has this kind and this length
-    pub none_ahead : IsAheadOf kind len None → HasNoFrame first_layout expected next rest
+    pub none_ahead : IsAheadOf kind len None → HasNoFrame layout expected next rest
     none_ahead never = record {
       no_batch = λ batch after behind fits first e.
-          let h = head_of batch after behind rest tail kind len fits e head len_fits in
+          let h = head_of layout batch after behind rest tail kind len fits e head len_fits in
           never.0 h.kind_is h.low h.high;
       no_end = λ after behind fits e.
           let h = end_head next after behind rest tail kind len e head len_fits in
@@ -122,10 +122,10 @@ module _ (expected next : ℕ) (rest : List ℕ) where
         }
 
   -- an end frame that names another generation
-  pub none_end : (h : HasFrame 2 8 rest) → (next < 2 ^ 64 → h.body ≡ big_bytes 8 next → ⊥) → HasNoFrame first_layout expected next rest
+  pub none_end : (h : HasFrame 2 8 rest) → (next < 2 ^ 64 → h.body ≡ big_bytes 8 next → ⊥) → HasNoFrame layout expected next rest
   none_end h other = record {
     no_batch = λ batch after behind fits first e.
-        let q = head_of batch after behind rest _ 2 8 fits e h.bytes (omega arith) in
+        let q = head_of layout batch after behind rest _ 2 8 fits e h.bytes (omega arith) in
         let kind = q.kind_is in
         absurd (omega arith);
     no_end = λ after behind fits e.
@@ -135,12 +135,12 @@ module _ (expected next : ℕ) (rest : List ℕ) where
 
   -- a frame that is not that of a batch that may come next
   pub none_batch : (len : ℕ) (h : HasFrame 1 len rest) → len < 2 ^ 32
-      → ((batch : LogBatch) → IsBatch first_layout batch → batch.first ≡ expected → frame first_layout batch ≢ 1 ∷ (big_bytes 4 (length h.body) ++ h.body)) → HasNoFrame first_layout expected next rest
+      → ((batch : LogBatch) → IsBatch layout batch → batch.first ≡ expected → frame layout batch ≢ 1 ∷ (big_bytes 4 (length h.body) ++ h.body)) → HasNoFrame layout expected next rest
   none_batch len h len_fits never = record {
     no_batch = λ batch after behind fits first e.
-        let q = head_of batch after behind rest _ 1 len fits e h.bytes len_fits in
-        let bodies = same_parts h.body (body_of batch) _ _ (h.size ∙ sym q.size) q.tail_is in
-        let is : frame first_layout batch ≡ 1 ∷ (big_bytes 4 (length h.body) ++ h.body) =
+        let q = head_of layout batch after behind rest _ 1 len fits e h.bytes len_fits in
+        let bodies = same_parts h.body (body_of layout batch) _ _ (h.size ∙ sym q.size) q.tail_is in
+        let is : frame layout batch ≡ 1 ∷ (big_bytes 4 (length h.body) ++ h.body) =
         q.frame_is ∙ ap₂ (λ (n : ℕ) (l : List ℕ). 1 ∷ (big_bytes 4 n ++ l)) (sym h.size) (sym bodies.0) in
         never batch fits first is;
     no_end = λ after behind fits e.
@@ -175,8 +175,8 @@ comes_ahead kind len rest (Batch size) is h =
 comes_ahead kind len rest End is h = (refl, subst (λ (k : ℕ). HasFrame k 8 rest) is.0 (subst (λ (n : ℕ). HasFrame kind n rest) is.1 h))
 
 -- a batch whose frame ends with this body
-pub is_batch : (expected len : ℕ) (entries : List Entry) (rest : List ℕ) (h : HasFrame 1 len rest) → IsBody expected entries h.body → IsAtBatch (batch_of expected entries) rest
-is_batch expected len entries rest h body = record {
+pub is_batch : (layout : Layout) (expected len : ℕ) (entries : List Entry) (rest : List ℕ) (h : HasFrame 1 len rest) → IsBody layout expected entries h.body → IsAtBatch layout (batch_of expected entries) rest
+is_batch layout expected len entries rest h body = record {
   after = h.after;
   behind = h.behind;
   bytes =

@@ -5,7 +5,8 @@ use Rattle.std.proofs.lemmas.Bool.{cases_eq}
 use Rattle.disk_model.specs.Files.{File, MayLeave, IsTorn, written, synced}
 use Rattle.disk_model.specs.Gates.{Call, IsShut, IsOpening, IsPlaced, called, MayFailTo}
 use Rattle.disk_model.proofs.GateLemmas.{shut_long, shut_written, shut_torn, shut_synced, opening_synced, gate_written, opening_written, opening_torn, open_synced, closed_synced, left_shut, left_opening, left_open}
-use Rattle.log_records.specs.Layout.{first_layout}
+use Rattle.log_records.specs.declared.versions.Version.{Version}
+use Rattle.log_records.specs.Layout.{layout_of}
 use Rattle.store_layout.specs.Logs.{Batch, IsLog, IsClosed, IsEnded, end_frame, frame, header}
 use Rattle.store_layout.proofs.LogLemmas.{front_push, commands_push, run_push, length-header}
 use Rattle.store_layout.specs.declared.log_phase.Phase.{Phase}
@@ -16,11 +17,11 @@ use Rattle.gate_log.specs.LogSteps.{committed_after, staged_after}
 
 -- ---- a log that begins
 
-pub begun_stands : (generation low : ℕ) (frame : List ℕ) (is_broken : Bool) → frame ≡ [] → generation < 2 ^ 64 → low < 2 ^ 64
-    → (file : File) → Stands (record { generation = generation; low = low; phase = Header; gate = 17; committed = low; count = 0; frame = frame; ending = None; is_broken = is_broken }) [] [] file
-begun_stands generation low frame is_broken empty fits fits' file = record {
+pub begun_stands : (version : Version) (generation low : ℕ) (frame : List ℕ) (is_broken : Bool) → frame ≡ [] → generation < 2 ^ 64 → low < 2 ^ 64
+    → (file : File) → Stands (record { version = version; generation = generation; low = low; phase = Header; gate = 17; committed = low; count = 0; frame = frame; ending = None; is_broken = is_broken }) [] [] file
+begun_stands version generation low frame is_broken empty fits fits' file = record {
   knows = record {
-    gate = omega (arith, length-header generation low, length-append (header generation low) []);
+    gate = omega (arith, length-header (layout_of version) generation low, length-append (header (layout_of version) generation low) []);
     committed = omega arith;
     in_order = record { generation_fits = fits; low_fits = fits'; in_order = tt };
   };
@@ -34,7 +35,7 @@ module _ (log : LogState) (batches : List Batch) (knows : HasCommitted log batch
   front = front_of log batches
 
   abbrev Committed : List ℕ → Type 0
-  Committed content = IsClosed first_layout log.generation log.low batches content
+  Committed content = IsClosed (layout_of log.version) log.generation log.low batches content
 
   pub shut_reads : (behind : List ℕ) (file : File) (content : List ℕ) → IsShut front behind file → MayLeave file content → Committed content
   shut_reads behind file content shut left =
@@ -42,21 +43,21 @@ module _ (log : LogState) (batches : List Batch) (knows : HasCommitted log batch
       record { gate = shut.gate; rest = parts.0; bytes = parts.1; closed = shut.closed; log = knows.in_order }
 
   -- the batch that was staged
-  pub log_push : (b : Batch) → IsNext log b → IsLog first_layout log.generation log.low (batches ++ b ∷ [])
+  pub log_push : (b : Batch) → IsNext log b → IsLog (layout_of log.version) log.generation log.low (batches ++ b ∷ [])
   log_push b next = record {
     generation_fits = knows.in_order.generation_fits;
     low_fits = knows.in_order.low_fits;
-    in_order = run_push first_layout log.low batches b knows.in_order.in_order next.fits (next.first ∙ knows.committed);
+    in_order = run_push (layout_of log.version) log.low batches b knows.in_order.in_order next.fits (next.first ∙ knows.committed);
   }
 
   pub whole_frame : (b : Batch) (rest : List ℕ) → IsNext log b → front ++ 165 ∷ (log.frame ++ rest) ≡ front_of log (batches ++ b ∷ []) ++ 0 ∷ rest
   whole_frame b rest next =
       ap (λ (l : List ℕ). front ++ 165 ∷ (l ++ rest)) next.frame
-      ∙ ap (λ (l : List ℕ). front ++ 165 ∷ l) (append_assoc (frame first_layout b) (0 ∷ []) rest)
-      ∙ sym (append_assoc front (165 ∷ frame first_layout b) (0 ∷ rest))
-      ∙ ap (λ (l : List ℕ). l ++ 0 ∷ rest) (sym (front_push first_layout log.generation log.low batches b))
+      ∙ ap (λ (l : List ℕ). front ++ 165 ∷ l) (append_assoc (frame (layout_of log.version) b) (0 ∷ []) rest)
+      ∙ sym (append_assoc front (165 ∷ frame (layout_of log.version) b) (0 ∷ rest))
+      ∙ ap (λ (l : List ℕ). l ++ 0 ∷ rest) (sym (front_push (layout_of log.version) log.generation log.low batches b))
 
-  pub ended : (next : ℕ) (content rest : List ℕ) → next < 2 ^ 64 → content ≡ front ++ 165 ∷ ((end_frame next ++ 0 ∷ []) ++ rest) → IsEnded first_layout log.generation log.low batches next content
+  pub ended : (next : ℕ) (content rest : List ℕ) → next < 2 ^ 64 → content ≡ front ++ 165 ∷ ((end_frame next ++ 0 ∷ []) ++ rest) → IsEnded (layout_of log.version) log.generation log.low batches next content
   ended next content rest fits is = record {
     after = 0;
     rest = rest;
@@ -67,7 +68,7 @@ module _ (log : LogState) (batches : List Batch) (knows : HasCommitted log batch
 
   done : (ending : Option ℕ) (staged : List Batch) (content rest : List ℕ) → HasNext ending log staged → content ≡ front ++ 165 ∷ (bytes_staged ending log.frame ++ rest) → IsDone ending log batches staged content
   done None staged content rest (b, one, next) is =
-      subst (λ bs. IsClosed first_layout log.generation log.low (batches ++ bs) content) (sym one)
+      subst (λ bs. IsClosed (layout_of log.version) log.generation log.low (batches ++ bs) content) (sym one)
       (record { gate = 0; rest = rest; bytes = is ∙ whole_frame b rest next; closed = omega arith; log = log_push b next })
   done (Some next) staged content rest has is = ended next content rest has.1 is
 
@@ -133,7 +134,7 @@ module _ (log : LogState) (batches : List Batch) (knows : HasCommitted log batch
 
   knows_batch : (b : Batch) → IsNext log b → HasCommitted committed (batches ++ b ∷ [])
   knows_batch b next = record {
-    gate = omega (arith, knows.gate, ap length next.frame, length-append (frame first_layout b) (0 ∷ []), ap length (front_push first_layout log.generation log.low batches b), length-append front (165 ∷ frame first_layout b));
+    gate = omega (arith, knows.gate, ap length next.frame, length-append (frame (layout_of log.version) b) (0 ∷ []), ap length (front_push (layout_of log.version) log.generation log.low batches b), length-append front (165 ∷ frame (layout_of log.version) b));
     committed = omega (arith, knows.committed, commands_push batches b, next.count);
     in_order = log_push b next;
   }
@@ -159,7 +160,7 @@ module _ (log : LogState) (batches : List Batch) (knows : HasCommitted log batch
   -- the header's sync
   header_stands : (staged : List Batch) (file : File) → AtPhase HeaderWritten log batches staged file → IsShut front [] (synced file)
   header_stands staged file at =
-      let h = header log.generation log.low in
+      let h = header (layout_of log.version) log.generation log.low in
       closed_synced front at.3.0 0 file (omega arith)
       (at.3.1 ∙ ap (λ (l : List ℕ). l ++ 0 ∷ at.3.0) (sym (ap (λ (bs : List Batch). front_of log bs) at.0 ∙ append-nil h)))
 
@@ -182,7 +183,7 @@ module _ (log : LogState) (batches : List Batch) (knows : HasCommitted log batch
       → Stands (log_after phase log) (committed_after phase batches staged) (staged_after phase staged) (called_in (call_in phase log) file)
   goes_in Idle staged file is at = record { knows = knows; stands = subst (λ p. AtPhase p log batches staged file) (sym is) at }
   goes_in Header staged file is at =
-      let h = header log.generation log.low in
+      let h = header (layout_of log.version) log.generation log.low in
       let rest = drop (0 + length (h ++ 0 ∷ [])) file.seen in
       record { knows = kept_knows HeaderWritten; stands = (at.0, kept_none HeaderWritten staged at.1, at.2, (rest, append_assoc h (0 ∷ []) rest)) }
   goes_in HeaderWritten staged file is at = record {

@@ -3,7 +3,7 @@ use Rattle.std.proofs.Common.{◌≡◌, ◌≢◌, ℕ, ◌+◌, List, [], ◌�
 use Rattle.std.proofs.lemmas.List.{length-append, append-nil}
 use Rattle.std.proofs.Math.Seq.{drop-append_seam}
 use Rattle.map_types.specs.declared.commands.Command.{Command}
-use Rattle.log_records.specs.Layout.{first_layout}
+use Rattle.log_records.specs.Layout.{Layout}
 use Rattle.ticket_order.specs.declared.stripe.Entry.{Entry}
 use Rattle.store_layout.specs.Logs.{Batch, IsBatch, IsClosed, IsEnded, IsRun, commands_in, frame, header, log_front, opened}
 use Rattle.gate_log.specs.States.{batch_of}
@@ -13,76 +13,76 @@ use Rattle.gate_log.specs.Scan.{HasRead, IsNextBatch, ScanState}
 use Rattle.gate_log.specs.ScanParts.{FitsBatch, IsAtBatch, IsAtEnd}
 use Rattle.gate_log.proofs.Entries.{commands_length}
 
-opened_append : (a b : List Batch) → opened first_layout (a ++ b) ≡ opened first_layout a ++ opened first_layout b
-opened_append [] b = refl
-opened_append (batch ∷ a) b =
-    ap (λ (l : List ℕ). 165 ∷ (frame first_layout batch ++ l)) (opened_append a b)
-    ∙ ap (λ (l : List ℕ). 165 ∷ l) (sym (append_assoc (frame first_layout batch) (opened first_layout a) (opened first_layout b)))
+opened_append : (layout : Layout) (a b : List Batch) → opened layout (a ++ b) ≡ opened layout a ++ opened layout b
+opened_append layout [] b = refl
+opened_append layout (batch ∷ a) b =
+    ap (λ (l : List ℕ). 165 ∷ (frame layout batch ++ l)) (opened_append layout a b)
+    ∙ ap (λ (l : List ℕ). 165 ∷ l) (sym (append_assoc (frame layout batch) (opened layout a) (opened layout b)))
 
 commands_append : (a b : List Batch) → commands_in (a ++ b) ≡ commands_in a ++ commands_in b
 commands_append [] b = refl
 commands_append (batch ∷ a) b =
     ap (λ (l : List Command). batch.commands ++ l) (commands_append a b) ∙ sym (append_assoc batch.commands (commands_in a) (commands_in b))
 
-run_more : (low : ℕ) (a : List Batch) (batch : Batch) → IsRun first_layout low a → IsBatch first_layout batch → batch.first ≡ low + length (commands_in a) → IsRun first_layout low (a ++ batch ∷ [])
-run_more low [] batch run fits first = (fits, omega arith, tt)
-run_more low (b ∷ a) batch run fits first =
-    (run.0, run.1, run_more (low + length b.commands) a batch run.2 fits (omega (arith, length-append b.commands (commands_in a))))
+run_more : (layout : Layout) (low : ℕ) (a : List Batch) (batch : Batch) → IsRun layout low a → IsBatch layout batch → batch.first ≡ low + length (commands_in a) → IsRun layout low (a ++ batch ∷ [])
+run_more layout low [] batch run fits first = (fits, omega arith, tt)
+run_more layout low (b ∷ a) batch run fits first =
+    (run.0, run.1, run_more layout (low + length b.commands) a batch run.2 fits (omega (arith, length-append b.commands (commands_in a))))
 
-front_more : (generation low : ℕ) (batches : List Batch) (batch : Batch) (t : List ℕ) → log_front first_layout generation low (batches ++ batch ∷ []) ++ t
-    ≡ log_front first_layout generation low batches ++ 165 ∷ (frame first_layout batch ++ t)
-front_more generation low batches batch t =
-    let head : List ℕ = header generation low in
-    let so_far : List ℕ = opened first_layout batches in
-    let last : List ℕ = 165 ∷ frame first_layout batch in
-    let one : opened first_layout (batch ∷ []) ≡ last = ap (λ (l : List ℕ). 165 ∷ l) (append-nil (frame first_layout batch)) in
-    ap (λ (l : List ℕ). (head ++ l) ++ t) (opened_append batches (batch ∷ []) ∙ ap (λ (l : List ℕ). so_far ++ l) one)
+front_more : (layout : Layout) (generation low : ℕ) (batches : List Batch) (batch : Batch) (t : List ℕ) → log_front layout generation low (batches ++ batch ∷ []) ++ t
+    ≡ log_front layout generation low batches ++ 165 ∷ (frame layout batch ++ t)
+front_more layout generation low batches batch t =
+    let head : List ℕ = header layout generation low in
+    let so_far : List ℕ = opened layout batches in
+    let last : List ℕ = 165 ∷ frame layout batch in
+    let one : opened layout (batch ∷ []) ≡ last = ap (λ (l : List ℕ). 165 ∷ l) (append-nil (frame layout batch)) in
+    ap (λ (l : List ℕ). (head ++ l) ++ t) (opened_append layout batches (batch ∷ []) ∙ ap (λ (l : List ℕ). so_far ++ l) one)
     ∙ ap (λ (l : List ℕ). l ++ t) (sym (append_assoc head so_far last))
     ∙ append_assoc (head ++ so_far) last t
 
 -- the scan behind a frame with so many bytes behind its length
 abbrev pub moved_on : ScanState → ℕ → ℕ → ReaderState → ScanState
-moved_on scan len count reader = record { generation = scan.generation; gate = scan.gate + (6 + len); expected = scan.expected + count; reader = reader }
+moved_on scan len count reader = record { version = scan.version; generation = scan.generation; gate = scan.gate + (6 + len); expected = scan.expected + count; reader = reader }
 
-module _ (low : ℕ) (batches : List Batch) (scan : ScanState) (content : List ℕ) (read : HasRead first_layout low batches scan content) where
+module _ (layout : Layout) (low : ℕ) (batches : List Batch) (scan : ScanState) (content : List ℕ) (read : HasRead layout low batches scan content) where
   pub at_gate : drop scan.gate content ≡ read.byte ∷ read.rest
-  at_gate = ap₂ (λ (n : ℕ) (l : List ℕ). drop n l) read.place read.bytes ∙ drop-append_seam (log_front first_layout scan.generation low batches) (read.byte ∷ read.rest)
+  at_gate = ap₂ (λ (n : ℕ) (l : List ℕ). drop n l) read.place read.bytes ∙ drop-append_seam (log_front layout scan.generation low batches) (read.byte ∷ read.rest)
 
-  open_bytes : read.byte ≡ 165 → content ≡ log_front first_layout scan.generation low batches ++ 165 ∷ read.rest
-  open_bytes is_open = read.bytes ∙ ap (λ (b : ℕ). log_front first_layout scan.generation low batches ++ b ∷ read.rest) is_open
+  open_bytes : read.byte ≡ 165 → content ≡ log_front layout scan.generation low batches ++ 165 ∷ read.rest
+  open_bytes is_open = read.bytes ∙ ap (λ (b : ℕ). log_front layout scan.generation low batches ++ b ∷ read.rest) is_open
 
-  pub closed_here : read.byte ≢ 165 → IsClosed first_layout scan.generation low batches content
+  pub closed_here : read.byte ≢ 165 → IsClosed layout scan.generation low batches content
   closed_here closed = record { gate = read.byte; rest = read.rest; bytes = read.bytes; closed = closed; log = read.log }
 
-  pub broken_here : read.byte ≡ 165 → HasNoFrame first_layout scan.expected (scan.generation + 1) read.rest → IsBroken first_layout scan.generation low batches content
+  pub broken_here : read.byte ≡ 165 → HasNoFrame layout scan.expected (scan.generation + 1) read.rest → IsBroken layout scan.generation low batches content
   broken_here is_open none = record {
     rest = read.rest;
     bytes = open_bytes is_open;
-    no_frame = subst (λ (n : ℕ). HasNoFrame first_layout n (scan.generation + 1) read.rest) read.tickets none;
+    no_frame = subst (λ (n : ℕ). HasNoFrame layout n (scan.generation + 1) read.rest) read.tickets none;
     log = read.log;
   }
 
-  pub ended_here : read.byte ≡ 165 → IsAtEnd (scan.generation + 1) read.rest → IsEnded first_layout scan.generation low batches (scan.generation + 1) content
+  pub ended_here : read.byte ≡ 165 → IsAtEnd (scan.generation + 1) read.rest → IsEnded layout scan.generation low batches (scan.generation + 1) content
   ended_here is_open at_end = record {
     after = at_end.after;
     rest = at_end.behind;
-    bytes = open_bytes is_open ∙ ap (λ (l : List ℕ). log_front first_layout scan.generation low batches ++ 165 ∷ l) at_end.bytes;
+    bytes = open_bytes is_open ∙ ap (λ (l : List ℕ). log_front layout scan.generation low batches ++ 165 ∷ l) at_end.bytes;
     next_fits = at_end.next_fits;
     log = read.log;
   }
 
-  pub next_here : (entries : List Entry) (len : ℕ) → read.byte ≡ 165 → IsAtBatch (batch_of scan.expected entries) read.rest → FitsBatch scan.expected len entries
-      → (reader : ReaderState) → Holds content reader → IsNextBatch first_layout low batches entries scan (moved_on scan len (length entries) reader) content
+  pub next_here : (entries : List Entry) (len : ℕ) → read.byte ≡ 165 → IsAtBatch layout (batch_of scan.expected entries) read.rest → FitsBatch layout scan.expected len entries
+      → (reader : ReaderState) → Holds content reader → IsNextBatch layout low batches entries scan (moved_on scan len (length entries) reader) content
   next_here entries len is_open at_batch fits reader held =
       let batch : Batch = batch_of scan.expected entries in
-      let whole = front_more scan.generation low batches batch (at_batch.after ∷ at_batch.behind) in
-      let bytes : content ≡ log_front first_layout scan.generation low (batches ++ batch ∷ []) ++ at_batch.after ∷ at_batch.behind =
-      open_bytes is_open ∙ ap (λ (l : List ℕ). log_front first_layout scan.generation low batches ++ 165 ∷ l) at_batch.bytes ∙ sym whole in
-      let front = front_more scan.generation low batches batch [] in
+      let whole = front_more layout scan.generation low batches batch (at_batch.after ∷ at_batch.behind) in
+      let bytes : content ≡ log_front layout scan.generation low (batches ++ batch ∷ []) ++ at_batch.after ∷ at_batch.behind =
+      open_bytes is_open ∙ ap (λ (l : List ℕ). log_front layout scan.generation low batches ++ 165 ∷ l) at_batch.bytes ∙ sym whole in
+      let front = front_more layout scan.generation low batches batch [] in
       let front_len = ap (λ (l : List ℕ). length l) front in
-      let left_len = length-append (log_front first_layout scan.generation low (batches ++ batch ∷ [])) [] in
-      let right_len = length-append (log_front first_layout scan.generation low batches) (165 ∷ (frame first_layout batch ++ [])) in
-      let frame_len = length-append (frame first_layout batch) [] in
+      let left_len = length-append (log_front layout scan.generation low (batches ++ batch ∷ [])) [] in
+      let right_len = length-append (log_front layout scan.generation low batches) (165 ∷ (frame layout batch ++ [])) in
+      let frame_len = length-append (frame layout batch) [] in
       let size = fits.size in
       let place = read.place in
       let tickets = read.tickets in
@@ -99,7 +99,7 @@ module _ (low : ℕ) (batches : List Batch) (scan : ScanState) (content : List �
           bytes = bytes;
           place = omega arith;
           tickets = omega arith;
-          log = record { generation_fits = read.log.generation_fits; low_fits = read.log.low_fits; in_order = run_more low batches batch read.log.in_order fits.fits read.tickets };
+          log = record { generation_fits = read.log.generation_fits; low_fits = read.log.low_fits; in_order = run_more layout low batches batch read.log.in_order fits.fits read.tickets };
           held = held;
         };
       }

@@ -2,27 +2,27 @@
 use Rattle.std.specs.Prelude.{◌≡◌, ◌≢◌, ◌⊎◌, ℕ, ◌+◌, ◌<◌, ◌^◌, List, [], ◌∷◌, ◌++◌, length, Option, None, Some}
 use Rattle.disk_model.specs.Files.{File, Files, MayLeave}
 use Rattle.disk_model.specs.Gates.{IsShut, IsOpening, IsOpen, open_gate}
-use Rattle.log_records.specs.Layout.{first_layout}
+use Rattle.log_records.specs.Layout.{layout_of}
 use Rattle.store_layout.specs.Logs.{Batch, IsBatch, IsLog, IsClosed, IsEnded, commands_in, end_frame, frame, header, log_file, log_front}
 use Rattle.store_layout.specs.declared.log_phase.Phase.{Phase}
 use Rattle.store_layout.specs.declared.log_phase.Phase.TheVariants.{Idle, Header, HeaderWritten, Staged, Written, Synced, Opened}
 use Rattle.gate_log.specs.States.{LogState, bytes_staged}
 
 abbrev pub front_of : LogState → List Batch → List ℕ
-front_of log batches = log_front first_layout log.generation log.low batches
+front_of log batches = log_front (layout_of log.version) log.generation log.low batches
 
 -- these batches are committed
 pub record HasCommitted (log : LogState) (batches : List Batch) : Type 0 where
   pub gate : log.gate ≡ length (front_of log batches)
   pub committed : log.committed ≡ log.low + length (commands_in batches)
-  pub in_order : IsLog first_layout log.generation log.low batches
+  pub in_order : IsLog (layout_of log.version) log.generation log.low batches
 
 -- this batch is staged
 pub record IsNext (log : LogState) (batch : Batch) : Type 0 where
-  pub frame : log.frame ≡ frame first_layout batch ++ 0 ∷ []
+  pub frame : log.frame ≡ frame (layout_of log.version) batch ++ 0 ∷ []
   pub count : log.count ≡ length batch.commands
   pub first : batch.first ≡ log.committed
-  pub fits : IsBatch first_layout batch
+  pub fits : IsBatch (layout_of log.version) batch
 
 -- no batch is staged
 pub record HasNone (log : LogState) (staged : List Batch) : Type 0 where
@@ -44,7 +44,7 @@ AtRest (Some next) log batches file = IsOpen (front_of log batches) (end_frame n
 abbrev pub AtPhase : Phase → LogState → List Batch → List Batch → File → Type 0
 AtPhase Header log batches staged file = (batches ≡ []) × HasNone log staged × (log.ending ≡ None)
 AtPhase HeaderWritten log batches staged file =
-    (batches ≡ []) × HasNone log staged × (log.ending ≡ None) × ((rest : List ℕ) × (file.seen ≡ header log.generation log.low ++ 0 ∷ rest))
+    (batches ≡ []) × HasNone log staged × (log.ending ≡ None) × ((rest : List ℕ) × (file.seen ≡ header (layout_of log.version) log.generation log.low ++ 0 ∷ rest))
 AtPhase Idle log batches staged file = HasNone log staged × AtRest log.ending log batches file
 AtPhase Staged log batches staged file = HasNext log.ending log staged × IsShut (front_of log batches) [] file
 AtPhase Written log batches staged file = HasNext log.ending log staged × IsShut (front_of log batches) (bytes_staged log.ending log.frame) file
@@ -72,17 +72,17 @@ IsReady Opened = Unit {0}
 
 -- what was staged is committed in this content
 abbrev pub IsDone : Option ℕ → LogState → List Batch → List Batch → List ℕ → Type 0
-IsDone None log batches staged content = IsClosed first_layout log.generation log.low (batches ++ staged) content
-IsDone (Some next) log batches staged content = IsEnded first_layout log.generation log.low batches next content
+IsDone None log batches staged content = IsClosed (layout_of log.version) log.generation log.low (batches ++ staged) content
+IsDone (Some next) log batches staged content = IsEnded (layout_of log.version) log.generation log.low batches next content
 
 -- The content has the committed batches, or what is staged too.
 abbrev pub IsBeforeOrAfter : LogState → List Batch → List Batch → List ℕ → Type 0
 IsBeforeOrAfter log batches staged content =
-    IsClosed first_layout log.generation log.low batches content ⊎ IsDone log.ending log batches staged content
+    IsClosed (layout_of log.version) log.generation log.low batches content ⊎ IsDone log.ending log batches staged content
 
 -- the same, but a log that has ended reads as ended
 abbrev pub MayRead : Phase → Option ℕ → LogState → List Batch → List Batch → List ℕ → Type 0
-MayRead Idle (Some next) log batches staged content = IsEnded first_layout log.generation log.low batches next content
+MayRead Idle (Some next) log batches staged content = IsEnded (layout_of log.version) log.generation log.low batches next content
 MayRead phase ending log batches staged content = IsBeforeOrAfter log batches staged content
 
 -- The other files are as they were at the start. Once the header is on the disk, a stop leaves a log with the committed batches, or with

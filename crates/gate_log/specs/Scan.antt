@@ -5,6 +5,7 @@ use Rattle.disk_model.specs.Gates.{open_gate}
 use Rattle.file_pieces.specs.Pieces.{ReaderState, Holds}
 use Rattle.map_types.specs.declared.refusals.Refusal.{Refusal}
 use Rattle.map_types.specs.declared.refusals.Refusal.TheVariants.{Failed, NoMemory, Damaged}
+use Rattle.log_records.specs.declared.versions.Version.{Version}
 use Rattle.log_records.specs.Layout.{Layout}
 use Rattle.ticket_order.specs.declared.stripe.Entry.{Entry}
 use Rattle.store_layout.specs.Logs.{Batch, IsBatch, IsLog, IsClosed, IsEnded, commands_in, end_frame, frame, log_file, log_front}
@@ -17,6 +18,7 @@ use Rattle.gate_log.specs.declared.scan.Found.TheVariants.{Batch as found_batch,
 
 -- a scan as its callers see it
 pub record ScanState : Type 0 where
+  pub version : Version
   pub generation : ℕ
   -- the place of the gate that comes next
   pub gate : ℕ
@@ -56,6 +58,7 @@ IsFound layout low batches old new content Closed = IsClosed layout old.generati
 
 -- the scan is at the gate that it was at
 pub record IsStill (old new : ScanState) : Type 0 where
+  pub version : new.version ≡ old.version
   pub generation : new.generation ≡ old.generation
   pub gate : new.gate ≡ old.gate
   pub expected : new.expected ≡ old.expected
@@ -69,7 +72,7 @@ last_gate old new Closed = old.gate
 -- how the scan goes on
 abbrev pub GoesOn : ScanState → ScanState → Found → Type 0
 GoesOn old new (found_batch entries) =
-    (new.generation ≡ old.generation) × (new.expected ≡ old.expected + length entries.items) × (old.gate ≤ new.gate)
+    (new.generation ≡ old.generation) × (new.expected ≡ old.expected + length entries.items) × (old.gate ≤ new.gate) × (new.version ≡ old.version)
 GoesOn old new Ended = IsStill old new
 GoesOn old new Closed = IsStill old new
 

@@ -6,7 +6,7 @@ use Rattle.disk_model.specs.Files.{Files, now}
 use Rattle.disk_model.specs.Gates.{open_gate}
 use Rattle.file_pieces.specs.Pieces.{ReaderState}
 use Rattle.map_types.specs.declared.commands.Command.{Command}
-use Rattle.log_records.specs.Layout.{first_layout}
+use Rattle.log_records.specs.Layout.{Layout}
 use Rattle.log_records.specs.Spelling.{IsCommand}
 use Rattle.ticket_order.specs.declared.stripe.Entry.{Entry}
 use Rattle.store_layout.specs.Logs.{Batch, IsBatch, end_frame, frame, most_frame_bytes, records_bytes}
@@ -18,23 +18,23 @@ abbrev pub commands_of : List Entry → List Command
 commands_of entries = map (λ entry. entry.command) entries
 
 -- these are `count` changes from the ticket `first` on, and the bytes are their records
-pub record AreEntries (first count : ℕ) (entries : List Entry) (bytes : List ℕ) : Type 0 where
+pub record AreEntries (layout : Layout) (first count : ℕ) (entries : List Entry) (bytes : List ℕ) : Type 0 where
   pub tickets : AreFrom first entries
   pub so_many : length entries ≡ count
-  pub well_formed : AllByRecursion (IsCommand first_layout) (commands_of entries)
-  pub spelled : bytes ≡ records_bytes first_layout (commands_of entries)
+  pub well_formed : AllByRecursion (IsCommand layout) (commands_of entries)
+  pub spelled : bytes ≡ records_bytes layout (commands_of entries)
 
 -- these changes are a batch, and its frame has these bytes behind its length
-pub record IsBody (expected : ℕ) (entries : List Entry) (body : List ℕ) : Type 0 where
+pub record IsBody (layout : Layout) (expected : ℕ) (entries : List Entry) (body : List ℕ) : Type 0 where
   pub tickets : AreFrom expected entries
-  pub fits : IsBatch first_layout (batch_of expected entries)
-  pub bytes : frame first_layout (batch_of expected entries) ≡ 1 ∷ (big_bytes 4 (length body) ++ body)
+  pub fits : IsBatch layout (batch_of expected entries)
+  pub bytes : frame layout (batch_of expected entries) ≡ 1 ∷ (big_bytes 4 (length body) ++ body)
 
 -- these changes are a batch, and its frame has `len` bytes behind its length
-pub record FitsBatch (expected len : ℕ) (entries : List Entry) : Type 0 where
+pub record FitsBatch (layout : Layout) (expected len : ℕ) (entries : List Entry) : Type 0 where
   pub tickets : AreFrom expected entries
-  pub fits : IsBatch first_layout (batch_of expected entries)
-  pub size : length (frame first_layout (batch_of expected entries)) ≡ 5 + len
+  pub fits : IsBatch layout (batch_of expected entries)
+  pub size : length (frame layout (batch_of expected entries)) ≡ 5 + len
 
 -- kind and length, as many bytes, and a byte behind them
 pub record HasFrame (kind len : ℕ) (rest : List ℕ) : Type 0 where
@@ -45,10 +45,10 @@ pub record HasFrame (kind len : ℕ) (rest : List ℕ) : Type 0 where
   pub size : length body ≡ len
 
 -- the batch's frame, and a byte behind it
-pub record IsAtBatch (batch : Batch) (rest : List ℕ) : Type 0 where
+pub record IsAtBatch (layout : Layout) (batch : Batch) (rest : List ℕ) : Type 0 where
   pub after : ℕ
   pub behind : List ℕ
-  pub bytes : rest ≡ frame first_layout batch ++ after ∷ behind
+  pub bytes : rest ≡ frame layout batch ++ after ∷ behind
 
 -- the end frame, and a byte behind it
 pub record IsAtEnd (next : ℕ) (rest : List ℕ) : Type 0 where

@@ -2,12 +2,15 @@
 use Rattle.std.specs.Prelude.{◌≡◌, ℕ, ◌+◌, ◌<◌, ◌^◌, Bool, false, List, [], ◌∷◌, ◌++◌, length, map, Option, None, Some}
 use Rattle.disk_model.specs.Gates.{Call, writes, syncs, open_gate}
 use Rattle.map_types.specs.declared.commands.Command.{Command}
+use Rattle.log_records.specs.declared.versions.Version.{Version}
+use Rattle.log_records.specs.Layout.{layout_of}
 use Rattle.ticket_order.specs.declared.stripe.Entry.{Entry}
-use Rattle.store_layout.specs.Logs.{Batch, end_frame, header, log_header_bytes}
+use Rattle.store_layout.specs.Logs.{Batch, end_frame, header, log_header_bytes, new_version}
 use Rattle.store_layout.specs.declared.log_phase.Phase.{Phase}
 use Rattle.store_layout.specs.declared.log_phase.Phase.TheVariants.{Idle, Header, HeaderWritten, Staged, Written, Synced, Opened}
 
 pub record LogState : Type 0 where
+  pub version : Version
   pub generation : ℕ
   pub low : ℕ
   pub phase : Phase
@@ -33,9 +36,10 @@ abbrev pub bytes_staged : Option ℕ → List ℕ → List ℕ
 bytes_staged None frame = frame
 bytes_staged (Some next) frame = end_frame next ++ 0 ∷ []
 
--- a log whose header is to be written
+-- a log whose header is to be written, of the version of each new generation
 abbrev pub begun : ℕ → ℕ → LogState
 begun generation low = record {
+  version = new_version;
   generation = generation;
   low = low;
   phase = Header;
@@ -47,9 +51,10 @@ begun generation low = record {
   is_broken = false;
 }
 
--- a log in use, behind whose gate nothing is staged
-abbrev pub resumed : ℕ → ℕ → ℕ → ℕ → LogState
-resumed generation low gate committed = record {
+-- a log in use of this version, behind whose gate nothing is staged
+abbrev pub resumed : Version → ℕ → ℕ → ℕ → ℕ → LogState
+resumed version generation low gate committed = record {
+  version = version;
   generation = generation;
   low = low;
   phase = Idle;
@@ -76,7 +81,7 @@ AreFrom ticket (entry ∷ entries) = (entry.ticket ≡ ticket) × AreFrom (ticke
 -- the device call that comes next in each phase
 abbrev pub call_in : Phase → LogState → Option Call
 call_in Idle log = None
-call_in Header log = Some (writes 0 (header log.generation log.low ++ 0 ∷ []))
+call_in Header log = Some (writes 0 (header (layout_of log.version) log.generation log.low ++ 0 ∷ []))
 call_in HeaderWritten log = Some syncs
 call_in Staged log = Some (writes (log.gate + 1) (bytes_staged log.ending log.frame))
 call_in Written log = Some syncs

@@ -13,21 +13,24 @@
 //! the log, which makes no more. `flusher` stages and makes the calls, `checkpoint_walk` makes the
 //! log that follows, `recovery` makes the first log and goes on with the one that it found.
 ghost use Rattle.std.specs.Prelude.{◌≡◌, ◌≢◌, ◌⊎◌, ◌↔◌, ℕ, ◌+◌, ◌<◌, ◌≤◌, ◌^◌, ◌++◌, ◌∷◌, [], List, length, Option, None, Some, true, false, IfErr, OnOk, OnErr};
+ghost use Rattle.std.specs.List.{All};
 ghost use Rattle.disk_model.specs.Calls.{Makes, Fails};
 ghost use Rattle.disk_model.specs.Files.{File, now, at_rest};
 ghost use Rattle.disk_model.specs.Gates.{Call, IsPlaced};
-ghost use Rattle.log_records.specs.Layout.{first_layout};
+ghost use Rattle.log_records.specs.Layout.{layout_of};
+ghost use Rattle.ticket_order.specs.Records.{IsWithin};
 ghost use Rattle.store_layout.specs.Logs.{Batch, IsClosed, commands_in, frame, log_file, log_front, most_commands, most_frame_bytes, most_log_bytes};
-ghost use Rattle.gate_log.specs.States.{AreFrom, IsResting, batch_of, begun, bytes_staged, call_in, log_after, resumed};
+ghost use Rattle.gate_log.specs.States.{AreFrom, IsResting, batch_of, begun, bytes_staged, call_in, commands_of, log_after, resumed};
 ghost use Rattle.gate_log.specs.LogStates.{Stands};
 ghost use Rattle.gate_log.specs.LogSteps.{Advances, MayAdvance};
 
 use crate::frames::{batch_frame, end_frame_and_gate, frame_len, header_and_gate};
 use disk_model::{DeviceError, Disk};
+use log_records::Version;
 use map_types::Refusal;
 use std::alloc::Global;
 use std::marker::Model;
-use store_layout::{HEADER_BYTES, MOST_LOG_BYTES, OPEN_GATE, Phase, log_file};
+use store_layout::{HEADER_BYTES, MOST_LOG_BYTES, NEW_VERSION, OPEN_GATE, Phase, log_file};
 use ticket_order::Entry;
 
 /// The log of one generation. It holds one staged frame, and nothing of what was committed; the disk
@@ -35,6 +38,7 @@ use ticket_order::Entry;
 #[derive(Drop)]
 pub struct GateLog {
     alloc: Global,
+    version: Version,
     pub(crate) generation: u64,
     low: u64,
     pub(crate) phase: Phase,
@@ -55,6 +59,7 @@ impl Model for GateLog {
 
     ghost view = { λ log.
         record {
+          version = log.version;
           generation = log.generation;
           low = log.low;
           phase = log.phase;
@@ -69,6 +74,7 @@ impl Model for GateLog {
     ghost invariant = { λ log.
         IsSound
         (record {
+          version = log.version;
           generation = log.generation;
           low = log.low;
           phase = log.phase;
@@ -82,13 +88,15 @@ impl Model for GateLog {
 }
 
 impl GateLog {
-    /// A log that is to be begun: its first step writes the header. It takes no memory.
+    /// A log that is to be begun, of the version of each new generation: its first step writes the
+    /// header. It takes no memory.
     pub fn new(alloc: Global, generation: u64, low: u64) -> GateLog
         ensures state { result ≡ begun generation low }
         ensures stands { (file : File) → Stands result [] [] file }
     {
         GateLog {
             alloc,
+            version: NEW_VERSION,
             generation,
             low,
             phase: Phase::Header,
@@ -102,19 +110,27 @@ impl GateLog {
         }
     }
 
-    /// A log that was found on the disk: the closed gate that counts stands at `gate`, and the
-    /// commands before it are the first `committed`.
-    pub fn resume(alloc: Global, generation: u64, low: u64, gate: usize, committed: u64) -> GateLog
+    /// A log that was found on the disk, with its version: the closed gate that counts stands at
+    /// `gate`, and the commands before it are the first `committed`.
+    pub fn resume(
+        alloc: Global,
+        version: Version,
+        generation: u64,
+        low: u64,
+        gate: usize,
+        committed: u64,
+    ) -> GateLog
         requires { gate + 1 < 2 ^ 64 }
-        ensures state { result ≡ resumed generation low gate committed }
+        ensures state { result ≡ resumed version generation low gate committed }
         ensures stands { (batches : List Batch) (content : List ℕ)
-            → IsClosed first_layout generation low batches content
-            → gate ≡ length (log_front first_layout generation low batches)
+            → IsClosed (layout_of version) generation low batches content
+            → gate ≡ length (log_front (layout_of version) generation low batches)
             → committed ≡ low + length (commands_in batches)
             → Stands result batches [] (at_rest content) }
     {
         GateLog {
             alloc,
+            version,
             generation,
             low,
             phase: Phase::Idle,
@@ -140,6 +156,13 @@ impl GateLog {
         ensures { (result ≡ true) ↔ IsResting self.now }
     {
         self.phase == Phase::Idle && self.ending.is_none()
+    }
+
+    /// The version of its records and its header.
+    pub fn version(&self) -> Version
+        ensures { result ≡ self.now.version }
+    {
+        self.version
     }
 
     pub fn generation(&self) -> u64
@@ -183,6 +206,7 @@ impl GateLog {
         if self.phase != Phase::Idle {
             return Err(Refusal::WrongPhase);
         }
+        self.version = NEW_VERSION;
         self.generation = generation;
         self.low = low;
         self.phase = Phase::Header;
@@ -202,15 +226,20 @@ impl GateLog {
         requires fits { self.old.committed + length entries.now < 2 ^ 64 }
         requires some { 1 ≤ length entries.now }
         requires few { length entries.now ≤ most_commands }
-        requires short { length (frame first_layout (batch_of self.old.committed entries.now))
-            ≤ most_frame_bytes }
+        requires short { length (frame (layout_of self.old.version)
+            (batch_of self.old.committed entries.now)) ≤ most_frame_bytes }
+
+        // Each key is within the limit of the log's version.
+        requires within { All (IsWithin (layout_of self.old.version).key_limit)
+            (commands_of entries.now) }
 
         // Their frame is staged behind what is committed, and the file stays.
         ensures ok { OnOk result
             (self.new ≡ record self.old {
               phase = Phase.Staged;
               count = length entries.now;
-              frame = frame first_layout (batch_of self.old.committed entries.now) ++ 0 ∷ [];
+              frame = frame (layout_of self.old.version)
+                  (batch_of self.old.committed entries.now) ++ 0 ∷ [];
             }) }
         ensures staged { OnOk result
             ((batches : List Batch) (staged : List Batch) (file : File)
@@ -221,8 +250,8 @@ impl GateLog {
         ensures wrong_phase { (result ≡ Err Refusal.WrongPhase) ↔ (IsResting self.old → ⊥) }
         ensures full { (result ≡ Err Refusal.LogFull)
             ↔ (IsResting self.old
-            × (most_log_bytes < self.old.gate + 1
-            + length (frame first_layout (batch_of self.old.committed entries.now)) + 1)) }
+            × (most_log_bytes < self.old.gate + 1 + length (frame (layout_of self.old.version)
+            (batch_of self.old.committed entries.now)) + 1)) }
         ensures no_other { IfErr result (λ refusal. (refusal ≡ Refusal.WrongPhase)
             ⊎ (refusal ≡ Refusal.LogFull) ⊎ (refusal ≡ Refusal.NoMemory)) }
         ensures err { OnErr result (self.new ≡ self.old) }
@@ -230,10 +259,10 @@ impl GateLog {
         if self.phase != Phase::Idle || self.ending.is_some() {
             return Err(Refusal::WrongPhase);
         }
-        if self.gate > MOST_LOG_BYTES - 2 - frame_len(entries) {
+        if self.gate > MOST_LOG_BYTES - 2 - frame_len(self.version, entries) {
             return Err(Refusal::LogFull);
         }
-        self.frame = batch_frame(self.alloc, self.committed, entries)?;
+        self.frame = batch_frame(self.alloc, self.version, self.committed, entries)?;
         self.count = entries.len() as u32;
         self.phase = Phase::Staged;
         Ok(())
@@ -297,7 +326,11 @@ impl GateLog {
         let file = log_file(self.generation);
         match self.phase {
             Phase::Idle => Ok(()),
-            Phase::Header => disk.write_at(file, 0, &header_and_gate(self.generation, self.low)),
+            Phase::Header => disk.write_at(
+                file,
+                0,
+                &header_and_gate(self.version, self.generation, self.low),
+            ),
             Phase::Staged => self.write_staged(disk),
             Phase::Synced => disk.write_at(file, self.gate, &[OPEN_GATE]),
             Phase::HeaderWritten | Phase::Written | Phase::Opened => disk.sync(file),

@@ -1,11 +1,11 @@
 //! What the bytes of a log file say: its header, and the parts of its frames.
-ghost use Rattle.std.specs.Prelude.{◌≡◌, ◌≢◌, ℕ, ◌+◌, ◌<◌, ◌≤◌, ◌^◌, ◌++◌, ◌∷◌, List, length, drop, IfOk, IfErr, OnOk, IfSome, IfNone};
+ghost use Rattle.std.specs.Prelude.{◌≡◌, ◌≢◌, ℕ, ◌+◌, ◌<◌, ◌≤◌, ◌^◌, ◌++◌, ◌∷◌, List, length, drop, true, false, IfOk, IfErr, IfSome, IfNone};
 ghost use Rattle.std.specs.List.{AllByRecursion};
 ghost use Rattle.byteorder.specs.Endian.{big_bytes};
-ghost use Rattle.log_records.specs.Layout.{first_layout};
+ghost use Rattle.log_records.specs.Layout.{layout_of};
 ghost use Rattle.log_records.specs.Spelling.{IsCommand, record_bytes};
 ghost use Rattle.map_types.specs.declared.commands.Command.{Command};
-ghost use Rattle.store_layout.specs.Logs.{Batch, IsBatch, frame, log_file, records_bytes};
+ghost use Rattle.store_layout.specs.Logs.{Batch, IsBatch, frame, is_read, log_file, records_bytes};
 ghost use Rattle.store_layout.specs.Readings.{HasHeader, IsBadHeader};
 ghost use Rattle.gate_log.specs.Scan.{failed_in};
 ghost use Rattle.gate_log.specs.ScanParts.{AreEntries, IsBody, IsAheadOf, most_body_bytes};
@@ -15,7 +15,7 @@ use log_records::{Version, decode};
 use map_types::{Command, Refusal};
 use std::alloc::Global;
 use store_layout::{
-    BATCH_KIND, END_KIND, HEADER_BYTES, MOST_FRAME_BYTES, MOST_RECORDS, NUMBERS_BYTES, VERSION,
+    BATCH_KIND, END_KIND, HEADER_BYTES, MOST_FRAME_BYTES, MOST_RECORDS, NUMBERS_BYTES,
 };
 use ticket_order::{Entry, Ticket};
 
@@ -34,27 +34,37 @@ pub(crate) enum Ahead {
     End,
 }
 
-/// Looks at the header of a log that is to have this generation and this low ticket. The bytes are
-/// the first 18 of the file, or all if it has fewer.
-pub(crate) fn check_header(generation: u64, low: u64, bytes: &[u8]) -> Result<(), Refusal>
+/// The version with this byte in a file, if it is read.
+fn version_of_file(byte: u8) -> Option<Version>
+    ensures some { IfSome result (λ version. (layout_of version).version ≡ byte) }
+    ensures read { IfSome result (λ version. is_read byte ≡ true) }
+    ensures none { IfNone result (is_read byte ≡ false) }
+{
+    Version::of(byte)
+}
+
+/// Looks at the header of a log that is to have this generation and this low ticket, and says its
+/// version. The bytes are the first 18 of the file, or all if it has fewer.
+pub(crate) fn check_header(generation: u64, low: u64, bytes: &[u8]) -> Result<Version, Refusal>
     ensures unfailed { failed_in result ≡ 0 }
-    ensures ok { OnOk result (HasHeader 1 generation low bytes.now) }
+    ensures ok { IfOk result (λ version.
+        HasHeader (layout_of version).version generation low bytes.now) }
     ensures err { IfErr result (λ refusal. IsBadHeader generation low bytes.now refusal) }
 {
     let file = file_number(generation);
     if bytes.len() <= HEADER_BYTES {
         return Err(Refusal::Damaged { file, offset: 0 });
     }
-    if bytes[0] != VERSION {
+    let Some(version) = version_of_file(bytes[0]) else {
         return Err(Refusal::WrongVersion);
-    }
+    };
     if BigEndian::read_u64(&bytes[1..]) != generation {
         return Err(Refusal::Damaged { file, offset: 1 });
     }
     if BigEndian::read_u64(&bytes[9..]) != low {
         return Err(Refusal::Damaged { file, offset: 9 });
     }
-    Ok(())
+    Ok(version)
 }
 
 /// The number of the file that has the log of this generation.
@@ -94,16 +104,20 @@ fn first_and_count(body: &[u8]) -> (u64, usize)
 }
 
 /// The record at the front and the bytes behind it; `None` if no record stands there.
-fn command_at(alloc: Global, bytes: &[u8]) -> Result<Option<(Command, &[u8])>, Refusal>
-    ensures some { IfOk result (λ found. IfSome found (λ x. IsCommand first_layout x.0
-        × (bytes.now ≡ record_bytes first_layout x.0 ++ x.1.now))) }
+fn command_at(
+    alloc: Global,
+    version: Version,
+    bytes: &[u8],
+) -> Result<Option<(Command, &[u8])>, Refusal>
+    ensures some { IfOk result (λ found. IfSome found (λ x. IsCommand (layout_of version) x.0
+        × (bytes.now ≡ record_bytes (layout_of version) x.0 ++ x.1.now))) }
     ensures none { IfOk result (λ found.
         IfNone found
-        ((command : Command) (rest : List ℕ) → IsCommand first_layout command
-        → bytes.now ≢ record_bytes first_layout command ++ rest)) }
+        ((command : Command) (rest : List ℕ) → IsCommand (layout_of version) command
+        → bytes.now ≢ record_bytes (layout_of version) command ++ rest)) }
     ensures err { IfErr result (λ refusal. refusal ≡ Refusal.NoMemory) }
 {
-    match decode(Version::First, alloc, bytes) {
+    match decode(version, alloc, bytes) {
         Ok((command, used)) => Ok(Some((command, &bytes[used..]))),
         Err(refusal) => match refusal {
             Refusal::NoMemory => Err(refusal),
@@ -116,24 +130,25 @@ fn command_at(alloc: Global, bytes: &[u8]) -> Result<Option<(Command, &[u8])>, R
 /// they aren't `count` records.
 fn entries_at(
     alloc: Global,
+    version: Version,
     first: u64,
     count: usize,
     bytes: &[u8],
 ) -> Result<Option<Vec<Entry>>, Refusal>
     requires { first + count < 2 ^ 64 }
     ensures some { IfOk result (λ found. IfSome found (λ entries.
-        AreEntries first count entries.items bytes.now)) }
+        AreEntries (layout_of version) first count entries.items bytes.now)) }
     ensures none { IfOk result (λ found.
         IfNone found
         ((commands : List Command) → length commands ≡ count
-        → AllByRecursion (IsCommand first_layout) commands
-        → bytes.now ≢ records_bytes first_layout commands)) }
+        → AllByRecursion (IsCommand (layout_of version)) commands
+        → bytes.now ≢ records_bytes (layout_of version) commands)) }
     ensures err { IfErr result (λ refusal. refusal ≡ Refusal.NoMemory) }
 {
     let mut entries = Vec::new(alloc);
     let mut rest = bytes;
     for ticket in first..first + count as u64 {
-        let Some((command, behind)) = command_at(alloc, rest)? else {
+        let Some((command, behind)) = command_at(alloc, version, rest)? else {
             return Ok(None);
         };
         let ticket = Ticket::new(ticket);
@@ -150,17 +165,18 @@ fn entries_at(
 /// if they aren't those of a batch that may come next.
 pub(crate) fn batch_at(
     alloc: Global,
+    version: Version,
     expected: u64,
     body: &[u8],
 ) -> Result<Option<Vec<Entry>>, Refusal>
     requires low { 12 ≤ length body.now }
     requires high { length body.now ≤ most_body_bytes }
     ensures some { IfOk result (λ found. IfSome found (λ entries.
-        IsBody expected entries.items body.now)) }
+        IsBody (layout_of version) expected entries.items body.now)) }
     ensures none { IfOk result (λ found.
         IfNone found
-        ((batch : Batch) → IsBatch first_layout batch → batch.first ≡ expected
-        → frame first_layout batch ≢ 1 ∷ (big_bytes 4 (length body.now) ++ body.now))) }
+        ((batch : Batch) → IsBatch (layout_of version) batch → batch.first ≡ expected
+        → frame (layout_of version) batch ≢ 1 ∷ (big_bytes 4 (length body.now) ++ body.now))) }
     ensures err { IfErr result (λ refusal. refusal ≡ Refusal.NoMemory) }
 {
     let (first, count) = first_and_count(body);
@@ -170,7 +186,7 @@ pub(crate) fn batch_at(
     if expected > u64::MAX - count as u64 {
         return Ok(None);
     }
-    entries_at(alloc, expected, count, &body[NUMBERS_BYTES..])
+    entries_at(alloc, version, expected, count, &body[NUMBERS_BYTES..])
 }
 
 /// What this kind and this length say of a frame; `None` if no frame has them.

@@ -3,7 +3,7 @@ ghost use Rattle.std.specs.Prelude.{◌≡◌, ℕ, ◌+◌, ◌<◌, ◌≤◌,
 ghost use Rattle.disk_model.specs.Calls.{Looks};
 ghost use Rattle.file_pieces.specs.Counting.{ReadsPieces, ReadsAtMost};
 ghost use Rattle.file_pieces.specs.Pieces.{Holds, IsSameFile, end_of, pieces_in};
-ghost use Rattle.log_records.specs.Layout.{first_layout};
+ghost use Rattle.log_records.specs.Layout.{layout_of};
 ghost use Rattle.disk_model.specs.Gates.{open_gate};
 ghost use Rattle.store_layout.specs.Logs.{log_file};
 ghost use Rattle.store_layout.specs.Readings.{HasNoFrame};
@@ -16,6 +16,7 @@ use crate::parts::{
 };
 use disk_model::Disk;
 use file_pieces::{FileReader, ReadFault};
+use log_records::Version;
 use map_types::Refusal;
 use std::alloc::Global;
 use store_layout::OPEN_GATE;
@@ -24,6 +25,7 @@ use ticket_order::Entry;
 /// A gate of the log of one generation.
 #[derive(Clone, Copy)]
 pub(crate) struct Place {
+    pub version: Version,
     pub generation: u64,
     /// Where the gate stands.
     pub gate: usize,
@@ -102,7 +104,7 @@ impl Place {
         // Refused as damaged if no frame stands there that may come next; never as Failed.
         ensures err { IfErr result (RefusesAt self.generation self.gate ((content rest : List ℕ)
             → Holds content reader.now → drop (self.gate + 1) content ≡ rest → length rest ≡ behind
-            → HasNoFrame first_layout self.expected (self.generation + 1) rest)) }
+            → HasNoFrame (layout_of self.version) self.expected (self.generation + 1) rest)) }
         ensures unfailed { failed_in result ≡ 0 }
     {
         let at = self.gate + 1;
@@ -155,7 +157,7 @@ impl Place {
         ensures within { D.honest disk.new → (size : ℕ) (rest : List ℕ)
             → Holds (bytes_of D.states disk.old reader.old) reader.old
             → drop (self.gate + 1) (bytes_of D.states disk.old reader.old) ≡ rest
-            → ReadsAtGate first_layout (open_gate ∷ rest) size
+            → ReadsAtGate (layout_of self.version) (open_gate ∷ rest) size
             → OnErr result (ReadsAtMost D.states disk.old disk.new reader.old
             (max (end_of reader.old) (self.gate + size))) }
 
@@ -174,7 +176,7 @@ impl Place {
             (D.honest disk.new → (rest : List ℕ)
             → Holds (bytes_of D.states disk.old reader.old) reader.old
             → drop (self.gate + 1) (bytes_of D.states disk.old reader.old) ≡ rest
-            → HasNoFrame first_layout self.expected (self.generation + 1) rest)) }
+            → HasNoFrame (layout_of self.version) self.expected (self.generation + 1) rest)) }
     {
         let behind = reader.len() - self.gate - 1;
         if behind <= HEAD_BYTES {
@@ -218,7 +220,7 @@ impl Place {
         ensures within { D.honest disk.new → (size byte : ℕ) (rest : List ℕ)
             → Holds (bytes_of D.states disk.old reader.old) reader.old
             → drop self.gate (bytes_of D.states disk.old reader.old) ≡ byte ∷ rest
-            → ReadsAtGate first_layout (byte ∷ rest) size
+            → ReadsAtGate (layout_of self.version) (byte ∷ rest) size
             → OnErr result (ReadsAtMost D.states disk.old disk.new reader.old
             (max (end_of reader.old) (self.gate + size))) }
 
@@ -235,7 +237,8 @@ impl Place {
         ensures err { IfErr result (RefusesAt self.generation self.gate (D.honest disk.new
             → (byte : ℕ) (rest : List ℕ) → Holds (bytes_of D.states disk.old reader.old) reader.old
             → drop self.gate (bytes_of D.states disk.old reader.old) ≡ byte ∷ rest
-            → (byte ≡ open_gate) × HasNoFrame first_layout self.expected (self.generation + 1) rest)) }
+            → (byte ≡ open_gate)
+            × HasNoFrame (layout_of self.version) self.expected (self.generation + 1) rest)) }
     {
         let gate = reader.bytes(self.gate, self.gate + 1);
         if gate[0] != OPEN_GATE {
@@ -259,7 +262,7 @@ impl Place {
         // Refused as damaged if it names another; never as Failed.
         ensures err { IfErr result (RefusesAt self.generation self.gate ((content rest : List ℕ)
             → Holds content reader.now → drop (self.gate + 1) content ≡ rest → HasFrame 2 8 rest
-            → HasNoFrame first_layout self.expected (self.generation + 1) rest)) }
+            → HasNoFrame (layout_of self.version) self.expected (self.generation + 1) rest)) }
         ensures unfailed { failed_in result ≡ 0 }
     {
         let at = self.gate + 1 + HEAD_BYTES;
@@ -286,19 +289,22 @@ impl Place {
         requires room { self.gate + 7 + len < 2 ^ 64 }
 
         // The changes are a batch of the next tickets, and its frame stands there.
-        ensures fits { IfOk result (λ entries. FitsBatch self.expected len entries.items) }
+        ensures fits { IfOk result (λ entries.
+            FitsBatch (layout_of self.version) self.expected len entries.items) }
         ensures ok { (content rest : List ℕ) → Holds content reader.now
             → drop (self.gate + 1) content ≡ rest → HasFrame 1 len rest
-            → IfOk result (λ entries. IsAtBatch (batch_of self.expected entries.items) rest) }
+            → IfOk result (λ entries.
+            IsAtBatch (layout_of self.version) (batch_of self.expected entries.items) rest) }
 
         // Refused: no memory, or no batch that may come next; never as Failed.
         ensures err { IfErr result (RefusesAt self.generation self.gate ((content rest : List ℕ)
             → Holds content reader.now → drop (self.gate + 1) content ≡ rest → HasFrame 1 len rest
-            → HasNoFrame first_layout self.expected (self.generation + 1) rest)) }
+            → HasNoFrame (layout_of self.version) self.expected (self.generation + 1) rest)) }
         ensures unfailed { failed_in result ≡ 0 }
     {
         let at = self.gate + 1 + HEAD_BYTES;
-        match batch_at(alloc, self.expected, reader.bytes(at, at + len))? {
+        let body = reader.bytes(at, at + len);
+        match batch_at(alloc, self.version, self.expected, body)? {
             Some(entries) => Ok(entries),
             None => Err(self.damaged()),
         }

@@ -1,11 +1,11 @@
 //! Reads a log file gate by gate. Every device call is a look, and reads the next piece of the file; one
 //! frame is held at a time.
-ghost use Rattle.std.specs.Prelude.{◌≡◌, ◌⊎◌, ℕ, ◌+◌, ◌<◌, ◌≤◌, ◌^◌, [], List, drop, max, IfOk, IfErr, OnOk, OnErr};
+ghost use Rattle.std.specs.Prelude.{◌≡◌, ◌⊎◌, ℕ, ◌+◌, ◌<◌, ◌≤◌, ◌^◌, [], List, drop, max, slice_index_or, IfOk, IfErr, OnOk, OnErr};
 ghost use Rattle.disk_model.specs.Calls.{Looks};
 ghost use Rattle.disk_model.specs.Files.{now};
 ghost use Rattle.file_pieces.specs.Counting.{Made, MadeAtMost, ReadsPieces, ReadsAtMost};
 ghost use Rattle.file_pieces.specs.Pieces.{Holds, end_of, pieces_in};
-ghost use Rattle.log_records.specs.Layout.{Layout, IsLayout, first_layout};
+ghost use Rattle.log_records.specs.Layout.{Layout, IsLayout, layout_of};
 ghost use Rattle.store_layout.specs.Logs.{Batch, IsClosed, IsEnded, log_file};
 ghost use Rattle.store_layout.specs.Readings.{IsBadHeader, IsBroken, Reading, Reads};
 ghost use Rattle.gate_log.specs.Scan.{ScanState, HasRead, IsFound, IsStill, GoesOn, ReadsAtGate, failed_in, last_gate, log_bytes, RefusesFor};
@@ -14,10 +14,11 @@ use crate::parts::{Ahead, HEAD_BYTES, check_header, file_number};
 use crate::place::Place;
 use disk_model::Disk;
 use file_pieces::FileReader;
+use log_records::Version;
 use map_types::Refusal;
 use std::alloc::Global;
 use std::marker::Model;
-use store_layout::HEADER_BYTES;
+use store_layout::{HEADER_BYTES, NEW_VERSION};
 use ticket_order::Entry;
 
 /// A scan of the log of one generation, which is at one of its gates. It holds what was read from that
@@ -44,6 +45,7 @@ impl Model for Scan {
 
     ghost view = { λ scan.
         record {
+          version = scan.place.version;
           generation = scan.place.generation;
           gate = scan.place.gate;
           expected = scan.place.expected;
@@ -98,15 +100,22 @@ impl Scan {
         ensures tried { OnErr result (MadeAtMost D.states 2 disk.old disk.new) }
 
         // If the disk is honest: the header was read, and a gate stands behind it.
-        ensures read { D.honest disk.new → IfOk result (λ scan. HasRead first_layout low [] scan
+        ensures read { D.honest disk.new → IfOk result (λ scan.
+            HasRead (layout_of scan.version) low [] scan
             (log_bytes D.states disk.old generation)) }
+
+        // Its version is the file's byte.
+        ensures version { D.honest disk.new → IfOk result (λ scan. (layout_of scan.version).version
+            ≡ slice_index_or (log_bytes D.states disk.old generation) 0 0) }
 
         // Refused: a failed call, no memory, or the first fault of the header.
         ensures refused { D.honest disk.new → IfErr result (λ refusal. (refusal ≡ Refusal.Failed)
             ⊎ ((refusal ≡ Refusal.NoMemory)
             ⊎ IsBadHeader generation low (log_bytes D.states disk.old generation) refusal)) }
     {
+        // The version stands in the header; nothing before asks the place for it.
         let place = Place {
+            version: NEW_VERSION,
             generation,
             gate: HEADER_BYTES,
             expected: low,
@@ -114,8 +123,18 @@ impl Scan {
         let mut reader = begin_file(alloc, disk, file_number(generation) as usize)?;
         let end = reader.len().min(HEADER_BYTES + 1);
         place.reach(disk, &mut reader, end)?;
-        check_header(generation, low, reader.bytes(0, end))?;
-        Ok(Scan { place, reader })
+        let version = check_header(generation, low, reader.bytes(0, end))?;
+        Ok(Scan {
+            place: Place { version, ..place },
+            reader,
+        })
+    }
+
+    /// The version of the log.
+    pub fn version(&self) -> Version
+        ensures { result ≡ self.now.version }
+    {
+        self.place.version
     }
 
     /// Where the next gate stands.
@@ -150,9 +169,9 @@ impl Scan {
         ensures tried { OnErr result (ReadsAtMost D.states disk.old disk.new self.old.reader
             (max (end_of self.old.reader) self.old.reader.len)) }
         ensures within { D.honest disk.new → (low size : ℕ) (batches : List Batch)
-            → HasRead first_layout low batches self.old
+            → HasRead (layout_of self.old.version) low batches self.old
             (log_bytes D.states disk.old self.old.generation)
-            → ReadsAtGate first_layout
+            → ReadsAtGate (layout_of self.old.version)
             (drop self.old.gate (log_bytes D.states disk.old self.old.generation)) size
             → OnErr result
             (ReadsAtMost D.states disk.old disk.new self.old.reader
@@ -160,28 +179,28 @@ impl Scan {
 
         // If the disk is honest: what is found stands behind the batches that were read.
         ensures found { D.honest disk.new → (low : ℕ) (batches : List Batch)
-            → HasRead first_layout low batches self.old
+            → HasRead (layout_of self.old.version) low batches self.old
             (log_bytes D.states disk.old self.old.generation)
             → IfOk result
-            (IsFound first_layout low batches self.old self.new
+            (IsFound (layout_of self.old.version) low batches self.old self.new
             (log_bytes D.states disk.old self.old.generation)) }
 
         // Refused: a failed call, no memory, or no frame that may come next.
         ensures err { IfErr result
             (RefusesFor self.old
             (D.honest disk.new → (low : ℕ) (batches : List Batch)
-            → HasRead first_layout low batches self.old
+            → HasRead (layout_of self.old.version) low batches self.old
             (log_bytes D.states disk.old self.old.generation)
-            → IsBroken first_layout self.old.generation low batches
+            → IsBroken (layout_of self.old.version) self.old.generation low batches
             (log_bytes D.states disk.old self.old.generation))) }
 
         // After a refusal the scan is at the same gate, with what it has read.
         ensures same { OnErr result (IsStill self.old self.new) }
         ensures held { D.honest disk.new → (low : ℕ) (batches : List Batch)
-            → HasRead first_layout low batches self.old
+            → HasRead (layout_of self.old.version) low batches self.old
             (log_bytes D.states disk.old self.old.generation)
             → OnErr result
-            (HasRead first_layout low batches self.new
+            (HasRead (layout_of self.old.version) low batches self.new
             (log_bytes D.states disk.old self.old.generation)) }
     {
         let place = self.place;

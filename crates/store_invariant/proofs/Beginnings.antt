@@ -5,12 +5,11 @@ use Rattle.disk_model.specs.Files.{Contents, Files, MayLeave, at_rest}
 use Rattle.map_types.specs.declared.commands.Command.{Command}
 use Rattle.map_model.specs.Histories.{History}
 use Rattle.map_model.specs.Maps.{Map}
-use Rattle.log_records.specs.Layout.{first_layout}
 use Rattle.disk_model.proofs.FileLemmas.{rest_leaves}
 use Rattle.store_layout.specs.Checkpoints.{Section, Checkpoint, checkpoint_file}
 use Rattle.store_layout.specs.Laws.{LogsAreOpened, LogsStay, MarksWiden, NextStays, PartsStay, RestoringStays}
-use Rattle.store_layout.specs.Logs.{Batch, IsEnded, commands_in, log_file}
-use Rattle.store_layout.specs.Opening.{AreLogs, Opened, history_of, log_of, logged_by, map_of, newest_by, prefix_of}
+use Rattle.store_layout.specs.Logs.{Batch, commands_in, log_file}
+use Rattle.store_layout.specs.Opening.{AreLogs, IsEndedIn, Opened, history_of, log_of, logged_by, map_of, newest_by, prefix_of}
 use Rattle.store_layout.specs.OpeningLaws.{FoundRestores}
 use Rattle.store_layout.specs.SectionsAndLog.{AreMarks, Restores, grown, reach}
 use Rattle.checkpoint_file.specs.States.{CheckpointState}
@@ -73,7 +72,7 @@ logs_opened contents newest files at k first (Some second) are generation low st
   low,
   subst (λ f. log.Stands newest second [] f) (sym (at (log_file (k.generation + 1)) (log_low (k.generation + 1))))
       (subst (λ g. log.Stands newest second [] (at_rest (contents (log_file g)))) generation stands),
-  λ content left. subst (IsEnded first_layout k.generation k.low first (k.generation + 1))
+  λ content left. subst (IsEndedIn k.generation k.low first (k.generation + 1))
       (sym (rest_leaves (contents (log_file k.generation)) content (subst (λ f. MayLeave f content) (at (log_file k.generation) (log_low k.generation)) left))) are.0,
 )
 

@@ -4,14 +4,16 @@ use Rattle.java_hash.proofs.StripeLaws.{some_stripe}
 use Rattle.disk_model.specs.Files.{File, Files, at_rest, with_file}
 use Rattle.map_model.specs.Histories.{History, fold_to}
 use Rattle.map_model.specs.Parts.{part_of}
-use Rattle.log_records.specs.Layout.{first_layout}
 use Rattle.disk_model.proofs.FileLemmas.{with_other}
 use Rattle.store_layout.specs.Checkpoints.{Section, Checkpoint, checkpoint_file, greatest_mark}
 use Rattle.store_layout.specs.Laws.{LogsBegin, MarksGoOn, PartsAndLogRestore, PartsGoOn}
-use Rattle.store_layout.specs.Logs.{Batch, commands_in, log_file}
-use Rattle.store_layout.specs.Opening.{IsOlder, log_of}
+use Rattle.store_layout.specs.Logs.{Batch, commands_in, log_file, new_layout, new_version}
+use Rattle.store_layout.specs.Opening.{IsOlder, checkpoint_layout, log_of}
 use Rattle.store_layout.specs.OpeningLaws.{OlderCheckpoint}
+use Rattle.store_layout.specs.Faults.{version_in}
 use Rattle.store_layout.specs.SectionsAndLog.{AreMarks, AreParts, IsLogOf, reach}
+use Rattle.store_layout.proofs.OwnLayouts.{own_of, checkpoint_in_own}
+use Rattle.store_layout.proofs.Versions.{read_for}
 use Rattle.checkpoint_file.specs.CheckpointStates as checkpoint
 use Rattle.checkpoint_file.specs.States as checkpoint_states
 use Rattle.checkpoint_file.specs.States.{CheckpointState, state_after}
@@ -259,9 +261,9 @@ checkpoint_is_sealed restore older h store held w start file stands is alone ope
     record {
       kept = record {
         sealed = writes.generation;
-        checkpoint = here (IsSealedIn new) number file start (checkpoint_file (store.sealed + 1)) (ap checkpoint_file (sym writes.generation)) (record { content = sealed.content; settled = sealed.settled; checkpoint = sealed.checkpoint });
+        checkpoint = here (IsSealedIn new) number file start (checkpoint_file (store.sealed + 1)) (ap checkpoint_file (sym writes.generation)) (record { content = sealed.content; settled = sealed.settled; checkpoint = checkpoint_in_own new_layout (own_of new_version) new sealed.content sealed.checkpoint });
         older = subst (λ n. IsOlder (store.sealed + 1) n content) (ap checkpoint_file stands.kept.sealed ∙ sym (checkpoint_again store.sealed))
-            (older first_layout k (store.sealed + 1) content stands.kept.checkpoint.checkpoint (omega (arith, stands.kept.sealed)));
+            (older (checkpoint_layout content) k (store.sealed + 1) content (read_for (version_in content)) stands.kept.checkpoint.checkpoint (omega (arith, stands.kept.sealed)));
         ready = stands.kept.ready;
         logs = logs_sealed (store.sealed + 1) start files others k new first second store.log held.staged has (writes.generation ∙ ap (λ n. n + 1) (sym stands.kept.sealed)) low stands.kept.logs;
         next = subst (λ o. NextStands o store.log None files) (sym alone) (subst (λ o. NextStands o store.log second start) alone stands.kept.next);

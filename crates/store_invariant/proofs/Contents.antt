@@ -3,10 +3,9 @@ use Rattle.std.proofs.Common.{◌≡◌, ◌⊎◌, inl, inr, ℕ, ◌+◌, ◌�
 use Rattle.disk_model.specs.Files.{Contents}
 use Rattle.map_types.specs.declared.commands.Command.{Command}
 use Rattle.map_model.specs.Histories.{History}
-use Rattle.log_records.specs.Layout.{first_layout}
-use Rattle.store_layout.specs.Checkpoints.{Section, Checkpoint, IsCheckpoint, checkpoint_file, greatest_mark}
+use Rattle.store_layout.specs.Checkpoints.{Section, Checkpoint, checkpoint_file, greatest_mark}
 use Rattle.store_layout.specs.Logs.{Batch, commands_in}
-use Rattle.store_layout.specs.Opening.{AreLogs, Holds, IsOlder, Opened, StandsForFront, log_of, logged_by, prefix_of}
+use Rattle.store_layout.specs.Opening.{AreLogs, Holds, IsCheckpointIn, IsOlder, Opened, StandsForFront, log_of, logged_by, prefix_of}
 use Rattle.store_layout.specs.OpeningLaws.{RestoredStands}
 use Rattle.store_layout.specs.Laws.{RestoringGoesOn}
 use Rattle.store_layout.specs.SectionsAndLog.{AreMarks, IsNextOf, Restores}
@@ -36,7 +35,7 @@ pub record LogsRead (contents : Contents) (k : Checkpoint) (log new : List Comma
 
 -- the checkpoint, and no newer one beside it
 pub record HasCheckpoint (contents : Contents) (k : Checkpoint) : Type 0 where
-  pub checkpoint : IsCheckpoint first_layout k (contents (checkpoint_file k.generation))
+  pub checkpoint : IsCheckpointIn k (contents (checkpoint_file k.generation))
   pub other : IsOlder k.generation (checkpoint_file (k.generation + 1)) (contents (checkpoint_file (k.generation + 1)))
 
 module _ (h : History) (contents : Contents) (k : Checkpoint) (log new : List Command) (has : HasCheckpoint contents k) (read : LogsRead contents k log new) where

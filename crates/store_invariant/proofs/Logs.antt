@@ -5,11 +5,12 @@ use Rattle.std.proofs.lemmas.Option.{none-some}
 use Rattle.disk_model.specs.Files.{Contents, Files}
 use Rattle.map_types.specs.declared.commands.Command.{Command}
 use Rattle.map_model.specs.Histories.{History}
-use Rattle.log_records.specs.Layout.{first_layout}
+use Rattle.log_records.specs.Layout.{layout_of}
 use Rattle.store_layout.specs.Checkpoints.{Checkpoint}
 use Rattle.store_layout.specs.Logs.{Batch, IsClosed, IsEnded, commands_in, log_file}
-use Rattle.store_layout.specs.Opening.{logged_by, next_low}
+use Rattle.store_layout.specs.Opening.{IsClosedIn, IsEndedIn, logged_by, next_low}
 use Rattle.store_layout.specs.SectionsAndLog.{IsLogOf}
+use Rattle.store_layout.proofs.OwnLayouts.{own_of, closed_in_own, ended_in_own}
 use Rattle.gate_log.specs.LogStates as log
 use Rattle.gate_log.specs.States.{LogState}
 use Rattle.store_layout.specs.declared.log_phase.Phase.{Phase}
@@ -39,32 +40,41 @@ under_way Written ending newest batches staged content other read = read
 under_way Synced ending newest batches staged content other read = read
 under_way Opened ending newest batches staged content other read = read
 
+-- a content in the layout of the log's version is read in it
+closed : (newest : LogState) (batches : List Batch) (content : List ℕ) → IsClosed (layout_of newest.version) newest.generation newest.low batches content
+    → IsClosedIn newest.generation newest.low batches content
+closed newest batches content is = closed_in_own (layout_of newest.version) (own_of newest.version) newest.generation newest.low batches content is
+
+pub ended : (newest : LogState) (batches : List Batch) (content : List ℕ) → IsEnded (layout_of newest.version) newest.generation newest.low batches (newest.generation + 1) content
+    → IsEndedIn newest.generation newest.low batches (newest.generation + 1) content
+ended newest batches content is = ended_in_own (layout_of newest.version) (own_of newest.version) newest.generation newest.low batches content is
+
 -- a log that was not told to end is closed
 pub goes_on : (newest : LogState) (batches staged : List Batch) (content : List ℕ) → newest.ending ≡ None → log.MayRead newest.phase newest.ending newest batches staged content
-    → IsClosed first_layout newest.generation newest.low batches content ⊎ IsClosed first_layout newest.generation newest.low (batches ++ staged) content
+    → IsClosedIn newest.generation newest.low batches content ⊎ IsClosedIn newest.generation newest.low (batches ++ staged) content
 goes_on newest batches staged content none read =
     by (before_or_after newest.phase newest batches staged content (subst (λ (o : Option ℕ). log.MayRead newest.phase o newest batches staged content) none read))
   where
     by : log.IsBeforeOrAfter newest batches staged content
-        → IsClosed first_layout newest.generation newest.low batches content ⊎ IsClosed first_layout newest.generation newest.low (batches ++ staged) content
-    by (inl before) = inl before
-    by (inr done) = inr (subst (λ (o : Option ℕ). log.IsDone o newest batches staged content) none done)
+        → IsClosedIn newest.generation newest.low batches content ⊎ IsClosedIn newest.generation newest.low (batches ++ staged) content
+    by (inl before) = inl (closed newest batches content before)
+    by (inr done) = inr (closed newest (batches ++ staged) content (subst (λ (o : Option ℕ). log.IsDone o newest batches staged content) none done))
 
 -- ---- both logs
 
 -- the log of the checkpoint's generation has ended
 abbrev pub EndedReads : Option (List Batch) → Checkpoint → List Batch → Contents → Type 0
 EndedReads None k first contents = Unit {0}
-EndedReads (Some second) k first contents = IsEnded first_layout k.generation k.low first (k.generation + 1) (contents (log_file k.generation))
+EndedReads (Some second) k first contents = IsEndedIn k.generation k.low first (k.generation + 1) (contents (log_file k.generation))
 
 -- the log that follows has no batch, once its header is on the disk
 abbrev pub NextReads : Option LogState → Contents → Type 0
 NextReads None contents = Unit {0}
-NextReads (Some next) contents = log.IsReady next.phase → IsClosed first_layout next.generation next.low [] (contents (log_file next.generation))
+NextReads (Some next) contents = log.IsReady next.phase → IsClosedIn next.generation next.low [] (contents (log_file next.generation))
 
 module _ (contents : Contents) where
   abbrev ClosedAt : ℕ → ℕ → List Batch → Type 0
-  ClosedAt generation low batches = IsClosed first_layout generation low batches (contents (log_file generation))
+  ClosedAt generation low batches = IsClosedIn generation low batches (contents (log_file generation))
 
   moved : (a b c d : ℕ) (batches : List Batch) → a ≡ c → b ≡ d → ClosedAt a b batches → ClosedAt c d batches
   moved a b c d batches generation low closed =
@@ -94,14 +104,14 @@ module _ (contents : Contents) where
 
     -- it has ended, and the one that follows has no batch
     first_ended : (next : LogState) → newest.generation ≡ k.generation → newest.low ≡ k.low → next.generation ≡ newest.generation + 1 → next.low ≡ next_low k first
-        → IsEnded first_layout newest.generation newest.low first (newest.generation + 1) (contents (log_file newest.generation)) → ClosedAt next.generation next.low []
+        → IsEndedIn newest.generation newest.low first (newest.generation + 1) (contents (log_file newest.generation)) → ClosedAt next.generation next.low []
         → LogsRead contents k (commands_in first) (commands_in staged)
     first_ended next generation low follows from ended closed = record {
       first = first;
       second = Some [];
       are = (
-        subst (λ n. IsEnded first_layout k.generation n first (k.generation + 1) (contents (log_file k.generation))) low
-            (subst (λ n. IsEnded first_layout n newest.low first (n + 1) (contents (log_file n))) generation ended),
+        subst (λ n. IsEndedIn k.generation n first (k.generation + 1) (contents (log_file k.generation))) low
+            (subst (λ n. IsEndedIn n newest.low first (n + 1) (contents (log_file n))) generation ended),
         moved next.generation next.low (k.generation + 1) (next_low k first) [] (omega (arith, follows, generation)) from closed,
       );
       logged = inl (append-nil (commands_in first));
@@ -114,9 +124,9 @@ module _ (contents : Contents) where
     first_turns next HeaderWritten is turn generation low follows from read its = first_goes_on generation low turn.1 read
     first_turns next Idle is turn generation low follows from read its =
         elim (under_way newest.phase newest.ending newest first staged (contents (log_file newest.generation)) turn.0 read) [
-          | inl before ↦ first_closed first generation low (inl refl) before
+          | inl before ↦ first_closed first generation low (inl refl) (closed newest first (contents (log_file newest.generation)) before)
           | inr done ↦ first_ended next generation low follows from
-              (subst (λ (o : Option ℕ). log.IsDone o newest first staged (contents (log_file newest.generation))) turn.1 done)
+              (ended newest first (contents (log_file newest.generation)) (subst (λ (o : Option ℕ). log.IsDone o newest first staged (contents (log_file newest.generation))) turn.1 done))
               (its (subst (λ p. log.IsReady p) (sym is) tt))
         ]
     first_turns next Staged is turn generation low follows from read its = absurd turn
@@ -175,7 +185,7 @@ pub record NewLog (h : History) (contents : Contents) (k : Checkpoint) (committe
 module _ (h : History) (contents : Contents) (k new : Checkpoint) (first : List Batch) (newest : LogState) (staged : List Batch) (files : Files) where
   new_closed : (second batches : List Batch) → newest.generation ≡ new.generation → newest.low ≡ new.low
       → (commands_in batches ≡ commands_in second) ⊎ (commands_in batches ≡ commands_in second ++ commands_in staged)
-      → IsClosed first_layout newest.generation newest.low batches (contents (log_file newest.generation)) → LogsRead contents new (commands_in second) (commands_in staged)
+      → IsClosedIn newest.generation newest.low batches (contents (log_file newest.generation)) → LogsRead contents new (commands_in second) (commands_in staged)
   new_closed second batches generation low logged closed = record {
     first = batches;
     second = None;

@@ -2,11 +2,10 @@
 use Rattle.std.proofs.Common.{◌≡◌, ◌≢◌, inl, inr, ℕ, ◌+◌, ◌<◌, List, [], Option, None, Some, refl, sym, subst, arith}
 use Rattle.disk_model.specs.Files.{Contents, Files, Leaves, MayLeave}
 use Rattle.map_model.specs.Histories.{History}
-use Rattle.log_records.specs.Layout.{first_layout}
 use Rattle.disk_model.proofs.FileLemmas.{rest_leaves}
-use Rattle.store_layout.specs.Checkpoints.{Checkpoint, IsCheckpoint, checkpoint_file}
+use Rattle.store_layout.specs.Checkpoints.{Checkpoint, checkpoint_file}
 use Rattle.store_layout.specs.Logs.{Batch, log_file}
-use Rattle.store_layout.specs.Opening.{prefix_of}
+use Rattle.store_layout.specs.Opening.{IsCheckpointIn, prefix_of}
 use Rattle.checkpoint_file.specs.CheckpointStates as checkpoint
 use Rattle.checkpoint_file.specs.States.{CheckpointState}
 use Rattle.gate_log.specs.LogStates as log
@@ -54,7 +53,7 @@ module _ (logs : LogsStop) (checkpoints : CheckpointsStop) (h : History) (store 
   Left n = MayLeave (start n) (contents n)
 
   abbrev SealedReads : Type 0
-  SealedReads = IsCheckpoint first_layout k (contents (checkpoint_file store.sealed))
+  SealedReads = IsCheckpointIn k (contents (checkpoint_file store.sealed))
 
   abbrev NewestReads : Type 0
   NewestReads = log.MayRead newest.phase newest.ending newest (newest_batches first held.found.second) held.staged (contents (log_file newest.generation))
@@ -66,7 +65,7 @@ module _ (logs : LogsStop) (checkpoints : CheckpointsStop) (h : History) (store 
   sealed_reads left =
       let content = contents (checkpoint_file store.sealed) in
       let sealed = stands.kept.checkpoint in
-      subst (λ (l : List ℕ). IsCheckpoint first_layout k l) (sym (rest_leaves sealed.content content (subst (λ f. MayLeave f content) sealed.settled left))) sealed.checkpoint
+      subst (λ (l : List ℕ). IsCheckpointIn k l) (sym (rest_leaves sealed.content content (subst (λ f. MayLeave f content) sealed.settled left))) sealed.checkpoint
 
   newest_stands : (second : Option (List Batch)) → LogsStand k first second newest held.staged start → log.Stands newest (newest_batches first second) held.staged (start (log_file newest.generation))
   newest_stands None stand = subst (λ n. log.Stands newest first held.staged (start (log_file n))) (sym stand.0) stand.2

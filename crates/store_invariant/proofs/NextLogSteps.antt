@@ -16,6 +16,7 @@ use Rattle.store_invariant.specs.Laws.{LogEnds, NextIsReady, NextStepsOn}
 use Rattle.store_invariant.specs.States.{StoreState, Held, low_after, newest_batches}
 use Rattle.store_invariant.specs.StoreStates.{Follows, HasEnded, IsSealedIn, IsTurn, IsUnderWay, LogsStand, MayCapture, NextLogIsOf, NextStands, Stands, WriterStands}
 use Rattle.store_invariant.proofs.Places.{checkpoint_is_no_log, elsewhere, here, log_before, next_log}
+use Rattle.store_invariant.proofs.Logs.{ended as ended_in}
 use Rattle.store_invariant.proofs.LogSteps.{none_is_some, newest_stands, writer_kept, is_not_idle}
 
 -- ---- the log that follows
@@ -116,8 +117,9 @@ none_staged newest next batches staged file opened ending stands =
 ended : StopsOfLogs → (newest : LogState) (batches : List Batch) (file : File) → newest.phase ≡ Idle → newest.ending ≡ Some (newest.generation + 1) → log.Stands newest batches [] file
     → HasEnded newest.generation newest.low batches file
 ended stops newest batches file idle ending stands content left =
-    subst (λ e. log.MayRead Idle e newest batches [] content) ending
-    (subst (λ p. log.MayRead p newest.ending newest batches [] content) idle (stops newest batches [] file content stands (subst log.IsReady (sym idle) tt) left))
+    ended_in newest batches content
+    (subst (λ e. log.MayRead Idle e newest batches [] content) ending
+    (subst (λ p. log.MayRead p newest.ending newest batches [] content) idle (stops newest batches [] file content stands (subst log.IsReady (sym idle) tt) left)))
 
 logs_ended : (k : Checkpoint) (first : List Batch) (second : Option (List Batch)) (old next : LogState) (staged : List Batch) (start : Files) (file : File) → second ≡ None → next.generation ≡ old.generation + 1 → next.low ≡ old.committed
     → log.Stands next [] [] (start (log_file next.generation)) → staged ≡ [] → HasEnded old.generation old.low (newest_batches first second) file

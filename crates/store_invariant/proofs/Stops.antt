@@ -3,13 +3,15 @@ use Rattle.std.proofs.Common.{◌≡◌, ◌⊎◌, inl, inr, ℕ, ◌+◌, ◌�
 use Rattle.java_hash.proofs.StripeLaws.{some_stripe}
 use Rattle.disk_model.specs.Files.{Contents, File, Files, MayLeave}
 use Rattle.map_model.specs.Histories.{History}
-use Rattle.log_records.specs.Layout.{first_layout}
-use Rattle.store_layout.specs.Checkpoints.{Section, Checkpoint, IsCheckpoint, checkpoint_file, greatest_mark, is_sealed}
-use Rattle.store_layout.specs.Logs.{Batch, commands_in, log_file}
-use Rattle.store_layout.specs.Opening.{Holds, IsOlder, Opened, StandsForFront, log_of, prefix_of}
+use Rattle.store_layout.specs.Checkpoints.{Section, Checkpoint, checkpoint_file, greatest_mark, is_sealed}
+use Rattle.store_layout.specs.Logs.{Batch, commands_in, log_file, new_layout, new_version}
+use Rattle.store_layout.specs.Opening.{Holds, IsCheckpointIn, IsOlder, Opened, StandsForFront, checkpoint_layout, log_of, prefix_of}
 use Rattle.store_layout.specs.OpeningLaws.{OlderCheckpoint, RestoredStands}
 use Rattle.store_layout.specs.Laws.{PartsAndLogRestore, RestoringGoesOn}
+use Rattle.store_layout.specs.Faults.{version_in}
 use Rattle.store_layout.specs.SectionsAndLog.{IsNextOf, Restores, reach}
+use Rattle.store_layout.proofs.OwnLayouts.{own_of, checkpoint_in_own}
+use Rattle.store_layout.proofs.Versions.{read_for}
 use Rattle.checkpoint_file.specs.CheckpointStates as checkpoint
 use Rattle.checkpoint_file.specs.States.{CheckpointState}
 use Rattle.store_layout.specs.declared.checkpoint_phase.CheckpointPhase.{CheckpointPhase}
@@ -39,7 +41,7 @@ WriterReads None held content = content ≡ held.other
 WriterReads (Some w) held content = checkpoint.MayRead w.phase w held.other held.sections content
 
 pub record MayHold (store : StoreState) (held : Held) (contents : Contents) : Type 0 where
-  pub sealed : IsCheckpoint first_layout held.found.checkpoint (contents (checkpoint_file store.sealed))
+  pub sealed : IsCheckpointIn held.found.checkpoint (contents (checkpoint_file store.sealed))
   pub newest : log.MayRead store.log.phase store.log.ending store.log (newest_batches held.found.first held.found.second) held.staged (contents (log_file store.log.generation))
   pub ended : EndedReads held.found.second held.found.checkpoint held.found.first contents
   pub next : NextReads store.next contents
@@ -55,7 +57,7 @@ pub record Seals (h : History) (store : StoreState) (held : Held) (file : File) 
   pub has_log : store.next ≡ None
   pub all : w.count ≡ w.stripes
   pub reached : greatest_mark held.sections ≤ store.log.committed
-  pub checkpoint : IsCheckpoint first_layout (checkpoint.checkpoint_of w held.sections) content
+  pub checkpoint : IsCheckpointIn (checkpoint.checkpoint_of w held.sections) content
 
 module _ (h : History) (store : StoreState) (held : Held) (file : File) (content : List ℕ) where
   -- an old content, or nothing sealed
@@ -69,7 +71,7 @@ module _ (h : History) (store : StoreState) (held : Held) (file : File) (content
       → store.next ≡ None → w.count ≡ w.stripes → greatest_mark held.sections ≤ store.log.committed → checkpoint.IsSealedOrNot w held.sections content → MaySeal (Some w)
   opening_reads w opening writes capture none all reached (inl unsealed) = inl (inr unsealed)
   opening_reads w opening writes capture none all reached (inr sealed) =
-      inr (w, refl, record { writes = writes; capture = capture; opening = opening; has_log = none; all = all; reached = reached; checkpoint = sealed })
+      inr (w, refl, record { writes = writes; capture = capture; opening = opening; has_log = none; all = all; reached = reached; checkpoint = checkpoint_in_own new_layout (own_of new_version) (checkpoint.checkpoint_of w held.sections) content sealed })
 
   reads_in : (w : CheckpointState) (phase : CheckpointPhase) → w.phase ≡ phase → Writes w store held file → IsCapture h w held.sections store.log.committed
       → checkpoint.AtPhase phase w held.other held.sections file → IsUnderWay phase store.next → IsReached phase held.sections store.log.committed
@@ -115,7 +117,7 @@ module _ (older : OlderCheckpoint) (restore : PartsAndLogRestore) (goes_on : Res
   -- the sealed checkpoint is used
   has_sealed : IsOld h store held written_file content → HasCheckpoint contents k
   has_sealed old = record {
-    checkpoint = subst (λ n. IsCheckpoint first_layout k (contents (checkpoint_file n))) (sym stands.kept.sealed) may.sealed;
+    checkpoint = subst (λ n. IsCheckpointIn k (contents (checkpoint_file n))) (sym stands.kept.sealed) may.sealed;
     other = subst (λ n. IsOlder n (checkpoint_file (n + 1)) (contents (checkpoint_file (n + 1)))) (sym stands.kept.sealed) (by old);
   }
     where
@@ -152,10 +154,10 @@ module _ (older : OlderCheckpoint) (restore : PartsAndLogRestore) (goes_on : Res
 
     has_new : HasCheckpoint contents new
     has_new = record {
-      checkpoint = subst (λ n. IsCheckpoint first_layout new (contents (checkpoint_file n))) (sym s.writes.generation) s.checkpoint;
+      checkpoint = subst (λ n. IsCheckpointIn new (contents (checkpoint_file n))) (sym s.writes.generation) s.checkpoint;
       other = subst (λ n. IsOlder w.generation n (contents n)) (sym (ap (λ n. checkpoint_file (n + 1)) s.writes.generation ∙ next_is_other store.sealed))
           (subst (λ n. IsOlder w.generation (checkpoint_file n) (contents (checkpoint_file n))) stands.kept.sealed
-          (older first_layout k w.generation (contents (checkpoint_file k.generation)) (subst (λ n. IsCheckpoint first_layout k (contents (checkpoint_file n))) (sym stands.kept.sealed) may.sealed)
+          (older (checkpoint_layout (contents (checkpoint_file k.generation))) k w.generation (contents (checkpoint_file k.generation)) (read_for (version_in (contents (checkpoint_file k.generation)))) (subst (λ n. IsCheckpointIn k (contents (checkpoint_file n))) (sym stands.kept.sealed) may.sealed)
           (omega (arith, new_generation))));
     }
 

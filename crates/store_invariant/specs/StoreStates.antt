@@ -2,10 +2,9 @@
 use Rattle.std.specs.Prelude.{◌≡◌, ◌≢◌, ℕ, ◌+◌, ◌≤◌, max, List, [], length, Option, None, Some}
 use Rattle.disk_model.specs.Files.{Contents, File, Files, Leaves, MayLeave, at_rest}
 use Rattle.map_model.specs.Histories.{History}
-use Rattle.log_records.specs.Layout.{first_layout}
-use Rattle.store_layout.specs.Checkpoints.{Section, Checkpoint, IsCheckpoint, checkpoint_file, greatest_mark}
-use Rattle.store_layout.specs.Logs.{Batch, IsEnded, commands_in, log_file}
-use Rattle.store_layout.specs.Opening.{IsOlder, StandsForFront, log_of, next_low}
+use Rattle.store_layout.specs.Checkpoints.{Section, Checkpoint, checkpoint_file, greatest_mark}
+use Rattle.store_layout.specs.Logs.{Batch, commands_in, log_file}
+use Rattle.store_layout.specs.Opening.{IsCheckpointIn, IsEndedIn, IsOlder, StandsForFront, log_of, next_low}
 use Rattle.store_layout.specs.SectionsAndLog.{AreMarks, AreParts, IsLogOf, IsNextOf, Restores, reach}
 use Rattle.checkpoint_file.specs.CheckpointStates as checkpoint
 use Rattle.checkpoint_file.specs.States.{CheckpointState}
@@ -30,11 +29,11 @@ StopsStand h least most files = (contents : Contents) → Leaves files contents 
 pub record IsSealedIn (k : Checkpoint) (file : File) : Type 0 where
   pub content : List ℕ
   pub settled : file ≡ at_rest content
-  pub checkpoint : IsCheckpoint first_layout k content
+  pub checkpoint : IsCheckpointIn k content
 
 -- whatever a stop may leave of the file is a log with these batches that has ended, and names the next generation
 abbrev pub HasEnded : ℕ → ℕ → List Batch → File → Type 0
-HasEnded generation low batches file = (content : List ℕ) → MayLeave file content → IsEnded first_layout generation low batches (generation + 1) content
+HasEnded generation low batches file = (content : List ℕ) → MayLeave file content → IsEndedIn generation low batches (generation + 1) content
 
 -- The newest log is that of the checkpoint's generation; or that one has ended, and the newest is the next.
 abbrev pub LogsStand : Checkpoint → List Batch → Option (List Batch) → LogState → List Batch → Files → Type 0

@@ -15,7 +15,7 @@ use Rattle.log_records.specs.Layout.{Layout, IsLayout}
 use Rattle.log_records.specs.Agreement.{IsBytes}
 use Rattle.log_records.proofs.Digits.{IsBytes-drop, IsBytes-take}
 use Rattle.store_layout.specs.Checkpoints.{Section, Checkpoint, entry_bytes, entries_bytes, marked_bytes, section_bytes, sections_bytes, greatest_mark, IsEntryOf, IsSection, AreSections, AreMarkedFrom, IsCheckpoint, is_sealed}
-use Rattle.store_layout.specs.Faults.{AreEntries, IsFault, no_head, bad_entry, left_over, HasFault, low_in, greatest_in, stripes_in, body_length_in, body_in, checkpoint_in, head_fault, size_fault, IsBadCheckpoint, bad_size, bad_section, bad_marks}
+use Rattle.store_layout.specs.Faults.{AreEntries, IsFault, no_head, bad_entry, left_over, HasFault, version_in, low_in, greatest_in, stripes_in, body_length_in, body_in, checkpoint_in, head_fault, size_fault, IsBadCheckpoint, bad_size, bad_section, bad_marks}
 use Rattle.store_layout.proofs.EntryRows.{section_parts}
 use Rattle.store_layout.proofs.CheckpointReading.{next_field, number_fits, fields_make}
 use Rattle.store_layout.proofs.Looking.{More, read_entries}
@@ -197,7 +197,7 @@ marks_told low (x ∷ xs) = elim (cases_lt x.mark low) as (λ _. AreMarkedFrom l
   ]
 ]
 
-module _ (layout : Layout) (room : IsLayout layout) (file : ℕ) (content : List ℕ) (fits : IsBytes content) (s : is_sealed content ≡ true) (head : head_fault file content ≡ None) where
+module _ (layout : Layout) (room : IsLayout layout) (file : ℕ) (content : List ℕ) (fits : IsBytes content) (s : is_sealed content ≡ true) (head : head_fault file content ≡ None) (is_version : version_in content ≡ layout.version) where
   abbrev pub Told : Type 0
   Told = ((k : Checkpoint) × IsCheckpoint layout k content) ⊎ ((refusal : Refusal) × IsBadCheckpoint layout file content refusal)
 
@@ -210,7 +210,7 @@ module _ (layout : Layout) (room : IsLayout layout) (file : ℕ) (content : List
       by : (x : Bool) → (greatest_mark b.sections == greatest_in content) ≡ x → AreMarkedFrom (low_in content) b.sections ⊎ (AreMarkedFrom (low_in content) b.sections → ⊥) → Told
       by false e told = bad (inl (eqb-false _ _ e))
       by true e (inr never) = bad (inr never)
-      by true e (inl marks) = inl (checkpoint_in content b.sections, fields_make layout file content b.sections fits s head size b.spelled b.one_each b.are (eqb-true _ _ e) marks)
+      by true e (inl marks) = inl (checkpoint_in content b.sections, fields_make layout file content b.sections fits s head is_version size b.spelled b.one_each b.are (eqb-true _ _ e) marks)
 
   by_body : size_fault file content ≡ None → Told
   by_body size = elim (read_body layout room (stripes_in content) (body_in content) (IsBytes-take (body_length_in content) (drop 36 content) (IsBytes-drop 36 content fits))) as (λ _. Told) [

@@ -67,7 +67,7 @@ pub next_sealed : IsCheckpoint first_layout next_k next_checkpoint
 unfolding checkpoint_header marked_bytes
 next_sealed = record {
   rest = [];
-  bytes = ap₂ (λ (es ds : Entries). 165 ∷ ((checkpoint_header 1 0 4 2 (length (both_bytes es ds)) ++ both_bytes es ds) ++ [])) (sym (one_entry b 2)) (sym (one_entry a 4));
+  bytes = ap₂ (λ (es ds : Entries). 165 ∷ ((checkpoint_header first_layout 1 0 4 2 (length (both_bytes es ds)) ++ both_bytes es ds) ++ [])) (sym (one_entry b 2)) (sym (one_entry a 4));
   whole = record {
     generation_fits = omega arith;
     low_fits = omega arith;

@@ -9,6 +9,7 @@ use Rattle.java_hash.specs.Stripes.{is_stripe_count}
 use Rattle.map_types.specs.declared.refusals.Refusal.{Refusal}
 use Rattle.map_types.specs.declared.refusals.Refusal.TheVariants.{Damaged, WrongVersion}
 use Rattle.log_records.specs.Layout.{Layout, IsLayout}
+use Rattle.store_layout.specs.Logs.{is_read}
 use Rattle.store_layout.specs.Checkpoints.{Section, Checkpoint, checkpoint_bytes, checkpoint_header, sections_bytes, greatest_mark, AreSections, AreMarkedFrom, IsCheckpoint, is_sealed}
 use Rattle.store_layout.specs.Faults.{version_in, generation_in, low_in, greatest_in, stripes_in, body_length_in, body_in, head_fault, size_fault, HasFault, HasBadMarks, IsBadCheckpoint, bad_size, bad_section, bad_marks}
 use Rattle.store_layout.proofs.SectionRows.{same_sections, no_fault, one_fault}
@@ -36,7 +37,7 @@ from_10 layout k rest = big_bytes 8 k.low ++ from_18 layout k rest
 
 -- a sealed file, field by field
 abbrev pub fields_bytes : Layout → Checkpoint → List ℕ → List ℕ
-fields_bytes layout k rest = 165 ∷ (1 ∷ (big_bytes 8 k.generation ++ from_10 layout k rest))
+fields_bytes layout k rest = 165 ∷ (layout.version ∷ (big_bytes 8 k.generation ++ from_10 layout k rest))
 
 pub fields : (layout : Layout) (k : Checkpoint) (rest : List ℕ) → 165 ∷ (checkpoint_bytes layout k ++ rest) ≡ fields_bytes layout k rest
 unfolding checkpoint_header
@@ -56,7 +57,7 @@ module _ (layout : Layout) (k : Checkpoint) (content : List ℕ) (is : IsCheckpo
   spelled : content ≡ fields_bytes layout k is.rest
   spelled = is.bytes ∙ fields layout k is.rest
 
-  pub has_version : version_in content ≡ 1
+  pub has_version : version_in content ≡ layout.version
   has_version = ap version_in spelled
 
   pub has_generation : generation_in content ≡ k.generation
@@ -102,16 +103,16 @@ module _ (layout : Layout) (k : Checkpoint) (content : List ℕ) (is : IsCheckpo
       first_open ∙ ap (λ b. b && true) enough
 
   -- the file that it belongs into finds no fault in its head
-  pub has_head : (file : ℕ) → k.generation % 2 ≡ file → head_fault file content ≡ None
-  has_head file is_file = head_by (is_sealed content) (version_in content) (generation_in content % 2) file sealed has_version (ap (λ n. n % 2) has_generation ∙ is_file)
+  pub has_head : is_read layout.version ≡ true → (file : ℕ) → k.generation % 2 ≡ file → head_fault file content ≡ None
+  has_head is_version file is_file =
+      head_by (is_sealed content) (is_read (version_in content)) (generation_in content % 2) file sealed (ap is_read has_version ∙ is_version) (ap (λ n. n % 2) has_generation ∙ is_file)
     where
-      head_by : (sealed : Bool) (version parity file : ℕ) → sealed ≡ true → version ≡ 1 → parity ≡ file
-          → cond (not sealed) None (cond (not (version == 1)) (Some WrongVersion) (cond (not (parity == file)) (Some (Damaged file 2)) None)) ≡ None
-      head_by sealed version parity file s v p =
+      head_by : (sealed one : Bool) (parity file : ℕ) → sealed ≡ true → one ≡ true → parity ≡ file
+          → cond (not sealed) None (cond (not one) (Some WrongVersion) (cond (not (parity == file)) (Some (Damaged file 2)) None)) ≡ None
+      head_by sealed one parity file s v p =
           let same : (parity == file) ≡ true = grind (arith, nat_tests) in
-          let one : (version == 1) ≡ true = grind (arith, nat_tests) in
-          ap (λ b. cond (not b) None (cond (not (version == 1)) (Some WrongVersion) (cond (not (parity == file)) (Some (Damaged file 2)) None))) s
-          ∙ ap (λ b. cond (not b) (Some WrongVersion) (cond (not (parity == file)) (Some (Damaged file 2)) None)) one
+          ap (λ b. cond (not b) None (cond (not one) (Some WrongVersion) (cond (not (parity == file)) (Some (Damaged file 2)) None))) s
+          ∙ ap (λ b. cond (not b) (Some WrongVersion) (cond (not (parity == file)) (Some (Damaged file 2)) None)) v
           ∙ ap (λ b. cond (not b) (Some (Damaged file 2)) None) same
 
   pub has_size : (file : ℕ) → size_fault file content ≡ None

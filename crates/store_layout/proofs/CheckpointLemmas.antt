@@ -37,9 +37,9 @@ pub marks_push : (low : ℕ) (sections : List Section) (x : Section) → AreMark
 marks_push low [] x all one = (one, tt)
 marks_push low (y ∷ sections) x all one = (all.0, marks_push low sections x all.1 one)
 
-pub length-checkpoint_header : (a b c d e : ℕ) → length (checkpoint_header a b c d e) ≡ 35
+pub length-checkpoint_header : (layout : Layout) (a b c d e : ℕ) → length (checkpoint_header layout a b c d e) ≡ 35
 unfolding checkpoint_header
-length-checkpoint_header a b c d e = refl
+length-checkpoint_header layout a b c d e = refl
 
 pub length-marked : (layout : Layout) (mark : ℕ) (entries : List (List ℕ × Value)) → length (marked_bytes layout mark entries) ≡ 12 + length (entries_bytes layout entries)
 unfolding marked_bytes
@@ -51,26 +51,3 @@ length-marked layout mark entries =
       length-bytes_high_first 8 mark,
       length-bytes_high_first 4 (length entries),
     )
-
--- ---- how long they may be
-
-value_bound : (value : Value) → IsValue value → length (value_bytes (Some value)) ≤ 4099
-value_bound (Int number) is = omega (arith, length-bytes_high_first 8 (cast_unsigned w64 number))
-value_bound (Text text) is = omega (arith, length-append (big_bytes 2 (length text)) text, length-bytes_high_first 2 (length text), is.0)
-
-entry_bound : (entry : List ℕ × Value) → IsText 255 entry.0 → IsValue entry.1 → length (entry_bytes first_layout entry) ≤ 4355
-entry_bound entry text value =
-    omega (
-      arith,
-      length-append (big_bytes 1 (length entry.0) ++ entry.0) (value_bytes (Some entry.1)),
-      length-append (big_bytes 1 (length entry.0)) entry.0,
-      length-bytes_high_first 1 (length entry.0),
-      value_bound entry.1 value,
-      text.0,
-    )
-
-pub entries_bound : (entries : List (List ℕ × Value)) → AllByRecursion (λ (entry : List ℕ × Value). IsText 255 entry.0 × IsValue entry.1) entries
-    → length (entries_bytes first_layout entries) ≤ 4355 * length entries
-entries_bound [] all = omega arith
-entries_bound (x ∷ entries) all =
-    omega (arith, length-append (entry_bytes first_layout x) (entries_bytes first_layout entries), entry_bound x all.0.0 all.0.1, entries_bound entries all.1)

@@ -11,6 +11,7 @@ use Rattle.map_types.specs.declared.refusals.Refusal.TheVariants.{Damaged, Wrong
 use Rattle.log_records.specs.Agreement.{IsBytes}
 use Rattle.log_records.specs.Layout.{Layout}
 use Rattle.log_records.proofs.Digits.{IsBytes-rest, IsBytes-drop, big_bytes-big_number}
+use Rattle.store_layout.specs.Logs.{is_read}
 use Rattle.store_layout.specs.Checkpoints.{Section, sections_bytes, greatest_mark, AreSections, AreMarkedFrom, IsCheckpoint, is_sealed}
 use Rattle.store_layout.specs.Faults.{version_in, generation_in, low_in, greatest_in, stripes_in, body_length_in, body_in, checkpoint_in, head_fault, size_fault}
 use Rattle.store_layout.specs.OpeningLaws.{FieldsMakeCheckpoint}
@@ -36,13 +37,13 @@ both_true true true e = (refl, refl)
 both_true true false e = absurd cc
 both_true false y e = absurd cc
 
-right_version : (file : ℕ) (content : List ℕ) → is_sealed content ≡ true → head_fault file content ≡ None → version_in content ≡ 1
-right_version file content s e = by (is_sealed content) (version_in content == 1) refl _ s e
+pub read_version : (file : ℕ) (content : List ℕ) → is_sealed content ≡ true → head_fault file content ≡ None → is_read (version_in content) ≡ true
+read_version file content s e = by (is_sealed content) (is_read (version_in content)) _ s e
   where
-    by : (x one : Bool) → (version_in content == 1) ≡ one → (rest : Option Refusal) → x ≡ true → cond (not x) None (cond (not one) (Some WrongVersion) rest) ≡ None → version_in content ≡ 1
-    by false one is rest s e = absurd cc
-    by true false is rest s e = absurd (some_not_none WrongVersion e)
-    by true true is rest s e = eqb-true _ _ is
+    by : (x one : Bool) (rest : Option Refusal) → x ≡ true → cond (not x) None (cond (not one) (Some WrongVersion) rest) ≡ None → one ≡ true
+    by false one rest s e = absurd cc
+    by true false rest s e = absurd (some_not_none WrongVersion e)
+    by true true rest s e = refl
 
 record IsSized (content : List ℕ) : Type 0 where
   stripes : is_stripe_count (stripes_in content) ≡ true
@@ -63,12 +64,11 @@ module _ (layout : Layout) (file : ℕ) (sections : List Section) (first version
   abbrev all : List ℕ
   all = first ∷ version ∷ rest
 
-  made : IsBytes all → is_sealed all ≡ true → head_fault file all ≡ None → size_fault file all ≡ None → body_in all ≡ sections_bytes layout sections → length sections ≡ stripes_in all
+  made : IsBytes all → is_sealed all ≡ true → version ≡ layout.version → size_fault file all ≡ None → body_in all ≡ sections_bytes layout sections → length sections ≡ stripes_in all
       → AreSections layout (stripes_in all) 0 sections → greatest_mark sections ≡ greatest_in all → AreMarkedFrom (low_in all) sections → IsCheckpoint layout (checkpoint_in all sections) all
-  made fits s head size body many are greatest marks =
+  made fits s one size body many are greatest marks =
       let tests = both_true (nat_le 36 (length all)) (first == 165) s in
       let open_gate : first ≡ 165 = eqb-true _ _ tests.1 in
-      let one : version ≡ 1 = right_version file all s head in
       let sizes = sized file all size in
       let inside = sizes.inside in
       let long : 34 + body_length_in all ≤ length rest = omega (arith, inside) in
@@ -87,7 +87,7 @@ module _ (layout : Layout) (file : ℕ) (sections : List Section) (first version
       let fits_b : body_length_in all < 256 ^ 8 = number_fits 8 26 rest bytes in
       record {
         rest = behind;
-        bytes = ap₂ (λ (x y : ℕ). x ∷ y ∷ rest) open_gate one ∙ ap (λ (l : List ℕ). 165 ∷ (1 ∷ l)) from_2 ∙ sym (fields layout (checkpoint_in all sections) behind);
+        bytes = ap₂ (λ (x y : ℕ). x ∷ y ∷ rest) open_gate one ∙ ap (λ (l : List ℕ). 165 ∷ (layout.version ∷ l)) from_2 ∙ sym (fields layout (checkpoint_in all sections) behind);
         whole = record {
           generation_fits = omega (arith, fits_g);
           low_fits = omega (arith, fits_l);
@@ -100,6 +100,6 @@ module _ (layout : Layout) (file : ℕ) (sections : List Section) (first version
       }
 
 pub fields_make : FieldsMakeCheckpoint
-fields_make layout file [] sections fits s = absurd (let tests = both_true (nat_le 36 0) false s in cc)
-fields_make layout file (first ∷ []) sections fits s = absurd (let tests = both_true (nat_le 36 1) (first == 165) s in cc)
-fields_make layout file (first ∷ version ∷ rest) sections fits s = made layout file sections first version rest fits s
+fields_make layout file [] sections fits s head = absurd (let tests = both_true (nat_le 36 0) false s in cc)
+fields_make layout file (first ∷ []) sections fits s head = absurd (let tests = both_true (nat_le 36 1) (first == 165) s in cc)
+fields_make layout file (first ∷ version ∷ rest) sections fits s head = made layout file sections first version rest fits s

@@ -10,20 +10,20 @@ use Rattle.map_types.specs.declared.commands.Change.TheVariants.{Put}
 use Rattle.map_types.specs.declared.commands.Command.{Command}
 use Rattle.map_types.specs.declared.texts.Value.{Value}
 use Rattle.map_model.specs.Maps.{Map}
-use Rattle.log_records.specs.Layout.{first_layout}
+use Rattle.log_records.specs.Layout.{first_layout, second_layout}
 use Rattle.log_records.specs.Spelling.{IsCommand}
 use Rattle.store_layout.specs.Logs.{Batch, IsClosed, frame, header}
 use Rattle.store_layout.specs.Checkpoints.{checkpoint_header, marked_bytes, IsCheckpoint}
 use Rattle.store_layout.specs.Opening.{first_checkpoint}
-use Rattle.store_layout.specs.Examples.{files, new_checkpoint, new_log, log_with_five, a, b, number, old_checkpoint, NewStore, FirstChange, UncommittedChange}
+use Rattle.store_layout.specs.Examples.{files, new_checkpoint, new_log, log_with_five, second_log, SecondVersion, a, b, number, old_checkpoint, NewStore, FirstChange, UncommittedChange}
 use Rattle.store_layout.proofs.NewStores.{no_entries, no_map, first_is_whole, first_stands}
 
 pub new_sealed : IsCheckpoint first_layout (first_checkpoint 1) new_checkpoint
 unfolding checkpoint_header marked_bytes
 new_sealed = record {
   rest = [];
-  bytes = ap (λ (es : List (List ℕ × Value)). 165 ∷ ((checkpoint_header 0 0 0 1 (length (marked_bytes first_layout 0 es ++ [])) ++ (marked_bytes first_layout 0 es ++ [])) ++ [])) (sym no_entries);
-  whole = (first_is_whole 1 refl).0;
+  bytes = ap (λ (es : List (List ℕ × Value)). 165 ∷ ((checkpoint_header first_layout 0 0 0 1 (length (marked_bytes first_layout 0 es ++ [])) ++ (marked_bytes first_layout 0 es ++ [])) ++ [])) (sym no_entries);
+  whole = (first_is_whole first_layout 1 refl).0;
 }
 
 pub old_sealed : IsCheckpoint first_layout (first_checkpoint 2) old_checkpoint
@@ -31,8 +31,8 @@ unfolding checkpoint_header marked_bytes
 old_sealed = record {
   rest = [];
   bytes = ap (λ (es : List (List ℕ × Value)).
-      165 ∷ ((checkpoint_header 0 0 0 2 (length (marked_bytes first_layout 0 es ++ (marked_bytes first_layout 0 es ++ []))) ++ (marked_bytes first_layout 0 es ++ (marked_bytes first_layout 0 es ++ []))) ++ [])) (sym no_entries);
-  whole = (first_is_whole 2 refl).0;
+      165 ∷ ((checkpoint_header first_layout 0 0 0 2 (length (marked_bytes first_layout 0 es ++ (marked_bytes first_layout 0 es ++ []))) ++ (marked_bytes first_layout 0 es ++ (marked_bytes first_layout 0 es ++ []))) ++ [])) (sym no_entries);
+  whole = (first_is_whole first_layout 2 refl).0;
 }
 
 new_closed : (gate : ℕ) (rest : List ℕ) → gate ≢ 165 → IsClosed first_layout 0 0 [] (1 ∷ (0 ∷ 0 ∷ 0 ∷ 0 ∷ 0 ∷ 0 ∷ 0 ∷ 0 ∷ 0 ∷ 0 ∷ 0 ∷ 0 ∷ 0 ∷ 0 ∷ 0 ∷ 0 ∷ gate ∷ rest))
@@ -95,6 +95,34 @@ first_change = record {
     checkpoint = new_sealed;
     other = inl refl;
     logs = first_closed;
+    reaches = omega arith;
+  };
+  prefix = refl;
+  map = ap (λ (m : Map). finite.insert m a (number 5)) (no_map 1);
+}
+
+second_closed : IsClosed second_layout 0 0 (five ∷ []) second_log
+unfolding header frame five
+second_closed = record {
+  gate = 0;
+  rest = [];
+  bytes = refl;
+  closed = λ e. omega (arith, e);
+  log = record {
+    generation_fits = omega arith;
+    low_fits = omega arith;
+    in_order = (record { fits = omega arith; some = omega arith; few = omega arith; short = omega arith; well_formed = (((omega arith, a_is_text), small_fits 5 (omega arith)), tt) }, refl, tt);
+  };
+}
+
+pub second_version : SecondVersion
+unfolding five stripe_of hash_of weighted_sum units_of chars
+second_version = record {
+  found = record { checkpoint = first_checkpoint 1; first = five ∷ []; second = None };
+  holds = record {
+    checkpoint = new_sealed;
+    other = inl refl;
+    logs = second_closed;
     reaches = omega arith;
   };
   prefix = refl;

@@ -14,7 +14,9 @@ pub mod Looking
 pub mod NewStores
 pub mod OpeningReading
 pub mod Openings
+pub mod OwnLayouts
 pub mod ReadingLemmas
 pub mod RefusalExamples
 pub mod Restoring
 pub mod SectionRows
+pub mod Versions

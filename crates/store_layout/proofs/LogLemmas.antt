@@ -19,7 +19,7 @@ opened_push layout (x ∷ batches) b =
 pub front_push : (layout : Layout) (generation low : ℕ) (batches : List Batch) (b : Batch)
     → log_front layout generation low (batches ++ b ∷ []) ≡ log_front layout generation low batches ++ 165 ∷ frame layout b
 front_push layout generation low batches b =
-    ap (λ (l : List ℕ). header generation low ++ l) (opened_push layout batches b) ∙ sym (append_assoc (header generation low) (opened layout batches) (165 ∷ frame layout b))
+    ap (λ (l : List ℕ). header layout generation low ++ l) (opened_push layout batches b) ∙ sym (append_assoc (header layout generation low) (opened layout batches) (165 ∷ frame layout b))
 
 pub commands_push : (batches : List Batch) (b : Batch) → length (commands_in (batches ++ b ∷ [])) ≡ length (commands_in batches) + length b.commands
 commands_push [] b = omega (arith, length-append b.commands [])
@@ -35,9 +35,9 @@ pub length-frame : (layout : Layout) (b : Batch) → length (frame layout b) ≡
 unfolding frame
 length-frame layout b = omega arith
 
-pub length-header : (generation low : ℕ) → length (header generation low) ≡ 17
+pub length-header : (layout : Layout) (generation low : ℕ) → length (header layout generation low) ≡ 17
 unfolding header
-length-header generation low = refl
+length-header layout generation low = refl
 
 pub length-end_frame : (next : ℕ) → length (end_frame next) ≡ 13
 unfolding end_frame

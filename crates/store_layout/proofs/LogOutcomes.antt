@@ -1,17 +1,19 @@
 -- The logs of a checkpoint read in one way.
 use Rattle.std.proofs.Common.{◌≡◌, ◌≤◌, ◌<◌, ℕ, ◌+◌, true, false, cond, nat_lt, Option, None, Some, List, ◌∷◌, ◌++◌, length, Result, Ok, Err, refl, sym, ap, ap₂, subst, ◌∙◌, append_assoc, arith}
+use Rattle.std.specs.Prelude.{slice_index_or}
 use Rattle.std.proofs.lemmas.Bool.Decides.{nat_tests}
 use Rattle.std.proofs.lemmas.List.{length-append}
 use Rattle.byteorder.specs.Endian.{big_bytes}
 use Rattle.byteorder.specs.Numbers.{length-bytes_high_first}
 use Rattle.map_types.specs.declared.refusals.Refusal.{Refusal}
-use Rattle.log_records.specs.Layout.{Layout, IsLayout, first_layout}
-use Rattle.store_layout.specs.Logs.{Batch, IsLog, end_frame, header, log_file, log_front, opened}
+use Rattle.log_records.specs.Layout.{Layout}
+use Rattle.store_layout.specs.Logs.{Batch, IsLog, end_frame, header, is_read, log_file, log_front, opened}
 use Rattle.store_layout.specs.Checkpoints.{Checkpoint, greatest_mark}
 use Rattle.store_layout.specs.Readings.{HasHeader, IsBadHeader, too_short, wrong_version, wrong_generation, wrong_low, Reading, closed, ended, broken, Reads}
-use Rattle.store_layout.specs.Opening.{Contents, next_low, newest_by, logged_by, AreLogs, damage_behind, AreBadLogs, bad_header, bad_frame, bad_next_header, bad_next_frame, second_end, below_mark}
+use Rattle.store_layout.specs.Opening.{Contents, log_layout, ReadsIn, next_low, newest_by, logged_by, AreLogs, damage_behind, AreBadLogs, bad_header, bad_frame, bad_next_header, bad_next_frame, second_end, below_mark}
 use Rattle.store_layout.proofs.FrameLemmas.{same_number, same_rest}
 use Rattle.store_layout.proofs.ReadingLemmas.{begins, one_reading}
+use Rattle.store_layout.proofs.Versions.{room_for, read_for}
 
 -- ---- headers
 
@@ -39,43 +41,46 @@ header_long v g l content h =
     let d = length-bytes_high_first 8 l in
     omega arith
 
+read_or_not : (v v' : ℕ) → v ≡ v' → is_read v ≡ false → is_read v' ≡ true → ⊥
+read_or_not v v' e w is = absurd (let clash : false ≡ true = sym w ∙ ap is_read e ∙ is in cc)
+
 one_bad_header : (g l : ℕ) (content : List ℕ) (r r' : Refusal) → IsBadHeader g l content r → IsBadHeader g l content r' → r ≡ r'
 one_bad_header g l content r r' (too_short p e) (too_short q e') = e ∙ sym e'
-one_bad_header g l content r r' (too_short p e) (wrong_version v h m q w e') = let long = header_long v h m content q in absurd (omega (arith, p, long))
-one_bad_header g l content r r' (too_short p e) (wrong_generation h m q w e') = let long = header_long 1 h m content q in absurd (omega (arith, p, long))
-one_bad_header g l content r r' (too_short p e) (wrong_low m q w e') = let long = header_long 1 g m content q in absurd (omega (arith, p, long))
+one_bad_header g l content r r' (too_short p e) (wrong_version v' h' m' q w' e') = let long = header_long v' h' m' content q in absurd (omega (arith, p, long))
+one_bad_header g l content r r' (too_short p e) (wrong_generation v' h' m' q is' w' e') = let long = header_long v' h' m' content q in absurd (omega (arith, p, long))
+one_bad_header g l content r r' (too_short p e) (wrong_low v' m' q is' w' e') = let long = header_long v' g m' content q in absurd (omega (arith, p, long))
 one_bad_header g l content r r' (wrong_version v h m p w e) (too_short q e') = let long = header_long v h m content p in absurd (omega (arith, q, long))
 one_bad_header g l content r r' (wrong_version v h m p w e) (wrong_version v' h' m' q w' e') = e ∙ sym e'
-one_bad_header g l content r r' (wrong_version v h m p w e) (wrong_generation h' m' q w' e') = absurd (w (one_header v h m 1 h' m' content p q).0)
-one_bad_header g l content r r' (wrong_version v h m p w e) (wrong_low m' q w' e') = absurd (w (one_header v h m 1 g m' content p q).0)
-one_bad_header g l content r r' (wrong_generation h m p w e) (too_short q e') = let long = header_long 1 h m content p in absurd (omega (arith, q, long))
-one_bad_header g l content r r' (wrong_generation h m p w e) (wrong_version v' h' m' q w' e') = absurd (w' (one_header v' h' m' 1 h m content q p).0)
-one_bad_header g l content r r' (wrong_generation h m p w e) (wrong_generation h' m' q w' e') = e ∙ sym e'
-one_bad_header g l content r r' (wrong_generation h m p w e) (wrong_low m' q w' e') = absurd (w (one_header 1 h m 1 g m' content p q).1)
-one_bad_header g l content r r' (wrong_low m p w e) (too_short q e') = let long = header_long 1 g m content p in absurd (omega (arith, q, long))
-one_bad_header g l content r r' (wrong_low m p w e) (wrong_version v' h' m' q w' e') = absurd (w' (one_header v' h' m' 1 g m content q p).0)
-one_bad_header g l content r r' (wrong_low m p w e) (wrong_generation h' m' q w' e') = absurd (w' (one_header 1 h' m' 1 g m content q p).1)
-one_bad_header g l content r r' (wrong_low m p w e) (wrong_low m' q w' e') = e ∙ sym e'
+one_bad_header g l content r r' (wrong_version v h m p w e) (wrong_generation v' h' m' q is' w' e') = absurd (read_or_not v v' (one_header v h m v' h' m' content p q).0 w is')
+one_bad_header g l content r r' (wrong_version v h m p w e) (wrong_low v' m' q is' w' e') = absurd (read_or_not v v' (one_header v h m v' g m' content p q).0 w is')
+one_bad_header g l content r r' (wrong_generation v h m p is w e) (too_short q e') = let long = header_long v h m content p in absurd (omega (arith, q, long))
+one_bad_header g l content r r' (wrong_generation v h m p is w e) (wrong_version v' h' m' q w' e') = absurd (read_or_not v' v (one_header v' h' m' v h m content q p).0 w' is)
+one_bad_header g l content r r' (wrong_generation v h m p is w e) (wrong_generation v' h' m' q is' w' e') = e ∙ sym e'
+one_bad_header g l content r r' (wrong_generation v h m p is w e) (wrong_low v' m' q is' w' e') = absurd (w (one_header v h m v' g m' content p q).1)
+one_bad_header g l content r r' (wrong_low v m p is w e) (too_short q e') = let long = header_long v g m content p in absurd (omega (arith, q, long))
+one_bad_header g l content r r' (wrong_low v m p is w e) (wrong_version v' h' m' q w' e') = absurd (read_or_not v' v (one_header v' h' m' v g m content q p).0 w' is)
+one_bad_header g l content r r' (wrong_low v m p is w e) (wrong_generation v' h' m' q is' w' e') = absurd (w' (one_header v' h' m' v g m content q p).1)
+one_bad_header g l content r r' (wrong_low v m p is w e) (wrong_low v' m' q is' w' e') = e ∙ sym e'
 
-whole_header : (g l : ℕ) (content : List ℕ) (r : Refusal) → HasHeader 1 g l content → IsBadHeader g l content r → ⊥
-whole_header g l content r h (too_short p e) = let long = header_long 1 g l content h in omega (arith, p, long)
-whole_header g l content r h (wrong_version v g' l' q w e) = w (one_header v g' l' 1 g l content q h).0
-whole_header g l content r h (wrong_generation g' l' q w e) = w (one_header 1 g' l' 1 g l content q h).1
-whole_header g l content r h (wrong_low l' q w e) = w (one_header 1 g l' 1 g l content q h).2
+whole_header : (v g l : ℕ) (content : List ℕ) (r : Refusal) → HasHeader v g l content → is_read v ≡ true → IsBadHeader g l content r → ⊥
+whole_header v g l content r h is (too_short p e) = let long = header_long v g l content h in omega (arith, p, long)
+whole_header v g l content r h is (wrong_version v' g' l' q w e) = read_or_not v' v (one_header v' g' l' v g l content q h).0 w is
+whole_header v g l content r h is (wrong_generation v' g' l' q is' w e) = w (one_header v' g' l' v g l content q h).1
+whole_header v g l content r h is (wrong_low v' l' q is' w e) = w (one_header v' g l' v g l content q h).2
 
-front_header : (layout : Layout) (g l : ℕ) (batches : List Batch) (x : ℕ) (xs content : List ℕ) → IsLog layout g l batches → content ≡ log_front layout g l batches ++ x ∷ xs → HasHeader 1 g l content
+front_header : (layout : Layout) (g l : ℕ) (batches : List Batch) (x : ℕ) (xs content : List ℕ) → IsLog layout g l batches → content ≡ log_front layout g l batches ++ x ∷ xs → HasHeader layout.version g l content
 unfolding header
 front_header layout g l batches x xs content log e =
     let next = begins layout batches x xs in
     record {
       gate = next.0;
       rest = next.1;
-      bytes = e ∙ append_assoc (header g l) (opened layout batches) (x ∷ xs) ∙ ap (λ (t : List ℕ). header g l ++ t) next.2;
+      bytes = e ∙ append_assoc (header layout g l) (opened layout batches) (x ∷ xs) ∙ ap (λ (t : List ℕ). header layout g l ++ t) next.2;
       generation_fits = log.generation_fits;
       low_fits = log.low_fits;
     }
 
-reads_header : (layout : Layout) (g l : ℕ) (content : List ℕ) (reading : Reading) → Reads layout g l content reading → HasHeader 1 g l content
+pub reads_header : (layout : Layout) (g l : ℕ) (content : List ℕ) (reading : Reading) → Reads layout g l content reading → HasHeader layout.version g l content
 reads_header layout g l content (closed batches) h = front_header layout g l batches h.gate h.rest content h.log h.bytes
 reads_header layout g l content (ended batches) h = front_header layout g l batches 165 (end_frame (g + 1) ++ h.after ∷ h.rest) content h.log h.bytes
 reads_header layout g l content (broken batches) h = front_header layout g l batches 165 h.rest content h.log h.bytes
@@ -89,16 +94,13 @@ data Outcome : Type 0 where
 
 abbrev IsOutcome : ℕ → ℕ → List ℕ → Outcome → Type 0
 IsOutcome g l content (faulty r) = IsBadHeader g l content r
-IsOutcome g l content (whole reading) = Reads first_layout g l content reading
-
-pub first_room : IsLayout first_layout
-first_room = omega arith
+IsOutcome g l content (whole reading) = ReadsIn g l content reading
 
 one_outcome : (g l : ℕ) (content : List ℕ) (a b : Outcome) → IsOutcome g l content a → IsOutcome g l content b → a ≡ b
 one_outcome g l content (faulty r) (faulty r') p q = ap faulty (one_bad_header g l content r r' p q)
-one_outcome g l content (faulty r) (whole b) p q = absurd (whole_header g l content r (reads_header first_layout g l content b q) p)
-one_outcome g l content (whole a) (faulty r') p q = absurd (whole_header g l content r' (reads_header first_layout g l content a p) q)
-one_outcome g l content (whole a) (whole b) p q = ap whole (one_reading first_layout first_room g l content a b p q)
+one_outcome g l content (faulty r) (whole b) p q = absurd (whole_header (log_layout content).version g l content r (reads_header (log_layout content) g l content b q) (read_for (slice_index_or content 0 0)) p)
+one_outcome g l content (whole a) (faulty r') p q = absurd (whole_header (log_layout content).version g l content r' (reads_header (log_layout content) g l content a p) (read_for (slice_index_or content 0 0)) q)
+one_outcome g l content (whole a) (whole b) p q = ap whole (one_reading (log_layout content) (room_for (slice_index_or content 0 0)) g l content a b p q)
 
 -- ---- both logs
 
@@ -116,7 +118,7 @@ NotEnded (whole (broken batches)) = Unit {0}
 abbrev AreBoth : Contents → Checkpoint → Both → Type 0
 AreBoth contents k (only a) = IsOutcome k.generation k.low (contents (log_file k.generation)) a × NotEnded a
 AreBoth contents k (behind first b) =
-    Reads first_layout k.generation k.low (contents (log_file k.generation)) (ended first)
+    ReadsIn k.generation k.low (contents (log_file k.generation)) (ended first)
     × IsOutcome (k.generation + 1) (next_low k first) (contents (log_file (k.generation + 1))) b
 
 batches_in : Reading → List Batch
@@ -132,7 +134,7 @@ one_both contents k (only a) (behind first b) p q =
 one_both contents k (behind first a) (only b) p q =
     absurd (subst NotEnded (one_outcome k.generation k.low (contents (log_file k.generation)) b (whole (ended first)) q.0 p.0) q.1)
 one_both contents k (behind first a) (behind first' b) p q =
-    let same : first ≡ first' = ap batches_in (one_reading first_layout first_room k.generation k.low (contents (log_file k.generation)) (ended first) (ended first') p.0 q.0) in
+    let same : first ≡ first' = ap batches_in (one_reading (log_layout (contents (log_file k.generation))) (room_for (slice_index_or (contents (log_file k.generation)) 0 0)) k.generation k.low (contents (log_file k.generation)) (ended first) (ended first') p.0 q.0) in
     let next = one_outcome (k.generation + 1) (next_low k first) (contents (log_file (k.generation + 1))) a b p.1
     (subst (λ (l : List Batch). IsOutcome (k.generation + 1) (next_low k l) (contents (log_file (k.generation + 1))) b) (sym same) q.1) in
     ap₂ behind same next
@@ -141,28 +143,28 @@ one_both contents k (behind first a) (behind first' b) p q =
 abbrev Found : Type 0
 Found = Result (List Batch × Option (List Batch)) Refusal
 
-abbrev reached : Checkpoint → List Batch → Option (List Batch) → Found
-reached k first second = cond (nat_lt (k.low + length (logged_by first second)) (greatest_mark k.sections)) (Err (damage_behind (newest_by k first second))) (Ok (first, second))
+abbrev reached : Contents → Checkpoint → List Batch → Option (List Batch) → Found
+reached contents k first second = cond (nat_lt (k.low + length (logged_by first second)) (greatest_mark k.sections)) (Err (damage_behind contents (newest_by k first second))) (Ok (first, second))
 
-abbrev verdict : Checkpoint → Both → Found
-verdict k (only (faulty r)) = Err r
-verdict k (only (whole (closed first))) = reached k first None
-verdict k (only (whole (ended first))) = Err (damage_behind (newest_by k first None))
-verdict k (only (whole (broken first))) = Err (damage_behind (newest_by k first None))
-verdict k (behind first (faulty r)) = Err r
-verdict k (behind first (whole (closed second))) = reached k first (Some second)
-verdict k (behind first (whole (ended second))) = Err (damage_behind (newest_by k first (Some second)))
-verdict k (behind first (whole (broken second))) = Err (damage_behind (newest_by k first (Some second)))
+abbrev verdict : Contents → Checkpoint → Both → Found
+verdict contents k (only (faulty r)) = Err r
+verdict contents k (only (whole (closed first))) = reached contents k first None
+verdict contents k (only (whole (ended first))) = Err (damage_behind contents (newest_by k first None))
+verdict contents k (only (whole (broken first))) = Err (damage_behind contents (newest_by k first None))
+verdict contents k (behind first (faulty r)) = Err r
+verdict contents k (behind first (whole (closed second))) = reached contents k first (Some second)
+verdict contents k (behind first (whole (ended second))) = Err (damage_behind contents (newest_by k first (Some second)))
+verdict contents k (behind first (whole (broken second))) = Err (damage_behind contents (newest_by k first (Some second)))
 
 pub record LogsGive (contents : Contents) (k : Checkpoint) (found : Result (List Batch × Option (List Batch)) Refusal) : Type 0 where
   both : Both
   are : AreBoth contents k both
-  gives : verdict k both ≡ found
+  gives : verdict contents k both ≡ found
 
 pub one_give : (contents : Contents) (k j : Checkpoint) (a b : Result (List Batch × Option (List Batch)) Refusal) → k ≡ j → LogsGive contents k a → LogsGive contents j b → a ≡ b
 one_give contents k j a b same p q =
     let q' = subst (λ (k : Checkpoint). LogsGive contents k b) (sym same) q in
-    sym p.gives ∙ ap (verdict k) (one_both contents k p.both q'.both p.are q'.are) ∙ q'.gives
+    sym p.gives ∙ ap (verdict contents k) (one_both contents k p.both q'.both p.are q'.are) ∙ q'.gives
 
 pub good_logs : (contents : Contents) (k : Checkpoint) (first : List Batch) (second : Option (List Batch)) → AreLogs contents k first second
     → greatest_mark k.sections ≤ k.low + length (logged_by first second) → LogsGive contents k (Ok (first, second))
@@ -171,31 +173,31 @@ good_logs contents k first None logs up =
     record {
       both = only (whole (closed first));
       are = (logs, tt);
-      gives = ap (λ b. cond b (Err (damage_behind (newest_by k first None))) (Ok (first, None))) no;
+      gives = ap (λ b. cond b (Err (damage_behind contents (newest_by k first None))) (Ok (first, None))) no;
     }
 good_logs contents k first (Some second) logs up =
     let no : nat_lt (k.low + length (logged_by first (Some second))) (greatest_mark k.sections) ≡ false = grind (arith, nat_tests, up) in
     record {
       both = behind first (whole (closed second));
       are = (logs.0, logs.1);
-      gives = ap (λ b. cond b (Err (damage_behind (newest_by k first (Some second)))) (Ok (first, Some second))) no;
+      gives = ap (λ b. cond b (Err (damage_behind contents (newest_by k first (Some second)))) (Ok (first, Some second))) no;
     }
 
 below : (contents : Contents) (k : Checkpoint) (refusal : Refusal) (first : List Batch) (second : Option (List Batch)) → AreLogs contents k first second
-    → k.low + length (logged_by first second) < greatest_mark k.sections → refusal ≡ damage_behind (newest_by k first second) → LogsGive contents k (Err refusal)
+    → k.low + length (logged_by first second) < greatest_mark k.sections → refusal ≡ damage_behind contents (newest_by k first second) → LogsGive contents k (Err refusal)
 below contents k refusal first None logs low place =
     let is : nat_lt (k.low + length (logged_by first None)) (greatest_mark k.sections) ≡ true = grind (arith, nat_tests, low) in
     record {
       both = only (whole (closed first));
       are = (logs, tt);
-      gives = ap (λ b. cond b (Err (damage_behind (newest_by k first None))) (Ok (first, None))) is ∙ ap (λ r. Err r) (sym place);
+      gives = ap (λ b. cond b (Err (damage_behind contents (newest_by k first None))) (Ok (first, None))) is ∙ ap (λ r. Err r) (sym place);
     }
 below contents k refusal first (Some second) logs low place =
     let is : nat_lt (k.low + length (logged_by first (Some second))) (greatest_mark k.sections) ≡ true = grind (arith, nat_tests, low) in
     record {
       both = behind first (whole (closed second));
       are = (logs.0, logs.1);
-      gives = ap (λ b. cond b (Err (damage_behind (newest_by k first (Some second)))) (Ok (first, Some second))) is ∙ ap (λ r. Err r) (sym place);
+      gives = ap (λ b. cond b (Err (damage_behind contents (newest_by k first (Some second)))) (Ok (first, Some second))) is ∙ ap (λ r. Err r) (sym place);
     }
 
 pub bad_logs_give : (contents : Contents) (k : Checkpoint) (refusal : Refusal) → AreBadLogs contents k refusal → LogsGive contents k (Err refusal)

@@ -12,7 +12,7 @@ use Rattle.map_model.proofs.KeyLaws.{ties_itself}
 use Rattle.log_records.specs.Layout.{Layout, IsLayout}
 use Rattle.log_records.specs.Agreement.{IsBytes}
 use Rattle.log_records.proofs.Digits.{IsBytes-rest, IsBytes-drop}
-use Rattle.store_layout.specs.Logs.{Batch, IsBatch, IsRun, IsLog, commands_in, end_frame, frame, header, log_file, log_front, opened, records_bytes}
+use Rattle.store_layout.specs.Logs.{Batch, IsBatch, IsRun, IsLog, commands_in, end_frame, frame, header, is_read, log_file, log_front, opened, records_bytes}
 use Rattle.store_layout.specs.Readings.{HasHeader, IsBadHeader, too_short, wrong_version, wrong_generation, wrong_low, HasNoFrame, Reading, closed, ended, broken, Reads}
 use Rattle.store_layout.proofs.LogLemmas.{length-end_frame, length-frame}
 use Rattle.store_layout.proofs.FrameLemmas.{same_number, same_records, same_rest, frame_parts}
@@ -24,7 +24,7 @@ use Rattle.store_layout.proofs.Looking.{Rows, read_records}
 -- ---- the header
 
 abbrev ToldHeader : ℕ → ℕ → List ℕ → Type 0
-ToldHeader g l content = HasHeader 1 g l content ⊎ ((refusal : Refusal) × IsBadHeader g l content refusal)
+ToldHeader g l content = ((v : ℕ) × (is_read v ≡ true) × HasHeader v g l content) ⊎ ((refusal : Refusal) × IsBadHeader g l content refusal)
 
 module _ (version : ℕ) (rest : List ℕ) (fits : IsBytes rest) (long : 17 ≤ length rest) where
   abbrev generation : ℕ
@@ -52,17 +52,15 @@ module _ (version : ℕ) (rest : List ℕ) (fits : IsBytes rest) (long : 17 ≤ 
           }
 
   told_header : (g l : ℕ) → ToldHeader g l (version ∷ rest)
-  told_header g l = by (version == 1) (generation == g) (low == l) refl refl refl
+  told_header g l = by (is_read version) (generation == g) (low == l) refl refl refl
     where
-      by : (x y z : Bool) → (version == 1) ≡ x → (generation == g) ≡ y → (low == l) ≡ z → ToldHeader g l (version ∷ rest)
-      by false y z p q r = inr (WrongVersion, wrong_version version generation low has_header (eqb-false _ _ p) refl)
-      by true false z p q r =
-          inr (Damaged (log_file g) 1, wrong_generation generation low (subst (λ v. HasHeader v generation low (version ∷ rest)) (eqb-true _ _ p) has_header) (eqb-false _ _ q) refl)
+      by : (x y z : Bool) → is_read version ≡ x → (generation == g) ≡ y → (low == l) ≡ z → ToldHeader g l (version ∷ rest)
+      by false y z p q r = inr (WrongVersion, wrong_version version generation low has_header p refl)
+      by true false z p q r = inr (Damaged (log_file g) 1, wrong_generation version generation low has_header p (eqb-false _ _ q) refl)
       by true true false p q r =
-          inr (Damaged (log_file g) 9, wrong_low low (subst (λ n. HasHeader 1 n low (version ∷ rest)) (eqb-true _ _ q) (subst (λ v. HasHeader v generation low (version ∷ rest)) (eqb-true _ _ p) has_header)) (eqb-false _ _ r) refl)
+          inr (Damaged (log_file g) 9, wrong_low version low (subst (λ n. HasHeader version n low (version ∷ rest)) (eqb-true _ _ q) has_header) p (eqb-false _ _ r) refl)
       by true true true p q r =
-          inl (subst (λ n. HasHeader 1 g n (version ∷ rest)) (eqb-true _ _ r)
-          (subst (λ n. HasHeader 1 n low (version ∷ rest)) (eqb-true _ _ q) (subst (λ v. HasHeader v generation low (version ∷ rest)) (eqb-true _ _ p) has_header)))
+          inl (version, p, subst (λ n. HasHeader version g n (version ∷ rest)) (eqb-true _ _ r) (subst (λ n. HasHeader version n low (version ∷ rest)) (eqb-true _ _ q) has_header))
 
 read_header : (g l : ℕ) (content : List ℕ) → IsBytes content → ToldHeader g l content
 read_header g l [] fits = inr (Damaged (log_file g) 0, too_short (omega arith) refl)
@@ -314,12 +312,12 @@ module _ (layout : Layout) (room : IsLayout layout) (next : ℕ) where
 -- ---- the log
 
 module _ (layout : Layout) (room : IsLayout layout) (g l : ℕ) (content : List ℕ) where
-  read_frames : HasHeader 1 g l content → IsBytes content → (reading : Reading) × Reads layout g l content reading
+  read_frames : HasHeader layout.version g l content → IsBytes content → (reading : Reading) × Reads layout g l content reading
   unfolding header
   read_frames h fits = by (read_run layout room (g + 1) (length h.rest + 1) l h.gate h.rest (omega arith) rest_fits)
     where
       rest_fits : IsBytes h.rest
-      rest_fits = IsBytes-rest h.gate h.rest (subst IsBytes (drop_at (1 ∷ (big_bytes 8 g ++ big_bytes 8 l)) (h.gate ∷ h.rest) 17 refl) (IsBytes-drop 17 ((1 ∷ (big_bytes 8 g ++ big_bytes 8 l)) ++ h.gate ∷ h.rest) (subst IsBytes h.bytes fits)))
+      rest_fits = IsBytes-rest h.gate h.rest (subst IsBytes (drop_at (layout.version ∷ (big_bytes 8 g ++ big_bytes 8 l)) (h.gate ∷ h.rest) 17 refl) (IsBytes-drop 17 ((layout.version ∷ (big_bytes 8 g ++ big_bytes 8 l)) ++ h.gate ∷ h.rest) (subst IsBytes h.bytes fits)))
 
       by : Run layout room (g + 1) l h.gate h.rest → (reading : Reading) × Reads layout g l content reading
       by r = by_stop r.stop
@@ -328,7 +326,7 @@ module _ (layout : Layout) (room : IsLayout layout) (g l : ℕ) (content : List 
           log = record { generation_fits = h.generation_fits; low_fits = h.low_fits; in_order = r.run }
 
           whole : content ≡ log_front layout g l r.batches ++ r.byte ∷ r.rest
-          whole = h.bytes ∙ ap (λ (t : List ℕ). header g l ++ t) r.spelled ∙ sym (append_assoc (header g l) (opened layout r.batches) (r.byte ∷ r.rest))
+          whole = h.bytes ∙ ap (λ (t : List ℕ). header layout g l ++ t) r.spelled ∙ sym (append_assoc (header layout g l) (opened layout r.batches) (r.byte ∷ r.rest))
 
           whole_open : r.byte ≡ 165 → content ≡ log_front layout g l r.batches ++ 165 ∷ r.rest
           whole_open e = whole ∙ ap (λ (b : ℕ). log_front layout g l r.batches ++ b ∷ r.rest) e
@@ -350,8 +348,9 @@ module _ (layout : Layout) (room : IsLayout layout) (g l : ℕ) (content : List 
   abbrev pub ToldLog : Type 0
   ToldLog = ((reading : Reading) × Reads layout g l content reading) ⊎ ((refusal : Refusal) × IsBadHeader g l content refusal)
 
-  pub read_log : IsBytes content → ToldLog
-  read_log fits = elim (read_header g l content fits) as (λ _. ToldLog) [
-    | inl h ↦ inl (read_frames h fits)
+  -- if the layout's version is the only one of a header there that is read
+  pub read_log : ((v g' l' : ℕ) → HasHeader v g' l' content → is_read v ≡ true → v ≡ layout.version) → IsBytes content → ToldLog
+  read_log only fits = elim (read_header g l content fits) as (λ _. ToldLog) [
+    | inl h ↦ inl (read_frames (subst (λ v. HasHeader v g l content) (only h.0 g l h.2 h.1) h.2) fits)
     | inr bad ↦ inr bad
   ]

@@ -11,7 +11,7 @@ use Rattle.map_types.specs.declared.texts.Value.{Value}
 use Rattle.map_model.specs.Maps.{Map, Entries}
 use Rattle.map_model.specs.Parts.{union_of}
 use Rattle.map_model.proofs.MapLaws.{same_gets}
-use Rattle.log_records.specs.Layout.{first_layout}
+use Rattle.log_records.specs.Layout.{Layout}
 use Rattle.store_layout.specs.Checkpoints.{Section, checkpoint_header, entries_bytes, section_bytes, marked_bytes, sections_bytes, greatest_mark, IsEntryOf, AreSections, AreMarkedFrom}
 use Rattle.store_layout.specs.Opening.{empty_section, first_checkpoint}
 use Rattle.store_layout.specs.OpeningLaws.{FirstIsWhole, FirstStands}
@@ -35,18 +35,18 @@ many : (from count : ℕ) → length (empties from count) ≡ count
 many from zero = refl
 many from (suc count) = let rest = many (from + 1) count in omega (arith, rest)
 
-pub section_size : length (section_bytes first_layout empty_section) ≡ 12
+pub section_size : (layout : Layout) → length (section_bytes layout empty_section) ≡ 12
 unfolding marked_bytes
-section_size =
-    let size : length (entries_bytes first_layout (finite.entries nothing)) ≡ 0 = ap (λ (es : Entries). length (entries_bytes first_layout es)) no_entries in
+section_size layout =
+    let size : length (entries_bytes layout (finite.entries nothing)) ≡ 0 = ap (λ (es : Entries). length (entries_bytes layout es)) no_entries in
     omega (arith, size)
 
-size : (from count : ℕ) → length (sections_bytes first_layout (empties from count)) ≡ 12 * count
-size from zero = refl
-size from (suc count) =
-    let rest = size (from + 1) count in
-    let both = length-append (section_bytes first_layout empty_section) (sections_bytes first_layout (empties (from + 1) count)) in
-    omega (arith, rest, both, section_size)
+size : (layout : Layout) (from count : ℕ) → length (sections_bytes layout (empties from count)) ≡ 12 * count
+size layout from zero = refl
+size layout from (suc count) =
+    let rest = size layout (from + 1) count in
+    let both = length-append (section_bytes layout empty_section) (sections_bytes layout (empties (from + 1) count)) in
+    omega (arith, rest, both, section_size layout)
 
 pub greatest : (from count : ℕ) → greatest_mark (empties from count) ≡ 0
 greatest from zero = refl
@@ -56,15 +56,15 @@ marked : (from count : ℕ) → AreMarkedFrom 0 (empties from count)
 marked from zero = tt
 marked from (suc count) = (omega arith, marked (from + 1) count)
 
-pub sections : (stripes stripe from count : ℕ) → AreSections first_layout stripes stripe (empties from count)
-sections stripes stripe from zero = tt
-sections stripes stripe from (suc count) = (
+pub sections : (layout : Layout) (stripes stripe from count : ℕ) → AreSections layout stripes stripe (empties from count)
+sections layout stripes stripe from zero = tt
+sections layout stripes stripe from (suc count) = (
   record {
     mark_fits = omega arith;
     count_fits = let none : length (finite.entries nothing) ≡ 0 = ap (λ (es : Entries). length es) no_entries in omega (arith, none);
-    entries = subst (λ (es : Entries). AllByRecursion (IsEntryOf first_layout stripes stripe) es) (sym no_entries) tt;
+    entries = subst (λ (es : Entries). AllByRecursion (IsEntryOf layout stripes stripe) es) (sym no_entries) tt;
   },
-  sections stripes (stripe + 1) (from + 1) count,
+  sections layout stripes (stripe + 1) (from + 1) count,
 )
 
 few_stripes : (n : ℕ) → is_stripe_count n ≡ true → n ≤ 256
@@ -72,8 +72,8 @@ few_stripes n e = grind (arith, nat_tests)
 
 pub first_is_whole : FirstIsWhole
 unfolding checkpoint_header
-first_is_whole stripes is =
-    let bytes = size 0 stripes in
+first_is_whole layout stripes is =
+    let bytes = size layout 0 stripes in
     let few = few_stripes stripes is in (
       record {
         generation_fits = omega arith;
@@ -81,7 +81,7 @@ first_is_whole stripes is =
         body_fits = omega (arith, bytes, few);
         stripes = is;
         one_each = many 0 stripes;
-        sections = sections stripes 0 0 stripes;
+        sections = sections layout stripes 0 0 stripes;
         marks = marked 0 stripes;
       },
       omega (arith, bytes),

@@ -1,20 +1,21 @@
 -- Opening gives something: what the files stand for, or a refusal.
 use Rattle.std.proofs.Common.{◌≡◌, inl, inr, ◌<◌, ℕ, ◌+◌, Bool, true, false, nat_lt, Option, None, Some, List, length, Result, Ok, Err, refl, sym, subst, arith}
+use Rattle.std.specs.Prelude.{slice_index_or}
 use Rattle.std.proofs.lemmas.Bool.{cases_lt}
 use Rattle.map_types.specs.declared.refusals.Refusal.{Refusal}
 use Rattle.map_types.specs.declared.refusals.Refusal.TheVariants.{NotFormatted}
 use Rattle.log_records.specs.Agreement.{IsBytes}
-use Rattle.log_records.specs.Layout.{first_layout}
 use Rattle.store_layout.specs.Logs.{Batch, log_file}
 use Rattle.store_layout.specs.Checkpoints.{Checkpoint, IsCheckpoint, greatest_mark, is_sealed}
 use Rattle.store_layout.specs.Readings.{Reading, closed, ended, broken, Reads}
-use Rattle.store_layout.specs.Faults.{generation_in, head_fault}
-use Rattle.store_layout.specs.Opening.{Contents, Opened, next_low, newest_by, logged_by, AreLogs, heads_fault, newest_file, damage_behind, AreBadLogs, bad_header, bad_frame, bad_next_header, bad_next_frame, second_end, below_mark, bad_heads, bad_checkpoint, bad_logs, Opens}
+use Rattle.store_layout.specs.Faults.{generation_in, head_fault, version_in}
+use Rattle.store_layout.specs.Opening.{Contents, checkpoint_layout, log_layout, IsCheckpointIn, ReadsIn, Opened, next_low, newest_by, logged_by, AreLogs, heads_fault, newest_file, damage_behind, AreBadLogs, bad_header, bad_frame, bad_next_header, bad_next_frame, second_end, below_mark, bad_heads, bad_checkpoint, bad_logs, Opens}
 use Rattle.store_layout.specs.OpeningLaws.{OpensSomehow}
-use Rattle.store_layout.proofs.LogOutcomes.{first_room}
+use Rattle.store_layout.proofs.Versions.{room_for, version_for, header_version}
 use Rattle.store_layout.proofs.Openings.{heads_by, newest_of_two, one_of_two, both_none, some_not_none, used_is_held}
 use Rattle.store_layout.proofs.BodyReading.{read_checkpoint}
 use Rattle.store_layout.proofs.LogReading.{ToldLog, read_log}
+use Rattle.store_layout.proofs.CheckpointReading.{read_version}
 
 -- ---- the file that is used
 
@@ -52,39 +53,45 @@ module _ (contents : Contents) (bytes : (file : ℕ) → file < 4 → IsBytes (c
 
   -- ---- its logs
 
-  module _ (k : Checkpoint) (is : IsCheckpoint first_layout k (contents (newest_file contents))) where
+  abbrev ToldLogIn : ℕ → ℕ → List ℕ → Type 0
+  ToldLogIn g l content = ToldLog (log_layout content) (room_for (slice_index_or content 0 0)) g l content
+
+  read_log_in : (g l : ℕ) (content : List ℕ) → IsBytes content → ToldLogIn g l content
+  read_log_in g l content fits = read_log (log_layout content) (room_for (slice_index_or content 0 0)) g l content (λ v g' l' h e. header_version v g' l' content h e) fits
+
+  module _ (k : Checkpoint) (is : IsCheckpointIn k (contents (newest_file contents))) where
     refused : (refusal : Refusal) → AreBadLogs contents k refusal → Told
     refused refusal bad = (Err refusal, bad_logs k heads is bad)
 
     whole : (first : List Batch) (second : Option (List Batch)) → AreLogs contents k first second → Told
     whole first second logs = elim (cases_lt (k.low + length (logged_by first second)) (greatest_mark k.sections)) as (λ _. Told) [
-      | inl low ↦ refused (damage_behind (newest_by k first second)) (below_mark first second logs low refl)
+      | inl low ↦ refused (damage_behind contents (newest_by k first second)) (below_mark first second logs low refl)
       | inr up ↦ (let found : Opened = record { checkpoint = k; first = first; second = second } in (Ok found, used_is_held contents found heads is logs up))
     ]
 
     abbrev First : Reading → Type 0
-    First reading = Reads first_layout k.generation k.low (contents (log_file k.generation)) reading
+    First reading = ReadsIn k.generation k.low (contents (log_file k.generation)) reading
 
-    by_second : (first : List Batch) → First (ended first) → ToldLog first_layout first_room (k.generation + 1) (next_low k first) (contents (log_file (k.generation + 1))) → Told
+    by_second : (first : List Batch) → First (ended first) → ToldLogIn (k.generation + 1) (next_low k first) (contents (log_file (k.generation + 1))) → Told
     by_second first end (inr bad) = refused bad.0 (bad_next_header first end bad.1)
     by_second first end (inl (closed second, reads)) = whole first (Some second) (end, reads)
-    by_second first end (inl (ended second, reads)) = refused (damage_behind (newest_by k first (Some second))) (second_end first second end reads refl)
-    by_second first end (inl (broken second, reads)) = refused (damage_behind (newest_by k first (Some second))) (bad_next_frame first second end reads refl)
+    by_second first end (inl (ended second, reads)) = refused (damage_behind contents (newest_by k first (Some second))) (second_end first second end reads refl)
+    by_second first end (inl (broken second, reads)) = refused (damage_behind contents (newest_by k first (Some second))) (bad_next_frame first second end reads refl)
 
-    by_first : ToldLog first_layout first_room k.generation k.low (contents (log_file k.generation)) → Told
+    by_first : ToldLogIn k.generation k.low (contents (log_file k.generation)) → Told
     by_first (inr bad) = refused bad.0 (bad_header bad.1)
     by_first (inl (closed first, reads)) = whole first None reads
-    by_first (inl (broken first, reads)) = refused (damage_behind (newest_by k first None)) (bad_frame first reads refl)
+    by_first (inl (broken first, reads)) = refused (damage_behind contents (newest_by k first None)) (bad_frame first reads refl)
     by_first (inl (ended first, reads)) =
-        by_second first reads (read_log first_layout first_room (k.generation + 1) (next_low k first) (contents (log_file (k.generation + 1))) (bytes (log_file (k.generation + 1)) (omega arith)))
+        by_second first reads (read_log_in (k.generation + 1) (next_low k first) (contents (log_file (k.generation + 1))) (bytes (log_file (k.generation + 1)) (omega arith)))
 
     by_logs : Told
-    by_logs = by_first (read_log first_layout first_room k.generation k.low (contents (log_file k.generation)) (bytes (log_file k.generation) (omega arith)))
+    by_logs = by_first (read_log_in k.generation k.low (contents (log_file k.generation)) (bytes (log_file k.generation) (omega arith)))
 
   by_checkpoint : Told
   by_checkpoint =
       let u = used_file in
-      elim (read_checkpoint first_layout first_room (newest_file contents) (contents (newest_file contents)) (bytes (newest_file contents) u.below) u.sealed u.head) as (λ _. Told) [
+      elim (read_checkpoint (checkpoint_layout (contents (newest_file contents))) (room_for (version_in (contents (newest_file contents)))) (newest_file contents) (contents (newest_file contents)) (bytes (newest_file contents) u.below) u.sealed u.head (sym (version_for (version_in (contents (newest_file contents))) (read_version (newest_file contents) (contents (newest_file contents)) u.sealed u.head)))) as (λ _. Told) [
         | inl k ↦ by_logs k.0 k.1
         | inr bad ↦ (Err bad.0, bad_checkpoint heads bad.1)
       ]

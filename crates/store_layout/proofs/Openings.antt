@@ -9,16 +9,16 @@ use Rattle.map_types.specs.declared.refusals.Refusal.TheVariants.{Damaged, NotFo
 use Rattle.map_model.specs.Maps.{Map}
 use Rattle.map_model.specs.Steps.{map_after}
 use Rattle.map_model.specs.Histories.{History, fold_to}
-use Rattle.log_records.specs.Layout.{first_layout}
-use Rattle.store_layout.specs.Logs.{Batch}
+use Rattle.store_layout.specs.Logs.{Batch, is_read}
 use Rattle.store_layout.specs.Checkpoints.{Section, Checkpoint, IsCheckpoint, checkpoint_file, greatest_mark, AreMarkedFrom, is_sealed}
 use Rattle.store_layout.specs.SectionsAndLog.{grown, AreMarks, Restores}
 use Rattle.store_layout.specs.Faults.{generation_in, head_fault, version_in}
-use Rattle.store_layout.specs.Opening.{Contents, Opened, log_of, prefix_of, map_of, history_of, IsOlder, Holds, StandsFor, StandsForFront, first_fault, heads_fault, newest_file, Refuses, bad_heads, bad_checkpoint, bad_logs, Opens}
+use Rattle.store_layout.specs.Opening.{Contents, checkpoint_layout, IsCheckpointIn, IsBadCheckpointIn, Opened, log_of, prefix_of, map_of, history_of, IsOlder, Holds, StandsFor, StandsForFront, first_fault, heads_fault, newest_file, Refuses, bad_heads, bad_checkpoint, bad_logs, Opens}
 use Rattle.store_layout.specs.OpeningLaws.{FrontStays, OlderCheckpoint, ShutIsUnsealed, UsedIsHeld}
 use Rattle.store_layout.proofs.Growing.{restores_opened}
 use Rattle.store_layout.proofs.CheckpointFields.{has_generation, sealed, has_head, one_checkpoint, never_bad, one_bad}
-use Rattle.store_layout.proofs.LogOutcomes.{first_room, LogsGive, one_give, good_logs, bad_logs_give}
+use Rattle.store_layout.proofs.Versions.{room_for, read_for}
+use Rattle.store_layout.proofs.LogOutcomes.{LogsGive, one_give, good_logs, bad_logs_give}
 
 -- ---- the heads
 
@@ -45,10 +45,10 @@ older_head generation file content (inr e) = e.0
 
 module _ (contents : Contents) (k : Checkpoint) where
   -- the checkpoint in the first file is used
-  first_used : IsCheckpoint first_layout k (contents 0) → k.generation % 2 ≡ 0 → IsOlder k.generation 1 (contents 1) → (heads_fault contents ≡ None) × (newest_file contents ≡ 0)
+  first_used : IsCheckpointIn k (contents 0) → k.generation % 2 ≡ 0 → IsOlder k.generation 1 (contents 1) → (heads_fault contents ≡ None) × (newest_file contents ≡ 0)
   first_used is parity older =
-      let s = sealed first_layout k (contents 0) is in (
-        no_faults (is_sealed (contents 0)) (is_sealed (contents 1)) (head_fault 0 (contents 0)) (head_fault 1 (contents 1)) (inl s) (has_head first_layout k (contents 0) is 0 parity) (older_head k.generation 1 (contents 1) older),
+      let s = sealed (checkpoint_layout (contents 0)) k (contents 0) is in (
+        no_faults (is_sealed (contents 0)) (is_sealed (contents 1)) (head_fault 0 (contents 0)) (head_fault 1 (contents 1)) (inl s) (has_head (checkpoint_layout (contents 0)) k (contents 0) is (read_for (version_in (contents 0))) 0 parity) (older_head k.generation 1 (contents 1) older),
         by_age (is_sealed (contents 0)) (is_sealed (contents 1)) s older,
       )
     where
@@ -56,15 +56,15 @@ module _ (contents : Contents) (k : Checkpoint) where
       by_age s t e (inl f) = ap (λ x. newest_of_two s x (nat_lt (generation_in (contents 1)) (generation_in (contents 0)))) f
       by_age s false e (inr f) = refl
       by_age s true e (inr f) =
-          let mine = has_generation first_layout k (contents 0) is in
+          let mine = has_generation (checkpoint_layout (contents 0)) k (contents 0) is in
           let less : nat_lt (generation_in (contents 1)) (generation_in (contents 0)) ≡ true = (let low = f.1 in grind (arith, nat_tests, low, mine)) in
           ap₂ (λ x y. newest_of_two x true y) e less
 
   -- the one in the second
-  second_used : IsCheckpoint first_layout k (contents 1) → k.generation % 2 ≡ 1 → IsOlder k.generation 0 (contents 0) → (heads_fault contents ≡ None) × (newest_file contents ≡ 1)
+  second_used : IsCheckpointIn k (contents 1) → k.generation % 2 ≡ 1 → IsOlder k.generation 0 (contents 0) → (heads_fault contents ≡ None) × (newest_file contents ≡ 1)
   second_used is parity older =
-      let t = sealed first_layout k (contents 1) is in (
-        no_faults (is_sealed (contents 0)) (is_sealed (contents 1)) (head_fault 0 (contents 0)) (head_fault 1 (contents 1)) (inr t) (older_head k.generation 0 (contents 0) older) (has_head first_layout k (contents 1) is 1 parity),
+      let t = sealed (checkpoint_layout (contents 1)) k (contents 1) is in (
+        no_faults (is_sealed (contents 0)) (is_sealed (contents 1)) (head_fault 0 (contents 0)) (head_fault 1 (contents 1)) (inr t) (older_head k.generation 0 (contents 0) older) (has_head (checkpoint_layout (contents 1)) k (contents 1) is (read_for (version_in (contents 1))) 1 parity),
         by_age (is_sealed (contents 0)) (is_sealed (contents 1)) t older,
       )
     where
@@ -72,19 +72,19 @@ module _ (contents : Contents) (k : Checkpoint) where
       by_age s t e (inl f) = ap₂ (λ x y. newest_of_two x y (nat_lt (generation_in (contents 1)) (generation_in (contents 0)))) f e
       by_age false t e (inr f) = ap (λ x. newest_of_two false x (nat_lt (generation_in (contents 1)) (generation_in (contents 0)))) e
       by_age true t e (inr f) =
-          let mine = has_generation first_layout k (contents 1) is in
+          let mine = has_generation (checkpoint_layout (contents 1)) k (contents 1) is in
           let less : nat_lt (generation_in (contents 1)) (generation_in (contents 0)) ≡ false = (let low = f.1 in grind (arith, nat_tests, low, mine)) in
           ap₂ (λ x y. newest_of_two true x y) e less
 
-  pub used : IsCheckpoint first_layout k (contents (checkpoint_file k.generation)) → IsOlder k.generation (checkpoint_file (k.generation + 1)) (contents (checkpoint_file (k.generation + 1)))
+  pub used : IsCheckpointIn k (contents (checkpoint_file k.generation)) → IsOlder k.generation (checkpoint_file (k.generation + 1)) (contents (checkpoint_file (k.generation + 1)))
       → (heads_fault contents ≡ None) × (newest_file contents ≡ checkpoint_file k.generation)
   used is older =
       elim (parities k.generation) as (λ _. (heads_fault contents ≡ None) × (newest_file contents ≡ checkpoint_file k.generation)) [
         | inl e ↦
-            let heads = first_used (subst (λ n. IsCheckpoint first_layout k (contents n)) e.0 is) e.0 (subst (λ n. IsOlder k.generation n (contents n)) e.1 older) in
+            let heads = first_used (subst (λ n. IsCheckpointIn k (contents n)) e.0 is) e.0 (subst (λ n. IsOlder k.generation n (contents n)) e.1 older) in
             (heads.0, heads.1 ∙ sym e.0)
         | inr e ↦
-            let heads = second_used (subst (λ n. IsCheckpoint first_layout k (contents n)) e.0 is) e.0 (subst (λ n. IsOlder k.generation n (contents n)) e.1 older) in
+            let heads = second_used (subst (λ n. IsCheckpointIn k (contents n)) e.0 is) e.0 (subst (λ n. IsOlder k.generation n (contents n)) e.1 older) in
             (heads.0, heads.1 ∙ sym e.0)
       ]
     where
@@ -100,7 +100,7 @@ module _ (contents : Contents) where
   -- the parts of what opening gives
   record Finds (k : Checkpoint) (found : Result (List Batch × Option (List Batch)) Refusal) : Type 0 where
     heads : heads_fault contents ≡ None
-    checkpoint : IsCheckpoint first_layout k (contents (newest_file contents))
+    checkpoint : IsCheckpointIn k (contents (newest_file contents))
     logs : LogsGive contents k found
 
   holds_finds : (found : Opened) → Holds contents found → Finds found.checkpoint (Ok (found.first, found.second))
@@ -108,13 +108,13 @@ module _ (contents : Contents) where
       let heads = used contents found.checkpoint holds.checkpoint holds.other in
       record {
         heads = heads.0;
-        checkpoint = subst (λ n. IsCheckpoint first_layout found.checkpoint (contents n)) (sym heads.1) holds.checkpoint;
+        checkpoint = subst (λ n. IsCheckpointIn found.checkpoint (contents n)) (sym heads.1) holds.checkpoint;
         logs = good_logs contents found.checkpoint found.first found.second holds.logs holds.reaches;
       }
 
   one_find : (k j : Checkpoint) (a b : Result (List Batch × Option (List Batch)) Refusal) → Finds k a → Finds j b → (k ≡ j) × (a ≡ b)
   one_find k j a b p q =
-      let same = one_checkpoint first_layout first_room k j (contents (newest_file contents)) p.checkpoint q.checkpoint in
+      let same = one_checkpoint (checkpoint_layout (contents (newest_file contents))) (room_for (version_in (contents (newest_file contents)))) k j (contents (newest_file contents)) p.checkpoint q.checkpoint in
       (same, one_give contents k j a b same p.logs q.logs)
 
   abbrev done : List Batch × Option (List Batch) → Result (List Batch × Option (List Batch)) Refusal
@@ -141,7 +141,7 @@ module _ (contents : Contents) where
   pub holds_not_refused : (found : Opened) (refusal : Refusal) → Holds contents found → Refuses contents refusal → ⊥
   holds_not_refused found refusal holds (bad_heads e) = some_not_none refusal (sym e ∙ (holds_finds found holds).heads)
   holds_not_refused found refusal holds (bad_checkpoint _ bad) =
-      never_bad first_layout first_room (newest_file contents) (contents (newest_file contents)) found.checkpoint refusal (holds_finds found holds).checkpoint bad
+      never_bad (checkpoint_layout (contents (newest_file contents))) (room_for (version_in (contents (newest_file contents)))) (newest_file contents) (contents (newest_file contents)) found.checkpoint refusal (holds_finds found holds).checkpoint bad
   holds_not_refused found refusal holds (bad_logs k heads is bad) =
       let other : Finds k (Err refusal) = record { heads = heads; checkpoint = is; logs = bad_logs_give contents k refusal bad } in
       done_not_refused (found.first, found.second) refusal (one_find found.checkpoint k (Ok (found.first, found.second)) (Err refusal) (holds_finds found holds) other).1
@@ -151,10 +151,10 @@ module _ (contents : Contents) where
   one_refusal r r' (bad_heads p) (bad_checkpoint q _) = absurd (some_not_none r (sym p ∙ q))
   one_refusal r r' (bad_heads p) (bad_logs _ q _ _) = absurd (some_not_none r (sym p ∙ q))
   one_refusal r r' (bad_checkpoint p _) (bad_heads q) = absurd (some_not_none r' (sym q ∙ p))
-  one_refusal r r' (bad_checkpoint _ p) (bad_checkpoint _ q) = one_bad first_layout first_room (newest_file contents) (contents (newest_file contents)) r r' p q
-  one_refusal r r' (bad_checkpoint _ p) (bad_logs k _ is _) = absurd (never_bad first_layout first_room (newest_file contents) (contents (newest_file contents)) k r is p)
+  one_refusal r r' (bad_checkpoint _ p) (bad_checkpoint _ q) = one_bad (checkpoint_layout (contents (newest_file contents))) (room_for (version_in (contents (newest_file contents)))) (newest_file contents) (contents (newest_file contents)) r r' p q
+  one_refusal r r' (bad_checkpoint _ p) (bad_logs k _ is _) = absurd (never_bad (checkpoint_layout (contents (newest_file contents))) (room_for (version_in (contents (newest_file contents)))) (newest_file contents) (contents (newest_file contents)) k r is p)
   one_refusal r r' (bad_logs _ p _ _) (bad_heads q) = absurd (some_not_none r' (sym q ∙ p))
-  one_refusal r r' (bad_logs k _ is _) (bad_checkpoint _ q) = absurd (never_bad first_layout first_room (newest_file contents) (contents (newest_file contents)) k r' is q)
+  one_refusal r r' (bad_logs k _ is _) (bad_checkpoint _ q) = absurd (never_bad (checkpoint_layout (contents (newest_file contents))) (room_for (version_in (contents (newest_file contents)))) (newest_file contents) (contents (newest_file contents)) k r' is q)
   one_refusal r r' (bad_logs k heads is bad) (bad_logs j heads' is' bad') =
       let p : Finds k (Err r) = record { heads = heads; checkpoint = is; logs = bad_logs_give contents k r bad } in
       let q : Finds j (Err r') = record { heads = heads'; checkpoint = is'; logs = bad_logs_give contents j r' bad' } in
@@ -217,7 +217,7 @@ front_stays h least most contents more front =
 
 -- a head without a fault
 head_parity : (file : ℕ) (content : List ℕ) → is_sealed content ≡ true → head_fault file content ≡ None → generation_in content % 2 ≡ file
-head_parity file content s e = parity_by (is_sealed content) (version_in content == 1) (generation_in content % 2) file s e
+head_parity file content s e = parity_by (is_sealed content) (is_read (version_in content)) (generation_in content % 2) file s e
   where
     parity_by : (s one : Bool) (parity file : ℕ) → s ≡ true → cond (not s) None (cond (not one) (Some WrongVersion) (cond (not (parity == file)) (Some (Damaged file 2)) None)) ≡ None → parity ≡ file
     parity_by false one parity file s e = absurd cc
@@ -270,24 +270,24 @@ module _ (contents : Contents) (k : Checkpoint) (heads : heads_fault contents �
   Less = nat_lt (generation_in (contents 1)) (generation_in (contents 0))
 
   abbrev IsUsed : Type 0
-  IsUsed = IsCheckpoint first_layout k (contents (checkpoint_file k.generation)) × IsOlder k.generation (checkpoint_file (k.generation + 1)) (contents (checkpoint_file (k.generation + 1)))
+  IsUsed = IsCheckpointIn k (contents (checkpoint_file k.generation)) × IsOlder k.generation (checkpoint_file (k.generation + 1)) (contents (checkpoint_file (k.generation + 1)))
 
-  in_first : newest_file contents ≡ 0 → IsCheckpoint first_layout k (contents 0) → IsUsed
+  in_first : newest_file contents ≡ 0 → IsCheckpointIn k (contents 0) → IsUsed
   in_first e is =
-      let mine = has_generation first_layout k (contents 0) is in
-      let parity : k.generation % 2 ≡ 0 = ap (λ n. n % 2) (sym mine) ∙ head_parity 0 (contents 0) (sealed first_layout k (contents 0) is) faults.0 in
+      let mine = has_generation (checkpoint_layout (contents 0)) k (contents 0) is in
+      let parity : k.generation % 2 ≡ 0 = ap (λ n. n % 2) (sym mine) ∙ head_parity 0 (contents 0) (sealed (checkpoint_layout (contents 0)) k (contents 0) is) faults.0 in
       let other : (k.generation + 1) % 2 ≡ 1 = omega (arith, parity) in
       let older : IsOlder k.generation 1 (contents 1) = older_by 1 (contents 1) k.generation faults.1 (λ s.
       elim (first_parts (is_sealed (contents 0)) (is_sealed (contents 1)) Less e) [
         | inl un ↦ absurd (let both : true ≡ false = sym s ∙ un in cc)
         | inr less ↦ grind (arith, nat_tests, less, mine)
       ]) in
-      (subst (λ n. IsCheckpoint first_layout k (contents n)) (sym parity) is, subst (λ n. IsOlder k.generation n (contents n)) (sym other) older)
+      (subst (λ n. IsCheckpointIn k (contents n)) (sym parity) is, subst (λ n. IsOlder k.generation n (contents n)) (sym other) older)
 
-  in_second : newest_file contents ≡ 1 → IsCheckpoint first_layout k (contents 1) → IsUsed
+  in_second : newest_file contents ≡ 1 → IsCheckpointIn k (contents 1) → IsUsed
   in_second e is =
-      let mine = has_generation first_layout k (contents 1) is in
-      let parity : k.generation % 2 ≡ 1 = ap (λ n. n % 2) (sym mine) ∙ head_parity 1 (contents 1) (sealed first_layout k (contents 1) is) faults.1 in
+      let mine = has_generation (checkpoint_layout (contents 1)) k (contents 1) is in
+      let parity : k.generation % 2 ≡ 1 = ap (λ n. n % 2) (sym mine) ∙ head_parity 1 (contents 1) (sealed (checkpoint_layout (contents 1)) k (contents 1) is) faults.1 in
       let other : (k.generation + 1) % 2 ≡ 0 = omega (arith, parity) in
       let older : IsOlder k.generation 0 (contents 0) = older_by 0 (contents 0) k.generation faults.0 (λ s.
       elim (second_parts (is_sealed (contents 0)) (is_sealed (contents 1)) Less e) [
@@ -297,12 +297,12 @@ module _ (contents : Contents) (k : Checkpoint) (heads : heads_fault contents �
             let up : generation_in (contents 0) ≤ generation_in (contents 1) = grind (arith, nat_tests, less) in
             omega (arith, up, mine, its, parity)
       ]) in
-      (subst (λ n. IsCheckpoint first_layout k (contents n)) (sym parity) is, subst (λ n. IsOlder k.generation n (contents n)) (sym other) older)
+      (subst (λ n. IsCheckpointIn k (contents n)) (sym parity) is, subst (λ n. IsOlder k.generation n (contents n)) (sym other) older)
 
-  is_used : IsCheckpoint first_layout k (contents (newest_file contents)) → IsUsed
+  is_used : IsCheckpointIn k (contents (newest_file contents)) → IsUsed
   is_used is = elim (one_of_two (is_sealed (contents 0)) (is_sealed (contents 1)) Less) [
-    | inl e ↦ in_first e (subst (λ n. IsCheckpoint first_layout k (contents n)) e is)
-    | inr e ↦ in_second e (subst (λ n. IsCheckpoint first_layout k (contents n)) e is)
+    | inl e ↦ in_first e (subst (λ n. IsCheckpointIn k (contents n)) e is)
+    | inr e ↦ in_second e (subst (λ n. IsCheckpointIn k (contents n)) e is)
   ]
 
 pub used_is_held : UsedIsHeld
@@ -311,8 +311,8 @@ used_is_held contents found heads is logs reaches =
     record { checkpoint = both.0; other = both.1; logs = logs; reaches = reaches }
 
 pub older_checkpoint : OlderCheckpoint
-older_checkpoint layout k generation content is less =
-    inr (has_head layout k content is (k.generation % 2) refl, let mine = has_generation layout k content is in omega (arith, mine, less))
+older_checkpoint layout k generation content is_version is less =
+    inr (has_head layout k content is is_version (k.generation % 2) refl, let mine = has_generation layout k content is in omega (arith, mine, less))
 
 pub shut_unsealed : ShutIsUnsealed
 shut_unsealed gate rest shut =

@@ -56,7 +56,7 @@ record IsStop (layout : Layout) (generation low : ℕ) (batches : List Batch) (b
 same_stop : (layout : Layout) → IsLayout layout → (generation low : ℕ) (a b : List Batch) (x : ℕ) (xs : List ℕ) (y : ℕ) (ys content : List ℕ)
     → IsStop layout generation low a x xs content → IsStop layout generation low b y ys content → (a ≡ b) × (x ≡ y) × (xs ≡ ys)
 same_stop layout room generation low a b x xs y ys content p q =
-    let head : List ℕ = header generation low in
+    let head : List ℕ = header layout generation low in
     let e : head ++ (opened layout a ++ x ∷ xs) ≡ head ++ (opened layout b ++ y ∷ ys) =
     sym (append_assoc head (opened layout a) (x ∷ xs)) ∙ sym p.bytes ∙ q.bytes ∙ append_assoc head (opened layout b) (y ∷ ys) in
     let run = same_run layout room low a b x xs y ys p.log.in_order q.log.in_order p.stops q.stops (append_cancel_left head _ _ e) in

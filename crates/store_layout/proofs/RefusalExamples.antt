@@ -56,12 +56,12 @@ byte_left_over =
     bad_checkpoint refl (bad_section 12 refl
     (record {
       before = empty_section ∷ [];
-      are = sections 1 0 0 1;
+      are = sections first_layout 1 0 0 1;
       rest = 0 ∷ [];
       spelled = ap (λ (l : List ℕ). (l ++ []) ++ 0 ∷ []) empty_bytes;
       distance = 0;
       fault = left_over refl (omega arith) refl;
-      place = let size = section_size in let all = length-append (marked_bytes first_layout 0 (finite.entries empty_section.map)) [] in omega (arith, size, all);
+      place = let size = section_size first_layout in let all = length-append (marked_bytes first_layout 0 (finite.entries empty_section.map)) [] in omega (arith, size, all);
     }) refl)
 
 pub other_greatest_mark : OtherGreatestMark
@@ -69,7 +69,7 @@ other_greatest_mark =
     bad_checkpoint refl (bad_marks refl
     (record {
       sections = empty_section ∷ [];
-      are = sections 1 0 0 1;
+      are = sections first_layout 1 0 0 1;
       one_each = refl;
       spelled = ap (λ (l : List ℕ). l ++ []) empty_bytes;
       wrong = inl (λ e. omega (arith, e));
@@ -83,7 +83,7 @@ no_log = bad_logs (first_checkpoint 1) refl new_sealed (bad_header (too_short (o
 pub other_log : OtherLog
 other_log =
     bad_logs (first_checkpoint 1) refl new_sealed
-    (bad_header (wrong_generation 2 4 (record { gate = 0; rest = []; bytes = refl; generation_fits = omega arith; low_fits = omega arith }) (λ e. omega (arith, e)) refl))
+    (bad_header (wrong_generation 1 2 4 (record { gate = 0; rest = []; bytes = refl; generation_fits = omega arith; low_fits = omega arith }) refl (λ e. omega (arith, e)) refl))
 
 no_frame_bytes : (batch : Batch) (after : ℕ) (behind : List ℕ) → [] ≡ frame first_layout batch ++ after ∷ behind → ⊥
 no_frame_bytes batch after behind e =

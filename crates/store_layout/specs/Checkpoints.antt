@@ -63,14 +63,14 @@ greatest_mark [] = 0
 greatest_mark (section ∷ sections) = max section.mark (greatest_mark sections)
 
 -- version, generation, low ticket, greatest mark, stripes, length of the body
-unfoldable pub checkpoint_header : ℕ → ℕ → ℕ → ℕ → ℕ → List ℕ
-checkpoint_header generation low greatest stripes body =
-    1 ∷ (big_bytes 8 generation ++ (big_bytes 8 low ++ (big_bytes 8 greatest ++ (big_bytes 2 stripes ++ big_bytes 8 body))))
+unfoldable pub checkpoint_header : Layout → ℕ → ℕ → ℕ → ℕ → ℕ → List ℕ
+checkpoint_header layout generation low greatest stripes body =
+    layout.version ∷ (big_bytes 8 generation ++ (big_bytes 8 low ++ (big_bytes 8 greatest ++ (big_bytes 2 stripes ++ big_bytes 8 body))))
 
 -- the header of this checkpoint, and its sections: what stands behind the gate
 abbrev pub checkpoint_bytes : Layout → Checkpoint → List ℕ
 checkpoint_bytes layout k =
-    checkpoint_header k.generation k.low (greatest_mark k.sections) k.stripes (length (sections_bytes layout k.sections)) ++ sections_bytes layout k.sections
+    checkpoint_header layout k.generation k.low (greatest_mark k.sections) k.stripes (length (sections_bytes layout k.sections)) ++ sections_bytes layout k.sections
 
 -- a well-formed entry whose key belongs to the stripe, of `stripes` stripes
 abbrev pub IsEntryOf : Layout → ℕ → ℕ → List ℕ × Value → Type 0

@@ -57,6 +57,14 @@ log_with_five gate = 1 ∷ (eight 0 ++ (eight 0 ++ gate ∷ 1 ∷ (four 24 ++ (e
 abbrev pub FirstChange : Type 0
 FirstChange = StandsFor (files new_checkpoint [] (log_with_five 165) []) 1 (finite.from_entries ((a, number 5) ∷ []))
 
+-- the same change in a log of version 02, in which the key's length has two bytes
+abbrev pub second_log : List ℕ
+second_log = 2 ∷ (eight 0 ++ (eight 0 ++ 165 ∷ 1 ∷ (four 25 ++ (eight 0 ++ (four 1 ++ (16 ∷ 0 ∷ 1 ∷ 97 ∷ 1 ∷ (eight 5 ++ 0 ∷ [])))))))
+
+-- a checkpoint and its log may have different versions
+abbrev pub SecondVersion : Type 0
+SecondVersion = StandsFor (files new_checkpoint [] second_log []) 1 (finite.from_entries ((a, number 5) ∷ []))
+
 -- behind a gate that is not open the change doesn't count
 abbrev pub UncommittedChange : Type 0
 UncommittedChange = (gate : ℕ) → gate ≢ 165 → StandsFor (files new_checkpoint [] (log_with_five gate) []) 0 finite.empty
@@ -115,7 +123,7 @@ abbrev pub TooFewBytes : Type 0
 TooFewBytes = Refuses (files (165 ∷ (eight 0 ++ (eight 0 ++ (eight 0 ++ (eight 0 ++ (0 ∷ 0 ∷ [])))))) [] new_log []) NotFormatted
 
 abbrev pub OtherVersion : Type 0
-OtherVersion = Refuses (files (165 ∷ 2 ∷ (eight 0 ++ (eight 0 ++ (eight 0 ++ (0 ∷ 1 ∷ (eight 12 ++ (eight 0 ++ four 0))))))) [] new_log []) WrongVersion
+OtherVersion = Refuses (files (165 ∷ 7 ∷ (eight 0 ++ (eight 0 ++ (eight 0 ++ (0 ∷ 1 ∷ (eight 12 ++ (eight 0 ++ four 0))))))) [] new_log []) WrongVersion
 
 abbrev pub OtherFile : Type 0
 OtherFile = Refuses (files new_checkpoint new_checkpoint new_log []) (Damaged 1 2)

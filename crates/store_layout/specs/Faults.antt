@@ -11,6 +11,7 @@ use Rattle.map_types.specs.declared.texts.Value.{Value}
 use Rattle.map_types.specs.declared.refusals.Refusal.{Refusal}
 use Rattle.map_types.specs.declared.refusals.Refusal.TheVariants.{Damaged, WrongVersion}
 use Rattle.log_records.specs.Layout.{Layout}
+use Rattle.store_layout.specs.Logs.{is_read}
 use Rattle.store_layout.specs.Checkpoints.{Section, Checkpoint, body_offset, entry_bytes, entries_bytes, sections_bytes, greatest_mark, IsEntryOf, AreSections, AreMarkedFrom, is_sealed}
 
 -- ---- the fields, each at its offset
@@ -47,11 +48,11 @@ checkpoint_in content sections = record { generation = generation_in content; lo
 
 -- ---- fields that may not be
 
--- of a file that is sealed, used or not: another version, or a generation that belongs into the other file
+-- of a file that is sealed, used or not: a version that isn't read, or a generation that belongs into the other file
 abbrev pub head_fault : ℕ → List ℕ → Option Refusal
 head_fault file content =
     if not (is_sealed content) then None
-    else if not (version_in content == 1) then Some WrongVersion
+    else if not (is_read (version_in content)) then Some WrongVersion
     else if not (generation_in content % 2 == file) then Some (Damaged file 2)
     else None
 

@@ -1,11 +1,28 @@
 -- The bytes of a log file: a header, and then frames, each behind a gate.
-use Rattle.std.specs.Prelude.{◌≡◌, ◌≢◌, ℕ, ◌+◌, ◌%◌, ◌<◌, ◌≤◌, ◌^◌, List, [], ◌∷◌, ◌++◌, length}
+use Rattle.std.specs.Prelude.{◌≡◌, ◌≢◌, ℕ, ◌+◌, ◌%◌, ◌<◌, ◌≤◌, ◌^◌, Bool, ◌==◌, ◌||◌, if◌then◌else◌, List, [], ◌∷◌, ◌++◌, length}
 use Rattle.std.specs.List.{AllByRecursion}
 use Rattle.byteorder.specs.Endian.{big_bytes}
 use Rattle.disk_model.specs.Gates.{open_gate}
 use Rattle.map_types.specs.declared.commands.Command.{Command}
-use Rattle.log_records.specs.Layout.{Layout}
+use Rattle.log_records.specs.declared.versions.Version.{Version}
+use Rattle.log_records.specs.declared.versions.Version.TheVariants.{Second}
+use Rattle.log_records.specs.Layout.{Layout, first_layout, second_layout, layout_of}
 use Rattle.log_records.specs.Spelling.{IsCommand, record_bytes}
+
+-- the byte of a version that an opening reads
+abbrev pub is_read : ℕ → Bool
+is_read version = version == 1 || version == 2
+
+-- the layout of the version with this byte
+abbrev pub layout_for : ℕ → Layout
+layout_for byte = if byte == 2 then second_layout else first_layout
+
+-- the version of each new generation, and its layout
+abbrev pub new_version : Version
+new_version = Second
+
+abbrev pub new_layout : Layout
+new_layout = layout_of new_version
 
 -- How many bytes a log's header has: version (1), generation (8) and low ticket (8). The first gate has this place.
 abbrev pub log_header_bytes : ℕ
@@ -50,8 +67,8 @@ unfoldable pub end_frame : ℕ → List ℕ
 end_frame next = 2 ∷ (big_bytes 4 8 ++ big_bytes 8 next)
 
 -- version, generation, low ticket
-unfoldable pub header : ℕ → ℕ → List ℕ
-header generation low = 1 ∷ (big_bytes 8 generation ++ big_bytes 8 low)
+unfoldable pub header : Layout → ℕ → ℕ → List ℕ
+header layout generation low = layout.version ∷ (big_bytes 8 generation ++ big_bytes 8 low)
 
 -- the frames, each behind an open gate
 abbrev pub opened : Layout → List Batch → List ℕ
@@ -60,7 +77,7 @@ opened layout (batch ∷ batches) = open_gate ∷ (frame layout batch ++ opened 
 
 -- what stands before the gate behind these batches
 abbrev pub log_front : Layout → ℕ → ℕ → List Batch → List ℕ
-log_front layout generation low batches = header generation low ++ opened layout batches
+log_front layout generation low batches = header layout generation low ++ opened layout batches
 
 -- the commands of the batches, in order
 abbrev pub commands_in : List Batch → List Command

@@ -1,5 +1,5 @@
 -- What four files stand for, or the refusal of opening them.
-use Rattle.std.specs.Prelude.{◌≡◌, ◌⊎◌, ℕ, ◌+◌, ◌<◌, ◌≤◌, false, not, ◌&&◌, nat_lt, if◌then◌else◌, List, [], ◌++◌, length, map, Option, None, Some, Result, Ok, Err}
+use Rattle.std.specs.Prelude.{◌≡◌, ◌⊎◌, ℕ, ◌+◌, ◌<◌, ◌≤◌, false, not, ◌&&◌, nat_lt, if◌then◌else◌, List, [], ◌++◌, length, map, slice_index_or, Option, None, Some, Result, Ok, Err}
 use Rattle.std.specs.FinMap as finite
 use Rattle.std.specs.List.{range_with_len}
 use Rattle.map_types.specs.declared.commands.Command.{Command}
@@ -7,12 +7,12 @@ use Rattle.map_types.specs.declared.refusals.Refusal.{Refusal}
 use Rattle.map_types.specs.declared.refusals.Refusal.TheVariants.{Damaged, NotFormatted}
 use Rattle.map_model.specs.Maps.{Map}
 use Rattle.map_model.specs.Histories.{History, fold_to}
-use Rattle.log_records.specs.Layout.{first_layout}
-use Rattle.store_layout.specs.Logs.{Batch, IsClosed, IsEnded, commands_in, log_file}
+use Rattle.log_records.specs.Layout.{Layout}
+use Rattle.store_layout.specs.Logs.{Batch, IsClosed, IsEnded, commands_in, layout_for, log_file}
 use Rattle.store_layout.specs.Checkpoints.{Section, Checkpoint, IsCheckpoint, checkpoint_file, greatest_mark, is_sealed}
-use Rattle.store_layout.specs.Readings.{IsBadHeader, ended, broken, Reads, gate_behind}
+use Rattle.store_layout.specs.Readings.{IsBadHeader, Reading, ended, broken, Reads, gate_behind}
 use Rattle.store_layout.specs.SectionsAndLog.{reach, restored}
-use Rattle.store_layout.specs.Faults.{generation_in, head_fault, IsBadCheckpoint}
+use Rattle.store_layout.specs.Faults.{generation_in, version_in, head_fault, IsBadCheckpoint}
 
 -- what each of the four files holds
 abbrev pub Contents : Type 0
@@ -32,6 +32,32 @@ pub record FoundLog : Type 0 where
   pub low : ℕ
   pub batches : List Batch
 
+-- the layout of the version that a log file names, and that of the one that a checkpoint file names
+abbrev pub log_layout : List ℕ → Layout
+log_layout content = layout_for (slice_index_or content 0 0)
+
+abbrev pub checkpoint_layout : List ℕ → Layout
+checkpoint_layout content = layout_for (version_in content)
+
+abbrev pub IsClosedIn : ℕ → ℕ → List Batch → List ℕ → Type 0
+IsClosedIn generation low batches content = IsClosed (log_layout content) generation low batches content
+
+abbrev pub IsEndedIn : ℕ → ℕ → List Batch → ℕ → List ℕ → Type 0
+IsEndedIn generation low batches next content = IsEnded (log_layout content) generation low batches next content
+
+abbrev pub ReadsIn : ℕ → ℕ → List ℕ → Reading → Type 0
+ReadsIn generation low content reading = Reads (log_layout content) generation low content reading
+
+abbrev pub IsCheckpointIn : Checkpoint → List ℕ → Type 0
+IsCheckpointIn k content = IsCheckpoint (checkpoint_layout content) k content
+
+abbrev pub IsBadCheckpointIn : ℕ → List ℕ → Refusal → Type 0
+IsBadCheckpointIn file content refusal = IsBadCheckpoint (checkpoint_layout content) file content refusal
+
+-- where the gate behind the log's batches stands in its file
+abbrev pub gate_in : List ℕ → FoundLog → ℕ
+gate_in content log = gate_behind (log_layout content) log.generation log.low log.batches
+
 -- the ticket that the next log goes on from
 abbrev pub next_low : Checkpoint → List Batch → ℕ
 next_low k first = k.low + length (commands_in first)
@@ -43,6 +69,11 @@ newest_by k first (Some second) = record { generation = k.generation + 1; low = 
 
 abbrev pub newest_of : Opened → FoundLog
 newest_of found = newest_by found.checkpoint found.first found.second
+
+-- The most bytes that the key of a change may have in a life that begins with these files: as many as a record of the
+-- newest log may have.
+abbrev pub key_limit_of : Contents → Opened → ℕ
+key_limit_of contents found = (log_layout (contents (log_file (newest_of found).generation))).key_limit
 
 -- the commands of both logs
 abbrev pub logged_by : List Batch → Option (List Batch) → List Command
@@ -72,14 +103,14 @@ IsOlder generation file content = (is_sealed content ≡ false) ⊎ ((head_fault
 
 -- The log of the checkpoint's generation goes on from its low ticket and is closed; or it has ended, and the next goes on and is closed.
 abbrev pub AreLogs : Contents → Checkpoint → List Batch → Option (List Batch) → Type 0
-AreLogs contents k first None = IsClosed first_layout k.generation k.low first (contents (log_file k.generation))
+AreLogs contents k first None = IsClosedIn k.generation k.low first (contents (log_file k.generation))
 AreLogs contents k first (Some second) =
-    IsEnded first_layout k.generation k.low first (k.generation + 1) (contents (log_file k.generation))
-    × IsClosed first_layout (k.generation + 1) (next_low k first) second (contents (log_file (k.generation + 1)))
+    IsEndedIn k.generation k.low first (k.generation + 1) (contents (log_file k.generation))
+    × IsClosedIn (k.generation + 1) (next_low k first) second (contents (log_file (k.generation + 1)))
 
 -- the files hold what is found
 pub record Holds (contents : Contents) (found : Opened) : Type 0 where
-  pub checkpoint : IsCheckpoint first_layout found.checkpoint (contents (checkpoint_file found.checkpoint.generation))
+  pub checkpoint : IsCheckpointIn found.checkpoint (contents (checkpoint_file found.checkpoint.generation))
   pub other : IsOlder found.checkpoint.generation (checkpoint_file (found.checkpoint.generation + 1)) (contents (checkpoint_file (found.checkpoint.generation + 1)))
   pub logs : AreLogs contents found.checkpoint found.first found.second
   pub reaches : greatest_mark found.checkpoint.sections ≤ prefix_of found
@@ -132,34 +163,34 @@ newest_file contents =
     else 1
 
 -- the log is damaged at the last of its gates that is read
-abbrev pub damage_behind : FoundLog → Refusal
-damage_behind log = Damaged (log_file log.generation) (gate_behind first_layout log.generation log.low log.batches)
+abbrev pub damage_behind : Contents → FoundLog → Refusal
+damage_behind contents log = Damaged (log_file log.generation) (gate_in (contents (log_file log.generation)) log)
 
 -- What is wrong with the logs of a checkpoint, and its refusal. It is the header of the first log, one of its frames,
 -- the header of the next, or one of its frames, of which none may be an end frame. Or the logs are whole and end below
 -- the greatest mark.
 pub data AreBadLogs (contents : Contents) (k : Checkpoint) (refusal : Refusal) : Type 0 where
   bad_header : IsBadHeader k.generation k.low (contents (log_file k.generation)) refusal → AreBadLogs contents k refusal
-  bad_frame : (first : List Batch) → Reads first_layout k.generation k.low (contents (log_file k.generation)) (broken first)
-      → refusal ≡ damage_behind (newest_by k first None) → AreBadLogs contents k refusal
-  bad_next_header : (first : List Batch) → Reads first_layout k.generation k.low (contents (log_file k.generation)) (ended first)
+  bad_frame : (first : List Batch) → ReadsIn k.generation k.low (contents (log_file k.generation)) (broken first)
+      → refusal ≡ damage_behind contents (newest_by k first None) → AreBadLogs contents k refusal
+  bad_next_header : (first : List Batch) → ReadsIn k.generation k.low (contents (log_file k.generation)) (ended first)
       → IsBadHeader (k.generation + 1) (next_low k first) (contents (log_file (k.generation + 1))) refusal → AreBadLogs contents k refusal
-  bad_next_frame : (first second : List Batch) → Reads first_layout k.generation k.low (contents (log_file k.generation)) (ended first)
-      → Reads first_layout (k.generation + 1) (next_low k first) (contents (log_file (k.generation + 1))) (broken second)
-      → refusal ≡ damage_behind (newest_by k first (Some second)) → AreBadLogs contents k refusal
-  second_end : (first second : List Batch) → Reads first_layout k.generation k.low (contents (log_file k.generation)) (ended first)
-      → Reads first_layout (k.generation + 1) (next_low k first) (contents (log_file (k.generation + 1))) (ended second)
-      → refusal ≡ damage_behind (newest_by k first (Some second)) → AreBadLogs contents k refusal
+  bad_next_frame : (first second : List Batch) → ReadsIn k.generation k.low (contents (log_file k.generation)) (ended first)
+      → ReadsIn (k.generation + 1) (next_low k first) (contents (log_file (k.generation + 1))) (broken second)
+      → refusal ≡ damage_behind contents (newest_by k first (Some second)) → AreBadLogs contents k refusal
+  second_end : (first second : List Batch) → ReadsIn k.generation k.low (contents (log_file k.generation)) (ended first)
+      → ReadsIn (k.generation + 1) (next_low k first) (contents (log_file (k.generation + 1))) (ended second)
+      → refusal ≡ damage_behind contents (newest_by k first (Some second)) → AreBadLogs contents k refusal
   below_mark : (first : List Batch) (second : Option (List Batch)) → AreLogs contents k first second → k.low + length (logged_by first second) < greatest_mark k.sections
-      → refusal ≡ damage_behind (newest_by k first second) → AreBadLogs contents k refusal
+      → refusal ≡ damage_behind contents (newest_by k first second) → AreBadLogs contents k refusal
 
 -- Opening the files is refused, and with this refusal. What is wrong is looked for in the heads of the sealed
 -- checkpoints, in the checkpoint that is used, and in its logs, in this order.
 pub data Refuses (contents : Contents) (refusal : Refusal) : Type 0 where
   bad_heads : heads_fault contents ≡ Some refusal → Refuses contents refusal
-  bad_checkpoint : heads_fault contents ≡ None → IsBadCheckpoint first_layout (newest_file contents) (contents (newest_file contents)) refusal
+  bad_checkpoint : heads_fault contents ≡ None → IsBadCheckpointIn (newest_file contents) (contents (newest_file contents)) refusal
       → Refuses contents refusal
-  bad_logs : (k : Checkpoint) → heads_fault contents ≡ None → IsCheckpoint first_layout k (contents (newest_file contents)) → AreBadLogs contents k refusal
+  bad_logs : (k : Checkpoint) → heads_fault contents ≡ None → IsCheckpointIn k (contents (newest_file contents)) → AreBadLogs contents k refusal
       → Refuses contents refusal
 
 -- what opening the files gives

@@ -7,13 +7,13 @@ use Rattle.map_types.specs.declared.commands.Command.{Command}
 use Rattle.map_types.specs.declared.refusals.Refusal.{Refusal}
 use Rattle.map_model.specs.Maps.{Map}
 use Rattle.map_model.specs.Histories.{History}
-use Rattle.log_records.specs.Layout.{Layout, IsLayout, first_layout}
+use Rattle.log_records.specs.Layout.{Layout, IsLayout}
 use Rattle.log_records.specs.Agreement.{IsBytes}
-use Rattle.store_layout.specs.Logs.{IsClosed}
+use Rattle.store_layout.specs.Logs.{is_read}
 use Rattle.store_layout.specs.Checkpoints.{Section, Checkpoint, AreSections, AreMarkedFrom, IsWhole, IsCheckpoint, checkpoint_bytes, checkpoint_header_bytes, sections_bytes, checkpoint_file, greatest_mark, is_sealed}
 use Rattle.store_layout.specs.SectionsAndLog.{grown, Restores}
-use Rattle.store_layout.specs.Faults.{generation_in, low_in, greatest_in, stripes_in, body_in, checkpoint_in, head_fault, size_fault, IsBadCheckpoint}
-use Rattle.store_layout.specs.Opening.{Contents, Opened, log_of, prefix_of, history_of, IsOlder, AreLogs, Holds, StandsFor, StandsForFront, first_checkpoint, heads_fault, newest_file, Refuses, Opens}
+use Rattle.store_layout.specs.Faults.{version_in, generation_in, low_in, greatest_in, stripes_in, body_in, checkpoint_in, head_fault, size_fault, IsBadCheckpoint}
+use Rattle.store_layout.specs.Opening.{Contents, IsCheckpointIn, IsClosedIn, Opened, log_of, prefix_of, history_of, IsOlder, AreLogs, Holds, StandsFor, StandsForFront, first_checkpoint, heads_fault, newest_file, Refuses, Opens}
 
 -- ---- one checkpoint file
 
@@ -27,21 +27,21 @@ OneFault = (layout : Layout) (file : ℕ) (content : List ℕ) (a b : Refusal) �
 abbrev pub NoFault : Type 0
 NoFault = (layout : Layout) (file : ℕ) (k : Checkpoint) (content : List ℕ) (refusal : Refusal) → IsLayout layout → IsCheckpoint layout k content → IsBadCheckpoint layout file content refusal → ⊥
 
--- the head of a sealed checkpoint
+-- the head of a sealed checkpoint, if its version is read
 abbrev pub SealedHead : Type 0
-SealedHead = (layout : Layout) (k : Checkpoint) (content : List ℕ) → IsCheckpoint layout k content →
+SealedHead = (layout : Layout) (k : Checkpoint) (content : List ℕ) → is_read layout.version ≡ true → IsCheckpoint layout k content →
     (is_sealed content ≡ true) × (generation_in content ≡ k.generation) × (head_fault (checkpoint_file k.generation) content ≡ None)
 
--- A file in which none of the faults is found holds the checkpoint that its fields name.
+-- A file of the layout's version in which none of the faults is found holds the checkpoint that its fields name.
 abbrev pub FieldsMakeCheckpoint : Type 0
 FieldsMakeCheckpoint = (layout : Layout) (file : ℕ) (content : List ℕ) (sections : List Section) → IsBytes content → is_sealed content ≡ true →
-    head_fault file content ≡ None → size_fault file content ≡ None →
+    head_fault file content ≡ None → version_in content ≡ layout.version → size_fault file content ≡ None →
     body_in content ≡ sections_bytes layout sections → length sections ≡ stripes_in content → AreSections layout (stripes_in content) 0 sections →
     greatest_mark sections ≡ greatest_in content → AreMarkedFrom (low_in content) sections → IsCheckpoint layout (checkpoint_in content sections) content
 
--- a checkpoint is older than any of a greater generation
+-- a checkpoint whose version is read is older than any of a greater generation
 abbrev pub OlderCheckpoint : Type 0
-OlderCheckpoint = (layout : Layout) (k : Checkpoint) (generation : ℕ) (content : List ℕ) → IsCheckpoint layout k content → k.generation < generation →
+OlderCheckpoint = (layout : Layout) (k : Checkpoint) (generation : ℕ) (content : List ℕ) → is_read layout.version ≡ true → IsCheckpoint layout k content → k.generation < generation →
     IsOlder generation (checkpoint_file k.generation) content
 
 -- behind a closed gate nothing is sealed, nor in an empty file
@@ -60,7 +60,7 @@ HeldIsUsed = (contents : Contents) (found : Opened) → Holds contents found →
 
 -- if the heads have no fault, the checkpoint that is used and its logs are held
 abbrev pub UsedIsHeld : Type 0
-UsedIsHeld = (contents : Contents) (found : Opened) → heads_fault contents ≡ None → IsCheckpoint first_layout found.checkpoint (contents (newest_file contents)) →
+UsedIsHeld = (contents : Contents) (found : Opened) → heads_fault contents ≡ None → IsCheckpointIn found.checkpoint (contents (newest_file contents)) →
     AreLogs contents found.checkpoint found.first found.second → greatest_mark found.checkpoint.sections ≤ prefix_of found → Holds contents found
 
 -- opening files gives one thing: what they hold, or a refusal
@@ -95,10 +95,10 @@ FrontStays = (h : History) (least most : ℕ) (contents : Contents) (more : List
 
 -- it may stand in a file, with 12 bytes for each stripe
 abbrev pub FirstIsWhole : Type 0
-FirstIsWhole = (stripes : ℕ) → is_stripe_count stripes ≡ true →
-    IsWhole first_layout (first_checkpoint stripes) × (length (checkpoint_bytes first_layout (first_checkpoint stripes)) ≡ checkpoint_header_bytes + 12 * stripes)
+FirstIsWhole = (layout : Layout) (stripes : ℕ) → is_stripe_count stripes ≡ true →
+    IsWhole layout (first_checkpoint stripes) × (length (checkpoint_bytes layout (first_checkpoint stripes)) ≡ checkpoint_header_bytes + 12 * stripes)
 
 -- A new store stands for no command and the empty map.
 abbrev pub FirstStands : Type 0
-FirstStands = (contents : Contents) (stripes : ℕ) → IsCheckpoint first_layout (first_checkpoint stripes) (contents 0) → is_sealed (contents 1) ≡ false →
-    IsClosed first_layout 0 0 [] (contents 2) → StandsFor contents 0 finite.empty
+FirstStands = (contents : Contents) (stripes : ℕ) → IsCheckpointIn (first_checkpoint stripes) (contents 0) → is_sealed (contents 1) ≡ false →
+    IsClosedIn 0 0 [] (contents 2) → StandsFor contents 0 finite.empty

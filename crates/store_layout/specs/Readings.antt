@@ -1,11 +1,11 @@
 -- What a log file reads as, and what may be wrong with it.
-use Rattle.std.specs.Prelude.{◌≡◌, ◌≢◌, ℕ, ◌+◌, ◌<◌, ◌^◌, List, ◌∷◌, ◌++◌, length}
+use Rattle.std.specs.Prelude.{◌≡◌, ◌≢◌, ℕ, ◌+◌, ◌<◌, ◌^◌, true, false, List, ◌∷◌, ◌++◌, length}
 use Rattle.byteorder.specs.Endian.{big_bytes}
 use Rattle.disk_model.specs.Gates.{open_gate}
 use Rattle.map_types.specs.declared.refusals.Refusal.{Refusal}
 use Rattle.map_types.specs.declared.refusals.Refusal.TheVariants.{Damaged, WrongVersion}
 use Rattle.log_records.specs.Layout.{Layout}
-use Rattle.store_layout.specs.Logs.{Batch, IsBatch, IsLog, IsClosed, IsEnded, commands_in, end_frame, frame, log_file, log_front, log_header_bytes}
+use Rattle.store_layout.specs.Logs.{Batch, IsBatch, IsLog, IsClosed, IsEnded, commands_in, end_frame, frame, is_read, log_file, log_front, log_header_bytes}
 
 -- ---- the header
 
@@ -20,9 +20,9 @@ pub record HasHeader (version generation low : ℕ) (content : List ℕ) : Type 
 -- What is wrong with the header of a log that is to have this generation and this low ticket: the first of these faults, and its refusal.
 pub data IsBadHeader (generation low : ℕ) (content : List ℕ) (refusal : Refusal) : Type 0 where
   too_short : length content < log_header_bytes + 1 → refusal ≡ Damaged (log_file generation) 0 → IsBadHeader generation low content refusal
-  wrong_version : (v g l : ℕ) → HasHeader v g l content → v ≢ 1 → refusal ≡ WrongVersion → IsBadHeader generation low content refusal
-  wrong_generation : (g l : ℕ) → HasHeader 1 g l content → g ≢ generation → refusal ≡ Damaged (log_file generation) 1 → IsBadHeader generation low content refusal
-  wrong_low : (l : ℕ) → HasHeader 1 generation l content → l ≢ low → refusal ≡ Damaged (log_file generation) 9 → IsBadHeader generation low content refusal
+  wrong_version : (v g l : ℕ) → HasHeader v g l content → is_read v ≡ false → refusal ≡ WrongVersion → IsBadHeader generation low content refusal
+  wrong_generation : (v g l : ℕ) → HasHeader v g l content → is_read v ≡ true → g ≢ generation → refusal ≡ Damaged (log_file generation) 1 → IsBadHeader generation low content refusal
+  wrong_low : (v l : ℕ) → HasHeader v generation l content → is_read v ≡ true → l ≢ low → refusal ≡ Damaged (log_file generation) 9 → IsBadHeader generation low content refusal
 
 -- ---- frames
 

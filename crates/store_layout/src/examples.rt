@@ -1,10 +1,11 @@
 //! Files byte by byte and what they mean, each as the contract of a function.
-ghost use Rattle.store_layout.specs.Examples.{NewStore, FirstChange, UncommittedChange, SealedWhileChanging, NotYetSealed, HalfWritten, NoStore, TooFewBytes, OtherVersion, OtherFile, ThreeStripes, LongBody, MissingEntry, ByteLeftOver, OtherGreatestMark, NoLog, OtherLog, NoFrame, BelowMark};
+ghost use Rattle.store_layout.specs.Examples.{NewStore, FirstChange, SecondVersion, UncommittedChange, SealedWhileChanging, NotYetSealed, HalfWritten, NoStore, TooFewBytes, OtherVersion, OtherFile, ThreeStripes, LongBody, MissingEntry, ByteLeftOver, OtherGreatestMark, NoLog, OtherLog, NoFrame, BelowMark};
 
-/// A new store, and its first change before and after it is committed.
+/// A new store, and its first change before and after it is committed, in a log of either version.
 pub fn first_files()
     ensures made { NewStore }
     ensures changed { FirstChange }
+    ensures second { SecondVersion }
     ensures uncommitted { UncommittedChange }
 {}
 

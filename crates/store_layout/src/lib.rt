@@ -12,9 +12,13 @@ mod log_phase;
 
 pub use checkpoint_phase::CheckpointPhase;
 pub use log_phase::Phase;
+use log_records::Version;
 
 /// The version byte of each file.
 pub const VERSION: u8 = 1;
+
+/// The version of each new generation.
+pub const NEW_VERSION: Version = Version::Second;
 
 /// A gate is open if its byte is this one, and closed for every other byte.
 pub const OPEN_GATE: u8 = 0xA5;

@@ -2,8 +2,8 @@ use Rattle.std.proofs.Common.{List, ℕ, drop, ◌∙◌, arith}
 use Rattle.byteorder.specs.Numbers.{big_from-take}
 use Rattle.checkpoint_file.proofs.head.fields_of.Goals as goal
 
-pub returns : goal.returns
-returns c =
+pub returns-clause-fields : goal.returns-clause-fields
+returns-clause-fields c =
     let bytes : List ℕ = c.args.bytes.now in
     record {
       generation = c.read_u64.ensures ∙ big_from-take 0 8 34 (drop 2 bytes) (omega arith);

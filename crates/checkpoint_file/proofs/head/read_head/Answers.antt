@@ -1,7 +1,9 @@
-use Rattle.std.proofs.Common.{◌≡◌, ◌≢◌, ◌≤◌, ◌%◌, List, ℕ, length, slice_index_or, inr, sym, subst, ◌∙◌, arith, true}
+use Rattle.std.proofs.Common.{◌≡◌, ◌≢◌, ◌≤◌, ◌%◌, List, ℕ, length, slice_index_or, inr, sym, ap, subst, ◌∙◌, arith, true}
 use Rattle.disk_model.specs.Files.{now}
 use Rattle.store_layout.specs.Checkpoints.{is_sealed}
+use Rattle.log_records.specs.Layout.{layout_of}
 use Rattle.store_layout.specs.Faults.{generation_in}
+use Rattle.store_layout.specs.Logs.{is_read}
 use Rattle.checkpoint_file.proofs.LookLemmas.{one_look}
 use Rattle.checkpoint_file.proofs.HeadLemmas.{byte_kept, number_kept, fields_kept, whole_read, opened, faultless, misplaced}
 use Rattle.checkpoint_file.proofs.head.read_head.Goals as goal
@@ -13,8 +15,8 @@ pub returns-then-count-lt-BODY_OFFSET-clause-looks : goal.returns-then-count-lt-
 returns-then-count-lt-BODY_OFFSET-clause-looks g c =
     one_look g.D.Disk.states g.D.Disk.failures g.D.Disk.honest 0 c.args.disk.now c.read.new.self c.in-Ok.ensures.state (omega (arith, c.in-Ok.ensures.ok)) c.in-Ok.ensures.was_honest
 
-pub returns-then-bytes-ne-VERSION-clause-looks : goal.returns-then-bytes-ne-VERSION-clause-looks
-returns-then-bytes-ne-VERSION-clause-looks g c =
+pub returns-in_default-clause-looks : goal.returns-in_default-clause-looks
+returns-in_default-clause-looks g c =
     one_look g.D.Disk.states g.D.Disk.failures g.D.Disk.honest 0 c.args.disk.now c.read.new.self c.in-Ok.ensures.state (omega (arith, c.in-Ok.ensures.ok)) c.in-Ok.ensures.was_honest
 
 pub returns-then-head-file-clause-looks : goal.returns-then-head-file-clause-looks
@@ -32,9 +34,10 @@ returns-then-head-file-clause-err g c = inr (λ honest.
     let same = whole_read buf content c.in-Ok.count c.if-count-lt-BODY_OFFSET.false c.in-Ok.ensures.within (c.in-Ok.ensures.bytes honest) in
     let long : 36 ≤ length content = omega (arith, c.in-Ok.ensures.count honest, c.if-count-lt-BODY_OFFSET.false) in
     let first : slice_index_or buf 0 0 ≡ 165 = c.if-bytes.false in
-    let second : slice_index_or buf 1 0 ≡ 1 = c.if-bytes-ne-VERSION.false in
-    let generation : c.fields_of-head.result.generation ≡ generation_in content = c.fields_of-head.ensures.generation ∙ number_kept buf content same 8 2 34 (omega arith) (omega arith) in
-    misplaced c.args.file content (opened content long (sym (byte_kept buf content same 0 (omega arith)) ∙ first)) (sym (byte_kept buf content same 1 (omega arith)) ∙ second)
+    let second = sym (byte_kept buf content same 1 (omega arith)) in
+    let version = rw c.in-Some.is at c.version_of_file.ensures.some in
+    let generation : c.fields_of-head.result.generation ≡ generation_in content = c.fields_of-head.ensures.fields.generation ∙ number_kept buf content same 8 2 34 (omega arith) (omega arith) in
+    misplaced c.args.file content (opened content long (sym (byte_kept buf content same 0 (omega arith)) ∙ first)) (ap is_read second ∙ version.1)
     (subst (λ n. n % 2 ≢ c.args.file) generation c.if-head-file.true))
 
 pub returns-clause-some : goal.returns-clause-some
@@ -44,11 +47,13 @@ returns-clause-some g c = λ honest.
     let same = whole_read buf content c.in-Ok.count c.if-count-lt-BODY_OFFSET.false c.in-Ok.ensures.within (c.in-Ok.ensures.bytes honest) in
     let long : 36 ≤ length content = omega (arith, c.in-Ok.ensures.count honest, c.if-count-lt-BODY_OFFSET.false) in
     let first : slice_index_or buf 0 0 ≡ 165 = c.if-bytes.false in
-    let second : slice_index_or buf 1 0 ≡ 1 = c.if-bytes-ne-VERSION.false in
-    let fields = fields_kept buf content same c.fields_of-head.result c.fields_of-head.ensures in
+    let second = sym (byte_kept buf content same 1 (omega arith)) in
+    let version = rw c.in-Some.is at c.version_of_file.ensures.some in
+    let fields = fields_kept buf content same c.fields_of-head.result c.fields_of-head.ensures.fields in
     let is_open : is_sealed content ≡ true = opened content long (sym (byte_kept buf content same 0 (omega arith)) ∙ first) in
     record {
       opened = is_open;
-      faultless = faultless c.args.file content is_open (sym (byte_kept buf content same 1 (omega arith)) ∙ second) (subst (λ n. n % 2 ≡ c.args.file) fields.generation c.if-head-file.false);
+      faultless = faultless c.args.file content is_open (ap is_read second ∙ version.1) (subst (λ n. n % 2 ≡ c.args.file) fields.generation c.if-head-file.false);
+      version = ap (λ v. (layout_of v).version) c.fields_of-head.ensures.version ∙ version.0 ∙ sym second;
       fields = fields;
     }

@@ -1,5 +1,5 @@
 use Rattle.std.proofs.Common.{◌≡◌, length}
-use Rattle.log_records.specs.Layout.{first_layout}
+use Rattle.log_records.specs.Layout.{layout_of}
 use Rattle.disk_model.specs.Calls.{Looks}
 use Rattle.store_layout.specs.Checkpoints.{sections_bytes}
 use Rattle.checkpoint_file.specs.Loads.{sections_of, seen_in, ForRest, IsBehind, GoesOn, AreLoaded}
@@ -14,10 +14,10 @@ invariant-loop-number g l = record {
   looks : Looks g.D.Disk.states g.D.Disk.failures g.D.Disk.honest 0 l.fn.disk l.disk;
   behind : IsBehind l.fn.unread l.rest;
   so_many : l.number ≡ length l.sections.items;
-  loaded : AreLoaded l.stripes.count l.sections.items;
+  loaded : AreLoaded (layout_of l.fn.unread.version) l.stripes.count l.sections.items;
   at : IsAt l.reader l.rest;
   called : ReadsPieces g.D.Disk.states l.fn.disk l.disk l.fn.reader l.reader;
   held : g.D.Disk.honest l.disk → Holds (seen_in g.D.Disk.states l.disk l.rest.file) l.reader;
   read : g.D.Disk.honest l.disk → ForRest g.D.Disk.states l.fn.disk l.fn.unread (λ rest.
-      GoesOn (seen_in g.D.Disk.states l.fn.disk l.fn.unread.file) (sections_bytes first_layout (sections_of l.sections.items)) rest l.rest);
+      GoesOn (seen_in g.D.Disk.states l.fn.disk l.fn.unread.file) (sections_bytes (layout_of l.fn.unread.version) (sections_of l.sections.items)) rest l.rest);
 }

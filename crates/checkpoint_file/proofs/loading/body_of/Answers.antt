@@ -1,4 +1,4 @@
-use Rattle.std.proofs.Common.{◌≡◌, ◌+◌, ◌<◌, List, ℕ, length, true, subst, ◌∙◌, arith}
+use Rattle.std.proofs.Common.{◌≡◌, ◌+◌, ◌<◌, ℕ, length, true, subst, ◌∙◌, arith}
 use Rattle.java_hash.specs.Stripes.{is_stripe_count}
 use Rattle.store_layout.specs.Faults.{body_length_in, stripes_in}
 use Rattle.checkpoint_file.proofs.WholeFiles.{body_past}

@@ -1,10 +1,12 @@
 use Rattle.std.proofs.Common.{ℕ, List, refl, sym, subst, arith}
 use Rattle.std.proofs.lemmas.Result.{err_from_is_err_and}
-use Rattle.log_records.specs.Layout.{first_layout}
+use Rattle.log_records.specs.Layout.{layout_of}
 use Rattle.store_layout.specs.Checkpoints.{IsCheckpoint}
+use Rattle.store_layout.specs.Faults.{version_in}
 use Rattle.checkpoint_file.specs.Heads.{IsHead}
 use Rattle.checkpoint_file.specs.Loads.{checkpoint_of, seen_in}
 use Rattle.checkpoint_file.proofs.LookLemmas.{looks_on, same_seen}
+use Rattle.checkpoint_file.proofs.Versions.{layout_for_byte}
 use Rattle.checkpoint_file.proofs.WholeFiles.{file_refused}
 use Rattle.checkpoint_file.proofs.loading.load.Goals as goal
 
@@ -32,10 +34,12 @@ returns-in_ok-load_body-in-Some-clause-looks g c =
 pub returns-in_ok-load_body-in-Some-clause-some : goal.returns-in_ok-load_body-in-Some-clause-some
 returns-in_ok-load_body-in-Some-clause-some g c = λ honest.
     let file = c.args.file in
+    let content : List ℕ = seen_in g.D.Disk.states c.args.disk.now file in
     let same = same_seen g.D.Disk.states g.D.Disk.failures g.D.Disk.honest c.args.disk.now c.read_head.new.disk file file refl c.in_ok-head.ensures.looks in
     let is = rw c.in-Some.is at (c.in_ok-head.ensures.some (c.in_ok-load_body-in-Some.ensures.looks.was_honest honest)) in
     let found = c.in_ok-load_body-in-Some.ensures.ok honest (subst (λ (content : List ℕ). IsHead c.in-Some.head file content) (sym same) is) in
-    subst (λ (content : List ℕ). IsCheckpoint first_layout (checkpoint_of c.in_ok-load_body-in-Some.field-0) content) same found
+    subst (λ layout. IsCheckpoint layout (checkpoint_of c.in_ok-load_body-in-Some.field-0) content) (sym (layout_for_byte c.in-Some.head.version (version_in content) is.version))
+    (subst (λ (bytes : List ℕ). IsCheckpoint (layout_of c.in-Some.head.version) (checkpoint_of c.in_ok-load_body-in-Some.field-0) bytes) same found)
 
 pub returns-in_ok-load_body-in-Some-clause-called : goal.returns-in_ok-load_body-in-Some-clause-called
 returns-in_ok-load_body-in-Some-clause-called g c = λ honest.

@@ -1,6 +1,8 @@
 use Rattle.std.proofs.Common.{◌≡◌, ◌≢◌, ◌⊎◌, List, inl, inr, refl, sym, ap, subst, ◌∙◌, arith}
 use Rattle.std.proofs.lemmas.Result.{err_from_is_err_and}
+use Rattle.log_records.specs.Layout.{layout_of}
 use Rattle.store_layout.specs.Checkpoints.{AreMarkedFrom, greatest_mark}
+use Rattle.store_layout.specs.Faults.{body_in}
 use Rattle.checkpoint_file.specs.declared.loading.LoadedSection.{LoadedSection}
 use Rattle.checkpoint_file.specs.declared.loading.LoadedCheckpoint.{LoadedCheckpoint}
 use Rattle.checkpoint_file.specs.Loads.{sections_of, seen_in, IsBodyOf}
@@ -36,11 +38,12 @@ returns-then-greatest-head-clause-looks g c =
 pub returns-then-greatest-head-clause-err : goal.returns-then-greatest-head-clause-err
 returns-then-greatest-head-clause-err g c = inr (inr (λ honest is.
     let reads : List LoadedSection = c.in_ok-sections.sections.items in
-    let loaded : LoadedCheckpoint = record { generation = c.args.head.now.generation; low = c.args.head.now.low; stripes = c.in_ok-stripes.stripes; sections = c.in_ok-sections.sections } in
+    let loaded : LoadedCheckpoint = record { version = c.args.head.now.version; generation = c.args.head.now.generation; low = c.args.head.now.low; stripes = c.in_ok-stripes.stripes; sections = c.in_ok-sections.sections } in
     let first = c.in_ok-sections.ensures.looks.was_honest honest in
     let place = c.in_ok-stripes.ensures.place in
-    let body = of_file g.D.Disk.states g.D.Disk.failures g.D.Disk.honest c.args.disk.now c.sized_body.new.disk c.args.file c.args.head.now c.in_ok-stripes.body (IsBodyOf c.in_ok-stripes.stripes.count reads)
-    c.in_ok-stripes.ensures.looks is.fields place.1 (c.in_ok-stripes.ensures.inside first) (c.in_ok-sections.ensures.ok honest) in
+    let body = subst (λ v. IsBodyOf (layout_of v) c.in_ok-stripes.stripes.count reads (body_in (seen_in g.D.Disk.states c.args.disk.now c.args.file))) place.1.version_is
+    (of_file g.D.Disk.states g.D.Disk.failures g.D.Disk.honest c.args.disk.now c.sized_body.new.disk c.args.file c.args.head.now c.in_ok-stripes.body (IsBodyOf (layout_of c.in_ok-stripes.body.version) c.in_ok-stripes.stripes.count reads)
+    c.in_ok-stripes.ensures.looks is.fields place.1 (c.in_ok-stripes.ensures.inside first) (c.in_ok-sections.ensures.ok honest)) in
     let greatest : c.greatest_mark-greatest.result ≡ greatest_mark (sections_of reads) = c.greatest_mark-greatest.ensures ∙ ap (λ (l : List LoadedSection). greatest_mark (sections_of l)) c.deref.ensures.value in
     let marked = c.are_marked_from-is_marked.ensures in
     let wrong : (greatest_mark (sections_of reads) ≢ c.args.head.now.greatest_mark) ⊎ (AreMarkedFrom c.args.head.now.low (sections_of reads) → ⊥) = elim c.then-greatest-head.either [
@@ -56,11 +59,12 @@ returns-clause-looks g c =
 pub returns-clause-ok : goal.returns-clause-ok
 returns-clause-ok g c = λ honest is.
     let reads : List LoadedSection = c.in_ok-sections.sections.items in
-    let loaded : LoadedCheckpoint = record { generation = c.args.head.now.generation; low = c.args.head.now.low; stripes = c.in_ok-stripes.stripes; sections = c.in_ok-sections.sections } in
+    let loaded : LoadedCheckpoint = record { version = c.args.head.now.version; generation = c.args.head.now.generation; low = c.args.head.now.low; stripes = c.in_ok-stripes.stripes; sections = c.in_ok-sections.sections } in
     let first = c.in_ok-sections.ensures.looks.was_honest honest in
     let place = c.in_ok-stripes.ensures.place in
-    let body = of_file g.D.Disk.states g.D.Disk.failures g.D.Disk.honest c.args.disk.now c.sized_body.new.disk c.args.file c.args.head.now c.in_ok-stripes.body (IsBodyOf c.in_ok-stripes.stripes.count reads)
-    c.in_ok-stripes.ensures.looks is.fields place.1 (c.in_ok-stripes.ensures.inside first) (c.in_ok-sections.ensures.ok honest) in
+    let body = subst (λ v. IsBodyOf (layout_of v) c.in_ok-stripes.stripes.count reads (body_in (seen_in g.D.Disk.states c.args.disk.now c.args.file))) place.1.version_is
+    (of_file g.D.Disk.states g.D.Disk.failures g.D.Disk.honest c.args.disk.now c.sized_body.new.disk c.args.file c.args.head.now c.in_ok-stripes.body (IsBodyOf (layout_of c.in_ok-stripes.body.version) c.in_ok-stripes.stripes.count reads)
+    c.in_ok-stripes.ensures.looks is.fields place.1 (c.in_ok-stripes.ensures.inside first) (c.in_ok-sections.ensures.ok honest)) in
     let greatest : c.greatest_mark-greatest.result ≡ greatest_mark (sections_of reads) = c.greatest_mark-greatest.ensures ∙ ap (λ (l : List LoadedSection). greatest_mark (sections_of l)) c.deref.ensures.value in
     let marks = subst (λ (l : List LoadedSection). AreMarkedFrom c.args.head.now.low (sections_of l)) c.deref-2.ensures.value (c.are_marked_from-is_marked.ensures.0 c.if-not-is_marked.false) in
     let low = c.requires in

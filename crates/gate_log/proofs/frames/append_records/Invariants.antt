@@ -1,6 +1,6 @@
 use Rattle.std.proofs.Common.{◌≡◌, ◌++◌, take}
 use Rattle.std.specs.List.{AllByRecursion}
-use Rattle.log_records.specs.Layout.{first_layout}
+use Rattle.log_records.specs.Layout.{layout_of}
 use Rattle.log_records.specs.Spelling.{IsCommand}
 use Rattle.store_layout.specs.Logs.{records_bytes}
 use Rattle.gate_log.specs.States.{commands_of}
@@ -8,5 +8,5 @@ use Rattle.gate_log.proofs.frames.append_records.Given as goal
 
 abbrev pub invariant-loop-entry : goal.invariant-loop-entry
 invariant-loop-entry l =
-    (l.out.items ≡ l.fn.out.items ++ records_bytes first_layout (commands_of (take l.entry-index l.entries)))
-    × AllByRecursion (IsCommand first_layout) (commands_of (take l.entry-index l.entries))
+    (l.out.items ≡ l.fn.out.items ++ records_bytes (layout_of l.version) (commands_of (take l.entry-index l.entries)))
+    × AllByRecursion (IsCommand (layout_of l.version)) (commands_of (take l.entry-index l.entries))

@@ -1,5 +1,6 @@
 use Rattle.std.proofs.Common.{◌≡◌, ◌<◌, ◌^◌, ℕ, List, ◌++◌, arith, sym, subst, ◌∙◌, drop, inl, inr}
 use Rattle.byteorder.specs.Endian.{big_bytes}
+use Rattle.log_records.specs.Layout.{layout_of}
 use Rattle.gate_log.specs.ScanParts.{AreEntries}
 use Rattle.std.proofs.lemmas.Result.{IfOk-weaker}
 use Rattle.std.proofs.lemmas.Option.{IfSome_then}
@@ -12,7 +13,7 @@ returns-then-first-expected-clause-none c = λ batch fits first e.
     let body : List ℕ = c.args.body.now in
     let numbers = c.first_and_count-first.result in
     let first_fits : numbers.0 < 2 ^ 64 = omega arith in
-    let parts = body_parts batch body (drop 12 body) numbers.0 numbers.1 fits c.requires.high first_fits c.first_and_count-first.ensures.fits c.first_and_count-first.ensures.spelled e in
+    let parts = body_parts (layout_of c.args.version) batch body (drop 12 body) numbers.0 numbers.1 fits c.requires.high first_fits c.first_and_count-first.ensures.fits c.first_and_count-first.ensures.spelled e in
     let few = fits.few in
     let some = fits.some in
     elim c.then-first-expected.either [
@@ -25,7 +26,7 @@ returns-then-expected-count-clause-none c = λ batch fits first e.
     let body : List ℕ = c.args.body.now in
     let numbers = c.first_and_count-first.result in
     let first_fits : numbers.0 < 2 ^ 64 = omega arith in
-    let parts = body_parts batch body (drop 12 body) numbers.0 numbers.1 fits c.requires.high first_fits c.first_and_count-first.ensures.fits c.first_and_count-first.ensures.spelled e in
+    let parts = body_parts (layout_of c.args.version) batch body (drop 12 body) numbers.0 numbers.1 fits c.requires.high first_fits c.first_and_count-first.ensures.fits c.first_and_count-first.ensures.spelled e in
     let sum = fits.fits in
     omega arith
 
@@ -37,8 +38,8 @@ returns-clause-some c =
     subst (λ (n : ℕ). body ≡ big_bytes 8 n ++ (big_bytes 4 numbers.1 ++ drop 12 body)) c.if-first-expected.false c.first_and_count-first.ensures.spelled in
     IfOk-weaker c.entries_at.result _ _
     (λ found some. IfSome_then found some
-    (λ entries are. is_body c.args.expected numbers.1 entries.items body (drop 12 body) c.requires.high (omega arith) (omega arith) (omega arith) parts
-    (subst (AreEntries c.args.expected numbers.1 entries.items) (slice_rest 12 body) are)))
+    (λ entries are. is_body (layout_of c.args.version) c.args.expected numbers.1 entries.items body (drop 12 body) c.requires.high (omega arith) (omega arith) (omega arith) parts
+    (subst (AreEntries (layout_of c.args.version) c.args.expected numbers.1 entries.items) (slice_rest 12 body) are)))
     c.entries_at.ensures.some
 
 pub returns-clause-none : goal.returns-clause-none
@@ -49,7 +50,7 @@ returns-clause-none c =
     IfOk-weaker c.entries_at.result _ _
     (λ found none. if_none found _ _
     (λ none batch fits first e.
-    let parts = body_parts batch body (drop 12 body) numbers.0 numbers.1 fits c.requires.high first_fits c.first_and_count-first.ensures.fits c.first_and_count-first.ensures.spelled e in
+    let parts = body_parts (layout_of c.args.version) batch body (drop 12 body) numbers.0 numbers.1 fits c.requires.high first_fits c.first_and_count-first.ensures.fits c.first_and_count-first.ensures.spelled e in
     none batch.commands parts.1 fits.well_formed (slice_rest 12 body ∙ sym parts.2))
     none)
     c.entries_at.ensures.none

@@ -1,6 +1,6 @@
 use Rattle.std.proofs.Common.{◌++◌, ℕ, List, refl, ap₂, sym, ◌∙◌}
 use Rattle.std.proofs.lemmas.List.{take-append-drop}
-use Rattle.log_records.specs.Layout.{first_layout}
+use Rattle.log_records.specs.Layout.{layout_of}
 use Rattle.log_records.specs.Spelling.{record_bytes}
 use Rattle.gate_log.proofs.Scanning.{slice_rest}
 use Rattle.gate_log.proofs.parts.command_at.Goals as goal
@@ -14,6 +14,6 @@ returns-in-Ok-clause-some c =
 pub returns-in_default : goal.returns-in_default
 returns-in_default c = record {
   some = tt;
-  none = λ command rest fits e. c.in_default.not-NoMemory (c.in-Err.ensures.only (record_bytes first_layout command) rest command (record { fits = fits; spelled = refl }) e);
+  none = λ command rest fits e. c.in_default.not-NoMemory (c.in-Err.ensures.only (record_bytes (layout_of c.args.version) command) rest command (record { fits = fits; spelled = refl }) e);
   err = tt;
 }

@@ -1,6 +1,6 @@
 use Rattle.std.proofs.Common.{◌≡◌, ◌++◌, ◌+◌, length}
 use Rattle.std.specs.List.{AllByRecursion}
-use Rattle.log_records.specs.Layout.{first_layout}
+use Rattle.log_records.specs.Layout.{layout_of}
 use Rattle.log_records.specs.Spelling.{IsCommand}
 use Rattle.store_layout.specs.Logs.{records_bytes}
 use Rattle.gate_log.specs.States.{AreFrom}
@@ -12,6 +12,6 @@ abbrev pub invariant-loop-ticket : goal.invariant-loop-ticket
 invariant-loop-ticket l = record {
   tickets : AreFrom l.first l.entries.items;
   so_far : l.ticket ≡ l.first + length l.entries.items;
-  well_formed : AllByRecursion (IsCommand first_layout) (commands_of l.entries.items);
-  spelled : l.bytes ≡ records_bytes first_layout (commands_of l.entries.items) ++ l.rest;
+  well_formed : AllByRecursion (IsCommand (layout_of l.version)) (commands_of l.entries.items);
+  spelled : l.bytes ≡ records_bytes (layout_of l.version) (commands_of l.entries.items) ++ l.rest;
 }

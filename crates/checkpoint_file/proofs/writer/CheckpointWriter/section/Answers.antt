@@ -1,5 +1,5 @@
 use Rattle.std.proofs.Common.{◌≡◌, ◌+◌, ◌<◌, ◌^◌, length, arith, rules}
-use Rattle.log_records.specs.Layout.{first_layout}
+use Rattle.store_layout.specs.Logs.{new_layout}
 use Rattle.store_layout.specs.Checkpoints.{marked_bytes}
 use Rattle.store_layout.specs.declared.checkpoint_phase.CheckpointPhase.TheVariants.{Ready}
 use Rattle.checkpoint_file.proofs.StagingLemmas.{staged_stands}
@@ -12,5 +12,5 @@ returns-clause-staged c =
     let entries = c.args.entries.now in
     let ready : w.phase ≡ Ready = search rules in
     let few : length entries < 2 ^ 32 = omega arith in
-    let fits : w.body + length (marked_bytes first_layout mark entries) < 2 ^ 64 = search rules in
+    let fits : w.body + length (marked_bytes new_layout mark entries) < 2 ^ 64 = search rules in
     staged_stands w _ mark entries (search rules) ready c.ranges.mark.fits few c.in_ok-self-inside.ensures.fits fits

@@ -1,5 +1,6 @@
 use Rattle.std.proofs.Common.{◌≡◌, ◌+◌, ◌-◌, ℕ, drop, take, arith, ap, ◌∙◌, inr}
 use Rattle.std.proofs.lemmas.List.{length-drop}
+use Rattle.log_records.specs.Layout.{layout_of}
 use Rattle.gate_log.proofs.Heads.{none_cut, none_ahead, has_frame, head_read, comes_ahead}
 use Rattle.gate_log.proofs.place.Place.head.Goals as goal
 
@@ -14,7 +15,7 @@ returns-then-len-behind-clause-err c =
           let read = c.bytes.ensures.same content holds ∙ ap (λ (n : ℕ). take n (drop at content)) five in
           let parts = head_read content c.bytes.result.now at head.0 head.1 rest is read c.kind_and_len-kind.ensures.spelled in
           let tail = length-drop 5 rest in
-          none_cut c.args.self.expected (c.args.self.generation + 1) rest head.0 head.1 (drop 5 rest) parts c.kind_and_len-kind.ensures.fits (omega arith),
+          none_cut (layout_of c.args.self.version) c.args.self.expected (c.args.self.generation + 1) rest head.0 head.1 (drop 5 rest) parts c.kind_and_len-kind.ensures.fits (omega arith),
     ))
 
 pub returns-in-Some-clause-ahead : goal.returns-in-Some-clause-ahead
@@ -25,7 +26,7 @@ returns-in-Some-clause-ahead c = λ content rest holds is len.
     let read = c.bytes.ensures.same content holds ∙ ap (λ (n : ℕ). take n (drop at content)) five in
     let parts = head_read content c.bytes.result.now at head.0 head.1 rest is read c.kind_and_len-kind.ensures.spelled in
     let tail = length-drop 5 rest in
-    let frame = has_frame c.args.self.expected (c.args.self.generation + 1) rest head.0 head.1 (drop 5 rest) parts c.kind_and_len-kind.ensures.fits (omega arith) in
+    let frame = has_frame (layout_of c.args.self.version) c.args.self.expected (c.args.self.generation + 1) rest head.0 head.1 (drop 5 rest) parts c.kind_and_len-kind.ensures.fits (omega arith) in
     comes_ahead head.0 head.1 rest c.in-Some.ahead c.in-Some.ensures frame
 
 pub returns-in-None-clause-err : goal.returns-in-None-clause-err
@@ -38,5 +39,5 @@ returns-in-None-clause-err c =
       λ content rest holds is len.
           let read = c.bytes.ensures.same content holds ∙ ap (λ (n : ℕ). take n (drop at content)) five in
           let parts = head_read content c.bytes.result.now at head.0 head.1 rest is read c.kind_and_len-kind.ensures.spelled in
-          none_ahead c.args.self.expected (c.args.self.generation + 1) rest head.0 head.1 (drop 5 rest) parts c.kind_and_len-kind.ensures.fits c.in-None.ensures,
+          none_ahead (layout_of c.args.self.version) c.args.self.expected (c.args.self.generation + 1) rest head.0 head.1 (drop 5 rest) parts c.kind_and_len-kind.ensures.fits c.in-None.ensures,
     ))

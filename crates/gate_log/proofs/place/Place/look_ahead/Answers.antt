@@ -1,6 +1,6 @@
 use Rattle.std.proofs.Common.{◌≡◌, ◌+◌, ◌-◌, ◌∷◌, ℕ, List, drop, take, arith, sym, ap, subst, ◌∙◌, IfOk}
 use Rattle.std.proofs.lemmas.Result.{IfErr-weaker}
-use Rattle.log_records.specs.Layout.{first_layout}
+use Rattle.log_records.specs.Layout.{layout_of}
 use Rattle.gate_log.specs.Scan.{ReadsAtGate}
 use Rattle.gate_log.specs.ScanParts.{ComesAhead, bytes_of}
 use Rattle.gate_log.proofs.Scanning.{refuses_more, rest_is, byte_is}
@@ -35,4 +35,4 @@ returns-clause-within g c = λ honest size byte rest holds e reads.
     let one : gate + 1 - gate ≡ 1 = omega arith in
     let read = c.bytes-gate.ensures.same content holds ∙ ap (λ (n : ℕ). take n (drop gate content)) one in
     let is_open : 165 ≡ byte = sym c.if-gate.false ∙ byte_is content c.bytes-gate.result.now gate byte rest e read in
-    c.read_frame.ensures.within honest size rest holds (rest_is content gate byte rest e) (subst (λ (b : ℕ). ReadsAtGate first_layout (b ∷ rest) size) (sym is_open) reads)
+    c.read_frame.ensures.within honest size rest holds (rest_is content gate byte rest e) (subst (λ (b : ℕ). ReadsAtGate (layout_of c.args.self.version) (b ∷ rest) size) (sym is_open) reads)

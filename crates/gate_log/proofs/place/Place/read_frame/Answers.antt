@@ -2,6 +2,7 @@ use Rattle.std.proofs.Common.{◌≡◌, ◌+◌, ◌≤◌, ℕ, List, max, len
 use Rattle.std.proofs.lemmas.List.{length-drop}
 use Rattle.std.proofs.lemmas.Result.{err_from_is_err_and}
 use Rattle.file_pieces.specs.Pieces.{Holds, end_of, pieces_in}
+use Rattle.log_records.specs.Layout.{layout_of}
 use Rattle.gate_log.specs.ScanParts.{behind_frame, bytes_of}
 use Rattle.gate_log.proofs.GateReads.{ends_there, long_enough}
 use Rattle.gate_log.proofs.Heads.{none_short}
@@ -16,7 +17,7 @@ returns-then-behind-le-HEAD_BYTES-clause-err g c =
       c.damaged.ensures,
       λ honest rest holds is.
           let whole = holds.whole in
-          none_short c.args.self.expected (c.args.self.generation + 1) rest (omega (arith, few, whole, ap (λ (l : List ℕ). length l) is, length-drop (c.args.self.gate + 1) content)),
+          none_short (layout_of c.args.self.version) c.args.self.expected (c.args.self.generation + 1) rest (omega (arith, few, whole, ap (λ (l : List ℕ). length l) is, length-drop (c.args.self.gate + 1) content)),
     ))
 
 pub returns-in_err-ahead-clause-err : goal.returns-in_err-ahead-clause-err
@@ -82,14 +83,14 @@ returns-clause-ahead g c = λ honest rest holds is.
 pub returns-in_err-reach-clause-within : goal.returns-in_err-reach-clause-within
 returns-in_err-reach-clause-within g c = λ honest size rest holds is reads.
     let q = err_from_is_err_and c.from_residual.result c.from_residual.ensures.1 in
-    let long = long_enough rest size reads in
+    let long = long_enough (layout_of c.args.self.version) rest size reads in
     let tried = c.in_err-reach.ensures.tried in
     rw q.1 (omega (arith, long, tried))
 
 pub returns-in_err-ahead-clause-within : goal.returns-in_err-ahead-clause-within
 returns-in_err-ahead-clause-within g c = λ honest size rest holds is reads.
     let q = err_from_is_err_and c.from_residual-in_err-ahead.result c.from_residual-in_err-ahead.ensures.1 in
-    let long = long_enough rest size reads in
+    let long = long_enough (layout_of c.args.self.version) rest size reads in
     let called = c.in_ok-reach.ensures.called in
     let pieces = c.in_ok-reach.ensures.pieces in
     rw q.1 (omega (arith, long, called, pieces))
@@ -102,9 +103,9 @@ returns-in_err-reach-2-clause-within g c = λ honest size rest holds is reads.
     let there = c.in_ok-reach.ensures.holds (c.in_err-reach-2.ensures.looks.was_honest honest) holds in
     let whole = holds.whole in
     let comes = c.in_ok-ahead.ensures.ahead content rest there is (omega (arith, whole, ap (λ (l : List ℕ). length l) is, length-drop (gate + 1) content)) in
-    let ends = ends_there gate 165 rest size c.in_ok-ahead.ahead c.in_ok-ahead.ensures.fits comes reads in
+    let ends = ends_there (layout_of c.args.self.version) gate 165 rest size c.in_ok-ahead.ahead c.in_ok-ahead.ensures.fits comes reads in
     let next = c.next_gate.ensures in
-    let long = long_enough rest size reads in
+    let long = long_enough (layout_of c.args.self.version) rest size reads in
     let called = c.in_ok-reach.ensures.called in
     let pieces = c.in_ok-reach.ensures.pieces in
     let tried = c.in_err-reach-2.ensures.tried in
