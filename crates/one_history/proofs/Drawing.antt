@@ -16,7 +16,7 @@ use Rattle.ticket_order.specs.declared.record.StepMade.{StepMade}
 use Rattle.ticket_order.specs.declared.record.StepMade.TheVariants as made
 use Rattle.ticket_order.specs.declared.record.Holding.{Holding}
 use Rattle.ticket_order.specs.declared.record.Record.{Record}
-use Rattle.ticket_order.specs.Records.{reach, call, entry, drawing, drawing_at, part_held}
+use Rattle.ticket_order.specs.Records.{IsWithin, reach, call, entry, drawing, drawing_at, part_held}
 use Rattle.ticket_order.specs.Legality.{IsContent, history_of, last_of}
 use Rattle.ticket_order.specs.StepRules.{MayDraw, Draws}
 use Rattle.ticket_order.proofs.Longer.{sections_longer}
@@ -209,6 +209,7 @@ module _ (n t durable : ℕ) (has_failed : Bool) (slots : List Slot) (b : Book) 
       (let was : length b.authors ≡ length b.history = kept.one.authors in omega (arith, more_by_one, length-append b.authors (j ∷ [])))
       (All-push (λ u. u < length b.passes) b.authors j kept.one.by_passes within) refl kept.one.begun
       (let was : b.effects.durable ≤ b.opening.first + length b.history = kept.one.reached in omega (arith, more_by_one))
+      (All-push (IsWithin b.opening.key_limit) b.history c kept.one.within (subst (λ (o : Opening). IsWithin o.key_limit c) (kept.one.passes j within).opening may.within))
       knows_drawn knows_other
       (record {
         recorded = refl;

@@ -143,7 +143,7 @@ module _ (n t durable : ℕ) (has_failed : Bool) (slots : List Slot) (b : Book) 
   one_gave : IsOneHistory (gave j p b)
   one_gave =
       let words : AreOf b (words_of b) = kept.one.words in
-      one_turned b j s w b.history b.authors k' kept.one within kept.one.authors kept.one.by_passes refl kept.one.begun kept.one.reached knows_gave knows_other
+      one_turned b j s w b.history b.authors k' kept.one within kept.one.authors kept.one.by_passes refl kept.one.begun kept.one.reached kept.one.within knows_gave knows_other
       (record {
         recorded = after.steps;
         finds = subst (λ u. (words_of b).holders u ≡ Some j) (sym stripe_here) (kept.holders d.stripe holds_it.within ∙ ap holder_in slot_here);

@@ -72,6 +72,7 @@ module _ (n t durable : ℕ) (has_failed : Bool) (slots : List Slot) (b : Book) 
     steps = λ j. none_more b.passes w (newcomer b.opening) j refl ∙ kept.one.steps j;
     found = kept.one.found;
     words = record { tickets = kept.one.words.tickets; durable = kept.one.words.durable; failed = kept.one.words.failed; lasts = kept.one.words.lasts };
+    within = kept.one.within;
   }
 
   holds_on : (l i : ℕ) → HoldsStripe b l i → HoldsStripe (joined b) l i

@@ -9,7 +9,7 @@ use Rattle.std.proofs.lemmas.Bool.{cases_eq, cases_lt, le-ltb}
 use Rattle.map_types.specs.declared.commands.Command.{Command}
 use Rattle.ticket_order.specs.declared.record.StepMade.{StepMade}
 use Rattle.ticket_order.specs.declared.record.Record.{Record}
-use Rattle.ticket_order.specs.Records.{newcomer, looking}
+use Rattle.ticket_order.specs.Records.{IsWithin, newcomer, looking}
 use Rattle.one_history.specs.declared.book.Book.{Book}
 use Rattle.one_history.specs.declared.book.KeeperEffects.{KeeperEffects}
 use Rattle.one_history.specs.declared.slot.Slot.{Slot}
@@ -65,11 +65,11 @@ steps_turned b j s w h authors k within recorded before l = elim (cases_eq l j) 
 ]
 
 pub one_turned : (b : Book) (j : ℕ) (s : StepMade) (w : Record) (h : List Command) (authors : List ℕ) (k : KeeperEffects) → IsOneHistory b → j < length b.passes
-    → length authors ≡ length h → All (λ i. i < length b.passes) authors → k.keeper ≡ b.effects.keeper → b.opening.first ≤ k.durable → k.durable ≤ b.opening.first + length h
+    → length authors ≡ length h → All (λ i. i < length b.passes) authors → k.keeper ≡ b.effects.keeper → b.opening.first ≤ k.durable → k.durable ≤ b.opening.first + length h → All (IsWithin b.opening.key_limit) h
     → Knows b.opening b.stripes h authors k j w
     → ((l : ℕ) → l < length b.passes → l ≢ j → Knows b.opening b.stripes h authors k l (record_of l b))
     → IsStep b j s w h authors k → IsOneHistory (turned b j s w h authors k)
-one_turned b j s w h authors k one within lengths by keeper begun reached here there step = record {
+one_turned b j s w h authors k one within lengths by keeper begun reached short here there step = record {
   authors = lengths;
   by_passes = subst (λ n. All (λ i. i < n) authors) (sym (length-set b.passes j w)) by;
   keeper = (let known : b.effects.keeper < length b.passes = one.keeper in omega (arith, length-set b.passes j w));
@@ -79,6 +79,7 @@ one_turned b j s w h authors k one within lengths by keeper begun reached here t
   steps = steps_turned b j s w h authors k within step.recorded one.steps;
   found = found_push (words_at b.opening) b.interleaving (pass_step j s) one.found step.finds;
   words = subst (AreOf (turned b j s w h authors k)) (sym (words_turned b j s w h authors k)) step.words;
+  within = short;
 }
 
 -- the pass's record has no more tickets to draw than before

@@ -122,6 +122,7 @@ one_at_start o stripes n = record {
   steps = none_stepped o n;
   found = tt;
   words = record { tickets = omega arith; durable = refl; failed = refl; lasts = λ i lt. omega arith };
+  within = All-nil _;
 }
 
 -- no stripe is held
@@ -148,10 +149,10 @@ part_at n i parts are count lt =
     sym (get_or-map-range_with_len (λ s. part_of n s (union_of (maps_of parts))) 0 n i i finite.empty lt (omega arith))
     ∙ (ap (λ (ms : List Map). get_or ms i finite.empty) (sym are) ∙ get_or-map (λ (p : PartState). p.map) parts i no_part finite.empty (omega arith))
 
-pub kept_at_start : (n first workers : ℕ) (parts : List PartState) (slots : List Slot) → length parts ≡ n → AreParts n parts → ArePlaced first parts slots → workers < 65536 → IsKept n first first false slots (at_start first parts workers)
-kept_at_start n first workers parts slots count are placed few =
-    let o : Opening = opening_of first parts in
-    let b : Book = at_start first parts workers in
+pub kept_at_start : (n first limit workers : ℕ) (parts : List PartState) (slots : List Slot) → length parts ≡ n → AreParts n parts → ArePlaced first parts slots → workers < 65536 → IsKept n first first false slots (at_start first parts limit workers)
+kept_at_start n first limit workers parts slots count are placed few =
+    let o : Opening = opening_of first parts limit in
+    let b : Book = at_start first parts limit workers in
     let lies : (i : ℕ) (x : Slot) → i < n → IsPlaced first (get_or parts i no_part) x → Lies b i x =
     λ i. elim [
       | Home content ↦ λ lt p. record {
@@ -206,5 +207,5 @@ empty_are_parts n parts count e =
     let all : maps_of parts ≡ parts_of n finite.empty = empty_parts n 0 parts e ∙ ap (λ l. map (λ s. part_of n s finite.empty) (range_with_len 0 l)) count in
     all ∙ ap (λ m. parts_of n m) (sym (empty_union parts e))
 
-pub empty_start : (n workers : ℕ) (parts : List PartState) → length parts ≡ n → AreEmpty parts → at_start 0 parts workers ≡ started (record { first = 0; map = finite.empty }) n workers
-empty_start n workers parts count e = ap (λ (m : Map). started (record { first = 0; map = m }) (length parts) workers) (empty_union parts e) ∙ ap (λ l. started (record { first = 0; map = finite.empty }) l workers) count
+pub empty_start : (n limit workers : ℕ) (parts : List PartState) → length parts ≡ n → AreEmpty parts → at_start 0 parts limit workers ≡ started (record { first = 0; map = finite.empty; key_limit = limit }) n workers
+empty_start n limit workers parts count e = ap (λ (m : Map). started (record { first = 0; map = m; key_limit = limit }) (length parts) workers) (empty_union parts e) ∙ ap (λ l. started (record { first = 0; map = finite.empty; key_limit = limit }) l workers) count

@@ -1,4 +1,5 @@
 -- TAKE of a free stripe.
+use Rattle.std.specs.List.{All}
 use Rattle.std.proofs.Common.{ℕ, ◌≡◌, ◌≢◌, ◌<◌, ◌≤◌, ◌++◌, List, Bool, true, false, Some, None, length, set, refl, arith, sym, ◌∙◌, ap, subst, inl, inr}
 use Rattle.std.proofs.lemmas.List.{get_or-set_same, get_or-set_other}
 use Rattle.std.proofs.Math.ListN.{length-set}
@@ -13,7 +14,7 @@ use Rattle.map_model.specs.Maps.{Map}
 use Rattle.ticket_order.specs.declared.record.Opening.{Opening}
 use Rattle.ticket_order.specs.declared.record.Holding.{Holding}
 use Rattle.ticket_order.specs.declared.record.Record.{Record}
-use Rattle.ticket_order.specs.Records.{past, taking}
+use Rattle.ticket_order.specs.Records.{IsWithin, past, taking}
 use Rattle.ticket_order.specs.Legality.{IsContent, entries_of, entries_from, last_of}
 use Rattle.ticket_order.specs.StepRules.{Rises, Collects, EndsAt, IsLast, TakesStripe}
 use Rattle.one_history.specs.declared.book.Book.{Book}
@@ -76,7 +77,7 @@ module _ (n t durable : ℕ) (has_failed : Bool) (slots : List Slot) (b : Book) 
   one_took =
       let r : Record = record_of j b in let sees : SeesMore r w between = record { opening = refl; seen = refl; calls = refl } in
       let words : AreOf b (words_of b) = kept.one.words in
-      one_turned b j s w b.history b.authors b.effects kept.one within kept.one.authors kept.one.by_passes refl kept.one.begun kept.one.reached
+      one_turned b j s w b.history b.authors b.effects kept.one within kept.one.authors kept.one.by_passes refl kept.one.begun kept.one.reached kept.one.within
       (watches b.opening b.stripes b.history b.authors b.effects b.effects j r w between here sees sees_outbox.front refl refl refl (done_same b.opening b.effects r w refl refl refl refl here.done)
       (λ d e.
       let new : Holding = record { stripe = i; part = m; outbox = es; last = content.last; has_drawn = false; looked = None } in
@@ -149,6 +150,7 @@ module _ (n t durable : ℕ) (has_failed : Bool) (slots : List Slot) (b : Book) 
         more = f.rest;
         is = ap (λ x. entries_of b.stripes i x ++ es) (keeper_done r.keeper here.done keeper)
             ∙ (sym at_home.outbox_is ∙ (ap (λ (o : Opening). entries_of b.stripes i (entries_from o.first b.history)) (sym here.opening) ∙ ap (λ h. entries_of b.stripes i (entries_from r.opening.first h)) all));
+        within = subst (All (IsWithin r.opening.key_limit)) all (subst (λ (o : Opening). All (IsWithin o.key_limit) b.history) (sym here.opening) kept.one.within);
       }
 
   last_seen : IsLast b.stripes i content.last w

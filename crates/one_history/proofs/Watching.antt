@@ -47,7 +47,7 @@ module _ (n t durable : ℕ) (has_failed : Bool) (slots : List Slot) (b : Book) 
 
   -- another record of this pass, of the same history and effects
   one_watched : (s : StepMade) (w : Record) → Knows b.opening b.stripes b.history b.authors b.effects j w → IsStep b j s w b.history b.authors b.effects → IsOneHistory (turned b j s w b.history b.authors b.effects)
-  one_watched s w x step = one_turned b j s w b.history b.authors b.effects kept.one within kept.one.authors kept.one.by_passes refl kept.one.begun kept.one.reached x (λ l lt ne. kept.one.passes l lt) step
+  one_watched s w x step = one_turned b j s w b.history b.authors b.effects kept.one within kept.one.authors kept.one.by_passes refl kept.one.begun kept.one.reached kept.one.within x (λ l lt ne. kept.one.passes l lt) step
 
   -- the step was recorded and found what its word holds, and no word changes
   step_watched : (s : StepMade) (w : Record) → w.steps ≡ (record_of j b).steps ++ s ∷ [] → Finds j s (words_of b) → moved_by j s (words_of b) ≡ words_of b → IsStep b j s w b.history b.authors b.effects
@@ -201,7 +201,7 @@ module _ (n t durable : ℕ) (has_failed : Bool) (slots : List Slot) (b : Book) 
     unfolding here
     one_kept =
         let r : Record = record_of j b in
-        one_turned b j s w b.history b.authors k' kept.one within kept.one.authors kept.one.by_passes same begun reached
+        one_turned b j s w b.history b.authors k' kept.one within kept.one.authors kept.one.by_passes same begun reached kept.one.within
         (watches b.opening b.stripes b.history b.authors b.effects k' j r w [] here sees (subst (λ x. IsFront x b.history) (sym (sees.seen ∙ append-nil r.seen)) here.front) sections wk same done
         (λ d e. let was : Holds b.opening b.stripes b.history b.authors b.effects w d = holds_longer b.opening b.stripes b.history b.authors b.effects r w [] d sees (here.held d (sym holding ∙ e)) in record {
           within = was.within;

@@ -13,7 +13,7 @@ use Rattle.ticket_order.specs.declared.record.Asked.TheVariants.{Changing, Readi
 use Rattle.ticket_order.specs.declared.record.Call.{Call}
 use Rattle.ticket_order.specs.declared.record.Holding.{Holding}
 use Rattle.ticket_order.specs.declared.record.Record.{Record}
-use Rattle.ticket_order.specs.Records.{reach}
+use Rattle.ticket_order.specs.Records.{IsWithin, reach}
 use Rattle.ticket_order.specs.Legality.{history_of, IsLegalSection, IsContent, last_of}
 use Rattle.ticket_order.specs.StepRules.{AllLegalCalls, AllLegalSections}
 use Rattle.one_history.specs.declared.book.Book.{Book}
@@ -91,7 +91,7 @@ pub record AreOf (b : Book) (w : Words) : Type 0 where
   pub failed : w.failed ≡ b.effects.failed
   pub lasts : (i : ℕ) → i < b.stripes → w.lasts i ≡ last_of b.stripes i b.opening.first b.history
 
--- Each change of the history is a pass's, and the records of all passes agree with it. The steps that they recorded are those of one interleaving, in
+-- Each change of the history is a pass's and has a key within the limit, and the records of all passes agree with it. The steps that they recorded are those of one interleaving, in
 -- which each step finds what the steps before it left in the words.
 pub record IsOneHistory (b : Book) : Type 0 where
   pub authors : length b.authors ≡ length b.history
@@ -103,6 +103,7 @@ pub record IsOneHistory (b : Book) : Type 0 where
   pub steps : (j : ℕ) → (record_of j b).steps ≡ steps_by j b.interleaving
   pub found : AreFound (words_at b.opening) b.interleaving
   pub words : AreOf b (words_of b)
+  pub within : All (IsWithin b.opening.key_limit) b.history
 
 -- another pass than j took the stripe
 pub record IsTakenByAnother (b : Book) (j i : ℕ) : Type 0 where

@@ -106,9 +106,9 @@ started o stripes workers = record {
 abbrev pub maps_of : List PartState → List Map
 maps_of parts = map (λ (p : PartState). p.map) parts
 
--- the first changes are known by the union of the parts
-abbrev pub opening_of : ℕ → List PartState → Opening
-opening_of first parts = record { first = first; map = union_of (maps_of parts) }
+-- the first changes are known by the union of the parts, and later ones have keys within the limit
+abbrev pub opening_of : ℕ → List PartState → ℕ → Opening
+opening_of first parts limit = record { first = first; map = union_of (maps_of parts); key_limit = limit }
 
-abbrev pub at_start : ℕ → List PartState → ℕ → Book
-at_start first parts workers = started (opening_of first parts) (length parts) workers
+abbrev pub at_start : ℕ → List PartState → ℕ → ℕ → Book
+at_start first parts limit workers = started (opening_of first parts limit) (length parts) workers

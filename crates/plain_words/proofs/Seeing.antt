@@ -65,10 +65,10 @@ seen_raised seen b b' j n m have within moved rises =
     ])
 
 -- at the start
-pub seen_at_start : (first workers : ℕ) (parts : List PartState) → HaveSeen (replicate (workers + 1) first) (at_start first parts workers)
-seen_at_start first workers parts =
-    let o : Opening = opening_of first parts in
-    let b : Book = at_start first parts workers in
+pub seen_at_start : (first limit workers : ℕ) (parts : List PartState) → HaveSeen (replicate (workers + 1) first) (at_start first parts limit workers)
+seen_at_start first limit workers parts =
+    let o : Opening = opening_of first parts limit in
+    let b : Book = at_start first parts limit workers in
     let none : (v : Record) → Type 0 = λ v. reach v ≡ first in
     let count : length b.passes ≡ workers + 1 = count_at_start o (length parts) workers in
     record {

@@ -47,6 +47,10 @@ impl Steps for At<'_> {
         self.words.seen(self.pass)
     }
 
+    fn key_limit(&self) -> u16 {
+        self.words.key_limit(self.pass)
+    }
+
     fn take(&mut self, stripe: usize) -> Option<Stripe> {
         self.words.take(self.pass, stripe)
     }

@@ -37,10 +37,10 @@ impl Model for GhostBook {
 }
 
 impl GhostBook {
-    /// The book of words that begin with these parts at this count of tickets, for n workers and
-    /// the keeper.
-    pub(crate) fn new(_first: u64, _parts: &[Part], _workers: u16) -> GhostBook
-        ensures { result.book ≡ at_start _first _parts.now _workers }
+    /// The book of words that begin with these parts at this count of tickets, with this limit for
+    /// keys, for n workers and the keeper.
+    pub(crate) fn new(_first: u64, _parts: &[Part], _key_limit: u16, _workers: u16) -> GhostBook
+        ensures { result.book ≡ at_start _first _parts.now _key_limit _workers }
     {
         GhostBook {
             marker: PhantomData,

@@ -1,6 +1,7 @@
 //! The words and the stripes, and the steps of a pass on them.
 ghost use Rattle.std.specs.Prelude.{◌≡◌, ◌<◌, None, true, length, vec_len, IfOk, IfErr};
 ghost use Rattle.std.specs.FinMap as finite;
+ghost use Rattle.map_types.specs.Limits.{most_key_bytes};
 ghost use Rattle.ticket_order.specs.declared.record.StepMade.TheVariants as made;
 ghost use Rattle.ticket_order.specs.Records.{past, reach};
 ghost use Rattle.ticket_order.specs.StepRules.{EndsAt, Takes, take_made, Looks, MayDraw, Draws, MayGive, Gives, MayPublish, Publishes, Sees, Fails, Lives};
@@ -13,7 +14,7 @@ ghost use Rattle.plain_words.specs.Seen.{raised, raised_by};
 use crate::ghost_book::{GhostBook, Turn};
 use atomic_methods::Part;
 use java_hash::StripeCount;
-use map_types::{Command, Refusal};
+use map_types::{Command, Key, Refusal};
 use one_history::{Slot, empty_parts};
 use std::alloc::Global;
 use std::marker::Model;
@@ -31,10 +32,13 @@ pub struct PlainWords {
     slots: Vec<Slot>,
     /// Of each pass, the greatest position that it has seen.
     seen: Vec<u64>,
+    /// The most bytes that the key of a change may have.
+    key_limit: u16,
     ghost_book: GhostBook,
 }
 
 impl Model for PlainWords {
+    ghost use Rattle.std.specs.Prelude.{◌≡◌};
     ghost use Rattle.one_history.specs.contracts.book.Book as book_type;
     ghost use Rattle.one_history.specs.declared.book.Book.{Book};
     ghost use Rattle.one_history.specs.SharedWords.{IsKept};
@@ -47,7 +51,8 @@ impl Model for PlainWords {
     ghost view = { λ words. words.ghost_book.book };
 
     ghost invariant = { λ words. IsKept words.stripes.count words.tickets words.durable words.failed
-        words.slots.items words.ghost_book.book × HaveSeen words.seen.items words.ghost_book.book };
+        words.slots.items words.ghost_book.book × HaveSeen words.seen.items words.ghost_book.book
+        × (words.ghost_book.book.opening.key_limit ≡ words.key_limit) };
 }
 
 // The stripes with these parts, at home. They begin with `first` tickets.
@@ -95,20 +100,21 @@ fn raise_by(seen: &mut Vec<u64>, pass: usize, last: u64, purpose: &Purpose)
 impl PlainWords {
     /// Words that begin with the first `first` changes made, known by the map that the parts make;
     /// part s has keys of stripe s alone. The passes are numbered: those of the workers from 0 on,
-    /// and then the keeper's.
+    /// and then the keeper's. The keys of later changes have at most `key_limit` bytes.
     pub fn new(
         alloc: Global,
         stripes: StripeCount,
         parts: Vec<Part>,
         first: u64,
+        key_limit: u16,
         workers: u16,
     ) -> Result<PlainWords, Refusal>
         requires count { length parts.items ≡ stripes.count }
         requires parts { AreParts stripes.count parts.items }
-        ensures ok { IfOk result (λ words. words ≡ at_start first parts.items workers) }
+        ensures ok { IfOk result (λ words. words ≡ at_start first parts.items key_limit workers) }
         ensures err { IfErr result (λ refusal. refusal ≡ Refusal.NoMemory) }
     {
-        let ghost_book = GhostBook::new(first, &parts, workers);
+        let ghost_book = GhostBook::new(first, &parts, key_limit, workers);
         let slots = place_all(alloc, parts, first)?;
         let seen = vec![in alloc; first; usize::from(workers) + 1]?;
         Ok(PlainWords {
@@ -118,18 +124,20 @@ impl PlainWords {
             failed: false,
             slots,
             seen,
+            key_limit,
             ghost_book,
         })
     }
 
-    /// Words with an empty map and no change made.
+    /// Words with an empty map and no change made, for any keys.
     pub fn empty(alloc: Global, stripes: StripeCount, workers: u16) -> Result<PlainWords, Refusal>
         ensures ok { IfOk result (λ words.
-            words ≡ started (record { first = 0; map = finite.empty }) stripes.count workers) }
+            words ≡ started (record { first = 0; map = finite.empty; key_limit = most_key_bytes })
+            stripes.count workers) }
         ensures err { IfErr result (λ refusal. refusal ≡ Refusal.NoMemory) }
     {
         let parts = empty_parts(alloc, stripes)?;
-        PlainWords::new(alloc, stripes, parts, 0, workers)
+        PlainWords::new(alloc, stripes, parts, 0, Key::MOST_BYTES as u16, workers)
     }
 
     /// A law: between any two steps there is one history, and no two passes hold one stripe.
@@ -152,6 +160,14 @@ impl PlainWords {
         ensures { result ≡ reach (record_of pass self.now) }
     {
         self.seen[pass]
+    }
+
+    /// The most bytes that the key of a change of the pass may have.
+    pub fn key_limit(&self, _pass: usize) -> u16
+        requires { _pass < length self.now.passes }
+        ensures { result ≡ (record_of _pass self.now).opening.key_limit }
+    {
+        self.key_limit
     }
 
     pub(crate) fn take(&mut self, pass: usize, stripe: usize) -> Option<Stripe>

@@ -33,9 +33,9 @@ alone : (P : ℕ → Record → Type 0) (v : Record) → P 0 v → (l : ℕ) (u 
 alone P v here zero u e = subst (P 0) (some-injective v u e) here
 alone P v here (suc l) u e = absurd (some-ne-none u (sym e))
 
-pub opens : (n first : ℕ) (parts : List PartState) (ws : List ℕ) (xs : List (Option Stripe)) → length parts ≡ n → AreParts n parts → AreStored first parts xs → ws ≡ set (set (replicate (n + 4) 0) 0 first) 1 first → Kept (opening_of first parts) (opening ws xs (newcomer (opening_of first parts)))
-opens n first parts ws xs count are stored is =
-    let o : Opening = opening_of first parts in
+pub opens : (n first limit : ℕ) (parts : List PartState) (ws : List ℕ) (xs : List (Option Stripe)) → length parts ≡ n → AreParts n parts → AreStored first parts xs → ws ≡ set (set (replicate (n + 4) 0) 0 first) 1 first → Kept (opening_of first parts limit) (opening ws xs (newcomer (opening_of first parts limit)))
+opens n first limit parts ws xs count are stored is =
+    let o : Opening = opening_of first parts limit in
     let blank : List ℕ = replicate (n + 4) 0 in
     let blank_long : length blank ≡ n + 4 = length-replicate {A = ℕ} (n + 4) 0 in
     let long : length ws ≡ n + 4 = ap length is ∙ (length-set (set blank 0 first) 1 first ∙ (length-set blank 0 first ∙ blank_long)) in
@@ -45,9 +45,9 @@ opens n first parts ws xs count are stored is =
     let tickets : get_or ws 0 0 ≡ first = ap (λ (w : List ℕ). get_or w 0 0) is ∙ (get_or-set_other (set blank 0 first) 1 0 first 0 (λ e. omega arith) ∙ get_or-set_same blank 0 first 0 (omega (arith, blank_long))) in
     let durable : get_or ws 1 0 ≡ first = ap (λ (w : List ℕ). get_or w 1 0) is ∙ get_or-set_same (set blank 0 first) 1 first 0 (omega (arith, length-set blank 0 first, blank_long)) in
     let three : get_or ws 3 0 ≡ 0 = word 3 (omega arith) (omega arith) in
-    let law : IsKept n first first false (map slot_with xs) (at_start first parts 0) = kept_at_start n first 0 parts (map slot_with xs) count are stored (omega arith) in
+    let law : IsKept n first first false (map slot_with xs) (at_start first parts limit 0) = kept_at_start n first limit 0 parts (map slot_with xs) count are stored (omega arith) in
     record {
-      book = at_start first parts 0;
+      book = at_start first parts limit 0;
       slots = map slot_with xs;
       seats = λ place. 0;
       opening = refl;
@@ -55,9 +55,9 @@ opens n first parts ws xs count are stored is =
       kept = rw (wide, tickets, durable) law;
       failure = word 2 (omega arith) (omega arith);
       few = omega arith;
-      joined = (let one : length (at_start first parts 0).passes ≡ 0 + 1 = count_at_start o (length parts) 0 in omega arith);
+      joined = (let one : length (at_start first parts limit 0).passes ≡ 0 + 1 = count_at_start o (length parts) 0 in omega arith);
       keeper = refl;
       unjoined = λ e. refl;
       each_stripe = λ i lt. stands_first ws xs i first (get_or parts i no_part) (slot_of i (map slot_with xs)) (omega arith) (word (i + 4) (omega arith) (omega arith)) refl (stored.each i (omega arith));
-      each_seat = alone (λ l u. Sits (λ place. 0) (at_start first parts 0) (get_or ws 3 0) l u u.enrolled) (newcomer o) (record { few = omega arith; front = record { rest = []; is = refl }; other_front = record { rest = []; is = refl }; borne_out = All-nil _ });
+      each_seat = alone (λ l u. Sits (λ place. 0) (at_start first parts limit 0) (get_or ws 3 0) l u u.enrolled) (newcomer o) (record { few = omega arith; front = record { rest = []; is = refl }; other_front = record { rest = []; is = refl }; borne_out = All-nil _ });
     }

@@ -21,7 +21,7 @@ use Rattle.ticket_order.specs.declared.record.Asked.TheVariants.{Changing, Readi
 use Rattle.ticket_order.specs.declared.record.StepMade.{StepMade}
 use Rattle.ticket_order.specs.declared.record.StepMade.TheVariants.{FoundHeld}
 use Rattle.ticket_order.specs.declared.record.Record.{Record}
-use Rattle.ticket_order.specs.Records.{missing, call, past, reach}
+use Rattle.ticket_order.specs.Records.{IsWithin, missing, call, past, reach}
 use Rattle.ticket_order.specs.StepRules.{Rises}
 use Rattle.ticket_order.specs.Calls.{HasFound, IsNotBusy, MakesCall, MakesRead, RefusesChange, RefusesRead}
 use Rattle.stripe_locks.specs.Waits.{Waits, TakesInTime, MakesCallInTime, MakesReadInTime}
@@ -59,6 +59,11 @@ read_in_time n v r content t position reply w k m = record {
 
 pub found_in_time : (n : ℕ) (v : Record) (i : ℕ) (content : Stripe) (t : Record) (k : TakesInTime n v i content t) → HasFound k.waited i content t
 found_in_time n v i content t k = record { between = k.takes.between; is = k.takes.is }
+
+-- a wait and a TAKE leave the limit as it is
+pub within_in_time : (n : ℕ) (v : Record) (c : Command) (i : ℕ) (content : Stripe) (t : Record) → TakesInTime n v i content t → IsWithin v.opening.key_limit c → IsWithin t.opening.key_limit c
+within_in_time n v c i content t k within =
+    subst (λ (r : Record). IsWithin r.opening.key_limit c) (sym k.takes.is) (subst (λ (r : Record). IsWithin r.opening.key_limit c) (sym k.waits.is) within)
 
 -- the TAKE raised what the pass had seen
 pub refused_in_time : {T : Type 0} (n : ℕ) (v : Record) (i : ℕ) (content : Stripe) (t w : Record) (k : TakesInTime n v i content t) (r : Result T Refusal)

@@ -96,7 +96,7 @@ module _ (o : Opening) (n id : ℕ) (me : M) (i number : ℕ) (is_pass : me.0.en
       let w : Record = record_of q.place b' in
       let law : TakesStripe k.book.stripes (record_of q.place k.book) i f.content w = takes_stripe _ _ _ _ _ k.book q.place k.kept in_it i f.content of_book no_stripe f.slot_is in
       let told' : TakesStripe n me.0 i f.content w = subst (λ v. TakesStripe n v i f.content w) q.view_is (subst (λ (m : ℕ). TakesStripe m (record_of q.place k.book) i f.content w) (k.kept.stripes_are ∙ wide) law) in
-      let same : IsSameOne me.0 w = record { enrolled = ap (λ (r : Record). r.enrolled) told'.is; passes = ap (λ (r : Record). r.passes) told'.is; keeper = ap (λ (r : Record). r.keeper) told'.is } in
+      let same : IsSameOne me.0 w = record { enrolled = ap (λ (r : Record). r.enrolled) told'.is; passes = ap (λ (r : Record). r.passes) told'.is; keeper = ap (λ (r : Record). r.keeper) told'.is; opening = ap (λ (r : Record). r.opening) told'.is } in
       let words' : List ℕ = set s.words (i + 4) number in
       let n4 : length s.words ≡ length s.homes + 4 = k.wide in
       let kept' = kept_took _ _ _ _ _ k.book q.place k.kept in_it i f.content of_book no_stripe f.slot_is in
@@ -120,7 +120,7 @@ module _ (o : Opening) (n id : ℕ) (me : M) (i number : ℕ) (is_pass : me.0.en
       let b' : Book = turns.found_held q.place i k.book in
       let w : Record = record_of q.place b' in
       let law : w ≡ missing me.0 i = misses _ _ _ _ _ k.book q.place k.kept in_it i ∙ ap (λ (v : Record). missing v i) q.view_is in
-      let same : IsSameOne me.0 w = record { enrolled = ap (λ (r : Record). r.enrolled) law; passes = ap (λ (r : Record). r.passes) law; keeper = ap (λ (r : Record). r.keeper) law } in (
+      let same : IsSameOne me.0 w = record { enrolled = ap (λ (r : Record). r.enrolled) law; passes = ap (λ (r : Record). r.passes) law; keeper = ap (λ (r : Record). r.keeper) law; opening = ap (λ (r : Record). r.opening) law } in (
         w,
         keeps,
         tt,
@@ -135,11 +135,11 @@ allows_take o n id me i number is_pass empty lt numbered s k wide at range =
     (found_held o n id me i number is_pass empty lt numbered s k wide at)
 
 given_same : (p : Purpose) (v w : Record) → w ≡ giving p v → IsSameOne v w
-given_same p v w is = record { enrolled = ap (λ (r : Record). r.enrolled) is; passes = ap (λ (r : Record). r.passes) is; keeper = ap (λ (r : Record). r.keeper) is }
+given_same p v w is = record { enrolled = ap (λ (r : Record). r.enrolled) is; passes = ap (λ (r : Record). r.passes) is; keeper = ap (λ (r : Record). r.keeper) is; opening = ap (λ (r : Record). r.opening) is }
 
 gives_same : (n : ℕ) (p : Purpose) (v w : Record) → Gives n p v w → IsSameOne v w
 gives_same n Nothing v w g = given_same Nothing v w g.is
-gives_same n (Answer read) v w g = record { enrolled = ap (λ (r : Record). r.enrolled) g.is; passes = ap (λ (r : Record). r.passes) g.is; keeper = ap (λ (r : Record). r.keeper) g.is }
+gives_same n (Answer read) v w g = record { enrolled = ap (λ (r : Record). r.enrolled) g.is; passes = ap (λ (r : Record). r.passes) g.is; keeper = ap (λ (r : Record). r.keeper) g.is; opening = ap (λ (r : Record). r.opening) g.is }
 gives_same n Sweep v w g = given_same Sweep v w g.is
 gives_same n Capture v w g = given_same Capture v w g.is
 

@@ -32,7 +32,7 @@ allows_look o n id me is_pass s k wide at range =
     let q = seated o s k id me.0 at is_pass in let j : ℕ = q.place in let in_it = in_book o s k id me.0 at is_pass in
     let w : Record = record_of j (turns.looked j k.book) in
     let told : Looks me.0 (get_or s.words 0 0) w = subst (λ v. Looks v (get_or s.words 0 0) w) q.view_is (looks _ _ _ _ _ k.book j k.kept in_it) in
-    let same : IsSameOne me.0 w = record { enrolled = ap (λ (r : Record). r.enrolled) told.is; passes = ap (λ (r : Record). r.passes) told.is; keeper = ap (λ (r : Record). r.keeper) told.is } in
+    let same : IsSameOne me.0 w = record { enrolled = ap (λ (r : Record). r.enrolled) told.is; passes = ap (λ (r : Record). r.passes) told.is; keeper = ap (λ (r : Record). r.keeper) told.is; opening = ap (λ (r : Record). r.opening) told.is } in
     (w, keeps, tt, reread o s k id me.0 at is_pass (made.Looked (get_or s.words 0 0)) (turns.looked j k.book) 0 me.1 (moves_looked _ _ _ _ _ k.book j k.kept in_it) refl refl same (kept_looked _ _ _ _ _ k.book j k.kept in_it), (refl, told))
 
 pub allows_see : (o : Opening) (n id : ℕ) (me : M) → me.0.enrolled ≡ true → Allows (Kept o) n id me 1 (λ x. x) (saw (step n 1 0 0 none) me)
@@ -40,7 +40,7 @@ allows_see o n id me is_pass s k wide at range =
     let q = seated o s k id me.0 at is_pass in let j : ℕ = q.place in let in_it = in_book o s k id me.0 at is_pass in
     let w : Record = record_of j (turns.saw j k.book) in
     let told : Sees me.0 (get_or s.words 1 0) w = subst (λ v. Sees v (get_or s.words 1 0) w) q.view_is (sees _ _ _ _ _ k.book j k.kept in_it) in
-    let same : IsSameOne me.0 w = record { enrolled = ap (λ (r : Record). r.enrolled) told.is; passes = ap (λ (r : Record). r.passes) told.is; keeper = ap (λ (r : Record). r.keeper) told.is } in
+    let same : IsSameOne me.0 w = record { enrolled = ap (λ (r : Record). r.enrolled) told.is; passes = ap (λ (r : Record). r.passes) told.is; keeper = ap (λ (r : Record). r.keeper) told.is; opening = ap (λ (r : Record). r.opening) told.is } in
     (w, keeps, tt, reread o s k id me.0 at is_pass (made.Saw (get_or s.words 1 0)) (turns.saw j k.book) 1 me.1 (moves_saw _ _ _ _ _ k.book j k.kept in_it) refl refl same (kept_saw _ _ _ _ _ k.book j k.kept in_it), (refl, told))
 
 -- the failure word is 0 where no FAIL was made
@@ -54,7 +54,7 @@ allows_alive o n id me is_pass s k wide at range =
     let w : Record = record_of j (turns.found_alive j k.book) in
     let law : Lives me.0 (not k.book.effects.failed) w = subst (λ v. Lives v (not k.book.effects.failed) w) q.view_is (lives _ _ _ _ _ k.book j k.kept in_it) in
     let told : Lives me.0 (eqb (get_or s.words 2 0) 0) w = subst (λ x. Lives me.0 x w) (sym (alive_is k.book.effects.failed (get_or s.words 2 0) k.failure)) law in
-    let same : IsSameOne me.0 w = record { enrolled = ap (λ (r : Record). r.enrolled) law.is; passes = ap (λ (r : Record). r.passes) law.is; keeper = ap (λ (r : Record). r.keeper) law.is } in
+    let same : IsSameOne me.0 w = record { enrolled = ap (λ (r : Record). r.enrolled) law.is; passes = ap (λ (r : Record). r.passes) law.is; keeper = ap (λ (r : Record). r.keeper) law.is; opening = ap (λ (r : Record). r.opening) law.is } in
     (w, keeps, tt, reread o s k id me.0 at is_pass (made.FoundAlive (not k.book.effects.failed)) (turns.found_alive j k.book) 2 me.1 (moves_found_alive _ _ _ _ _ k.book j k.kept in_it) refl refl same (kept_found_alive _ _ _ _ _ k.book j k.kept in_it), (refl, told))
 
 pub allows_publish : (o : Opening) (n id : ℕ) (me : M) (x : ℕ) → me.0.enrolled ≡ true → MayPublish me.0 x → Allows (Kept o) n id me 1 (λ z. max z x) (published (step n 1 x 0 none) me)
@@ -64,7 +64,7 @@ allows_publish o n id me x is_pass may s k wide at range =
     let b' : Book = turns.published j x k.book in
     let w : Record = record_of j b' in
     let told : Publishes me.0 x w = subst (λ v. Publishes v x w) q.view_is (publishes _ _ _ _ _ k.book j k.kept in_it x) in
-    let same : IsSameOne me.0 w = record { enrolled = ap (λ (r : Record). r.enrolled) told; passes = ap (λ (r : Record). r.passes) told; keeper = ap (λ (r : Record). r.keeper) told } in
+    let same : IsSameOne me.0 w = record { enrolled = ap (λ (r : Record). r.enrolled) told; passes = ap (λ (r : Record). r.passes) told; keeper = ap (λ (r : Record). r.keeper) told; opening = ap (λ (r : Record). r.opening) told } in
     let zero_on : get_or words' 0 0 ≡ get_or s.words 0 0 = get_or-set_other s.words 1 0 d 0 (λ e. omega arith) in
     let one : get_or words' 1 0 ≡ d = get_or-set_same s.words 1 d 0 (let n4 : length s.words ≡ length s.homes + 4 = k.wide in omega arith) in
     let law = kept_published _ _ _ _ _ k.book j k.kept in_it x (subst (λ v. MayPublish v x) (sym q.view_is) may) in (
@@ -84,7 +84,7 @@ allows_fail o n id me is_pass keeper s k wide at range =
     let b' : Book = turns.failed j k.book in
     let w : Record = record_of j b' in
     let told : Fails me.0 w = subst (λ v. Fails v w) q.view_is (fails _ _ _ _ _ k.book j k.kept in_it) in
-    let same : IsSameOne me.0 w = record { enrolled = ap (λ (r : Record). r.enrolled) told; passes = ap (λ (r : Record). r.passes) told; keeper = ap (λ (r : Record). r.keeper) told } in
+    let same : IsSameOne me.0 w = record { enrolled = ap (λ (r : Record). r.enrolled) told; passes = ap (λ (r : Record). r.passes) told; keeper = ap (λ (r : Record). r.keeper) told; opening = ap (λ (r : Record). r.opening) told } in
     let zero_on : get_or words' 0 0 ≡ get_or s.words 0 0 = get_or-set_other s.words 2 0 1 0 (λ e. omega arith) in
     let one_on : get_or words' 1 0 ≡ get_or s.words 1 0 = get_or-set_other s.words 2 1 1 0 (λ e. omega arith) in
     let law = kept_failed _ _ _ _ _ k.book j k.kept in_it (ap (λ (r : Record). r.keeper) q.view_is ∙ keeper) in (
@@ -108,7 +108,7 @@ allows_draw o n id me c is_pass may s k wide at range =
     let b' : Book = turns.drew j c k.book in
     let w : Record = record_of j b' in
     let told : Draws me.0 c (get_or s.words 0 0) w = subst (λ v. Draws v c (get_or s.words 0 0) w) q.view_is (draws _ _ _ _ _ k.book j k.kept in_it c may') in
-    let same : IsSameOne me.0 w = record { enrolled = ap (λ (r : Record). r.enrolled) told.is; passes = ap (λ (r : Record). r.passes) told.is; keeper = ap (λ (r : Record). r.keeper) told.is } in
+    let same : IsSameOne me.0 w = record { enrolled = ap (λ (r : Record). r.enrolled) told.is; passes = ap (λ (r : Record). r.passes) told.is; keeper = ap (λ (r : Record). r.keeper) told.is; opening = ap (λ (r : Record). r.opening) told.is } in
     let zero_now : get_or words' 0 0 ≡ get_or s.words 0 0 + 1 = get_or-set_same s.words 0 t 0 (let n4 : length s.words ≡ length s.homes + 4 = k.wide in omega arith) ∙ next in
     let one_on : get_or words' 1 0 ≡ get_or s.words 1 0 = get_or-set_other s.words 0 1 t 0 (λ e. omega arith) in
     let law = kept_drew _ _ _ _ _ k.book j k.kept in_it c may' in (

@@ -31,7 +31,7 @@ both_fronts v w = record (newcomer v.opening) {
 }
 
 abbrev pub no_front : Record
-no_front = newcomer (record { first = 0; map = finite.empty })
+no_front = newcomer (record { first = 0; map = finite.empty; key_limit = 0 })
 
 abbrev pub compared : Step (Option Stripe) → Sat → ℕ → Sat → Type 0
 compared st m r m' = AreComparable m.0.seen (commands_of m.0.taken) × All (BearsOut m.0.published m.0.failed) m.0.steps

@@ -23,6 +23,7 @@ pub record IsSameOne (v w : Record) : Type 0 where
   pub enrolled : w.enrolled ≡ v.enrolled
   pub passes : w.passes ≡ v.passes
   pub keeper : w.keeper ≡ v.keeper
+  pub opening : w.opening ≡ v.opening
 
 -- the record of a pass that joins after k others; the first is the keeper's
 abbrev pub joining : Opening → ℕ → Record

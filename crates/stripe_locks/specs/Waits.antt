@@ -1,5 +1,5 @@
 -- What a call leaves of the pass's record that waited for its stripe.
-use Rattle.std.specs.Prelude.{◌≡◌, ℕ, ◌<◌, ◌≤◌, [], ◌∷◌, ◌++◌, replicate}
+use Rattle.std.specs.Prelude.{◌≡◌, ◌⊎◌, ℕ, ◌<◌, ◌≤◌, [], ◌∷◌, ◌++◌, replicate}
 use Rattle.java_hash.specs.Stripes.{stripe_of}
 use Rattle.map_types.specs.declared.commands.Command.{Command}
 use Rattle.map_types.specs.declared.commands.Read.{Read}
@@ -9,9 +9,9 @@ use Rattle.ticket_order.specs.declared.stripe.Stripe.{Stripe}
 use Rattle.ticket_order.specs.declared.record.Asked.TheVariants.{Changing, Reading}
 use Rattle.ticket_order.specs.declared.record.StepMade.TheVariants.{FoundHeld}
 use Rattle.ticket_order.specs.declared.record.Record.{Record}
-use Rattle.ticket_order.specs.Records.{call, reach}
+use Rattle.ticket_order.specs.Records.{IsWithin, call, reach}
 use Rattle.ticket_order.specs.StepRules.{TakesStripe}
-use Rattle.ticket_order.specs.Calls.{MakesCall, MakesRead, RefusesChange, RefusesRead, IsNotBusy}
+use Rattle.ticket_order.specs.Calls.{IsTooLong, MakesCall, MakesRead, RefusesChange, RefusesRead, IsNotBusy}
 
 -- the pass found stripe i held some number of times, and did nothing else
 pub record Waits (i : ℕ) (v w : Record) : Type 0 where
@@ -45,6 +45,11 @@ pub record RefusesChangeInTime (v : Record) (i : ℕ) (e : Refusal) (w : Record)
   pub waits : Waits i v waited
   pub refused : RefusesChange waited i e w
   pub not_busy : IsNotBusy e
+
+-- what a refused call leaves that was to make this change on n stripes: its key is too long, or the change is refused on
+-- its stripe, perhaps after a wait
+abbrev pub TurnsDownInTime : ℕ → Record → Command → Refusal → Record → Type 0
+TurnsDownInTime n v c e w = IsTooLong v c e w ⊎ (IsWithin v.opening.key_limit c × RefusesChangeInTime v (stripe_of n c.key) e w)
 
 pub record RefusesReadInTime (v : Record) (i : ℕ) (e : Refusal) (w : Record) : Type 0 where
   pub waited : Record

@@ -20,9 +20,10 @@ impl Model for Beginning {
 }
 
 impl Beginning {
-    /// The first `first` changes are known by the map that these parts make.
-    pub(crate) fn new(_first: u64, _parts: &[Part]) -> Beginning
-        ensures { result.opening ≡ opening_of _first _parts.now }
+    /// The first `first` changes are known by the map that these parts make. The keys of later ones
+    /// have at most so many bytes.
+    pub(crate) fn new(_first: u64, _parts: &[Part], _key_limit: u16) -> Beginning
+        ensures { result.opening ≡ opening_of _first _parts.now _key_limit }
     {
         Beginning {
             marker: PhantomData,

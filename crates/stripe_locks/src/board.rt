@@ -39,6 +39,10 @@ impl Steps for Board<'_> {
         self.pass.seen
     }
 
+    fn key_limit(&self) -> u16 {
+        self.pass.key_limit
+    }
+
     fn take(&mut self, stripe: usize) -> Option<Stripe> {
         self.stripes.take(self.pass, stripe)
     }

@@ -3,7 +3,7 @@ ghost use Rattle.std.specs.Prelude.{◌≡◌, ◌≤◌, ◌↔◌, ℕ, None, 
 ghost use Rattle.java_hash.specs.Stripes.{stripe_of};
 ghost use Rattle.ticket_order.specs.Records.{reach};
 ghost use Rattle.ticket_order.specs.StepRules.{Looks};
-ghost use Rattle.ticket_order.specs.Calls.{MakesCall, MakesRead, RefusesChange, RefusesRead, Releases};
+ghost use Rattle.ticket_order.specs.Calls.{MakesCall, MakesRead, RefusesRead, Releases, TurnsDown};
 ghost use Rattle.stripe_locks.specs.Passes.{recorded, stripe_count, IsPassOf, IsSamePass};
 ghost use Rattle.stripe_locks.specs.Holding.{answer_of, position_of, reply_of, IsHeldOf, StaysHeldOf};
 
@@ -43,10 +43,10 @@ impl Stripes {
             (reply_of held) (recorded pass.new)) }
         ensures held { IfOk result (IsHeldOf self.now) }
 
-        // Or it is refused, perhaps as busy, and no call is added.
+        // Or it is refused, perhaps as busy or for a key above the limit, and no call is added.
         ensures refused { IfErr result (λ refusal.
-            RefusesChange (recorded pass.old) (stripe_of (stripe_count self.now) command.key)
-            refusal (recorded pass.new)) }
+            TurnsDown (stripe_count self.now) (recorded pass.old) command refusal
+            (recorded pass.new)) }
 
         // It is the same pass, and holds no stripe again.
         ensures empty_handed { (recorded pass.new).holding ≡ None }

@@ -60,16 +60,8 @@ impl Stripes {
             → All (BearsOut (recorded other).published (recorded other).failed)
             (recorded one).steps }
     {
-        let Pass {
-            mut seat,
-            number: _,
-            seen: _,
-        } = one;
-        let Pass {
-            seat: spent,
-            number: _,
-            seen: _,
-        } = other;
+        let Pass { mut seat, .. } = one;
+        let Pass { seat: spent, .. } = other;
         let words = &self.table.shared;
         words.join_seat::<Meet>(&mut seat, spent);
         words.load::<Compare>(&mut seat, TICKETS);

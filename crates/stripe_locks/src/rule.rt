@@ -25,6 +25,8 @@ pub struct Pass {
     pub(crate) number: u64,
     // The greatest position that the pass has seen.
     pub(crate) seen: u64,
+    // The most bytes that the key of a change may have.
+    pub(crate) key_limit: u16,
     ghost carries: { seat.me.1 ≡ carried seat.me.0.holding },
     ghost enrolled: { seat.me.0.enrolled ≡ true },
     ghost numbered: { seat.me.0.passes ≡ number },
@@ -32,4 +34,5 @@ pub struct Pass {
     ghost within: { stripe_held seat.me.0.holding < seat.table_id.slots },
     ghost keeps: { seat.me.0.keeper ≡ (number == 1) },
     ghost reaches: { reach seat.me.0 ≡ seen },
+    ghost limited: { seat.me.0.opening.key_limit ≡ key_limit },
 }

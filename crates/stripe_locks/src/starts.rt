@@ -1,6 +1,7 @@
 //! How the shared stripes begin, and how passes join.
 ghost use Rattle.std.specs.Prelude.{◌≡◌, ◌+◌, length, IfOk, IfErr, replicate, slice_set};
 ghost use Rattle.std.specs.FinMap as finite;
+ghost use Rattle.map_types.specs.Limits.{most_key_bytes};
 ghost use Rattle.one_history.specs.Turns.{opening_of};
 ghost use Rattle.one_history.specs.OneHistory.{AreParts};
 ghost use Rattle.stripe_locks.specs.Placed.{AreStored};
@@ -15,7 +16,7 @@ use crate::stripes::{DURABLE, FIRST_STRIPE, PASSES, Stripes, TICKETS};
 use atomic_methods::Part;
 use atomic_table::Table;
 use java_hash::StripeCount;
-use map_types::Refusal;
+use map_types::{Key, Refusal};
 use one_history::empty_parts;
 use std::alloc::Global;
 use std::sync::atomic::AtomicU64;
@@ -49,21 +50,22 @@ fn first_words(alloc: Global, count: StripeCount, first: u64) -> Result<Vec<u64>
 
 impl Stripes {
     /// Stripes that begin with the first `first` changes made, known by the map that the parts make;
-    /// part s has keys of stripe s alone.
+    /// part s has keys of stripe s alone. The keys of later changes have at most `key_limit` bytes.
     pub fn new(
         alloc: Global,
         count: StripeCount,
         parts: Vec<Part>,
         first: u64,
+        key_limit: u16,
     ) -> Result<Stripes, Refusal>
         requires count { length parts.items ≡ count.count }
         requires parts { AreParts count.count parts.items }
         ensures count { IfOk result (λ stripes. stripe_count stripes ≡ count.count) }
         ensures opening { IfOk result (λ stripes.
-            begun_with stripes ≡ opening_of first parts.items) }
+            begun_with stripes ≡ opening_of first parts.items key_limit) }
         ensures err { IfErr result (λ refusal. refusal ≡ Refusal.NoMemory) }
     {
-        let beginning = Beginning::new(first, &parts);
+        let beginning = Beginning::new(first, &parts, key_limit);
         let words = first_words(alloc, count, first)?;
         let slots = store_all(alloc, parts, first)?;
         match Table::new(alloc, words.as_slice(), slots, &beginning) {
@@ -71,6 +73,7 @@ impl Stripes {
                 table,
                 count,
                 first,
+                key_limit,
                 sleepers: AtomicU64::new(0),
                 waiters: AtomicU64::new(0),
                 resting: AtomicU64::new(0),
@@ -81,21 +84,29 @@ impl Stripes {
         }
     }
 
-    /// Stripes of an empty map, with no change made.
+    /// Stripes of an empty map, with no change made, for any keys.
     pub fn empty(alloc: Global, count: StripeCount) -> Result<Stripes, Refusal>
         ensures count { IfOk result (λ stripes. stripe_count stripes ≡ count.count) }
         ensures opening { IfOk result (λ stripes.
-            begun_with stripes ≡ record { first = 0; map = finite.empty }) }
+            begun_with stripes ≡ record { first = 0; map = finite.empty; key_limit = most_key_bytes }) }
         ensures err { IfErr result (λ refusal. refusal ≡ Refusal.NoMemory) }
     {
         let parts = empty_parts(alloc, count)?;
-        Stripes::new(alloc, count, parts, 0)
+        Stripes::new(alloc, count, parts, 0, Key::MOST_BYTES as u16)
     }
 
     pub fn stripes(&self) -> StripeCount
         ensures { result.count ≡ stripe_count self.now }
     {
         self.count
+    }
+
+    /// The most bytes that the key of a change may have. A change with a longer key is refused with
+    /// `KeyTooLong`.
+    pub fn key_limit(&self) -> u16
+        ensures { result ≡ (begun_with self.now).key_limit }
+    {
+        self.key_limit
     }
 
     /// A new pass. There are 4,096 of them; the first is the keeper's. It takes no memory and
@@ -119,6 +130,7 @@ impl Stripes {
                     seat,
                     number,
                     seen: self.first,
+                    key_limit: self.key_limit,
                 });
             }
             passes = now;

@@ -41,6 +41,7 @@ pub struct Stripes {
     pub(crate) count: StripeCount,
     // The count of tickets with which the stripes began.
     pub(crate) first: u64,
+    pub(crate) key_limit: u16,
     // How many threads sleep until a stripe is given back.
     pub(crate) sleepers: AtomicU64,
     // How many threads sleep until a position is durable.
@@ -53,4 +54,5 @@ pub struct Stripes {
     ghost words: { table.shared.table_id.words ≡ count.count + 4 },
     ghost slots: { table.shared.table_id.slots ≡ count.count },
     ghost begun: { table.shared.key.opening.first ≡ first },
+    ghost limited: { table.shared.key.opening.key_limit ≡ key_limit },
 }

@@ -1,14 +1,14 @@
 //! Whole calls of a pass that wait for their stripe.
 ghost use Rattle.std.specs.Prelude.{◌≡◌, ◌<◌, None, IfOk, IfErr};
 ghost use Rattle.ticket_order.specs.declared.record.Record.{Record};
-ghost use Rattle.ticket_order.specs.Records.{past};
+ghost use Rattle.ticket_order.specs.Records.{IsWithin, past};
 ghost use Rattle.ticket_order.specs.StepRules.{Rises, TakesStripe};
-ghost use Rattle.ticket_order.specs.Calls.{HasFound, IsNotBusy, MakesCall, MakesRead, RefusesChange, RefusesRead};
+ghost use Rattle.ticket_order.specs.Calls.{HasFound, IsNotBusy, MakesCall, MakesRead, ReadsAt, RefusesChange, RefusesRead};
 ghost use Rattle.java_hash.specs.Hash.{hash_of, spread_of};
 ghost use Rattle.java_hash.specs.Stripes.{stripe_of};
 ghost use Rattle.stripe_locks.specs.Passes.{recorded, stripe_count, IsPassOf, IsSamePass};
 ghost use Rattle.stripe_locks.specs.Holding.{position_of, reply_of, IsHeldOf};
-ghost use Rattle.stripe_locks.specs.Waits.{TakesInTime, MakesCallInTime, MakesReadInTime, RefusesChangeInTime, RefusesReadInTime};
+ghost use Rattle.stripe_locks.specs.Waits.{TakesInTime, MakesCallInTime, MakesReadInTime, RefusesReadInTime, TurnsDownInTime};
 
 use crate::board::Board;
 use crate::held::Held;
@@ -73,9 +73,10 @@ impl Stripes {
         spread: u32,
         content: Stripe,
     ) -> Result<Held, Refusal>
-        // The pass has taken the stripe of the key, with this content.
+        // The pass has taken the stripe of the key, with this content. The key is within the limit.
         requires own { IsPassOf self.now pass.old }
         requires spread { spread ≡ spread_of (hash_of command.key) }
+        requires within { IsWithin (recorded pass.old).opening.key_limit command }
         requires found { (b : Record) × HasFound b (stripe_of (stripe_count self.now) command.key)
             content (recorded pass.old) }
 
@@ -117,10 +118,15 @@ impl Stripes {
         // The pass has taken the stripe of the key, with this content.
         requires own { IsPassOf self.now pass.old }
         requires spread { spread ≡ spread_of (hash_of read.key) }
-        requires found { (b : Record) × TakesStripe (stripe_count self.now) b
-            (stripe_of (stripe_count self.now) read.key) content (recorded pass.old) }
+        requires found { (b : Record) × HasFound b (stripe_of (stripe_count self.now) read.key)
+            content (recorded pass.old) }
 
         // The record grows by this call; or it is refused, but not as busy.
+        ensures answered { (b : Record) → HasFound b (stripe_of (stripe_count self.now) read.key)
+            content (recorded pass.old)
+            → IfOk result (λ held.
+            ReadsAt (stripe_count self.now) b read (position_of held) (reply_of held)
+            (recorded pass.new)) }
         ensures made { (b : Record) → TakesStripe (stripe_count self.now) b
             (stripe_of (stripe_count self.now) read.key) content (recorded pass.old)
             → IfOk result (λ held.
@@ -147,7 +153,8 @@ impl Stripes {
     }
 
     /// Makes a change, once the stripe of its key is free: TAKE as often as it takes, ALIVE, LOOK,
-    /// TICKET, GIVE. A thread that waits sleeps after some tries.
+    /// TICKET, GIVE. A thread that waits sleeps after some tries. It is refused with `KeyTooLong`
+    /// before its TAKE if the key is above the limit.
     pub fn call<R: Wait>(&self, rt: &R, pass: &mut Pass, command: Command) -> Result<Held, Refusal>
         // The pass is of these stripes, and holds none.
         requires own { IsPassOf self.now pass.old }
@@ -159,15 +166,18 @@ impl Stripes {
             (reply_of held) (recorded pass.new)) }
         ensures held { IfOk result (IsHeldOf self.now) }
 
-        // Or it is refused after a wait, but not as busy.
+        // Or it is refused for a key above the limit, or after a wait, but not as busy.
         ensures refused { IfErr result (λ refusal.
-            RefusesChangeInTime (recorded pass.old) (stripe_of (stripe_count self.now) command.key)
-            refusal (recorded pass.new)) }
+            TurnsDownInTime (stripe_count self.now) (recorded pass.old) command refusal
+            (recorded pass.new)) }
 
         // It is the same pass, and holds no stripe again.
         ensures empty_handed { (recorded pass.new).holding ≡ None }
         ensures same { IsSamePass pass.old pass.new }
     {
+        if command.key.is_above(pass.key_limit) {
+            return Err(Refusal::KeyTooLong);
+        }
         let spread = spread_of(command.key.as_str());
         let stripe = stripe_of_spread(spread, self.count);
         let content = self.take_in_time(rt, pass, stripe);

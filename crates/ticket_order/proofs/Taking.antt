@@ -39,7 +39,7 @@ swept n b p w task t es k g same =
       between = k.took.between;
       is = g.is ∙ ap (giving Sweep) k.took.is;
       rises = subst (λ (z : Record). Rises b (past t.content.outbox.items) z) (sym g.is) k.took.rises;
-      collects = subst (λ (z : Record). Collects n t.stripe b t.content.outbox.items z) (sym g.is) (record { more = kept.more; is = kept.is });
+      collects = subst (λ (z : Record). Collects n t.stripe b t.content.outbox.items z) (sym g.is) (record { more = kept.more; is = kept.is; within = kept.within });
     })
 
 -- which stripe a capture is of

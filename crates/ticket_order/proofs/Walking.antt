@@ -8,12 +8,13 @@ use Rattle.map_types.specs.declared.refusals.Refusal.TheVariants as refusal
 use Rattle.map_model.specs.Steps.{step, answer}
 use Rattle.map_model.specs.Histories.{IsLegalChange, IsLegalRead}
 use Rattle.ticket_order.specs.declared.stripe.Entry.{Entry}
+use Rattle.ticket_order.specs.declared.stripe.Stripe.{Stripe}
 use Rattle.ticket_order.specs.declared.held.Held.{Held}
 use Rattle.ticket_order.specs.declared.walk.Taken.{Taken}
 use Rattle.ticket_order.specs.declared.record.Asked.TheVariants.{Changing, Reading}
 use Rattle.ticket_order.specs.declared.record.Purpose.TheVariants.{Nothing, Answer}
 use Rattle.ticket_order.specs.declared.record.Record.{Record}
-use Rattle.ticket_order.specs.Records.{ticket_limit, entry, call, past, reach, taking, living, looking, drawing, giving, answering, part_held, last_held}
+use Rattle.ticket_order.specs.Records.{IsWithin, ticket_limit, entry, call, past, reach, taking, living, looking, drawing, giving, answering, part_held, last_held}
 use Rattle.ticket_order.specs.Legality.{history_of}
 use Rattle.ticket_order.specs.StepRules.{Rises, IsLast, EndsAt, TakesStripe, Looks, Draws, Answers, Lives, MayDraw, MayGive}
 use Rattle.ticket_order.specs.Calls.{walked, HasFound, FindsFailure, FindsNoFailure, FindsAlive, LooksAround, GivesBack, MakesCall, MakesRead, ReadsAt}
@@ -136,11 +137,16 @@ change_starved n b p w task c q t u e o k l small stripe part outbox last starve
       too_many = λ full. absurd (not_full_by_memory (sym starved ∙ full));
     }
 
-pub may_draw : (n : ℕ) (b p : Record) (c : Command) (t : Taken) → t.stripe ≡ stripe_of n c.key → TookLooked b t p → reach p < ticket_limit → MayDraw n p c
-may_draw n b p c t key k small =
+-- a TAKE leaves the limit as it is
+pub within_since : (b p : Record) (c : Command) (i : ℕ) (content : Stripe) → HasFound b i content p → IsWithin p.opening.key_limit c → IsWithin b.opening.key_limit c
+within_since b p c i content f within = subst (λ (r : Record). IsWithin r.opening.key_limit c) f.is within
+
+pub may_draw : (n : ℕ) (b p : Record) (c : Command) (t : Taken) → t.stripe ≡ stripe_of n c.key → TookLooked b t p → reach p < ticket_limit → IsWithin b.opening.key_limit c → MayDraw n p c
+may_draw n b p c t key k small within =
     let q : ℕ = b.opening.first + length ((b.seen ++ k.taken) ++ k.looked) in
     let below : q < ticket_limit = subst (λ z. z < ticket_limit) (ap reach k.is) small in
     record {
+      within = subst (λ (r : Record). IsWithin r.opening.key_limit c) (sym k.is) within;
       held = record { stripe = t.stripe; part = t.content.part.map; outbox = t.content.outbox.items; last = t.content.last; has_drawn = false; looked = Some q };
       holding = ap (λ (y : Record). y.holding) k.is;
       stripe_is = sym key;
@@ -168,8 +174,8 @@ content_drawn b p w c ticket t u h k d m =
     }
 
 pub made_change : (n : ℕ) (b p w : Record) (c : Command) (ticket : ℕ) (t u : Taken) (h : Held) → t.stripe ≡ stripe_of n c.key → TookLooked b t p → reach p < ticket_limit → Draws p c ticket w
-    → HasChanged c t ticket u h → MakesCall n b c h.position h.reply (giving Nothing w)
-made_change n b p w c ticket t u h key k small d m =
+    → HasChanged c t ticket u h → IsWithin b.opening.key_limit c → MakesCall n b c h.position h.reply (giving Nothing w)
+made_change n b p w c ticket t u h key k small d m within =
     let before : List Command = ((b.seen ++ k.taken) ++ k.looked) ++ d.between in
     let number : ℕ = b.opening.first + length before in
     let all = all_drawn b p w c ticket t k d in
@@ -183,6 +189,7 @@ made_change n b p w c ticket t u h key k small d m =
       taken = k.taken;
       looked = k.looked;
       drawn = d.between;
+      within = within;
       below = subst (λ z. z < ticket_limit) (ap reach k.is) small;
       is = ap (giving Nothing) (all ∙ ap (λ j. drawing (walked b j t.content.part.map t.content.outbox.items t.content.last k.taken k.looked) d.between c) key);
       position_is = omega (arith, length-append before (c ∷ []));
@@ -192,12 +199,12 @@ made_change n b p w c ticket t u h key k small d m =
     }
 
 pub drawn : (n : ℕ) (b p w : Record) (task : Task) (c : Command) (ticket : ℕ) (t u : Taken) (h : Held) → OfTask n task (ToChange c) t.stripe (stripe_of n c.key) → TookLooked b t p → reach p < ticket_limit → Draws p c ticket w
-    → HasChanged c t ticket u h → HasMade n b task u h w
-drawn n b p w task c ticket t u h o k small d m = record {
+    → HasChanged c t ticket u h → IsWithin b.opening.key_limit c → HasMade n b task u h w
+drawn n b p w task c ticket t u h o k small d m within = record {
   command = c;
   task_is = o.task_is;
   content = content_drawn b p w c ticket t u h k d m;
-  made = made_change n b p w c ticket t u h o.stripe_is k small d m;
+  made = made_change n b p w c ticket t u h o.stripe_is k small d m within;
 }
 
 pub read_failed : (n : ℕ) (b p w : Record) (task : Task) (r : read_type.Read) (t : Taken) → OfTask n task (ToRead r) t.stripe (stripe_of n r.key) → TookContent b t p → Rises b (past t.content.outbox.items) p → Lives p false w → IsRefusing n b task t refusal.Failed w

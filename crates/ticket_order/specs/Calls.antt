@@ -7,7 +7,7 @@ use Rattle.map_types.specs.declared.commands.Command.{Command}
 use Rattle.map_types.specs.declared.commands.Read.{Read}
 use Rattle.map_types.specs.declared.commands.Reply as reply_type
 use Rattle.map_types.specs.declared.refusals.Refusal.{Refusal}
-use Rattle.map_types.specs.declared.refusals.Refusal.TheVariants.{Busy, NoMemory, TicketsSpent, LogFull}
+use Rattle.map_types.specs.declared.refusals.Refusal.TheVariants.{Busy, KeyTooLong, NoMemory, TicketsSpent, LogFull}
 use Rattle.map_types.specs.declared.refusals.Refusal.TheVariants as refusal_type
 use Rattle.map_model.specs.Maps.{Map}
 use Rattle.map_model.specs.Histories.{IsLegalChange, IsLegalRead}
@@ -18,7 +18,7 @@ use Rattle.ticket_order.specs.declared.held.Released.TheVariants as released
 use Rattle.ticket_order.specs.declared.record.Purpose.TheVariants.{Nothing, Sweep, Capture}
 use Rattle.ticket_order.specs.declared.record.Asked.TheVariants.{Changing, Reading}
 use Rattle.ticket_order.specs.declared.record.Record.{Record}
-use Rattle.ticket_order.specs.Records.{ticket_limit, call, reach, past, missing, taking, looking, drawing, giving, answering, living}
+use Rattle.ticket_order.specs.Records.{IsWithin, ticket_limit, call, reach, past, missing, taking, looking, drawing, giving, answering, living}
 use Rattle.ticket_order.specs.Legality.{history_of, IsLegalSection}
 use Rattle.ticket_order.specs.StepRules.{Rises, Collects, IsLast, Sees, Lives}
 
@@ -26,7 +26,7 @@ use Rattle.ticket_order.specs.StepRules.{Rises, Collects, IsLast, Sees, Lives}
 abbrev pub walked : Record → ℕ → Map → List Entry → ℕ → List Command → List Command → Record
 walked v i m es last a b = looking (living (taking v i m es last a) true) b
 
--- TAKE, ALIVE, LOOK, TICKET, GIVE: the change is made. The record grew by this call alone, its position is past all that the pass had seen, and it is legal there.
+-- TAKE, ALIVE, LOOK, TICKET, GIVE: the change is made, whose key is within the limit. The record grew by this call alone, its position is past all that the pass had seen, and it is legal there.
 pub record MakesCall (n : ℕ) (v : Record) (c : Command) (position : ℕ) (reply : reply_type.Reply) (w : Record) : Type 0 where
   pub part : Map
   pub outbox : List Entry
@@ -34,6 +34,7 @@ pub record MakesCall (n : ℕ) (v : Record) (c : Command) (position : ℕ) (repl
   pub taken : List Command
   pub looked : List Command
   pub drawn : List Command
+  pub within : IsWithin v.opening.key_limit c
   pub below : reach (walked v (stripe_of n c.key) part outbox last taken looked) < ticket_limit
   pub is : w ≡ giving Nothing (drawing (walked v (stripe_of n c.key) part outbox last taken looked) drawn c)
   pub position_is : position ≡ reach w
@@ -129,6 +130,17 @@ RefusesChange v i refusal_type.Failed w = GivesBack v (FindsFailure v i) w
 RefusesChange v i TicketsSpent w = GivesBack v (LooksAround v i) w × (ticket_limit ≤ reach w)
 RefusesChange v i NoMemory w = GivesBack v (LooksAround v i) w × (reach w < ticket_limit)
 RefusesChange v i other w = ⊥
+
+-- the change has a key above the limit: no step is made
+pub record IsTooLong (v : Record) (c : Command) (e : Refusal) (w : Record) : Type 0 where
+  pub longer : v.opening.key_limit < length c.key
+  pub refusal_is : e ≡ KeyTooLong
+  pub is : w ≡ v
+
+-- what a refused call leaves that was to make this change on n stripes: its key is too long, or the change is refused on
+-- its stripe
+abbrev pub TurnsDown : ℕ → Record → Command → Refusal → Record → Type 0
+TurnsDown n v c e w = IsTooLong v c e w ⊎ (IsWithin v.opening.key_limit c × RefusesChange v (stripe_of n c.key) e w)
 
 -- what a refused read on stripe i leaves
 abbrev pub RefusesRead : Record → ℕ → Refusal → Record → Type 0

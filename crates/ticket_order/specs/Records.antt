@@ -1,5 +1,5 @@
 -- The record of a pass, as a function of the record before each step.
-use Rattle.std.specs.Prelude.{ℕ, ◌+◌, ◌^◌, max, List, [], ◌∷◌, ◌++◌, length, Option, Some, None, Bool, true, false, nat_lt, if◌then◌else◌}
+use Rattle.std.specs.Prelude.{ℕ, ◌+◌, ◌^◌, ◌≤◌, max, List, [], ◌∷◌, ◌++◌, length, Option, Some, None, Bool, true, false, nat_lt, if◌then◌else◌}
 use Rattle.map_types.specs.declared.commands.Command.{Command}
 use Rattle.map_types.specs.declared.commands.Read.{Read}
 use Rattle.map_types.specs.declared.commands.Reply.{Reply}
@@ -22,6 +22,10 @@ use Rattle.ticket_order.specs.declared.record.Record.{Record}
 -- from this count of tickets on no change is made
 abbrev pub ticket_limit : ℕ
 ticket_limit = 2 ^ 62
+
+-- the change's key has at most so many bytes
+abbrev pub IsWithin : ℕ → Command → Type 0
+IsWithin limit c = length c.key ≤ limit
 
 abbrev pub entry : ℕ → Command → Entry
 entry t c = record { ticket = t; command = c }

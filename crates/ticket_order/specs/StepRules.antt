@@ -1,5 +1,6 @@
 -- What each step asks of the record of its pass, and what it leaves.
 use Rattle.std.specs.Prelude.{◌≡◌, ℕ, ◌+◌, ◌^◌, ◌<◌, ◌≤◌, ◌⊎◌, List, [], ◌∷◌, ◌++◌, length, Option, Some, None, Bool, true, false, not}
+use Rattle.std.specs.List.{All}
 use Rattle.java_hash.specs.Stripes.{stripe_of}
 use Rattle.map_types.specs.declared.commands.Command.{Command}
 use Rattle.map_types.specs.declared.commands.Read.{Read}
@@ -15,7 +16,7 @@ use Rattle.ticket_order.specs.declared.record.Call.{Call}
 use Rattle.ticket_order.specs.declared.record.Section.{Section}
 use Rattle.ticket_order.specs.declared.record.Holding.{Holding}
 use Rattle.ticket_order.specs.declared.record.Record.{Record}
-use Rattle.ticket_order.specs.Records.{reach, past, missing, taking, looking, drawing, giving, answering, publishing, seeing, failing, living, part_held, last_held, sections_for, outbox_for}
+use Rattle.ticket_order.specs.Records.{IsWithin, reach, past, missing, taking, looking, drawing, giving, answering, publishing, seeing, failing, living, part_held, last_held, sections_for, outbox_for}
 use Rattle.ticket_order.specs.Legality.{history_of, IsLegalCall, IsLegalSection, entries_from, entries_of, last_of}
 
 -- the greatest position seen becomes n if it was less, and stays if it wasn't
@@ -23,10 +24,11 @@ abbrev pub Rises : Record → ℕ → Record → Type 0
 Rises v n w = ((n ≤ reach v) × (reach w ≡ reach v)) ⊎ ((reach v ≤ n) × (reach w ≡ n))
 
 -- What the keeper's sweeps took of stripe i, and then the outbox that it took now, are all entries of that stripe in a
--- history. That history begins with what the keeper has seen.
+-- history. That history begins with what the keeper has seen, and has no key above the limit.
 pub record Collects (n i : ℕ) (v : Record) (outbox : List Entry) (w : Record) : Type 0 where
   pub more : List Command
   pub is : entries_of n i v.taken ++ outbox ≡ entries_of n i (entries_from v.opening.first (w.seen ++ more))
+  pub within : All (IsWithin v.opening.key_limit) (w.seen ++ more)
 
 -- `last` is that of stripe i of n in a history that begins with what the pass has seen
 pub record IsLast (n i last : ℕ) (v : Record) : Type 0 where
@@ -62,8 +64,10 @@ pub record Looks (v : Record) (q : ℕ) (w : Record) : Type 0 where
   pub is : w ≡ looking v between
   pub count_is : q ≡ reach w
 
--- TICKET may be made for the change c: the stripe of its key is held, no ticket was drawn for it, and the count of tickets was seen below its limit
+-- TICKET may be made for the change c: its key is within the limit, the stripe of its key is held, no ticket was drawn
+-- for it, and the count of tickets was seen below its limit
 pub record MayDraw (n : ℕ) (v : Record) (c : Command) : Type 0 where
+  pub within : IsWithin v.opening.key_limit c
   pub held : Holding
   pub holding : v.holding ≡ Some held
   pub stripe_is : stripe_of n c.key ≡ held.stripe

@@ -32,7 +32,7 @@ use Rattle.ticket_order.specs.declared.walk.Stage.TheVariants as stage
 use Rattle.ticket_order.specs.declared.walk.Walk.{Walk}
 use Rattle.ticket_order.specs.declared.walk.Stepped.{Stepped}
 use Rattle.ticket_order.specs.declared.walk.Stepped.TheVariants as stepped
-use Rattle.ticket_order.specs.Records.{ticket_limit, entry, past, reach, taking, living, looking, giving}
+use Rattle.ticket_order.specs.Records.{IsWithin, ticket_limit, entry, past, reach, taking, living, looking, giving}
 use Rattle.ticket_order.specs.Memory.{HasMemory}
 use Rattle.ticket_order.specs.StepRules.{Rises, TakesStripe}
 use Rattle.ticket_order.specs.Calls.{walked, MakesCall, MakesRead, RefusesChange, RefusesRead, RefusesSweep, RefusesCapture, HasTooMany, Misses, MissesAlive, Releases, SweepsStripe, CapturesStripe}
@@ -289,10 +289,10 @@ pub record HasAnswer (n : ℕ) (b : Record) (r : read_type.Read) (t : Taken) (h 
 
 -- the walk of a change, which began at the record b, stands at the record p
 abbrev pub FitsChange : ℕ → Record → Task → ChangeStage → Record → Type 0
-FitsChange n b task (change.Begins new) p = HasBegun b task (ToChange new.command) p
-FitsChange n b task (change.HasTaken new t) p = OfTask n task (ToChange new.command) t.stripe (stripe_of n new.command.key) × TookContent b t p × Rises b (past t.content.outbox.items) p
-FitsChange n b task (change.IsAlive new t) p = OfTask n task (ToChange new.command) t.stripe (stripe_of n new.command.key) × TookAlive b t p
-FitsChange n b task (change.IsReady new t prepared) p = OfTask n task (ToChange new.command) t.stripe (stripe_of n new.command.key) × TookLooked b t p × (reach p < ticket_limit) × HasMemory new.command t.content prepared
+FitsChange n b task (change.Begins new) p = HasBegun b task (ToChange new.command) p × IsWithin b.opening.key_limit new.command
+FitsChange n b task (change.HasTaken new t) p = OfTask n task (ToChange new.command) t.stripe (stripe_of n new.command.key) × TookContent b t p × Rises b (past t.content.outbox.items) p × IsWithin b.opening.key_limit new.command
+FitsChange n b task (change.IsAlive new t) p = OfTask n task (ToChange new.command) t.stripe (stripe_of n new.command.key) × TookAlive b t p × IsWithin b.opening.key_limit new.command
+FitsChange n b task (change.IsReady new t prepared) p = OfTask n task (ToChange new.command) t.stripe (stripe_of n new.command.key) × TookLooked b t p × (reach p < ticket_limit) × HasMemory new.command t.content prepared × IsWithin b.opening.key_limit new.command
 FitsChange n b task (change.HasDrawn t h) p = HasMade n b task t h p
 
 abbrev pub FitsRead : ℕ → Record → Task → ReadStage → Record → Type 0

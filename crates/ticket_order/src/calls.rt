@@ -3,9 +3,9 @@ ghost use Rattle.std.specs.Prelude.{◌≡◌, None, Err, IfOk, IfErr, false};
 ghost use Rattle.java_hash.specs.Hash.{hash_of, spread_of};
 ghost use Rattle.java_hash.specs.Stripes.{stripe_of};
 ghost use Rattle.ticket_order.specs.declared.record.Record.{Record};
-ghost use Rattle.ticket_order.specs.Records.{past};
+ghost use Rattle.ticket_order.specs.Records.{IsWithin, past};
 ghost use Rattle.ticket_order.specs.StepRules.{Rises, TakesStripe};
-ghost use Rattle.ticket_order.specs.Calls.{FindsAlive, GivesBack, HasFound, IsNotBusy, LeavesRead, MakesCall, MakesRead, ReadsAt, RefusesChange, RefusesRead, Releases};
+ghost use Rattle.ticket_order.specs.Calls.{FindsAlive, GivesBack, HasFound, IsNotBusy, LeavesRead, MakesCall, MakesRead, ReadsAt, RefusesChange, RefusesRead, Releases, TurnsDown};
 ghost use Rattle.ticket_order.specs.Walks.{ToChange, FitsChange};
 
 use crate::change_walk::{ChangeStage, NewChange, TICKET_LIMIT};
@@ -19,21 +19,25 @@ use java_hash::{spread_of, stripe_of_spread};
 use map_types::{Command, Read, Refusal};
 use std::alloc::Global;
 
-/// Makes a change: TAKE, ALIVE, LOOK, TICKET, GIVE. It is refused with `Busy` if the TAKE found the
-/// stripe of the key held, and with `Failed` if the ALIVE said no. It is refused with
-/// `TicketsSpent` if the LOOK found 2^62 or more, and with `NoMemory` if memory for the change was
-/// refused. If it is refused, no ticket is drawn.
+/// Makes a change: TAKE, ALIVE, LOOK, TICKET, GIVE. It is refused with `KeyTooLong` before its TAKE
+/// if the key is above the limit. It is refused with `Busy` if the TAKE found the stripe of the key
+/// held, and with `Failed` if the ALIVE said no. It is refused with `TicketsSpent` if the LOOK found
+/// 2^62 or more, and with `NoMemory` if memory for the change was refused. If it is refused, no
+/// ticket is drawn.
 pub fn try_call<S: Steps>(steps: &mut S, alloc: Global, command: Command) -> Result<Held, Refusal>
     requires { (S.recorded steps.old).holding ≡ None }
     ensures made { IfOk result (λ held.
         MakesCall (S.stripe_count steps.old) (S.recorded steps.old) command held.position held.reply
         (S.recorded steps.new)) }
     ensures refused { IfErr result (λ refusal.
-        RefusesChange (S.recorded steps.old) (stripe_of (S.stripe_count steps.old) command.key)
-        refusal (S.recorded steps.new)) }
+        TurnsDown (S.stripe_count steps.old) (S.recorded steps.old) command refusal
+        (S.recorded steps.new)) }
     ensures place { S.place steps.new ≡ S.place steps.old }
     ensures stripes { S.stripe_count steps.new ≡ S.stripe_count steps.old }
 {
+    if command.key.is_above(steps.key_limit()) {
+        return Err(Refusal::KeyTooLong);
+    }
     let spread = spread_of(command.key.as_str());
     let stripe = stripe_of_spread(spread, steps.stripes());
     match steps.take(stripe) {
@@ -96,8 +100,9 @@ pub fn call_on<S: Steps>(
     spread: u32,
     content: Stripe,
 ) -> Result<Held, Refusal>
-    // The spread is the key's, whose stripe was taken with this content.
+    // The spread is the key's, which is within the limit, and whose stripe was taken with this content.
     requires spread { spread ≡ spread_of (hash_of command.key) }
+    requires within { IsWithin (S.recorded steps.old).opening.key_limit command }
     requires found { (b : Record) × HasFound b (stripe_of (S.stripe_count steps.old) command.key)
         content (S.recorded steps.old) }
 
@@ -187,8 +192,9 @@ fn change_on<S: Steps>(
     spread: u32,
     mut taken: Taken,
 ) -> Result<Held, Refusal>
-    // The spread is the key's, whose stripe was taken with this content.
+    // The spread is the key's, which is within the limit, and whose stripe was taken with this content.
     requires spread { spread ≡ spread_of (hash_of new.command.key) }
+    requires within { IsWithin (S.recorded steps.old).opening.key_limit new.command }
     requires stripe { taken.stripe ≡ stripe_of (S.stripe_count steps.old) new.command.key }
     requires found { (b : Record) × HasFound b taken.stripe taken.content (S.recorded steps.old) }
 

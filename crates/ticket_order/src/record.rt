@@ -29,6 +29,8 @@ impl Model for FiniteMap {
 pub struct Opening {
     pub first: u64,
     pub map: FiniteMap,
+    /// The most bytes that the key of a change may have.
+    pub key_limit: u16,
 }
 
 /// What a stripe is given back for.

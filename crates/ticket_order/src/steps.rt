@@ -33,6 +33,10 @@ pub trait Steps {
     fn seen(&self) -> u64
         ensures { result ≡ reach (recorded self.now) };
 
+    /// The most bytes that the key of a change may have. It is no step.
+    fn key_limit(&self) -> u16
+        ensures { result ≡ (recorded self.now).opening.key_limit };
+
     /// TAKE: the content of the stripe if it was free, or `None` if another holds it.
     fn take(&mut self, stripe: usize) -> Option<Stripe>
         requires within { stripe < stripe_count self.old }
@@ -52,7 +56,7 @@ pub trait Steps {
         ensures place { place self.new ≡ place self.old }
         ensures stripes { stripe_count self.new ≡ stripe_count self.old };
 
-    /// TICKET, for a change of the stripe that is held.
+    /// TICKET, for a change of the stripe that is held, with a key within the limit.
     fn ticket(&mut self, command: &Command) -> Ticket
         requires fits { MayDraw (stripe_count self.old) (recorded self.old) command.now }
         ensures step { Draws (recorded self.old) command.now result (recorded self.new) }

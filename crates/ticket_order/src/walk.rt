@@ -2,7 +2,7 @@
 ghost use Rattle.std.specs.Prelude.{◌≡◌, ◌<◌, ℕ, Some, None, true, false, length};
 ghost use Rattle.std.specs.Option.{option_copied};
 ghost use Rattle.ticket_order.specs.declared.record.Record.{Record};
-ghost use Rattle.ticket_order.specs.Records.{giving};
+ghost use Rattle.ticket_order.specs.Records.{IsWithin, giving};
 ghost use Rattle.ticket_order.specs.Walks.{Task, ToChange, ToRead, ToRelease, ToSweep, ToCapture, Fits, IsUnderWay, Next, MakesOne, next_kind, Take, Give, HasContent, IsRefusing, Refuses, HasFewerLeft, steps_left, entries_of_walk, KeepsEntries, captured_of_walk, KeepsCaptured, refusal_of_walk, KeepsRefusal, is_holding};
 
 use crate::capture_walk::{CaptureStage, Captured};
@@ -91,7 +91,8 @@ impl Walk {
     /// A change: TAKE, ALIVE, LOOK, TICKET, GIVE. All its memory is got from `alloc` before its
     /// ticket is drawn.
     pub fn change(alloc: Global, command: Command) -> Walk
-        ensures { (n : ℕ) (b : Record) → b.holding ≡ None → Fits n b (ToChange command) result b }
+        ensures { (n : ℕ) (b : Record) → b.holding ≡ None → IsWithin b.opening.key_limit command
+            → Fits n b (ToChange command) result b }
     {
         Walk {
             stage: Stage::Change(ChangeStage::Begins(NewChange { alloc, command })),

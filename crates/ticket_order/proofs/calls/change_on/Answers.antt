@@ -2,7 +2,7 @@ use Rattle.std.proofs.Common.{◌≡◌, ◌<◌, false, refl, subst}
 use Rattle.java_hash.specs.Stripes.{stripe_of}
 use Rattle.ticket_order.specs.Records.{ticket_limit}
 use Rattle.ticket_order.specs.Walks.{ToChange}
-use Rattle.ticket_order.proofs.Walking.{found_content, content_lived, content_looked, given_back_alive, took_alive, took_looked, same_looked, change_failed, change_spent, change_starved}
+use Rattle.ticket_order.proofs.Walking.{found_content, content_lived, content_looked, given_back_alive, took_alive, took_looked, same_looked, within_since, change_failed, change_spent, change_starved}
 use Rattle.ticket_order.proofs.calls.change_on.Goals as goal
 
 pub give_back-requires : goal.give_back-requires
@@ -44,6 +44,7 @@ change_ready-requires g c =
         same_looked _ _ c.args.taken _ (took_looked _ _ _ _ _ alive c.look.ensures.step) refl c.prepare.ensures.part c.prepare.ensures.outbox c.prepare.ensures.last,
         subst (λ z. z < ticket_limit) c.look.ensures.step.count_is c.if-look-ge-TICKET_LIMIT.false,
         c.in-Ok.ensures.ok,
+        within_since _ _ c.args.new.command _ _ f.1 c.requires.within,
       ),
     )
 
@@ -57,6 +58,7 @@ returns-in-Ok-clause-made g c = λ b f.
       same_looked _ _ c.args.taken _ (took_looked _ _ _ _ _ alive c.look.ensures.step) refl c.prepare.ensures.part c.prepare.ensures.outbox c.prepare.ensures.last,
       subst (λ z. z < ticket_limit) c.look.ensures.step.count_is c.if-look-ge-TICKET_LIMIT.false,
       c.in-Ok.ensures.ok,
+      within_since _ _ c.args.new.command _ _ f c.requires.within,
     ))
 
 pub give_back-requires-in-Err : goal.give_back-requires-in-Err

@@ -17,6 +17,7 @@ invariant_of-self c =
     rw (c.note.ensures, c.raise_by.ensures) (
       kept_gave _ _ _ _ _ _ _ c.self.invariant.0 (rw c.self.view_is c.requires.pass) _ _ _ may,
       seen_gave _ _ _ _ _ _ _ c.self.invariant.0 (rw c.self.view_is c.requires.pass) _ c.self.invariant.1 _ _ _ may,
+      c.self.invariant.2,
     )
 
 pub returns-clause-step : goal.returns-clause-step

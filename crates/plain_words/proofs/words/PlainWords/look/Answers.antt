@@ -6,6 +6,7 @@ pub invariant_of-self : goal.invariant_of-self
 invariant_of-self c = rw c.note.ensures (
   kept_looked _ _ _ _ _ _ _ c.self.invariant.0 (rw c.self.view_is c.requires.pass),
   seen_looked _ _ _ _ _ _ _ c.self.invariant.0 (rw c.self.view_is c.requires.pass) _ c.self.invariant.1,
+  c.self.invariant.2,
 )
 
 pub returns-clause-step : goal.returns-clause-step

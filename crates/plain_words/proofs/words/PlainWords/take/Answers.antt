@@ -28,6 +28,7 @@ invariant_of-self c =
     rw (c.note.ensures, c.replace.ensures.after, c.raise_to_outbox.ensures) (
       kept_took _ _ _ _ _ _ _ c.self.invariant.0 (rw c.self.view_is c.requires.pass) _ _ lt (rw c.self.view_is c.requires.empty_handed) home,
       seen_took _ _ _ _ _ _ _ c.self.invariant.0 (rw c.self.view_is c.requires.pass) _ c.self.invariant.1 _ _ lt (rw c.self.view_is c.requires.empty_handed) home,
+      c.self.invariant.2,
     )
 
 pub invariant_of-self-in-HeldBy : goal.invariant_of-self-in-HeldBy
@@ -40,6 +41,7 @@ invariant_of-self-in-HeldBy c =
     rw (c.note-in-HeldBy.ensures, held, set-get_or) (
       kept_found_held _ _ _ _ _ _ _ c.self.invariant.0 (rw c.self.view_is c.requires.pass) _ _ lt (rw c.self.view_is c.requires.empty_handed) held_here,
       seen_found_held _ _ _ _ _ _ _ c.self.invariant.0 (rw c.self.view_is c.requires.pass) _ c.self.invariant.1 _ _ lt (rw c.self.view_is c.requires.empty_handed) held_here,
+      c.self.invariant.2,
     )
 
 pub returns-in-Home-clause-step : goal.returns-in-Home-clause-step

@@ -5,14 +5,14 @@ use Rattle.ticket_order.specs.Calls.{IsNotBusy, MakesRead, RefusesRead}
 use Rattle.stripe_locks.specs.Passes.{recorded, stripe_count}
 use Rattle.stripe_locks.specs.Holding.{position_of, reply_of}
 use Rattle.stripe_locks.specs.Waits.{TakesInTime}
-use Rattle.stripe_locks.proofs.Misses.{read_in_time, err_both, read_over}
+use Rattle.stripe_locks.proofs.Misses.{found_in_time, read_in_time, err_both, read_over}
 use Rattle.stripe_locks.proofs.stripes.Stripes.read.Goals as goal
 
 pub read_on-requires-clause-found : goal.read_on-requires-clause-found
 read_on-requires-clause-found g c =
     let at : c.stripe_of_spread-stripe.result ≡ stripe_of (stripe_count c.args.self.now) c.args.read.key = c.stripe_of_spread-stripe.ensures.value c.as_str.result.now c.spread_of-spread.ensures ∙ ap (stripe_of (stripe_count c.args.self.now)) c.as_str.ensures.text in
     let k = subst (λ (i : ℕ). TakesInTime (stripe_count c.args.self.now) (recorded c.args.pass.now) i c.take_in_time-content.result (recorded c.take_in_time-content.new.pass)) at c.take_in_time-content.ensures.step in
-    (k.waited, k.takes)
+    (k.waited, found_in_time _ _ _ _ _ k)
 
 pub returns-clause-made : goal.returns-clause-made
 returns-clause-made g c =

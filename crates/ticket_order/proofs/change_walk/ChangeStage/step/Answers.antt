@@ -22,13 +22,13 @@ returns-in-Err-clause-next g c = λ b task f.
 pub ticket-ticket-requires : goal.ticket-ticket-requires
 ticket-ticket-requires g c =
     let h = rw c.in-IsReady.is at c.requires.2 in
-    record { fits = may_draw _ c.requires.0 _ c.in-IsReady.new.command c.in-IsReady.taken h.0.stripe_is h.1 h.2 }
+    record { fits = may_draw _ c.requires.0 _ c.in-IsReady.new.command c.in-IsReady.taken h.0.stripe_is h.1 h.2 h.4 }
 
 pub returns-in-IsReady-clause-next : goal.returns-in-IsReady-clause-next
 returns-in-IsReady-clause-next g c = λ b task f.
     let h = rw c.in-IsReady.is at f in
     rw c.more-in-IsReady.ensures
-    (drawn _ b _ _ task c.in-IsReady.new.command c.ticket-ticket.result c.in-IsReady.taken _ _ h.0 h.1 h.2 c.ticket-ticket.ensures.step c.drawn-taken.ensures)
+    (drawn _ b _ _ task c.in-IsReady.new.command c.ticket-ticket.result c.in-IsReady.taken _ _ h.0 h.1 h.2 c.ticket-ticket.ensures.step c.drawn-taken.ensures h.4)
 
 pub give-requires : goal.give-requires
 give-requires g c =
