@@ -10,10 +10,11 @@ use Rattle.map_types.specs.declared.refusals.Refusal.{Refusal}
 use Rattle.ticket_order.specs.declared.record.Record.{Record}
 use Rattle.ticket_order.specs.declared.stripe.Entry.{Entry}
 use Rattle.ticket_order.specs.Legality.{history_of}
-use Rattle.log_records.specs.Layout.{IsLayout, first_layout}
+use Rattle.log_records.specs.Layout.{IsLayout}
 use Rattle.disk_model.proofs.FileLemmas.{with_same, seen_may_stay}
 use Rattle.store_layout.specs.Checkpoints.{IsCheckpoint, Section, checkpoint_file, is_to_close}
-use Rattle.store_layout.specs.Logs.{commands_in}
+use Rattle.store_layout.specs.Logs.{commands_in, new_layout}
+use Rattle.store_layout.specs.Opening.{IsCheckpointIn}
 use Rattle.store_layout.specs.OpeningLaws.{OneCheckpoint}
 use Rattle.gate_log.specs.States.{commands_of}
 use Rattle.store_layout.specs.declared.checkpoint_phase.CheckpointPhase.{CheckpointPhase}
@@ -102,6 +103,7 @@ fits_moved {D} states honest n done old p disk c broken f stripes stores = recor
   tells = record { published = f.tells.published; durable = f.tells.durable; failed = f.tells.failed };
   stripes = record { count = f.stripes.count; writer = stripes };
   rotation = f.rotation;
+  keys = f.keys;
   stores = stores;
 }
 
@@ -224,7 +226,7 @@ fits_went_on {D} states failures honest n done call w old new p ph goes f s othe
     }))
 
 -- the file of a sealed checkpoint has an open gate
-open_gate : (k : _) (content : List ℕ) → IsCheckpoint first_layout k content → true ≡ is_to_close content
+open_gate : (k : _) (content : List ℕ) → IsCheckpointIn k content → true ≡ is_to_close content
 open_gate k content c = ap is_to_close (sym c.bytes)
 
 -- how a store stands once the last sync of a seal has succeeded
@@ -283,8 +285,8 @@ sealed_once one w xs ys a b file is x y =
     let l : checkpoint.IsSealed w xs file = (subst (λ ph. checkpoint.AtPhase ph w a xs file) is x.stands).1 in
     let r : checkpoint.IsSealed w ys file = (subst (λ ph. checkpoint.AtPhase ph w b ys file) is y.stands).1 in
     let same : l.content ≡ r.content = ap (λ (z : File). z.seen) (sym l.settled ∙ r.settled) in
-    let room : IsLayout first_layout = omega arith in
-    one first_layout (checkpoint_of w xs) (checkpoint_of w ys) r.content room (subst (λ (z : List ℕ). IsCheckpoint first_layout (checkpoint_of w xs) z) same l.checkpoint) r.checkpoint
+    let room : IsLayout new_layout = omega arith in
+    one new_layout (checkpoint_of w xs) (checkpoint_of w ys) r.content room (subst (λ (z : List ℕ). IsCheckpoint new_layout (checkpoint_of w xs) z) same l.checkpoint) r.checkpoint
 
 none_some : (v : CheckpointState) → None ≡ Some v → ⊥
 none_some v e = cc

@@ -28,6 +28,7 @@ fits_changed {D} states honest n done old p next writer capture f works stripes 
   tells = record { published = f.tells.published; durable = f.tells.durable; failed = f.tells.failed };
   stripes = record { count = f.stripes.count; writer = stripes };
   rotation = rotates;
+  keys = f.keys;
   stores = record { unbroken = λ _. unbroken; works = λ _ h. holds h; stopped = λ broken h. absurd (two_ways old.is_broken broken works) };
 }
 
@@ -40,5 +41,6 @@ fits_capture {D} states honest n done old p capture f = record {
   tells = record { published = f.tells.published; durable = f.tells.durable; failed = f.tells.failed };
   stripes = record { count = f.stripes.count; writer = f.stripes.writer };
   rotation = f.rotation;
+  keys = f.keys;
   stores = record { unbroken = f.stores.unbroken; works = f.stores.works; stopped = f.stores.stopped };
 }

@@ -1,12 +1,11 @@
 -- The checkpoint that a keeper writes, as its callers see it.
 use Rattle.std.specs.Prelude.{◌≡◌, ◌≢◌, ℕ, ◌+◌, ◌<◌, ◌^◌, Bool, true, List, Option, None, Some, Result, Ok, Err, IfOk, IfErr}
 use Rattle.disk_model.specs.Calls.{Makes, Fails}
-use Rattle.disk_model.specs.Files.{Contents, Files, Leaves}
+use Rattle.disk_model.specs.Files.{Files}
 use Rattle.disk_model.specs.Gates.{Call}
 use Rattle.map_types.specs.declared.refusals.Refusal.{Refusal}
 use Rattle.map_types.specs.declared.refusals.Refusal.TheVariants.{Failed}
-use Rattle.store_layout.specs.Checkpoints.{Checkpoint, Section, checkpoint_file}
-use Rattle.store_layout.specs.Opening.{Holds, Opened as Found}
+use Rattle.store_layout.specs.Checkpoints.{Section, checkpoint_file}
 use Rattle.gate_log.specs.States as log_states
 use Rattle.gate_log.specs.States.{IsResting, LogState}
 use Rattle.store_layout.specs.declared.checkpoint_phase.CheckpointPhase.{CheckpointPhase}

@@ -18,11 +18,12 @@ use Rattle.flusher.specs.declared.sweeper.Sweep.{Sweep}
 use Rattle.flusher.specs.declared.sweeper.Walking.{Walking}
 use Rattle.flusher.specs.declared.sweeper.Walking.TheVariants.{Rests, SweepTakes, SweepGives}
 use Rattle.store_layout.specs.Hands.{Hand}
-use Rattle.flusher.specs.Gathering.{Accounts, AreTaken, Gathers, HasSweptBelow}
+use Rattle.flusher.specs.Gathering.{Accounts, AreTaken, AreWithin, Gathers, HasSweptBelow}
 use Rattle.flusher.specs.Sweeping.{StandsBy}
 use Rattle.flusher.specs.KeeperSteps.{is_walking}
 use Rattle.flusher.specs.Fitting.{Fits, IsBeside}
 use Rattle.ticket_order.proofs.Entries.{grown, shrunk}
+use Rattle.flusher.proofs.Keys.{keys_beside}
 use Rattle.flusher.proofs.Storing.{stores_seen}
 
 gathers_beside : (hand : Hand) (gone : List Command) (p w : Record) → IsBeside p w → Gathers hand gone p → Gathers hand gone w
@@ -39,6 +40,7 @@ gathers_beside hand gone p w b k =
       keeper = b.keeper ∙ k.keeper;
       accounts = subst (λ (o : Opening). Accounts hand gone o.first w.taken w.seen) (sym b.opening)
           (subst (λ (es : List Entry). Accounts hand gone p.opening.first es w.seen) (sym b.taken) (subst (λ (xs : List Command). Accounts hand gone p.opening.first p.taken xs) (sym b.seen.is) on));
+      within = subst (λ (o : Opening). AreWithin o.key_limit w.taken) (sym b.opening) (subst (AreWithin p.opening.key_limit) (sym b.taken) k.within);
     }
 
 swept_beside : (n count stripe : ℕ) (p w : Record) → IsBeside p w → HasSweptBelow n count stripe p → HasSweptBelow n count stripe w
@@ -81,5 +83,6 @@ fits_beside {D} states honest n done keeper p w stay front f r b free = record {
   tells = record { published = f.tells.published ∙ sym b.published; durable = f.tells.durable; failed = f.tells.failed ∙ sym b.failed };
   stripes = f.stripes;
   rotation = f.rotation;
+  keys = keys_beside keeper.log p w b.opening f.keys;
   stores = stores_seen states honest keeper p w stay front b.opening b.seen f.stores;
 }

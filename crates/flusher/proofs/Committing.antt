@@ -8,7 +8,7 @@ use Rattle.ticket_order.specs.declared.stripe.Entry.{Entry}
 use Rattle.ticket_order.specs.declared.record.Opening.{Opening}
 use Rattle.ticket_order.specs.declared.record.Record.{Record}
 use Rattle.ticket_order.specs.Legality.{entries_from, history_of}
-use Rattle.log_records.specs.Layout.{first_layout}
+use Rattle.log_records.specs.Layout.{layout_of}
 use Rattle.store_layout.specs.Logs.{Batch, frame, log_file}
 use Rattle.store_layout.specs.SectionsAndLog.{IsNextOf}
 use Rattle.checkpoint_file.specs.States.{CheckpointState}
@@ -25,10 +25,11 @@ use Rattle.flusher.specs.Gathering.{Accounts, Gathers}
 use Rattle.flusher.specs.Sweeping.{Stands}
 use Rattle.flusher.specs.KeeperSteps.{MayStage, Stages, passed}
 use Rattle.flusher.specs.Rotating.{MayRotate}
-use Rattle.flusher.specs.Fitting.{Fits, HoldsFor, HoldsFront, IsEmptyIn, IsUnbroken, StopsFit, Stores, batches_of, store_of}
+use Rattle.flusher.specs.Fitting.{AllowsKeys, Fits, HoldsFor, HoldsFront, IsEmptyIn, IsUnbroken, StopsFit, Stores, batches_of, store_of}
 use Rattle.flusher.proofs.Staging.{accounts_staged, commands_there}
 use Rattle.ticket_order.proofs.Entries.{length-entries}
 use Rattle.flusher.proofs.Passing.{accounts_same, accounts_passed}
+use Rattle.flusher.proofs.Keys.{keys_kept}
 use Rattle.flusher.proofs.Quiet.{stands_moved}
 use Rattle.flusher.proofs.FittingKeepers.{Knows, fits_moved, knows_by}
 use Rattle.flusher.proofs.StoreSteps.{log_in, stops_now}
@@ -70,6 +71,7 @@ fits_staged {D} states honest n done old new p commands law f same works may run
       keeper = k.keeper;
       accounts = subst (λ h. Accounts h (done ++ commands_of new.staged.items) q.opening.first q.taken q.seen) (sym st.hand_is)
           (subst (λ z. Accounts (record old.sweeper.in_hand { slots = replicate (length commands) None ++ drop (length commands) old.sweeper.in_hand.slots }) (done ++ z) q.opening.first q.taken q.seen) (sym theirs) staged);
+      within = k.within;
     }
     ) in
     let stands : Stands n new.sweeper (done ++ commands_of new.staged.items) p =
@@ -78,7 +80,7 @@ fits_staged {D} states honest n done old new p commands law f same works may run
     let batch : Batch = batch_of old.log.committed new.staged.items in
     let follows : IsNextOf h old.log.committed batch.commands =
     comes_next new.sweeper.in_hand done (commands_of new.staged.items) old.log.committed p (knows_by n new.sweeper.sweep new.sweeper.walking new.sweeper.in_hand (done ++ commands_of new.staged.items) p stands) f.counts.committed in
-    let then : LogState = record old.log { phase = Staged; count = length new.staged.items; frame = frame first_layout batch ++ 0 ∷ [] } in
+    let then : LogState = record old.log { phase = Staged; count = length new.staged.items; frame = frame (layout_of old.log.version) batch ++ 0 ∷ [] } in
     let state : store_of new ≡ record (store_of old) { log = then } =
     ap store_of same ∙ ap (λ (x : LogState). let r : StoreState = record (store_of old) { log = x } in r) st.log in
     let works_on : new.is_broken ≡ false → honest new.disk → HoldsFor h new (now (states new.disk)) =
@@ -92,7 +94,7 @@ fits_staged {D} states honest n done old new p commands law f same works may run
     let now_there : gate_log.Stands then bs (batch ∷ []) file = subst (λ (x : LogState). gate_log.Stands x bs (batch ∷ []) file) st.log (on bs file there) in
     let holds : HoldsFront h (record (store_of old) { log = then }) new.staged.items old.must_close files = record {
       held = record k.held { staged = batch ∷ [] };
-      stands = law h (store_of old) k.held files (length new.staged.items) (frame first_layout batch ++ 0 ∷ []) batch k.stands may.0 may.1 follows now_there;
+      stands = law h (store_of old) k.held files (length new.staged.items) (frame (layout_of old.log.version) batch ++ 0 ∷ []) batch k.stands may.0 may.1 follows now_there;
       staged_is = sym (one_batch old.log.committed new.staged.items (omega (arith, long, some)));
       must_close_is = k.must_close_is;
     } in
@@ -117,6 +119,7 @@ fits_staged {D} states honest n done old new p commands law f same works may run
       };
       stripes = record { count = ap (λ (k : Keeper D). k.stripes.count) same ∙ f.stripes.count; writer = subst (λ (o : Option CheckpointState). IfSome o (λ (w : CheckpointState). w.stripes ≡ n)) (sym (ap (λ (k : Keeper D). k.checkpoint) same)) f.stripes.writer };
       rotation = subst (λ (o : Option LogState). MayRotate o new.log new.staged.items) (sym (ap (λ (k : Keeper D). k.next) same ∙ may.1)) (ap (λ (x : LogState). x.ending) st.log ∙ may.0.1);
+      keys = keys_kept old.log new.log p (ap (λ (x : LogState). x.version) st.log) f.keys;
       stores = record {
         unbroken = λ _. subst IsUnbroken (sym state) (record { log = (f.stores.unbroken works).log; next = (f.stores.unbroken works).next; writer = (f.stores.unbroken works).writer });
         works = works_on;
@@ -131,7 +134,7 @@ fits_same {D} states honest n done old new p f same l s entries =
     let sweeper : Sweeper = record old.sweeper { in_hand = new.sweeper.in_hand } in
     let is : new ≡ record old { sweeper = sweeper } = same ∙ ap (λ (x : LogState). record old { log = x; sweeper = sweeper; staged = new.staged }) l ∙ ap (λ x. record old { sweeper = sweeper; staged = x }) s in
     let moved : (q : Record) → q.opening ≡ p.opening → Gathers old.sweeper.in_hand (done ++ commands_of old.staged.items) q → Gathers new.sweeper.in_hand (done ++ commands_of old.staged.items) q =
-    λ q o k. record { keeper = k.keeper; accounts = accounts_same old.sweeper.in_hand new.sweeper.in_hand (done ++ commands_of old.staged.items) q.opening.first q.taken q.seen entries k.accounts } in
+    λ q o k. record { keeper = k.keeper; accounts = accounts_same old.sweeper.in_hand new.sweeper.in_hand (done ++ commands_of old.staged.items) q.opening.first q.taken q.seen entries k.accounts; within = k.within } in
     subst (λ (k : Keeper D). Fits states honest n done k p) (sym is)
     (fits_moved states honest n done old sweeper p p f (stands_moved n old.sweeper sweeper (done ++ commands_of old.staged.items) (done ++ commands_of old.staged.items) p refl refl moved f.stands)
     (record { opening = refl; calls = refl; published = refl; failed = refl }) entries.next f.stores)
@@ -155,6 +158,7 @@ pub record Goes {D : Type 0} (states : D → List Files) (honest : D → Type 0)
   pub count : new.log.count ≡ old.log.count
   pub empty : IsEmptyIn new.log.phase old.staged.items
   pub rotation : MayRotate new.next new.log old.staged.items
+  pub keys : AllowsKeys new.log p
   pub stores : Stores states honest new p
 
 writer_same : {D : Type 0} (n : ℕ) (old new : Keeper D) → IsSame old new → IfSome old.checkpoint (λ (w : CheckpointState). w.stripes ≡ n) → IfSome new.checkpoint (λ (w : CheckpointState). w.stripes ≡ n)
@@ -176,6 +180,7 @@ fits_gone {D} states honest n done old new p f g =
       tells = record { published = published ∙ f.tells.published; durable = omega (arith, f.tells.durable, g.committed, published); failed = ap (λ (k : Keeper D). k.has_failed) g.same ∙ f.tells.failed };
       stripes = record { count = ap (λ (k : Keeper D). k.stripes.count) g.same ∙ f.stripes.count; writer = writer_same n old new g.same f.stripes.writer };
       rotation = subst (λ (xs : List Entry). MayRotate new.next new.log xs) (sym g.staged) g.rotation;
+      keys = g.keys;
       stores = g.stores;
     }
 
@@ -203,7 +208,7 @@ fits_committed {D} states honest n done old new p f g =
     let moved : (q : Record) → q.opening ≡ p.opening → Gathers old.sweeper.in_hand (done ++ staged) q → Gathers after.in_hand (done ++ staged) q =
     λ q o k. (
     let at : q.opening.first + length done ≡ old.sweeper.in_hand.next = subst (λ (z : Opening). z.first + length done ≡ old.sweeper.in_hand.next) (sym o) (f.counts.committed ∙ sym f.counts.next) in
-    record { keeper = k.keeper; accounts = accounts_passed old.sweeper.in_hand (length old.staged.items) (done ++ staged) q.opening.first q.taken q.seen (omega (arith, at, both, long)) k.accounts }
+    record { keeper = k.keeper; accounts = accounts_passed old.sweeper.in_hand (length old.staged.items) (done ++ staged) q.opening.first q.taken q.seen (omega (arith, at, both, long)) k.accounts; within = k.within }
     ) in
     let stands : Stands n after (done ++ staged) p = stands_moved n old.sweeper after (done ++ staged) (done ++ staged) p refl refl moved f.stands in
     record {
@@ -220,6 +225,7 @@ fits_committed {D} states honest n done old new p f g =
       tells = record { published = published ∙ f.tells.published; durable = omega (arith, f.tells.durable, count, published); failed = ap (λ (k : Keeper D). k.has_failed) g.same ∙ f.tells.failed };
       stripes = record { count = ap (λ (k : Keeper D). k.stripes.count) g.same ∙ f.stripes.count; writer = writer_same n old new g.same f.stripes.writer };
       rotation = subst (λ (xs : List Entry). MayRotate new.next new.log xs) (sym w) g.rotation;
+      keys = keys_kept old.log new.log p (ap (λ (x : LogState). x.version) g.log) f.keys;
       stores = g.stores;
     }
 

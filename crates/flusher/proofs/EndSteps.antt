@@ -19,8 +19,9 @@ use Rattle.flusher.specs.declared.keeper.Keeper.{Keeper}
 use Rattle.flusher.specs.Rotating.{Logs, MayRotate, Rotates, ended_in, logs_of}
 use Rattle.flusher.specs.Fitting.{Fits, HoldsFor, HoldsFront, IsUnbroken, StopsFit, Stores, done_after, store_of}
 use Rattle.flusher.proofs.Committing.{IsSame, fits_gone, state_then}
+use Rattle.flusher.proofs.Keys.{keys_in_new, keys_kept}
 use Rattle.flusher.proofs.StoreSteps.{count_same, end_goes, log_is_over, next_in, next_moments}
-use Rattle.flusher.proofs.LogsAfter.{broken_same, ending_same, generation_same, staged_count_same, empty_in, none_done, stores_on}
+use Rattle.flusher.proofs.LogsAfter.{broken_same, ending_same, generation_same, version_same, staged_count_same, empty_in, none_done, stores_on}
 use Rattle.flusher.proofs.NewestSteps.{log_at_moments, log_fails}
 
 -- the log that follows, and the newest one
@@ -146,6 +147,7 @@ fits_ending {D} states failures honest n done old new p next phase law f s other
       count = ap (λ (x : LogState). x.count) log ∙ staged_count_same ph old.log other;
       empty = empty_in new.log.phase old.staged.items r.none_staged;
       rotation = subst (λ (x : Logs). MayRotate x.next x.newest old.staged.items) (sym logs) rotation;
+      keys = keys_kept old.log new.log p (ap (λ (x : LogState). x.version) log ∙ version_same ph old.log) f.keys;
       stores = ended_stores states failures honest n done old new p next phase law f s other;
     })
 
@@ -168,6 +170,7 @@ fits_over {D} states failures honest n done old new p next phase law f s last =
       count = ap (λ (x : LogState). x.count) (log ∙ r.is) ∙ sym (f.counts.count ∙ ap (λ (xs : List Entry). length xs) none_old);
       empty = empty_in new.log.phase old.staged.items none_old;
       rotation = subst (λ (x : Logs). MayRotate x.next x.newest old.staged.items) (sym logs) (ap (λ (x : LogState). x.ending) r.is);
+      keys = keys_in_new old.log new.log p (ap (λ (x : LogState). x.version) (log ∙ r.is)) f.keys;
       stores = stores_on states honest new p s.ok.1
           (subst IsUnbroken (sym state) (record { log = next_works states honest n done old p next f s.works s.next_is; next = tt; writer = u.writer }))
           (λ h. (

@@ -1,7 +1,7 @@
 -- What holds of a keeper after each of its calls.
-use Rattle.std.proofs.Common.{◌≡◌, ℕ, ◌+◌, ◌<◌, ◌^◌, max, List, [], ◌∷◌, ◌++◌, length, Option, Some, None, IfSome, Bool, true, false, refl, sym, ◌∙◌, ap, subst, arith}
-use Rattle.std.specs.List.{Contains}
-use Rattle.std.proofs.lemmas.List.{length-append, append_assoc}
+use Rattle.std.proofs.Common.{◌≡◌, ℕ, ◌+◌, ◌<◌, ◌^◌, max, List, [], ◌∷◌, ◌++◌, length, get_or, Option, Some, None, IfSome, Bool, true, false, refl, sym, ◌∙◌, ap, subst, arith}
+use Rattle.std.specs.List.{All, Contains}
+use Rattle.std.proofs.lemmas.List.{get_or_default, length-append, append_assoc}
 use Rattle.std.proofs.lemmas.List.Elements.{Contains-append_left}
 use Rattle.disk_model.specs.Files.{Files, now}
 use Rattle.map_types.specs.declared.commands.Command.{Command}
@@ -11,9 +11,10 @@ use Rattle.ticket_order.specs.declared.record.StepMade.TheVariants.{Published, F
 use Rattle.ticket_order.specs.declared.record.Opening.{Opening}
 use Rattle.ticket_order.specs.declared.record.Record.{Record}
 use Rattle.ticket_order.specs.declared.walk.Walk.{Walk}
-use Rattle.ticket_order.specs.Records.{publishing, failing}
+use Rattle.ticket_order.specs.Records.{IsWithin, entry, publishing, failing}
 use Rattle.ticket_order.specs.StepRules.{MayPublish}
 use Rattle.ticket_order.specs.Legality.{entries_from, history_of}
+use Rattle.log_records.specs.Layout.{layout_of}
 use Rattle.store_layout.specs.OpeningLaws.{FrontStays}
 use Rattle.checkpoint_file.specs.States.{CheckpointState}
 use Rattle.gate_log.specs.States.{LogState, commands_of, resumed}
@@ -25,14 +26,15 @@ use Rattle.flusher.specs.declared.sweeper.Walking.{Walking}
 use Rattle.flusher.specs.declared.sweeper.Walking.TheVariants.{Rests, SweepTakes, SweepGives}
 use Rattle.flusher.specs.declared.sweeper.Sweeper.{Sweeper}
 use Rattle.store_layout.specs.Hands.{Hand, IsRun}
-use Rattle.flusher.specs.Gathering.{Accounts, Gathers}
+use Rattle.flusher.specs.Gathering.{Accounts, AreWithin, Gathers}
 use Rattle.flusher.specs.Sweeping.{Stands, StandsBy, HasNone, IsSwept}
 use Rattle.flusher.specs.KeeperSteps.{is_walking}
 use Rattle.flusher.specs.Rotating.{MayRotate}
 use Rattle.flusher.specs.Fitting.{Fits, HasSeenMore, HoldsFront, IsEmptyIn, IsFoundFor, IsQuiet, IsUnbroken, IsUnused, IsTakenFront, Stores, WereTaken, store_of}
+use Rattle.flusher.proofs.Keys.{keys_beside, keys_kept}
 use Rattle.flusher.proofs.Storing.{holds_found, stores_seen}
 use Rattle.flusher.proofs.Staging.{taken_in_hand}
-use Rattle.ticket_order.proofs.Entries.{grown, shrunk}
+use Rattle.ticket_order.proofs.Entries.{grown, shrunk, there_is}
 use Rattle.flusher.proofs.Passing.{reached_by, front_of_all}
 use Rattle.flusher.proofs.Quiet.{IsGrown, swept_grown}
 
@@ -52,7 +54,7 @@ pub record IsOpened {D : Type 0} (stripes first : ℕ) (sealed : ℕ) (log : Log
   pub stripes_are : keeper.stripes.count ≡ stripes
 
 pub fits_opened : {D : Type 0} (states : D → List Files) (honest : D → Type 0) (n sealed : ℕ) (log : LogState) (must_close : Bool) (keeper : Keeper D) (p : Record) → OpenedStands → log.committed < 2 ^ 64
-    → IsOpened n log.committed sealed log must_close keeper → log ≡ resumed log.generation log.low log.gate log.committed → IsUnused log.committed p
+    → IsOpened n log.committed sealed log must_close keeper → log ≡ resumed log.version log.generation log.low log.gate log.committed → IsUnused log.committed (layout_of log.version).key_limit p
     → (honest keeper.disk → IsFoundFor p sealed log must_close (now (states keeper.disk))) → Fits states honest n [] keeper p
 fits_opened {D} states honest n sealed log must_close keeper p law small k is u found =
     let first : ℕ = log.committed in
@@ -67,7 +69,7 @@ fits_opened {D} states honest n sealed log must_close keeper p law small k is u 
       held = λ t c k. absurd (no_place c (k.there));
       known = λ e has. absurd (omega (arith, has.1));
     } in
-    let gathers : Gathers keeper.sweeper.in_hand [] p = record { keeper = u.keeper; accounts = subst (λ x. Accounts x [] p.opening.first p.taken p.seen) (sym k.hand) (subst (λ x. Accounts (record { next = first; slots = [] }) [] p.opening.first x p.seen) (sym u.none_taken) none_) } in
+    let gathers : Gathers keeper.sweeper.in_hand [] p = record { keeper = u.keeper; accounts = subst (λ x. Accounts x [] p.opening.first p.taken p.seen) (sym k.hand) (subst (λ x. Accounts (record { next = first; slots = [] }) [] p.opening.first x p.seen) (sym u.none_taken) none_); within = subst (AreWithin p.opening.key_limit) (sym u.none_taken) (λ e has. absurd (omega (arith, has.1))) } in
     let has_none : HasNone keeper.sweeper.in_hand [] p = record { free = u.free; gathers = gathers } in
     let at : Stands n keeper.sweeper [] p = subst (λ o. StandsBy n o keeper.sweeper.walking keeper.sweeper.in_hand [] p) (sym k.sweep) (subst (λ v. StandsBy n None v keeper.sweeper.in_hand [] p) (sym k.walking) has_none) in
     record {
@@ -86,6 +88,7 @@ fits_opened {D} states honest n sealed log must_close keeper p law small k is u 
         writer = subst (λ (x : StoreState). IfSome x.writer (λ (w : CheckpointState). w.stripes ≡ n)) (sym k.store) tt;
       };
       rotation = subst (λ (x : StoreState). MayRotate x.next x.log keeper.staged.items) (sym k.store) (ap (λ (x : LogState). x.ending) is);
+      keys = keys_kept log keeper.log p (ap (λ (x : LogState). x.version) l) (omega (arith, u.limit));
       stores = record {
         unbroken = λ _. subst IsUnbroken (sym k.store) (record { log = ap (λ (x : LogState). x.is_broken) is; next = tt; writer = tt });
         works = λ _ h. subst (λ (x : StoreState). HoldsFront (history_of p) x keeper.staged.items keeper.must_close (now (states keeper.disk))) (sym k.store)
@@ -120,6 +123,7 @@ fits_moved {D} states honest n done keeper new p w f stands q next stores = reco
   tells = record { published = f.tells.published ∙ sym q.published; durable = f.tells.durable; failed = f.tells.failed ∙ sym q.failed };
   stripes = record { count = f.stripes.count; writer = f.stripes.writer };
   rotation = f.rotation;
+  keys = keys_beside keeper.log p w q.opening f.keys;
   stores = record { unbroken = stores.unbroken; works = stores.works; stopped = stores.stopped };
 }
 
@@ -133,14 +137,14 @@ fits_swept {D} states honest n done keeper new p w stay front f stands q m next 
 
 noted_by : (n : ℕ) (o : Option Sweep) (v : Walking) (hand : Hand) (gone : List Command) (p : Record) (made : StepMade) (published : ℕ) (failed : Bool) → is_walking v ≡ false → StandsBy n o v hand gone p
     → StandsBy n o v hand gone (record p { steps = p.steps ++ made ∷ []; published = published; failed = failed })
-noted_by n None Rests hand gone p made published failed r h = record { free = h.free; gathers = record { keeper = h.gathers.keeper; accounts = h.gathers.accounts } }
+noted_by n None Rests hand gone p made published failed r h = record { free = h.free; gathers = record { keeper = h.gathers.keeper; accounts = h.gathers.accounts; within = h.gathers.within } }
 noted_by n None SweepTakes hand gone p made published failed r h = absurd h
 noted_by n None (SweepGives walk) hand gone p made published failed r h = absurd h
 noted_by n (Some sweep) Rests hand gone p made published failed r h = record {
   free = h.free;
   within = h.within;
   below = record { looked = Contains-append_left p.steps (made ∷ []) (Looked sweep.count) h.below.looked; reached = h.below.reached; all = h.below.all };
-  gathers = record { keeper = h.gathers.keeper; accounts = h.gathers.accounts };
+  gathers = record { keeper = h.gathers.keeper; accounts = h.gathers.accounts; within = h.gathers.within };
 }
 noted_by n (Some sweep) SweepTakes hand gone p made published failed r h = cc
 noted_by n (Some sweep) (SweepGives walk) hand gone p made published failed r h = cc
@@ -180,6 +184,7 @@ fits_published {D} states honest n done keeper p f r = record {
   tells = record { published = omega (arith, f.tells.published, f.tells.durable); durable = omega arith; failed = f.tells.failed };
   stripes = record { count = f.stripes.count; writer = f.stripes.writer };
   rotation = f.rotation;
+  keys = f.keys;
   stores = record { unbroken = f.stores.unbroken; works = f.stores.works; stopped = f.stores.stopped };
 }
 
@@ -191,6 +196,7 @@ fits_failed {D} states honest n done keeper p f r = record {
   tells = record { published = f.tells.published; durable = f.tells.durable; failed = refl };
   stripes = record { count = f.stripes.count; writer = f.stripes.writer };
   rotation = f.rotation;
+  keys = f.keys;
   stores = record { unbroken = f.stores.unbroken; works = f.stores.works; stopped = f.stores.stopped };
 }
 
@@ -252,3 +258,30 @@ run_taken_by n (Some sweep) (SweepGives walk) hand gone commands p h run = λ e 
 pub run_taken : {D : Type 0} (states : D → List Files) (honest : D → Type 0) (n : ℕ) (done : List Command) (keeper : Keeper D) (p : Record) → Fits states honest n done keeper p → (commands : List Command) → IsRun keeper.sweeper.in_hand commands → WereTaken keeper.log.committed commands p
 run_taken {D} states honest n done keeper p f commands run =
     subst (λ t. WereTaken t commands p) f.counts.next (run_taken_by n keeper.sweeper.sweep keeper.sweeper.walking keeper.sweeper.in_hand (done ++ commands_of keeper.staged.items) commands p f.stands run)
+
+-- ---- the keys of what was taken
+
+within_by : (n : ℕ) (o : Option Sweep) (v : Walking) (hand : Hand) (gone : List Command) (p : Record) → StandsBy n o v hand gone p → AreWithin p.opening.key_limit p.taken
+within_by n None Rests hand gone p h = h.gathers.within
+within_by n None SweepTakes hand gone p h = absurd h
+within_by n None (SweepGives walk) hand gone p h = absurd h
+within_by n (Some sweep) Rests hand gone p h = h.gathers.within
+within_by n (Some sweep) SweepTakes hand gone p h = h.gathers.within
+within_by n (Some sweep) (SweepGives walk) hand gone p h =
+    let m : IsGrown h.begun p = swept_grown n h.begun sweep.stripe walk p h.taken in
+    subst (λ (o : Opening). AreWithin o.key_limit p.taken) (sym m.opening) (subst (AreWithin h.begun.opening.key_limit) (sym m.taken) h.between.gathers.within)
+
+-- a record of the log may have each key of a run in hand
+pub run_allowed : {D : Type 0} (states : D → List Files) (honest : D → Type 0) (n : ℕ) (done : List Command) (keeper : Keeper D) (p : Record) → Fits states honest n done keeper p → (commands : List Command) → IsRun keeper.sweeper.in_hand commands
+    → All (IsWithin (layout_of keeper.log.version).key_limit) commands
+run_allowed {D} states honest n done keeper p f commands run k d low =
+    let first : ℕ = keeper.log.committed in
+    let e : Entry = entry (first + k) (get_or commands k d) in
+    let has : Contains (entries_from first commands) e = there_is first commands e (record {
+      low = omega arith;
+      high = omega (arith, low);
+      there = ap (λ i. get_or commands i e.command) (omega arith) ∙ get_or_default commands k e.command d low;
+    }) in
+    let within : IsWithin p.opening.key_limit e.command =
+    within_by n keeper.sweeper.sweep keeper.sweeper.walking keeper.sweeper.in_hand (done ++ commands_of keeper.staged.items) p f.stands e (run_taken states honest n done keeper p f commands run e has) in
+    omega (arith, within, f.keys)

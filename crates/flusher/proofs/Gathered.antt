@@ -1,8 +1,8 @@
 -- How the entries in hand follow the record of the keeper's pass.
 use Rattle.std.proofs.Common.{◌≡◌, inl, inr, ℕ, ◌+◌, ◌-◌, ◌<◌, ◌≤◌, Bool, true, List, [], ◌∷◌, ◌++◌, length, get_or, replicate, Option, Some, None, append-nil, refl, sym, ◌∙◌, ap, subst, arith}
-use Rattle.std.specs.List.{Contains}
+use Rattle.std.specs.List.{All, Contains}
 use Rattle.std.proofs.lemmas.List.{length-append, get_or_append_left, get_or-append_right, get_or-replicate, get_or_past, length-replicate}
-use Rattle.std.proofs.lemmas.List.Elements.{Contains-append_left, Contains-append_right, Contains-append_cases, Contains-push}
+use Rattle.std.proofs.lemmas.List.Elements.{All-contains, Contains-append_left, Contains-append_right, Contains-append_cases, Contains-push}
 use Rattle.std.proofs.lemmas.Bool.{cases_eq, cases_lt, eq-eqb}
 use Rattle.java_hash.specs.Stripes.{stripe_of}
 use Rattle.map_model.specs.Parts.{is_in_stripe}
@@ -10,7 +10,7 @@ use Rattle.map_types.specs.declared.commands.Command.{Command}
 use Rattle.ticket_order.specs.declared.stripe.Entry.{Entry}
 use Rattle.ticket_order.specs.declared.record.StepMade.TheVariants.{Looked, Took, Gave, FoundHeld}
 use Rattle.ticket_order.specs.declared.record.Record.{Record}
-use Rattle.ticket_order.specs.Records.{entry, reach, past, missing, taking, looking, looking_at, giving}
+use Rattle.ticket_order.specs.Records.{IsWithin, entry, reach, past, missing, taking, looking, looking_at, giving}
 use Rattle.ticket_order.specs.Legality.{entries_from, entries_of}
 use Rattle.ticket_order.specs.StepRules.{Looks, Rises}
 use Rattle.ticket_order.specs.StepRules as rules_of
@@ -20,7 +20,7 @@ use Rattle.map_types.specs.declared.refusals.Refusal.TheVariants.{NoMemory}
 use Rattle.java_hash.proofs.StripeLaws.{stripe_of_within}
 use Rattle.store_layout.specs.Hands.{Hand, Holds}
 use Rattle.flusher.specs.HandSteps.{MakesRoom, Gains}
-use Rattle.flusher.specs.Gathering.{Accounts, Gathers, AreTaken, HasSweptBelow, AreGathered, Collects}
+use Rattle.flusher.specs.Gathering.{Accounts, Gathers, AreTaken, AreWithin, HasSweptBelow, AreGathered, Collects}
 use Rattle.flusher.specs.declared.sweeper.Sweep.{Sweep}
 use Rattle.flusher.specs.Sweeping.{HasNone, IsBetween}
 use Rattle.ticket_order.proofs.Entries.{found, same_command, grown, shrunk, at_ticket, below_past, filtered, passes}
@@ -127,6 +127,16 @@ stripe_taken n i first taken es seen more is e has stripe =
       | inr k ↦ Contains-append_right taken es e k
     ]
 
+-- the commands that a TAKE of the keeper tells of have keys within the limit, and so have the entries that it took
+pub taken_within : (n i first limit : ℕ) (taken es : List Entry) (commands : List Command) → entries_of n i taken ++ es ≡ entries_of n i (entries_from first commands) → All (IsWithin limit) commands → AreWithin limit es
+taken_within n i first limit taken es commands is within e has =
+    let all : Contains (entries_of n i (entries_from first commands)) e = subst (λ z. Contains z e) is (Contains-append_right (entries_of n i taken) es e has) in
+    let x = found first commands e (filtered (is_of n i) (entries_from first commands) e all) in
+    All-contains (IsWithin limit) commands e.command within (e.ticket - first, omega (arith, x.low, x.high), x.there)
+
+pub within_more : (limit : ℕ) (taken es : List Entry) → AreWithin limit taken → AreWithin limit es → AreWithin limit (taken ++ es)
+within_more limit taken es a b e has = elim (Contains-append_cases taken es e has) [ inl k ↦ a e k | inr k ↦ b e k ]
+
 -- ---- the records of the pass after each step of a sweep
 
 pub accounts_later : (hand : Hand) (gone : List Command) (first : ℕ) (taken : List Entry) (seen more : List Command) → Accounts hand gone first taken seen → Accounts hand gone first taken (seen ++ more)
@@ -156,7 +166,7 @@ begun n hand gone p w count k l some =
         reached = omega (arith, number);
         all = λ e has low before. absurd (omega (arith, before));
       };
-      gathers = record { keeper = k.gathers.keeper; accounts = accounts_later hand gone p.opening.first p.taken p.seen l.between k.gathers.accounts };
+      gathers = record { keeper = k.gathers.keeper; accounts = accounts_later hand gone p.opening.first p.taken p.seen l.between k.gathers.accounts; within = k.gathers.within };
     })
 
 -- TAKE of a stripe that another holds
@@ -165,7 +175,7 @@ missed n sweep hand gone p w i k is = subst (IsBetween n sweep hand gone) (sym i
   free = k.free;
   within = k.within;
   below = record { looked = Contains-append_left p.steps (FoundHeld i ∷ []) (Looked sweep.count) k.below.looked; reached = k.below.reached; all = k.below.all };
-  gathers = record { keeper = k.gathers.keeper; accounts = k.gathers.accounts };
+  gathers = record { keeper = k.gathers.keeper; accounts = k.gathers.accounts; within = k.gathers.within };
 })
 
 -- GIVE of the stripe as it was taken
@@ -182,7 +192,11 @@ put_back n sweep hand gone p w i k r =
         reached = omega (arith, k.below.reached, length-append p.seen x.taken);
         all = taken_later n sweep.count sweep.stripe p.opening.first p.taken (p.taken ++ []) p.seen x.taken k.below.all k.below.reached (λ e has. Contains-append_left p.taken [] e has);
       };
-      gathers = record { keeper = k.gathers.keeper; accounts = subst (λ z. Accounts hand gone p.opening.first z (p.seen ++ x.taken)) nothing (accounts_later hand gone p.opening.first p.taken p.seen x.taken k.gathers.accounts) };
+      gathers = record {
+        keeper = k.gathers.keeper;
+        accounts = subst (λ z. Accounts hand gone p.opening.first z (p.seen ++ x.taken)) nothing (accounts_later hand gone p.opening.first p.taken p.seen x.taken k.gathers.accounts);
+        within = subst (AreWithin p.opening.key_limit) nothing k.gathers.within;
+      };
     })
 
 -- What a sweep of one stripe leaves, whatever stripe comes next.
@@ -218,6 +232,7 @@ drained n sweep old new gone p w es k s g =
       gathers = record {
         keeper = k.gathers.keeper;
         accounts = accounts_more old new gone first p.taken es p.seen seen k.gathers.accounts g (λ e has. grown first p.seen s.between e has) (taken_of_history n sweep.stripe first p.taken es seen x.more is high);
+        within = within_more p.opening.key_limit p.taken es k.gathers.within (taken_within n sweep.stripe first p.opening.key_limit p.taken es (w.seen ++ x.more) x.is x.within);
       };
     })
 
@@ -238,6 +253,7 @@ moved n sweep old new gone w g k = record {
   gathers = record {
     keeper = k.gathers.keeper;
     accounts = subst (λ z. Accounts new gone w.opening.first z w.seen) (append-nil w.taken) (accounts_more old new gone w.opening.first w.taken [] w.seen w.seen k.gathers.accounts g (λ e has. has) (λ e has. absurd (omega (arith, has.1))));
+    within = k.gathers.within;
   };
 }
 

@@ -19,6 +19,7 @@ use Rattle.flusher.specs.declared.keeper.Keeper.{Keeper}
 use Rattle.flusher.specs.Rotating.{IsTold, Logs, MayRotate, Rotates, logs_of}
 use Rattle.flusher.specs.Fitting.{Fits, HoldsFront, IsEmptyIn, IsUnbroken, Stores, done_after, store_of}
 use Rattle.flusher.proofs.Committing.{IsSame, fits_gone}
+use Rattle.flusher.proofs.Keys.{keys_kept}
 use Rattle.flusher.proofs.StoreSteps.{next_goes, next_is_ready}
 use Rattle.flusher.proofs.LogsAfter.{empty_in, stores_on, stores_off}
 use Rattle.flusher.proofs.EndSteps.{rotates, next_works, next_at_moments, gone_after, logs_state}
@@ -91,6 +92,7 @@ header_written {D} states failures honest n done old new p next log phase result
       count = ap (λ (x : LogState). x.count) told.1;
       empty = empty_in new.log.phase old.staged.items r.none_staged;
       rotation = subst (λ (x : Logs). MayRotate x.next x.newest old.staged.items) (sym logs) rotation;
+      keys = keys_kept old.log new.log p (ap (λ (x : LogState). x.version) told.1) f.keys;
       stores = headed_stores states honest n done old new p old.log next then f s.same s.works s.next_is works_on s.staged logs refl refl
           (λ h. next_goes states failures honest (history_of p) (store_of old) old.staged.items old.must_close next log old.disk new.disk phase law s.next_is header (f.stores.works s.works (s.advances.was_honest h)) s.advances);
     })
@@ -123,6 +125,7 @@ header_synced {D} states failures honest n done old new p next log phase result 
       count = ap (λ (x : LogState). x.count) ends;
       empty = empty_in new.log.phase old.staged.items r.none_staged;
       rotation = subst (λ (x : Logs). MayRotate x.next x.newest old.staged.items) (sym logs) rotation;
+      keys = keys_kept old.log new.log p (ap (λ (x : LogState). x.version) ends) f.keys;
       stores = headed_stores states honest n done old new p ending next then f s.same s.works s.next_is works_on s.staged logs refl refl
           (λ h. next_is_ready states failures honest (history_of p) (store_of old) old.staged.items old.must_close next log ending old.disk new.disk phase law s.next_is header refl
           (λ batches staged file k. subst (λ (x : LogState). gate_log.Stands x batches staged file) ends (s.stands batches staged file k)) (f.stores.works s.works (s.advances.was_honest h)) s.advances);
@@ -149,6 +152,7 @@ next_fails {D} states failures honest n done old new p next log e result law f s
       count = ap (λ (x : LogState). x.count) s.told.1;
       empty = subst (λ (x : LogState). IsEmptyIn x.phase old.staged.items) (sym s.told.1) f.counts.empty;
       rotation = subst (λ (x : LogState). MayRotate new.next x old.staged.items) (sym s.told.1) (subst (λ (o : Option LogState). MayRotate o old.log old.staged.items) (sym (s.follows ∙ ap Some s.advances.err.1)) rotation);
+      keys = keys_kept old.log new.log p (ap (λ (x : LogState). x.version) s.told.1) f.keys;
       stores = stores_off states honest old new p failed count items s.advances.was_honest
           (λ h. next_at_moments states failures honest n done old next log new.disk p (Err e) law f s.works s.next_is s.moves h s.advances);
     })

@@ -8,6 +8,7 @@ pub mod Quiet
 pub mod HandedOut
 pub mod Passing
 pub mod Storing
+pub mod Keys
 pub mod FittingKeepers
 pub mod Moments
 pub mod StoreSteps

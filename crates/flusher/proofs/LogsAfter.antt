@@ -34,6 +34,15 @@ ending_same Written log = refl
 ending_same Synced log = refl
 ending_same Opened log = refl
 
+pub version_same : (ph : Phase) (log : LogState) → (log_after ph log).version ≡ log.version
+version_same Idle log = refl
+version_same Header log = refl
+version_same HeaderWritten log = refl
+version_same Staged log = refl
+version_same Written log = refl
+version_same Synced log = refl
+version_same Opened log = refl
+
 pub generation_same : (ph : Phase) (log : LogState) → (log_after ph log).generation ≡ log.generation
 generation_same Idle log = refl
 generation_same Header log = refl

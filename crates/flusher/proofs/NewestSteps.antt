@@ -19,7 +19,8 @@ use Rattle.flusher.specs.Rotating.{MayRotate}
 use Rattle.flusher.specs.Fitting.{Fits, HoldsFront, IsEmptyIn, IsUnbroken, StopsFit, Stores, done_after, store_of}
 use Rattle.flusher.proofs.Committing.{IsSame, fits_committed, fits_gone, state_then}
 use Rattle.flusher.proofs.StoreSteps.{count_same, left_after, log_goes, log_in, log_moments}
-use Rattle.flusher.proofs.LogsAfter.{broken_same, ending_same, staged_count_same, stores_on, stores_off}
+use Rattle.flusher.proofs.Keys.{keys_kept}
+use Rattle.flusher.proofs.LogsAfter.{broken_same, ending_same, staged_count_same, version_same, stores_on, stores_off}
 
 pub log_may : {D : Type 0} (states : D → List Files) (honest : D → Type 0) (n : ℕ) (done : List Command) (keeper : Keeper D) (p : Record) → Fits states honest n done keeper p → keeper.is_broken ≡ false → MayAdvance states honest keeper.log keeper.disk
 log_may {D} states honest n done keeper p f works = λ _ h.
@@ -78,6 +79,7 @@ logged_on {D} states failures honest n done old new p phase law f l other empty 
   count = ap (λ (x : LogState). x.count) l.advances.ok.0 ∙ staged_count_same old.log.phase old.log other;
   empty = subst (λ (x : LogState). IsEmptyIn x.phase old.staged.items) (sym l.advances.ok.0) empty;
   rotation = logged_rotation states failures honest n done old new p phase old.staged.items f l;
+  keys = keys_kept old.log new.log p (ap (λ (x : LogState). x.version) l.advances.ok.0 ∙ version_same old.log.phase old.log) f.keys;
   stores = logged_stores states failures honest n done old new p phase law f l;
 })
 
@@ -167,6 +169,7 @@ log_fails {D} states failures honest n done old new p e law f same works failed 
       count = ap (λ (x : LogState). x.count) log;
       empty = subst (λ (x : LogState). IsEmptyIn x.phase old.staged.items) (sym log) f.counts.empty;
       rotation = subst (λ (x : LogState). MayRotate new.next x old.staged.items) (sym log) rotation;
+      keys = keys_kept old.log new.log p (ap (λ (x : LogState). x.version) log) f.keys;
       stores = stores_off states honest old new p failed count items was moments;
     })
 

@@ -1,5 +1,5 @@
 -- What the calls and releases of a pass leave of its record.
-use Rattle.std.proofs.Common.{◌≡◌, ℕ, ◌+◌, List, [], ◌∷◌, ◌++◌, length, Bool, true, false, Result, Ok, Err, IfOk, IfErr, append-nil, refl, sym, ◌∙◌, ap, subst}
+use Rattle.std.proofs.Common.{◌≡◌, inl, inr, ℕ, ◌+◌, List, [], ◌∷◌, ◌++◌, length, Bool, true, false, Result, Ok, Err, IfOk, IfErr, append-nil, refl, sym, ◌∙◌, ap, subst}
 use Rattle.std.proofs.lemmas.List.{append_assoc}
 use Rattle.java_hash.specs.Stripes.{stripe_of}
 use Rattle.map_types.specs.declared.commands.Command.{Command}
@@ -15,7 +15,7 @@ use Rattle.ticket_order.specs.declared.record.Record.{Record}
 use Rattle.ticket_order.specs.declared.record.StepMade.TheVariants.{Took, FoundHeld, Gave, Drew, Looked, Saw, FoundAlive}
 use Rattle.ticket_order.specs.Records.{answering, drawing, giving, living, looking, missing, seeing, stripe_held, taking}
 use Rattle.ticket_order.specs.StepRules.{Sees, Lives}
-use Rattle.ticket_order.specs.Calls.{FindsFailure, FindsNoFailure, LooksAround, MakesCall, MakesRead, RefusesChange, RefusesRead, walked}
+use Rattle.ticket_order.specs.Calls.{FindsFailure, FindsNoFailure, LooksAround, MakesCall, MakesRead, RefusesChange, RefusesRead, TurnsDown, walked}
 use Rattle.flusher.specs.Fitting.{GoesOnByCalls, IsBeside}
 use Rattle.flusher.proofs.Seeing.{sees_none, sees_then}
 
@@ -130,6 +130,11 @@ refused_change_goes_on v i refusal_type.TooEarly w r = absurd r
 refused_change_goes_on v i refusal_type.NotText w r = absurd r
 refused_change_goes_on v i refusal_type.SeatsSpent w r = absurd r
 
+-- a change whose key is too long leaves the record as it was
+pub turned_down_goes_on : (n : ℕ) (v : Record) (c : Command) (e : Refusal) (w : Record) → TurnsDown n v c e w → GoesOnByCalls v w
+turned_down_goes_on n v c e w (inl long) = at_last v v w (none_goes_on v) long.is
+turned_down_goes_on n v c e w (inr refused) = refused_change_goes_on v (stripe_of n c.key) e w refused.1
+
 pub refused_read_goes_on : (v : Record) (i : ℕ) (e : Refusal) (w : Record) → RefusesRead v i e w → GoesOnByCalls v w
 refused_read_goes_on v i (refusal_type.Busy j) w r = at_last v (missing v i) w (misses v i) r.1
 refused_read_goes_on v i refusal_type.Failed w r = given_back v r.holder w (finds_failure v i r.holder r.before) r.is
@@ -156,8 +161,8 @@ either : (X : Type 0) (A : Held → Type 0) (B : Refusal → Type 0) (result : R
 either X A B (Ok held) ok err f g = f held ok
 either X A B (Err e) ok err f g = g e err
 
-pub change_goes_on : (n : ℕ) (v : Record) (c : Command) (w : Record) (result : Result Held Refusal) → IfOk result (λ held. MakesCall n v c held.position held.reply w) → IfErr result (λ refusal. RefusesChange v (stripe_of n c.key) refusal w) → GoesOnByCalls v w
-change_goes_on n v c w result ok err = either (GoesOnByCalls v w) _ _ result ok err (λ held k. call_goes_on n v c held.position held.reply w k) (λ e r. refused_change_goes_on v _ e w r)
+pub change_goes_on : (n : ℕ) (v : Record) (c : Command) (w : Record) (result : Result Held Refusal) → IfOk result (λ held. MakesCall n v c held.position held.reply w) → IfErr result (λ refusal. TurnsDown n v c refusal w) → GoesOnByCalls v w
+change_goes_on n v c w result ok err = either (GoesOnByCalls v w) _ _ result ok err (λ held k. call_goes_on n v c held.position held.reply w k) (λ e r. turned_down_goes_on n v c e w r)
 
 pub look_goes_on : (n : ℕ) (v : Record) (r : Read) (w : Record) (result : Result Held Refusal) → IfOk result (λ held. MakesRead n v r held.position held.reply w) → IfErr result (λ refusal. RefusesRead v (stripe_of n r.key) refusal w) → GoesOnByCalls v w
 look_goes_on n v r w result ok err = either (GoesOnByCalls v w) _ _ result ok err (λ held k. read_goes_on n v r held.position held.reply w k) (λ e k. refused_read_goes_on v _ e w k)

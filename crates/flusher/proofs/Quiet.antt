@@ -83,7 +83,7 @@ refused_quiet b i refusal.NotText w r = absurd r
 refused_quiet b i refusal.SeatsSpent w r = absurd r
 
 pub by_change : (n : ℕ) (b : Record) (i : ℕ) (s : ChangeStage) (p : Record) → FitsStage n b (ToSweep i) (stage.Change s) p → ⊥
-by_change n b i (change.Begins new) p k = not_change i new.command k.task_is
+by_change n b i (change.Begins new) p k = not_change i new.command k.0.task_is
 by_change n b i (change.HasTaken new t) p k = not_change i new.command k.0.task_is
 by_change n b i (change.IsAlive new t) p k = not_change i new.command k.0.task_is
 by_change n b i (change.IsReady new t prepared) p k = not_change i new.command k.0.task_is

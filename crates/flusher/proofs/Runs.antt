@@ -6,7 +6,8 @@ use Rattle.map_types.specs.declared.commands.Command.{Command}
 use Rattle.ticket_order.specs.declared.stripe.Entry.{Entry}
 use Rattle.ticket_order.specs.Records.{entry}
 use Rattle.ticket_order.specs.Legality.{entries_from}
-use Rattle.log_records.specs.Layout.{first_layout}
+use Rattle.log_records.specs.declared.versions.Version.{Version}
+use Rattle.log_records.specs.Layout.{Layout, layout_of}
 use Rattle.log_records.specs.Spelling.{record_bytes}
 use Rattle.store_layout.specs.Logs.{frame, records_bytes}
 use Rattle.store_layout.proofs.LogLemmas.{length-frame, records_push}
@@ -24,13 +25,13 @@ run_front (x ∷ xs) (y ∷ ys) r s e h =
     let k = run_front xs ys r s tails (omega arith) in
     (k.0, (let t = k.1 in cc), k.2)
 
-records_long : (xs ys : List Command) → length (records_bytes first_layout xs) ≤ length (records_bytes first_layout (xs ++ ys))
-records_long [] ys = omega arith
-records_long (x ∷ xs) ys =
-    omega (arith, records_long xs ys, length-append (record_bytes first_layout x) (records_bytes first_layout xs), length-append (record_bytes first_layout x) (records_bytes first_layout (xs ++ ys)))
+records_long : (layout : Layout) (xs ys : List Command) → length (records_bytes layout xs) ≤ length (records_bytes layout (xs ++ ys))
+records_long layout [] ys = omega arith
+records_long layout (x ∷ xs) ys =
+    omega (arith, records_long layout xs ys, length-append (record_bytes layout x) (records_bytes layout xs), length-append (record_bytes layout x) (records_bytes layout (xs ++ ys)))
 
-pub record_more : (xs : List Command) (x : Command) → length (records_bytes first_layout (xs ++ x ∷ [])) ≡ length (records_bytes first_layout xs) + length (record_bytes first_layout x)
-record_more xs x = ap length (records_push first_layout xs x) ∙ length-append (records_bytes first_layout xs) (record_bytes first_layout x)
+pub record_more : (layout : Layout) (xs : List Command) (x : Command) → length (records_bytes layout (xs ++ x ∷ [])) ≡ length (records_bytes layout xs) + length (record_bytes layout x)
+record_more layout xs x = ap length (records_push layout xs x) ∙ length-append (records_bytes layout xs) (record_bytes layout x)
 
 behind : (xs : List (Option Command)) (c : Command) → get_or xs 0 None ≡ Some c → (s : List (Option Command)) × (xs ≡ Some c ∷ s)
 behind [] c e = (let no : None ≡ Some c = e in cc)
@@ -40,30 +41,30 @@ get_or_behind : (xs ys : List (Option Command)) (n : ℕ) → length xs ≡ n �
 get_or_behind xs ys n is = get_or-append_right xs ys n n None is (omega arith) ∙ ap (λ k. get_or ys k None) (omega arith)
 
 -- How far the search for the longest run has come: so many commands are a run, and their records leave this much room.
-pub record IsFound (hand : Hand) (room : ℕ) (commands : List Command) : Type 0 where
+pub record IsFound (layout : Layout) (hand : Hand) (room : ℕ) (commands : List Command) : Type 0 where
   pub rest : List (Option Command)
   pub slots : hand.slots ≡ map Some commands ++ rest
-  pub filled : length (records_bytes first_layout commands) + room ≡ 1048559
+  pub filled : length (records_bytes layout commands) + room ≡ 1048559
 
-pub found_none : (hand : Hand) → IsFound hand 1048559 []
-found_none hand = record { rest = hand.slots; slots = refl; filled = refl }
+pub found_none : (layout : Layout) (hand : Hand) → IsFound layout hand 1048559 []
+found_none layout hand = record { rest = hand.slots; slots = refl; filled = refl }
 
-fits : (most : ℕ) (hand : Hand) (room : ℕ) (commands : List Command) → IsFound hand room commands → hand.next < 2 ^ 64 → length commands ≤ most_from hand.next most → FitsBatch most hand.next commands
-fits most hand room commands f number few = record {
+fits : (layout : Layout) (most : ℕ) (hand : Hand) (room : ℕ) (commands : List Command) → IsFound layout hand room commands → hand.next < 2 ^ 64 → length commands ≤ most_from hand.next most → FitsBatch layout most hand.next commands
+fits layout most hand room commands f number few = record {
   few = omega arith;
   fits = omega (arith, number, few);
   within = omega arith;
-  short = omega (arith, length-frame first_layout (record { first = hand.next; commands = commands }), f.filled);
+  short = omega (arith, length-frame layout (record { first = hand.next; commands = commands }), f.filled);
 }
 
-pub frame_of_found : (hand : Hand) (room : ℕ) (commands : List Command) (len : ℕ) → IsFound hand room commands → len + room ≡ 1048576 → len ≡ length (frame first_layout (record { first = hand.next; commands = commands }))
-frame_of_found hand room commands len f is = omega (arith, is, f.filled, length-frame first_layout (record { first = hand.next; commands = commands }))
+pub frame_of_found : (layout : Layout) (hand : Hand) (room : ℕ) (commands : List Command) (len : ℕ) → IsFound layout hand room commands → len + room ≡ 1048576 → len ≡ length (frame layout (record { first = hand.next; commands = commands }))
+frame_of_found layout hand room commands len f is = omega (arith, is, f.filled, length-frame layout (record { first = hand.next; commands = commands }))
 
 -- nothing is in the place behind it, or it has as many commands as may be
-pub longest_at_limit : (most : ℕ) (hand : Hand) (room : ℕ) (commands : List Command) → IsFound hand room commands → hand.next < 2 ^ 64 → length commands ≡ most_from hand.next most → IsLongest most hand commands
-longest_at_limit most hand room commands f number few = record {
+pub longest_at_limit : (layout : Layout) (most : ℕ) (hand : Hand) (room : ℕ) (commands : List Command) → IsFound layout hand room commands → hand.next < 2 ^ 64 → length commands ≡ most_from hand.next most → IsLongest layout most hand commands
+longest_at_limit layout most hand room commands f number few = record {
   run = (f.rest, f.slots);
-  fits = fits most hand room commands f number (omega arith);
+  fits = fits layout most hand room commands f number (omega arith);
   longest = λ others run g. omega (arith, few, number, g.few, g.within, g.fits);
 }
 
@@ -74,53 +75,53 @@ beyond commands (c ∷ more) s slots e h =
     (c, more, refl, ap (λ z. get_or z (length commands) None) e ∙ get_or_at (map Some commands) (Some c) (map Some more ++ s) None (length commands) (length-map commands Some))
 
 -- a longer run has the command that stands behind this one
-longer : (hand : Hand) (room : ℕ) (commands others : List Command) → IsFound hand room commands → IsRun hand others → length commands < length others
+longer : (layout : Layout) (hand : Hand) (room : ℕ) (commands others : List Command) → IsFound layout hand room commands → IsRun hand others → length commands < length others
     → (c : Command) × (more : List Command) × (others ≡ commands ++ c ∷ more) × (get_or hand.slots (length commands) None ≡ Some c)
-longer hand room commands others f run long =
+longer layout hand room commands others f run long =
     let k = run_front commands others f.rest run.0 (sym f.slots ∙ run.1) (omega arith) in
     let some : 0 < length k.0 = omega (arith, long, ap length k.1, length-append commands k.0) in
     let b = beyond commands k.0 run.0 hand.slots (f.slots ∙ ap (λ z. map Some commands ++ z) k.2) some in
     (b.0, b.1, k.1 ∙ ap (λ z. commands ++ z) b.2, b.3)
 
 -- the place behind it is empty
-pub longest_at_gap : (most : ℕ) (hand : Hand) (room : ℕ) (commands : List Command) → IsFound hand room commands → hand.next < 2 ^ 64 → length commands ≤ most_from hand.next most → get_or hand.slots (length commands) None ≡ None
-    → IsLongest most hand commands
-longest_at_gap most hand room commands f number few gap = record {
+pub longest_at_gap : (layout : Layout) (most : ℕ) (hand : Hand) (room : ℕ) (commands : List Command) → IsFound layout hand room commands → hand.next < 2 ^ 64 → length commands ≤ most_from hand.next most → get_or hand.slots (length commands) None ≡ None
+    → IsLongest layout most hand commands
+longest_at_gap layout most hand room commands f number few gap = record {
   run = (f.rest, f.slots);
-  fits = fits most hand room commands f number few;
+  fits = fits layout most hand room commands f number few;
   longest = λ others run g. elim (cases_lt (length commands) (length others)) [
-    | inl more ↦ (let k = longer hand room commands others f run more in let no : None ≡ Some k.0 = sym gap ∙ k.3 in cc)
+    | inl more ↦ (let k = longer layout hand room commands others f run more in let no : None ≡ Some k.0 = sym gap ∙ k.3 in cc)
     | inr short ↦ short
   ];
 }
 
 -- the record of the command behind it has no room
-pub longest_at_size : (most : ℕ) (hand : Hand) (room : ℕ) (commands : List Command) (c : Command) → IsFound hand room commands → hand.next < 2 ^ 64 → length commands ≤ most_from hand.next most
-    → get_or hand.slots (length commands) None ≡ Some c → room < length (record_bytes first_layout c) → IsLongest most hand commands
-longest_at_size most hand room commands c f number few there full = record {
+pub longest_at_size : (layout : Layout) (most : ℕ) (hand : Hand) (room : ℕ) (commands : List Command) (c : Command) → IsFound layout hand room commands → hand.next < 2 ^ 64 → length commands ≤ most_from hand.next most
+    → get_or hand.slots (length commands) None ≡ Some c → room < length (record_bytes layout c) → IsLongest layout most hand commands
+longest_at_size layout most hand room commands c f number few there full = record {
   run = (f.rest, f.slots);
-  fits = fits most hand room commands f number few;
+  fits = fits layout most hand room commands f number few;
   longest = λ others run g. elim (cases_lt (length commands) (length others)) [
     | inl more ↦ (
-        let k = longer hand room commands others f run more in
+        let k = longer layout hand room commands others f run more in
         let same : c ≡ k.0 = (let j : Some c ≡ Some k.0 = sym there ∙ k.3 in cc) in
         let split : others ≡ (commands ++ k.0 ∷ []) ++ k.1 = k.2 ∙ sym (append_assoc commands (k.0 ∷ []) k.1) in
-        let long : length (records_bytes first_layout (commands ++ k.0 ∷ [])) ≤ length (records_bytes first_layout others) = subst (λ z. length (records_bytes first_layout (commands ++ k.0 ∷ [])) ≤ length (records_bytes first_layout z)) (sym split) (records_long (commands ++ k.0 ∷ []) k.1) in
-        let big : room < length (record_bytes first_layout k.0) = subst (λ z. room < length (record_bytes first_layout z)) same full in
-        absurd (omega (arith, long, big, f.filled, g.short, record_more commands k.0, length-frame first_layout (record { first = hand.next; commands = others })))
+        let long : length (records_bytes layout (commands ++ k.0 ∷ [])) ≤ length (records_bytes layout others) = subst (λ z. length (records_bytes layout (commands ++ k.0 ∷ [])) ≤ length (records_bytes layout z)) (sym split) (records_long layout (commands ++ k.0 ∷ []) k.1) in
+        let big : room < length (record_bytes layout k.0) = subst (λ z. room < length (record_bytes layout z)) same full in
+        absurd (omega (arith, long, big, f.filled, g.short, record_more layout commands k.0, length-frame layout (record { first = hand.next; commands = others })))
         )
     | inr short ↦ short
   ];
 }
 
-pub found_more : (hand : Hand) (room : ℕ) (commands : List Command) (c : Command) (len : ℕ) → IsFound hand room commands → get_or hand.slots (length commands) None ≡ Some c
-    → len ≡ length (record_bytes first_layout c) → len ≤ room → IsFound hand (room - len) (commands ++ c ∷ [])
-found_more hand room commands c len f there is small =
+pub found_more : (layout : Layout) (hand : Hand) (room : ℕ) (commands : List Command) (c : Command) (len : ℕ) → IsFound layout hand room commands → get_or hand.slots (length commands) None ≡ Some c
+    → len ≡ length (record_bytes layout c) → len ≤ room → IsFound layout hand (room - len) (commands ++ c ∷ [])
+found_more layout hand room commands c len f there is small =
     let rest : (s : List (Option Command)) × (f.rest ≡ Some c ∷ s) = behind f.rest c (sym (get_or_behind (map Some commands) f.rest (length commands) (length-map commands Some)) ∙ sym (ap (λ z. get_or z (length commands) None) f.slots) ∙ there) in
     record {
       rest = rest.0;
       slots = f.slots ∙ ap (λ z. map Some commands ++ z) rest.1 ∙ sym (append_assoc (map Some commands) (Some c ∷ []) rest.0) ∙ ap (λ z. z ++ rest.0) (sym (map-append Some commands (c ∷ [])));
-      filled = omega (arith, f.filled, record_more commands c);
+      filled = omega (arith, f.filled, record_more layout commands c);
     }
 
 -- the command in place i of a run
@@ -177,12 +178,15 @@ same_run hand xs ys a b long =
     k.1 ∙ ap (λ z. xs ++ z) none_ ∙ append-nil xs
 
 -- the longest run doesn't carry the log past its greatest length, so no longest run does
-pub not_full : (most : ℕ) (log : LogState) (hand : Hand) (commands : List Command) (len : ℕ) → IsLongest most hand commands → hand.next ≡ log.committed
-    → len ≡ length (frame first_layout (record { first = hand.next; commands = commands })) → log.gate + 1 + len + 1 ≤ 2 ^ 40 → IsFull most log hand → ⊥
-not_full most log hand commands len l next is low full =
+pub not_full : (version : Version) (most : ℕ) (log : LogState) (hand : Hand) (commands : List Command) (len : ℕ) → version ≡ log.version → IsLongest (layout_of version) most hand commands → hand.next ≡ log.committed
+    → len ≡ length (frame (layout_of version) (record { first = hand.next; commands = commands })) → log.gate + 1 + len + 1 ≤ 2 ^ 40 → IsFull most log hand → ⊥
+not_full version most log hand commands len of_log longest next is low full =
+    let layout = layout_of log.version in
+    let l : IsLongest layout most hand commands = subst (λ (v : Version). IsLongest (layout_of v) most hand commands) of_log longest in
     let long : length commands ≡ length full.commands = omega (arith, l.longest full.commands full.longest.run full.longest.fits, full.longest.longest commands l.run l.fits) in
     let same : full.commands ≡ commands = same_run hand commands full.commands l.run full.longest.run long in
-    let big : 2 ^ 40 < log.gate + 1 + length (frame first_layout (record { first = log.committed; commands = commands })) + 1 =
-    subst (λ (z : List Command). 2 ^ 40 < log.gate + 1 + length (frame first_layout (record { first = log.committed; commands = z })) + 1) same full.too_long in
-    let there : len ≡ length (frame first_layout (record { first = log.committed; commands = commands })) = is ∙ ap (λ (t : ℕ). length (frame first_layout (record { first = t; commands = commands }))) next in
+    let big : 2 ^ 40 < log.gate + 1 + length (frame layout (record { first = log.committed; commands = commands })) + 1 =
+    subst (λ (z : List Command). 2 ^ 40 < log.gate + 1 + length (frame layout (record { first = log.committed; commands = z })) + 1) same full.too_long in
+    let there : len ≡ length (frame layout (record { first = log.committed; commands = commands })) =
+    is ∙ ap (λ (v : Version). length (frame (layout_of v) (record { first = hand.next; commands = commands }))) of_log ∙ ap (λ (t : ℕ). length (frame layout (record { first = t; commands = commands }))) next in
     omega (arith, big, there, low)

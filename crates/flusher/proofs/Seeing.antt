@@ -105,7 +105,7 @@ stage_known n b i (stage.Sweep (sweep_stage.HasTaken alloc t)) p one k =
         rises = rises_known b p (past t.content.outbox.items) (ap (λ (r : Record). r.opening) x.is) x.rises;
         last = x.last;
         ends = x.ends;
-        collects = λ keeps. record { more = (x.collects keeps).more; is = (x.collects keeps).is };
+        collects = λ keeps. record { more = (x.collects keeps).more; is = (x.collects keeps).is; within = (x.collects keeps).within };
       };
     }
 stage_known n b i (stage.Capture s) p one k = absurd (by_capture n b i s p k)

@@ -137,5 +137,5 @@ stands_staged n old new gone commands p k rests at run s w h =
     (subst (λ x. Sweeping.StandsBy n old.sweep Rests x (gone ++ commands) p) (sym h) (at_rest old.sweep (subst (λ x. Sweeping.StandsBy n old.sweep x old.in_hand gone p) rests k))))
   where
     at_rest : (o : Option Sweep) → Sweeping.StandsBy n o Rests old.in_hand gone p → Sweeping.StandsBy n o Rests (record old.in_hand { slots = replicate (length commands) None ++ drop (length commands) old.in_hand.slots }) (gone ++ commands) p
-    at_rest None j = record { free = j.free; gathers = record { keeper = j.gathers.keeper; accounts = accounts_staged old.in_hand gone commands p.opening.first p.taken p.seen j.gathers.accounts at run } }
-    at_rest (Some sweep) j = record { free = j.free; within = j.within; below = j.below; gathers = record { keeper = j.gathers.keeper; accounts = accounts_staged old.in_hand gone commands p.opening.first p.taken p.seen j.gathers.accounts at run } }
+    at_rest None j = record { free = j.free; gathers = record { keeper = j.gathers.keeper; accounts = accounts_staged old.in_hand gone commands p.opening.first p.taken p.seen j.gathers.accounts at run; within = j.gathers.within } }
+    at_rest (Some sweep) j = record { free = j.free; within = j.within; below = j.below; gathers = record { keeper = j.gathers.keeper; accounts = accounts_staged old.in_hand gone commands p.opening.first p.taken p.seen j.gathers.accounts at run; within = j.gathers.within } }

@@ -44,7 +44,7 @@ stores_seen {D} states honest keeper p w stands stops o m k =
     }
 
 -- a directory was opened
-pub holds_found : (p : Record) (sealed : ℕ) (log : LogState) (must_close : Bool) (files : Files) → OpenedStands → log ≡ resumed log.generation log.low log.gate log.committed → IsFoundFor p sealed log must_close files
+pub holds_found : (p : Record) (sealed : ℕ) (log : LogState) (must_close : Bool) (files : Files) → OpenedStands → log ≡ resumed log.version log.generation log.low log.gate log.committed → IsFoundFor p sealed log must_close files
     → HoldsFront (history_of p) (record { sealed = sealed; log = log; next = None; writer = None }) [] must_close files
 holds_found p sealed log must_close files stands is f = record {
   held = record { found = f.found; staged = []; other = f.contents (checkpoint_file (f.found.checkpoint.generation + 1)); sections = [] };

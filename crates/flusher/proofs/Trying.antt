@@ -30,12 +30,12 @@ use Rattle.flusher.specs.declared.sweeper.Swept.TheVariants.{More, Done}
 use Rattle.flusher.specs.declared.sweeper.Sweeper.{Sweeper}
 use Rattle.store_layout.specs.Hands.{Hand}
 use Rattle.flusher.specs.HandSteps.{SameEntries}
-use Rattle.flusher.specs.Gathering.{Accounts, Gathers, HasSweptBelow, Collects}
+use Rattle.flusher.specs.Gathering.{Accounts, AreWithin, Gathers, HasSweptBelow, Collects}
 use Rattle.flusher.specs.Sweeping.{Stands, StandsBy, StepsOn}
 use Rattle.flusher.specs.KeeperSteps.{SweepsOnce, StaysAt, is_walking}
 use Rattle.flusher.specs.Fitting.{Fits}
 use Rattle.ticket_order.proofs.Entries.{grown}
-use Rattle.flusher.proofs.Gathered.{accounts_more, accounts_later, taken_later, taken_of_history, low_enough}
+use Rattle.flusher.proofs.Gathered.{accounts_more, accounts_later, taken_later, taken_of_history, taken_within, within_more, low_enough}
 use Rattle.flusher.proofs.Passing.{collects_same}
 use Rattle.flusher.proofs.Quiet.{sweeps_quiet, refuses_quiet}
 use Rattle.flusher.proofs.FittingKeepers.{fits_swept}
@@ -60,6 +60,7 @@ brought n i old new gone p w o =
       gathers = λ k. record {
         keeper = k.keeper;
         accounts = accounts_more old new gone first p.taken es p.seen seen k.accounts o.collects (λ e has. grown first p.seen s.between e has) (taken_of_history n i first p.taken es seen x.more is high);
+        within = within_more p.opening.key_limit p.taken es k.within (taken_within n i first p.opening.key_limit p.taken es (w.seen ++ x.more) x.is x.within);
       };
       below = λ count stripe k. record {
         looked = Contains-append_left (p.steps ++ Took i es s.last ∷ []) (Gave i ∷ []) (Looked count) (Contains-append_left p.steps (Took i es s.last ∷ []) (Looked count) k.looked);
@@ -116,12 +117,14 @@ seen_on hand gone p w l k = record {
   keeper = l.keeper ∙ k.keeper;
   accounts = subst (λ (o : Opening). Accounts hand gone o.first w.taken w.seen) (sym l.opening) (subst (λ (es : List Entry). Accounts hand gone p.opening.first es w.seen) (sym l.taken)
       (subst (λ (s : List Command). Accounts hand gone p.opening.first p.taken s) (sym l.seen) (accounts_later hand gone p.opening.first p.taken p.seen l.more k.accounts)));
+  within = subst (λ (o : Opening). AreWithin o.key_limit w.taken) (sym l.opening) (subst (AreWithin p.opening.key_limit) (sym l.taken) k.within);
 }
 
 none_more : (old new : Hand) (gone : List Command) (p : Record) → Collects old [] new → Gathers old gone p → Gathers new gone p
 none_more old new gone p g k = record {
   keeper = k.keeper;
   accounts = subst (λ z. Accounts new gone p.opening.first z p.seen) (append-nil p.taken) (accounts_more old new gone p.opening.first p.taken [] p.seen p.seen k.accounts g (λ e has. has) (λ e has. absurd (omega (arith, has.1))));
+  within = k.within;
 }
 
 pub left_alone : (n i : ℕ) (e : Refusal) (old new : Hand) (gone : List Command) (p w : Record) → p.holding ≡ None → RefusesSweep p i e w → Collects old [] new → Brings n old new gone p w

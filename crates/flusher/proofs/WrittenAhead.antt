@@ -1,5 +1,5 @@
 -- What holds of a keeper once zeros are written ahead.
-use Rattle.std.proofs.Common.{◌≡◌, ◌⊎◌, inl, inr, ℕ, List, length, Option, Some, None, Bool, true, false, Result, Ok, Err, OnOk, IfErr, refl, sym, ◌∙◌, ap, subst}
+use Rattle.std.proofs.Common.{◌≡◌, ◌⊎◌, inl, inr, ℕ, List, Option, Some, None, Bool, true, false, Result, Ok, Err, OnOk, IfErr, sym, ◌∙◌, ap, subst}
 use Rattle.disk_model.specs.Files.{Files, now}
 use Rattle.disk_model.specs.Moments.{AtEachMoment}
 use Rattle.map_types.specs.declared.commands.Command.{Command}
@@ -20,6 +20,7 @@ use Rattle.flusher.proofs.NewestSteps.{log_fails}
 use Rattle.flusher.proofs.EndSteps.{turn_same}
 use Rattle.flusher.proofs.Advancing.{same_hand, still_moments}
 use Rattle.flusher.proofs.Committing.{IsSame, fits_gone, stops_by}
+use Rattle.flusher.proofs.Keys.{keys_kept}
 use Rattle.flusher.proofs.StoreSteps.{ahead_goes, kept_moments}
 
 -- other zeros are to be written
@@ -38,6 +39,7 @@ fits_with {D} states honest n done keeper count p f = record {
   tells = record { published = f.tells.published; durable = f.tells.durable; failed = f.tells.failed };
   stripes = record { count = f.stripes.count; writer = f.stripes.writer };
   rotation = f.rotation;
+  keys = f.keys;
   stores = record { unbroken = f.stores.unbroken; works = f.stores.works; stopped = f.stores.stopped };
 }
 
@@ -92,6 +94,7 @@ module _ {D : Type 0} (states : D → List Files) (failures : D → ℕ) (honest
         count = ap (λ (x : LogState). x.count) log;
         empty = subst (λ (x : LogState). IsEmptyIn x.phase old.staged.items) (sym log) f.counts.empty;
         rotation = subst (λ (x : LogState). MayRotate new.next x old.staged.items) (sym log) (subst (λ (o : Option LogState). MayRotate o old.log old.staged.items) (sym (ap (λ (k : Keeper D). k.next) is)) f.rotation);
+        keys = keys_kept old.log new.log p (ap (λ (x : LogState). x.version) log) f.keys;
         stores = stores_on states honest new p s.ok (subst (λ (x : StoreState). IsUnbroken x) (sym state) (f.stores.unbroken s.works))
             (λ h. subst (λ (k : Keeper D). HoldsFor (history_of p) k (now (states new.disk))) (sym is) (holds h));
       })

@@ -9,6 +9,7 @@ use Rattle.ticket_order.specs.declared.stripe.Entry.{Entry}
 use Rattle.ticket_order.specs.declared.record.Record.{Record}
 use Rattle.ticket_order.specs.declared.record.StepMade.{StepMade}
 use Rattle.ticket_order.specs.Legality.{entries_from, history_of}
+use Rattle.log_records.specs.Layout.{layout_of}
 use Rattle.store_layout.specs.Checkpoints.{checkpoint_file, is_to_close}
 use Rattle.store_layout.specs.Logs.{Batch, log_file}
 use Rattle.store_layout.specs.Opening.{Opened as FoundStore, Holds, map_of, newest_of, prefix_of}
@@ -87,6 +88,10 @@ pub record Stores {D : Type 0} (states : D → List Files) (honest : D → Type 
   pub works : keeper.is_broken ≡ false → honest keeper.disk → HoldsFor (history_of p) keeper (now (states keeper.disk))
   pub stopped : keeper.is_broken ≡ true → honest keeper.disk → StopsFit (history_of p) keeper (now (states keeper.disk))
 
+-- a record of this log may have each key that is within the limit of the pass's life
+abbrev pub AllowsKeys : LogState → Record → Type 0
+AllowsKeys log p = p.opening.key_limit ≤ (layout_of log.version).key_limit
+
 -- The keeper over n stripes, and the record of its pass; the commands of `done` were committed since the pass's opening.
 pub record Fits {D : Type 0} (states : D → List Files) (honest : D → Type 0) (n : ℕ) (done : List Command) (keeper : Keeper D) (p : Record) : Type 0 where
   pub stands : Stands n keeper.sweeper (done ++ commands_of keeper.staged.items) p
@@ -94,6 +99,7 @@ pub record Fits {D : Type 0} (states : D → List Files) (honest : D → Type 0)
   pub tells : Tells keeper p
   pub stripes : HasStripes n keeper
   pub rotation : MayRotate keeper.next keeper.log keeper.staged.items
+  pub keys : AllowsKeys keeper.log p
   pub stores : Stores states honest keeper p
 
 -- what is committed after a step of the log
@@ -101,9 +107,11 @@ abbrev pub done_after : Result Phase Refusal → Phase → List Command → List
 done_after (Ok next) Opened done staged = done ++ commands_of staged
 done_after result phase done staged = done
 
--- the record of a keeper's pass that has made no call of the keeper
-pub record IsUnused (first : ℕ) (p : Record) : Type 0 where
+-- The record of a keeper's pass that has made no call of the keeper. Its life begins after `first` commands, and has
+-- this limit for keys.
+pub record IsUnused (first key_limit : ℕ) (p : Record) : Type 0 where
   pub opening : p.opening.first ≡ first
+  pub limit : p.opening.key_limit ≡ key_limit
   pub keeper : p.keeper ≡ true
   pub free : p.holding ≡ None
   pub none_taken : p.taken ≡ []

@@ -6,7 +6,7 @@ use Rattle.map_types.specs.declared.commands.Command.{Command}
 use Rattle.ticket_order.specs.declared.stripe.Entry.{Entry}
 use Rattle.ticket_order.specs.declared.record.Record.{Record}
 use Rattle.ticket_order.specs.declared.record.StepMade.TheVariants.{Looked}
-use Rattle.ticket_order.specs.Records.{entry, reach}
+use Rattle.ticket_order.specs.Records.{IsWithin, entry, reach}
 use Rattle.ticket_order.specs.Legality.{entries_from}
 use Rattle.store_layout.specs.Hands.{Hand, Holds}
 
@@ -20,11 +20,16 @@ pub record Accounts (hand : Hand) (gone : List Command) (first : ℕ) (taken : L
   pub held : (t : ℕ) (c : Command) → Holds hand t c → Contains taken (entry t c)
   pub known : (e : Entry) → Contains taken e → Contains (entries_from first seen) e
 
+-- the key of each of these entries is within the limit
+abbrev pub AreWithin : ℕ → List Entry → Type 0
+AreWithin limit entries = (e : Entry) → Contains entries e → IsWithin limit e.command
+
 -- The sweeps of the keeper's pass took exactly the entries of `gone`, from the opening on, which are no longer in hand, and the entries in
--- hand. All of them are entries of the one history.
+-- hand. All of them are entries of the one history, and their keys are within the limit of this life.
 pub record Gathers (hand : Hand) (gone : List Command) (p : Record) : Type 0 where
   pub keeper : p.keeper ≡ true
   pub accounts : Accounts hand gone p.opening.first p.taken p.seen
+  pub within : AreWithin p.opening.key_limit p.taken
 
 -- all entries of `seen` that are below the count, and of the stripes before this one, of n, were taken
 abbrev pub AreTaken : ℕ → ℕ → ℕ → ℕ → List Entry → List Command → Type 0

@@ -3,7 +3,7 @@ use Rattle.std.specs.Prelude.{◌≡◌, ℕ, ◌+◌, ◌<◌, ◌≤◌, Bool,
 use Rattle.map_types.specs.declared.commands.Command.{Command}
 use Rattle.map_types.specs.declared.refusals.Refusal.{Refusal}
 use Rattle.ticket_order.specs.Legality.{entries_from}
-use Rattle.log_records.specs.Layout.{first_layout}
+use Rattle.log_records.specs.Layout.{layout_of}
 use Rattle.store_layout.specs.Logs.{frame, most_log_bytes}
 use Rattle.gate_log.specs.States.{LogState, IsResting, batch_of}
 use Rattle.ticket_order.specs.declared.stripe.Entry.{Entry}
@@ -43,7 +43,7 @@ committed_by result phase staged = 0
 -- these commands were staged as one batch, and taken out of their places
 pub record Stages (commands : List Command) (old : LogState) (hand : Hand) (new : LogState) (left : Hand) (staged : List Entry) : Type 0 where
   pub entries : staged ≡ entries_from hand.next commands
-  pub log : new ≡ record old { phase = Staged; count = length staged; frame = frame first_layout (batch_of old.committed staged) ++ 0 ∷ [] }
+  pub log : new ≡ record old { phase = Staged; count = length staged; frame = frame (layout_of old.version) (batch_of old.committed staged) ++ 0 ∷ [] }
   pub hand_is : left ≡ record hand { slots = replicate (length commands) None ++ drop (length commands) hand.slots }
 
 -- a batch may be staged: the log rests, and none is to follow it
@@ -52,12 +52,12 @@ MayStage log next = IsResting log × (next ≡ None)
 
 -- a batch of these commands would carry the log past its greatest length
 abbrev pub is_too_long : LogState → List Command → Type 0
-is_too_long log commands = most_log_bytes < log.gate + 1 + length (frame first_layout (record { first = log.committed; commands = commands })) + 1
+is_too_long log commands = most_log_bytes < log.gate + 1 + length (frame (layout_of log.version) (record { first = log.committed; commands = commands })) + 1
 
 -- there is something to stage, and it would
 pub record IsFull (most : ℕ) (log : LogState) (hand : Hand) : Type 0 where
   pub commands : List Command
-  pub longest : IsLongest most hand commands
+  pub longest : IsLongest (layout_of log.version) most hand commands
   pub some : 1 ≤ length commands
   pub too_long : is_too_long log commands
 

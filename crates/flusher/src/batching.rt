@@ -1,7 +1,10 @@
 //! How a keeper stages batches.
 ghost use Rattle.std.specs.Prelude.{◌≡◌, ◌⊎◌, ◌↔◌, ◌||◌, ◌<◌, ◌≤◌, ℕ, List, is_some, [], ◌∷◌, length, true, false, Result, Ok, IfOk, IfErr, OnOk, OnErr};
+ghost use Rattle.std.specs.List.{All};
 ghost use Rattle.map_types.specs.declared.commands.Command.{Command};
 ghost use Rattle.ticket_order.specs.declared.record.Record.{Record};
+ghost use Rattle.ticket_order.specs.Records.{IsWithin};
+ghost use Rattle.log_records.specs.Layout.{layout_of};
 ghost use Rattle.gate_log.specs.States.{IsResting, batch_of};
 ghost use Rattle.gate_log.specs.LogStates as log;
 ghost use Rattle.disk_model.specs.Files.{File};
@@ -21,10 +24,14 @@ use store_layout::MOST_LOG_BYTES;
 impl<D: Disk> Keeper<D> {
     // Stages the first `count` commands. If that is refused, the same entries are in hand.
     fn stage_run(&mut self, count: u32) -> Result<(), Refusal>
-        // `count` commands in hand may be the next batch, and the log rests.
+        // `count` commands in hand may be the next batch, of keys that the log
+        // allows, and the log rests.
         requires run { (commands : List Command) × IsRun self.old.sweeper.in_hand commands
-            × (length commands ≡ count) × FitsBatch count self.old.log.committed commands
+            × (length commands ≡ count)
+            × FitsBatch (layout_of self.old.log.version) count self.old.log.committed commands
             × (is_too_long self.old.log commands → ⊥) }
+        requires keys { (commands : List Command) → IsRun self.old.sweeper.in_hand commands
+            → All (IsWithin (layout_of self.old.log.version).key_limit) commands }
         requires some { 1 ≤ count }
         requires next { self.old.sweeper.in_hand.next ≡ self.old.log.committed }
         requires resting { IsResting self.old.log }
@@ -89,7 +96,8 @@ impl<D: Disk> Keeper<D> {
 
         // Else the longest run that fits a batch is staged, or nothing if none.
         ensures ok { IfOk result (λ count. (commands : List Command)
-            × IsLongest most self.old.sweeper.in_hand commands × (count ≡ length commands)
+            × IsLongest (layout_of self.old.log.version) most self.old.sweeper.in_hand commands
+            × (count ≡ length commands)
             × (count ≡ 0 → self.new ≡ self.old)
             × (1 ≤ count → Stages commands self.old.log self.old.sweeper.in_hand self.new.log
             self.new.sweeper.in_hand self.new.staged.items)) }
@@ -115,7 +123,7 @@ impl<D: Disk> Keeper<D> {
             return Err(Refusal::WrongPhase);
         }
         steps_of_logs();
-        let run = self.sweeper.in_hand.longest_run(most);
+        let run = self.sweeper.in_hand.longest_run(self.log.version(), most);
         if run.count == 0 {
             return Ok(0);
         }

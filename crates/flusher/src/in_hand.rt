@@ -4,7 +4,7 @@ ghost use Rattle.std.specs.Option.{option_copied};
 ghost use Rattle.std.specs.List.{All};
 ghost use Rattle.map_types.specs.declared.commands.Command.{Command};
 ghost use Rattle.ticket_order.specs.Legality.{entries_from};
-ghost use Rattle.log_records.specs.Layout.{first_layout};
+ghost use Rattle.log_records.specs.Layout.{layout_of};
 ghost use Rattle.store_layout.specs.Logs.{frame, most_frame_bytes};
 ghost use Rattle.store_layout.specs.Hands.{Hand, most_from, IsRun, IsLongest};
 ghost use Rattle.flusher.specs.HandSteps.{MakesRoom, Gains};
@@ -35,8 +35,6 @@ pub struct InHand {
 }
 
 impl Model for InHand {
-    ghost use Rattle.log_records.specs.Layout.{first_layout};
-    ghost use Rattle.store_layout.specs.Logs.{frame};
     ghost use Rattle.store_layout.specs.Hands.{Hand};
 
     ghost Value = { Hand };
@@ -136,11 +134,11 @@ impl InHand {
         (most.min(MOST_RECORDS as u32) as u64).min(left) as u32
     }
 
-    /// The longest run from the first place on that may be one batch.
-    pub fn longest_run(&self, most: u32) -> Run
-        ensures { (commands : List Command) × IsLongest most self.now commands
+    /// The longest run from the first place on that may be one batch of a log of this version.
+    pub fn longest_run(&self, version: Version, most: u32) -> Run
+        ensures { (commands : List Command) × IsLongest (layout_of version) most self.now commands
             × (result.count ≡ length commands)
-            × (result.frame_len ≡ length (frame first_layout
+            × (result.frame_len ≡ length (frame (layout_of version)
             (record { first = self.now.next; commands = commands }))) }
     {
         let limit = self.most_of(most);
@@ -149,7 +147,7 @@ impl InHand {
             let Some(command) = self.command_at(index as usize) else {
                 return run_of(index, room);
             };
-            let len = record_len(Version::First, command);
+            let len = record_len(version, command);
             if room < len {
                 return run_of(index, room);
             }

@@ -18,6 +18,7 @@ ghost use Rattle.map_types.specs.declared.commands.Command.{Command};
 ghost use Rattle.ticket_order.specs.declared.record.Record.{Record};
 ghost use Rattle.ticket_order.specs.Records.{failing, publishing};
 ghost use Rattle.ticket_order.specs.Walks.{MakesOne, Durable, Fail};
+ghost use Rattle.log_records.specs.Layout.{layout_of};
 ghost use Rattle.gate_log.specs.States.{resumed};
 ghost use Rattle.gate_log.specs.LogStates as log;
 ghost use Rattle.disk_model.specs.Files.{now};
@@ -95,8 +96,9 @@ impl<D: Disk> Keeper<D> {
         ensures published { result.published ≡ log.committed }
 
         // The invariant begins, if the files were found so and the pass unused.
-        ensures fits { (p : Record) → log ≡ resumed log.generation log.low log.gate log.committed
-            → IsUnused log.committed p
+        ensures fits { (p : Record)
+            → log ≡ resumed log.version log.generation log.low log.gate log.committed
+            → IsUnused log.committed (layout_of log.version).key_limit p
             → (D.honest disk → IsFoundFor p sealed log must_close (now (D.states disk)))
             → Fits D.states D.honest stripes.count [] result p }
     {

@@ -3,6 +3,7 @@ use Rattle.map_types.specs.declared.refusals.Refusal.{Refusal}
 use Rattle.map_types.specs.declared.refusals.Refusal.TheVariants.{LogFull, NoMemory}
 use Rattle.gate_log.specs.States.{IsResting}
 use Rattle.flusher.proofs.Runs.{not_full}
+use Rattle.flusher.proofs.FittingKeepers.{run_allowed}
 use Rattle.flusher.proofs.Committing.{fits_staged, fits_same}
 use Rattle.flusher.proofs.keeper.Keeper.stage_batch.Goals as goal
 
@@ -27,9 +28,12 @@ returns-in-Err-clause-fits g c = λ n done p f.
 pub returns-in-Ok-clause-full : goal.returns-in-Ok-clause-full
 returns-in-Ok-clause-full g c =
     let run = c.longest_run-run.ensures in
-    (λ e. absurd (no_ok _ e), λ k. absurd (not_full c.args.most c.args.self.now.log c.args.self.now.sweeper.in_hand run.0 c.longest_run-run.result.frame_len run.1 c.requires.3.counts.next run.3 (omega (arith, c.if-gate-run.false, c.gate-gate.ensures.place, run.1.fits.short, run.3)) k.2))
+    (λ e. absurd (no_ok _ e), λ k. absurd (not_full c.version.result c.args.most c.args.self.now.log c.args.self.now.sweeper.in_hand run.0 c.longest_run-run.result.frame_len c.version.ensures run.1 c.requires.3.counts.next run.3 (omega (arith, c.if-gate-run.false, c.gate-gate.ensures.place, run.1.fits.short, run.3)) k.2))
 
 pub returns-in-Err-clause-full : goal.returns-in-Err-clause-full
 returns-in-Err-clause-full g c =
     let run = c.longest_run-run.ensures in
-    (λ e. absurd (not_this _ c.in-Err.ensures.no_other e), λ k. absurd (not_full c.args.most c.args.self.now.log c.args.self.now.sweeper.in_hand run.0 c.longest_run-run.result.frame_len run.1 c.requires.3.counts.next run.3 (omega (arith, c.if-gate-run.false, c.gate-gate.ensures.place, run.1.fits.short, run.3)) k.2))
+    (λ e. absurd (not_this _ c.in-Err.ensures.no_other e), λ k. absurd (not_full c.version.result c.args.most c.args.self.now.log c.args.self.now.sweeper.in_hand run.0 c.longest_run-run.result.frame_len c.version.ensures run.1 c.requires.3.counts.next run.3 (omega (arith, c.if-gate-run.false, c.gate-gate.ensures.place, run.1.fits.short, run.3)) k.2))
+
+pub stage_run-requires-clause-keys : goal.stage_run-requires-clause-keys
+stage_run-requires-clause-keys g c = run_allowed g.D.Disk.states g.D.Disk.honest c.requires.0 c.requires.1 c.args.self.now c.requires.2 c.requires.3

@@ -1,8 +1,10 @@
 use Rattle.std.proofs.Common.{◌≡◌, ◌≤◌, ◌<◌, ◌^◌, ◌+◌, inl, inr, Err, ◌++◌, length, drop, replicate, None, subst, sym, ap, ◌∙◌, arith, refl, ℕ, List}
+use Rattle.std.specs.List.{All}
 use Rattle.map_types.specs.declared.commands.Command.{Command}
 use Rattle.ticket_order.specs.declared.stripe.Entry.{Entry}
+use Rattle.ticket_order.specs.Records.{IsWithin}
 use Rattle.ticket_order.specs.Legality.{entries_from}
-use Rattle.log_records.specs.Layout.{first_layout}
+use Rattle.log_records.specs.Layout.{layout_of}
 use Rattle.store_layout.specs.Logs.{frame}
 use Rattle.gate_log.specs.States.{AreFrom, commands_of}
 use Rattle.store_layout.specs.Hands.{Hand}
@@ -25,7 +27,8 @@ stage-requires g c =
       fits = omega (arith, long, run.3.fits);
       some = omega (arith, long, run.2, c.requires.some);
       few = omega (arith, long, run.3.within);
-      short = subst (λ (z : List Command). length (frame first_layout (record { first = committed; commands = z })) ≤ 1048576) (sym theirs) run.3.short;
+      short = subst (λ (z : List Command). length (frame (layout_of c.args.self.now.log.version) (record { first = committed; commands = z })) ≤ 1048576) (sym theirs) run.3.short;
+      within = subst (All (IsWithin (layout_of c.args.self.now.log.version).key_limit)) (sym theirs) (c.requires.keys commands run.1);
     }
 
 pub returns-in-Err-stage-clause-no_other : goal.returns-in-Err-stage-clause-no_other
@@ -39,7 +42,7 @@ returns-in-Err-stage-clause-no_other g c =
     elim c.in-Err-stage.ensures.no_other [
       | inl e ↦ absurd (c.in-Err-stage.ensures.wrong_phase.0 (ap Err e) c.requires.resting)
       | inr k ↦ elim k [
-        | inl e ↦ absurd (run.4 (subst (λ (z : List Command). 2 ^ 40 < c.args.self.now.log.gate + 1 + length (frame first_layout (record { first = committed; commands = z })) + 1) theirs (c.in-Err-stage.ensures.full.0 (ap Err e)).1))
+        | inl e ↦ absurd (run.4 (subst (λ (z : List Command). 2 ^ 40 < c.args.self.now.log.gate + 1 + length (frame (layout_of c.args.self.now.log.version) (record { first = committed; commands = z })) + 1) theirs (c.in-Err-stage.ensures.full.0 (ap Err e)).1))
         | inr e ↦ e
       ]
     ]
