@@ -1,5 +1,5 @@
 -- The numbers of a directory.
-use Rattle.std.proofs.Common.{◌≡◌, ℕ, ◌%◌, ◌∙◌, true, None, List, [], ◌∷◌, map, sum_by, inl, inr, ap, sum, subst, sym, refl, arith}
+use Rattle.std.proofs.Common.{◌≡◌, ℕ, ◌%◌, ◌∙◌, true, None, List, [], ◌∷◌, map, sum_by, inl, inr, ap, sum, subst, sym, refl}
 use Rattle.std.proofs.lemmas.List.Sums.{sum-map}
 use Rattle.std.specs.FinMap as finite
 use Rattle.map_types.specs.declared.refusals.Refusal.{Refusal}
@@ -8,11 +8,12 @@ use Rattle.map_model.specs.Parts.{parts_of}
 use Rattle.atomic_methods.specs.PartState.{PartState}
 use Rattle.disk_model.specs.Calls.{Looks}
 use Rattle.disk_model.specs.Files.{Files}
-use Rattle.log_records.specs.Layout.{IsLayout, first_layout}
-use Rattle.store_layout.specs.Checkpoints.{Checkpoint, IsCheckpoint, is_sealed}
-use Rattle.store_layout.specs.Faults.{head_fault}
-use Rattle.store_layout.specs.Opening.{Contents, Opened, Holds}
+use Rattle.log_records.specs.Layout.{Layout, IsLayout}
+use Rattle.store_layout.specs.Checkpoints.{Checkpoint, is_sealed}
+use Rattle.store_layout.specs.Faults.{head_fault, version_in}
+use Rattle.store_layout.specs.Opening.{Contents, Opened, Holds, IsCheckpointIn, checkpoint_layout}
 use Rattle.store_layout.proofs.CheckpointFields.{has_head, never_bad, one_checkpoint, sealed}
+use Rattle.store_layout.proofs.Versions.{read_for, room_for}
 use Rattle.checkpoint_file.specs.Loads.{IsUnloadable}
 use Rattle.gate_log.proofs.Scanning.{looks_on, same_now}
 use Rattle.recovery.specs.Dividing.{IsDivided}
@@ -35,24 +36,31 @@ entries_are n is m parts divided =
 
 -- ---- the checkpoint that is used
 
-first_is_layout : IsLayout first_layout
-first_is_layout = omega arith
-
 module _ (contents : Contents) (found : Opened) (generation : ℕ) (same : found.checkpoint.generation ≡ generation) (holds : Holds contents found) where
-  checkpoint : IsCheckpoint first_layout found.checkpoint (contents (generation % 2))
-  checkpoint = subst (λ (n : ℕ). IsCheckpoint first_layout found.checkpoint (contents (n % 2))) same holds.checkpoint
+  abbrev content : List ℕ
+  content = contents (generation % 2)
 
-  pub is_there : is_sealed (contents (generation % 2)) ≡ true
-  is_there = sealed first_layout found.checkpoint (contents (generation % 2)) checkpoint
+  -- the layout that the file names
+  abbrev layout : Layout
+  layout = checkpoint_layout content
 
-  pub same_stripes : (k : Checkpoint) → IsCheckpoint first_layout k (contents (generation % 2)) → k.stripes ≡ found.checkpoint.stripes
-  same_stripes k is = ap (λ (c : Checkpoint). c.stripes) (one_checkpoint first_layout first_is_layout k found.checkpoint (contents (generation % 2)) is checkpoint)
+  room : IsLayout layout
+  room = room_for (version_in content)
 
-  pub is_loadable : (refusal : Refusal) → IsUnloadable (generation % 2) (contents (generation % 2)) refusal → ⊥
+  checkpoint : IsCheckpointIn found.checkpoint content
+  checkpoint = subst (λ (n : ℕ). IsCheckpointIn found.checkpoint (contents (n % 2))) same holds.checkpoint
+
+  pub is_there : is_sealed content ≡ true
+  is_there = sealed layout found.checkpoint content checkpoint
+
+  pub same_stripes : (k : Checkpoint) → IsCheckpointIn k content → k.stripes ≡ found.checkpoint.stripes
+  same_stripes k is = ap (λ (c : Checkpoint). c.stripes) (one_checkpoint layout room k found.checkpoint content is checkpoint)
+
+  pub is_loadable : (refusal : Refusal) → IsUnloadable (generation % 2) content refusal → ⊥
   is_loadable refusal (inl head) =
-      let none : head_fault (generation % 2) (contents (generation % 2)) ≡ None =
-      has_head first_layout found.checkpoint (contents (generation % 2)) checkpoint (generation % 2) (ap (λ (n : ℕ). n % 2) same) in absurd (cc)
-  is_loadable refusal (inr bad) = never_bad first_layout first_is_layout (generation % 2) (contents (generation % 2)) found.checkpoint refusal checkpoint bad.2
+      let none : head_fault (generation % 2) content ≡ None =
+      has_head layout found.checkpoint content checkpoint (read_for (version_in content)) (generation % 2) (ap (λ (n : ℕ). n % 2) same) in absurd (cc)
+  is_loadable refusal (inr bad) = never_bad layout room (generation % 2) content found.checkpoint refusal checkpoint bad.2
 
 -- ---- looking on
 

@@ -80,7 +80,7 @@ fn count<D: Disk>(alloc: Global, disk: D) -> Result<(D, Counts), (D, Refusal)>
     ensures err { IfErr result (λ x. IsNotOpened D.states D.failures D.honest disk x.0 x.1) }
 {
     match open_parts(alloc, disk, sixteen()) {
-        Ok((keeper, parts, prefix)) => {
+        Ok((keeper, parts, prefix, _limit)) => {
             let counts = Counts {
                 generation: keeper.sealed,
                 prefix,

@@ -6,11 +6,11 @@ use Rattle.map_types.specs.declared.refusals.Refusal.TheVariants.{Damaged, Faile
 use Rattle.map_model.specs.Maps.{Map}
 use Rattle.map_model.specs.Steps.{map_after}
 use Rattle.map_model.proofs.FoldLaws.{map_after-append}
-use Rattle.log_records.specs.Layout.{first_layout}
+use Rattle.log_records.specs.Layout.{Layout, layout_of}
 use Rattle.store_layout.specs.Checkpoints.{Checkpoint}
 use Rattle.store_layout.specs.Logs.{commands_in, log_file}
-use Rattle.store_layout.specs.Readings.{IsBadHeader}
-use Rattle.store_layout.specs.Opening.{Contents, AreBadLogs, bad_header, bad_frame, bad_next_header, bad_next_frame, second_end}
+use Rattle.store_layout.specs.Readings.{IsBadHeader, gate_behind}
+use Rattle.store_layout.specs.Opening.{Contents, AreBadLogs, bad_header, bad_frame, bad_next_header, bad_next_frame, log_layout, second_end}
 use Rattle.store_layout.specs.SectionsAndLog.{counted}
 use Rattle.store_layout.proofs.Growing.{counted-append}
 use Rattle.gate_log.specs.Scan.{HasRead, ScanState}
@@ -19,7 +19,7 @@ use Rattle.recovery.specs.declared.replay.End.{End}
 use Rattle.recovery.specs.declared.replay.End.TheVariants.{Closed, Ended}
 use Rattle.recovery.specs.declared.restoring.Restoring.{Restoring}
 use Rattle.recovery.specs.Restoring.{Applies, HasMap, IsSameFrame}
-use Rattle.recovery.specs.LogReading.{AreReplayed, IsBadLog, IsBrokenFor, IsLogRead, IsReplayed, RefusesFor}
+use Rattle.recovery.specs.LogReading.{AreReplayed, IsBadLog, IsBrokenFor, IsEnd, IsLogRead, IsReplayed, RefusesFor}
 
 pub refuses_more : (P Q : Type 0) (refusal : Refusal) → (P → Q) → RefusesFor P refusal → RefusesFor Q refusal
 refuses_more P Q refusal f (inl e) = inl e
@@ -42,26 +42,30 @@ header_refused generation low content refusal (inl e) = inl e
 header_refused generation low content refusal (inr (inl e)) = inr (inl e)
 header_refused generation low content refusal (inr (inr bad)) = inr (inr (inl bad))
 
-module _ (generation low : ℕ) (content later : List ℕ) (same : later ≡ content) (scan : ScanState) (begun : HasRead first_layout low [] scan content) where
+module _ (generation low : ℕ) (content later : List ℕ) (same : later ≡ content) (scan : ScanState) (own : log_layout content ≡ layout_of scan.version) (begun : HasRead (layout_of scan.version) low [] scan content) where
+  abbrev layout : Layout
+  layout = layout_of scan.version
+
   abbrev Broken : List ℕ → Refusal → Type 0
-  Broken bytes refusal = (l : ℕ) → HasRead first_layout l [] scan bytes → IsBrokenFor generation l bytes refusal
+  Broken bytes refusal = (l : ℕ) → HasRead layout l [] scan bytes → IsBrokenFor layout generation l bytes refusal
 
   pub frames_refused : (honest : Type 0) (refusal : Refusal) → honest → RefusesFor (honest → Broken later refusal) refusal → RefusesFor (IsBadLog generation low content refusal) refusal
   frames_refused honest refusal is why =
       refuses_more (honest → Broken later refusal) (IsBadLog generation low content refusal) refusal
-      (λ f. inr (subst (λ (bytes : List ℕ). Broken bytes refusal) same (f is) low begun)) why
+      (λ f. inr (subst (λ (x : Layout). IsBrokenFor x generation low content refusal) (sym own) (subst (λ (bytes : List ℕ). Broken bytes refusal) same (f is) low begun))) why
 
-  pub log_read : (before after : Restoring) (end : End) (ending : ScanState) (place : LogState) → place ≡ resumed generation low ending.gate ending.expected
-      → ((l : ℕ) → HasRead first_layout l [] scan later → IsReplayed generation l later before end ending after) → IsLogRead generation low content before end place after
+  pub log_read : (before after : Restoring) (end : End) (ending : ScanState) (place : LogState) → place ≡ resumed scan.version generation low ending.gate ending.expected
+      → ((l : ℕ) → HasRead layout l [] scan later → IsReplayed layout generation l later before end ending after) → IsLogRead generation low content before end place after
   log_read before after end ending place is made =
-      let read = subst (λ (bytes : List ℕ). (l : ℕ) → HasRead first_layout l [] scan bytes → IsReplayed generation l bytes before end ending after) same made low begun in
+      let read = subst (λ (bytes : List ℕ). (l : ℕ) → HasRead layout l [] scan bytes → IsReplayed layout generation l bytes before end ending after) same made low begun in
       record {
         batches = read.batches;
-        ends = read.ends;
+        ends = subst (λ (x : Layout). IsEnd x end generation low read.batches content) (sym own) read.ends;
         goes_on = record {
+          version = ap (λ (p : LogState). layout_of p.version) is ∙ sym own;
           generation = ap (λ (p : LogState). p.generation) is;
           low = ap (λ (p : LogState). p.low) is;
-          gate = ap (λ (p : LogState). p.gate) is ∙ read.gate;
+          gate = ap (λ (p : LogState). p.gate) is ∙ read.gate ∙ ap (λ (x : Layout). gate_behind x generation low read.batches) (sym own);
           committed = ap (λ (p : LogState). p.committed) is ∙ read.committed;
         };
         applied = read.applied;

@@ -5,12 +5,15 @@ use Rattle.disk_model.specs.Files.{Contents, File, Files, MayLeave, now}
 use Rattle.disk_model.specs.Gates.{IsShut}
 use Rattle.disk_model.specs.Moments.{AtEachMoment}
 use Rattle.disk_model.proofs.MomentLemmas.{goes_on, in_the_end, weaker}
-use Rattle.log_records.specs.Layout.{first_layout}
 use Rattle.store_layout.specs.Checkpoints.{IsCheckpoint, checkpoint_bytes}
+use Rattle.log_records.specs.Layout.{Layout, layout_of}
+use Rattle.log_records.specs.declared.versions.Version.{Version}
 use Rattle.store_layout.specs.Logs.{IsClosed}
 use Rattle.store_layout.specs.Opening.{Holds, first_checkpoint}
+use Rattle.store_layout.specs.Readings.{closed}
 use Rattle.store_layout.proofs.NewStores.{first_is_whole, greatest, no_map}
-use Rattle.recovery.specs.Formatting.{AtStops, IsClear, IsNew, IsNewOrUnformatted, IsSealedWith, OneFile, first_opened}
+use Rattle.store_layout.proofs.OwnLayouts.{checkpoint_in_own, checkpoint_reads, closed_in_own, log_reads, own_of}
+use Rattle.recovery.specs.Formatting.{AtStops, IsClear, IsNew, IsNewOrUnformatted, IsSealedWith, IsWrittenIn, OneFile, first_opened}
 use Rattle.recovery.proofs.LogBeginning.{Others}
 use Rattle.recovery.proofs.NewStoreLemmas.{Unsealed, shut_stays}
 use Rattle.recovery.proofs.OneFileLemmas.{Leave}
@@ -64,20 +67,26 @@ module _ {D : Type 0} (states : D → List Files) (stripes : ℕ) (old one : D) 
     second_at_two : Leave Unsealed (now (states two) 1)
     second_at_two = same_file Unsealed (now (states one) 1) (now (states two) 1) (there 1 one_two) second_at_one
 
-    module _ (log : (content : List ℕ) → MayLeave (now (states two) 2) content → IsClosed first_layout 0 0 [] content) (whole : is_stripe_count stripes ≡ true) (bytes : List ℕ)
-        (are : bytes ≡ checkpoint_bytes first_layout (first_checkpoint stripes)) where
+    module _ (version : Version) (log : (content : List ℕ) → MayLeave (now (states two) 2) content → IsClosed (layout_of version) 0 0 [] content) (whole : is_stripe_count stripes ≡ true) (bytes : List ℕ)
+        (are : bytes ≡ checkpoint_bytes (layout_of version) (first_checkpoint stripes)) where
+      abbrev layout : Layout
+      layout = layout_of version
+
+      sealed_so : (contents : Contents) (rest : List ℕ) → contents 0 ≡ 165 ∷ (bytes ++ rest) → IsCheckpoint layout (first_checkpoint stripes) (contents 0)
+      sealed_so contents rest e = record {
+        rest = rest;
+        bytes = e ∙ ap (λ (l : List ℕ). 165 ∷ (l ++ rest)) are;
+        whole = (first_is_whole layout stripes whole).0;
+      }
+
       stands : (contents : Contents) (rest : List ℕ) → contents 0 ≡ 165 ∷ (bytes ++ rest) → MayLeave (now (states two) 1) (contents 1) → MayLeave (now (states two) 2) (contents 2) → IsNew stripes contents
       stands contents rest e left_one left_two =
-          let checkpoint : IsCheckpoint first_layout (first_checkpoint stripes) (contents 0) = record {
-            rest = rest;
-            bytes = e ∙ ap (λ (l : List ℕ). 165 ∷ (l ++ rest)) are;
-            whole = (first_is_whole stripes whole).0;
-          } in
+          let checkpoint = sealed_so contents rest e in
           let none = greatest 0 stripes in
           let holds : Holds contents (first_opened stripes) = record {
-            checkpoint = checkpoint;
+            checkpoint = checkpoint_in_own layout (own_of version) (first_checkpoint stripes) (contents 0) checkpoint;
             other = inl (second_at_two (contents 1) left_one);
-            logs = log (contents 2) left_two;
+            logs = closed_in_own layout (own_of version) 0 0 [] (contents 2) (log (contents 2) left_two);
             reaches = omega (arith, none);
           } in
           record { holds = holds; stands = record { found = first_opened stripes; holds = holds; prefix = refl; map = no_map stripes } }
@@ -104,3 +113,13 @@ module _ {D : Type 0} (states : D → List Files) (stripes : ℕ) (old one : D) 
           let left_two = subst (λ (file : File). MayLeave file (contents 2)) (o.others 2 two_zero) (leaves 2 (omega arith)) in
           let kept = sealed (contents 0) (leaves 0 (omega arith)) in
           stands contents kept.0 kept.1 left_one left_two
+
+      pub written_in_the_end : (new : D) → AtEachMoment states two new (OneFile 0 (IsSealedWith bytes) (now (states two))) → ((content : List ℕ) → MayLeave (now (states new) 0) content → (rest : List ℕ) × (content ≡ 165 ∷ (bytes ++ rest)))
+          → AtStops (IsWrittenIn layout) (now (states new))
+      written_in_the_end new sealing sealed contents leaves =
+          let o = in_the_end states two new (OneFile 0 (IsSealedWith bytes) (now (states two))) sealing in
+          let left_two = subst (λ (file : File). MayLeave file (contents 2)) (o.others 2 two_zero) (leaves 2 (omega arith)) in
+          let kept = sealed (contents 0) (leaves 0 (omega arith)) in (
+            checkpoint_reads layout (own_of version) (first_checkpoint stripes) (contents 0) (sealed_so contents kept.0 kept.1),
+            log_reads layout (own_of version) 0 0 (contents 2) (closed []) (log (contents 2) left_two),
+          )

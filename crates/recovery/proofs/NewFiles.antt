@@ -9,11 +9,10 @@ use Rattle.disk_model.specs.Gates.{Call, called, syncs, writes}
 use Rattle.disk_model.proofs.FileLemmas.{with_other}
 use Rattle.store_layout.specs.Checkpoints.{is_to_close, checkpoint_bytes}
 use Rattle.gate_log.proofs.Scanning.{same_now}
-use Rattle.log_records.specs.Layout.{first_layout}
-use Rattle.store_layout.specs.Logs.{header}
+use Rattle.log_records.specs.Layout.{Layout}
 use Rattle.store_layout.specs.Opening.{first_checkpoint}
 use Rattle.recovery.specs.Formatting.{Becomes}
-use Rattle.store_layout.specs.FirstFiles.{first_log, new_files}
+use Rattle.store_layout.specs.FirstFiles.{files_in, first_log_in}
 use Rattle.recovery.specs.Syncing.{AfterSyncs, states_synced}
 use Rattle.recovery.proofs.OneFileLemmas.{now_made}
 
@@ -33,9 +32,6 @@ written_behind byte bytes =
     let size : 1 + length bytes ≡ suc (length bytes) = omega arith in
     let none : drop (1 + length bytes) (byte ∷ []) ≡ [] = ap (λ (n : ℕ). drop n (byte ∷ [])) size ∙ drop_none (length bytes) in
     ap (λ (rest : List ℕ). at_rest (byte ∷ rest)) (ap (λ (rest : List ℕ). bytes ++ rest) none ∙ append-nil bytes)
-
-pub log_is : header 0 0 ++ 0 ∷ [] ≡ first_log
-log_is = ap (λ (front : List ℕ). front ++ 0 ∷ []) (sym (append-nil (header 0 0)))
 
 -- ---- one file
 
@@ -75,39 +71,39 @@ module _ {D : Type 0} (states : D → List Files) (failures : D → ℕ) where
 
 -- ---- three of them, one after the other
 
-becomes_new : (bytes : List ℕ) (stripes : ℕ) (old one two new : Files) → bytes ≡ checkpoint_bytes first_layout (first_checkpoint stripes) → old ≡ empty_files
-    → Becomes 0 (at_rest (0 ∷ [])) old one → Becomes 2 (at_rest first_log) one two → Becomes 0 (at_rest (165 ∷ bytes)) two new → new ≡ new_files stripes
-becomes_new bytes stripes old one two new are empty closed begun sealed = fun_ext each
+becomes_new : (layout : Layout) (bytes : List ℕ) (stripes : ℕ) (old one two new : Files) → bytes ≡ checkpoint_bytes layout (first_checkpoint stripes) → old ≡ empty_files
+    → Becomes 0 (at_rest (0 ∷ [])) old one → Becomes 2 (at_rest (first_log_in layout)) one two → Becomes 0 (at_rest (165 ∷ bytes)) two new → new ≡ files_in layout stripes
+becomes_new layout bytes stripes old one two new are empty closed begun sealed = fun_ext each
   where
     two_zero : ◌≢◌ {A = ℕ} 2 0
     two_zero = λ e. absurd cc
 
-    first : new 0 ≡ new_files stripes 0
+    first : new 0 ≡ files_in layout stripes 0
     first = sealed.is ∙ ap (λ (b : List ℕ). at_rest (165 ∷ b)) are
 
-    third : new 2 ≡ new_files stripes 2
+    third : new 2 ≡ files_in layout stripes 2
     third = sealed.others 2 two_zero ∙ begun.is
 
-    other : (n : ℕ) → n ≢ 0 → n ≢ 2 → new n ≡ new_files stripes n
+    other : (n : ℕ) → n ≢ 0 → n ≢ 2 → new n ≡ files_in layout stripes n
     other n a b =
         let kept : new n ≡ at_rest [] = sealed.others n a ∙ begun.others n b ∙ closed.others n a ∙ ap (λ (files : Files). files n) empty in
         let x : (n == 0) ≡ false = grind (arith, nat_tests) in
         let y : (n == 2) ≡ false = grind (arith, nat_tests) in
         rw (x, y) kept
 
-    each : (n : ℕ) → new n ≡ new_files stripes n
-    each n = ⊎_elim {C = new n ≡ new_files stripes n}
-        (λ e. subst (λ (m : ℕ). new m ≡ new_files stripes m) (sym e) first)
-        (λ a. ⊎_elim {C = new n ≡ new_files stripes n} (λ e. subst (λ (m : ℕ). new m ≡ new_files stripes m) (sym e) third) (other n a) (cases_eq n 2))
+    each : (n : ℕ) → new n ≡ files_in layout stripes n
+    each n = ⊎_elim {C = new n ≡ files_in layout stripes n}
+        (λ e. subst (λ (m : ℕ). new m ≡ files_in layout stripes m) (sym e) first)
+        (λ a. ⊎_elim {C = new n ≡ files_in layout stripes n} (λ e. subst (λ (m : ℕ). new m ≡ files_in layout stripes m) (sym e) third) (other n a) (cases_eq n 2))
         (cases_eq n 0)
 
-pub made_new : (bytes : List ℕ) (stripes : ℕ) (old one two new : Files) → bytes ≡ checkpoint_bytes first_layout (first_checkpoint stripes) → old ≡ empty_files
-    → (old 0 ≡ at_rest [] → Becomes 0 (at_rest (0 ∷ [])) old one) → (one 2 ≡ at_rest [] → Becomes 2 (at_rest first_log) one two) → (two 0 ≡ at_rest (0 ∷ []) → Becomes 0 (at_rest (165 ∷ bytes)) two new) → new ≡ new_files stripes
-made_new bytes stripes old one two new are empty closing beginning sealing =
+pub made_new : (layout : Layout) (bytes : List ℕ) (stripes : ℕ) (old one two new : Files) → bytes ≡ checkpoint_bytes layout (first_checkpoint stripes) → old ≡ empty_files
+    → (old 0 ≡ at_rest [] → Becomes 0 (at_rest (0 ∷ [])) old one) → (one 2 ≡ at_rest [] → Becomes 2 (at_rest (first_log_in layout)) one two) → (two 0 ≡ at_rest (0 ∷ []) → Becomes 0 (at_rest (165 ∷ bytes)) two new) → new ≡ files_in layout stripes
+made_new layout bytes stripes old one two new are empty closing beginning sealing =
     let closed = closing (ap (λ (files : Files). files 0) empty) in
     let begun = beginning (closed.others 2 (λ e. absurd cc) ∙ ap (λ (files : Files). files 2) empty) in
     let sealed = sealing (begun.others 0 (λ e. absurd cc) ∙ closed.is) in
-    becomes_new bytes stripes old one two new are empty closed begun sealed
+    becomes_new layout bytes stripes old one two new are empty closed begun sealed
 
 none_else : (b c : Bool) → (if b then at_rest [] else if c then at_rest [] else at_rest []) ≡ at_rest []
 none_else true c = refl

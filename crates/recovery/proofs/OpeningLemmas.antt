@@ -7,12 +7,10 @@ use Rattle.map_types.specs.declared.refusals.Refusal.TheVariants.{Damaged}
 use Rattle.map_types.specs.declared.refusals.Refusal.TheVariants as refusal
 use Rattle.map_model.specs.Maps.{Map}
 use Rattle.map_model.specs.Steps.{map_after}
-use Rattle.log_records.specs.Layout.{first_layout}
-use Rattle.store_layout.specs.Checkpoints.{Checkpoint, IsCheckpoint, greatest_mark}
-use Rattle.store_layout.specs.Faults.{IsBadCheckpoint}
+use Rattle.store_layout.specs.Checkpoints.{Checkpoint, greatest_mark}
 use Rattle.store_layout.specs.Logs.{Batch, commands_in, log_file}
 use Rattle.store_layout.specs.SectionsAndLog.{counted, restored}
-use Rattle.store_layout.specs.Opening.{Contents, Opened, AreBadLogs, Refuses, bad_checkpoint, bad_logs, below_mark, logged_by, newest_by}
+use Rattle.store_layout.specs.Opening.{Contents, Opened, AreBadLogs, IsBadCheckpointIn, IsCheckpointIn, Refuses, bad_checkpoint, bad_logs, below_mark, logged_by, newest_by}
 use Rattle.store_layout.proofs.Openings.{used_is_held}
 use Rattle.checkpoint_file.specs.declared.loading.LoadedCheckpoint.{LoadedCheckpoint}
 use Rattle.checkpoint_file.specs.Loads.{AreRising, IsUnloadable, checkpoint_of, sections_of}
@@ -23,17 +21,17 @@ use Rattle.recovery.specs.declared.restoring.Restoring.{Restoring}
 use Rattle.recovery.specs.Counting.{entries_in, greatest_of, marks_in}
 use Rattle.recovery.specs.Dividing.{IsDivided}
 use Rattle.recovery.specs.Heads.{IsUsed}
-use Rattle.recovery.specs.LogReading.{AreReplayed, GoesOnFrom}
+use Rattle.recovery.specs.LogReading.{AreReplayed, GoesOnIn}
 use Rattle.recovery.specs.Opening.{IsOpened, IsRestored}
 use Rattle.recovery.specs.Restoring.{HasMap, IsSameFrame}
 use Rattle.recovery.proofs.CountingLemmas.{greatest_is, marks_are, union_is}
 
 -- ---- a checkpoint and its logs
 
-committed_is : (k : Checkpoint) (first : List Batch) (second : Option (List Batch)) (place : LogState) → GoesOnFrom (newest_by k first second) place
+committed_is : (contents : Contents) (k : Checkpoint) (first : List Batch) (second : Option (List Batch)) (place : LogState) → GoesOnIn contents (newest_by k first second) place
     → place.committed ≡ k.low + length (logged_by first second)
-committed_is k first None place is = is.committed
-committed_is k first (Some second) place is = let e = is.committed in omega (arith, e, length-append (commands_in first) (commands_in second))
+committed_is contents k first None place is = is.committed
+committed_is contents k first (Some second) place is = let e = is.committed in omega (arith, e, length-append (commands_in first) (commands_in second))
 
 module _ (contents : Contents) (loaded : LoadedCheckpoint) (before after : Restoring) (place : LogState) (marks : before.marks.items ≡ marks_in loaded.sections.items)
     (replayed : AreReplayed contents (checkpoint_of loaded) before after place) where
@@ -44,7 +42,7 @@ module _ (contents : Contents) (loaded : LoadedCheckpoint) (before after : Resto
   pub below : (same : IsSameFrame before after) (refusal : Refusal) → refusal ≡ Damaged (log_file place.generation) place.gate → place.committed < greatest_of after.marks.items
       → AreBadLogs contents (checkpoint_of loaded) refusal
   below same refusal damage less =
-      let committed = committed_is (checkpoint_of loaded) replayed.first replayed.second place replayed.goes_on in
+      let committed = committed_is contents (checkpoint_of loaded) replayed.first replayed.second place replayed.goes_on in
       let most = greatest same in
       below_mark replayed.first replayed.second replayed.logs (omega (arith, less, committed, most))
       (damage ∙ ap₂ Damaged (ap log_file replayed.goes_on.generation) replayed.goes_on.gate)
@@ -58,7 +56,7 @@ module _ (contents : Contents) (loaded : LoadedCheckpoint) (before after : Resto
       → found ≡ record { parts = after.divided.parts; sealed = loaded.generation; log = place } → IsRestored contents (checkpoint_of loaded) n found
   is_restored same n of stripes rising has reaches found is =
       let k = checkpoint_of loaded in
-      let committed = committed_is k replayed.first replayed.second place replayed.goes_on in
+      let committed = committed_is contents k replayed.first replayed.second place replayed.goes_on in
       let most = greatest same in
       let xs = sections_of loaded.sections.items in
       let start : Map = finite.from_entries (entries_in loaded.sections.items) in
@@ -83,27 +81,27 @@ module _ (contents : Contents) (loaded : LoadedCheckpoint) (before after : Resto
 -- ---- what opening gives
 
 module _ (contents : Contents) (file : ℕ) (used : IsUsed contents file) where
-  pub is_opened : (loaded : LoadedCheckpoint) (n : ℕ) (found : Restored) → IsCheckpoint first_layout (checkpoint_of loaded) (contents file)
+  pub is_opened : (loaded : LoadedCheckpoint) (n : ℕ) (found : Restored) → IsCheckpointIn (checkpoint_of loaded) (contents file)
       → IsRestored contents (checkpoint_of loaded) n found → IsOpened contents n found
   is_opened loaded n found checkpoint restored =
       let opened : Opened = record { checkpoint = checkpoint_of loaded; first = restored.first; second = restored.second } in
       record {
         found = opened;
-        holds = used_is_held contents opened used.faultless (subst (λ number. IsCheckpoint first_layout (checkpoint_of loaded) (contents number)) used.newest checkpoint) restored.logs restored.reaches;
+        holds = used_is_held contents opened used.faultless (subst (λ number. IsCheckpointIn (checkpoint_of loaded) (contents number)) used.newest checkpoint) restored.logs restored.reaches;
         sealed = restored.sealed;
         log = restored.goes_on;
         committed = restored.committed;
         divided = restored.divided;
       }
 
-  pub logs_refused : (loaded : LoadedCheckpoint) (refusal : Refusal) → IsCheckpoint first_layout (checkpoint_of loaded) (contents file)
+  pub logs_refused : (loaded : LoadedCheckpoint) (refusal : Refusal) → IsCheckpointIn (checkpoint_of loaded) (contents file)
       → AreBadLogs contents (checkpoint_of loaded) refusal → Refuses contents refusal
   logs_refused loaded refusal checkpoint bad =
-      bad_logs (checkpoint_of loaded) used.faultless (subst (λ number. IsCheckpoint first_layout (checkpoint_of loaded) (contents number)) used.newest checkpoint) bad
+      bad_logs (checkpoint_of loaded) used.faultless (subst (λ number. IsCheckpointIn (checkpoint_of loaded) (contents number)) used.newest checkpoint) bad
 
   pub not_loaded : (refusal : Refusal) → IsUnloadable file (contents file) refusal → Refuses contents refusal
   not_loaded refusal (inl head) = absurd (let none = used.head in cc)
-  not_loaded refusal (inr bad) = bad_checkpoint used.faultless (subst (λ number. IsBadCheckpoint first_layout number (contents number) refusal) used.newest bad.2)
+  not_loaded refusal (inr bad) = bad_checkpoint used.faultless (subst (λ number. IsBadCheckpointIn number (contents number) refusal) used.newest bad.2)
 
 -- ---- counts of failures
 

@@ -10,7 +10,7 @@ use Rattle.map_types.specs.declared.refusals.Refusal.TheVariants.{Damaged}
 use Rattle.map_model.specs.Maps.{Map}
 use Rattle.map_model.specs.Steps.{map_after}
 use Rattle.map_model.proofs.FoldLaws.{map_after-append}
-use Rattle.log_records.specs.Layout.{first_layout}
+use Rattle.log_records.specs.Layout.{Layout, layout_of}
 use Rattle.ticket_order.specs.declared.stripe.Entry.{Entry}
 use Rattle.store_layout.specs.Logs.{Batch, commands_in, frame, header, log_file, log_front, opened}
 use Rattle.store_layout.specs.Readings.{IsBroken}
@@ -28,27 +28,27 @@ use Rattle.recovery.proofs.CountingLemmas.{counted_is}
 
 -- ---- frames
 
-front_long : (batches : List Batch) → length batches ≤ length (opened first_layout batches)
-front_long [] = omega arith
-front_long (b ∷ batches) =
-    let rest = front_long batches in
-    let both = length-append (frame first_layout b) (opened first_layout batches) in
+front_long : (layout : Layout) (batches : List Batch) → length batches ≤ length (opened layout batches)
+front_long layout [] = omega arith
+front_long layout (b ∷ batches) =
+    let rest = front_long layout batches in
+    let both = length-append (frame layout b) (opened layout batches) in
     omega (arith, rest, both)
 
 -- each batch takes a byte at least
-pub few_batches : (low : ℕ) (batches : List Batch) (scan : ScanState) (content : List ℕ) → HasRead first_layout low batches scan content → length batches ≤ scan.gate
-few_batches low batches scan content read =
+pub few_batches : (layout : Layout) (low : ℕ) (batches : List Batch) (scan : ScanState) (content : List ℕ) → HasRead layout low batches scan content → length batches ≤ scan.gate
+few_batches layout low batches scan content read =
     let place = read.place in
-    let both = length-append (header scan.generation low) (opened first_layout batches) in
-    let rest = front_long batches in
+    let both = length-append (header layout scan.generation low) (opened layout batches) in
+    let rest = front_long layout batches in
     omega (arith, place, both, rest)
 
 commands_in-push : (batches : List Batch) (b : Batch) → commands_in (batches ++ b ∷ []) ≡ commands_in batches ++ b.commands
 commands_in-push [] b = append-nil b.commands
 commands_in-push (x ∷ batches) b = ap (λ (l : List Command). x.commands ++ l) (commands_in-push batches b) ∙ sym (Rattle.std.proofs.Common.append_assoc x.commands (commands_in batches) b.commands)
 
-pub no_batches : (low : ℕ) (content : List ℕ) (before : Restoring) (scan : ScanState) → HasRead first_layout low [] scan content → IsReading low content before scan 0 before
-no_batches low content before scan read = record {
+pub no_batches : (layout : Layout) (low : ℕ) (content : List ℕ) (before : Restoring) (scan : ScanState) → HasRead layout low [] scan content → IsReading layout low content before scan 0 before
+no_batches layout low content before scan read = record {
   batches = [];
   read = read;
   many = omega arith;
@@ -62,10 +62,10 @@ pub no_frame : (a : Restoring) → IsSameFrame a a
 no_frame a = record { stripes = refl; of = refl; marks = refl }
 
 -- one batch more
-pub batch_more : (low : ℕ) (content : List ℕ) (before mid after : Restoring) (scan new : ScanState) (count : ℕ) (entries given : List Entry) → given ≡ entries → IsSameFrame before mid
-    → (reading : IsReading low content before scan count mid) → IsNextBatch first_layout low reading.batches entries scan new content
-    → ((m : Map) → HasMap mid m → HasMap after (map_after m (counted_of mid.of.count mid.marks.items given))) → IsReading low content before new (count + 1) after
-batch_more low content before mid after scan new count entries given e same reading next made = record {
+pub batch_more : (layout : Layout) (low : ℕ) (content : List ℕ) (before mid after : Restoring) (scan new : ScanState) (count : ℕ) (entries given : List Entry) → given ≡ entries → IsSameFrame before mid
+    → (reading : IsReading layout low content before scan count mid) → IsNextBatch layout low reading.batches entries scan new content
+    → ((m : Map) → HasMap mid m → HasMap after (map_after m (counted_of mid.of.count mid.marks.items given))) → IsReading layout low content before new (count + 1) after
+batch_more layout low content before mid after scan new count entries given e same reading next made = record {
   batches = reading.batches ++ batch_of scan.expected entries ∷ [];
   read = next.read;
   many = let many = reading.many in omega (arith, many, length-append reading.batches (batch_of scan.expected entries ∷ []));
@@ -121,20 +121,20 @@ module _ {D : Type 0} (states : D → List Files) (failures : D → ℕ) (honest
   pub same_log : (scan : ScanState) (generation : ℕ) → scan.generation ≡ generation → log_bytes states mid scan.generation ≡ log_bytes states start generation
   same_log scan generation e = same_bytes states failures honest 0 start mid scan.generation looks ∙ ap (log_bytes states start) e
 
-  pub broken_for : (new : D) (first scan : ScanState) (before after : Restoring) (generation count : ℕ) (refusal : Refusal) → scan.generation ≡ generation → (honest new → honest mid)
-      → (honest mid → (low : ℕ) → HasRead first_layout low [] first (log_bytes states start generation) → IsReading low (log_bytes states start generation) before scan count after)
-      → scanning.RefusesFor scan (honest new → (low : ℕ) (batches : List Batch) → HasRead first_layout low batches scan (log_bytes states mid scan.generation)
-      → IsBroken first_layout scan.generation low batches (log_bytes states mid scan.generation)) refusal
-      → RefusesFor (honest new → (low : ℕ) → HasRead first_layout low [] first (log_bytes states start generation) → IsBrokenFor generation low (log_bytes states start generation) refusal) refusal
-  broken_for new first scan before after generation count refusal e was read (inl failed) = inl failed
-  broken_for new first scan before after generation count refusal e was read (inr (inl memory)) = inr (inl memory)
-  broken_for new first scan before after generation count refusal e was read (inr (inr why)) = inr (inr (λ is low begun.
+  pub broken_for : (layout : Layout) (new : D) (first scan : ScanState) (before after : Restoring) (generation count : ℕ) (refusal : Refusal) → layout_of scan.version ≡ layout → scan.generation ≡ generation → (honest new → honest mid)
+      → (honest mid → (low : ℕ) → HasRead layout low [] first (log_bytes states start generation) → IsReading (layout_of scan.version) low (log_bytes states start generation) before scan count after)
+      → scanning.RefusesFor scan (honest new → (low : ℕ) (batches : List Batch) → HasRead (layout_of scan.version) low batches scan (log_bytes states mid scan.generation)
+      → IsBroken (layout_of scan.version) scan.generation low batches (log_bytes states mid scan.generation)) refusal
+      → RefusesFor (honest new → (low : ℕ) → HasRead layout low [] first (log_bytes states start generation) → IsBrokenFor layout generation low (log_bytes states start generation) refusal) refusal
+  broken_for layout new first scan before after generation count refusal own e was read (inl failed) = inl failed
+  broken_for layout new first scan before after generation count refusal own e was read (inr (inl memory)) = inr (inl memory)
+  broken_for layout new first scan before after generation count refusal own e was read (inr (inr why)) = inr (inr (λ is low begun.
       let so_far = read (was is) low begun in
       let same = same_log scan generation e in
-      let broken = why.1 is low so_far.batches (subst (λ content. HasRead first_layout low so_far.batches scan content) (sym same) so_far.read) in
-      record {
+      let broken = why.1 is low so_far.batches (subst (λ content. HasRead (layout_of scan.version) low so_far.batches scan content) (sym same) so_far.read) in
+      subst (λ (x : Layout). IsBrokenFor x generation low (log_bytes states start generation) refusal) own (record {
         batches = so_far.batches;
-        reads = subst (λ g. IsBroken first_layout g low so_far.batches (log_bytes states start generation)) e
-            (subst (λ content. IsBroken first_layout scan.generation low so_far.batches content) same broken);
-        damage = why.0 ∙ ap₂ Damaged (ap log_file e) (so_far.read.place ∙ ap (λ g. length (log_front first_layout g low so_far.batches)) e);
-      }))
+        reads = subst (λ g. IsBroken (layout_of scan.version) g low so_far.batches (log_bytes states start generation)) e
+            (subst (λ content. IsBroken (layout_of scan.version) scan.generation low so_far.batches content) same broken);
+        damage = why.0 ∙ ap₂ Damaged (ap log_file e) (so_far.read.place ∙ ap (λ g. length (log_front (layout_of scan.version) g low so_far.batches)) e);
+      })))

@@ -4,7 +4,8 @@ use Rattle.std.specs.FinMap as finite
 use Rattle.disk_model.specs.Files.{Contents, File, Files, Leaves, MayLeave, at_rest}
 use Rattle.disk_model.specs.Gates.{open_gate}
 use Rattle.store_layout.specs.Checkpoints.{is_sealed}
-use Rattle.store_layout.specs.Opening.{Holds, Opened, StandsFor, first_checkpoint}
+use Rattle.log_records.specs.Layout.{Layout}
+use Rattle.store_layout.specs.Opening.{Holds, Opened, StandsFor, checkpoint_layout, first_checkpoint, log_layout}
 
 -- whatever a stop may leave of these files has P
 abbrev pub AtStops : (Contents → Type 0) → Files → Type 0
@@ -26,6 +27,10 @@ first_opened stripes = record { checkpoint = first_checkpoint stripes; first = [
 pub record IsNew (stripes : ℕ) (contents : Contents) : Type 0 where
   pub holds : Holds contents (first_opened stripes)
   pub stands : StandsFor contents 0 finite.empty
+
+-- the checkpoint and the log that a new store has are written in this layout
+abbrev pub IsWrittenIn : Layout → Contents → Type 0
+IsWrittenIn layout contents = (checkpoint_layout (contents 0) ≡ layout) × (log_layout (contents 2) ≡ layout)
 
 abbrev pub IsNewOrUnformatted : ℕ → Contents → Type 0
 IsNewOrUnformatted stripes contents = IsUnformatted contents ⊎ IsNew stripes contents

@@ -4,20 +4,20 @@ use Rattle.java_hash.specs.declared.stripe_count.StripeCount.{StripeCount}
 use Rattle.atomic_methods.specs.PartState.{PartState}
 use Rattle.flusher.specs.declared.keeper.Keeper.{Keeper}
 use Rattle.flusher.specs.declared.sweeper.Walking.TheVariants.{Rests}
-use Rattle.log_records.specs.Layout.{first_layout}
-use Rattle.store_layout.specs.Calls.{checkpoint_calls, logs_calls}
-use Rattle.store_layout.specs.Checkpoints.{Checkpoint, greatest_mark, sections_bytes}
+use Rattle.ticket_order.specs.declared.record.Opening.{Opening}
+use Rattle.store_layout.specs.Calls.{body_bytes, checkpoint_calls, logs_calls}
+use Rattle.store_layout.specs.Checkpoints.{Checkpoint, greatest_mark}
 use Rattle.store_layout.specs.Logs.{Batch}
 use Rattle.store_layout.specs.SectionsAndLog.{restored}
-use Rattle.store_layout.specs.Opening.{Contents, Opened, Holds, AreLogs, logged_by, map_of, newest_by, newest_of, prefix_of}
+use Rattle.store_layout.specs.Opening.{Contents, Opened, Holds, AreLogs, key_limit_of, logged_by, map_of, newest_by, newest_of, prefix_of}
 use Rattle.recovery.specs.declared.opening.Restored.{Restored}
 use Rattle.recovery.specs.Dividing.{IsDivided}
-use Rattle.recovery.specs.LogReading.{GoesOnFrom, IsResumed}
+use Rattle.recovery.specs.LogReading.{GoesOnIn, IsResumed}
 
 -- the calls that read the heads of both checkpoints, the checkpoint that is used, and its logs
-abbrev pub files_calls : Opened → ℕ
-files_calls found =
-    2 + checkpoint_calls (length (sections_bytes first_layout found.checkpoint.sections)) + logs_calls found.checkpoint found.first found.second
+abbrev pub files_calls : Contents → Opened → ℕ
+files_calls contents found =
+    2 + checkpoint_calls (body_bytes contents found.checkpoint) + logs_calls contents found.checkpoint found.first found.second
 
 -- the map of this checkpoint and its logs, divided for `stripes` stripes
 pub record IsRestored (contents : Contents) (k : Checkpoint) (stripes : ℕ) (found : Restored) : Type 0 where
@@ -26,7 +26,7 @@ pub record IsRestored (contents : Contents) (k : Checkpoint) (stripes : ℕ) (fo
   pub logs : AreLogs contents k first second
   pub reaches : greatest_mark k.sections ≤ k.low + length (logged_by first second)
   pub sealed : found.sealed ≡ k.generation
-  pub goes_on : GoesOnFrom (newest_by k first second) found.log
+  pub goes_on : GoesOnIn contents (newest_by k first second) found.log
   pub committed : found.log.committed ≡ k.low + length (logged_by first second)
   pub divided : IsDivided stripes (restored k.stripes k.sections k.low (logged_by first second)) found.parts.items
 
@@ -36,19 +36,30 @@ pub record IsOpened (contents : Contents) (stripes : ℕ) (restored : Restored) 
   pub found : Opened
   pub holds : Holds contents found
   pub sealed : restored.sealed ≡ found.checkpoint.generation
-  pub log : GoesOnFrom (newest_of found) restored.log
+  pub log : GoesOnIn contents (newest_of found) restored.log
   pub committed : restored.log.committed ≡ prefix_of found
   pub divided : IsDivided stripes (map_of found) restored.parts.items
 
 -- These are the parts of the map that the files stand for after the first `first` commands, one for each of `stripes`
--- stripes. The keeper knows the checkpoint that is used, and goes on behind the last batch of the newest log.
-pub record IsOpenedAs {D : Type 0} (contents : Contents) (stripes : ℕ) (keeper : Keeper D) (parts : List PartState) (first : ℕ) : Type 0 where
+-- stripes. The keeper knows the checkpoint that is used, and goes on behind the last batch of the newest log. A key may
+-- have `limit` bytes, as many as in a record of that log.
+pub record IsOpenedAs {D : Type 0} (contents : Contents) (stripes : ℕ) (keeper : Keeper D) (parts : List PartState) (first limit : ℕ) : Type 0 where
   pub found : Opened
   pub holds : Holds contents found
   pub sealed : keeper.sealed ≡ found.checkpoint.generation
-  pub log : GoesOnFrom (newest_of found) keeper.log
+  pub log : GoesOnIn contents (newest_of found) keeper.log
   pub first_is : first ≡ prefix_of found
+  pub limit_is : limit ≡ key_limit_of contents found
   pub divided : IsDivided stripes (map_of found) parts
+
+-- A life begins with what the files hold: how many commands they stand for, the map after these, and the most bytes
+-- that a key may have.
+pub record OpensWith (contents : Contents) (opening : Opening) : Type 0 where
+  pub found : Opened
+  pub holds : Holds contents found
+  pub first_is : opening.first ≡ prefix_of found
+  pub map_is : opening.map ≡ map_of found
+  pub limit_is : opening.key_limit ≡ key_limit_of contents found
 
 -- The keeper has done nothing yet. The first `first` commands are committed and published, none is in hand or staged,
 -- and neither a sweep, a rotation nor a checkpoint is under way.

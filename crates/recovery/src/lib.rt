@@ -13,5 +13,5 @@ mod replay;
 mod restoring;
 mod syncing;
 
-pub use formatting::format;
+pub use formatting::{format, format_as};
 pub use opening::{open, open_parts};

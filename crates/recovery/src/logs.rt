@@ -5,7 +5,7 @@ ghost use Rattle.file_pieces.specs.Counting.{Made, MadeAtMost};
 ghost use Rattle.store_layout.specs.Calls.{log_calls, logs_calls};
 ghost use Rattle.store_layout.specs.Checkpoints.{Section};
 ghost use Rattle.store_layout.specs.Logs.{Batch, log_file};
-ghost use Rattle.store_layout.specs.Opening.{AreBadLogs, AreLogs};
+ghost use Rattle.store_layout.specs.Opening.{AreBadLogs, AreLogs, log_layout};
 ghost use Rattle.gate_log.specs.Scan.{failed_in, log_bytes};
 ghost use Rattle.recovery.specs.Restoring.{IsSameFrame};
 ghost use Rattle.recovery.specs.LogReading.{contents_of, checkpoint_with, AreReplayed, EndsAt, IsBadLog, IsLogRead, IsResumed, RefusesFor, end_gate};
@@ -41,7 +41,8 @@ fn read_log<D: Disk>(
     ensures called { IfOk result (λ x. Made D.states (log_calls (end_gate x.0 x.1.gate)) disk.old
         disk.new) }
     ensures tried { D.honest disk.new → (last : ℕ)
-        → EndsAt generation low (log_bytes D.states disk.old generation) last
+        → EndsAt (log_layout (log_bytes D.states disk.old generation)) generation low
+        (log_bytes D.states disk.old generation) last
         → OnErr result (MadeAtMost D.states (log_calls last) disk.old disk.new) }
 
     // On an honest disk its changes are made, and the log goes on behind them.
@@ -56,7 +57,15 @@ fn read_log<D: Disk>(
 {
     let mut scan = Scan::begin(alloc, disk, generation, low)?;
     let end = replay(alloc, disk, generation, &mut scan, restoring)?;
-    let log = GateLog::resume(alloc, generation, low, scan.gate(), scan.expected());
+    let version = scan.version();
+    let log = GateLog::resume(
+        alloc,
+        version,
+        generation,
+        low,
+        scan.gate(),
+        scan.expected(),
+    );
     Ok((end, log))
 }
 
@@ -76,7 +85,9 @@ pub(crate) fn read_logs<D: Disk>(
         → AreLogs (contents_of D.states disk.old) (checkpoint_with generation low stripes sections)
         first second
         → OnOk result
-        (Made D.states (logs_calls (checkpoint_with generation low stripes sections) first second)
+        (Made D.states
+        (logs_calls (contents_of D.states disk.old)
+        (checkpoint_with generation low stripes sections) first second)
         disk.old disk.new) }
     ensures tried { D.honest disk.new → (stripes : ℕ) (sections : List Section) (first : List Batch)
         (second : Option (List Batch))
@@ -84,8 +95,9 @@ pub(crate) fn read_logs<D: Disk>(
         first second
         → OnErr result
         (MadeAtMost D.states
-        (logs_calls (checkpoint_with generation low stripes sections) first second) disk.old
-        disk.new) }
+        (logs_calls (contents_of D.states disk.old)
+        (checkpoint_with generation low stripes sections) first second)
+        disk.old disk.new) }
 
     // On an honest disk the changes are made, and the newest log goes on.
     ensures same { IsSameFrame restoring.old restoring.new }

@@ -4,18 +4,18 @@ ghost use Rattle.disk_model.specs.Calls.{Fails, Looks, Makes};
 ghost use Rattle.disk_model.specs.Files.{MayLeave, at_rest, now};
 ghost use Rattle.disk_model.specs.Gates.{Call, IsShut, open_gate};
 ghost use Rattle.disk_model.specs.Moments.{AtEachMoment};
-ghost use Rattle.log_records.specs.Layout.{first_layout};
 ghost use Rattle.store_layout.specs.Checkpoints.{is_sealed};
+ghost use Rattle.log_records.specs.Layout.{layout_of};
 ghost use Rattle.store_layout.specs.Logs.{IsClosed};
 ghost use Rattle.gate_log.specs.Scan.{failed_in};
 ghost use Rattle.recovery.specs.Formatting.{Becomes, IsSealedWith, OneFile};
-ghost use Rattle.store_layout.specs.FirstFiles.{first_log};
+ghost use Rattle.store_layout.specs.FirstFiles.{first_log_in};
 
+use crate::first_bytes::first_log;
 use checkpoint_file::must_close;
 use disk_model::Disk;
-use gate_log::GateLog;
+use log_records::Version;
 use map_types::Refusal;
-use std::alloc::Global;
 use store_layout::{BODY_OFFSET, CLOSED_GATE, OPEN_GATE};
 
 /// Whether a checkpoint is sealed in the file, by its gate and its length alone.
@@ -33,30 +33,32 @@ pub(crate) fn has_seal<D: Disk>(disk: &mut D, file: usize) -> Result<bool, Refus
     }
 }
 
-// Writes to file 0.
-fn write<D: Disk>(disk: &mut D, at: usize, bytes: &[u8]) -> Result<(), Refusal>
-    requires place { D.honest disk.old → at ≤ length (now (D.states disk.old) 0).seen }
+// Writes to the file.
+fn write<D: Disk>(disk: &mut D, file: usize, at: usize, bytes: &[u8]) -> Result<(), Refusal>
+    requires low { file < 4 }
+    requires place { D.honest disk.old → at ≤ length (now (D.states disk.old) file).seen }
     ensures was_honest { D.honest disk.new → D.honest disk.old }
     ensures ok { OnOk result
-        (Makes D.states D.failures 0 (Call.writes at bytes.now) disk.old disk.new) }
+        (Makes D.states D.failures file (Call.writes at bytes.now) disk.old disk.new) }
     ensures err { OnErr result
-        (Fails D.states D.failures 0 (Call.writes at bytes.now) disk.old disk.new) }
+        (Fails D.states D.failures file (Call.writes at bytes.now) disk.old disk.new) }
     ensures failed { IfErr result (λ refusal. refusal ≡ Refusal.Failed) }
 {
-    match disk.write_at(0, at, bytes) {
+    match disk.write_at(file, at, bytes) {
         Ok(()) => Ok(()),
         Err(_) => Err(Refusal::Failed),
     }
 }
 
-// Syncs file 0.
-fn sync<D: Disk>(disk: &mut D) -> Result<(), Refusal>
+// Syncs the file.
+fn sync<D: Disk>(disk: &mut D, file: usize) -> Result<(), Refusal>
+    requires { file < 4 }
     ensures was_honest { D.honest disk.new → D.honest disk.old }
-    ensures ok { OnOk result (Makes D.states D.failures 0 Call.syncs disk.old disk.new) }
-    ensures err { OnErr result (Fails D.states D.failures 0 Call.syncs disk.old disk.new) }
+    ensures ok { OnOk result (Makes D.states D.failures file Call.syncs disk.old disk.new) }
+    ensures err { OnErr result (Fails D.states D.failures file Call.syncs disk.old disk.new) }
     ensures failed { IfErr result (λ refusal. refusal ≡ Refusal.Failed) }
 {
-    match disk.sync(0) {
+    match disk.sync(file) {
         Ok(()) => Ok(()),
         Err(_) => Err(Refusal::Failed),
     }
@@ -82,14 +84,14 @@ pub(crate) fn close_gate<D: Disk>(disk: &mut D) -> Result<(), Refusal>
         → Becomes 0 (at_rest (0 ∷ [])) (now (D.states disk.old)) (now (D.states disk.new))) }
 {
     if !must_close(disk, 0)? {
-        return sync(disk);
+        return sync(disk, 0);
     }
-    write(disk, 0, &[CLOSED_GATE])?;
-    sync(disk)
+    write(disk, 0, 0, &[CLOSED_GATE])?;
+    sync(disk, 0)
 }
 
-/// Writes the header of the first log and a closed gate, and syncs them.
-pub(crate) fn begin_log<D: Disk>(alloc: Global, disk: &mut D) -> Result<(), Refusal>
+/// Writes the header of the first log, in this version, and a closed gate, and syncs them.
+pub(crate) fn begin_log<D: Disk>(disk: &mut D, version: Version) -> Result<(), Refusal>
     // An honest disk was so before. The only error is one failed call.
     ensures was_honest { D.honest disk.new → D.honest disk.old }
     ensures failed { IfErr result (λ refusal. refusal ≡ Refusal.Failed) }
@@ -102,15 +104,14 @@ pub(crate) fn begin_log<D: Disk>(alloc: Global, disk: &mut D) -> Result<(), Refu
     // A stop leaves a log without batches; an empty file becomes just that.
     ensures ok { OnOk result
         ((content : List ℕ) → MayLeave (now (D.states disk.new) 2) content
-        → IsClosed first_layout 0 0 [] content) }
+        → IsClosed (layout_of version) 0 0 [] content) }
     ensures left { OnOk result
         (now (D.states disk.old) 2 ≡ at_rest []
-        → Becomes 2 (at_rest first_log) (now (D.states disk.old)) (now (D.states disk.new))) }
+        → Becomes 2 (at_rest (first_log_in (layout_of version))) (now (D.states disk.old))
+        (now (D.states disk.new))) }
 {
-    let mut log = GateLog::new(alloc, 0, 0);
-    let _written = log.advance(disk)?;
-    let _synced = log.advance(disk)?;
-    Ok(())
+    write(disk, 2, 0, &first_log(version))?;
+    sync(disk, 2)
 }
 
 /// Writes the bytes behind the closed gate of file 0, syncs them, opens the gate and syncs that.
@@ -138,8 +139,8 @@ pub(crate) fn seal<D: Disk>(disk: &mut D, bytes: &[u8]) -> Result<(), Refusal>
         → Becomes 0 (at_rest (open_gate ∷ bytes.now)) (now (D.states disk.old))
         (now (D.states disk.new))) }
 {
-    write(disk, 1, bytes)?;
-    sync(disk)?;
-    write(disk, 0, &[OPEN_GATE])?;
-    sync(disk)
+    write(disk, 0, 1, bytes)?;
+    sync(disk, 0)?;
+    write(disk, 0, 0, &[OPEN_GATE])?;
+    sync(disk, 0)
 }

@@ -3,6 +3,7 @@ ghost use Rattle.std.specs.Prelude.{◌≡◌, ◌+◌, [], List, Option, IfOk, 
 ghost use Rattle.disk_model.specs.Calls.{Looks};
 ghost use Rattle.disk_model.specs.Files.{now};
 ghost use Rattle.file_pieces.specs.Counting.{Made, MadeAtMost};
+ghost use Rattle.log_records.specs.Layout.{layout_of};
 ghost use Rattle.store_layout.specs.Calls.{logs_calls, opening_calls, reading_calls};
 ghost use Rattle.store_layout.specs.Logs.{Batch};
 ghost use Rattle.store_layout.specs.Checkpoints.{checkpoint_file, is_to_close};
@@ -15,7 +16,7 @@ ghost use Rattle.gate_log.specs.Scan.{failed_in};
 ghost use Rattle.recovery.specs.Dividing.{ArePartsOf};
 ghost use Rattle.recovery.specs.LogReading.{contents_of, IsResumed, RefusesFor};
 ghost use Rattle.flusher.specs.Fitting.{Fits, IsUnused};
-ghost use Rattle.recovery.specs.Opening.{IsAtStart, IsOpened, IsOpenedAs, IsRestored, files_calls};
+ghost use Rattle.recovery.specs.Opening.{IsAtStart, IsOpened, IsOpenedAs, IsRestored, OpensWith, files_calls};
 ghost use Rattle.recovery.specs.Syncing.{LeavesOnly, Stopped, SyncsAndLooks};
 
 use crate::heads::newest_file;
@@ -53,18 +54,22 @@ fn restore_from<D: Disk>(
     loaded: LoadedCheckpoint,
 ) -> Result<Restored, Refusal>
     // The sections of the checkpoint were read, in order.
-    requires { AreLoaded loaded.stripes.count loaded.sections.items }
+    requires { AreLoaded (layout_of loaded.version) loaded.stripes.count loaded.sections.items }
 
     // The disk is only looked at: for each log its length, then its pieces.
     ensures looks { Looks D.states D.failures D.honest (failed_in result) disk.old disk.new }
     ensures called { D.honest disk.new → (first : List Batch) (second : Option (List Batch))
         → AreLogs (contents_of D.states disk.old) (checkpoint_of loaded) first second
         → OnOk result
-        (Made D.states (logs_calls (checkpoint_of loaded) first second) disk.old disk.new) }
+        (Made D.states
+        (logs_calls (contents_of D.states disk.old) (checkpoint_of loaded) first second) disk.old
+        disk.new) }
     ensures tried { D.honest disk.new → (first : List Batch) (second : Option (List Batch))
         → AreLogs (contents_of D.states disk.old) (checkpoint_of loaded) first second
         → OnErr result
-        (MadeAtMost D.states (logs_calls (checkpoint_of loaded) first second) disk.old disk.new) }
+        (MadeAtMost D.states
+        (logs_calls (contents_of D.states disk.old) (checkpoint_of loaded) first second) disk.old
+        disk.new) }
 
     // On an honest disk the parts are of the map, and the newest log goes on.
     ensures resumed { IfOk result (λ found. IsResumed found.log) }
@@ -98,10 +103,13 @@ fn restore<D: Disk>(alloc: Global, disk: &mut D, stripes: StripeCount) -> Result
     ensures looks { Looks D.states D.failures D.honest (failed_in result) disk.old disk.new }
     ensures called { D.honest disk.new → (found : Opened)
         → Holds (contents_of D.states disk.old) found
-        → OnOk result (Made D.states (files_calls found) disk.old disk.new) }
+        → OnOk result
+        (Made D.states (files_calls (contents_of D.states disk.old) found) disk.old disk.new) }
     ensures tried { D.honest disk.new → (found : Opened)
         → Holds (contents_of D.states disk.old) found
-        → OnErr result (MadeAtMost D.states (files_calls found) disk.old disk.new) }
+        → OnErr result
+        (MadeAtMost D.states (files_calls (contents_of D.states disk.old) found) disk.old
+        disk.new) }
 
     // On an honest disk the parts are of its files' map; the log goes on.
     ensures resumed { IfOk result (λ found. IsResumed found.log) }
@@ -131,10 +139,13 @@ fn read_files<D: Disk>(
     ensures looks { Looks D.states D.failures D.honest (failed_in result) disk.old disk.new }
     ensures called { D.honest disk.new → (found : Opened)
         → Holds (contents_of D.states disk.old) found
-        → OnOk result (Made D.states (reading_calls found) disk.old disk.new) }
+        → OnOk result
+        (Made D.states (reading_calls (contents_of D.states disk.old) found) disk.old disk.new) }
     ensures tried { D.honest disk.new → (found : Opened)
         → Holds (contents_of D.states disk.old) found
-        → OnErr result (MadeAtMost D.states (reading_calls found) disk.old disk.new) }
+        → OnErr result
+        (MadeAtMost D.states (reading_calls (contents_of D.states disk.old) found) disk.old
+        disk.new) }
 
     // On an honest disk: the parts of its map, and if a gate is to be closed.
     ensures resumed { IfOk result (λ x. IsResumed x.0.log) }
@@ -164,10 +175,13 @@ fn open_files<D: Disk>(
     ensures stopped { IfErr result (Stopped D.states D.failures D.honest 4 disk.old disk.new) }
     ensures made { D.honest disk.new → (found : Opened)
         → Holds (contents_of D.states disk.old) found
-        → OnOk result (Made D.states (opening_calls found) disk.old disk.new) }
+        → OnOk result
+        (Made D.states (opening_calls (contents_of D.states disk.old) found) disk.old disk.new) }
     ensures tried { D.honest disk.new → (found : Opened)
         → Holds (contents_of D.states disk.old) found
-        → OnErr result (MadeAtMost D.states (opening_calls found) disk.old disk.new) }
+        → OnErr result
+        (MadeAtMost D.states (opening_calls (contents_of D.states disk.old) found) disk.old
+        disk.new) }
 
     // An honest disk was so before.
     ensures was_honest { D.honest disk.new → D.honest disk.old }
@@ -190,32 +204,37 @@ fn open_files<D: Disk>(
 
 /// Opens the directory: syncs its files, and restores the map that they stand for, divided for
 /// `stripes` stripes. It returns a keeper over the directory, the parts of the map in the order of
-/// their stripes, and how many commands were made. It writes nothing. Besides the map it holds one
+/// their stripes, how many commands were made, and the most bytes that the key of a change may have.
+/// That is what the version of the newest log allows. It writes nothing. Besides the map it holds one
 /// section or one frame at a time. The disk is handed back with a refusal.
 pub fn open_parts<D: Disk>(
     alloc: Global,
     mut disk: D,
     stripes: StripeCount,
-) -> Result<(Keeper<D>, Vec<Part>, u64), (D, Refusal)>
+) -> Result<(Keeper<D>, Vec<Part>, u64, u16), (D, Refusal)>
     // Four syncs, then looks: `opening_calls` in all, at most that if refused.
     ensures calls { IfOk result (λ x. SyncsAndLooks D.states D.failures D.honest 4 0 disk
         x.0.disk) }
     ensures stopped { IfErr result (λ x. Stopped D.states D.failures D.honest 4 disk x.0 x.1) }
     ensures made { IfOk result (λ x. D.honest x.0.disk → (found : Opened)
         → Holds (contents_of D.states disk) found
-        → Made D.states (opening_calls found) disk x.0.disk) }
+        → Made D.states (opening_calls (contents_of D.states disk) found) disk x.0.disk) }
     ensures tried { IfErr result (λ x. D.honest x.0 → (found : Opened)
         → Holds (contents_of D.states disk) found
-        → MadeAtMost D.states (opening_calls found) disk x.0) }
+        → MadeAtMost D.states (opening_calls (contents_of D.states disk) found) disk x.0) }
 
     // The keeper has done nothing yet, and writes no zeros ahead.
     ensures start { IfOk result (λ x. IsAtStart stripes x.2 x.0) }
     ensures ahead { IfOk result (λ x. x.0.zeros ≡ 0) }
 
+    // The limit is that of the newest log's version.
+    ensures limit { IfOk result (λ x. x.3 ≡ (layout_of x.0.log.version).key_limit) }
+
     // On an honest disk the files give the parts, or the reason of a refusal.
     ensures parts { IfOk result (λ x. ArePartsOf stripes.count x.1.items) }
     ensures ok { IfOk result (λ x. D.honest x.0.disk
-        → D.honest disk × IsOpenedAs (contents_of D.states disk) stripes.count x.0 x.1.items x.2) }
+        → D.honest disk × IsOpenedAs (contents_of D.states disk) stripes.count x.0 x.1.items x.2
+        x.3) }
     ensures err { IfErr result (λ x. D.honest x.0
         → D.honest disk × RefusesFor (Refuses (contents_of D.states disk) x.1) x.1) }
 
@@ -224,16 +243,17 @@ pub fn open_parts<D: Disk>(
         (contents_of D.states disk)) }
 
     // The invariant begins, for a pass that made no call of the keeper.
-    ensures fits { IfOk result (λ x. (p : Record) → p.opening ≡ opening_of x.2 x.1.items
-        → IsUnused x.2 p → Fits D.states D.honest stripes.count [] x.0 p) }
+    ensures fits { IfOk result (λ x. (p : Record) → p.opening ≡ opening_of x.2 x.1.items x.3
+        → IsUnused x.2 x.3 p → Fits D.states D.honest stripes.count [] x.0 p) }
 {
     laws_of_parts();
     match open_files(alloc, &mut disk, stripes) {
         Ok((restored, must_close)) => {
             let Restored { parts, sealed, log } = restored;
             let first = log.committed();
+            let limit = log.version().key_limit();
             let keeper = Keeper::opened(alloc, disk, stripes, sealed, log, must_close);
-            Ok((keeper, parts, first))
+            Ok((keeper, parts, first, limit))
         }
         Err(refusal) => Err((disk, refusal)),
     }
@@ -252,20 +272,26 @@ pub fn open<D: Disk>(
     ensures stopped { IfErr result (λ x. Stopped D.states D.failures D.honest 4 disk x.0 x.1) }
     ensures made { IfOk result (λ x. D.honest x.0.disk → (found : Opened)
         → Holds (contents_of D.states disk) found
-        → Made D.states (opening_calls found) disk x.0.disk) }
+        → Made D.states (opening_calls (contents_of D.states disk) found) disk x.0.disk) }
     ensures tried { IfErr result (λ x. D.honest x.0 → (found : Opened)
         → Holds (contents_of D.states disk) found
-        → MadeAtMost D.states (opening_calls found) disk x.0) }
+        → MadeAtMost D.states (opening_calls (contents_of D.states disk) found) disk x.0) }
 
     // The keeper has done nothing yet, and writes no zeros ahead.
     ensures start { IfOk result (λ x. IsAtStart stripes (begun_with x.1).first x.0) }
     ensures ahead { IfOk result (λ x. x.0.zeros ≡ 0) }
+
+    // The limit for keys is that of the newest log's version.
+    ensures limit { IfOk result (λ x.
+        (begun_with x.1).key_limit ≡ (layout_of x.0.log.version).key_limit) }
 
     // On an honest disk the files give the map, or the reason of a refusal.
     ensures stripes { IfOk result (λ x. stripe_count x.1 ≡ stripes.count) }
     ensures ok { IfOk result (λ x. D.honest x.0.disk
         → D.honest disk × StandsFor (contents_of D.states disk) (begun_with x.1).first
         (begun_with x.1).map) }
+    ensures begins { IfOk result (λ x. D.honest x.0.disk
+        → OpensWith (contents_of D.states disk) (begun_with x.1)) }
     ensures err { IfErr result (λ x. D.honest x.0
         → D.honest disk × RefusesFor (Refuses (contents_of D.states disk) x.1) x.1) }
 
@@ -275,11 +301,12 @@ pub fn open<D: Disk>(
 
     // The invariant begins, for a pass that made no call of the keeper.
     ensures fits { IfOk result (λ x. (p : Record) → p.opening ≡ begun_with x.1
-        → IsUnused (begun_with x.1).first p → Fits D.states D.honest stripes.count [] x.0 p) }
+        → IsUnused (begun_with x.1).first (begun_with x.1).key_limit p
+        → Fits D.states D.honest stripes.count [] x.0 p) }
 {
     laws_of_parts();
-    let (keeper, parts, first) = open_parts(alloc, disk, stripes)?;
-    match Stripes::new(alloc, stripes, parts, first) {
+    let (keeper, parts, first, limit) = open_parts(alloc, disk, stripes)?;
+    match Stripes::new(alloc, stripes, parts, first, limit) {
         Ok(shared) => Ok((keeper, shared)),
         Err(refusal) => Err((keeper.into_disk(), refusal)),
     }

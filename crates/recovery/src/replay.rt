@@ -3,7 +3,7 @@ ghost use Rattle.std.specs.Prelude.{◌≡◌, ℕ, ◌+◌, ◌<◌, ◌≤◌,
 ghost use Rattle.disk_model.specs.Calls.{Looks};
 ghost use Rattle.file_pieces.specs.Counting.{ReadsPieces, ReadsAtMost};
 ghost use Rattle.file_pieces.specs.Pieces.{end_of, pieces_in};
-ghost use Rattle.log_records.specs.Layout.{first_layout};
+ghost use Rattle.log_records.specs.Layout.{layout_of};
 ghost use Rattle.store_layout.specs.Logs.{Batch, log_file};
 ghost use Rattle.gate_log.specs.Scan.{HasRead, failed_in, log_bytes};
 ghost use Rattle.recovery.specs.Restoring.{IsSameFrame};
@@ -52,8 +52,10 @@ pub(crate) fn replay<D: Disk>(
     ensures called { OnOk result
         (ReadsPieces D.states disk.old disk.new scan.old.reader scan.new.reader) }
     ensures tried { D.honest disk.new → (low last : ℕ)
-        → HasRead first_layout low [] scan.old (log_bytes D.states disk.old generation)
-        → EndsAt generation low (log_bytes D.states disk.old generation) last
+        → HasRead (layout_of scan.old.version) low [] scan.old
+        (log_bytes D.states disk.old generation)
+        → EndsAt (layout_of scan.old.version) generation low
+        (log_bytes D.states disk.old generation) last
         → OnErr result
         (ReadsAtMost D.states disk.old disk.new scan.old.reader
         (max (end_of scan.old.reader) (last + 1))) }
@@ -62,18 +64,22 @@ pub(crate) fn replay<D: Disk>(
 
     // On an honest disk all changes that no section has are made, to the end.
     ensures same { IsSameFrame restoring.old restoring.new }
+    ensures version { OnOk result (scan.new.version ≡ scan.old.version) }
     ensures ok { D.honest disk.new → (low : ℕ)
-        → HasRead first_layout low [] scan.old (log_bytes D.states disk.old generation)
+        → HasRead (layout_of scan.old.version) low [] scan.old
+        (log_bytes D.states disk.old generation)
         → IfOk result (λ end.
-        IsReplayed generation low (log_bytes D.states disk.old generation) restoring.old end
-        scan.new restoring.new) }
+        IsReplayed (layout_of scan.old.version) generation low
+        (log_bytes D.states disk.old generation) restoring.old end scan.new restoring.new) }
 
     // Refused by a call, for memory, or for a frame that may not stand there.
     ensures err { IfErr result (λ refusal.
         RefusesFor
         (D.honest disk.new → (low : ℕ)
-        → HasRead first_layout low [] scan.old (log_bytes D.states disk.old generation)
-        → IsBrokenFor generation low (log_bytes D.states disk.old generation) refusal) refusal) }
+        → HasRead (layout_of scan.old.version) low [] scan.old
+        (log_bytes D.states disk.old generation)
+        → IsBrokenFor (layout_of scan.old.version) generation low
+        (log_bytes D.states disk.old generation) refusal) refusal) }
 {
     for _ in 0..u64::MAX {
         match scan.next_frame(alloc, disk)? {

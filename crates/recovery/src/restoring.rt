@@ -2,6 +2,7 @@
 ghost use Rattle.std.specs.Prelude.{◌≡◌, ◌++◌, ℕ, List, nat_le, slice_index_or, IfOk, IfErr, OnOk};
 ghost use Rattle.std.specs.FinMap as finite;
 ghost use Rattle.java_hash.specs.Stripes.{stripe_of};
+ghost use Rattle.log_records.specs.Layout.{layout_of};
 ghost use Rattle.map_model.specs.Maps.{Map};
 ghost use Rattle.map_model.specs.Steps.{map_after};
 ghost use Rattle.checkpoint_file.specs.Loads.{AreLoaded};
@@ -57,7 +58,7 @@ impl Restoring {
         loaded: LoadedCheckpoint,
     ) -> Result<Restoring, Refusal>
         // The sections of the checkpoint were read, in order.
-        requires { AreLoaded loaded.stripes.count loaded.sections.items }
+        requires { AreLoaded (layout_of loaded.version) loaded.stripes.count loaded.sections.items }
 
         // The map of the sections, divided anew, beside their stripes and marks.
         ensures map { IfOk result (λ restoring.

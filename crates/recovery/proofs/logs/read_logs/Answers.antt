@@ -1,6 +1,6 @@
 use Rattle.std.proofs.Common.{◌≡◌, ◌+◌, ℕ, List, inr, sym, subst, arith}
 use Rattle.std.proofs.lemmas.Result.{err_from_is_err_and}
-use Rattle.store_layout.specs.Opening.{Contents}
+use Rattle.store_layout.specs.Opening.{Contents, log_layout}
 use Rattle.store_layout.specs.Logs.{log_file}
 use Rattle.gate_log.proofs.Scanning.{looks_on, same_bytes}
 use Rattle.gate_log.specs.States.{begun}
@@ -119,7 +119,7 @@ returns-in_err-end-2-clause-tried g c = λ honest stripes sections first second 
     let same = same_bytes g.D.Disk.states g.D.Disk.failures g.D.Disk.honest 0 c.args.disk.now c.read_log.new.disk c.in-Some.next c.in_ok-end.ensures.looks in
     let ends = next_ends contents k read.batches c.in_ok-end.first.gate c.in-Some.next c.in_ok-end.first.committed read.goes_on.gate read.ends next read.goes_on.committed first second logs in
     let one = subst (λ (x : End). Made g.D.Disk.states (log_calls (end_gate x c.in_ok-end.first.gate)) c.args.disk.now c.read_log.new.disk) end c.in_ok-end.ensures.called in
-    let there = subst (λ (l : List ℕ). EndsAt c.in-Some.next c.in_ok-end.first.committed l ends.last) (sym same) ends.ends in
+    let there = subst (λ (l : List ℕ). EndsAt (log_layout l) c.in-Some.next c.in_ok-end.first.committed l ends.last) (sym same) ends.ends in
     let tried = rw c.committed.ensures at c.in_err-end-2.ensures.tried in
     let two = tried honest ends.last there in
     let both = ends.both in

@@ -1,4 +1,4 @@
-use Rattle.std.proofs.Common.{◌≡◌, ◌+◌, sym, subst, arith}
+use Rattle.std.proofs.Common.{◌≡◌, ◌+◌, OnErr, OnOk, sym, subst, arith}
 use Rattle.std.proofs.lemmas.Result.{err_from_is_err_and, on_err_weaker, on_ok_weaker}
 use Rattle.file_pieces.specs.Counting.{Made, MadeAtMost}
 use Rattle.store_layout.specs.Calls.{reading_calls}
@@ -32,10 +32,12 @@ returns-clause-gate g c = λ honest.
 
 pub returns-clause-made : goal.returns-clause-made
 returns-clause-made g c = λ honest found holds.
+    let contents : Contents = contents_of g.D.Disk.states c.args.disk.now in
     let same = same_contents g.D.Disk.states g.D.Disk.failures c.args.disk.now c.sync_files.new.disk c.in_ok-sync_files.ensures.ok in
     let synced = four_synced g.D.Disk.states g.D.Disk.failures c.args.disk.now c.sync_files.new.disk c.in_ok-sync_files.ensures.ok in
-    on_ok_weaker c.read_files.result (λ (read : Made g.D.Disk.states (reading_calls found) c.sync_files.new.disk c.read_files.new.disk). omega (arith, synced, read))
-    (c.read_files.ensures.called honest found (subst (λ (x : Contents). Holds x found) (sym same) holds))
+    let read = subst (λ (x : Contents). OnOk c.read_files.result (Made g.D.Disk.states (reading_calls x found) c.sync_files.new.disk c.read_files.new.disk)) same
+    (c.read_files.ensures.called honest found (subst (λ (x : Contents). Holds x found) (sym same) holds)) in
+    on_ok_weaker c.read_files.result (λ (read : Made g.D.Disk.states (reading_calls contents found) c.sync_files.new.disk c.read_files.new.disk). omega (arith, synced, read)) read
 
 pub returns-in_err-sync_files-clause-tried : goal.returns-in_err-sync_files-clause-tried
 returns-in_err-sync_files-clause-tried g c = λ honest found holds.
@@ -45,7 +47,9 @@ returns-in_err-sync_files-clause-tried g c = λ honest found holds.
 
 pub returns-clause-tried : goal.returns-clause-tried
 returns-clause-tried g c = λ honest found holds.
+    let contents : Contents = contents_of g.D.Disk.states c.args.disk.now in
     let same = same_contents g.D.Disk.states g.D.Disk.failures c.args.disk.now c.sync_files.new.disk c.in_ok-sync_files.ensures.ok in
     let synced = four_synced g.D.Disk.states g.D.Disk.failures c.args.disk.now c.sync_files.new.disk c.in_ok-sync_files.ensures.ok in
-    on_err_weaker c.read_files.result (λ (read : MadeAtMost g.D.Disk.states (reading_calls found) c.sync_files.new.disk c.read_files.new.disk). omega (arith, synced, read))
-    (c.read_files.ensures.tried honest found (subst (λ (x : Contents). Holds x found) (sym same) holds))
+    let read = subst (λ (x : Contents). OnErr c.read_files.result (MadeAtMost g.D.Disk.states (reading_calls x found) c.sync_files.new.disk c.read_files.new.disk)) same
+    (c.read_files.ensures.tried honest found (subst (λ (x : Contents). Holds x found) (sym same) holds)) in
+    on_err_weaker c.read_files.result (λ (read : MadeAtMost g.D.Disk.states (reading_calls contents found) c.sync_files.new.disk c.read_files.new.disk). omega (arith, synced, read)) read

@@ -1,13 +1,12 @@
-use Rattle.std.proofs.Common.{◌≡◌, ℕ, List, Option, false, sym, ap, subst, arith}
+use Rattle.std.proofs.Common.{◌≡◌, ℕ, List, Option, OnErr, OnOk, false, sym, ap, subst, arith}
 use Rattle.std.proofs.lemmas.Result.{err_from_is_err_and, on_err_weaker, on_ok_weaker}
 use Rattle.file_pieces.specs.Counting.{Made, MadeAtMost}
 use Rattle.store_layout.specs.Calls.{checkpoint_calls, logs_calls}
 use Rattle.store_layout.specs.Faults.{body_length_in}
 use Rattle.disk_model.specs.Calls.{Looks}
 use Rattle.disk_model.specs.Files.{Files}
-use Rattle.log_records.specs.Layout.{first_layout}
-use Rattle.store_layout.specs.Checkpoints.{IsCheckpoint, is_sealed}
-use Rattle.store_layout.specs.Opening.{Contents, AreBadLogs, AreLogs, Refuses}
+use Rattle.store_layout.specs.Checkpoints.{is_sealed}
+use Rattle.store_layout.specs.Opening.{Contents, AreBadLogs, AreLogs, IsCheckpointIn, Refuses}
 use Rattle.recovery.proofs.CallLemmas.{body_found, checkpoint_found}
 use Rattle.checkpoint_file.specs.declared.loading.LoadedCheckpoint.{LoadedCheckpoint}
 use Rattle.checkpoint_file.specs.Loads.{IsUnloadable, checkpoint_of}
@@ -60,7 +59,7 @@ returns-clause-ok g c = λ honest.
     let first = looks_on g.D.Disk.states g.D.Disk.failures g.D.Disk.honest 0 c.args.disk.now c.newest_file.new.disk c.load.new.disk c.in_ok-file.ensures.looks c.in_ok-loaded.ensures.looks in
     let same_contents = ap {B = Contents} (λ (files : Files) (n : ℕ). (files n).seen) (same_now g.D.Disk.states g.D.Disk.failures g.D.Disk.honest 0 c.args.disk.now c.load.new.disk first) in
     let same = ap (λ (files : Files). (files c.in_ok-file.file).seen) (same_now g.D.Disk.states g.D.Disk.failures g.D.Disk.honest 0 c.args.disk.now c.newest_file.new.disk c.in_ok-file.ensures.looks) in
-    let checkpoint = subst (λ (content : List ℕ). IsCheckpoint first_layout (checkpoint_of c.in-Some.loaded) content) same (rw c.in-Some.is at (c.in_ok-loaded.ensures.some later)) in
+    let checkpoint = subst (λ (content : List ℕ). IsCheckpointIn (checkpoint_of c.in-Some.loaded) content) same (rw c.in-Some.is at (c.in_ok-loaded.ensures.some later)) in
     let rising = rw c.in-Some.is at c.in_ok-loaded.ensures.rising in
     if_ok _ (IsOpened contents c.args.stripes.count) c.restore_from.result
     (λ found restored. is_opened contents c.in_ok-file.file used c.in-Some.loaded c.args.stripes.count found checkpoint
@@ -75,7 +74,7 @@ returns-clause-err g c = λ honest.
     let first = looks_on g.D.Disk.states g.D.Disk.failures g.D.Disk.honest 0 c.args.disk.now c.newest_file.new.disk c.load.new.disk c.in_ok-file.ensures.looks c.in_ok-loaded.ensures.looks in
     let same_contents = ap {B = Contents} (λ (files : Files) (n : ℕ). (files n).seen) (same_now g.D.Disk.states g.D.Disk.failures g.D.Disk.honest 0 c.args.disk.now c.load.new.disk first) in
     let same = ap (λ (files : Files). (files c.in_ok-file.file).seen) (same_now g.D.Disk.states g.D.Disk.failures g.D.Disk.honest 0 c.args.disk.now c.newest_file.new.disk c.in_ok-file.ensures.looks) in
-    let checkpoint = subst (λ (content : List ℕ). IsCheckpoint first_layout (checkpoint_of c.in-Some.loaded) content) same (rw c.in-Some.is at (c.in_ok-loaded.ensures.some later)) in
+    let checkpoint = subst (λ (content : List ℕ). IsCheckpointIn (checkpoint_of c.in-Some.loaded) content) same (rw c.in-Some.is at (c.in_ok-loaded.ensures.some later)) in
     if_err _ (λ r. RefusesFor (Refuses contents r) r) c.restore_from.result
     (λ r. refuses_more _ (Refuses contents r) r (λ bad. logs_refused contents c.in_ok-file.file used c.in-Some.loaded r checkpoint (subst (λ (x : Contents). AreBadLogs x (checkpoint_of c.in-Some.loaded) r) same_contents bad)))
     (c.restore_from.ensures.err honest)
@@ -90,15 +89,16 @@ returns-clause-called g c = λ honest found holds.
     let same_contents = ap {B = Contents} (λ (files : Files) (n : ℕ). (files n).seen) (same_now g.D.Disk.states g.D.Disk.failures g.D.Disk.honest 0 c.args.disk.now c.load.new.disk looks) in
     let same = ap (λ (files : Files). (files file).seen) (same_now g.D.Disk.states g.D.Disk.failures g.D.Disk.honest 0 c.args.disk.now c.newest_file.new.disk c.in_ok-file.ensures.looks) in
     let k = checkpoint_of c.in-Some.loaded in
-    let checkpoint = subst (λ (content : List ℕ). IsCheckpoint first_layout k content) same (rw c.in-Some.is at (c.in_ok-loaded.ensures.some later)) in
+    let checkpoint = subst (λ (content : List ℕ). IsCheckpointIn k content) same (rw c.in-Some.is at (c.in_ok-loaded.ensures.some later)) in
     let of_found = checkpoint_found contents file used found holds k checkpoint in
     let logs = subst (λ (x : Contents). AreLogs x k found.first found.second) (sym same_contents) of_found.logs in
     let one = c.in_ok-file.ensures.called in
     let two = rw c.in-Some.is at (c.in_ok-loaded.ensures.called later) in
     let body = ap (λ (content : List ℕ). checkpoint_calls (body_length_in content)) same in
+    let made = subst (λ (x : Contents). OnOk c.restore_from.result (Made g.D.Disk.states (logs_calls x k found.first found.second) c.load.new.disk c.restore_from.new.disk)) same_contents
+    (c.restore_from.ensures.called honest found.first found.second logs) in
     on_ok_weaker c.restore_from.result
-    (λ (three : Made g.D.Disk.states (logs_calls k found.first found.second) c.load.new.disk c.restore_from.new.disk). omega (arith, one, two, body, of_found.body, of_found.calls, three))
-    (c.restore_from.ensures.called honest found.first found.second logs)
+    (λ (three : Made g.D.Disk.states (logs_calls contents k found.first found.second) c.load.new.disk c.restore_from.new.disk). omega (arith, one, two, body, of_found.body, of_found.calls, three)) made
 
 pub returns-in_err-loaded-clause-tried : goal.returns-in_err-loaded-clause-tried
 returns-in_err-loaded-clause-tried g c = λ honest found holds.
@@ -122,12 +122,13 @@ returns-clause-tried g c = λ honest found holds.
     let same_contents = ap {B = Contents} (λ (files : Files) (n : ℕ). (files n).seen) (same_now g.D.Disk.states g.D.Disk.failures g.D.Disk.honest 0 c.args.disk.now c.load.new.disk looks) in
     let same = ap (λ (files : Files). (files file).seen) (same_now g.D.Disk.states g.D.Disk.failures g.D.Disk.honest 0 c.args.disk.now c.newest_file.new.disk c.in_ok-file.ensures.looks) in
     let k = checkpoint_of c.in-Some.loaded in
-    let checkpoint = subst (λ (content : List ℕ). IsCheckpoint first_layout k content) same (rw c.in-Some.is at (c.in_ok-loaded.ensures.some later)) in
+    let checkpoint = subst (λ (content : List ℕ). IsCheckpointIn k content) same (rw c.in-Some.is at (c.in_ok-loaded.ensures.some later)) in
     let of_found = checkpoint_found contents file used found holds k checkpoint in
     let logs = subst (λ (x : Contents). AreLogs x k found.first found.second) (sym same_contents) of_found.logs in
     let one = c.in_ok-file.ensures.called in
     let two = rw c.in-Some.is at (c.in_ok-loaded.ensures.called later) in
     let body = ap (λ (content : List ℕ). checkpoint_calls (body_length_in content)) same in
+    let made = subst (λ (x : Contents). OnErr c.restore_from.result (MadeAtMost g.D.Disk.states (logs_calls x k found.first found.second) c.load.new.disk c.restore_from.new.disk)) same_contents
+    (c.restore_from.ensures.tried honest found.first found.second logs) in
     on_err_weaker c.restore_from.result
-    (λ (three : MadeAtMost g.D.Disk.states (logs_calls k found.first found.second) c.load.new.disk c.restore_from.new.disk). omega (arith, one, two, body, of_found.body, of_found.calls, three))
-    (c.restore_from.ensures.tried honest found.first found.second logs)
+    (λ (three : MadeAtMost g.D.Disk.states (logs_calls contents k found.first found.second) c.load.new.disk c.restore_from.new.disk). omega (arith, one, two, body, of_found.body, of_found.calls, three)) made

@@ -1,7 +1,11 @@
 use Rattle.std.proofs.Common.{◌≡◌, ℕ, ◌+◌, List, [], ◌∷◌, ◌++◌, max, length, drop, sym, ap, subst, ◌∙◌, inr, arith}
 use Rattle.std.proofs.lemmas.Result.{err_from_is_err_and}
-use Rattle.log_records.specs.Layout.{first_layout}
+use Rattle.log_records.specs.Layout.{Layout, layout_of}
+use Rattle.log_records.proofs.Layouts.{layout_room}
 use Rattle.store_layout.specs.Logs.{IsClosed, IsEnded, log_front}
+use Rattle.log_records.specs.declared.versions.Version.{Version}
+use Rattle.recovery.specs.declared.replay.End.TheVariants.{Closed, Ended}
+use Rattle.recovery.specs.LogReading.{EndsAt, IsReading, IsReplayed}
 use Rattle.gate_log.specs.Scan.{HasRead, IsNextBatch, ReadsAtGate, log_bytes}
 use Rattle.gate_log.specs.States.{batch_of}
 use Rattle.gate_log.proofs.Scanning.{looks_on, max_pieces}
@@ -21,8 +25,8 @@ returns-in_err-entries-clause-err g c =
     let q = err_from_is_err_and c.from_residual.result c.from_residual.ensures.1 in
     let inv = c.loop.invariant in
     rw (q.1, q.2)
-    (broken_for g.D.Disk.states g.D.Disk.failures g.D.Disk.honest c.args.disk.now c.loop.disk inv.looks c.next_frame.new.disk c.args.scan.now c.loop.scan c.args.restoring.now c.loop.restoring c.args.generation
-    c.loop.counter _ inv.generation c.in_err-entries.ensures.looks.was_honest inv.read c.in_err-entries.ensures.err)
+    (broken_for g.D.Disk.states g.D.Disk.failures g.D.Disk.honest c.args.disk.now c.loop.disk inv.looks (layout_of c.args.scan.now.version) c.next_frame.new.disk c.args.scan.now c.loop.scan c.args.restoring.now c.loop.restoring
+    c.args.generation c.loop.counter _ (ap layout_of inv.version) inv.generation c.in_err-entries.ensures.looks.was_honest inv.read c.in_err-entries.ensures.err)
 
 pub returns-in_err-apply-in-Batch-clause-looks : goal.returns-in_err-apply-in-Batch-clause-looks
 returns-in_err-apply-in-Batch-clause-looks g c =
@@ -37,18 +41,19 @@ returns-in-Ended-clause-looks g c =
 pub returns-in-Ended-clause-ok : goal.returns-in-Ended-clause-ok
 returns-in-Ended-clause-ok g c = λ honest low begun.
     let inv = c.loop.invariant in
+    let layout : Layout = layout_of c.loop.scan.version in
     let so_far = inv.read (c.in_ok-entries.ensures.looks.was_honest honest) low begun in
     let same = same_log g.D.Disk.states g.D.Disk.failures g.D.Disk.honest c.args.disk.now c.loop.disk inv.looks c.loop.scan c.args.generation inv.generation in
-    let found = rw c.in-Ended.is at (c.in_ok-entries.ensures.found honest low so_far.batches (subst (λ content. HasRead first_layout low so_far.batches c.loop.scan content) (sym same) so_far.read)) in
+    let found = rw c.in-Ended.is at (c.in_ok-entries.ensures.found honest low so_far.batches (subst (λ content. HasRead layout low so_far.batches c.loop.scan content) (sym same) so_far.read)) in
     let stays = rw c.in-Ended.is at c.in_ok-entries.ensures.goes_on in
-    record {
+    subst (λ (v : Version). IsReplayed (layout_of v) c.args.generation low (log_bytes g.D.Disk.states c.args.disk.now c.args.generation) c.args.restoring.now Ended c.next_frame.new.self c.loop.restoring) inv.version (record {
       batches = so_far.batches;
-      ends = subst (λ n. IsEnded first_layout n low so_far.batches (n + 1) (log_bytes g.D.Disk.states c.args.disk.now c.args.generation)) inv.generation
-          (subst (λ content. IsEnded first_layout c.loop.scan.generation low so_far.batches (c.loop.scan.generation + 1) content) same found);
-      gate = stays.gate ∙ so_far.read.place ∙ ap (λ n. length (log_front first_layout n low so_far.batches)) inv.generation;
+      ends = subst (λ n. IsEnded layout n low so_far.batches (n + 1) (log_bytes g.D.Disk.states c.args.disk.now c.args.generation)) inv.generation
+          (subst (λ content. IsEnded layout c.loop.scan.generation low so_far.batches (c.loop.scan.generation + 1) content) same found);
+      gate = stays.gate ∙ so_far.read.place ∙ ap (λ n. length (log_front layout n low so_far.batches)) inv.generation;
       committed = stays.expected ∙ so_far.read.tickets;
       applied = so_far.applied;
-    }
+    })
 
 pub returns-in-Closed-clause-looks : goal.returns-in-Closed-clause-looks
 returns-in-Closed-clause-looks g c =
@@ -57,26 +62,29 @@ returns-in-Closed-clause-looks g c =
 pub returns-in-Closed-clause-ok : goal.returns-in-Closed-clause-ok
 returns-in-Closed-clause-ok g c = λ honest low begun.
     let inv = c.loop.invariant in
+    let layout : Layout = layout_of c.loop.scan.version in
     let so_far = inv.read (c.in_ok-entries.ensures.looks.was_honest honest) low begun in
     let same = same_log g.D.Disk.states g.D.Disk.failures g.D.Disk.honest c.args.disk.now c.loop.disk inv.looks c.loop.scan c.args.generation inv.generation in
-    let found = rw c.in-Closed.is at (c.in_ok-entries.ensures.found honest low so_far.batches (subst (λ content. HasRead first_layout low so_far.batches c.loop.scan content) (sym same) so_far.read)) in
+    let found = rw c.in-Closed.is at (c.in_ok-entries.ensures.found honest low so_far.batches (subst (λ content. HasRead layout low so_far.batches c.loop.scan content) (sym same) so_far.read)) in
     let stays = rw c.in-Closed.is at c.in_ok-entries.ensures.goes_on in
-    record {
+    subst (λ (v : Version). IsReplayed (layout_of v) c.args.generation low (log_bytes g.D.Disk.states c.args.disk.now c.args.generation) c.args.restoring.now Closed c.next_frame.new.self c.loop.restoring) inv.version (record {
       batches = so_far.batches;
-      ends = subst (λ n. IsClosed first_layout n low so_far.batches (log_bytes g.D.Disk.states c.args.disk.now c.args.generation)) inv.generation
-          (subst (λ content. IsClosed first_layout c.loop.scan.generation low so_far.batches content) same found);
-      gate = stays.gate ∙ so_far.read.place ∙ ap (λ n. length (log_front first_layout n low so_far.batches)) inv.generation;
+      ends = subst (λ n. IsClosed layout n low so_far.batches (log_bytes g.D.Disk.states c.args.disk.now c.args.generation)) inv.generation
+          (subst (λ content. IsClosed layout c.loop.scan.generation low so_far.batches content) same found);
+      gate = stays.gate ∙ so_far.read.place ∙ ap (λ n. length (log_front layout n low so_far.batches)) inv.generation;
       committed = stays.expected ∙ so_far.read.tickets;
       applied = so_far.applied;
-    }
+    })
 
 pub loop-preserved : goal.loop-preserved
 loop-preserved g c =
     let inv = c.loop.invariant in
+    let layout : Layout = layout_of c.loop.scan.version in
     let goes_on = rw c.in-Batch.is at c.in_ok-entries.ensures.goes_on in
     record {
       looks = looks_on g.D.Disk.states g.D.Disk.failures g.D.Disk.honest 0 c.args.disk.now c.loop.disk c.next_frame.new.disk inv.looks c.in_ok-entries.ensures.looks;
       same = frame_on c.args.restoring.now c.loop.restoring c.apply.new.self inv.same c.in_ok-apply-in-Batch.ensures.same;
+      version = goes_on.3 ∙ inv.version;
       generation = goes_on.0 ∙ inv.generation;
       called = let so_far = inv.called in let more = c.in_ok-entries.ensures.called in omega (arith, so_far, more);
       pieces = let next : pieces_in (end_of c.next_frame.new.self.reader) ≡ max (pieces_in (end_of c.loop.scan.reader)) (pieces_in (c.next_frame.new.self.gate + 1)) = rw c.in-Batch.is at c.in_ok-entries.ensures.pieces in
@@ -85,18 +93,19 @@ loop-preserved g c =
       read = λ honest low begun.
           let so_far = inv.read (c.in_ok-entries.ensures.looks.was_honest honest) low begun in
           let same = same_log g.D.Disk.states g.D.Disk.failures g.D.Disk.honest c.args.disk.now c.loop.disk inv.looks c.loop.scan c.args.generation inv.generation in
-          let found = rw c.in-Batch.is at (c.in_ok-entries.ensures.found honest low so_far.batches (subst (λ content. HasRead first_layout low so_far.batches c.loop.scan content) (sym same) so_far.read)) in
-          batch_more low (log_bytes g.D.Disk.states c.args.disk.now c.args.generation) c.args.restoring.now c.loop.restoring c.apply.new.self c.loop.scan c.next_frame.new.self c.loop.counter
+          let found = rw c.in-Batch.is at (c.in_ok-entries.ensures.found honest low so_far.batches (subst (λ content. HasRead layout low so_far.batches c.loop.scan content) (sym same) so_far.read)) in
+          let more = batch_more layout low (log_bytes g.D.Disk.states c.args.disk.now c.args.generation) c.args.restoring.now c.loop.restoring c.apply.new.self c.loop.scan c.next_frame.new.self c.loop.counter
           c.in-Batch.entries.items c.deref.result.now c.deref.ensures.value inv.same so_far
-          (subst (λ content. IsNextBatch first_layout low so_far.batches c.in-Batch.entries.items c.loop.scan c.next_frame.new.self content) same found)
-          c.in_ok-apply-in-Batch.ensures.ok;
+          (subst (λ content. IsNextBatch layout low so_far.batches c.in-Batch.entries.items c.loop.scan c.next_frame.new.self content) same found)
+          c.in_ok-apply-in-Batch.ensures.ok in
+          subst (λ (v : Version). IsReading (layout_of v) low (log_bytes g.D.Disk.states c.args.disk.now c.args.generation) c.args.restoring.now c.next_frame.new.self (c.loop.counter + 1) c.apply.new.self) (sym goes_on.3) more;
     }
 
 pub returns-clause-err : goal.returns-clause-err
 returns-clause-err g c = inr (inr (λ honest low begun.
     let so_far = c.loop.invariant.read honest low begun in
     let many = so_far.many in
-    let few = few_batches low so_far.batches c.loop.scan (log_bytes g.D.Disk.states c.args.disk.now c.args.generation) so_far.read in
+    let few = few_batches (layout_of c.loop.scan.version) low so_far.batches c.loop.scan (log_bytes g.D.Disk.states c.args.disk.now c.args.generation) so_far.read in
     let over = c.loop-test.false in
     let fits = c.damaged.ensures.fits in
     absurd (omega (arith, many, few, over, fits))))
@@ -129,12 +138,13 @@ pub returns-in_err-entries-clause-tried : goal.returns-in_err-entries-clause-tri
 returns-in_err-entries-clause-tried g c = λ honest low last begun ends.
     let q = err_from_is_err_and c.from_residual.result c.from_residual.ensures.1 in
     let inv = c.loop.invariant in
+    let layout : Layout = layout_of c.loop.scan.version in
     let content : List ℕ = log_bytes g.D.Disk.states c.args.disk.now c.args.generation in
     let so_far = inv.read (c.in_err-entries.ensures.looks.was_honest honest) low begun in
     let same = same_log g.D.Disk.states g.D.Disk.failures g.D.Disk.honest c.args.disk.now c.loop.disk inv.looks c.loop.scan c.args.generation inv.generation in
-    let read = subst (λ (l : List ℕ). HasRead first_layout low so_far.batches c.loop.scan l) (sym same) so_far.read in
-    let here = reads_inside c.args.generation low so_far.batches c.loop.scan content last inv.generation so_far.read ends in
-    let reads = subst (λ (l : List ℕ). ReadsAtGate first_layout (drop c.loop.scan.gate l) here.size) (sym same) here.reads in
+    let read = subst (λ (l : List ℕ). HasRead layout low so_far.batches c.loop.scan l) (sym same) so_far.read in
+    let here = reads_inside layout (layout_room c.loop.scan.version) c.args.generation low so_far.batches c.loop.scan content last inv.generation so_far.read (subst (λ (v : Version). EndsAt (layout_of v) c.args.generation low content last) (sym inv.version) ends) in
+    let reads = subst (λ (l : List ℕ). ReadsAtGate layout (drop c.loop.scan.gate l) here.size) (sym same) here.reads in
     let tried = c.in_err-entries.ensures.within honest low here.size so_far.batches read reads in
     rw q.1 (pieces_further (length (g.D.Disk.states c.args.disk.now)) (length (g.D.Disk.states c.loop.disk)) (length (g.D.Disk.states c.next_frame.new.disk))
     (end_of c.args.scan.now.reader) (end_of c.loop.scan.reader) c.loop.scan.gate here.size last inv.called inv.pieces here.some here.inside tried)
@@ -143,14 +153,15 @@ pub returns-in_err-apply-in-Batch-clause-tried : goal.returns-in_err-apply-in-Ba
 returns-in_err-apply-in-Batch-clause-tried g c = λ honest low last begun ends.
     let q = err_from_is_err_and c.from_residual-in_err-apply-in-Batch.result c.from_residual-in_err-apply-in-Batch.ensures.1 in
     let inv = c.loop.invariant in
+    let layout : Layout = layout_of c.loop.scan.version in
     let content : List ℕ = log_bytes g.D.Disk.states c.args.disk.now c.args.generation in
     let so_far = inv.read (c.in_ok-entries.ensures.looks.was_honest honest) low begun in
     let same = same_log g.D.Disk.states g.D.Disk.failures g.D.Disk.honest c.args.disk.now c.loop.disk inv.looks c.loop.scan c.args.generation inv.generation in
-    let found = rw c.in-Batch.is at (c.in_ok-entries.ensures.found honest low so_far.batches (subst (λ (l : List ℕ). HasRead first_layout low so_far.batches c.loop.scan l) (sym same) so_far.read)) in
+    let found = rw c.in-Batch.is at (c.in_ok-entries.ensures.found honest low so_far.batches (subst (λ (l : List ℕ). HasRead layout low so_far.batches c.loop.scan l) (sym same) so_far.read)) in
     let goes_on = rw c.in-Batch.is at c.in_ok-entries.ensures.goes_on in
     let next : pieces_in (end_of c.next_frame.new.self.reader) ≡ max (pieces_in (end_of c.loop.scan.reader)) (pieces_in (c.next_frame.new.self.gate + 1)) = rw c.in-Batch.is at c.in_ok-entries.ensures.pieces in
-    let read = subst (λ (l : List ℕ). IsNextBatch first_layout low so_far.batches c.in-Batch.entries.items c.loop.scan c.next_frame.new.self l) same found in
-    let here = reads_inside c.args.generation low (so_far.batches ++ batch_of c.loop.scan.expected c.in-Batch.entries.items ∷ []) c.next_frame.new.self content last (goes_on.0 ∙ inv.generation) read.read ends in
+    let read = subst (λ (l : List ℕ). IsNextBatch layout low so_far.batches c.in-Batch.entries.items c.loop.scan c.next_frame.new.self l) same found in
+    let here = reads_inside layout (layout_room c.loop.scan.version) c.args.generation low (so_far.batches ++ batch_of c.loop.scan.expected c.in-Batch.entries.items ∷ []) c.next_frame.new.self content last (goes_on.0 ∙ inv.generation) read.read (subst (λ (v : Version). EndsAt (layout_of v) c.args.generation low content last) (sym inv.version) ends) in
     rw q.1 (pieces_upto (length (g.D.Disk.states c.args.disk.now)) (length (g.D.Disk.states c.loop.disk)) (length (g.D.Disk.states c.next_frame.new.disk))
     (end_of c.args.scan.now.reader) (end_of c.loop.scan.reader) (end_of c.next_frame.new.self.reader) c.loop.scan.gate c.next_frame.new.self.gate here.size last
     inv.called inv.pieces c.in_ok-entries.ensures.called next goes_on.2 here.some here.inside)
@@ -159,7 +170,7 @@ pub returns-clause-tried : goal.returns-clause-tried
 returns-clause-tried g c = λ honest low last begun ends.
     let so_far = c.loop.invariant.read honest low begun in
     let many = so_far.many in
-    let few = few_batches low so_far.batches c.loop.scan (log_bytes g.D.Disk.states c.args.disk.now c.args.generation) so_far.read in
+    let few = few_batches (layout_of c.loop.scan.version) low so_far.batches c.loop.scan (log_bytes g.D.Disk.states c.args.disk.now c.args.generation) so_far.read in
     let over = c.loop-test.false in
     let fits = c.damaged.ensures.fits in
     absurd (omega (arith, many, few, over, fits))

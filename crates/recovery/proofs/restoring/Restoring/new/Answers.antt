@@ -1,13 +1,13 @@
 use Rattle.std.proofs.Common.{sym, ap, subst}
 use Rattle.std.specs.FinMap as finite
-use Rattle.log_records.specs.Layout.{first_layout}
+use Rattle.log_records.specs.Layout.{layout_of}
 use Rattle.recovery.specs.Counting.{entries_in}
 use Rattle.recovery.specs.Dividing.{AreGroups, IsDivided, lists_of}
 use Rattle.recovery.proofs.GroupingLemmas.{distinct_entries}
 use Rattle.recovery.proofs.restoring.Restoring.new.Goals as goal
 
 pub of_sections-requires : goal.of_sections-requires
-of_sections-requires c = distinct_entries first_layout c.args.loaded.stripes.count 0 c.args.loaded.sections.items c.requires.fit c.requires.rising
+of_sections-requires c = distinct_entries (layout_of c.args.loaded.version) c.args.loaded.stripes.count 0 c.args.loaded.sections.items c.requires.fit c.requires.rising
 
 pub with_entries-requires : goal.with_entries-requires
 with_entries-requires c =

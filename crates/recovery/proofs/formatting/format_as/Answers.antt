@@ -6,7 +6,7 @@ use Rattle.recovery.proofs.GateClosing.{on_ok}
 use Rattle.recovery.proofs.NewFiles.{still_empty}
 use Rattle.recovery.specs.LogReading.{contents_of}
 use Rattle.recovery.proofs.SyncingLemmas.{read_is_left}
-use Rattle.recovery.proofs.formatting.format.Goals as goal
+use Rattle.recovery.proofs.formatting.format_as.Goals as goal
 
 pub returns-in_err-sync_files-clause-moments : goal.returns-in_err-sync_files-clause-moments
 returns-in_err-sync_files-clause-moments g c = λ honest at.
@@ -45,6 +45,14 @@ returns-clause-ok g c =
     (c.in_ok-is_formatted.ensures.value before) c.if-branch.false in
     made honest c.args.stripes.count c.args.stripes.allowed (c.deref.ensures.value ∙ c.in_ok-bytes.ensures.ok) clear) c.make_store.ensures.ok
 
+pub returns-clause-written : goal.returns-clause-written
+returns-clause-written g c =
+    on_ok _ _ c.make_store.result (λ made honest.
+    let before = c.make_store.ensures.was_honest honest in
+    let clear = is_clear g.D.Disk.states g.D.Disk.failures g.D.Disk.honest c.args.disk.now c.sync_files.new.disk c.is_formatted.new.disk c.in_ok-sync_files.ensures.ok c.in_ok-is_formatted.ensures.looks _
+    (c.in_ok-is_formatted.ensures.value before) c.if-branch.false in
+    made honest c.args.stripes.count c.args.stripes.allowed (c.deref.ensures.value ∙ c.in_ok-bytes.ensures.ok) clear) c.make_store.ensures.written
+
 pub returns-clause-reads : goal.returns-clause-reads
 returns-clause-reads g c =
     on_ok _ _ c.make_store.result (λ made honest.
@@ -53,6 +61,15 @@ returns-clause-reads g c =
     (c.in_ok-is_formatted.ensures.value before) c.if-branch.false in
     (made honest c.args.stripes.count c.args.stripes.allowed (c.deref.ensures.value ∙ c.in_ok-bytes.ensures.ok) clear) (contents_of g.D.Disk.states c.make_store.new.disk)
     (read_is_left (g.D.Disk.states c.make_store.new.disk) (g.met.D.Disk.are_coherent c.make_store.new.disk))) c.make_store.ensures.ok
+
+pub returns-clause-read_in : goal.returns-clause-read_in
+returns-clause-read_in g c =
+    on_ok _ _ c.make_store.result (λ made honest.
+    let before = c.make_store.ensures.was_honest honest in
+    let clear = is_clear g.D.Disk.states g.D.Disk.failures g.D.Disk.honest c.args.disk.now c.sync_files.new.disk c.is_formatted.new.disk c.in_ok-sync_files.ensures.ok c.in_ok-is_formatted.ensures.looks _
+    (c.in_ok-is_formatted.ensures.value before) c.if-branch.false in
+    (made honest c.args.stripes.count c.args.stripes.allowed (c.deref.ensures.value ∙ c.in_ok-bytes.ensures.ok) clear) (contents_of g.D.Disk.states c.make_store.new.disk)
+    (read_is_left (g.D.Disk.states c.make_store.new.disk) (g.met.D.Disk.are_coherent c.make_store.new.disk))) c.make_store.ensures.written
 
 pub returns-clause-files : goal.returns-clause-files
 returns-clause-files g c =
