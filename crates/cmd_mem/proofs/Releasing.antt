@@ -15,6 +15,7 @@ use Rattle.ticket_order.specs.Calls.{Misses, Reaches, SeesAgain}
 use Rattle.gate_log.specs.States.{LogState}
 use Rattle.flusher.specs.declared.keeper.Keeper.{Keeper}
 use Rattle.flusher.specs.Fitting.{IsTakenFront, WereTaken}
+use Rattle.log_records.specs.Layout.{layout_of}
 use Rattle.store_layout.specs.Hands.{FitsBatch, Hand, IsLongest}
 use Rattle.flusher.specs.KeeperSteps.{is_too_long}
 use Rattle.wire_frames.specs.declared.requests.Request.{Request}
@@ -71,12 +72,12 @@ pub published_idle : {D : Type 0} (old new : Keeper D) (count : ℕ) → new ≡
 published_idle {D} old new count is idle = subst (λ (k : Keeper D). IsIdle k) (sym is) (record { working = idle.working; unfailed = idle.unfailed; resting = idle.resting; alone = idle.alone; still = idle.still })
 
 -- a batch that the keeper refuses as too long
-pub no_room : (hand : Hand) (old new : LogState) (p : Record) (commands : List Command) → new ≡ old → hand.next ≡ old.committed → 1 ≤ length commands → IsLongest 65536 hand commands → WereTaken old.committed commands p → is_too_long old commands → CannotCommit new p
+pub no_room : (hand : Hand) (old new : LogState) (p : Record) (commands : List Command) → new ≡ old → hand.next ≡ old.committed → 1 ≤ length commands → IsLongest (layout_of old.version) 65536 hand commands → WereTaken old.committed commands p → is_too_long old commands → CannotCommit new p
 no_room hand old new p commands same next some longest taken long =
     subst (λ (log : LogState). CannotCommit log p) (sym same) (inr (record {
       commands = commands;
       some = some;
       taken = taken;
-      fits = subst (λ (t : ℕ). FitsBatch 65536 t commands) next longest.fits;
+      fits = subst (λ (t : ℕ). FitsBatch (layout_of old.version) 65536 t commands) next longest.fits;
       too_long = long;
     }))

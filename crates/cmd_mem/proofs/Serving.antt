@@ -1,5 +1,5 @@
 -- From the beginning of a call to its end.
-use Rattle.std.proofs.Common.{◌≡◌, ℕ, List, [], ◌∷◌, ◌++◌, IfOk, Result, Ok, Err, refl, sym, ap, subst, ◌∙◌, arith}
+use Rattle.std.proofs.Common.{◌≡◌, ℕ, List, [], ◌∷◌, ◌++◌, IfOk, Result, Ok, Err, inl, inr, refl, sym, ap, subst, ◌∙◌, arith}
 use Rattle.std.proofs.lemmas.List.Elements.{Contains-append_left, Contains-append_right}
 use Rattle.std.specs.List.{Contains}
 use Rattle.map_types.specs.declared.commands.Command.{Command}
@@ -17,13 +17,13 @@ use Rattle.ticket_order.specs.Records.{call}
 use Rattle.ticket_order.specs.Calls.{RefusesChange, RefusesRead}
 use Rattle.ticket_order.specs.Legality.{entries_from}
 use Rattle.gate_log.specs.States.{LogState}
-use Rattle.flusher.specs.Fitting.{IsBeside}
+use Rattle.flusher.specs.Fitting.{GoesOnByCalls, IsBeside}
 use Rattle.wire_frames.specs.declared.requests.Request.{Request}
 use Rattle.wire_frames.specs.declared.requests.Request.TheVariants.{Change, Read as AskRead, Bulk as AskBulk}
 use Rattle.connections.specs.Dialogue.{Answer}
 use Rattle.cmd_mem.specs.Served.{AreTaken, Begins, BegunIsServed, Ends, GoesOn, IsCallOf, IsGivenOut, IsWithheld, PassGoesOn, StillMade}
 use Rattle.ticket_order.proofs.Entries.{grown}
-use Rattle.flusher.proofs.OwnCalls.{call_goes_on, read_goes_on, refused_change_goes_on, refused_read_goes_on, sees}
+use Rattle.flusher.proofs.OwnCalls.{none_goes_on, call_goes_on, read_goes_on, refused_change_goes_on, refused_read_goes_on, sees}
 use Rattle.flusher.proofs.Seeing.{sees_none, sees_then}
 use Rattle.cmd_mem.proofs.OwnEntry.{own_taken}
 
@@ -40,7 +40,8 @@ begun_goes : (n : ℕ) (v : Record) (request : Request) (result : Result Held Re
 begun_goes n v (Change command) (Ok held) w b = beside_goes v w (call_goes_on n v command held.position held.reply w b).beside
 begun_goes n v (AskRead read) (Ok held) w b = beside_goes v w (read_goes_on n v read held.position held.reply w b).beside
 begun_goes n v (AskBulk bulk) (Ok held) w b = absurd b
-begun_goes n v (Change command) (Err refusal) w b = beside_goes v w (refused_change_goes_on v _ refusal w b).beside
+begun_goes n v (Change command) (Err refusal) w (inl long) = beside_goes v w (subst (GoesOnByCalls v) (sym long.is) (none_goes_on v)).beside
+begun_goes n v (Change command) (Err refusal) w (inr b) = beside_goes v w (refused_change_goes_on v _ refusal w b.1).beside
 begun_goes n v (AskRead read) (Err refusal) w b = beside_goes v w (refused_read_goes_on v _ refusal w b).beside
 begun_goes n v (AskBulk bulk) (Err refusal) w b = subst (λ (r : Record). GoesOn v r) (sym b.1) (goes_same v)
 
@@ -109,7 +110,8 @@ pub begun_still : (n : ℕ) (v : Record) (request : Request) (result : Result He
 begun_still n v (Change command) (Ok held) w b = grows v w _ b.grew
 begun_still n v (AskRead read) (Ok held) w b = grows v w _ b.grew
 begun_still n v (AskBulk bulk) (Ok held) w b = absurd b
-begun_still n v (Change command) (Err refusal) w b = stays v w (refused_stays v _ refusal w b)
+begun_still n v (Change command) (Err refusal) w (inl long) = stays v w (ap (λ (x : Record). x.calls) long.is)
+begun_still n v (Change command) (Err refusal) w (inr b) = stays v w (refused_stays v _ refusal w b.1)
 begun_still n v (AskRead read) (Err refusal) w b = stays v w (read_stays v _ refusal w b)
 begun_still n v (AskBulk bulk) (Err refusal) w b = stays v w (ap (λ (x : Record). x.calls) b.1)
 

@@ -6,6 +6,7 @@ use Rattle.map_types.specs.declared.refusals.Refusal.TheVariants as refusal_type
 use Rattle.ticket_order.specs.declared.held.Held.{Held}
 use Rattle.ticket_order.specs.declared.record.Record.{Record}
 use Rattle.ticket_order.specs.declared.record.Opening.{Opening}
+use Rattle.store_layout.specs.Logs.{new_layout}
 use Rattle.stripe_locks.specs.Plays.{joining}
 use Rattle.disk_model.specs.Files.{Files, now}
 use Rattle.ticket_order.specs.Legality.{history_of}
@@ -25,9 +26,9 @@ pub record MapState : Type 0 where
   pub log : LogState
   pub has_failed : Bool
 
--- where an empty map begins
+-- where an empty map begins, in files of a new generation
 abbrev pub nothing_yet : Opening
-nothing_yet = record { first = 0; map = finite.empty }
+nothing_yet = record { first = 0; map = finite.empty; key_limit = new_layout.key_limit }
 
 -- An empty map of 16 stripes: its pass has made no step, and its log goes on from the first ticket.
 pub record IsEmpty (map : MapState) : Type 0 where

@@ -13,10 +13,11 @@ use Rattle.ticket_order.specs.declared.record.Record.{Record}
 use Rattle.ticket_order.specs.declared.stripe.Entry.{Entry}
 use Rattle.ticket_order.specs.Records.{call, entry, failing, publishing}
 use Rattle.ticket_order.specs.Legality.{entries_from}
-use Rattle.ticket_order.specs.Calls.{MakesCall, MakesRead, RefusesChange, RefusesRead, Reaches}
+use Rattle.ticket_order.specs.Calls.{MakesCall, MakesRead, RefusesRead, Reaches, TurnsDown}
 use Rattle.gate_log.specs.States.{LogState, IsResting}
 use Rattle.flusher.specs.declared.keeper.Keeper.{Keeper}
 use Rattle.flusher.specs.Fitting.{Fits, HasSeenMore, IsQuiet, IsTakenFront, WereTaken}
+use Rattle.log_records.specs.Layout.{layout_of}
 use Rattle.store_layout.specs.Hands.{FitsBatch}
 use Rattle.store_layout.specs.Logs.{most_commands}
 use Rattle.flusher.specs.KeeperSteps.{is_too_long, is_walking}
@@ -38,7 +39,7 @@ pub record IsIdle {D : Type 0} (keeper : Keeper D) : Type 0 where
 
 -- No call was added. A request of the whole map is no method here: it is always refused so, and the pass makes no step.
 abbrev pub Refuses : ℕ → Record → Request → Refusal → Record → Type 0
-Refuses n v (Change command) refusal w = RefusesChange v (stripe_of n command.key) refusal w
+Refuses n v (Change command) refusal w = TurnsDown n v command refusal w
 Refuses n v (Read read) refusal w = RefusesRead v (stripe_of n read.key) refusal w
 Refuses n v (Bulk bulk) refusal w = (refusal ≡ refusal_type.UnknownMethod) × (w ≡ v)
 
@@ -98,7 +99,7 @@ pub record HasNoRoom (log : LogState) (p : Record) : Type 0 where
   pub commands : List Command
   pub some : 1 ≤ length commands
   pub taken : WereTaken log.committed commands p
-  pub fits : FitsBatch most_commands log.committed commands
+  pub fits : FitsBatch (layout_of log.version) most_commands log.committed commands
   pub too_long : is_too_long log commands
 
 -- the log takes no further batch: a device call has failed, or the log is full

@@ -163,7 +163,8 @@ fn open_new<D: Disk + Drop>(alloc: Global, disk: D) -> Result<(Keeper<D>, Stripe
 
     // The invariant begins, for a pass that made no call of the keeper.
     ensures kept { IfOk result (λ x. (p : Record) → p.opening ≡ begun_with x.1
-        → IsUnused (begun_with x.1).first p → IsKept D.states D.honest 16 x.0 p) }
+        → IsUnused (begun_with x.1).first (begun_with x.1).key_limit p
+        → IsKept D.states D.honest 16 x.0 p) }
 
     // No device call failed; or the refusal says why it was not opened.
     ensures failures { IfOk result (λ x. D.failures x.0.disk ≡ D.failures disk) }

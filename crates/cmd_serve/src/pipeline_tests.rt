@@ -21,7 +21,7 @@ const LOG_HEAD: u64 = 18;
 const BATCH_HEAD: u64 = 18;
 
 /// The bytes of a put of a number at a key of one byte.
-const PUT_BYTES: u64 = 12;
+const PUT_BYTES: u64 = 13;
 
 /// Puts of the numbers from 1 to 64 at `a`.
 fn numbered_puts(alloc: Global) -> Result<Vec<u8>, Fail> {
@@ -49,10 +49,10 @@ fn server_over(rt: &HostRuntime, directory: &str) -> Result<Server<DirDisk<Unkno
     let alloc = rt.alloc();
     let mut disk = DirDisk::create(rt, alloc, directory, Unknown)?;
     format(alloc, &mut disk, sixteen()?).map_err(|_| "it is formatted")?;
-    let Ok((keeper, parts, first)) = open_parts(alloc, disk, sixteen()?) else {
+    let Ok((keeper, parts, first, limit)) = open_parts(alloc, disk, sixteen()?) else {
         return Err(Fail::from("it is opened"));
     };
-    match DurableMap::new(alloc, keeper, parts, first) {
+    match DurableMap::new(alloc, keeper, parts, first, limit) {
         Ok(map) => Ok(Server::new(alloc, map, &settings(1)?, FirstError::new(alloc)?)),
         Err(_) => Err(Fail::from("there is memory")),
     }

@@ -310,7 +310,9 @@ pub(crate) fn serve_disk<
         disk (W.contents output.old) (W.contents output.new) result }
 {
     match open_parts(alloc, disk, settings.stripes) {
-        Ok((keeper, parts, first)) => match DurableMap::new(alloc, keeper, parts, first) {
+        Ok((keeper, parts, first, limit)) => match DurableMap::new(
+            alloc, keeper, parts, first, limit,
+        ) {
             Ok(map) => {
                 if let Err(refusal) = map.set_log_ahead(rt, settings.ahead as usize) {
                     return refuse(alloc, refusal, error);

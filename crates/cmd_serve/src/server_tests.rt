@@ -76,10 +76,10 @@ pub(crate) fn settings(port: u16) -> Result<Settings, Fail> {
 fn server_over(alloc: Global, failure: Option<Failure>) -> Result<Server<MemDisk>, Fail> {
     let mut disk = formatted(alloc)?;
     disk.plan(failure);
-    let Ok((keeper, parts, first)) = open_parts(alloc, disk, sixteen()?) else {
+    let Ok((keeper, parts, first, limit)) = open_parts(alloc, disk, sixteen()?) else {
         return Err(Fail::from("it is opened"));
     };
-    match DurableMap::new(alloc, keeper, parts, first) {
+    match DurableMap::new(alloc, keeper, parts, first, limit) {
         Ok(map) => Ok(Server::new(alloc, map, &settings(1)?, FirstError::new(alloc)?)),
         Err(_) => Err(Fail::from("there is memory")),
     }

@@ -8,8 +8,8 @@ use Rattle.flusher.specs.Fitting.{IsUnused}
 use Rattle.recovery.proofs.FirstPasses.{unused}
 
 -- the first pass of stripes that were begun so
-pub unused_at : (o begun : Opening) (p : Record) → p ≡ joining begun 0 → begun ≡ o → IsUnused o.first p
-unused_at o begun p first is = subst (λ (x : Opening). IsUnused x.first p) is (subst (λ (r : Record). IsUnused begun.first r) (sym first) (unused begun))
+pub unused_at : (o begun : Opening) (p : Record) → p ≡ joining begun 0 → begun ≡ o → IsUnused o.first o.key_limit p
+unused_at o begun p first is = subst (λ (x : Opening). IsUnused x.first x.key_limit p) is (subst (λ (r : Record). IsUnused begun.first begun.key_limit r) (sym first) (unused begun))
 
 pub none_captured : (n : ℕ) (begun : Opening) (p : Record) → p ≡ joining begun 0 → AllLegalSections n p p.sections
 none_captured n begun p first = subst (λ (r : Record). AllLegalSections n r r.sections) (sym first) tt

@@ -1,5 +1,5 @@
 -- A call that was refused before it was made.
-use Rattle.std.proofs.Common.{◌≡◌, ℕ, Err, ap, ◌∙◌}
+use Rattle.std.proofs.Common.{◌≡◌, ℕ, Err, inl, inr, ap, subst, sym, ◌∙◌}
 use Rattle.java_hash.specs.Stripes.{stripe_of}
 use Rattle.map_types.specs.declared.commands.Command.{Command}
 use Rattle.map_types.specs.declared.commands.Read.{Read}
@@ -8,8 +8,9 @@ use Rattle.map_types.specs.declared.refusals.Refusal.TheVariants as refusal
 use Rattle.ticket_order.specs.declared.record.Asked.TheVariants.{Changing, Reading}
 use Rattle.ticket_order.specs.declared.record.Record.{Record}
 use Rattle.ticket_order.specs.Calls.{RefusesChange, RefusesRead}
-use Rattle.stripe_locks.specs.Waits.{RefusesChangeInTime, RefusesReadInTime}
-use Rattle.flusher.proofs.OwnCalls.{refused_change_goes_on, refused_read_goes_on, then}
+use Rattle.stripe_locks.specs.Waits.{RefusesReadInTime, TurnsDownInTime}
+use Rattle.flusher.specs.Fitting.{GoesOnByCalls}
+use Rattle.flusher.proofs.OwnCalls.{none_goes_on, refused_change_goes_on, refused_read_goes_on, then}
 use Rattle.durable_map.specs.Durable.{Begins}
 use Rattle.durable_map.proofs.Answering.{waited}
 
@@ -27,10 +28,14 @@ read_adds_none v i refusal.Failed w k = k.same_calls
 read_adds_none v i refusal.NoMemory w k = k.same_calls
 read_adds_none v i other w k = absurd k
 
-pub change_refused : (n : ℕ) (v : Record) (c : Command) (w : Record) (e : Refusal) → RefusesChangeInTime v (stripe_of n c.key) e w → Begins n v (Changing c) (Err e) w
-change_refused n v c w e k = record {
-  goes_on = then v k.waited w (waited _ v k.waited k.waits) (refused_change_goes_on k.waited _ e w k.refused);
-  adds = record { refused = k; calls = change_adds_none k.waited _ e w k.refused ∙ ap (λ (r : Record). r.calls) k.waits.is };
+pub change_refused : (n : ℕ) (v : Record) (c : Command) (w : Record) (e : Refusal) → TurnsDownInTime n v c e w → Begins n v (Changing c) (Err e) w
+change_refused n v c w e (inl k) = record {
+  goes_on = subst (GoesOnByCalls v) (sym k.is) (none_goes_on v);
+  adds = record { refused = inl k; calls = ap (λ (r : Record). r.calls) k.is };
+}
+change_refused n v c w e (inr k) = record {
+  goes_on = then v k.1.waited w (waited _ v k.1.waited k.1.waits) (refused_change_goes_on k.1.waited _ e w k.1.refused);
+  adds = record { refused = inr k; calls = change_adds_none k.1.waited _ e w k.1.refused ∙ ap (λ (r : Record). r.calls) k.1.waits.is };
 }
 
 pub read_refused : (n : ℕ) (v : Record) (r : Read) (w : Record) (e : Refusal) → RefusesReadInTime v (stripe_of n r.key) e w → Begins n v (Reading r) (Err e) w

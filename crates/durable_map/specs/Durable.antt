@@ -12,13 +12,13 @@ use Rattle.ticket_order.specs.declared.record.Record.{Record}
 use Rattle.ticket_order.specs.declared.record.StepMade.{StepMade}
 use Rattle.ticket_order.specs.declared.record.StepMade.TheVariants.{FoundAlive, Saw}
 use Rattle.ticket_order.specs.Records.{call, reach}
-use Rattle.ticket_order.specs.Calls.{MakesCall, MakesRead, RefusesChange, RefusesRead}
+use Rattle.ticket_order.specs.Calls.{MakesCall, MakesRead, RefusesRead, TurnsDown}
 use Rattle.ticket_order.specs.Legality.{IsLegal, history_of}
 use Rattle.ticket_order.specs.Walks.{Kind, kind_of}
 use Rattle.one_history.specs.OneHistory.{Follows}
 use Rattle.stripe_locks.specs.Holding.{position_of, reply_of}
 use Rattle.stripe_locks.specs.declared.held.Held.{Held}
-use Rattle.stripe_locks.specs.Waits.{MakesCallInTime, MakesReadInTime, RefusesChangeInTime, RefusesReadInTime}
+use Rattle.stripe_locks.specs.Waits.{MakesCallInTime, MakesReadInTime, RefusesReadInTime, TurnsDownInTime}
 use Rattle.flusher.specs.Fitting.{GoesOnByCalls, IsBeside}
 use Rattle.durable_map.specs.declared.map.DurableMap.{DurableMap}
 use Rattle.durable_map.specs.Maps.{IsHeldOf, stripe_count}
@@ -117,9 +117,9 @@ pub record LosesCall (n : ℕ) (v : Record) (asked : Asked) (w : Record) : Type 
   pub failed : EndsFailed v position w
 
 -- The steps of a call of n stripes that was refused before it was made, and no others: it waited for its stripe, which was
--- never the cause.
+-- never the cause. A change with a key above the limit makes none.
 abbrev pub RefusesInTime : ℕ → Record → Asked → Refusal → Record → Type 0
-RefusesInTime n v (Changing command) refusal w = RefusesChangeInTime v (stripe_of n command.key) refusal w
+RefusesInTime n v (Changing command) refusal w = TurnsDownInTime n v command refusal w
 RefusesInTime n v (Reading read) refusal w = RefusesReadInTime v (stripe_of n read.key) refusal w
 
 -- The call was refused before it was made, and no call was added.
@@ -206,6 +206,6 @@ pub record FollowEachOther (v : Record) (first : Asked) (one : Reply) (second : 
 -- what a try of a call leaves, by its answer
 abbrev pub Tries : {D : Type 0} → DurableMap D → Record → Asked → Result Held Refusal → Record → Type 0
 Tries map v (Changing command) (Ok held) w = IsHeldOf map held × MakesCall (stripe_count map) v command (position_of held) (reply_of held) w
-Tries map v (Changing command) (Err refusal) w = RefusesChange v (stripe_of (stripe_count map) command.key) refusal w
+Tries map v (Changing command) (Err refusal) w = TurnsDown (stripe_count map) v command refusal w
 Tries map v (Reading read) (Ok held) w = IsHeldOf map held × MakesRead (stripe_count map) v read (position_of held) (reply_of held) w
 Tries map v (Reading read) (Err refusal) w = RefusesRead v (stripe_of (stripe_count map) read.key) refusal w

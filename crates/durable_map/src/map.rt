@@ -34,29 +34,32 @@ pub struct DurableMap<D: Disk + Drop> {
 
 impl<D: Disk + Drop> DurableMap<D> {
     /// A map over what `open_parts` of `recovery` returns: the keeper of a directory, the parts of
-    /// the map that it stands for, and how many commands were made. Refused with `NoMemory`, or
+    /// the map that it stands for, how many commands were made, and the most bytes that the key of a
+    /// change may have. Refused with `NoMemory`, or
     /// with `SeatsSpent` if the keeper's pass can't be had; the disk is handed back.
     pub fn new(
         alloc: Global,
         keeper: Keeper<D>,
         parts: Vec<Part>,
         first: u64,
+        key_limit: u16,
     ) -> Result<DurableMap<D>, (D, Refusal)>
         // The keeper has done nothing yet, and there is a part for each stripe.
         requires start { IsAtStart keeper.stripes first keeper }
         requires parts { ArePartsOf keeper.stripes.count parts.items }
-        requires fits { (p : Record) → p.opening ≡ turns.opening_of first parts.items
-            → IsUnused first p → Fits D.states D.honest keeper.stripes.count [] keeper p }
+        requires fits { (p : Record) → p.opening ≡ turns.opening_of first parts.items key_limit
+            → IsUnused first key_limit p → Fits D.states D.honest keeper.stripes.count [] keeper p }
 
         // The map has the keeper's stripes, and begins with these parts.
         ensures stripes { IfOk result (λ map. stripe_count map ≡ keeper.stripes.count) }
-        ensures opening { IfOk result (λ map. opening_of map ≡ turns.opening_of first parts.items) }
+        ensures opening { IfOk result (λ map.
+            opening_of map ≡ turns.opening_of first parts.items key_limit) }
 
         // Refused: no memory, or no keeper's pass. The disk is handed back.
         ensures disk { IfErr result (λ x. x.0 ≡ keeper.disk) }
         ensures err { IfErr result (λ x. (x.1 ≡ Refusal.NoMemory) ⊎ (x.1 ≡ Refusal.SeatsSpent)) }
     {
-        let stripes = match Stripes::new(alloc, keeper.stripes, parts, first) {
+        let stripes = match Stripes::new(alloc, keeper.stripes, parts, first, key_limit) {
             Ok(stripes) => stripes,
             Err(refusal) => return Err((keeper.into_disk(), refusal)),
         };
@@ -76,6 +79,14 @@ impl<D: Disk + Drop> DurableMap<D> {
             stripes,
             locked: Mutex::new(locked),
         })
+    }
+
+    /// The most bytes that the key of a change may have. A change with a longer key is refused with
+    /// `KeyTooLong`.
+    pub fn key_limit(&self) -> u16
+        ensures { result ≡ (opening_of self.now).key_limit }
+    {
+        self.stripes.key_limit()
     }
 
     /// A new pass, for one worker's calls: never the keeper's. A pass isn't given back: once 4,095 were

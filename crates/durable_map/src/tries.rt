@@ -14,7 +14,8 @@ use map_types::{Change, Command, Func, Key, Question, Read, Refusal, Value};
 use stripe_locks::{Held, Pass};
 
 impl<D: Disk + Drop> DurableMap<D> {
-    /// Makes a change, unless another pass holds the stripe of its key (`Busy`). `Failed` if the
+    /// Makes a change, unless another pass holds the stripe of its key (`Busy`), or the key is above
+    /// the limit (`KeyTooLong`). `Failed` if the
     /// store has failed, `TicketsSpent` if 2^62 changes were made, and `NoMemory`: then nothing was
     /// changed.
     pub fn try_change(&self, pass: &mut Pass, command: Command) -> Result<Held, Refusal>

@@ -12,6 +12,6 @@ invariant_of-result g c =
     let o = begun_with c.in_ok-keeper.stripes in
     let first : p ≡ joining o 0 = c.in-Ok.ensures.first in (
       c.in-Ok.ensures.own,
-      rw c.in_ok-keeper.ensures.stripes (c.in_ok-keeper.ensures.kept p (ap (λ (r : Record). r.opening) first) (subst (λ (r : Record). IsUnused o.first r) (sym first) (unused o))),
+      rw c.in_ok-keeper.ensures.stripes (c.in_ok-keeper.ensures.kept p (ap (λ (r : Record). r.opening) first) (subst (λ (r : Record). IsUnused o.first o.key_limit r) (sym first) (unused o))),
       λ _. c.in_ok-keeper.ensures.idle,
     )
