@@ -11,8 +11,9 @@ use Rattle.sim_rules.specs.declared.outcome.Outcome.TheVariants as outcome
 use Rattle.sim_rules.specs.Cases.{HappensWith}
 use Rattle.sim_rules.specs.Fitting.{fits_inside, fits_outside, fits_with, is_worker}
 use Rattle.sim_rules.specs.Machine.{Machine}
-use Rattle.sim_rules.specs.Runs.{Happens, IsRun, LeadsTo, Row, rows_of, rows_onto}
-use Rattle.sim_rules.specs.World.{Life, World, is_walking, job_of}
+use Rattle.sim_rules.specs.Runs.{Happens, IsRun, IsRunFrom, LeadsTo, Row, rows_of, rows_onto}
+use Rattle.sim_rules.specs.World.{Life, World, is_walking, job_of, old_start, start}
+use Rattle.sim_rules.proofs.RunLaws.{runs_begin}
 use Rattle.sim_script.specs.declared.line.Form.{Form}
 use Rattle.sim_script.specs.declared.script.Span.{Span}
 use Rattle.sim_script.specs.Spans.{IsTakenBack, TakesBack, behind_line, is_release, is_skipped, is_stray, of_line, or_later, stray_steps, told_by}
@@ -98,10 +99,10 @@ skips_nobody w w' row happens unfit =
     ap is_skipped
     (subst (λ b. MatchBool b (HappensWith w w.life happens.found row.0 row.1) (row.1 ≡ outcome.Skipped)) (not_fitting w.life row.0 unfit) happens.meets)
 
-all_skip : (rows : List Row) (w : World) (a : Machine) → LeadsTo rows w a → AllByRecursion SkipsNobody rows
+all_skip : (from : World) (rows : List Row) (w : World) (a : Machine) → LeadsTo from rows w a → AllByRecursion SkipsNobody rows
 unfolding LeadsTo
-all_skip [] w a leads = tt
-all_skip (row ∷ rows) w a (w0, a0, leads, happens, moves, keeps) = (skips_nobody w0 w row happens, all_skip rows w0 a0 leads)
+all_skip from [] w a leads = tt
+all_skip from (row ∷ rows) w a (w0, a0, leads, happens, moves, keeps) = (skips_nobody w0 w row happens, all_skip from rows w0 a0 leads)
 
 all_before : (rows : List Row) (events : List Event) (outcomes : List Outcome) → AllByRecursion SkipsNobody (rows_onto rows events outcomes) → AllByRecursion SkipsNobody rows
 unfolding rows_onto
@@ -122,12 +123,32 @@ yes_else : (b skipped : Bool) → (b ≡ false → skipped ≡ true) → skipped
 yes_else true skipped h unfit = refl
 yes_else false skipped h unfit = absurd (false≢true (sym unfit ∙ h refl))
 
+-- the event at this place may fit
+abbrev MayFitAt : List Event → ℕ → Type 0
+MayFitAt events place = (e : Event) × (slice_get events place ≡ Some e) × (may_fit e ≡ true)
+
 -- an event whose outcome isn't skipped may fit
-fitted : (events : List Event) (outcomes : List Outcome) → IsRun events outcomes → (place : ℕ) (x : Outcome) → slice_get outcomes place ≡ Some x → is_skipped x ≡ false
-    → (e : Event) × (slice_get events place ≡ Some e) × (may_fit e ≡ true)
-fitted events outcomes run place x is made =
-    let row = row_at [] events outcomes place x run.one_each (all_skip (rows_of events outcomes) run.world run.machine run.leads) is in
+fitted_from : (from : World) (events : List Event) (outcomes : List Outcome) → IsRunFrom from events outcomes → (place : ℕ) (x : Outcome) → slice_get outcomes place ≡ Some x → is_skipped x ≡ false
+    → MayFitAt events place
+fitted_from from events outcomes run place x is made =
+    let row = row_at [] events outcomes place x run.one_each (all_skip from (rows_of events outcomes) run.world run.machine run.leads) is in
     (row.0, row.1, yes_else (may_fit row.0) (is_skipped x) row.2 made)
+
+-- and so may an Old before them
+behind_old : (events : List Event) (outcomes : List Outcome) → IsRunFrom old_start events outcomes → (place : ℕ) (x : Outcome) → slice_get (outcome.Old ∷ outcomes) place ≡ Some x → is_skipped x ≡ false
+    → MayFitAt (event.Old ∷ events) place
+behind_old events outcomes run zero x is made = (event.Old, refl, refl)
+behind_old events outcomes run (suc place) x is made = fitted_from old_start events outcomes run place x is made
+
+fitted_by : (events : List Event) (outcomes : List Outcome) → IsRunFrom start events outcomes
+    ⊎ ((more : List Event) × (others : List Outcome) × (events ≡ event.Old ∷ more) × (outcomes ≡ outcome.Old ∷ others) × IsRunFrom old_start more others)
+    → (place : ℕ) (x : Outcome) → slice_get outcomes place ≡ Some x → is_skipped x ≡ false → MayFitAt events place
+fitted_by events outcomes (inl run) place x is made = fitted_from start events outcomes run place x is made
+fitted_by events outcomes (inr (more, others, same, told, run)) place x is made =
+    subst (λ es. MayFitAt es place) (sym same) (behind_old more others run place x (subst (λ xs. slice_get xs place ≡ Some x) told is) made)
+
+fitted : (events : List Event) (outcomes : List Outcome) → IsRun events outcomes → (place : ℕ) (x : Outcome) → slice_get outcomes place ≡ Some x → is_skipped x ≡ false → MayFitAt events place
+fitted events outcomes run place x is made = fitted_by events outcomes (runs_begin events outcomes run) place x is made
 
 -- ---- of a stray release some step isn't skipped
 

@@ -24,6 +24,7 @@ fn ending_text(alloc: Global, ending: &Ending) -> Result<String, AllocError> {
 
 pub(crate) fn event_text(alloc: Global, event: &Event) -> Result<String, AllocError> {
     match event {
+        Event::Old => String::from_str(alloc, "Old"),
         Event::Open { stripes, fails_at } => {
             let count = stripes.get();
             format!(in alloc; "Open {count} {fails_at:?}")

@@ -233,6 +233,7 @@ impl Report {
             calls: 20,
             refusal: DAMAGED,
         };
+        self.single(Outcome::Old, "old")?;
         self.single(damaged, "refused 12 Damaged 2 17")?;
         self.single(Outcome::Stopped { within: None }, "stop")?;
         let within = Some(DeviceCall::Sync { file: 0 });

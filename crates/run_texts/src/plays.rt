@@ -20,6 +20,7 @@ fn end_text(alloc: Global, end: &End) -> Result<String, AllocError> {
 
 fn outcome_text(alloc: Global, outcome: &Outcome) -> Result<String, AllocError> {
     match outcome {
+        Outcome::Old => String::from_str(alloc, "Old"),
         Outcome::Opened {
             prefix,
             entries,

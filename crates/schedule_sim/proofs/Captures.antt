@@ -25,6 +25,7 @@ pub record StaysForWorkers (w w' : World) (l l' : Life) : Type 0 where
   pub history : w'.history ≡ w.history
   pub stripes : l'.stripes ≡ l.stripes
   pub first : l'.first ≡ l.first
+  pub key_limit : l'.key_limit ≡ l.key_limit
   pub jobs : l'.jobs ≡ l.jobs
   pub seen : l'.seen ≡ l.seen
   pub places : l'.places ≡ l.places
@@ -40,6 +41,7 @@ workers_after keeper b b' w w' l l' doings kind m done steps stripe counts stand
     (keeper_moves stripe counts b b' w w' l l' doings kind m done keeper stand made other one apart fits stands stays.history (record {
       stripes = stays.stripes;
       first = stays.first;
+      key_limit = stays.key_limit;
       jobs = stays.jobs;
       seen = stays.seen;
     })) (taken, stays.places)

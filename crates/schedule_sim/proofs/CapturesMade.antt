@@ -100,8 +100,8 @@ module _ (law : WalkIsTold traced_states) (keeper : Keeper Traced) (b : Book) (j
 -- ---- what stays for the workers
 
 stays_taken : (w : World) (l : Life) (end : End) → StaysForWorkers w (with_life w (capture_takes l end)) l (capture_takes l end)
-stays_taken w l ends.Goes = record { history = refl; stripes = refl; first = refl; jobs = refl; seen = refl; places = refl }
-stays_taken w l end = record { history = refl; stripes = refl; first = refl; jobs = refl; seen = refl; places = refl }
+stays_taken w l ends.Goes = record { history = refl; stripes = refl; first = refl; key_limit = refl; jobs = refl; seen = refl; places = refl }
+stays_taken w l end = record { history = refl; stripes = refl; first = refl; key_limit = refl; jobs = refl; seen = refl; places = refl }
 
 abbrev IsCapture : KeeperWalk → Type 0
 IsCapture CaptureLooks = Unit {0}
@@ -115,12 +115,12 @@ is_capture kind mark = tt
 
 stays_given : (w : World) (l : Life) (mark : ℕ) (end : End)
     → StaysForWorkers w (with_life w (capture_gives w l mark end)) l (capture_gives w l mark end)
-stays_given w l mark (ends.Captured n) = record { history = refl; stripes = refl; first = refl; jobs = refl; seen = refl; places = refl }
-stays_given w l mark end = record { history = refl; stripes = refl; first = refl; jobs = refl; seen = refl; places = refl }
+stays_given w l mark (ends.Captured n) = record { history = refl; stripes = refl; first = refl; key_limit = refl; jobs = refl; seen = refl; places = refl }
+stays_given w l mark end = record { history = refl; stripes = refl; first = refl; key_limit = refl; jobs = refl; seen = refl; places = refl }
 
 stays_stepped : (w : World) (l : Life) (walk : KeeperWalk) (m : Made) (end : End) → IsCapture walk
     → StaysForWorkers w (with_life w (keeper_stepped w l walk m end)) l (keeper_stepped w l walk m end)
-stays_stepped w l CaptureLooks m end is = record { history = refl; stripes = refl; first = refl; jobs = refl; seen = refl; places = refl }
+stays_stepped w l CaptureLooks m end is = record { history = refl; stripes = refl; first = refl; key_limit = refl; jobs = refl; seen = refl; places = refl }
 stays_stepped w l (CaptureGives mark) m end is = stays_given w l mark end
 stays_stepped w l walk m end is = absurd is
 

@@ -81,10 +81,10 @@ held_still b b' i k h = record { within = rw (sym k.moved.passes) h.within; has 
 pub counts_on : (w : World) (l l' : Life) (keeper new : Keeper Traced) (b b' : Book) (jobs : List Job) → KeeperSteps
     → CountsAreTold traced_states traced_honest
     → (a : IsLifeOf w keeper b jobs) → WorkersStand b w l (doings_of jobs) → CountsOn b b' → rests l.walk ≡ true
-    → l'.stripes ≡ l.stripes → l'.first ≡ l.first → l'.jobs ≡ l.jobs → l'.seen ≡ l.seen → l'.places ≡ l.places → l'.walk ≡ l.walk
+    → l'.stripes ≡ l.stripes → l'.first ≡ l.first → l'.key_limit ≡ l.key_limit → l'.jobs ≡ l.jobs → l'.seen ≡ l.seen → l'.places ≡ l.places → l'.walk ≡ l.walk
     → FitsWalking traced_states traced_honest b'.stripes a.done new (record_of 64 b') → HasKeeper traced_states new (record_of 64 b') (with_life w l')
     → IsLifeOf (with_life w l') new b' jobs
-counts_on w l l' keeper new b b' jobs steps told a workers k resting stripes first same_jobs same_seen places walk fits stands =
+counts_on w l l' keeper new b b' jobs steps told a workers k resting stripes first limit same_jobs same_seen places walk fits stands =
     let counts = told b'.stripes a.done new (record_of 64 b') (with_life w l') l' fits stands in
     record {
       done = a.done;
@@ -100,6 +100,7 @@ counts_on w l l' keeper new b b' jobs steps told a workers k resting stripes fir
             history = refl;
             stripes = stripes;
             first = first;
+            key_limit = limit;
             jobs = same_jobs;
             seen = same_seen;
             durable = counts.0;
@@ -132,7 +133,7 @@ fails w life new answer told counts law steps is rested none k record_is keeper_
     let answers = law life.keeper new.keeper (record_of 64 life.words) w l there.1.keeper_stands keeper_is in
     did w l event.Fail outcome.FailMade new there.1.life tt resting answers.happens tt
     (rw jobs (counts_on w l (record l { has_failed = true }) life.keeper new.keeper life.words new.words life.jobs.items steps counts a
-    there.1.workers_stand k resting refl refl refl refl refl refl
+    there.1.workers_stand k resting refl refl refl refl refl refl refl
     (fits_between new.words.stripes a.done new.keeper new.words none' (refits a.done fit))
     (subst (λ p. HasKeeper traced_states new.keeper p (with_life w (record l { has_failed = true }))) (sym record_is) answers.stands)))
 
@@ -187,6 +188,6 @@ publishes w life new answer count told counts law steps is rested none works k r
     (did w l event.Publish (outcome.Published n) new there.1.life tt (and_true (rests l.walk) l.has_failed resting
     (there.1.keeper_stands.has_failed ∙ works)) answers.happens tt
     (rw jobs (counts_on w l (record l { durable = max l.durable n }) life.keeper new.keeper life.words new.words life.jobs.items steps counts a
-    there.1.workers_stand k resting refl refl refl refl refl refl
+    there.1.workers_stand k resting refl refl refl refl refl refl refl
     (fits_between new.words.stripes a.done new.keeper new.words none' (refits a.done fit))
     (subst (λ p. HasKeeper traced_states new.keeper p (with_life w (record l { durable = max l.durable n }))) (sym record_is) answers.stands))))

@@ -17,6 +17,8 @@ use Rattle.sim_rules.specs.declared.outcome.Outcome.{Outcome}
 use Rattle.sim_rules.specs.declared.outcome.Outcome.TheVariants as outcome
 use Rattle.sim_rules.specs.World.{World, Life, LogWork, Resting, Committing, Rotating, Running, gate_after, rests}
 use Rattle.sim_rules.specs.Fitting.{fits_inside, has_call}
+use Rattle.log_records.specs.Layout.{Layout}
+use Rattle.store_layout.specs.Logs.{log_header_bytes, new_layout}
 use Rattle.sim_rules.specs.After.{after_inside, called, checkpoint_called, failed_or, log_called, running_called, with_files}
 use Rattle.sim_workers.specs.Laws.{KeeperRests}
 use Rattle.sim_workers.specs.Workers.{ConcernsNone}
@@ -69,31 +71,33 @@ call_fits s e l resting has = both_true (rests l.walk) (l.is_broken || has_call 
 -- ---- it concerns no worker
 
 -- this becomes of what a device call can change
-abbrev pub changed : Life → Bool → ℕ → LogWork → ℕ → ℕ → ℕ → Option Running → Life
-changed l broken committed log newest gate sealed checkpoint = record l {
+abbrev pub changed : Life → Bool → ℕ → LogWork → ℕ → Layout → ℕ → ℕ → Option Running → Life
+changed l broken committed log newest layout gate sealed checkpoint = record l {
   is_broken = broken;
   committed = committed;
   log = log;
   newest = newest;
+  layout = layout;
   gate = gate;
   sealed = sealed;
   checkpoint = checkpoint;
 }
 
-changes_quietly : (w : World) (files : Files) (l : Life) (broken : Bool) (committed : ℕ) (log : LogWork) (newest gate sealed : ℕ)
+changes_quietly : (w : World) (files : Files) (l : Life) (broken : Bool) (committed : ℕ) (log : LogWork) (newest : ℕ) (layout : Layout) (gate sealed : ℕ)
     (checkpoint : Option Running) → rests l.walk ≡ true
-    → ConcernsNone w (with_files w files (changed l broken committed log newest gate sealed checkpoint)) l
-    (changed l broken committed log newest gate sealed checkpoint)
-changes_quietly w files l broken committed log newest gate sealed checkpoint resting = record {
+    → ConcernsNone w (with_files w files (changed l broken committed log newest layout gate sealed checkpoint)) l
+    (changed l broken committed log newest layout gate sealed checkpoint)
+changes_quietly w files l broken committed log newest layout gate sealed checkpoint resting = record {
   history = refl;
   stripes = refl;
   first = refl;
+  key_limit = refl;
   jobs = refl;
   seen = refl;
   places = refl;
   durable = refl;
   has_failed = refl;
-  held = λ i. none_held l (changed l broken committed log newest gate sealed checkpoint) l.walk i resting;
+  held = λ i. none_held l (changed l broken committed log newest layout gate sealed checkpoint) l.walk i resting;
 }
 
 one_of : (w : World) (files : Files) (l one other : Life) (b : Bool) → ConcernsNone w (with_files w files one) l one
@@ -104,21 +108,21 @@ one_of w files l one other false first second = second
 
 log_quietly : (w : World) (files : Files) (l : Life) (log : LogWork) → rests l.walk ≡ true
     → ConcernsNone w (with_files w files (log_called w l log)) l (log_called w l log)
-log_quietly w files l Resting resting = changes_quietly w files l l.is_broken l.committed l.log l.newest l.gate l.sealed l.checkpoint resting
+log_quietly w files l Resting resting = changes_quietly w files l l.is_broken l.committed l.log l.newest l.layout l.gate l.sealed l.checkpoint resting
 log_quietly w files l (Committing n left) resting =
     one_of w files l (record l { log = Resting; committed = l.committed + n; gate = gate_after w l n }) (record l { log = Committing n (left - 1) })
     (left == 1)
-    (changes_quietly w files l l.is_broken (l.committed + n) Resting l.newest (gate_after w l n) l.sealed l.checkpoint resting)
-    (changes_quietly w files l l.is_broken l.committed (Committing n (left - 1)) l.newest l.gate l.sealed l.checkpoint resting)
+    (changes_quietly w files l l.is_broken (l.committed + n) Resting l.newest l.layout (gate_after w l n) l.sealed l.checkpoint resting)
+    (changes_quietly w files l l.is_broken l.committed (Committing n (left - 1)) l.newest l.layout l.gate l.sealed l.checkpoint resting)
 log_quietly w files l (Rotating left) resting =
-    one_of w files l (record l { log = Resting; newest = l.newest + 1; gate = 17 }) (record l { log = Rotating (left - 1) }) (left == 1)
-    (changes_quietly w files l l.is_broken l.committed Resting (l.newest + 1) 17 l.sealed l.checkpoint resting)
-    (changes_quietly w files l l.is_broken l.committed (Rotating (left - 1)) l.newest l.gate l.sealed l.checkpoint resting)
+    one_of w files l (record l { log = Resting; newest = l.newest + 1; layout = new_layout; gate = log_header_bytes }) (record l { log = Rotating (left - 1) }) (left == 1)
+    (changes_quietly w files l l.is_broken l.committed Resting (l.newest + 1) new_layout log_header_bytes l.sealed l.checkpoint resting)
+    (changes_quietly w files l l.is_broken l.committed (Rotating (left - 1)) l.newest l.layout l.gate l.sealed l.checkpoint resting)
 
 -- this becomes of a checkpoint, and of the sealed generation
 becomes_quietly : (w : World) (files : Files) (l : Life) (sealed : ℕ) (checkpoint : Option Running) → rests l.walk ≡ true
     → ConcernsNone w (with_files w files (record l { sealed = sealed; checkpoint = checkpoint })) l (record l { sealed = sealed; checkpoint = checkpoint })
-becomes_quietly w files l sealed checkpoint resting = changes_quietly w files l l.is_broken l.committed l.log l.newest l.gate sealed checkpoint resting
+becomes_quietly w files l sealed checkpoint resting = changes_quietly w files l l.is_broken l.committed l.log l.newest l.layout l.gate sealed checkpoint resting
 
 running_quietly : (w : World) (files : Files) (l : Life) (running : Running) → rests l.walk ≡ true
     → ConcernsNone w (with_files w files (running_called l running)) l (running_called l running)
@@ -182,7 +186,7 @@ device_did w l s e (outcome.Checkpointed call phase) old new b jobs done leaves 
 device_did w l s e (outcome.CallFailed call) old new b jobs done leaves a there fit names fits k life e1 e2 e3 =
     did w l (event.Device s e) (outcome.CallFailed call) life there.life tt fit k.happens tt
     (rw (e1, e2, e3) (calls_quietly w (failed_or e call w.files) l (record l { is_broken = true }) old new b jobs done leaves a there
-    (changes_quietly w (failed_or e call w.files) l true l.committed l.log l.newest l.gate l.sealed l.checkpoint
+    (changes_quietly w (failed_or e call w.files) l true l.committed l.log l.newest l.layout l.gate l.sealed l.checkpoint
     (first_true (rests l.walk) (l.is_broken || has_call s l) fit)) fits k.stands))
 device_did w l s e x old new b jobs done leaves a there fit names fits k life e1 e2 e3 = absurd names
 

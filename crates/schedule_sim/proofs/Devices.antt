@@ -106,6 +106,7 @@ planned_fits n done keeper p disk same f = record {
   tells = record { published = f.tells.published; durable = f.tells.durable; failed = f.tells.failed };
   stripes = record { count = f.stripes.count; writer = f.stripes.writer };
   rotation = f.rotation;
+  keys = f.keys;
   stores = record {
     unbroken = f.stores.unbroken;
     works = λ works honest. let h = f.stores.works works tt in rw same h;
@@ -127,7 +128,7 @@ planned_stands keeper p w l disk same k = record {
   has_failed = k.has_failed;
   is_broken = k.is_broken;
   staged = k.staged;
-  store = λ works. let s = k.store works in record { log = s.log; newest = s.newest; gate = s.gate; sealed = s.sealed; checkpoint = rw same s.checkpoint; both = s.both };
+  store = λ works. let s = k.store works in record { log = s.log; newest = s.newest; layout = s.layout; gate = s.gate; sealed = s.sealed; checkpoint = rw same s.checkpoint; both = s.both };
 }
 
 -- ---- the call that was made

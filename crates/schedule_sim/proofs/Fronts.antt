@@ -10,7 +10,7 @@ use Rattle.sim_rules.specs.Laws.{KnownStands}
 use Rattle.sim_rules.specs.Machine.{whole}
 use Rattle.sim_rules.specs.Runs.{least_of, most_of}
 use Rattle.sim_rules.specs.Sound.{AreAbove}
-use Rattle.sim_rules.specs.World.{World, Life, seen_of, start}
+use Rattle.sim_rules.specs.World.{World, Life, seen_of}
 use Rattle.sim_keeper.specs.Laws.{StagedIsTold}
 use Rattle.schedule_sim.specs.declared.life.Life as sim
 use Rattle.schedule_sim.specs.declared.store.Store.{Store}
@@ -56,11 +56,10 @@ life_now law told w least life a durable stops =
     let coherent : AreCoherent w.files = subst AreCoherent (sym files) (now_coherent (traced_states life.keeper.disk) life.keeper.disk.disk.coherent) in
     record { left = left; read = left (seen_of w.files) (λ number low. leaves_seen (w.files number) (coherent number low)) }
 
--- no life is there at the start
-no_life : (life : sim.Life) → IsLife start life → ⊥
-unfolding start
-no_life life a = let is = (life_there start life.keeper life.words life.jobs.items a).1.life in cc
+-- in a world without a life the store is closed
+no_life : (w : World) (life : sim.Life) → w.life ≡ None → IsLife w life → ⊥
+no_life w life none a = let is = sym none ∙ (life_there w life.keeper life.words life.jobs.items a).1.life in cc
 
-pub now_at_start : (store : Store) → IsStore start 0 store → StandsNow start 0
-now_at_start (Closed disk) stands = closed_now start 0 disk stands
-now_at_start (Open life) stands = absurd (no_life life stands.0)
+pub now_at_start : (from : World) (store : Store) → from.life ≡ None → IsStore from 0 store → StandsNow from 0
+now_at_start from (Closed disk) none stands = closed_now from 0 disk stands
+now_at_start from (Open life) none stands = absurd (no_life from life none stands.0)

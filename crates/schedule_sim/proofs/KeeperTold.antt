@@ -113,6 +113,7 @@ step_told free held sees b b' w l doings kind m stand made none one = record {
 pub record SameWorkers (l l' : Life) : Type 0 where
   pub stripes : l'.stripes ≡ l.stripes
   pub first : l'.first ≡ l.first
+  pub key_limit : l'.key_limit ≡ l.key_limit
   pub jobs : l'.jobs ≡ l.jobs
   pub seen : l'.seen ≡ l.seen
 
@@ -135,6 +136,7 @@ keeper_moves stripe counts b b' w w' l l' doings kind m done keeper stand made n
       history = history;
       stripes = same.stripes;
       first = same.first;
+      key_limit = same.key_limit;
       jobs = same.jobs;
       seen = same.seen;
       durable = told.0;

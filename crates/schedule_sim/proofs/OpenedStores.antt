@@ -17,9 +17,9 @@ use Rattle.disk_model.specs.Memory.{memory_failures}
 use Rattle.disk_model.proofs.FileLemmas.{now_coherent}
 use Rattle.file_pieces.specs.Counting.{Made, MadeAtMost}
 use Rattle.store_layout.specs.Calls.{opening_calls}
-use Rattle.store_layout.specs.Opening.{Holds, Opened, Refuses, StandsForFront, map_of, prefix_of}
+use Rattle.store_layout.specs.Opening.{Holds, Opened, Refuses, StandsForFront, key_limit_of, map_of, newest_of, prefix_of}
 use Rattle.flusher.specs.declared.keeper.Keeper.{Keeper}
-use Rattle.recovery.specs.LogReading.{RefusesFor, contents_of}
+use Rattle.recovery.specs.LogReading.{GoesOnIn, RefusesFor, contents_of}
 use Rattle.recovery.specs.Opening.{IsOpenedAs}
 use Rattle.recovery.specs.Syncing.{Stopped, SyncsAndLooks}
 use Rattle.sim_rules.specs.declared.event.Event.TheVariants as event
@@ -107,15 +107,15 @@ refused_did law w least stripes fails_at calls e old new closed files opens =
 
 -- not more device calls were made than finding what the files hold takes
 may_take : (w : World) (least calls : ℕ) (old new : Traced) → IsClosed w least old → length (traced_states old) + calls ≡ length (traced_states new)
-    → ((found : Opened) → Holds (contents_of traced_states old) found → MadeAtMost traced_states (opening_calls found) old new) → MayTake w calls
+    → ((found : Opened) → Holds (contents_of traced_states old) found → MadeAtMost traced_states (opening_calls (contents_of traced_states old) found) old new) → MayTake w calls
 may_take w least calls old new closed made tried = λ found holds.
     let most = tried found (subst (λ files. Holds (seen_of files) found) closed.files holds) in
-    omega (arith, made, most)
+    subst (λ files. calls ≤ opening_calls (seen_of files) found) (sym closed.files) (omega (arith, made, most))
 
 -- by the call that the event names
 pub failed_did : StandingFilesOpen → (w : World) (least : ℕ) (stripes : StripeCount) (fails_at : Option ℕ) (calls : ℕ) (e : Refusal) (old new : Traced) → IsClosed w least old → e ≡ refusal.Failed
     → Stopped traced_states (λ (traced : Traced). memory_failures traced.disk) traced_honest 4 old new e → length (traced_states old) + calls ≡ length (traced_states new)
-    → ((found : Opened) → Holds (contents_of traced_states old) found → MadeAtMost traced_states (opening_calls found) old new)
+    → ((found : Opened) → Holds (contents_of traced_states old) found → MadeAtMost traced_states (opening_calls (contents_of traced_states old) found) old new)
     → fails_at ≡ Some calls → LastFails calls (traced_states new) → DidStore w least (event.Open stripes fails_at) (outcome.NotOpened calls e) (Closed new)
 failed_did law w least stripes fails_at calls e old new closed failed stopped made tried named last =
     let left : HasFailed (traced_states old) (traced_states new) calls =
@@ -140,7 +140,7 @@ opens_refused w fails_at calls e other all none reason few = (all, none, reason,
 -- as the files are, or for want of memory
 pub other_did : StandingFilesOpen → (w : World) (least : ℕ) (stripes : StripeCount) (fails_at : Option ℕ) (calls : ℕ) (e : Refusal) (old new : Traced) → IsClosed w least old → (e ≡ refusal.Failed → ⊥)
     → names_within fails_at calls ≡ false → length (traced_states old) + calls ≡ length (traced_states new)
-    → ((found : Opened) → Holds (contents_of traced_states old) found → MadeAtMost traced_states (opening_calls found) old new)
+    → ((found : Opened) → Holds (contents_of traced_states old) found → MadeAtMost traced_states (opening_calls (contents_of traced_states old) found) old new)
     → Stopped traced_states (λ (traced : Traced). memory_failures traced.disk) traced_honest 4 old new e
     → RefusesFor (Refuses (contents_of traced_states old) e) e → DidStore w least (event.Open stripes fails_at) (outcome.NotOpened calls e) (Closed new)
 other_did law w least stripes fails_at calls e old new closed other none made tried stopped reason =
@@ -154,30 +154,30 @@ other_did law w least stripes fails_at calls e old new closed other none made tr
 -- ---- a life begins
 
 abbrev opened_world : World → StripeCount → Opened → ℕ → World
-opened_world w stripes found prefix = record { files = synced_below 4 w.files; history = take prefix w.history; life = Some (begun_by stripes.count found) }
+opened_world w stripes found prefix = record { files = synced_below 4 w.files; history = take prefix w.history; life = Some (begun_by stripes.count (seen_of w.files) found) }
 
 after_opened : (w : World) (found : Opened) (stripes : StripeCount) (fails_at : Option ℕ) (calls prefix : ℕ) (entries : Vec MapEntry Global) → w.life ≡ None
     → after w found (event.Open stripes fails_at) (outcome.Opened calls prefix entries) ≡ opened_world w stripes found prefix
 unfolding after
 after_opened w found stripes fails_at calls prefix entries life = ap (λ o. after_with w o found (event.Open stripes fails_at) (outcome.Opened calls prefix entries)) life
 
-durable_found : (stripes : ℕ) (found : Opened) → prefix_of found ≡ (begun_by stripes found).durable
+durable_found : (stripes : ℕ) (contents : Contents) (found : Opened) → prefix_of found ≡ (begun_by stripes contents found).durable
 unfolding begun_by
-durable_found stripes found = refl
+durable_found stripes contents found = refl
 
 -- The laws by which an opening is known.
 pub record AreLaws : Type 0 where
   pub front : FrontIsFound
   pub parts : PartsMakeTheMap
 
-pub opened_did : AreLaws → (w : World) (least : ℕ) (stripes : StripeCount) (fails_at : Option ℕ) (calls : ℕ) (old : Traced) (keeper : Keeper Traced) (parts : List PartState) (first : ℕ)
+pub opened_did : AreLaws → (w : World) (least : ℕ) (stripes : StripeCount) (fails_at : Option ℕ) (calls : ℕ) (old : Traced) (keeper : Keeper Traced) (parts : List PartState) (first limit : ℕ)
     (entries : Vec MapEntry Global) (life : sim.Life) → IsClosed w least old → names_within fails_at calls ≡ false → length (traced_states old) + calls ≡ length (traced_states keeper.disk)
-    → ((found : Opened) → Holds (contents_of traced_states old) found → Made traced_states (opening_calls found) old keeper.disk)
+    → ((found : Opened) → Holds (contents_of traced_states old) found → Made traced_states (opening_calls (contents_of traced_states old) found) old keeper.disk)
     → SyncsAndLooks traced_states (λ (traced : Traced). memory_failures traced.disk) traced_honest 4 0 old keeper.disk
-    → IsOpenedAs (contents_of traced_states old) stripes.count keeper parts first → map entry_of entries.items ≡ finite.entries (union_of (maps_of parts))
-    → ((w' : World) (found : Opened) → IsOpening w' stripes.count found keeper parts → IsLife w' life)
+    → IsOpenedAs (contents_of traced_states old) stripes.count keeper parts first limit → map entry_of entries.items ≡ finite.entries (union_of (maps_of parts))
+    → ((w' : World) (contents : Contents) (found : Opened) → limit ≡ key_limit_of contents found → IsOpening w' stripes.count contents found keeper parts → IsLife w' life)
     → DidStore w least (event.Open stripes fails_at) (outcome.Opened calls first entries) (Open life)
-opened_did laws w least stripes fails_at calls old keeper parts first entries life closed none made exact syncs opened entries_are begins =
+opened_did laws w least stripes fails_at calls old keeper parts first limit entries life closed none made exact syncs opened entries_are begins =
     let found = opened.found in
     let holds = subst (λ files. Holds (seen_of files) found) (sym closed.files) opened.holds in
     let front : IsFront w least found = laws.front w least (length w.history) found holds (seen_stands w least old closed) in
@@ -185,24 +185,25 @@ opened_did laws w least stripes fails_at calls old keeper parts first entries li
     let finds : Finds w found first entries.items = record { holds = holds; prefix_is = opened.first_is; entries_are = entries_are ∙ ap (λ m. finite.entries m) union } in
     let leaves = after_opened w found stripes fails_at calls first entries closed.life in
     let synced : Synced (traced_states old) (traced_states keeper.disk) = syncs_and_looks traced_states (λ (traced : Traced). memory_failures traced.disk) traced_honest 0 old keeper.disk syncs in
-    let begun : IsLife (opened_world w stripes found first) life = begins (opened_world w stripes found first) found (record {
+    let limited : limit ≡ key_limit_of (seen_of w.files) found = subst (λ files. limit ≡ key_limit_of (seen_of files) found) (sym closed.files) opened.limit_is in
+    let begun : IsLife (opened_world w stripes found first) life = begins (opened_world w stripes found first) (seen_of w.files) found limited (record {
       life = refl;
       files = ap (λ f. synced_below 4 f) closed.files ∙ sym synced.files;
       long = length-take-le first w.history (subst (λ n. n ≤ length w.history) (sym opened.first_is) front.within) ∙ opened.first_is;
       map = front.map ∙ ap (λ n. fold_of (take n w.history)) (sym opened.first_is);
       divided = opened.divided;
       sealed = opened.sealed;
-      log = opened.log;
+      log = subst (λ files. GoesOnIn (seen_of files) (newest_of found) keeper.log) (sym closed.files) opened.log;
     }) in
     record {
       found = found;
       meets = meets_open w found stripes fails_at (outcome.Opened calls first entries) closed.life
-          (omega (arith, made, exact found opened.holds), none, finds);
+          (subst (λ files. calls ≡ opening_calls (seen_of files) found) (sym closed.files) (omega (arith, made, exact found opened.holds)), none, finds);
       answers = tt;
       front = front;
       opens = tt;
       within = tt;
       next = prefix_of found;
       next_is = rw leaves tt;
-      stands = rw leaves (begun, durable_found stripes.count found);
+      stands = rw leaves (begun, durable_found stripes.count (seen_of w.files) found);
     }

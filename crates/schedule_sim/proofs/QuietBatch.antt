@@ -61,6 +61,7 @@ stages_quietly w l n resting = record {
   history = refl;
   stripes = refl;
   first = refl;
+  key_limit = refl;
   jobs = refl;
   seen = refl;
   places = refl;

@@ -1,5 +1,5 @@
 -- What an event leaves of a store, from what it leaves of the life, and where it is skipped.
-use Rattle.std.proofs.Common.{◌≡◌, ℕ, [], Bool, Option, None, Some, MatchBool, Vec, Global, false, true, refl, sym, ◌∙◌, ap, subst}
+use Rattle.std.proofs.Common.{◌≡◌, ℕ, [], Bool, Option, None, Some, Result, Ok, Err, IfOk, MatchBool, Vec, Global, false, true, refl, sym, ◌∙◌, ap, subst}
 use Rattle.store_layout.specs.Opening.{Opened}
 use Rattle.java_hash.specs.declared.stripe_count.StripeCount.{StripeCount}
 use Rattle.disk_model.specs.declared.fill.Fill.{Fill}
@@ -66,6 +66,7 @@ unfit_outside : (w : World) (e : Event) → w.life ≡ None → is_of_life e ≡
 unfit_outside w (event.Open stripes fails_at) none is = absurd (let never : false ≡ true = is in cc)
 unfit_outside w (event.Stop within fill) none is = absurd (let never : false ≡ true = is in cc)
 unfit_outside w event.Leave none is = absurd (let never : false ≡ true = is in cc)
+unfit_outside w event.Old none is = absurd (let never : false ≡ true = is in cc)
 unfit_outside w e none is = rw none refl
 
 pub skipped_outside : (w : World) (least : ℕ) (e : Event) (disk : Traced) → is_of_life e ≡ true → IsClosed w least disk → DidStore w least e outcome.Skipped (Closed disk)
@@ -74,6 +75,14 @@ skipped_outside w least e disk is stands = skipped w least e (Closed disk) (unfi
 -- no life is there to be left, or to be stopped within a call
 pub skipped_leave : (w : World) (least : ℕ) (disk : Traced) → IsClosed w least disk → DidStore w least event.Leave outcome.Skipped (Closed disk)
 skipped_leave w least disk stands = skipped w least event.Leave (Closed disk) (rw stands.life refl) stands
+
+-- an Old fits in no world
+old_unfit : (o : Option Life) → fits_with o event.Old ≡ false
+old_unfit None = refl
+old_unfit (Some l) = refl
+
+pub skipped_old : (w : World) (least : ℕ) (store : Store) → IsStore w least store → DidStore w least event.Old outcome.Skipped store
+skipped_old w least store stands = skipped w least event.Old store (old_unfit w.life) stands
 
 -- ---- an event of a life
 
@@ -100,7 +109,8 @@ opened_inside : (w : World) (l : Life) (e : Event) (calls prefix : ℕ) (entries
 opened_inside w l (event.Open stripes fails_at) calls prefix entries is happened = happened
 opened_inside w l (event.Stop within fill) calls prefix entries is happened = let e : false ≡ true = is in cc
 opened_inside w l event.Leave calls prefix entries is happened = let e : false ≡ true = is in cc
-opened_inside w l (event.Change worker c) calls prefix entries is happened = cc
+opened_inside w l event.Old calls prefix entries is happened = happened
+opened_inside w l (event.Change worker c) calls prefix entries is happened = happened
 opened_inside w l (event.Read worker r) calls prefix entries is happened = cc
 opened_inside w l (event.Release worker) calls prefix entries is happened = cc
 opened_inside w l (event.Step worker) calls prefix entries is happened = happened
@@ -154,3 +164,21 @@ skipped_open w least stripes fails_at life stands =
 
 pub skipped_stop : (w : World) (least : ℕ) (s : Side) (fill : Fill) (disk : Traced) → IsClosed w least disk → DidStore w least (event.Stop (Some s) fill) outcome.Skipped (Closed disk)
 skipped_stop w least s fill disk stands = skipped w least (event.Stop (Some s) fill) (Closed disk) (rw stands.life refl) stands
+
+-- ---- any other event
+
+-- what neither begins a run or a life nor ends one is an event of a life
+pub of_life : (e : Event) → (e ≡ event.Old → ⊥) → ((stripes : StripeCount) (fails_at : Option ℕ) → e ≡ event.Open stripes fails_at → ⊥)
+    → ((within : Option Side) (fill : Fill) → e ≡ event.Stop within fill → ⊥) → (e ≡ event.Leave → ⊥) → is_of_life e ≡ true
+of_life event.Old no_old no_open no_stop no_leave = absurd (no_old refl)
+of_life (event.Open stripes fails_at) no_old no_open no_stop no_leave = absurd (no_open stripes fails_at refl)
+of_life (event.Stop within fill) no_old no_open no_stop no_leave = absurd (no_stop within fill refl)
+of_life event.Leave no_old no_open no_stop no_leave = absurd (no_leave refl)
+of_life e no_old no_open no_stop no_leave = refl
+
+-- what it did, if it is one
+pub if_did : {E : Type 0} (r : Result (Store × Outcome) E) (old : Store) (e : Event) → is_of_life e ≡ true
+    → IfOk r (λ x. (w : World) (least : ℕ) → IsStore w least old → is_of_life e ≡ true → DidStore w least e x.1 x.0)
+    → IfOk r (λ x. (w : World) (least : ℕ) → IsStore w least old → DidStore w least e x.1 x.0)
+if_did (Ok x) old e is did = λ w least stands. did w least stands is
+if_did (Err e) old f is did = did

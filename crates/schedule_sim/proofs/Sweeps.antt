@@ -108,17 +108,17 @@ record Same (l l' : Life) : Type 0 where
   places : l'.places ≡ l.places
 
 same_takes : (l : Life) (end : End) → Same l (sweep_takes l end)
-same_takes l ends.Goes = record { workers = record { stripes = refl; first = refl; jobs = refl; seen = refl }; places = refl }
-same_takes l end = record { workers = record { stripes = refl; first = refl; jobs = refl; seen = refl }; places = refl }
+same_takes l ends.Goes = record { workers = record { stripes = refl; first = refl; key_limit = refl; jobs = refl; seen = refl }; places = refl }
+same_takes l end = record { workers = record { stripes = refl; first = refl; key_limit = refl; jobs = refl; seen = refl }; places = refl }
 
 same_begins : (l : Life) (o : Option Sweep) (m : Made) (end : End) → Same l (sweep_begins l o m end)
-same_begins l None m end = record { workers = record { stripes = refl; first = refl; jobs = refl; seen = refl }; places = refl }
+same_begins l None m end = record { workers = record { stripes = refl; first = refl; key_limit = refl; jobs = refl; seen = refl }; places = refl }
 same_begins l (Some sweep) m end = same_takes l end
 
 same_gives : (w : World) (l : Life) (sweep : Sweep) (end : End) → SameWorkers l (sweep_gives w l sweep end)
-same_gives w l sweep ends.Goes = record { stripes = refl; first = refl; jobs = refl; seen = refl }
-same_gives w l sweep (ends.Swept n) = record { stripes = refl; first = refl; jobs = refl; seen = refl }
-same_gives w l sweep end = record { stripes = refl; first = refl; jobs = refl; seen = refl }
+same_gives w l sweep ends.Goes = record { stripes = refl; first = refl; key_limit = refl; jobs = refl; seen = refl }
+same_gives w l sweep (ends.Swept n) = record { stripes = refl; first = refl; key_limit = refl; jobs = refl; seen = refl }
+same_gives w l sweep end = record { stripes = refl; first = refl; key_limit = refl; jobs = refl; seen = refl }
 
 -- ---- what a step leaves, where the world's next life is told
 

@@ -4,13 +4,16 @@ use Rattle.std.proofs.lemmas.Bool.{cases_lt, le-ltb}
 use Rattle.std.proofs.lemmas.List.{length-set, get_or-set_same, get_or-set_other, set-set, set-get_or, get_or_default}
 use Rattle.map_types.specs.declared.commands.Command.{Command}
 use Rattle.map_types.specs.declared.commands.Read as read_type
+use Rattle.map_types.specs.declared.refusals.Refusal.TheVariants.{KeyTooLong}
 use Rattle.ticket_order.specs.declared.held.Held.{Held}
 use Rattle.ticket_order.specs.declared.held.Released.TheVariants as answer
 use Rattle.ticket_order.specs.declared.record.Asked.TheVariants.{Changing, Reading}
+use Rattle.ticket_order.specs.declared.record.Opening.{Opening}
 use Rattle.ticket_order.specs.declared.record.Record.{Record}
 use Rattle.ticket_order.specs.declared.walk.Walk.{Walk}
 use Rattle.ticket_order.specs.declared.walk.Stepped.{Stepped}
 use Rattle.ticket_order.specs.declared.walk.Stepped.TheVariants as stepped
+use Rattle.ticket_order.specs.Records.{IsWithin}
 use Rattle.ticket_order.specs.Walks.{Fits, IsUnderWay, Kind, ToChange, ToRead, ToRelease}
 use Rattle.one_history.specs.declared.book.Book.{Book}
 use Rattle.one_history.specs.OneHistory.{HoldApart, IsOneHistory}
@@ -26,7 +29,7 @@ use Rattle.sim_rules.specs.declared.outcome.Outcome.TheVariants as outcome
 use Rattle.sim_rules.specs.World as world
 use Rattle.sim_rules.specs.After.{after, after_inside, after_with, job_releasing}
 use Rattle.sim_workers.specs.Doings as doings
-use Rattle.sim_workers.specs.Laws.{KeepsStanding, ChangeFits, ReadFits, StepFits, ReleaseFits, ChangeBegins, ReadBegins, ReleaseBegins, CallSteps, CallsLeave, ReleaseSteps, ReleasesLeave, WalksAreUnderWay}
+use Rattle.sim_workers.specs.Laws.{KeepsStanding, ChangeFits, ReadFits, StepFits, ReleaseFits, ChangeBegins, ChangeTurnedDown, ReadBegins, ReleaseBegins, CallSteps, CallsLeave, ReleaseSteps, ReleasesLeave, WalksAreUnderWay}
 use Rattle.sim_workers.specs.Workers as states
 use Rattle.sim_keeper.specs.Laws.{WorkersLeaveKeeper}
 use Rattle.sim_keeper.specs.KeeperInWorld.{HasKeeper}
@@ -150,13 +153,25 @@ did_worker w l e x keeper b b' jobs jobs' life is other a stripes same count kee
 -- ---- a walk begins
 
 pub change_did : ChangeBegins → WorkersLeaveKeeper traced_states → (w : world.World) (keeper : Keeper Traced) (b : Book) (jobs : List Job) (j : ℕ) (c : Command) (walk : Walk) (life : Life) → IsLifeOf w keeper b jobs
-    → (j < 64) × (job_of j jobs ≡ Idle) → ((n : ℕ) (p : Record) → p.holding ≡ None → Fits n p (ToChange c) walk p) → life.keeper ≡ keeper → life.words ≡ b → life.jobs.items ≡ set jobs j (Calling walk)
+    → (j < 64) × (job_of j jobs ≡ Idle) → IsWithin b.opening.key_limit c → ((n : ℕ) (p : Record) → p.holding ≡ None → IsWithin p.opening.key_limit c → Fits n p (ToChange c) walk p)
+    → life.keeper ≡ keeper → life.words ≡ b → life.jobs.items ≡ set jobs j (Calling walk)
     → Did w (event.Change j c) outcome.Started life
-change_did begins leaves w keeper b jobs j c walk life a idle fits same_keeper same_words same_jobs =
+change_did begins leaves w keeper b jobs j c walk life a idle within fits same_keeper same_words same_jobs =
     let there = life_there w keeper b jobs a in
     did_worker w there.0 (event.Change j c) outcome.Started keeper b b jobs (set jobs j (Calling walk)) life there.1.life tt a refl refl (length-set jobs j (Calling walk) ∙ a.count)
-    (λ found. begins b w found (doings_of jobs) (doings_of (set jobs j (Calling walk))) j c walk a.workers_stand idle.0 (ap doing_of idle.1) fits (now_doing jobs j (Calling walk) a.count idle.0))
+    (λ found. begins b w found (doings_of jobs) (doings_of (set jobs j (Calling walk))) j c walk a.workers_stand idle.0 (ap doing_of idle.1) within fits (now_doing jobs j (Calling walk) a.count idle.0))
     (leaves keeper (record_of 64 b) w there.0 j (world.Walks (Changing c) world.Begins) there.1.keeper_stands).0 same_keeper same_words same_jobs
+
+-- a change whose key is too long begins no walk
+pub change_refused : ChangeTurnedDown → (w : world.World) (j : ℕ) (c : Command) (life : Life) → IsLife w life → (j < 64) × (job_of j life.jobs.items ≡ Idle) → life.words.opening.key_limit < length c.key
+    → Did w (event.Change j c) (outcome.Refused KeyTooLong) life
+change_refused law w j c life a idle longer =
+    let turned = λ (found : Opened). law life.words w found (doings_of life.jobs.items) j c a.workers_stand idle.0 (ap doing_of idle.1) longer in
+    record {
+      meets = λ found. (turned found).0.meets;
+      answers = (turned none_found).0.answers;
+      stands = λ found. subst (λ v. IsLife v life) (sym (turned found).1) a;
+    }
 
 pub read_did : ReadBegins → WorkersLeaveKeeper traced_states → (w : world.World) (keeper : Keeper Traced) (b : Book) (jobs : List Job) (j : ℕ) (r : read_type.Read) (walk : Walk) (life : Life) → IsLifeOf w keeper b jobs
     → (j < 64) × (job_of j jobs ≡ Idle) → ((n : ℕ) (p : Record) → p.holding ≡ None → Fits n p (ToRead r) walk p) → life.keeper ≡ keeper → life.words ≡ b → life.jobs.items ≡ set jobs j (Calling walk)
@@ -191,6 +206,12 @@ makes_one j kind b b' m s one apart = record {
 -- the worker's pass is there, and the walk has a step to make
 pub pass_there : (w : world.World) (keeper : Keeper Traced) (b : Book) (jobs : List Job) (j : ℕ) → IsLifeOf w keeper b jobs → j < 64 → j < length b.passes
 pass_there w keeper b jobs j a lt = let e = (life_there w keeper b jobs a).1.workers_stand.passes in omega (arith, e, lt)
+
+-- and has the limit of the book
+pub limit_there : (w : world.World) (keeper : Keeper Traced) (b : Book) (jobs : List Job) (j : ℕ) → IsLifeOf w keeper b jobs → j < 64 → (record_of j b).opening.key_limit ≡ b.opening.key_limit
+limit_there w keeper b jobs j a lt =
+    let one = (life_there w keeper b jobs a).1.workers_stand.words.one in
+    ap (λ (o : Opening). o.key_limit) (one.passes j (pass_there w keeper b jobs j a lt)).opening
 
 pub call_under_way : WalksAreUnderWay → (w : world.World) (keeper : Keeper Traced) (b : Book) (jobs : List Job) (j : ℕ) (walk : Walk) → IsLifeOf w keeper b jobs → j < 64 → job_of j jobs ≡ Calling walk
     → IsUnderWay b.stripes walk (record_of j b)

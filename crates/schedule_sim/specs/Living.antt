@@ -40,8 +40,9 @@ pub record IsLifeBut (w : World) (j : ℕ) (job : Job) (life : Life) : Type 0 wh
   pub was : job_of j jobs ≡ job
   pub taken : life.jobs.items ≡ slice_set jobs j Idle
 
--- It neither begins a life nor ends one.
+-- It begins neither a run nor a life, and ends none.
 abbrev pub is_of_life : Event → Bool
+is_of_life event.Old = false
 is_of_life (event.Open stripes fails_at) = false
 is_of_life (event.Stop within fill) = false
 is_of_life event.Leave = false

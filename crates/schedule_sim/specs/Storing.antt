@@ -5,7 +5,7 @@ use Rattle.map_model.specs.Steps.{fold_of}
 use Rattle.atomic_methods.specs.PartState.{PartState}
 use Rattle.flusher.specs.declared.keeper.Keeper.{Keeper}
 use Rattle.recovery.specs.Dividing.{IsDivided}
-use Rattle.recovery.specs.LogReading.{GoesOnFrom}
+use Rattle.recovery.specs.LogReading.{GoesOnIn}
 use Rattle.store_layout.specs.Opening.{Opened, map_of, newest_of, prefix_of}
 use Rattle.sim_rules.specs.declared.event.Side.{Side}
 use Rattle.sim_rules.specs.declared.outcome.DeviceCall.{DeviceCall}
@@ -18,6 +18,7 @@ use Rattle.sim_rules.specs.Machine.{whole}
 use Rattle.sim_rules.specs.World.{World, Life, begun_by, seen_of}
 use Rattle.sim_rules.specs.After.{after, entered}
 use Rattle.sim_rules.specs.Cases.{IsDue, Meets}
+use Rattle.sim_rules.specs.Laws.{SoundAt}
 use Rattle.sim_rules.specs.Runs.{OpensWell}
 use Rattle.sim_rules.specs.Sound.{AnswersLegally, AreAbove, OpensFront}
 use Rattle.schedule_sim.specs.declared.traced.Traced.{Traced}
@@ -42,6 +43,12 @@ IsDurable least (Some l) = least ≡ l.durable
 abbrev pub IsStore : World → ℕ → Store → Type 0
 IsStore w least (Closed disk) = IsClosed w least disk
 IsStore w least (Open life) = IsLife w life × IsDurable least w.life
+
+-- A run may begin with this store: it stands as the world says, in which no life is.
+pub record IsBeginning (from : World) (store : Store) : Type 0 where
+  pub life : from.life ≡ None
+  pub sound : SoundAt from
+  pub stands : IsStore from 0 store
 
 -- between lives the count stays, also from the life that ends
 abbrev pub IsNext : ℕ → ℕ → Option Life → Type 0
@@ -78,16 +85,16 @@ pub record DidStore (w : World) (least : ℕ) (e : Event) (x : Outcome) (store :
 
 -- ---- a life begins
 
--- The world has a life that was just begun, with what was found. The keeper was opened over its files, and these are
--- the parts of its map.
-pub record IsOpening (w : World) (stripes : ℕ) (found : Opened) (keeper : Keeper Traced) (parts : List PartState) : Type 0 where
-  pub life : w.life ≡ Some (begun_by stripes found)
+-- The world has a life that was just begun, with what was found in these contents. The keeper was opened over its files,
+-- and these are the parts of its map.
+pub record IsOpening (w : World) (stripes : ℕ) (contents : Contents) (found : Opened) (keeper : Keeper Traced) (parts : List PartState) : Type 0 where
+  pub life : w.life ≡ Some (begun_by stripes contents found)
   pub files : w.files ≡ now (traced_states keeper.disk)
   pub long : length w.history ≡ prefix_of found
   pub map : map_of found ≡ fold_of w.history
   pub divided : IsDivided stripes (map_of found) parts
   pub sealed : keeper.sealed ≡ found.checkpoint.generation
-  pub log : GoesOnFrom (newest_of found) keeper.log
+  pub log : GoesOnIn contents (newest_of found) keeper.log
 
 -- ---- a life ends
 

@@ -7,7 +7,7 @@ ghost use Rattle.flusher.specs.Fitting.{IsUnused};
 ghost use Rattle.flusher.specs.Fitting as keeping;
 ghost use Rattle.recovery.specs.Dividing.{ArePartsOf};
 ghost use Rattle.recovery.specs.Opening.{IsAtStart};
-ghost use Rattle.store_layout.specs.Opening.{Opened};
+ghost use Rattle.store_layout.specs.Opening.{Contents, Opened, key_limit_of};
 ghost use Rattle.schedule_sim.specs.Storing.{IsDurable, IsOpening, LiesOn};
 ghost use Rattle.std.specs.Prelude.{List, slice_set};
 ghost use Rattle.sim_rules.specs.declared.event.Event.TheVariants as event;
@@ -26,7 +26,7 @@ use checkpoint_walk::stops_while_capturing;
 use flusher::Keeper;
 use java_hash::StripeCount;
 use map_model::laws::laws_of_parts;
-use map_types::{Command, Read};
+use map_types::{Command, Read, Refusal};
 use plain_words::PlainWords;
 use sim_keeper::laws::laws_of_lives;
 use sim_rules::laws::laws_of_known_histories;
@@ -96,26 +96,30 @@ fn step_walk(words: &mut PlainWords, pass: usize, walk: Walk) -> (Made, Stepped)
 }
 
 impl Life {
-    /// The life that begins with this keeper and these parts, after `first` changes.
+    /// The life that begins with this keeper and these parts, after `first` changes. The key of a
+    /// change may have `limit` bytes.
     pub(crate) fn new(
         alloc: Global,
         keeper: Keeper<Traced>,
         stripes: StripeCount,
         parts: Vec<Part>,
         first: u64,
+        limit: u16,
     ) -> Result<Life, AllocError>
         requires parts { ArePartsOf stripes.count parts.items }
-        requires fits { (p : Record) → p.opening ≡ opening_of first parts.items → IsUnused first p
+        requires fits { (p : Record) → p.opening ≡ opening_of first parts.items limit
+            → IsUnused first limit p
             → keeping.Fits traced_states traced_honest stripes.count [] keeper p }
         requires start { IsAtStart stripes first keeper }
-        ensures life { IfOk result (λ life. (w : World) (found : Opened)
-            → IsOpening w stripes.count found keeper parts.items → IsLife w life) }
+        ensures life { IfOk result (λ life. (w : World) (contents : Contents) (found : Opened)
+            → limit ≡ key_limit_of contents found
+            → IsOpening w stripes.count contents found keeper parts.items → IsLife w life) }
         ensures kept { IfOk result (λ life. life.keeper ≡ keeper) }
     {
         laws_of_parts();
         laws_of_lives::<Traced>();
         beginnings_of_lives();
-        let Ok(words) = PlainWords::new(alloc, stripes, parts, first, WORKERS as u16) else {
+        let Ok(words) = PlainWords::new(alloc, stripes, parts, first, limit, WORKERS as u16) else {
             return Err(AllocError);
         };
         words.keeps_one_history();
@@ -135,6 +139,7 @@ impl Life {
         worker < WORKERS && matches!(self.jobs[worker], Job::Idle)
     }
 
+    /// The worker begins a change, unless its key is too long.
     pub(crate) fn change(&mut self, worker: usize, command: &Command) -> Result<Outcome, AllocError>
         requires { (w : World) × IsLife w self.old }
         ensures { IfOk result (λ x. (w : World) → IsLife w self.old
@@ -145,6 +150,9 @@ impl Life {
         laws_of_lives::<Traced>();
         if !self.is_idle(worker) {
             return Ok(Outcome::Skipped);
+        }
+        if command.key.is_above(self.words.key_limit(worker)) {
+            return Ok(Outcome::Refused(Refusal::KeyTooLong));
         }
         let walk = Walk::change(self.keeper.alloc, copied_command(command)?);
         self.jobs[worker] = Job::Calling(walk);
@@ -259,7 +267,9 @@ impl Life {
             Event::Begin => Ok(self.begin()),
             Event::Capture { stripe } => Ok(self.capture(*stripe)),
             Event::Seal => Ok(self.seal()),
-            Event::Open { .. } | Event::Stop { .. } | Event::Leave => Ok(Outcome::Skipped),
+            Event::Old | Event::Open { .. } | Event::Stop { .. } | Event::Leave => {
+                Ok(Outcome::Skipped)
+            }
         }
     }
 

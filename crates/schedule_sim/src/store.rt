@@ -101,7 +101,7 @@ fn refused(
     ensures did { IfOk result (λ x. (w : World) (least : ℕ) (stripes : StripesOf) (old : Traced)
         → length (traced_states old) + calls ≡ length (traced_states disk)
         → ((found : Opened) → Holds (contents_of traced_states old) found
-        → MadeAtMost traced_states (opening_calls found) old disk)
+        → MadeAtMost traced_states (opening_calls (contents_of traced_states old) found) old disk)
         → Stopped traced_states (λ traced. memory_failures traced.disk) traced_honest 4 old disk
         refusal → RefusesFor (Refuses (contents_of traced_states old) refusal) refusal
         → IsClosed w least old → DidStore w least (event.Open stripes fails_at) x.1 x.0) }
@@ -127,27 +127,29 @@ fn begun(
     stripes: StripeCount,
     parts: Vec<Part>,
     first: u64,
+    limit: u16,
     calls: u64,
 ) -> Result<(Store, Outcome), AllocError>
     requires parts { ArePartsOf stripes.count parts.items }
-    requires fits { (p : Record) → p.opening ≡ opening_of first parts.items → IsUnused first p
-        → Fits traced_states traced_honest stripes.count [] keeper p }
+    requires fits { (p : Record) → p.opening ≡ opening_of first parts.items limit
+        → IsUnused first limit p → Fits traced_states traced_honest stripes.count [] keeper p }
     requires start { IsAtStart stripes first keeper }
     ensures did { IfOk result (λ x. (w : World) (least : ℕ) (fails_at : Option ℕ) (old : Traced)
         → cases.names_within fails_at calls ≡ false
         → length (traced_states old) + calls ≡ length (traced_states keeper.disk)
         → ((found : Opened) → Holds (contents_of traced_states old) found
-        → Made traced_states (opening_calls found) old keeper.disk)
+        → Made traced_states (opening_calls (contents_of traced_states old) found) old keeper.disk)
         → SyncsAndLooks traced_states (λ traced. memory_failures traced.disk) traced_honest 4 0 old
         keeper.disk → IsOpenedAs (contents_of traced_states old) stripes.count keeper parts.items
-        first → IsClosed w least old → DidStore w least (event.Open stripes fails_at) x.1 x.0) }
+        first limit → IsClosed w least old
+        → DidStore w least (event.Open stripes fails_at) x.1 x.0) }
     ensures told { (old : Traced) → length (traced_states old) + calls
         ≡ length (traced_states keeper.disk) → IfOk result (λ x. TellsCalls old x) }
 {
     steps_between_lives();
     laws_of_parts();
     let entries = entries_of(alloc, &parts)?;
-    let life = Life::new(alloc, keeper, stripes, parts, first)?;
+    let life = Life::new(alloc, keeper, stripes, parts, first, limit)?;
     let outcome = Outcome::Opened {
         calls,
         prefix: first,
@@ -171,12 +173,12 @@ fn opened(
     plan_opening(&mut disk, fails_at)?;
     let before = disk.calls();
     match open_parts(alloc, disk, stripes) {
-        Ok((keeper, parts, first)) => {
+        Ok((keeper, parts, first, limit)) => {
             let calls = calls_since(&keeper.disk, before)?;
             if names_within(fails_at, calls) {
                 return Err(AllocError);
             }
-            begun(alloc, keeper, stripes, parts, first, calls)
+            begun(alloc, keeper, stripes, parts, first, limit, calls)
         }
         Err((disk, refusal)) => {
             let calls = calls_since(&disk, before)?;
@@ -310,6 +312,7 @@ impl Store {
             → DidStore w least event.now x.1 x.0) }
     {
         match event {
+            Event::Old => Ok((self, Outcome::Skipped)),
             Event::Open { stripes, fails_at } => self.open(alloc, *stripes, *fails_at),
             Event::Stop { within, fill } => self.stop(*within, fill),
             Event::Leave => Ok(self.leave()),

@@ -35,6 +35,10 @@ impl Steps for Watched<'_> {
         self.words.seen(self.pass)
     }
 
+    fn key_limit(&self) -> u16 {
+        self.words.key_limit(self.pass)
+    }
+
     fn take(&mut self, stripe: usize) -> Option<Stripe> {
         let taken = At::new(self.words, self.pass).take(stripe);
         self.made = Some(match &taken {

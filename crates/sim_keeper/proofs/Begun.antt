@@ -156,6 +156,7 @@ module _ {D : Type 0} (states : D → List Files) (honest : D → Type 0) (n : �
         store = λ _. record {
           log = goes (l.newest == l.sealed) l.log old.log new.next (length old.staged.items) so (λ e. (other e, k.log ∙ ap (λ o. work_by old.log o (length old.staged.items)) m.no_rotation));
           newest = k.newest;
+          layout = k.layout;
           gate = k.gate;
           sealed = k.sealed;
           checkpoint = written new.checkpoint (checkpoint_begun w l).checkpoint (now (states old.disk)) (begun (old.sealed + 1) low old.stripes.count old.must_close) is (ap Some (shown l w old.sealed low old.stripes.count old.must_close k.sealed close)) given;

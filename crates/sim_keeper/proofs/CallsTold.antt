@@ -1,19 +1,15 @@
 -- Which calls are due.
-use Rattle.std.proofs.Common.{◌≡◌, ℕ, List, Option, None, Some, IfSome, false, refl, sym, ◌∙◌, ap, subst}
-use Rattle.map_types.specs.declared.commands.Command.{Command}
-use Rattle.ticket_order.specs.declared.record.Record.{Record}
+use Rattle.std.proofs.Common.{◌≡◌, ℕ, List, Option, None, Some, IfSome, sym, ◌∙◌, ap}
 use Rattle.disk_model.specs.Files.{Files, now}
 use Rattle.disk_model.specs.Gates.{Call}
 use Rattle.store_layout.specs.Checkpoints.{checkpoint_file}
 use Rattle.checkpoint_file.specs.States.{CheckpointState}
 use Rattle.checkpoint_walk.specs.Checkpointing.{call_due}
 use Rattle.gate_log.specs.States.{LogState}
-use Rattle.flusher.specs.declared.keeper.Keeper.{Keeper}
-use Rattle.flusher.specs.Fitting.{Fits}
-use Rattle.sim_rules.specs.World.{World, Life, Running}
+use Rattle.sim_rules.specs.World.{Life, Running}
 use Rattle.sim_rules.specs.Due.{checkpoint_call}
 use Rattle.sim_keeper.specs.Laws.{CallsAreTold}
-use Rattle.sim_keeper.specs.KeeperInWorld.{IsWritten, KeeperStands}
+use Rattle.sim_keeper.specs.KeeperInWorld.{IsWritten}
 use Rattle.sim_keeper.proofs.CheckpointDue.{checkpoint_due}
 use Rattle.sim_keeper.proofs.LogDue.{log_due}
 

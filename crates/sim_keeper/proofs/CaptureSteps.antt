@@ -106,7 +106,7 @@ module _ {D : Type 0} (states : D → List Files) (honest : D → Type 0) (n : �
         durable = s.durable;
         has_failed = s.has_failed;
         is_broken = s.is_broken;
-        store = λ _. record { log = k.log; newest = k.newest; gate = k.gate; sealed = k.sealed; checkpoint = written; both = both };
+        store = λ _. record { log = k.log; newest = k.newest; layout = k.layout; gate = k.gate; sealed = k.sealed; checkpoint = written; both = both };
         staged = s.staged;
       })
 

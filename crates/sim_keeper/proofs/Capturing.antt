@@ -61,7 +61,7 @@ module _ {D : Type 0} (states : D → List Files) (honest : D → Type 0) (n : �
         durable = s.durable;
         has_failed = s.has_failed;
         is_broken = s.is_broken;
-        store = λ works. let k = s.store works in record { log = k.log; newest = k.newest; gate = k.gate; sealed = k.sealed; checkpoint = k.checkpoint; both = k.both };
+        store = λ works. let k = s.store works in record { log = k.log; newest = k.newest; layout = k.layout; gate = k.gate; sealed = k.sealed; checkpoint = k.checkpoint; both = k.both };
         staged = s.staged;
       })
 

@@ -5,6 +5,7 @@ use Rattle.ticket_order.specs.declared.record.Record.{Record}
 use Rattle.disk_model.specs.Files.{Files, now}
 use Rattle.disk_model.specs.Gates.{Call}
 use Rattle.store_layout.specs.Checkpoints.{Section, checkpoint_file}
+use Rattle.log_records.specs.Layout.{layout_of}
 use Rattle.gate_log.specs.States.{LogState}
 use Rattle.store_layout.specs.declared.checkpoint_phase.CheckpointPhase.{CheckpointPhase}
 use Rattle.store_layout.specs.declared.checkpoint_phase.CheckpointPhase.TheVariants.{Idle, Gate, GateWritten, GateSynced, Ready, Staged, Header, HeaderWritten, HeaderSynced, Opened, Sealed}
@@ -201,6 +202,7 @@ module _ {D : Type 0} (states : D → List Files) (failures : D → ℕ) (honest
         stands = subst (λ m. KeeperStands states new p (with_files w (called call w.files) m) m) (sym world) (stands_by m refl (record {
           log = log_same;
           newest = k.newest ∙ sym (ap (λ (k : Keeper D). k.log.generation) t.same);
+          layout = k.layout ∙ sym (ap (λ (k : Keeper D). layout_of k.log.version) t.same);
           gate = k.gate ∙ sym (ap (λ (k : Keeper D). k.log.gate) t.same);
           sealed = k.sealed ∙ sym (ap (λ (x : Checkpoints). x.sealed) c);
           checkpoint = subst (λ o. IsWritten o (Some (running_shown after written.0)) (now (states new.disk))) (sym writer) (written.0, refl, given);
@@ -218,6 +220,7 @@ module _ {D : Type 0} (states : D → List Files) (failures : D → ℕ) (honest
         stands = subst (λ m. KeeperStands states new p (with_files w (called call w.files) m) m) (sym world) (stands_by m refl (record {
           log = log_same;
           newest = k.newest ∙ sym (ap (λ (k : Keeper D). k.log.generation) t.same);
+          layout = k.layout ∙ sym (ap (λ (k : Keeper D). layout_of k.log.version) t.same);
           gate = k.gate ∙ sym (ap (λ (k : Keeper D). k.log.gate) t.same);
           sealed = sym (ap (λ (x : Checkpoints). x.sealed) c);
           checkpoint = subst (λ o. IsWritten o None (now (states new.disk))) (sym (ap (λ (x : Checkpoints). x.writer) c)) refl;

@@ -24,7 +24,7 @@ publish_answers {D} states honest n done old new p w l f s is =
         durable = let most : old.published ≤ old.log.committed = f.tells.durable in omega (arith, s.durable, most);
         has_failed = s.has_failed;
         is_broken = s.is_broken;
-        store = λ works. let k = s.store works in record { log = k.log; newest = k.newest; gate = k.gate; sealed = k.sealed; checkpoint = k.checkpoint; both = k.both };
+        store = λ works. let k = s.store works in record { log = k.log; newest = k.newest; layout = k.layout; gate = k.gate; sealed = k.sealed; checkpoint = k.checkpoint; both = k.both };
         staged = s.staged;
       };
     })
@@ -44,7 +44,7 @@ fail_answers {D} states old new p w l s is =
         durable = s.durable;
         has_failed = refl;
         is_broken = s.is_broken;
-        store = λ works. let k = s.store works in record { log = k.log; newest = k.newest; gate = k.gate; sealed = k.sealed; checkpoint = k.checkpoint; both = k.both };
+        store = λ works. let k = s.store works in record { log = k.log; newest = k.newest; layout = k.layout; gate = k.gate; sealed = k.sealed; checkpoint = k.checkpoint; both = k.both };
         staged = s.staged;
       };
     })

@@ -1,24 +1,20 @@
 -- Whose file the next call is of.
-use Rattle.std.proofs.Common.{◌≡◌, ℕ, ◌+◌, List, Option, None, Some, false, refl, sym, ◌∙◌, ap, subst}
-use Rattle.map_types.specs.declared.commands.Command.{Command}
-use Rattle.ticket_order.specs.declared.record.Record.{Record}
+use Rattle.std.proofs.Common.{◌≡◌, ℕ, ◌+◌, List, Option, None, Some, refl, sym, ◌∙◌, ap, subst}
 use Rattle.disk_model.specs.Files.{Files, now}
 use Rattle.store_layout.specs.Logs.{log_file}
 use Rattle.store_layout.specs.declared.log_phase.Phase.{Phase}
 use Rattle.store_layout.specs.declared.log_phase.Phase.TheVariants.{Idle, Header, HeaderWritten, Staged, Written, Synced, Opened}
 use Rattle.checkpoint_file.specs.States.{CheckpointState}
 use Rattle.gate_log.specs.LogStates as log
-use Rattle.gate_log.specs.States.{LogState, begun}
+use Rattle.gate_log.specs.States.{LogState}
 use Rattle.store_invariant.specs.StoreStates.{IsTurn}
 use Rattle.flusher.specs.declared.keeper.Keeper.{Keeper}
-use Rattle.flusher.specs.Fitting.{Fits}
 use Rattle.flusher.specs.Rotating.{MayRotate, due_by, due_in, due_of, logs_of}
-use Rattle.sim_rules.specs.World.{World, Life, Rotating, Running}
-use Rattle.sim_rules.specs.Due.{checkpoint_number, due_file, log_number}
-use Rattle.sim_rules.specs.declared.event.Side.TheVariants as side
+use Rattle.sim_rules.specs.World.{Life, Rotating, Running}
+use Rattle.sim_rules.specs.Due.{checkpoint_number, log_number}
 use Rattle.sim_keeper.specs.Laws.{FilesAreTold, file_due}
 use Rattle.sim_keeper.specs.Showing.{calls_left, committing, work_by}
-use Rattle.sim_keeper.specs.KeeperInWorld.{IsWritten, KeeperStands}
+use Rattle.sim_keeper.specs.KeeperInWorld.{IsWritten}
 
 -- ---- the log
 

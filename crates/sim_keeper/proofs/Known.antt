@@ -6,7 +6,7 @@ use Rattle.ticket_order.specs.declared.record.Record.{Record}
 use Rattle.ticket_order.specs.declared.stripe.Entry.{Entry}
 use Rattle.ticket_order.specs.Legality.{history_of}
 use Rattle.disk_model.specs.Files.{File, Files, now}
-use Rattle.log_records.specs.Layout.{first_layout}
+use Rattle.log_records.specs.Layout.{Layout, layout_of}
 use Rattle.store_layout.specs.Logs.{Batch, frame, log_file}
 use Rattle.store_layout.specs.declared.log_phase.Phase.TheVariants.{Opened}
 use Rattle.gate_log.specs.States.{batch_of, commands_of}
@@ -30,25 +30,27 @@ module _ {D : Type 0} (states : D → List Files) (honest : D → Type 0) (n : �
       let long : length keeper.staged.items ≡ length staged = sym (length-map keeper.staged.items (λ (e : Entry). e.command)) in
       ap (λ k. next_commands w l k) long ∙ part_after l.first l.committed w.history done staged (k.front.0 ++ s.history.unseen) all place
 
-  framed : (batches : List Batch) (file : File) (es : List Entry) → log.HasNext None keeper.log (batches_of keeper.log.committed es) → length keeper.log.frame ≡ length (frame first_layout (batch_of keeper.log.committed es)) + 1
+  framed : (batches : List Batch) (file : File) (es : List Entry) → log.HasNext None keeper.log (batches_of keeper.log.committed es) → length keeper.log.frame ≡ length (frame (layout_of keeper.log.version) (batch_of keeper.log.committed es)) + 1
   framed batches file [] has = absurd cc
   framed batches file (e ∷ es) has =
       let is : has.0 ≡ batch_of keeper.log.committed (e ∷ es) = sym (heads has.1) in
-      ap (λ (xs : List ℕ). length xs) (has.2.frame ∙ ap (λ b. frame first_layout b ++ 0 ∷ []) is) ∙ length-append (frame first_layout (batch_of keeper.log.committed (e ∷ es))) (0 ∷ [])
+      ap (λ (xs : List ℕ). length xs) (has.2.frame ∙ ap (λ b. frame (layout_of keeper.log.version) b ++ 0 ∷ []) is) ∙ length-append (frame (layout_of keeper.log.version) (batch_of keeper.log.committed (e ∷ es))) (0 ∷ [])
     where
       heads : {A : Type 0} {x y : A} → (x ∷ []) ≡ (y ∷ []) → x ≡ y
       heads e = cc
 
   -- where the gate stands behind the staged batch
-  pub staged_gate : honest keeper.disk → keeper.is_broken ≡ false → keeper.log.phase ≡ Opened → keeper.log.ending ≡ None → l.gate ≡ keeper.log.gate → gate_after w l (length keeper.staged.items) ≡ keeper.log.gate + length keeper.log.frame
-  staged_gate h works opened goes gate =
+  pub staged_gate : honest keeper.disk → keeper.is_broken ≡ false → keeper.log.phase ≡ Opened → keeper.log.ending ≡ None → l.layout ≡ layout_of keeper.log.version → l.gate ≡ keeper.log.gate → gate_after w l (length keeper.staged.items) ≡ keeper.log.gate + length keeper.log.frame
+  staged_gate h works opened goes lies gate =
       let holds = f.stores.works works h in
       let at = log_in (history_of p) (store_of keeper) holds.held (now (states keeper.disk)) holds.stands in
       let stands = subst (λ ph. log.AtPhase ph keeper.log (newest_batches holds.held.found.first holds.held.found.second) holds.held.staged (now (states keeper.disk) (log_file keeper.log.generation))) opened at.stands in
       let next : log.HasNext None keeper.log (batches_of keeper.log.committed keeper.staged.items) = subst (λ o. log.HasNext o keeper.log (batches_of keeper.log.committed keeper.staged.items)) goes
       (subst (λ bs. log.HasNext keeper.log.ending keeper.log bs) holds.staged_is stands.0) in
       let long = framed (newest_batches holds.held.found.first holds.held.found.second) (now (states keeper.disk) (log_file keeper.log.generation)) keeper.staged.items next in
-      let same : length (frame first_layout (next_batch w l (length keeper.staged.items))) ≡ length (frame first_layout (batch_of keeper.log.committed keeper.staged.items)) =
-      ap (λ c. length (frame first_layout (record { first = c; commands = next_commands w l (length keeper.staged.items) }))) s.committed
-      ∙ ap (λ cs. length (frame first_layout (record { first = keeper.log.committed; commands = cs }))) staged_next in
+      let own : Layout = layout_of keeper.log.version in
+      let same : length (frame l.layout (next_batch w l (length keeper.staged.items))) ≡ length (frame own (batch_of keeper.log.committed keeper.staged.items)) =
+      ap (λ (x : Layout). length (frame x (next_batch w l (length keeper.staged.items)))) lies
+      ∙ ap (λ c. length (frame own (record { first = c; commands = next_commands w l (length keeper.staged.items) }))) s.committed
+      ∙ ap (λ cs. length (frame own (record { first = keeper.log.committed; commands = cs }))) staged_next in
       omega (arith, same, long, gate)

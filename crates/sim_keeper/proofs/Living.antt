@@ -53,7 +53,7 @@ module _ {D : Type 0} (states : D → List Files) (keeper : Keeper D) (p : Recor
         durable = s.durable;
         has_failed = s.has_failed;
         is_broken = s.is_broken;
-        store = λ works. let k = s.store works in record { log = k.log; newest = k.newest; gate = k.gate; sealed = k.sealed; checkpoint = k.checkpoint; both = k.both };
+        store = λ works. let k = s.store works in record { log = k.log; newest = k.newest; layout = k.layout; gate = k.gate; sealed = k.sealed; checkpoint = k.checkpoint; both = k.both };
         staged = s.staged;
       }
 
@@ -71,7 +71,7 @@ module _ {D : Type 0} (states : D → List Files) (keeper : Keeper D) (p : Recor
         durable = s.durable;
         has_failed = s.has_failed;
         is_broken = s.is_broken;
-        store = λ works. let k = s.store works in record { log = k.log; newest = k.newest; gate = k.gate; sealed = k.sealed; checkpoint = k.checkpoint; both = k.both };
+        store = λ works. let k = s.store works in record { log = k.log; newest = k.newest; layout = k.layout; gate = k.gate; sealed = k.sealed; checkpoint = k.checkpoint; both = k.both };
         staged = s.staged;
       }
 
@@ -105,7 +105,7 @@ none_both (Some next) o must_close e = absurd cc
 
 pub opening_stands : {D : Type 0} (states : D → List Files) → OpeningStands states
 unfolding begun_by
-opening_stands {D} states keeper p w stripes found k =
+opening_stands {D} states keeper p w stripes contents found k =
     subst (λ life. StandsIn states keeper p w life) (sym k.life) (record {
       life = k.life;
       files = k.files;
@@ -127,6 +127,7 @@ opening_stands {D} states keeper p w stripes found k =
       store = λ _. record {
         log = sym (ap (λ o. work_by keeper.log o (length keeper.staged.items)) k.no_next ∙ ap (λ ph. committing ph (length keeper.staged.items)) k.idle);
         newest = sym k.generation;
+        layout = sym k.version;
         gate = sym k.gate;
         sealed = sym k.sealed;
         checkpoint = none_written keeper.checkpoint (now (states keeper.disk)) k.checkpoint;

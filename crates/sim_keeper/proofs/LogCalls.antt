@@ -5,7 +5,7 @@ use Rattle.map_types.specs.declared.refusals.Refusal.TheVariants as refusal
 use Rattle.ticket_order.specs.declared.record.Record.{Record}
 use Rattle.disk_model.specs.Files.{Files, now}
 use Rattle.disk_model.specs.Gates as disk
-use Rattle.store_layout.specs.Logs.{log_file}
+use Rattle.store_layout.specs.Logs.{log_file, new_layout}
 use Rattle.store_layout.specs.declared.log_phase.Phase.{Phase}
 use Rattle.gate_log.specs.States.{LogState}
 use Rattle.flusher.specs.declared.keeper.Keeper.{Keeper}
@@ -38,18 +38,18 @@ use Rattle.sim_keeper.proofs.StagedTold.{staged_told}
 -- ---- a call that succeeds
 
 -- nothing of the life changes but the log
-others : (w : World) (l : Life) (g : LogWork) → (record l { log = (log_called w l g).log; committed = (log_called w l g).committed; newest = (log_called w l g).newest; gate = (log_called w l g).gate }) ≡ log_called w l g
+others : (w : World) (l : Life) (g : LogWork) → (record l { log = (log_called w l g).log; committed = (log_called w l g).committed; newest = (log_called w l g).newest; layout = (log_called w l g).layout; gate = (log_called w l g).gate }) ≡ log_called w l g
 others w l Resting = refl
 others w l (Committing n left) = by (left == 1)
   where
     by : (b : Bool) → (let m : Life = (if b then record l { log = Resting; committed = l.committed + n; gate = gate_after w l n } else record l { log = Committing n (left - 1) }) in
-        (record l { log = m.log; committed = m.committed; newest = m.newest; gate = m.gate }) ≡ m)
+        (record l { log = m.log; committed = m.committed; newest = m.newest; layout = m.layout; gate = m.gate }) ≡ m)
     by true = refl
     by false = refl
 others w l (Rotating left) = by (left == 1)
   where
-    by : (b : Bool) → (let m : Life = (if b then record l { log = Resting; newest = l.newest + 1; gate = 17 } else record l { log = Rotating (left - 1) }) in
-        (record l { log = m.log; committed = m.committed; newest = m.newest; gate = m.gate }) ≡ m)
+    by : (b : Bool) → (let m : Life = (if b then record l { log = Resting; newest = l.newest + 1; layout = new_layout; gate = 17 } else record l { log = Rotating (left - 1) }) in
+        (record l { log = m.log; committed = m.committed; newest = m.newest; layout = m.layout; gate = m.gate }) ≡ m)
     by true = refl
     by false = refl
 
@@ -63,7 +63,7 @@ module _ {D : Type 0} (states : D → List Files) (failures : D → ℕ) (honest
   stays = sym (ap is_resting k.log) ∙ goes
 
   before : Before l old.log
-  before = record { committed = s.committed; generation = k.newest; gate = k.gate }
+  before = record { committed = s.committed; generation = k.newest; layout = k.layout; gate = k.gate }
 
   no_end : (next : Option LogState) → old.next ≡ next → next ≡ None → old.log.ending ≡ None
   no_end next e none_ = subst (λ o. MayRotate o old.log old.staged.items) (e ∙ none_) f.rotation
@@ -73,12 +73,12 @@ module _ {D : Type 0} (states : D → List Files) (failures : D → ℕ) (honest
       let steps = t.steps works (due_moves w l old.log before old.next (length old.staged.items) old.staged.items f.rotation stays) in
       subst (λ g. Moved w l g (logs_of new) (length new.staged.items)) (sym k.log) (subst (λ logs. Moved w l (work_shown (logs_of old) (length old.staged.items)) logs (length new.staged.items)) (sym steps.ok.0)
       (moved w l old.log before old.next (length old.staged.items) (length new.staged.items) old.sweeper new.sweeper old.staged.items new.staged.items f.rotation (f.stores.works works h).stands.kept.ready stays refl refl t.hand
-      (λ alone opened. staged_gate states honest n done old p w l f s h works opened (no_end old.next refl alone) k.gate) f.counts.count))
+      (λ alone opened. staged_gate states honest n done old p w l f s h works opened (no_end old.next refl alone) k.layout k.gate) f.counts.count))
 
   after : (let m : Life = log_called w l l.log in KeeperStands states new p (with_files w (called call w.files) m) m)
   after =
       let steps = t.steps works (due_moves w l old.log before old.next (length old.staged.items) old.staged.items f.rotation stays) in
-      let m : Life = record l { log = (log_called w l l.log).log; committed = (log_called w l l.log).committed; newest = (log_called w l l.log).newest; gate = (log_called w l l.log).gate } in
+      let m : Life = record l { log = (log_called w l l.log).log; committed = (log_called w l l.log).committed; newest = (log_called w l l.log).newest; layout = (log_called w l l.log).layout; gate = (log_called w l l.log).gate } in
       let sweep = same_sweep old.next old.log.phase old.sweeper new.sweeper old.staged.items new.staged.items t.hand in
       let capture : new.capture ≡ old.capture = ap (λ (k : Keeper D). k.capture) t.same in
       let stripes : new.stripes ≡ old.stripes = ap (λ (k : Keeper D). k.stripes) t.same in
@@ -99,6 +99,7 @@ module _ {D : Type 0} (states : D → List Files) (failures : D → ℕ) (honest
         store = λ _. record {
           log = goes_on.work;
           newest = goes_on.generation;
+          layout = goes_on.layout;
           gate = goes_on.gate;
           sealed = k.sealed ∙ sym (ap (λ (k : Keeper D). k.sealed) t.same);
           checkpoint = subst (λ o. IsWritten o l.checkpoint (now (states new.disk))) (sym (ap (λ (k : Keeper D). k.checkpoint) t.same)) written;

@@ -1,13 +1,14 @@
 -- Which call of the log is due.
-use Rattle.std.proofs.Common.{◌≡◌, ◌≢◌, ℕ, ◌+◌, List, [], ◌∷◌, ◌++◌, length, Option, None, Some, false, refl, sym, ◌∙◌, ap, subst}
+use Rattle.std.proofs.Common.{◌≡◌, ℕ, ◌+◌, List, [], ◌∷◌, ◌++◌, length, Option, None, Some, false, refl, sym, ◌∙◌, ap, subst}
 use Rattle.map_types.specs.declared.commands.Command.{Command}
 use Rattle.ticket_order.specs.declared.record.Record.{Record}
 use Rattle.ticket_order.specs.declared.stripe.Entry.{Entry}
 use Rattle.ticket_order.specs.Legality.{history_of}
 use Rattle.disk_model.specs.Files.{Files, now}
-use Rattle.disk_model.specs.Gates.{Call, writes, syncs}
-use Rattle.log_records.specs.Layout.{first_layout}
-use Rattle.store_layout.specs.Logs.{end_frame, frame, header, log_file}
+use Rattle.disk_model.specs.Gates.{Call, writes}
+use Rattle.log_records.specs.declared.versions.Version.{Version}
+use Rattle.log_records.specs.Layout.{Layout, layout_of}
+use Rattle.store_layout.specs.Logs.{end_frame, frame, header, log_file, new_layout, new_version}
 use Rattle.store_layout.specs.declared.log_phase.Phase.{Phase}
 use Rattle.store_layout.specs.declared.log_phase.Phase.TheVariants.{Idle, Header, HeaderWritten, Staged, Written, Synced, Opened}
 use Rattle.gate_log.specs.States.{LogState, batch_of, begun, bytes_staged, call_in}
@@ -24,11 +25,11 @@ use Rattle.sim_keeper.specs.Showing.{calls_left, committing, work_by}
 use Rattle.sim_keeper.specs.KeeperInWorld.{KeeperStands, KnowsStore}
 use Rattle.sim_keeper.proofs.Known.{staged_next}
 
-one_staged : (committed : ℕ) (es : List Entry) (lg : LogState) → log.HasNext None lg (batches_of committed es) → lg.frame ≡ frame first_layout (batch_of committed es) ++ 0 ∷ []
+one_staged : (committed : ℕ) (es : List Entry) (lg : LogState) → log.HasNext None lg (batches_of committed es) → lg.frame ≡ frame (layout_of lg.version) (batch_of committed es) ++ 0 ∷ []
 one_staged committed [] lg has = absurd cc
 one_staged committed (e ∷ es) lg has =
     let is : has.0 ≡ batch_of committed (e ∷ es) = sym (heads has.1) in
-    has.2.frame ∙ ap (λ b. frame first_layout b ++ 0 ∷ []) is
+    has.2.frame ∙ ap (λ b. frame (layout_of lg.version) b ++ 0 ∷ []) is
   where
     heads : {A : Type 0} {x y : A} → (x ∷ []) ≡ (y ∷ []) → x ≡ y
     heads e = cc
@@ -45,7 +46,7 @@ module _ {D : Type 0} (states : D → List Files) (honest : D → Type 0) (n : �
   m = length keeper.staged.items
 
   -- the frame of what is staged
-  framed : keeper.log.phase ≡ Staged → keeper.log.ending ≡ None → keeper.log.frame ≡ frame first_layout (next_batch w l m) ++ 0 ∷ []
+  framed : keeper.log.phase ≡ Staged → keeper.log.ending ≡ None → keeper.log.frame ≡ frame l.layout (next_batch w l m) ++ 0 ∷ []
   unfolding m
   framed staged goes =
       let holds = f.stores.works works h in
@@ -54,8 +55,9 @@ module _ {D : Type 0} (states : D → List Files) (honest : D → Type 0) (n : �
       let next : log.HasNext None keeper.log (batches_of keeper.log.committed keeper.staged.items) = subst (λ o. log.HasNext o keeper.log (batches_of keeper.log.committed keeper.staged.items)) goes
       (subst (λ bs. log.HasNext keeper.log.ending keeper.log bs) holds.staged_is stands.0) in
       one_staged keeper.log.committed keeper.staged.items keeper.log next
-      ∙ ap (λ cs. frame first_layout (record { first = keeper.log.committed; commands = cs }) ++ 0 ∷ []) (sym (staged_next states honest n done keeper p w l f s))
-      ∙ ap (λ c. frame first_layout (record { first = c; commands = next_commands w l (length keeper.staged.items) }) ++ 0 ∷ []) (sym s.committed)
+      ∙ ap (λ cs. frame (layout_of keeper.log.version) (record { first = keeper.log.committed; commands = cs }) ++ 0 ∷ []) (sym (staged_next states honest n done keeper p w l f s))
+      ∙ ap (λ c. frame (layout_of keeper.log.version) (record { first = c; commands = next_commands w l (length keeper.staged.items) }) ++ 0 ∷ []) (sym s.committed)
+      ∙ ap (λ (x : Layout). frame x (next_batch w l (length keeper.staged.items)) ++ 0 ∷ []) (sym k.layout)
 
   -- no log follows
   alone : (ph : Phase) (call : Call) → keeper.log.phase ≡ ph → log.IsReady ph → keeper.log.ending ≡ None → call_in ph keeper.log ≡ Some call
@@ -95,8 +97,13 @@ module _ {D : Type 0} (states : D → List Files) (honest : D → Type 0) (n : �
   turns Header next call at turn ready is due =
       let generation : next.generation ≡ l.newest + 1 = ap (λ (x : LogState). x.generation) is ∙ ap (λ g. g + 1) (sym k.newest) in
       let low : next.low ≡ l.committed = ap (λ (x : LogState). x.low) is ∙ sym s.committed in
+      let version : next.version ≡ new_version = ap (λ (x : LogState). x.version) is in
       subst (λ ph. call_in ph next ≡ Some call → (call ≡ log_call w l (Rotating (calls_left ph))) × (log_file next.generation ≡ log_number l (Rotating (calls_left ph)))) (sym at)
-      (λ due. (some_is due ∙ ap (λ g. writes 0 (header g next.low ++ 0 ∷ [])) generation ∙ ap (λ t. writes 0 (header (l.newest + 1) t ++ 0 ∷ [])) low, ap log_file generation)) due
+      (λ due. (
+        some_is due ∙ ap (λ (v : Version). writes 0 (header (layout_of v) next.generation next.low ++ 0 ∷ [])) version
+            ∙ ap (λ g. writes 0 (header new_layout g next.low ++ 0 ∷ [])) generation ∙ ap (λ t. writes 0 (header new_layout (l.newest + 1) t ++ 0 ∷ [])) low,
+        ap log_file generation,
+      )) due
   turns HeaderWritten next call at turn ready is due =
       let generation : next.generation ≡ l.newest + 1 = ap (λ (x : LogState). x.generation) is ∙ ap (λ g. g + 1) (sym k.newest) in
       subst (λ ph. call_in ph next ≡ Some call → (call ≡ log_call w l (Rotating (calls_left ph))) × (log_file next.generation ≡ log_number l (Rotating (calls_left ph)))) (sym at)

@@ -3,6 +3,7 @@ use Rattle.std.proofs.Common.{◌≡◌, ◌≢◌, ℕ, ◌+◌, List, length, 
 use Rattle.ticket_order.specs.declared.stripe.Entry.{Entry}
 use Rattle.disk_model.specs.Files.{File, Files, with_file}
 use Rattle.store_layout.specs.Checkpoints.{checkpoint_file}
+use Rattle.log_records.specs.Layout.{layout_of}
 use Rattle.store_layout.specs.Logs.{log_file}
 use Rattle.store_layout.specs.declared.log_phase.Phase.{Phase}
 use Rattle.store_layout.specs.declared.log_phase.Phase.TheVariants.{Idle, Header, HeaderWritten, Staged, Written, Synced, Opened}
@@ -28,12 +29,14 @@ pub record Moved (w : World) (l : Life) (g : LogWork) (logs : Logs) (m : ℕ) : 
   pub phase : phase_of_log (log_called w l g).log ≡ (due_by logs.newest logs.next).phase
   pub committed : (log_called w l g).committed ≡ logs.newest.committed
   pub generation : (log_called w l g).newest ≡ logs.newest.generation
+  pub layout : (log_called w l g).layout ≡ layout_of logs.newest.version
   pub gate : (log_called w l g).gate ≡ logs.newest.gate
 
 -- before it
 pub record Before (l : Life) (newest : LogState) : Type 0 where
   pub committed : l.committed ≡ newest.committed
   pub generation : l.newest ≡ newest.generation
+  pub layout : l.layout ≡ layout_of newest.version
   pub gate : l.gate ≡ newest.gate
 
 same_count : (n m : ℕ) (staged es : List Entry) → length staged ≡ n → length es ≡ m → es ≡ staged → n ≡ m
@@ -54,13 +57,13 @@ module _ (w : World) (l : Life) (newest : LogState) (b : Before l newest) where
   alone Header n m old left staged es ready moves has left_is past gate count = absurd ready
   alone HeaderWritten n m old left staged es ready moves has left_is past gate count = absurd ready
   alone Staged n m old left staged es ready moves has left_is past gate count =
-      record { work = ap (λ k. Committing k 3) (same_count n m staged es has left_is past.1); phase = refl; committed = b.committed; generation = b.generation; gate = b.gate }
+      record { work = ap (λ k. Committing k 3) (same_count n m staged es has left_is past.1); phase = refl; committed = b.committed; generation = b.generation; layout = b.layout; gate = b.gate }
   alone Written n m old left staged es ready moves has left_is past gate count =
-      record { work = ap (λ k. Committing k 2) (same_count n m staged es has left_is past.1); phase = refl; committed = b.committed; generation = b.generation; gate = b.gate }
+      record { work = ap (λ k. Committing k 2) (same_count n m staged es has left_is past.1); phase = refl; committed = b.committed; generation = b.generation; layout = b.layout; gate = b.gate }
   alone Synced n m old left staged es ready moves has left_is past gate count =
-      record { work = ap (λ k. Committing k 1) (same_count n m staged es has left_is past.1); phase = refl; committed = b.committed; generation = b.generation; gate = b.gate }
+      record { work = ap (λ k. Committing k 1) (same_count n m staged es has left_is past.1); phase = refl; committed = b.committed; generation = b.generation; layout = b.layout; gate = b.gate }
   alone Opened n m old left staged es ready moves has left_is past gate count =
-      record { work = refl; phase = refl; committed = omega (arith, b.committed, count); generation = b.generation; gate = gate refl }
+      record { work = refl; phase = refl; committed = omega (arith, b.committed, count); generation = b.generation; layout = b.layout; gate = gate refl }
 
   -- the newest log ends
   ends : (ph : Phase) (next : LogState) (m : ℕ) → IsReady ph → ph ≢ Idle → next.phase ≡ Idle → next ≡ record (begun (newest.generation + 1) newest.committed) { phase = next.phase; is_broken = next.is_broken }
@@ -69,16 +72,17 @@ module _ (w : World) (l : Life) (newest : LogState) (b : Before l newest) where
   ends Header next m ready moves idle is = absurd ready
   ends HeaderWritten next m ready moves idle is = absurd ready
   ends Staged next m ready moves idle is =
-      record { work = idle_work (log_after Staged newest) next m idle; phase = idle_due (log_after Staged newest) next idle; committed = b.committed; generation = b.generation; gate = b.gate }
+      record { work = idle_work (log_after Staged newest) next m idle; phase = idle_due (log_after Staged newest) next idle; committed = b.committed; generation = b.generation; layout = b.layout; gate = b.gate }
   ends Written next m ready moves idle is =
-      record { work = idle_work (log_after Written newest) next m idle; phase = idle_due (log_after Written newest) next idle; committed = b.committed; generation = b.generation; gate = b.gate }
+      record { work = idle_work (log_after Written newest) next m idle; phase = idle_due (log_after Written newest) next idle; committed = b.committed; generation = b.generation; layout = b.layout; gate = b.gate }
   ends Synced next m ready moves idle is =
-      record { work = idle_work (log_after Synced newest) next m idle; phase = idle_due (log_after Synced newest) next idle; committed = b.committed; generation = b.generation; gate = b.gate }
+      record { work = idle_work (log_after Synced newest) next m idle; phase = idle_due (log_after Synced newest) next idle; committed = b.committed; generation = b.generation; layout = b.layout; gate = b.gate }
   ends Opened next m ready moves idle is = record {
     work = sym (ap (λ ph. committing ph m) idle);
     phase = sym idle;
     committed = b.committed ∙ sym (ap (λ (x : LogState). x.committed) is);
     generation = ap (λ g. g + 1) b.generation ∙ sym (ap (λ (x : LogState). x.generation) is);
+    layout = sym (ap (λ (x : LogState). layout_of x.version) is);
     gate = sym (ap (λ (x : LogState). x.gate) is);
   }
 
@@ -87,9 +91,9 @@ module _ (w : World) (l : Life) (newest : LogState) (b : Before l newest) where
       → Moved w l (Rotating (calls_left (due_in ph newest next).phase)) (rotated_in ph newest next) m
   rotates Idle next m e turn ready is = ends newest.phase next m ready turn.0 e is
   rotates Header next m e turn ready is = subst (λ ph. Moved w l (Rotating (calls_left ph)) (rotated_in Header newest next) m) (sym e)
-      (record { work = refl; phase = refl; committed = b.committed; generation = b.generation; gate = b.gate })
+      (record { work = refl; phase = refl; committed = b.committed; generation = b.generation; layout = b.layout; gate = b.gate })
   rotates HeaderWritten next m e turn ready is = subst (λ ph. Moved w l (Rotating (calls_left ph)) (rotated_in HeaderWritten newest next) m) (sym e)
-      (record { work = refl; phase = refl; committed = b.committed; generation = b.generation; gate = b.gate })
+      (record { work = refl; phase = refl; committed = b.committed; generation = b.generation; layout = b.layout; gate = b.gate })
   rotates Staged next m e turn ready is = absurd turn
   rotates Written next m e turn ready is = absurd turn
   rotates Synced next m e turn ready is = absurd turn

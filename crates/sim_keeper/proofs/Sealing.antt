@@ -166,6 +166,7 @@ module _ {D : Type 0} (states : D → List Files) (honest : D → Type 0) (n : �
         store = λ _. record {
           log = k.log;
           newest = k.newest;
+          layout = k.layout;
           gate = k.gate;
           sealed = k.sealed;
           checkpoint = written old.checkpoint l.checkpoint (now (states old.disk)) k.checkpoint all given;

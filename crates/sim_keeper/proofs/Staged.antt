@@ -7,6 +7,7 @@ use Rattle.map_types.specs.declared.refusals.Refusal.TheVariants as refusal
 use Rattle.ticket_order.specs.declared.record.Record.{Record}
 use Rattle.ticket_order.specs.declared.stripe.Entry.{Entry}
 use Rattle.disk_model.specs.Files.{Files, now}
+use Rattle.log_records.specs.Layout.{layout_of}
 use Rattle.gate_log.specs.States.{LogState}
 use Rattle.flusher.specs.declared.keeper.Keeper.{Keeper}
 use Rattle.flusher.specs.Fitting.{Fits}
@@ -55,9 +56,9 @@ module _ {D : Type 0} (states : D → List Files) (honest : D → Type 0) (n : �
   may_by works e = rest_may old.log old.next (length old.staged.items) old.staged.items f.rotation (sym (ap is_resting (s.store works).log) ∙ e)
 
   -- the keeper stands so where its log does
-  stands_by : old.is_broken ≡ false → (g : LogWork) (log : LogState) → new.log ≡ log → new ≡ record old { log = new.log; sweeper = record old.sweeper { in_hand = new.sweeper.in_hand }; staged = new.staged } → log.generation ≡ old.log.generation → log.gate ≡ old.log.gate → log.committed ≡ old.log.committed
+  stands_by : old.is_broken ≡ false → (g : LogWork) (log : LogState) → new.log ≡ log → new ≡ record old { log = new.log; sweeper = record old.sweeper { in_hand = new.sweeper.in_hand }; staged = new.staged } → log.version ≡ old.log.version → log.generation ≡ old.log.generation → log.gate ≡ old.log.gate → log.committed ≡ old.log.committed
       → (old.is_broken ≡ false → g ≡ work_by new.log old.next (length new.staged.items)) → KeeperStands states new p (with_life w (record l { log = g })) (record l { log = g })
-  stands_by works g log log_is same generation gate committed shown =
+  stands_by works g log log_is same version generation gate committed shown =
       let m : Life = record l { log = g } in
       subst (λ k. KeeperStands states k p (with_life w m) m) (sym same) (record {
         life = refl;
@@ -74,6 +75,7 @@ module _ {D : Type 0} (states : D → List Files) (honest : D → Type 0) (n : �
         store = λ works. let k = s.store works in record {
           log = shown works;
           newest = k.newest ∙ sym generation ∙ sym (ap (λ (x : LogState). x.generation) log_is);
+          layout = k.layout ∙ ap layout_of (sym version ∙ sym (ap (λ (x : LogState). x.version) log_is));
           gate = k.gate ∙ sym gate ∙ sym (ap (λ (x : LogState). x.gate) log_is);
           sealed = k.sealed;
           checkpoint = k.checkpoint;
@@ -100,6 +102,7 @@ module _ {D : Type 0} (states : D → List Files) (honest : D → Type 0) (n : �
             (let k = s.store (sym (ap (λ (k : Keeper D). k.is_broken) same) ∙ works) in record {
               log = k.log ∙ ap (λ x. work_by x old.next (length old.staged.items)) (sym log) ∙ ap (λ x. work_by new.log old.next (length x.items)) (sym staged);
               newest = k.newest ∙ sym (ap (λ (x : LogState). x.generation) log);
+              layout = k.layout ∙ sym (ap (λ (x : LogState). layout_of x.version) log);
               gate = k.gate ∙ sym (ap (λ (x : LogState). x.gate) log);
               sealed = k.sealed;
               checkpoint = k.checkpoint;
@@ -112,13 +115,13 @@ module _ {D : Type 0} (states : D → List Files) (honest : D → Type 0) (n : �
       → new ≡ record old { log = new.log; sweeper = record old.sweeper { in_hand = new.sweeper.in_hand }; staged = new.staged } → KeeperStands states new p (with_life w (record l { log = Committing count 4 })) (record l { log = Committing count 4 })
   some_staged works count commands some is may st same =
       let long : count ≡ length new.staged.items = is ∙ sym (ap (λ (xs : List Entry). length xs) st.entries ∙ length-entries old.sweeper.in_hand.next commands) in
-      stands_by works (Committing count 4) new.log refl same (ap (λ (x : LogState). x.generation) st.log) (ap (λ (x : LogState). x.gate) st.log) (ap (λ (x : LogState). x.committed) st.log)
+      stands_by works (Committing count 4) new.log refl same (ap (λ (x : LogState). x.version) st.log) (ap (λ (x : LogState). x.generation) st.log) (ap (λ (x : LogState). x.gate) st.log) (ap (λ (x : LogState). x.committed) st.log)
       (λ works. ap (λ k. Committing k 4) long ∙ sym (ap (λ o. work_by new.log o (length new.staged.items)) may.1 ∙ ap (λ (x : LogState). committing x.phase (length new.staged.items)) st.log))
 
   after_ok : old.is_broken ≡ false → (count : ℕ) (commands : List Command) → count ≡ length commands → MayStage old.log old.next → (count ≡ 0 → new ≡ old) → (1 ≤ count → Stages commands old.log old.sweeper.in_hand new.log new.sweeper.in_hand new.staged.items)
       → new ≡ record old { log = new.log; sweeper = record old.sweeper { in_hand = new.sweeper.in_hand }; staged = new.staged } → HasKeeper states new p (with_life w (record l { log = staged_by count l.log }))
   after_ok works zero commands is may none_ some same =
-      let e = none_ refl in stands_by works l.log old.log (ap (λ (k : Keeper D). k.log) e) same refl refl refl
+      let e = none_ refl in stands_by works l.log old.log (ap (λ (k : Keeper D). k.log) e) same refl refl refl refl
       (λ works. (s.store works).log ∙ ap (λ x. work_by x old.next (length old.staged.items)) (sym (ap (λ (k : Keeper D). k.log) e)) ∙ ap (λ x. work_by new.log old.next (length x.items)) (sym (ap (λ (k : Keeper D). k.staged) e)))
   after_ok works (suc m) commands is may none_ some same =
       subst (λ g. HasKeeper states new p (with_life w (record l { log = g }))) (sym (never_none m l.log)) (some_staged works (suc m) commands (omega arith) is may (some (omega arith)) same)
@@ -137,8 +140,8 @@ module _ {D : Type 0} (states : D → List Files) (honest : D → Type 0) (n : �
         happens = (
           s.is_broken ∙ works,
           rested,
-          subst (IsLongestRun w l most) (sym o.2) (longest states honest n done old p w l f s places rest may most o.0 o.1),
-          λ past. ok_err count refusal.LogFull (t.full.1 (works, may, past_full states honest n done old p w l f s places rest may most o.0 o.1 k.gate (subst (IsPastFull w l) o.2 past))),
+          subst (IsLongestRun w l most) (sym o.2) (longest states honest n done old p w l f s places rest may k.layout most o.0 o.1),
+          λ past. ok_err count refusal.LogFull (t.full.1 (works, may, past_full states honest n done old p w l f s places rest may k.layout most o.0 o.1 k.gate (subst (IsPastFull w l) o.2 past))),
         );
         stands = after_ok works count o.0 o.2 may o.3 o.4 t.same;
       }
@@ -156,8 +159,8 @@ module _ {D : Type 0} (states : D → List Files) (honest : D → Type 0) (n : �
             resting full.0 full.1,
             (
               length full.2.commands,
-              longest states honest n done old p w l f s places rest full.1 most full.2.commands full.2.longest,
-              full_past states honest n done old p w l f s places rest full.1 most full.2 (s.store full.0).gate,
+              longest states honest n done old p w l f s places rest full.1 (s.store full.0).layout most full.2.commands full.2.longest,
+              full_past states honest n done old p w l f s places rest full.1 (s.store full.0).layout most full.2 (s.store full.0).gate,
             ),
           )
       refused e (inr (inr (inr is))) t =

@@ -1,5 +1,5 @@
 -- How much is staged.
-use Rattle.std.proofs.Common.{◌≡◌, ℕ, List, [], length, Option, None, Some, Bool, true, false, refl, sym, ◌∙◌, ap, subst}
+use Rattle.std.proofs.Common.{◌≡◌, ℕ, List, length, Option, None, Some, Bool, true, false, refl, sym, ◌∙◌, ap}
 use Rattle.map_types.specs.declared.commands.Command.{Command}
 use Rattle.ticket_order.specs.declared.record.Record.{Record}
 use Rattle.ticket_order.specs.declared.stripe.Entry.{Entry}
@@ -10,7 +10,7 @@ use Rattle.store_layout.specs.declared.log_phase.Phase.TheVariants as log_phase
 use Rattle.gate_log.specs.States.{LogState}
 use Rattle.flusher.specs.declared.keeper.Keeper.{Keeper}
 use Rattle.flusher.specs.Fitting.{Fits, IsEmptyIn}
-use Rattle.flusher.specs.Rotating.{MayRotate, logs_of}
+use Rattle.flusher.specs.Rotating.{MayRotate}
 use Rattle.checkpoint_walk.specs.Walking.{FitsBy}
 use Rattle.sim_rules.specs.World.{World, Life}
 use Rattle.sim_rules.specs.Runs.{staged_in}

@@ -10,7 +10,7 @@ use Rattle.ticket_order.specs.declared.walk.Walk.{Walk}
 use Rattle.ticket_order.specs.Records.{entry, reach}
 use Rattle.ticket_order.specs.Walks.{Kind, Take, Give, Ticket, Look, Durable, See, Fail, Alive, next_kind}
 use Rattle.disk_model.specs.Files.{Files}
-use Rattle.log_records.specs.Layout.{first_layout}
+use Rattle.log_records.specs.Layout.{Layout, layout_of}
 use Rattle.store_layout.specs.Logs.{frame}
 use Rattle.gate_log.specs.States.{LogState, commands_of}
 use Rattle.flusher.specs.declared.keeper.Keeper.{Keeper}
@@ -87,7 +87,11 @@ place_within l t low place = elim (cases_lt t (l.first + length l.places)) [
     other e = cc
 
 module _ {D : Type 0} (states : D → List Files) (honest : D → Type 0) (n : ℕ) (done : List Command) (old : Keeper D) (p : Record) (w : World) (l : Life)
-    (f : Fits states honest n done old p) (s : KeeperStands states old p w l) (places : TellsPlaces p l) (rest : is_walking old.sweeper.walking ≡ false) (may : MayStage old.log old.next) where
+    (f : Fits states honest n done old p) (s : KeeperStands states old p w l) (places : TellsPlaces p l) (rest : is_walking old.sweeper.walking ≡ false) (may : MayStage old.log old.next)
+    (lies : l.layout ≡ layout_of old.log.version) where
+  abbrev own : Layout
+  own = layout_of old.log.version
+
   none_staged : old.staged.items ≡ []
   none_staged = subst (λ ph. IsEmptyIn ph old.staged.items) may.0.0 f.counts.empty
 
@@ -108,13 +112,14 @@ module _ {D : Type 0} (states : D → List Files) (honest : D → Type 0) (n : �
       let place : l.first + length done ≡ l.committed = ap (λ k. k + length done) (sym s.history.first) ∙ f.counts.committed ∙ sym s.committed in
       part_after l.first l.committed w.history done cs (front.0 ++ s.history.unseen) all place
 
-  can : (most : ℕ) (cs : List Command) → IsRun old.sweeper.in_hand cs → FitsBatch most old.sweeper.in_hand.next cs → CanStage w l most (length cs)
+  can : (most : ℕ) (cs : List Command) → IsRun old.sweeper.in_hand cs → FitsBatch own most old.sweeper.in_hand.next cs → CanStage w l most (length cs)
   can most cs run fits = record {
     in_hand = λ i lt.
         let x = at_ticket old.sweeper.in_hand.next cs (old.sweeper.in_hand.next + i) (omega arith) (omega (arith, lt)) in
         let has = taken_in_hand old.sweeper.in_hand done cs p.opening.first p.taken p.seen accounts run (entry (old.sweeper.in_hand.next + i) x.0) x.1 in
         subst (λ t. place_of l (t + i) ≡ InHand) next_is (places.taken (entry (old.sweeper.in_hand.next + i) x.0) has);
-    fits = subst (λ t. FitsBatch most t (next_commands w l (length cs))) next_is (subst (FitsBatch most old.sweeper.in_hand.next) (sym (run_next cs run)) fits);
+    fits = subst (λ (x : Layout). FitsBatch x most l.committed (next_commands w l (length cs))) (sym lies)
+        (subst (λ t. FitsBatch own most t (next_commands w l (length cs))) next_is (subst (FitsBatch own most old.sweeper.in_hand.next) (sym (run_next cs run)) fits));
   }
 
   -- a ticket in hand has its command there
@@ -131,30 +136,32 @@ module _ {D : Type 0} (states : D → List Files) (honest : D → Type 0) (n : �
       let x = places.in_hand (old.sweeper.in_hand.next + i) low (place_within l (old.sweeper.in_hand.next + i) low there) there in
       entry_at i x.0 x.1 x.2
 
-  run_of : (most m : ℕ) (cs : List Command) → FitsBatch most l.committed (next_commands w l m) → IsRun old.sweeper.in_hand cs → length cs ≡ m → FitsBatch most old.sweeper.in_hand.next cs
+  run_of : (most m : ℕ) (cs : List Command) → FitsBatch l.layout most l.committed (next_commands w l m) → IsRun old.sweeper.in_hand cs → length cs ≡ m → FitsBatch own most old.sweeper.in_hand.next cs
   run_of most m cs fits run long =
-      subst (λ t. FitsBatch most t cs) (sym next_is) (subst (FitsBatch most l.committed) (run_next cs run) (subst (λ k. FitsBatch most l.committed (next_commands w l k)) (sym long) fits))
+      subst (λ t. FitsBatch own most t cs) (sym next_is) (subst (FitsBatch own most l.committed) (run_next cs run)
+      (subst (λ k. FitsBatch own most l.committed (next_commands w l k)) (sym long) (subst (λ (x : Layout). FitsBatch x most l.committed (next_commands w l m)) lies fits)))
 
-  back : (most m : ℕ) → CanStage w l most m → (cs : List Command) × IsRun old.sweeper.in_hand cs × (length cs ≡ m) × FitsBatch most old.sweeper.in_hand.next cs
+  back : (most m : ℕ) → CanStage w l most m → (cs : List Command) × IsRun old.sweeper.in_hand cs × (length cs ≡ m) × FitsBatch own most old.sweeper.in_hand.next cs
   back most m c =
       let r = slots_run m old.sweeper.in_hand.slots (λ i lt. held_at i (c.in_hand i lt)) in
       (r.0, r.1, r.2, run_of most m r.0 c.fits r.1 r.2)
 
-  pub longest : (most : ℕ) (cs : List Command) → IsLongest most old.sweeper.in_hand cs → IsLongestRun w l most (length cs)
+  pub longest : (most : ℕ) (cs : List Command) → IsLongest own most old.sweeper.in_hand cs → IsLongestRun w l most (length cs)
   longest most cs k = record {
     can = can most cs k.run k.fits;
     no_longer = λ c. let b = back most (length cs + 1) c in omega (arith, b.2, k.longest b.0 b.1 b.3);
   }
 
   -- where the gate would stand
-  gate_is : (cs : List Command) → IsRun old.sweeper.in_hand cs → l.gate ≡ old.log.gate → gate_after w l (length cs) ≡ old.log.gate + 1 + length (frame first_layout (record { first = old.log.committed; commands = cs }))
+  gate_is : (cs : List Command) → IsRun old.sweeper.in_hand cs → l.gate ≡ old.log.gate → gate_after w l (length cs) ≡ old.log.gate + 1 + length (frame own (record { first = old.log.committed; commands = cs }))
   gate_is cs run gate =
-      let same : length (frame first_layout (next_batch w l (length cs))) ≡ length (frame first_layout (record { first = old.log.committed; commands = cs })) =
-      ap (λ c. length (frame first_layout (record { first = c; commands = next_commands w l (length cs) }))) s.committed
-      ∙ ap (λ xs. length (frame first_layout (record { first = old.log.committed; commands = xs }))) (run_next cs run) in
+      let same : length (frame l.layout (next_batch w l (length cs))) ≡ length (frame own (record { first = old.log.committed; commands = cs })) =
+      ap (λ (x : Layout). length (frame x (next_batch w l (length cs)))) lies
+      ∙ ap (λ c. length (frame own (record { first = c; commands = next_commands w l (length cs) }))) s.committed
+      ∙ ap (λ xs. length (frame own (record { first = old.log.committed; commands = xs }))) (run_next cs run) in
       omega (arith, same, gate)
 
-  pub past_full : (most : ℕ) (cs : List Command) → IsLongest most old.sweeper.in_hand cs → l.gate ≡ old.log.gate → IsPastFull w l (length cs) → IsFull most old.log old.sweeper.in_hand
+  pub past_full : (most : ℕ) (cs : List Command) → IsLongest own most old.sweeper.in_hand cs → l.gate ≡ old.log.gate → IsPastFull w l (length cs) → IsFull most old.log old.sweeper.in_hand
   past_full most cs k gate past = record { commands = cs; longest = k; some = past.0; too_long = omega (arith, past.1, gate_is cs k.run gate) }
 
   pub full_past : (most : ℕ) (k : IsFull most old.log old.sweeper.in_hand) → l.gate ≡ old.log.gate → IsPastFull w l (length k.commands)

@@ -5,11 +5,11 @@ use Rattle.map_model.specs.Steps.{fold_of}
 use Rattle.std.specs.List.{Contains}
 use Rattle.ticket_order.specs.declared.record.Record.{Record}
 use Rattle.ticket_order.specs.declared.stripe.Entry.{Entry}
-use Rattle.disk_model.specs.Files.{Files, now}
+use Rattle.disk_model.specs.Files.{Contents, Files, now}
 use Rattle.store_layout.specs.Checkpoints.{Section}
-use Rattle.log_records.specs.Layout.{first_layout}
-use Rattle.store_layout.specs.Opening.{Opened, newest_of, prefix_of}
-use Rattle.store_layout.specs.Readings.{gate_behind}
+use Rattle.log_records.specs.Layout.{layout_of}
+use Rattle.store_layout.specs.Logs.{log_file}
+use Rattle.store_layout.specs.Opening.{Opened, gate_in, log_layout, newest_of, prefix_of}
 use Rattle.store_layout.specs.declared.log_phase.Phase.TheVariants.{Idle}
 use Rattle.gate_log.specs.States.{LogState}
 use Rattle.checkpoint_file.specs.States.{CheckpointState, first_phase}
@@ -48,6 +48,7 @@ BeginsBoth (Some next) (Some w) must_close = w.phase ≡ first_phase must_close
 pub record KnowsStore {D : Type 0} (states : D → List Files) (keeper : Keeper D) (l : Life) : Type 0 where
   pub log : l.log ≡ work_shown (logs_of keeper) (length keeper.staged.items)
   pub newest : l.newest ≡ keeper.log.generation
+  pub layout : l.layout ≡ layout_of keeper.log.version
   pub gate : l.gate ≡ keeper.log.gate
   pub sealed : l.sealed ≡ keeper.sealed
   pub checkpoint : IsWritten keeper.checkpoint l.checkpoint (now (states keeper.disk))
@@ -74,9 +75,10 @@ pub record TellsPlaces (p : Record) (l : Life) : Type 0 where
   pub taken : (e : Entry) → Contains p.taken e → place_of l e.ticket ≡ InHand
   pub in_hand : (t : ℕ) → l.first ≤ t → t < l.first + length l.places → place_of l t ≡ InHand → (e : Entry) × Contains p.taken e × (e.ticket ≡ t)
 
--- The keeper was opened, and has made no call; its pass has made no step. A life begins that was opened with what is found.
-pub record IsAtOpening {D : Type 0} (states : D → List Files) (keeper : Keeper D) (p : Record) (w : World) (stripes : ℕ) (found : Opened) : Type 0 where
-  pub life : w.life ≡ Some (begun_by stripes found)
+-- The keeper was opened, and has made no call; its pass has made no step. A life begins that was opened with what is
+-- found in these contents, and the newest log has the version that they name.
+pub record IsAtOpening {D : Type 0} (states : D → List Files) (keeper : Keeper D) (p : Record) (w : World) (stripes : ℕ) (contents : Contents) (found : Opened) : Type 0 where
+  pub life : w.life ≡ Some (begun_by stripes contents found)
   pub files : w.files ≡ now (states keeper.disk)
   pub long : length w.history ≡ prefix_of found
   pub first : p.opening.first ≡ prefix_of found
@@ -85,7 +87,8 @@ pub record IsAtOpening {D : Type 0} (states : D → List Files) (keeper : Keeper
   pub stripes_are : keeper.stripes.count ≡ stripes
   pub sealed : keeper.sealed ≡ found.checkpoint.generation
   pub generation : keeper.log.generation ≡ (newest_of found).generation
-  pub gate : keeper.log.gate ≡ gate_behind first_layout (newest_of found).generation (newest_of found).low (newest_of found).batches
+  pub version : layout_of keeper.log.version ≡ log_layout (contents (log_file (newest_of found).generation))
+  pub gate : keeper.log.gate ≡ gate_in (contents (log_file (newest_of found).generation)) (newest_of found)
   pub committed : keeper.log.committed ≡ prefix_of found
   pub published : keeper.published ≡ prefix_of found
   pub idle : keeper.log.phase ≡ Idle

@@ -13,7 +13,7 @@ use Rattle.ticket_order.specs.declared.walk.Walk.{Walk}
 use Rattle.ticket_order.specs.Records.{failing, outbox_held, publishing, reach}
 use Rattle.ticket_order.specs.Walks as walks
 use Rattle.disk_model.specs.declared.fill.Fill.{Fill}
-use Rattle.disk_model.specs.Files.{Files}
+use Rattle.disk_model.specs.Files.{Contents, Files}
 use Rattle.disk_model.specs.Gates.{Call}
 use Rattle.store_layout.specs.declared.log_phase.Phase.{Phase}
 use Rattle.store_layout.specs.declared.checkpoint_phase.CheckpointPhase.{CheckpointPhase}
@@ -259,9 +259,9 @@ FrontIsSeen = (p : Record) (w : World) (l : Life) (before added rest : List Comm
 
 -- ---- an opening
 
--- A keeper that was opened with what is found stands against a life that begins with that.
+-- A keeper that was opened with what is found in these contents stands against a life that begins with that.
 abbrev pub OpeningStands : {D : Type 0} → (D → List Files) → Type 0
-OpeningStands {D} states = (keeper : Keeper D) (p : Record) (w : World) (stripes : ℕ) (found : Opened) → IsAtOpening states keeper p w stripes found → HasKeeper states keeper p w
+OpeningStands {D} states = (keeper : Keeper D) (p : Record) (w : World) (stripes : ℕ) (contents : Contents) (found : Opened) → IsAtOpening states keeper p w stripes contents found → HasKeeper states keeper p w
 
 -- ---- whole events
 

@@ -19,6 +19,7 @@ use Rattle.checkpoint_file.specs.States.{CheckpointState}
 use Rattle.flusher.specs.Fitting.{Fits}
 use Rattle.flusher.specs.declared.sweeper.Swept.{Swept}
 use Rattle.flusher.specs.Sweeping.{StepsOn}
+use Rattle.log_records.specs.Layout.{layout_of}
 use Rattle.store_layout.specs.Hands.{IsLongest}
 use Rattle.flusher.specs.HandSteps.{SameEntries}
 use Rattle.flusher.specs.KeeperSteps.{IsFull, IsPast, MayStage, Stages, committed_by}
@@ -91,7 +92,7 @@ pub record TriesStage {D : Type 0} (most : ℕ) (old new : Keeper D) (result : R
   pub wrong_phase : (result ≡ Err refusal.WrongPhase) ↔ ((old.is_broken ≡ false) × (MayStage old.log old.next → ⊥))
   pub full : (result ≡ Err refusal.LogFull) ↔ ((old.is_broken ≡ false) × MayStage old.log old.next × IsFull most old.log old.sweeper.in_hand)
   pub no_other : IfErr result (λ e. (e ≡ refusal.Failed) ⊎ (e ≡ refusal.WrongPhase) ⊎ (e ≡ refusal.LogFull) ⊎ (e ≡ refusal.NoMemory))
-  pub ok : IfOk result (λ count. (commands : List Command) × IsLongest most old.sweeper.in_hand commands × (count ≡ length commands)
+  pub ok : IfOk result (λ count. (commands : List Command) × IsLongest (layout_of old.log.version) most old.sweeper.in_hand commands × (count ≡ length commands)
       × (count ≡ 0 → new ≡ old) × (1 ≤ count → Stages commands old.log old.sweeper.in_hand new.log new.sweeper.in_hand new.staged.items))
   pub err : OnErr result ((new.log ≡ old.log) × (new.staged ≡ old.staged) × SameEntries old.sweeper.in_hand new.sweeper.in_hand)
   pub same : new ≡ record old { log = new.log; sweeper = record old.sweeper { in_hand = new.sweeper.in_hand }; staged = new.staged }

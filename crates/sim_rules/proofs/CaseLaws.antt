@@ -1,5 +1,5 @@
 -- An event is skipped exactly where it doesn't fit.
-use Rattle.std.proofs.Common.{◌≡◌, Bool, true, false, Option, Some, None, MatchBool, refl, sym, subst}
+use Rattle.std.proofs.Common.{◌≡◌, Bool, true, false, Option, Some, None, MatchBool, refl, sym, ap, subst}
 use Rattle.store_layout.specs.Opening.{Opened}
 use Rattle.sim_rules.specs.declared.event.Ending.{Ending}
 use Rattle.sim_rules.specs.declared.event.Ending.TheVariants as ending
@@ -10,9 +10,10 @@ use Rattle.sim_rules.specs.declared.event.Side.TheVariants as side
 use Rattle.sim_rules.specs.declared.outcome.Outcome.{Outcome}
 use Rattle.sim_rules.specs.declared.outcome.Outcome.TheVariants as outcome
 use Rattle.sim_rules.specs.World.{World, Life}
-use Rattle.sim_rules.specs.Fitting.{fits}
+use Rattle.sim_rules.specs.Fitting.{fits, fits_with}
+use Rattle.sim_rules.specs.After.{after}
 use Rattle.sim_rules.specs.Cases.{HappensInside, HappensOutside, HappensWith, MakesCall, StopsInside}
-use Rattle.sim_rules.specs.Laws.{SkippedWhereUnfit}
+use Rattle.sim_rules.specs.Laws.{OldIsSkipped, SkippedWhereUnfit}
 
 IsOther : Outcome → Type 0
 IsOther outcome.Skipped = ⊥
@@ -34,8 +35,9 @@ no_stop w l (Some s) h = h
 
 never_inside : (w : World) (l : Life) (e : Event) → HappensInside w l e outcome.Skipped → ⊥
 unfolding IsOther
+never_inside w l event.Old h = h
 never_inside w l (event.Open stripes fails_at) h = h
-never_inside w l (event.Change worker c) h = other outcome.Started tt h
+never_inside w l (event.Change worker c) h = h
 never_inside w l (event.Read worker r) h = other outcome.Started tt h
 never_inside w l (event.Step worker) h = h
 never_inside w l (event.Release worker) h = other outcome.Started tt h
@@ -52,6 +54,7 @@ never_inside w l (event.Stop within fill) h = no_stop w l within h
 never_inside w l event.Leave h = other outcome.Left tt h
 
 never_outside : (w : World) (found : Opened) (e : Event) → HappensOutside w found e outcome.Skipped → ⊥
+never_outside w found event.Old h = h
 never_outside w found (event.Open stripes fails_at) h = h
 never_outside w found (event.Change worker c) h = h
 never_outside w found (event.Read worker r) h = h
@@ -88,3 +91,13 @@ skipped_where_unfit w found e = (
   ),
   λ x is h. only_skipped (fits w e) (HappensWith w w.life found e x) (x ≡ outcome.Skipped) is h,
 )
+
+never_old : (w : World) (life : Option Life) (found : Opened) (x : Outcome) → MatchBool (fits_with life event.Old) (HappensWith w life found event.Old x) (x ≡ outcome.Skipped) → x ≡ outcome.Skipped
+never_old w None found x h = h
+never_old w (Some l) found x h = h
+
+pub old_is_skipped : OldIsSkipped
+unfolding after
+old_is_skipped w found x meets =
+    let is = never_old w w.life found x meets in
+    (is, ap (λ (y : Outcome). after w found event.Old y) is)

@@ -120,12 +120,12 @@ longest_run_in_hand w l hand most commands known longest =
       record {
         can = record {
           in_hand = in_hand_by w l hand known commands longest.run;
-          fits = subst (λ (cs : List Command). FitsBatch most l.committed cs) (sym next) (subst (λ (first : ℕ). FitsBatch most first commands) known.next longest.fits);
+          fits = subst (λ (cs : List Command). FitsBatch l.layout most l.committed cs) (sym next) (subst (λ (first : ℕ). FitsBatch l.layout most first commands) known.next longest.fits);
         };
         no_longer = λ can.
             let run = next_is_run w l hand known (length commands) can.in_hand in
             let more = next_length w l hand known (length commands) can.in_hand in
-            let fits : FitsBatch most hand.next (next_commands w l (length commands + 1)) = subst (λ (first : ℕ). FitsBatch most first (next_commands w l (length commands + 1))) (sym known.next) can.fits in
+            let fits : FitsBatch l.layout most hand.next (next_commands w l (length commands + 1)) = subst (λ (first : ℕ). FitsBatch l.layout most first (next_commands w l (length commands + 1))) (sym known.next) can.fits in
             omega (arith, more, longest.longest (next_commands w l (length commands + 1)) run fits);
       },
       next,

@@ -3,12 +3,12 @@ use Rattle.std.proofs.Common.{◌≡◌, ◌⊎◌, inl, inr, ℕ, zero, suc, �
 use Rattle.std.proofs.lemmas.Bool.Decides.{nat_tests}
 use Rattle.std.proofs.lemmas.List.{append_assoc, ext_get_or, get_or-take, get_or_append_left, length-take-le, take-append-drop}
 use Rattle.disk_model.specs.Files.{MayLeave, at_rest, byte_at, written}
-use Rattle.log_records.specs.Layout.{first_layout}
-use Rattle.store_layout.specs.Examples.{log_with_five}
 use Rattle.store_layout.specs.FirstFiles.{first_log}
-use Rattle.store_layout.specs.Logs.{IsClosed, frame, header, log_front}
+use Rattle.store_layout.specs.Logs.{frame, header, log_front, new_layout, new_version}
+use Rattle.store_layout.specs.Opening.{IsClosedIn}
+use Rattle.store_layout.proofs.OwnLayouts.{closed_in_own, own_of}
 use Rattle.sim_rules.specs.Examples.{frame_bytes}
-use Rattle.sim_rules.proofs.StopExamples.{gated, log_file}
+use Rattle.sim_rules.proofs.StopExamples.{gated, log_file, log_with_five}
 
 -- of a file at rest a stop leaves its content
 pub stays_at_rest : (there content : List ℕ) → MayLeave (at_rest there) content → content ≡ there
@@ -33,15 +33,15 @@ begins_with front bytes content may =
     ∙ get_or-take (length front) front i 0 below) in
     sym (take-append-drop (length front) content) ∙ ap (λ xs. xs ++ drop (length front) content) first
 
-pub shut_while_written : (bytes content : List ℕ) → MayLeave (written 18 bytes (at_rest first_log)) content → IsClosed first_layout 0 0 [] content
+pub shut_while_written : (bytes content : List ℕ) → MayLeave (written 18 bytes (at_rest first_log)) content → IsClosedIn 0 0 [] content
 unfolding header
-shut_while_written bytes content may = record {
+shut_while_written bytes content may = closed_in_own new_layout (own_of new_version) 0 0 [] content (record {
   gate = 0;
   rest = drop 18 content;
-  bytes = begins_with first_log bytes content may ∙ append_assoc (log_front first_layout 0 0 []) (0 ∷ []) (drop 18 content);
+  bytes = begins_with first_log bytes content may ∙ append_assoc (log_front new_layout 0 0 []) (0 ∷ []) (drop 18 content);
   closed = λ e. omega (arith, e);
   log = record { generation_fits = omega arith; low_fits = omega arith; in_order = tt };
-}
+})
 
 -- ---- once it is synced
 
@@ -68,7 +68,7 @@ that_byte (x ∷ xs) ys g (suc i) is = that_byte xs ys g i (omega (arith, is))
 behind : List ℕ
 behind = frame_bytes
 
-split : (gate : ℕ) → log_with_five gate ≡ log_front first_layout 0 0 [] ++ gate ∷ behind
+split : (gate : ℕ) → log_with_five gate ≡ log_front new_layout 0 0 [] ++ gate ∷ behind
 unfolding behind frame header
 split gate = refl
 
@@ -82,7 +82,10 @@ same_or_not (suc i) (suc n) = next (same_or_not i n)
     next (inl is) = inl (ap suc is)
     next (inr other) = inr (λ e. other (omega (arith, e)))
 
-size : (gate : ℕ) → length (log_with_five gate) ≡ 48
+abbrev log_bytes : ℕ
+log_bytes = length (log_with_five 0)
+
+size : (gate : ℕ) → length (log_with_five gate) ≡ log_bytes
 unfolding frame header
 size gate = refl
 
@@ -92,8 +95,8 @@ left_of_gate content may =
     let long : length content ≡ length (log_with_five 165) = omega (arith, may.no_shorter, may.no_longer) in
     ext_get_or 0 content (log_with_five (byte_at 17 content)) (long ∙ size 165 ∙ sym (size (byte_at 17 content))) (λ i l. by i (omega (arith, l, long, size 165)) (same_or_not i 17))
   where
-    by : (i : ℕ) → i < 48 → (i ≡ 17) ⊎ (i ≡ 17 → ⊥) → byte_at i content ≡ byte_at i (log_with_five (byte_at 17 content))
-    by i l (inl is) = ap (λ n. byte_at n content) is ∙ sym (that_byte (log_front first_layout 0 0 []) behind (byte_at 17 content) i is) ∙ ap (byte_at i) (sym (split (byte_at 17 content)))
+    by : (i : ℕ) → i < log_bytes → (i ≡ 17) ⊎ (i ≡ 17 → ⊥) → byte_at i content ≡ byte_at i (log_with_five (byte_at 17 content))
+    by i l (inl is) = ap (λ n. byte_at n content) is ∙ sym (that_byte (log_front new_layout 0 0 []) behind (byte_at 17 content) i is) ∙ ap (byte_at i) (sym (split (byte_at 17 content)))
     by i l (inr other) =
-        may.same i (let still : ((nat_le 17 i && nat_lt i 18) || false) || nat_le 48 i ≡ false = grind (arith, nat_tests, l, other) in still)
-        ∙ ap (byte_at i) (split 165) ∙ other_byte (log_front first_layout 0 0 []) behind 165 (byte_at 17 content) i other ∙ ap (byte_at i) (sym (split (byte_at 17 content)))
+        may.same i (let still : ((nat_le 17 i && nat_lt i 18) || false) || nat_le log_bytes i ≡ false = grind (arith, nat_tests, l, other) in still)
+        ∙ ap (byte_at i) (split 165) ∙ other_byte (log_front new_layout 0 0 []) behind 165 (byte_at 17 content) i other ∙ ap (byte_at i) (sym (split (byte_at 17 content)))

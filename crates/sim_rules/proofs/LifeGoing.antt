@@ -31,7 +31,7 @@ use Rattle.sim_rules.specs.Fitting.{fits}
 use Rattle.sim_rules.specs.After.{after, capture_gives, capture_takes, checkpoint_called}
 use Rattle.sim_rules.specs.After.{keeper_stepped, log_called, running_called, sweep_begins, sweep_gives, sweep_takes}
 use Rattle.sim_rules.specs.After.{worker_stepped}
-use Rattle.sim_rules.specs.Cases.{BeginsCapture, BeginsCheckpoint, BeginsSeal, HappensInside, IsStep, MakesCall, Meets, Publishes}
+use Rattle.sim_rules.specs.Cases.{BeginsCapture, BeginsChange, BeginsCheckpoint, BeginsSeal, HappensInside, IsStep, MakesCall, Meets, Publishes}
 use Rattle.sim_rules.specs.Cases.{StagesRun, StepsJob, StepsRelease, StopsInside}
 use Rattle.sim_rules.specs.Runs.{Row, Happens, IsMove, move_of}
 use Rattle.sim_rules.specs.Sound.{AnswersLegally, IsSound, IsSoundInside, IsSoundOutside, ReleasesLegal, Stays, durable_or, released_by, released_with}
@@ -104,40 +104,42 @@ Occurs files history l least found e x =
     Happens (living files history l) (e, x) (after (living files history l) found e x)
     × Stays (living files history l) l.durable (e, x) (after (living files history l) found e x) (durable_or (after (living files history l) found e x).life least)
 
-abbrev Goes : List Row → Files → List Command → Life → List Call → ℕ → Opened → Event → Outcome → Type 0
-Goes rows files history l released least found e x =
-    IsSound ((e, x) ∷ rows) (after (living files history l) found e x) least (released_by (living files history l) e x released)
+abbrev Goes : World → List Row → Files → List Command → Life → List Call → ℕ → Opened → Event → Outcome → Type 0
+Goes from rows files history l released least found e x =
+    IsSound from ((e, x) ∷ rows) (after (living files history l) found e x) least (released_by (living files history l) e x released)
 
-module _ (rows : List Row) (files : Files) (history : List Command) (l : Life) (released : List Call) (least : ℕ) (found : Opened) (sound : IsSoundInside rows (living files history l) l.durable released) (low : l.durable ≤ least) (reached : least ≤ length history) where
+module _ (from : World) (rows : List Row) (files : Files) (history : List Command) (l : Life) (released : List Call) (least : ℕ) (found : Opened) (sound : IsSoundInside from rows (living files history l) l.durable released) (low : l.durable ≤ least) (reached : least ≤ length history) where
   -- an event that leaves the history, and is no move
   quiet : (e : Event) (x : Outcome) (w' : World) (durable : ℕ) → Happens (living files history l) (e, x) w' × Stays (living files history l) l.durable (e, x) w' durable
-      → IsMove (living files history l) e x None → w'.history ≡ history → l.durable ≤ durable → IsSoundInside ((e, x) ∷ rows) w' durable released
+      → IsMove (living files history l) e x None → w'.history ≡ history → l.durable ≤ durable → IsSoundInside from ((e, x) ∷ rows) w' durable released
   quiet e x w' durable occurs none same longer =
-      quiet_inside rows (living files history l) l.durable released (e, x) w' durable sound occurs.0 occurs.1 none same longer
+      quiet_inside from rows (living files history l) l.durable released (e, x) w' durable sound occurs.0 occurs.1 none same longer
 
   -- one that ends the life
   ending_life : (e : Event) (x : Outcome) (w' : World) → Happens (living files history l) (e, x) w' × Stays (living files history l) l.durable (e, x) w' least
-      → ((p : ℕ) → IsMove (living files history l) e x (Some (Stops p))) → w'.history ≡ history → IsSoundOutside ((e, x) ∷ rows) w' least released
+      → ((p : ℕ) → IsMove (living files history l) e x (Some (Stops p))) → w'.history ≡ history → IsSoundOutside from ((e, x) ∷ rows) w' least released
   ending_life e x w' occurs stops same =
-      ends_inside rows (living files history l) l.durable released (e, x) w' least sound occurs.0 occurs.1 stops same low reached
+      ends_inside from rows (living files history l) l.durable released (e, x) w' least sound occurs.0 occurs.1 stops same low reached
 
-  by_outcome : (e : Event) (x y : Outcome) → x ≡ y → (Occurs files history l least found e y → Goes rows files history l released least found e y) → Occurs files history l least found e x
-      → Goes rows files history l released least found e x
-  by_outcome e x y is goes = subst (λ (z : Outcome). Occurs files history l least found e z → Goes rows files history l released least found e z) (sym is) goes
+  by_outcome : (e : Event) (x y : Outcome) → x ≡ y → (Occurs files history l least found e y → Goes from rows files history l released least found e y) → Occurs files history l least found e x
+      → Goes from rows files history l released least found e x
+  by_outcome e x y is goes = subst (λ (z : Outcome). Occurs files history l least found e z → Goes from rows files history l released least found e z) (sym is) goes
 
-  skipped_goes : (e : Event) → Occurs files history l least found e outcome.Skipped → Goes rows files history l released least found e outcome.Skipped
+  skipped_goes : (e : Event) → Occurs files history l least found e outcome.Skipped → Goes from rows files history l released least found e outcome.Skipped
   unfolding after
   skipped_goes e occurs = quiet e outcome.Skipped _ l.durable occurs refl refl (omega arith)
 
-  change_goes : (worker : ℕ) (c : Command) → Occurs files history l least found (event.Change worker c) outcome.Started → Goes rows files history l released least found (event.Change worker c) outcome.Started
+  change_goes : (worker : ℕ) (c : Command) (x : Outcome) → Occurs files history l least found (event.Change worker c) x → BeginsChange l c x → Goes from rows files history l released least found (event.Change worker c) x
   unfolding after
-  change_goes worker c occurs = quiet (event.Change worker c) outcome.Started _ l.durable occurs refl refl (omega arith)
+  change_goes worker c outcome.Started occurs case = quiet (event.Change worker c) outcome.Started _ l.durable occurs refl refl (omega arith)
+  change_goes worker c (outcome.Refused refusal) occurs case = quiet (event.Change worker c) (outcome.Refused refusal) _ l.durable occurs refl refl (omega arith)
+  change_goes worker c x occurs case = absurd case
 
-  read_goes : (worker : ℕ) (r : Read) → Occurs files history l least found (event.Read worker r) outcome.Started → Goes rows files history l released least found (event.Read worker r) outcome.Started
+  read_goes : (worker : ℕ) (r : Read) → Occurs files history l least found (event.Read worker r) outcome.Started → Goes from rows files history l released least found (event.Read worker r) outcome.Started
   unfolding after
   read_goes worker r occurs = quiet (event.Read worker r) outcome.Started _ l.durable occurs refl refl (omega arith)
 
-  release_goes : (worker : ℕ) → Occurs files history l least found (event.Release worker) outcome.Started → Goes rows files history l released least found (event.Release worker) outcome.Started
+  release_goes : (worker : ℕ) → Occurs files history l least found (event.Release worker) outcome.Started → Goes from rows files history l released least found (event.Release worker) outcome.Started
   unfolding after
   release_goes worker occurs = quiet (event.Release worker) outcome.Started _ l.durable occurs refl refl (omega arith)
 
@@ -145,45 +147,45 @@ module _ (rows : List Row) (files : Files) (history : List Command) (l : Life) (
   job_goes : (worker : ℕ) (job : Job) (m : Made) (end : End) → Happens (living files history l) (event.Step worker, outcome.Stepped m end) (worker_stepped (living files history l) l worker job m end)
       × Stays (living files history l) l.durable (event.Step worker, outcome.Stepped m end) (worker_stepped (living files history l) l worker job m end) l.durable
       → IsMove (living files history l) (event.Step worker) (outcome.Stepped m end) (move_of job m end) → StepsJob (living files history l) l worker job m end → ReleasesLegal history (move_of job m end)
-      → IsSoundInside ((event.Step worker, outcome.Stepped m end) ∷ rows) (worker_stepped (living files history l) l worker job m end) l.durable (released_with (move_of job m end) released)
+      → IsSoundInside from ((event.Step worker, outcome.Stepped m end) ∷ rows) (worker_stepped (living files history l) l worker job m end) l.durable (released_with (move_of job m end) released)
   job_goes worker Idle m end occurs is case legal = absurd case
   job_goes worker (Keeps asked position) m end occurs is case legal = absurd case
   job_goes worker (Walks (Changing c) stage) (made.Drew ticket) end occurs is case legal =
-      draws_inside rows (living files history l) l.durable released (event.Step worker, outcome.Stepped (made.Drew ticket) end) _ c sound occurs.0 occurs.1 is refl
+      draws_inside from rows (living files history l) l.durable released (event.Step worker, outcome.Stepped (made.Drew ticket) end) _ c sound occurs.0 occurs.1 is refl
   job_goes worker (Walks (Changing c) stage) m end occurs is case legal =
-      quiet_inside rows (living files history l) l.durable released (event.Step worker, outcome.Stepped m end) _ l.durable sound occurs.0 occurs.1 is refl (omega arith)
+      quiet_inside from rows (living files history l) l.durable released (event.Step worker, outcome.Stepped m end) _ l.durable sound occurs.0 occurs.1 is refl (omega arith)
   job_goes worker (Walks (Reading r) stage) m end occurs is case legal =
-      quiet_inside rows (living files history l) l.durable released (event.Step worker, outcome.Stepped m end) _ l.durable sound occurs.0 occurs.1 is refl (omega arith)
+      quiet_inside from rows (living files history l) l.durable released (event.Step worker, outcome.Stepped m end) _ l.durable sound occurs.0 occurs.1 is refl (omega arith)
   job_goes worker (Releasing asked position asking) m (ends.Replied q reply) occurs is case legal =
-      releases_inside rows (living files history l) l.durable released (event.Step worker, outcome.Stepped m (ends.Replied q reply)) _ (call q asked reply) sound occurs.0 occurs.1 is refl legal
+      releases_inside from rows (living files history l) l.durable released (event.Step worker, outcome.Stepped m (ends.Replied q reply)) _ (call q asked reply) sound occurs.0 occurs.1 is refl legal
       (replied_within l position asking m q reply case)
   job_goes worker (Releasing asked position asking) m end occurs is case legal =
-      quiet_inside rows (living files history l) l.durable released (event.Step worker, outcome.Stepped m end) _ l.durable sound occurs.0 occurs.1 is refl (omega arith)
+      quiet_inside from rows (living files history l) l.durable released (event.Step worker, outcome.Stepped m end) _ l.durable sound occurs.0 occurs.1 is refl (omega arith)
 
   step_goes : (worker : ℕ) (x : Outcome) → Occurs files history l least found (event.Step worker) x → IsStep x (StepsJob (living files history l) l worker (job_of l worker))
-      → AnswersLegally (living files history l) (event.Step worker) x → Goes rows files history l released least found (event.Step worker) x
+      → AnswersLegally (living files history l) (event.Step worker) x → Goes from rows files history l released least found (event.Step worker) x
   unfolding after
   step_goes worker (outcome.Stepped m end) occurs case legal = job_goes worker (job_of l worker) m end occurs refl case legal
   step_goes worker x occurs case legal = absurd case
 
-  sweep_goes : (x : Outcome) (P : Made → End → Type 0) → Occurs files history l least found event.Sweep x → IsStep x P → Goes rows files history l released least found event.Sweep x
+  sweep_goes : (x : Outcome) (P : Made → End → Type 0) → Occurs files history l least found event.Sweep x → IsStep x P → Goes from rows files history l released least found event.Sweep x
   unfolding after
   sweep_goes (outcome.Stepped m end) P occurs case = quiet event.Sweep (outcome.Stepped m end) _ (sweep_begins l l.sweep m end).durable occurs refl refl (omega (arith, of_sweep_begins l l.sweep m end))
   sweep_goes x P occurs case = absurd case
 
-  keeper_goes : (x : Outcome) (P : Made → End → Type 0) → Occurs files history l least found event.KeeperStep x → IsStep x P → Goes rows files history l released least found event.KeeperStep x
+  keeper_goes : (x : Outcome) (P : Made → End → Type 0) → Occurs files history l least found event.KeeperStep x → IsStep x P → Goes from rows files history l released least found event.KeeperStep x
   unfolding after
   keeper_goes (outcome.Stepped m end) P occurs case =
       quiet event.KeeperStep (outcome.Stepped m end) _ (keeper_stepped (living files history l) l l.walk m end).durable occurs refl refl (omega (arith, of_keeper_stepped (living files history l) l l.walk m end))
   keeper_goes x P occurs case = absurd case
 
-  stage_goes : (most : ℕ) (x : Outcome) → Occurs files history l least found (event.Stage most) x → StagesRun (living files history l) l most x → Goes rows files history l released least found (event.Stage most) x
+  stage_goes : (most : ℕ) (x : Outcome) → Occurs files history l least found (event.Stage most) x → StagesRun (living files history l) l most x → Goes from rows files history l released least found (event.Stage most) x
   unfolding after
   stage_goes most (outcome.Staged n) occurs case = quiet (event.Stage most) (outcome.Staged n) _ l.durable occurs refl refl (omega arith)
   stage_goes most (outcome.Refused refusal) occurs case = quiet (event.Stage most) (outcome.Refused refusal) _ l.durable occurs refl refl (omega arith)
   stage_goes most x occurs case = absurd case
 
-  device_goes : (s : Side) (e : Ending) (x : Outcome) → Occurs files history l least found (event.Device s e) x → MakesCall (living files history l) l s e x → Goes rows files history l released least found (event.Device s e) x
+  device_goes : (s : Side) (e : Ending) (x : Outcome) → Occurs files history l least found (event.Device s e) x → MakesCall (living files history l) l s e x → Goes from rows files history l released least found (event.Device s e) x
   unfolding after
   device_goes s e (outcome.Refused refusal) occurs case = quiet (event.Device s e) (outcome.Refused refusal) _ l.durable occurs refl refl (omega arith)
   device_goes s e (outcome.Logged made phase) occurs case =
@@ -196,50 +198,51 @@ module _ (rows : List Row) (files : Files) (history : List Command) (l : Life) (
   device_goes side.Checkpoint ending.Done x occurs case = absurd case
   device_goes side.Checkpoint (ending.Fails fill) x occurs case = absurd case
 
-  publish_goes : (x : Outcome) → Occurs files history l least found event.Publish x → Publishes l x → Goes rows files history l released least found event.Publish x
+  publish_goes : (x : Outcome) → Occurs files history l least found event.Publish x → Publishes l x → Goes from rows files history l released least found event.Publish x
   unfolding after
   publish_goes (outcome.Published n) occurs case = quiet event.Publish (outcome.Published n) _ (max l.durable n) occurs refl refl (omega arith)
   publish_goes x occurs case = absurd case
 
-  fail_goes : Occurs files history l least found event.Fail outcome.FailMade → Goes rows files history l released least found event.Fail outcome.FailMade
+  fail_goes : Occurs files history l least found event.Fail outcome.FailMade → Goes from rows files history l released least found event.Fail outcome.FailMade
   unfolding after
   fail_goes occurs = quiet event.Fail outcome.FailMade _ l.durable occurs refl refl (omega arith)
 
-  begin_goes : (x : Outcome) → Occurs files history l least found event.Begin x → BeginsCheckpoint l x → Goes rows files history l released least found event.Begin x
+  begin_goes : (x : Outcome) → Occurs files history l least found event.Begin x → BeginsCheckpoint l x → Goes from rows files history l released least found event.Begin x
   unfolding after
   begin_goes outcome.Begun occurs case = quiet event.Begin outcome.Begun _ l.durable occurs refl refl (omega arith)
   begin_goes (outcome.Refused refusal) occurs case = quiet event.Begin (outcome.Refused refusal) _ l.durable occurs refl refl (omega arith)
   begin_goes x occurs case = absurd case
 
-  capture_goes : (stripe : ℕ) (x : Outcome) → Occurs files history l least found (event.Capture stripe) x → BeginsCapture l stripe x → Goes rows files history l released least found (event.Capture stripe) x
+  capture_goes : (stripe : ℕ) (x : Outcome) → Occurs files history l least found (event.Capture stripe) x → BeginsCapture l stripe x → Goes from rows files history l released least found (event.Capture stripe) x
   unfolding after
   capture_goes stripe (outcome.Stepped m end) occurs case =
       quiet (event.Capture stripe) (outcome.Stepped m end) _ (capture_takes l end).durable occurs refl refl (omega (arith, of_capture_takes l end))
   capture_goes stripe (outcome.Refused refusal) occurs case = quiet (event.Capture stripe) (outcome.Refused refusal) _ l.durable occurs refl refl (omega arith)
   capture_goes stripe x occurs case = absurd case
 
-  seal_goes : (x : Outcome) → Occurs files history l least found event.Seal x → BeginsSeal l x → Goes rows files history l released least found event.Seal x
+  seal_goes : (x : Outcome) → Occurs files history l least found event.Seal x → BeginsSeal l x → Goes from rows files history l released least found event.Seal x
   unfolding after
   seal_goes outcome.Sealing occurs case = quiet event.Seal outcome.Sealing _ l.durable occurs refl refl (omega arith)
   seal_goes (outcome.Refused refusal) occurs case = quiet event.Seal (outcome.Refused refusal) _ l.durable occurs refl refl (omega arith)
   seal_goes x occurs case = absurd case
 
   stop_goes : (within : Option Side) (fill : Fill) (x : Outcome) → Occurs files history l least found (event.Stop within fill) x → StopsInside (living files history l) l within x
-      → Goes rows files history l released least found (event.Stop within fill) x
+      → Goes from rows files history l released least found (event.Stop within fill) x
   unfolding after
   stop_goes None fill (outcome.Stopped None) occurs case = ending_life (event.Stop None fill) (outcome.Stopped None) _ occurs (λ p. (p, refl)) refl
   stop_goes (Some s) fill (outcome.Stopped (Some made)) occurs case = ending_life (event.Stop (Some s) fill) (outcome.Stopped (Some made)) _ occurs (λ p. (p, refl)) refl
   stop_goes None fill x occurs case = absurd case
   stop_goes (Some s) fill x occurs case = absurd case
 
-  leave_goes : Occurs files history l least found event.Leave outcome.Left → Goes rows files history l released least found event.Leave outcome.Left
+  leave_goes : Occurs files history l least found event.Leave outcome.Left → Goes from rows files history l released least found event.Leave outcome.Left
   unfolding after
   leave_goes occurs = ending_life event.Leave outcome.Left _ occurs (λ p. (p, refl)) refl
 
   fitting_goes : (e : Event) (x : Outcome) → Occurs files history l least found e x → HappensInside (living files history l) l e x → AnswersLegally (living files history l) e x
-      → Goes rows files history l released least found e x
+      → Goes from rows files history l released least found e x
+  fitting_goes event.Old x occurs case legal = absurd case
   fitting_goes (event.Open stripes fails_at) x occurs case legal = absurd case
-  fitting_goes (event.Change worker c) x occurs case legal = by_outcome (event.Change worker c) x outcome.Started case (change_goes worker c) occurs
+  fitting_goes (event.Change worker c) x occurs case legal = change_goes worker c x occurs case
   fitting_goes (event.Read worker r) x occurs case legal = by_outcome (event.Read worker r) x outcome.Started case (read_goes worker r) occurs
   fitting_goes (event.Step worker) x occurs case legal = step_goes worker x occurs case legal
   fitting_goes (event.Release worker) x occurs case legal = by_outcome (event.Release worker) x outcome.Started case (release_goes worker) occurs
@@ -257,7 +260,7 @@ module _ (rows : List Row) (files : Files) (history : List Command) (l : Life) (
 
   -- whether it fits or not
   event_goes : (b : Bool) (e : Event) (x : Outcome) → fits (living files history l) e ≡ b → Meets (living files history l) found e x → Occurs files history l least found e x
-      → AnswersLegally (living files history l) e x → Goes rows files history l released least found e x
+      → AnswersLegally (living files history l) e x → Goes from rows files history l released least found e x
   event_goes true e x is meets occurs legal =
       fitting_goes e x occurs (subst (λ (b : Bool). MatchBool b (HappensInside (living files history l) l e x) (x ≡ outcome.Skipped)) is meets) legal
   event_goes false e x is meets occurs legal =
@@ -265,14 +268,14 @@ module _ (rows : List Row) (files : Files) (history : List Command) (l : Life) (
 
 -- the same of any world that has this life
 pub life_goes_on : LifeGoesOn
-life_goes_on rows w l released least e x w' life sound happens stays legal low reached =
-    subst (λ (y : Option Life). IsSoundInside rows (record { files = w.files; history = w.history; life = y }) l.durable released → Happens (record { files = w.files; history = w.history; life = y }) (e, x) w'
+life_goes_on from rows w l released least e x w' life sound happens stays legal low reached =
+    subst (λ (y : Option Life). IsSoundInside from rows (record { files = w.files; history = w.history; life = y }) l.durable released → Happens (record { files = w.files; history = w.history; life = y }) (e, x) w'
     → Stays (record { files = w.files; history = w.history; life = y }) l.durable (e, x) w' (durable_or w'.life least)
-    → AnswersLegally (record { files = w.files; history = w.history; life = y }) e x → IsSound ((e, x) ∷ rows) w' least (released_by (record { files = w.files; history = w.history; life = y }) e x released))
+    → AnswersLegally (record { files = w.files; history = w.history; life = y }) e x → IsSound from ((e, x) ∷ rows) w' least (released_by (record { files = w.files; history = w.history; life = y }) e x released))
     (sym life)
     (λ sound happens stays legal.
     let v : World = living w.files w.history l in
-    subst (λ (next : World). IsSound ((e, x) ∷ rows) next least (released_by v e x released)) (sym happens.world)
-    (event_goes rows w.files w.history l released least happens.found sound low reached (fits v e) e x refl happens.meets
+    subst (λ (next : World). IsSound from ((e, x) ∷ rows) next least (released_by v e x released)) (sym happens.world)
+    (event_goes from rows w.files w.history l released least happens.found sound low reached (fits v e) e x refl happens.meets
     (subst (λ (next : World). Happens v (e, x) next × Stays v l.durable (e, x) next (durable_or next.life least)) happens.world (happens, stays)) legal))
     sound happens stays legal

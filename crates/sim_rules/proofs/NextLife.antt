@@ -40,36 +40,36 @@ Occurs files history least found e x =
     Happens (lifeless files history) (e, x) (after (lifeless files history) found e x)
     × Stays (lifeless files history) least (e, x) (after (lifeless files history) found e x) (durable_or (after (lifeless files history) found e x).life least)
 
-abbrev Goes : List Row → Files → List Command → List Call → ℕ → Opened → Event → Outcome → Type 0
-Goes rows files history released least found e x = IsSound ((e, x) ∷ rows) (after (lifeless files history) found e x) least released
+abbrev Goes : World → List Row → Files → List Command → List Call → ℕ → Opened → Event → Outcome → Type 0
+Goes from rows files history released least found e x = IsSound from ((e, x) ∷ rows) (after (lifeless files history) found e x) least released
 
-module _ (rows : List Row) (files : Files) (history : List Command) (released : List Call) (least : ℕ) (found : Opened) (sound : IsSoundOutside rows (lifeless files history) least released) where
+module _ (from : World) (rows : List Row) (files : Files) (history : List Command) (released : List Call) (least : ℕ) (found : Opened) (sound : IsSoundOutside from rows (lifeless files history) least released) where
   quiet : (e : Event) (x : Outcome) (w' : World) → Happens (lifeless files history) (e, x) w' × Stays (lifeless files history) least (e, x) w' least → IsMove (lifeless files history) e x None
-      → w'.history ≡ history → IsSoundOutside ((e, x) ∷ rows) w' least released
-  quiet e x w' occurs none same = quiet_outside rows (lifeless files history) least released (e, x) w' sound occurs.0 occurs.1 none same
+      → w'.history ≡ history → IsSoundOutside from ((e, x) ∷ rows) w' least released
+  quiet e x w' occurs none same = quiet_outside from rows (lifeless files history) least released (e, x) w' sound occurs.0 occurs.1 none same
 
-  skipped_goes : (e : Event) → Occurs files history least found e outcome.Skipped → Goes rows files history released least found e outcome.Skipped
+  skipped_goes : (e : Event) → Occurs files history least found e outcome.Skipped → Goes from rows files history released least found e outcome.Skipped
   unfolding after
   skipped_goes e occurs = quiet e outcome.Skipped _ occurs refl refl
 
-  by_outcome : (e : Event) (x y : Outcome) → x ≡ y → (Occurs files history least found e y → Goes rows files history released least found e y) → Occurs files history least found e x
-      → Goes rows files history released least found e x
-  by_outcome e x y is goes = subst (λ (z : Outcome). Occurs files history least found e z → Goes rows files history released least found e z) (sym is) goes
+  by_outcome : (e : Event) (x y : Outcome) → x ≡ y → (Occurs files history least found e y → Goes from rows files history released least found e y) → Occurs files history least found e x
+      → Goes from rows files history released least found e x
+  by_outcome e x y is goes = subst (λ (z : Outcome). Occurs files history least found e z → Goes from rows files history released least found e z) (sym is) goes
 
   -- an opening that finds a front
   found_goes : (stripes : StripeCount) (fails_at : Option ℕ) (prefix : ℕ) (w' : World) (x : Outcome) → Happens (lifeless files history) (event.Open stripes fails_at, x) w'
       → Stays (lifeless files history) least (event.Open stripes fails_at, x) w' (prefix_of found)
       → ((m : Map) → m ≡ map_of found → IsMove (lifeless files history) (event.Open stripes fails_at) x (Some (Opens prefix m)))
       → w'.history ≡ take prefix history → prefix ≡ prefix_of found → IsFront (lifeless files history) least found
-      → IsSoundInside ((event.Open stripes fails_at, x) ∷ rows) w' (prefix_of found) released
+      → IsSoundInside from ((event.Open stripes fails_at, x) ∷ rows) w' (prefix_of found) released
   found_goes stripes fails_at prefix w' x happens stays move same prefix_is front =
-      subst (λ (p : ℕ). IsSoundInside ((event.Open stripes fails_at, x) ∷ rows) w' p released) prefix_is
-      (opens_outside rows (lifeless files history) least released (event.Open stripes fails_at, x) w' prefix (map_of found) sound happens
+      subst (λ (p : ℕ). IsSoundInside from ((event.Open stripes fails_at, x) ∷ rows) w' p released) prefix_is
+      (opens_outside from rows (lifeless files history) least released (event.Open stripes fails_at, x) w' prefix (map_of found) sound happens
       (subst (λ (p : ℕ). Stays (lifeless files history) least (event.Open stripes fails_at, x) w' p) (sym prefix_is) stays) (move (map_of found) refl) same
       (omega (arith, front.from_least, prefix_is)) (omega (arith, front.within, prefix_is)) (front.map ∙ ap (λ (p : ℕ). fold_of (take p history)) (sym prefix_is)))
 
   open_goes : (stripes : StripeCount) (fails_at : Option ℕ) (x : Outcome) → Occurs files history least found (event.Open stripes fails_at) x → OpensFiles (lifeless files history) found fails_at x
-      → OpensFront (lifeless files history) least found x → Goes rows files history released least found (event.Open stripes fails_at) x
+      → OpensFront (lifeless files history) least found x → Goes from rows files history released least found (event.Open stripes fails_at) x
   unfolding after begun_by
   open_goes stripes fails_at (outcome.Opened calls prefix entries) occurs case front =
       found_goes stripes fails_at prefix _ (outcome.Opened calls prefix entries) occurs.0 occurs.1 (λ m is. (m, case.2.entries_are ∙ ap (λ (n : Map). finite.entries n) (sym is), refl)) refl case.2.prefix_is front
@@ -77,35 +77,35 @@ module _ (rows : List Row) (files : Files) (history : List Command) (released : 
   open_goes stripes fails_at x occurs case front = absurd case
 
   stop_goes : (within : Option Side) (fill : Fill) (x : Outcome) → Occurs files history least found (event.Stop within fill) x → StopsOutside x
-      → Goes rows files history released least found (event.Stop within fill) x
+      → Goes from rows files history released least found (event.Stop within fill) x
   unfolding after
   stop_goes within fill (outcome.Stopped None) occurs case =
-      stops_outside rows (lifeless files history) least released (event.Stop within fill, outcome.Stopped None) _ sound occurs.0 occurs.1 (λ p. (p, refl)) refl
+      stops_outside from rows (lifeless files history) least released (event.Stop within fill, outcome.Stopped None) _ sound occurs.0 occurs.1 (λ p. (p, refl)) refl
   stop_goes within fill x occurs case = absurd case
 
   fitting_goes : (e : Event) (x : Outcome) → Occurs files history least found e x → HappensOutside (lifeless files history) found e x → OpensFront (lifeless files history) least found x
-      → Goes rows files history released least found e x
+      → Goes from rows files history released least found e x
   fitting_goes (event.Open stripes fails_at) x occurs case front = open_goes stripes fails_at x occurs case front
   fitting_goes (event.Stop within fill) x occurs case front = stop_goes within fill x occurs case
   fitting_goes e x occurs case front = absurd case
 
   event_goes : (b : Bool) (e : Event) (x : Outcome) → fits (lifeless files history) e ≡ b → Meets (lifeless files history) found e x → Occurs files history least found e x
-      → OpensFront (lifeless files history) least found x → Goes rows files history released least found e x
+      → OpensFront (lifeless files history) least found x → Goes from rows files history released least found e x
   event_goes true e x is meets occurs front =
       fitting_goes e x occurs (subst (λ (b : Bool). MatchBool b (HappensOutside (lifeless files history) found e x) (x ≡ outcome.Skipped)) is meets) front
   event_goes false e x is meets occurs front =
       by_outcome e x outcome.Skipped (subst (λ (b : Bool). MatchBool b (HappensOutside (lifeless files history) found e x) (x ≡ outcome.Skipped)) is meets) (skipped_goes e) occurs
 
 pub next_life_begins : NextLifeBegins
-next_life_begins rows w released least e x w' none sound happens stays front =
-    subst (λ (y : Option Life). IsSoundOutside rows (record { files = w.files; history = w.history; life = y }) least released
+next_life_begins from rows w released least e x w' none sound happens stays front =
+    subst (λ (y : Option Life). IsSoundOutside from rows (record { files = w.files; history = w.history; life = y }) least released
     → (h : Happens (record { files = w.files; history = w.history; life = y }) (e, x) w') → Stays (record { files = w.files; history = w.history; life = y }) least (e, x) w' (durable_or w'.life least)
-    → OpensFront (record { files = w.files; history = w.history; life = y }) least h.found x → IsSound ((e, x) ∷ rows) w' least released)
+    → OpensFront (record { files = w.files; history = w.history; life = y }) least h.found x → IsSound from ((e, x) ∷ rows) w' least released)
     (sym none)
     (λ sound happens stays front.
     let v : World = lifeless w.files w.history in
-    subst (λ (next : World). IsSound ((e, x) ∷ rows) next least released) (sym happens.world)
-    (event_goes rows w.files w.history released least happens.found sound (fits v e) e x refl happens.meets
+    subst (λ (next : World). IsSound from ((e, x) ∷ rows) next least released) (sym happens.world)
+    (event_goes from rows w.files w.history released least happens.found sound (fits v e) e x refl happens.meets
     (subst (λ (next : World). Happens v (e, x) next × Stays v least (e, x) next (durable_or next.life least)) happens.world (happens, stays)) front))
     sound happens stays front
 

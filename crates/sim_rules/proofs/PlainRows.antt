@@ -202,11 +202,11 @@ unfolding is_living durable_in
 same_durable None least most is = absurd (not_both is)
 same_durable (Some l) least most is = refl
 
-pub rows_keep : (found : Opened) (rows before : List Row) (w : World) (least : ℕ) (released : List Call) → IsSound before w least released → Now w (durable_in w.life) → AllMeet found w rows → AllNow found w rows
-    → are_plain found w rows ≡ true → (most : ℕ) × IsSound (onto before rows) (after_rows found w rows) most released
+pub rows_keep : (from : World) (found : Opened) (rows before : List Row) (w : World) (least : ℕ) (released : List Call) → IsSound from before w least released → Now w (durable_in w.life) → AllMeet found w rows → AllNow found w rows
+    → are_plain found w rows ≡ true → (most : ℕ) × IsSound from (onto before rows) (after_rows found w rows) most released
 unfolding are_plain onto AllNow durable_in
-rows_keep found [] before w least released sound now meets all plain = (least, sound)
-rows_keep found (row ∷ rows) before w least released sound now meets all plain =
+rows_keep from found [] before w least released sound now meets all plain = (least, sound)
+rows_keep from found (row ∷ rows) before w least released sound now meets all plain =
     let w' : World = after w found row.0 row.1 in
     let rest1 = is_plain w row.0 row.1 && (is_living w'.life (count w') && are_plain found w' rows) in
     let life = living_life w.life (count w) (first_true (is_living w.life (count w)) (no_stop row.0 && rest1) plain) in
@@ -216,7 +216,7 @@ rows_keep found (row ∷ rows) before w least released sound now meets all plain
     let answers = plain_answers w row.0 row.1 released (first_true (is_plain w row.0 row.1) (is_living w'.life (count w') && are_plain found w' rows) quiet) in
     let last = second_true (is_plain w row.0 row.1) (is_living w'.life (count w') && are_plain found w' rows) quiet in
     let lives = first_true (is_living w'.life (count w')) (are_plain found w' rows) last in
-    let inside : IsSoundInside before w life.0.durable released = subst (λ (y : Option Life). IsSoundWith y before w least released) life.1 sound in
+    let inside : IsSoundInside from before w life.0.durable released = subst (λ (y : Option Life). IsSoundWith y from before w least released) life.1 sound in
     let then : Now w' (durable_or w'.life life.0.durable) = subst (λ (n : ℕ). Now w' n) (same_durable w'.life life.0.durable (count w') lives) all.0 in
     let here : Now w life.0.durable = subst (λ (y : Option Life). Now w (durable_in y)) life.1 now in
     let stays : Stays w life.0.durable row w' (durable_or w'.life life.0.durable) = record {
@@ -224,9 +224,9 @@ rows_keep found (row ∷ rows) before w least released sound now meets all plain
       left = then.left;
       read = then.read;
     } in
-    rows_keep found rows (row ∷ before) w' life.0.durable released
-    (subst (λ (calls : List Call). IsSound (row ∷ before) w' life.0.durable calls) answers.1
-    (life_goes_on before w life.0 released life.0.durable row.0 row.1 w' life.1 inside (record { found = found; meets = meets.0; world = refl }) stays answers.0 (omega arith) life.2))
+    rows_keep from found rows (row ∷ before) w' life.0.durable released
+    (subst (λ (calls : List Call). IsSound from (row ∷ before) w' life.0.durable calls) answers.1
+    (life_goes_on from before w life.0 released life.0.durable row.0 row.1 w' life.1 inside (record { found = found; meets = meets.0; world = refl }) stays answers.0 (omega arith) life.2))
     all.0 meets.1 all.1 (second_true (is_living w'.life (count w')) (are_plain found w' rows) last)
 
 -- ---- the events and the outcomes of rows

@@ -4,15 +4,14 @@ use Rattle.std.specs.Str.{chars}
 use Rattle.java_hash.specs.Hash.{hash_of, weighted_sum}
 use Rattle.java_hash.specs.Stripes.{stripe_of}
 use Rattle.java_hash.specs.Units.{units_of}
-use Rattle.log_records.specs.Layout.{first_layout}
 use Rattle.store_layout.specs.Hands.{FitsBatch}
 use Rattle.store_layout.specs.Logs.{frame, header}
 use Rattle.store_layout.specs.Opening.{Opened}
-use Rattle.sim_rules.specs.World.{World, Life, Place, WithWorker, InOutbox, InHand, begun_by, gate_after, next_commands, place_of}
+use Rattle.sim_rules.specs.World.{World, Life, Place, WithWorker, InOutbox, InHand, begun_by, gate_after, next_commands, old_start, place_of, seen_of, start}
 use Rattle.sim_rules.specs.After.{after}
 use Rattle.sim_rules.specs.Cases.{IsLongestRun, IsPastFull}
 use Rattle.sim_rules.specs.Runs.{Row}
-use Rattle.sim_rules.specs.Examples.{AllMeet, BatchIsCommitted, ChangeIsStaged, CheckpointGoesOn, NotYetInHand, OtherIsRefused, RotationGoesOn}
+use Rattle.sim_rules.specs.Examples.{AllMeet, BatchIsCommitted, ChangeIsStaged, CheckpointGoesOn, LongKeyIsRefused, NotYetInHand, OldKeyIsRefused, OtherIsRefused, RotationGoesOn, RotationTakesNewVersion}
 use Rattle.sim_rules.specs.Examples.{after_rows, new_store, opened, put_rows, stage_rows, sweep_rows, unswept_rows}
 
 -- ---- phases
@@ -22,6 +21,9 @@ batch_is_committed w l n = (refl, refl)
 
 pub rotation_goes_on : RotationGoesOn
 rotation_goes_on w l = refl
+
+pub rotation_takes_new_version : RotationTakesNewVersion
+rotation_takes_new_version w l = (refl, refl)
 
 pub checkpoint_goes_on : CheckpointGoesOn
 checkpoint_goes_on l running = (refl, refl, refl)
@@ -45,7 +47,7 @@ not_in_hand place none is = none (subst IsInHand (sym is) tt)
 one_in_hand : (l : Life) → place_of l (l.committed + 0) ≡ InHand → (i : ℕ) → i < 1 → place_of l (l.committed + i) ≡ InHand
 one_in_hand l is i small = subst (λ (j : ℕ). place_of l (l.committed + j) ≡ InHand) (let none : 0 ≡ i = omega (arith, small) in none) is
 
-pub longest_one : (w : World) (l : Life) (most : ℕ) → place_of l (l.committed + 0) ≡ InHand → place_of l (l.committed + 1) ≡ WithWorker → FitsBatch most l.committed (next_commands w l 1)
+pub longest_one : (w : World) (l : Life) (most : ℕ) → place_of l (l.committed + 0) ≡ InHand → place_of l (l.committed + 1) ≡ WithWorker → FitsBatch l.layout most l.committed (next_commands w l 1)
     → IsLongestRun w l most 1
 unfolding IsInHand
 longest_one w l most here next fits = record {
@@ -53,7 +55,7 @@ longest_one w l most here next fits = record {
   no_longer = λ can. not_in_hand WithWorker (λ none. none) (sym next ∙ can.in_hand 1 (omega arith));
 }
 
-pub longest_none : (w : World) (l : Life) (most : ℕ) → place_of l (l.committed + 0) ≡ InOutbox → l.committed < 2 ^ 64 → length (frame first_layout (record { first = l.committed; commands = [] })) ≤ 1048576
+pub longest_none : (w : World) (l : Life) (most : ℕ) → place_of l (l.committed + 0) ≡ InOutbox → l.committed < 2 ^ 64 → length (frame l.layout (record { first = l.committed; commands = [] })) ≤ 1048576
     → IsLongestRun w l most 0
 unfolding IsInHand
 longest_none w l most here fits short = record {
@@ -68,22 +70,30 @@ not_full w l n gate is small full = omega (arith, is, small, full.1)
 -- ---- the change
 
 pub life_in : Option Life → Life
-life_in None = begun_by 16 new_store
+life_in None = begun_by 16 (seen_of start.files) new_store
 life_in (Some l) = l
 
 swept : World
 swept = after_rows new_store (after_rows new_store opened put_rows) sweep_rows
 
 pub put_meets : AllMeet new_store opened put_rows
-unfolding after begun_by stripe_of hash_of weighted_sum units_of chars
-put_meets = (refl, ((refl, refl), (refl, (refl, ((refl, omega arith), ((refl, refl), tt))))))
+unfolding after begun_by start stripe_of hash_of weighted_sum units_of chars header
+put_meets = (omega arith, ((refl, refl), (refl, (refl, ((refl, omega arith), ((refl, refl), tt))))))
 
 pub other_is_refused : OtherIsRefused
-unfolding after begun_by stripe_of hash_of weighted_sum units_of chars
-other_is_refused = (refl, ((refl, refl), (refl, ((refl, refl, refl), tt))))
+unfolding after begun_by start stripe_of hash_of weighted_sum units_of chars header
+other_is_refused = (omega arith, ((refl, refl), (omega arith, ((refl, refl, refl), tt))))
+
+pub long_key_is_refused : LongKeyIsRefused
+unfolding after begun_by start header
+long_key_is_refused long short above within = (omega (arith, above), (omega (arith, within), tt))
+
+pub old_key_is_refused : OldKeyIsRefused
+unfolding after begun_by old_start header
+old_key_is_refused long short above within = (omega (arith, above), (omega (arith, within), tt))
 
 pub sweep_meets : AllMeet new_store (after_rows new_store opened put_rows) sweep_rows
-unfolding after begun_by stripe_of hash_of weighted_sum units_of chars
+unfolding after begun_by start stripe_of hash_of weighted_sum units_of chars header
 sweep_meets = (
   refl,
   (
@@ -180,11 +190,11 @@ sweep_meets = (
 )
 
 pub not_yet_in_hand : NotYetInHand
-unfolding after begun_by stripe_of hash_of weighted_sum units_of chars frame header
+unfolding after begun_by start stripe_of hash_of weighted_sum units_of chars frame header
 not_yet_in_hand = meet_on new_store opened put_rows unswept_rows put_meets ((refl, refl, longest_none _ _ 10 refl (omega arith) (omega arith), λ full. omega (arith, full.0)), (refl, (refl, tt)))
 
 pub change_is_staged : ChangeIsStaged
-unfolding swept life_in after begun_by stripe_of hash_of weighted_sum units_of chars frame header
+unfolding swept life_in after begun_by start stripe_of hash_of weighted_sum units_of chars frame header
 change_is_staged =
     meet_on new_store opened put_rows (sweep_rows ++ stage_rows) put_meets (meet_on new_store (after_rows new_store opened put_rows) sweep_rows stage_rows sweep_meets
-    ((refl, refl, longest_one _ _ 10 refl refl (record { few = omega arith; fits = omega arith; within = omega arith; short = omega arith }), not_full swept (life_in swept.life) 1 47 refl (omega arith)), tt))
+    ((refl, refl, longest_one _ _ 10 refl refl (record { few = omega arith; fits = omega arith; within = omega arith; short = omega arith }), not_full swept (life_in swept.life) 1 _ refl (omega arith)), tt))

@@ -15,12 +15,11 @@ use Rattle.map_types.specs.declared.commands.Reply.TheVariants.{Was}
 use Rattle.map_types.specs.declared.texts.Value.{Value}
 use Rattle.ticket_order.specs.declared.record.Call.{Call}
 use Rattle.disk_model.specs.Files.{Contents, File, Files, MayLeave, at_rest, byte_at, synced, written as overwritten_file}
-use Rattle.log_records.specs.Layout.{first_layout}
-use Rattle.store_layout.specs.Checkpoints.{IsCheckpoint, is_sealed}
-use Rattle.store_layout.specs.Examples.{a, log_with_five}
+use Rattle.store_layout.specs.Checkpoints.{is_sealed}
+use Rattle.store_layout.specs.Examples.{a}
 use Rattle.store_layout.specs.FirstFiles.{first_log, new_contents}
-use Rattle.store_layout.specs.Logs.{IsClosed, frame, header}
-use Rattle.store_layout.specs.Opening.{Opened, StandsFor, first_checkpoint}
+use Rattle.store_layout.specs.Logs.{frame, header, new_version}
+use Rattle.store_layout.specs.Opening.{IsCheckpointIn, IsClosedIn, Opened, StandsFor, first_checkpoint}
 use Rattle.store_layout.specs.OpeningLaws.{FirstIsWhole, FirstStands, OneStanding}
 use Rattle.sim_rules.specs.declared.event.Event.TheVariants as event
 use Rattle.sim_rules.specs.declared.outcome.End.TheVariants as ends
@@ -37,13 +36,11 @@ use Rattle.sim_rules.proofs.CommitExamples.{change_is_released, staged, withheld
 use Rattle.sim_rules.proofs.FileLaws.{first_closed, first_sealed}
 use Rattle.sim_rules.proofs.LeftExamples.{left_of_gate, same_or_not, shut_once_synced, shut_while_written, stays_at_rest}
 use Rattle.sim_rules.proofs.LifeGoing.{life_goes_on}
-use Rattle.sim_rules.proofs.NextLife.{next_life_begins}
-use Rattle.sim_rules.proofs.OpeningExamples.{new_map, new_store_opens}
-use Rattle.sim_rules.proofs.OpeningRun.{at_start, once_opened, read_then}
+use Rattle.sim_rules.proofs.OpeningRun.{opened_sound as first_opened_sound}
 use Rattle.sim_rules.proofs.PlainRows.{AllNow, Now, StandForFive, StandForNone, all_new, all_now_on, all_open_well, are_new, are_plain, are_unrefused, durable_in, five_now, is_late, is_living, is_new, is_plain, is_quiet, is_unrefused, living_life, no_stop, none_now, now_late, now_new, rows_keep}
-use Rattle.sim_rules.proofs.RunLaws.{sound_at_start, sound_is_run}
+use Rattle.sim_rules.proofs.RunLaws.{sound_is_run}
 use Rattle.sim_rules.proofs.StillFiles.{is_still}
-use Rattle.sim_rules.proofs.StopExamples.{gated, log_file, open_stands, shut_stands}
+use Rattle.sim_rules.proofs.StopExamples.{gated, log_file, log_with_five, open_stands, shut_stands}
 use Rattle.sim_rules.proofs.UnwrittenExample.{onto, rows_again}
 
 seen_written : (overwritten_file 18 frame_bytes (at_rest first_log)).seen ≡ log_with_five 0
@@ -60,17 +57,17 @@ seen_gated = refl
 
 -- files with a new checkpoint and a log that is closed behind no batch
 module _ (whole : FirstIsWhole) (stands : FirstStands) (one : OneStanding) where
-  none_left : (contents : Contents) → contents 0 ≡ new_contents 16 0 → contents 1 ≡ [] → IsClosed first_layout 0 0 [] (contents 2) → StandsFor contents 0 finite.empty
+  none_left : (contents : Contents) → contents 0 ≡ new_contents 16 0 → contents 1 ≡ [] → IsClosedIn 0 0 [] (contents 2) → StandsFor contents 0 finite.empty
   unfolding start
   none_left contents first second third =
-      stands contents 16 (subst (λ (content : List ℕ). IsCheckpoint first_layout (first_checkpoint 16) content) (sym first) (first_sealed whole)) (ap is_sealed second) third
+      stands contents 16 (subst (λ (content : List ℕ). IsCheckpointIn (first_checkpoint 16) content) (sym first) (first_sealed new_version whole)) (ap is_sealed second) third
 
   fresh : StandForNone opened.files
   unfolding start begun_by
   fresh = record {
     left = λ contents leaves. none_left contents (stays_at_rest (new_contents 16 0) (contents 0) (leaves 0 (omega arith))) (stays_at_rest [] (contents 1) (leaves 1 (omega arith)))
-        (subst (λ (content : List ℕ). IsClosed first_layout 0 0 [] content) (sym (stays_at_rest first_log (contents 2) (leaves 2 (omega arith)))) first_closed);
-    read = none_left (seen_of opened.files) refl refl first_closed;
+        (subst (λ (content : List ℕ). IsClosedIn 0 0 [] content) (sym (stays_at_rest first_log (contents 2) (leaves 2 (omega arith)))) (first_closed new_version));
+    read = none_left (seen_of opened.files) refl refl (first_closed new_version);
   }
 
   -- with the frame written, and not synced
@@ -144,14 +141,9 @@ module _ (whole : FirstIsWhole) (stands : FirstStands) (one : OneStanding) (stri
   open_row : Row
   open_row = (event.Open stripes None, outcome.Opened 12 0 entries)
 
-  opened_sound : IsSound (open_row ∷ []) opened 0 []
-  unfolding open_row start begun_by
-  opened_sound =
-      let opening = new_store_opens whole stands one stripes entries 12 count_is none refl in
-      next_life_begins [] start [] 0 (event.Open stripes None) (outcome.Opened 12 0 entries) opened refl sound_at_start
-      (record { found = new_store; meets = opening.0; world = sym opening.1 })
-      (record { within = at_start whole stands; left = once_opened whole stands; read = read_then whole stands })
-      (record { from_least = omega arith; within = omega arith; map = new_map whole stands one })
+  opened_sound : IsSound start (open_row ∷ []) opened 0 []
+  unfolding open_row start
+  opened_sound = first_opened_sound new_version whole stands one stripes entries 12 count_is none refl
 
   before_frame : are_new new_store opened staged_rows ≡ true
   unfolding are_new is_new is_still after begun_by start stripe_of hash_of weighted_sum units_of chars frame header
@@ -200,8 +192,8 @@ module _ (whole : FirstIsWhole) (stands : FirstStands) (one : OneStanding) (stri
   unfolding plain_rows are_plain no_stop is_plain is_quiet is_living after begun_by start stripe_of hash_of weighted_sum units_of chars frame header
   plain = refl
 
-  before_last : (most : ℕ) × IsSound (onto (open_row ∷ []) (plain_rows bytes gate)) (after_rows new_store opened (plain_rows bytes gate)) most []
-  before_last = rows_keep new_store (plain_rows bytes gate) (open_row ∷ []) opened 0 [] opened_sound now_opened all_meet.0 all_now plain
+  before_last : (most : ℕ) × IsSound start (onto (open_row ∷ []) (plain_rows bytes gate)) (after_rows new_store opened (plain_rows bytes gate)) most []
+  before_last = rows_keep start new_store (plain_rows bytes gate) (open_row ∷ []) opened 0 [] opened_sound now_opened all_meet.0 all_now plain
 
   last_world : World
   last_world = after_rows new_store opened (plain_rows bytes gate)
@@ -249,12 +241,12 @@ module _ (whole : FirstIsWhole) (stands : FirstStands) (one : OneStanding) (stri
       let then : Now end_world (durable_or end_world.life l.durable) = subst (λ (n : ℕ). Now end_world n) (end_durable l.durable) now_end in
       record { within = here.left; left = then.left; read = then.read }
 
-  sound_at_end : IsSound (last_row ∷ onto (open_row ∷ []) (plain_rows bytes gate)) end_world (living_life last_world.life (count last_world) lives_on).0.durable released
+  sound_at_end : IsSound start (last_row ∷ onto (open_row ∷ []) (plain_rows bytes gate)) end_world (living_life last_world.life (count last_world) lives_on).0.durable released
   unfolding end_world released last_row last_world
   sound_at_end =
       let life = living_life last_world.life (count last_world) lives_on in
-      life_goes_on (onto (open_row ∷ []) (plain_rows bytes gate)) last_world life.0 [] life.0.durable last_row.0 last_row.1 end_world life.1
-      (subst (λ (y : Option Life). IsSoundWith y (onto (open_row ∷ []) (plain_rows bytes gate)) last_world before_last.0 []) life.1 before_last.1)
+      life_goes_on start (onto (open_row ∷ []) (plain_rows bytes gate)) last_world life.0 [] life.0.durable last_row.0 last_row.1 end_world life.1
+      (subst (λ (y : Option Life). IsSoundWith y start (onto (open_row ∷ []) (plain_rows bytes gate)) last_world before_last.0 []) life.1 before_last.1)
       (record { found = new_store; meets = all_meet.1.0; world = refl }) (last_stays life.0 life.1) legal (omega arith) life.2
 
   rows_are : onto [] (schedule_rows stripes entries bytes gate) ≡ last_row ∷ onto (open_row ∷ []) (plain_rows bytes gate)
@@ -270,10 +262,10 @@ module _ (whole : FirstIsWhole) (stands : FirstStands) (one : OneStanding) (stri
       let rows : List Row = schedule_rows stripes entries bytes gate in
       let life = living_life end_world.life (count end_world) lives_still in
       let same = rows_again rows [] in
-      sound_is_run (map (λ (row : Row). row.0) rows) (map (λ (row : Row). row.1) rows) end_world life.0.durable released
+      sound_is_run start (map (λ (row : Row). row.0) rows) (map (λ (row : Row). row.1) rows) end_world life.0.durable released
       (length-map rows (λ (row : Row). row.1) ∙ sym (length-map rows (λ (row : Row). row.0)))
-      (subst (λ (before : List Row). IsSoundInside before end_world life.0.durable released) (sym (same ∙ rows_are))
-      (subst (λ (y : Option Life). IsSoundWith y (last_row ∷ onto (open_row ∷ []) (plain_rows bytes gate)) end_world (living_life last_world.life (count last_world) lives_on).0.durable released) life.1 sound_at_end))
+      (subst (λ (before : List Row). IsSoundInside start before end_world life.0.durable released) (sym (same ∙ rows_are))
+      (subst (λ (y : Option Life). IsSoundWith y start (last_row ∷ onto (open_row ∷ []) (plain_rows bytes gate)) end_world (living_life last_world.life (count last_world) lives_on).0.durable released) life.1 sound_at_end))
       (subst (λ (before : List Row). AllByRecursion OpensWell before) (sym same) (all_open_well (onto [] rows) unrefused))
 
 pub schedule_is_run : FirstIsWhole → FirstStands → OneStanding → ScheduleIsRun

@@ -59,6 +59,7 @@ inside_still w l event.Begin x is = begun_still x w l
 inside_still w l (event.Capture stripe) x is = stepped_still x w _ (λ m end. refl)
 inside_still w l event.Seal x is = sealing_still x w l
 inside_still w l event.Leave x is = refl
+inside_still w l event.Old x is = refl
 inside_still w l (event.Open stripes fails_at) x is = absurd (not_still is)
 inside_still w l (event.Device side e) x is = absurd (not_still is)
 inside_still w l (event.Stop within fill) x is = absurd (not_still is)

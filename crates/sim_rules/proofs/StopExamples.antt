@@ -11,18 +11,17 @@ use Rattle.java_hash.specs.Hash.{hash_of, weighted_sum}
 use Rattle.java_hash.specs.Stripes.{stripe_of}
 use Rattle.java_hash.specs.Units.{units_of}
 use Rattle.map_model.specs.Maps.{Map}
-use Rattle.log_records.specs.Layout.{first_layout}
 use Rattle.log_records.specs.Spelling.{IsCommand}
 use Rattle.disk_model.specs.declared.fill.Fill.{Fill}
 use Rattle.disk_model.specs.declared.fill.Fill.TheVariants.{Old, New, Byte}
 use Rattle.disk_model.specs.Files.{File, at_rest, byte_at, synced, written}
 use Rattle.disk_model.specs.Fills.{byte_left, bytes_by, length_left}
-use Rattle.store_layout.specs.Checkpoints.{IsCheckpoint, is_sealed}
-use Rattle.store_layout.specs.Examples.{a, log_with_five, number}
-use Rattle.store_layout.specs.Logs.{Batch, IsClosed, frame, header, log_front}
-use Rattle.store_layout.specs.Opening.{Contents, StandsFor, first_checkpoint}
+use Rattle.store_layout.specs.Checkpoints.{is_sealed}
+use Rattle.store_layout.specs.Examples.{a, number}
+use Rattle.store_layout.specs.Logs.{Batch, frame, header, log_front, new_layout, new_version}
+use Rattle.store_layout.specs.Opening.{Contents, IsCheckpointIn, IsClosedIn, StandsFor, first_checkpoint}
 use Rattle.store_layout.specs.OpeningLaws.{FirstIsWhole, FirstStands, OneStanding}
-use Rattle.store_layout.specs.FirstFiles.{new_contents}
+use Rattle.store_layout.proofs.OwnLayouts.{closed_in_own, own_of}
 use Rattle.store_layout.specs.FirstFiles.{new_contents}
 use Rattle.sim_rules.specs.World.{begun_by, start}
 use Rattle.sim_rules.specs.After.{after}
@@ -35,26 +34,30 @@ use Rattle.sim_rules.proofs.OpeningExamples.{new_map}
 five : Batch
 five = record { first = 0; commands = put_a ∷ [] }
 
+-- the new log, its gate, the frame, and the closed gate behind it
+abbrev pub log_with_five : ℕ → List ℕ
+log_with_five gate = log_front new_layout 0 0 [] ++ gate ∷ frame_bytes
+
 a_is_text : IsUtf8 a
 unfolding lib.Utf8.encode
 a_is_text = (97 ∷ [], (refl, refl))
 
-put_a_fits : IsCommand first_layout put_a
+put_a_fits : IsCommand new_layout put_a
 put_a_fits = ((omega arith, a_is_text), (let fits : FitsSigned w64 (pos 5) = omega arith in fits))
 
-shut_closed : (gate : ℕ) → gate ≢ 165 → IsClosed first_layout 0 0 [] (log_with_five gate)
+shut_closed : (gate : ℕ) → gate ≢ 165 → IsClosedIn 0 0 [] (log_with_five gate)
 unfolding header
-shut_closed gate shut = record {
+shut_closed gate shut = closed_in_own new_layout (own_of new_version) 0 0 [] (log_with_five gate) (record {
   gate = gate;
   rest = _;
   bytes = refl;
   closed = shut;
   log = record { generation_fits = omega arith; low_fits = omega arith; in_order = tt };
-}
+})
 
-open_closed : IsClosed first_layout 0 0 (five ∷ []) (log_with_five 165)
+open_closed : IsClosedIn 0 0 (five ∷ []) (log_with_five 165)
 unfolding header frame five
-open_closed = record {
+open_closed = closed_in_own new_layout (own_of new_version) 0 0 (five ∷ []) (log_with_five 165) (record {
   gate = 0;
   rest = [];
   bytes = refl;
@@ -64,15 +67,15 @@ open_closed = record {
     low_fits = omega arith;
     in_order = (record { fits = omega arith; some = omega arith; few = omega arith; short = omega arith; well_formed = (put_a_fits, tt) }, refl, tt);
   };
-}
+})
 
 module _ (whole : FirstIsWhole) (stands : FirstStands) (one : OneStanding) (contents : Contents) (first : contents 0 ≡ new_contents 16 0) (second : is_sealed (contents 1) ≡ false) where
-  sealed_there : IsCheckpoint first_layout (first_checkpoint 16) (contents 0)
+  sealed_there : IsCheckpointIn (first_checkpoint 16) (contents 0)
   unfolding start
-  sealed_there = subst (λ (content : List ℕ). IsCheckpoint first_layout (first_checkpoint 16) content) (sym first) (first_sealed whole)
+  sealed_there = subst (λ (content : List ℕ). IsCheckpointIn (first_checkpoint 16) content) (sym first) (first_sealed new_version whole)
 
   pub shut_stands : (gate : ℕ) → gate ≢ 165 → contents 2 ≡ log_with_five gate → StandsFor contents 0 finite.empty
-  shut_stands gate shut third = stands contents 16 sealed_there second (subst (λ (content : List ℕ). IsClosed first_layout 0 0 [] content) (sym third) (shut_closed gate shut))
+  shut_stands gate shut third = stands contents 16 sealed_there second (subst (λ (content : List ℕ). IsClosedIn 0 0 [] content) (sym third) (shut_closed gate shut))
 
   pub open_stands : contents 2 ≡ log_with_five 165 → StandsFor contents 1 (finite.from_entries ((a, number 5) ∷ []))
   unfolding five stripe_of hash_of weighted_sum units_of chars
@@ -81,7 +84,7 @@ module _ (whole : FirstIsWhole) (stands : FirstStands) (one : OneStanding) (cont
     holds = record {
       checkpoint = sealed_there;
       other = inl second;
-      logs = subst (λ (content : List ℕ). IsClosed first_layout 0 0 (five ∷ []) content) (sym third) open_closed;
+      logs = subst (λ (content : List ℕ). IsClosedIn 0 0 (five ∷ []) content) (sym third) open_closed;
       reaches = omega arith;
     };
     prefix = refl;
@@ -101,7 +104,7 @@ byte_at_rest byte content =
 
 -- the log's file once the frame is synced, and once its gate is written
 unfoldable pub log_file : List ℕ → File
-log_file bytes = synced (written 18 bytes (at_rest (log_front first_layout 0 0 [] ++ 0 ∷ [])))
+log_file bytes = synced (written 18 bytes (at_rest (log_front new_layout 0 0 [] ++ 0 ∷ [])))
 
 unfoldable pub gated : List ℕ → List ℕ → File
 gated bytes gate = written 17 gate (log_file bytes)

@@ -8,7 +8,7 @@ use Rattle.java_hash.specs.Hash.{hash_of, weighted_sum}
 use Rattle.java_hash.specs.Stripes.{stripe_of}
 use Rattle.java_hash.specs.Units.{units_of}
 use Rattle.map_model.specs.Histories.{fold_to}
-use Rattle.store_layout.specs.Logs.{frame, header}
+use Rattle.store_layout.specs.Logs.{frame, header, new_version}
 use Rattle.store_layout.specs.Opening.{Opened, StandsFor, prefix_of}
 use Rattle.store_layout.specs.OpeningLaws.{FirstIsWhole, FirstStands, OneStanding}
 use Rattle.sim_rules.specs.declared.event.Event.{Event}
@@ -56,22 +56,22 @@ same_after w found other e outcome.Skipped is = refl
 same_after w found other e x is = with_any w w.life found other e x is
 
 -- The rows before lead to a world from which these rows come to the last one.
-record LeadsBack (before rows : List Row) (w : World) : Type 0 where
+record LeadsBack (from : World) (before rows : List Row) (w : World) : Type 0 where
   world : World
   machine : Machine
-  leads : LeadsTo before world machine
+  leads : LeadsTo from before world machine
   comes : w ≡ after_rows new_store world rows
 
 not_opening : (b c : Bool) → (if b then false else c) ≡ true → (b ≡ false) × (c ≡ true)
 not_opening true c is = absurd (let no : false ≡ true = is in cc)
 not_opening false c is = (refl, is)
 
-leads_back : (rows before : List Row) (w : World) (a : Machine) → none_opens rows ≡ true → LeadsTo (onto before rows) w a → LeadsBack before rows w
+leads_back : (from : World) (rows before : List Row) (w : World) (a : Machine) → none_opens rows ≡ true → LeadsTo from (onto before rows) w a → LeadsBack from before rows w
 unfolding onto none_opens LeadsTo
-leads_back [] before w a none leads = record { world = w; machine = a; leads = leads; comes = refl }
-leads_back (row ∷ rows) before w a none leads =
+leads_back from [] before w a none leads = record { world = w; machine = a; leads = leads; comes = refl }
+leads_back from (row ∷ rows) before w a none leads =
     let first = not_opening (is_opening row.0) (none_opens rows) none in
-    let back = leads_back rows (row ∷ before) w a first.1 leads in
+    let back = leads_back from rows (row ∷ before) w a first.1 leads in
     let last = back.leads in
     record {
       world = last.0;
@@ -81,14 +81,14 @@ leads_back (row ∷ rows) before w a none leads =
     }
 
 -- what is read at the end is kept
-kept : (rows : List Row) (row : Row) (w : World) (a : Machine) → LeadsTo (row ∷ rows) w a → AreKept w a (seen_of w.files)
+kept : (from : World) (rows : List Row) (row : Row) (w : World) (a : Machine) → LeadsTo from (row ∷ rows) w a → AreKept w a (seen_of w.files)
 unfolding LeadsTo
-kept rows row w a leads = leads.5.read
+kept from rows row w a leads = leads.5.read
 
 -- ---- the example
 
 opened_with : ℕ → Opened → World
-opened_with stripes found = record { files = synced_below 4 start.files; history = []; life = Some (begun_by stripes found) }
+opened_with stripes found = record { files = synced_below 4 start.files; history = []; life = Some (begun_by stripes (seen_of start.files) found) }
 
 at_end : ℕ → Opened → World
 at_end stripes found = after_rows new_store (opened_with stripes found) (staged_rows ++ unwritten_rows)
@@ -101,7 +101,7 @@ one_committed stripes found = refl
 module _ (whole_laws : FirstIsWhole) (stands : FirstStands) (one : OneStanding) where
   none_written : (stripes : ℕ) (found : Opened) → StandsFor (seen_of (at_end stripes found).files) 0 finite.empty
   unfolding at_end opened_with after begun_by start stripe_of hash_of weighted_sum units_of chars frame header
-  none_written stripes found = stands (seen_of (at_end stripes found).files) 16 (first_sealed whole_laws) refl first_closed
+  none_written stripes found = stands (seen_of (at_end stripes found).files) 16 (first_sealed new_version whole_laws) refl (first_closed new_version)
 
   never_kept : (stripes : ℕ) (found : Opened) (w : World) (a : Machine) → w ≡ at_end stripes found → AreKept w a (seen_of w.files) → ⊥
   never_kept stripes found w a is keeps =
@@ -113,7 +113,7 @@ module _ (whole_laws : FirstIsWhole) (stands : FirstStands) (one : OneStanding) 
   unfolding after start opened_with
   first_life stripes calls entries found = refl
 
-  opens_so : (stripes : StripeCount) (calls : ℕ) (entries : Vec MapEntry) (w : World) (a : Machine) → LeadsTo ((event.Open stripes None, outcome.Opened calls 0 entries) ∷ []) w a
+  opens_so : (stripes : StripeCount) (calls : ℕ) (entries : Vec MapEntry) (w : World) (a : Machine) → LeadsTo start ((event.Open stripes None, outcome.Opened calls 0 entries) ∷ []) w a
       → (found : Opened) × (w ≡ opened_with stripes.count found)
   unfolding LeadsTo after opened_with
   opens_so stripes calls entries w a leads =
@@ -127,9 +127,9 @@ module _ (whole_laws : FirstIsWhole) (stands : FirstStands) (one : OneStanding) 
   unfolding onto none_opens is_opening at_end
   unwritten_is_no_run stripes calls entries run =
       let rows = opened_rows stripes calls entries (staged_rows ++ unwritten_rows) in
-      let leads : LeadsTo (onto [] rows) run.world run.machine = subst (λ (rs : List Row). LeadsTo rs run.world run.machine) (rows_again rows []) run.leads in
-      let back = leads_back (staged_rows ++ unwritten_rows) ((event.Open stripes None, outcome.Opened calls 0 entries) ∷ []) run.world run.machine refl leads in
+      let leads : LeadsTo start (onto [] rows) run.world run.machine = subst (λ (rs : List Row). LeadsTo start rs run.world run.machine) (rows_again rows []) run.leads in
+      let back = leads_back start (staged_rows ++ unwritten_rows) ((event.Open stripes None, outcome.Opened calls 0 entries) ∷ []) run.world run.machine refl leads in
       let opening = opens_so stripes calls entries back.world back.machine back.leads in
       never_kept stripes.count opening.0 run.world run.machine
       (back.comes ∙ ap (λ (v : World). after_rows new_store v (staged_rows ++ unwritten_rows)) opening.1)
-      (kept _ _ run.world run.machine leads)
+      (kept start _ _ run.world run.machine leads)

@@ -11,7 +11,7 @@ use Rattle.disk_model.specs.Files.{Files, synced, with_file}
 use Rattle.disk_model.specs.Fills.{after_stop, torn}
 use Rattle.disk_model.specs.Gates as disk
 use Rattle.store_layout.specs.Checkpoints.{Section, checkpoint_file, is_to_close}
-use Rattle.store_layout.specs.Logs.{log_header_bytes}
+use Rattle.store_layout.specs.Logs.{log_header_bytes, new_layout}
 use Rattle.store_layout.specs.Opening.{Opened}
 use Rattle.sim_rules.specs.declared.event.Ending.{Ending}
 use Rattle.sim_rules.specs.declared.event.Ending.TheVariants as ending
@@ -28,7 +28,7 @@ use Rattle.sim_rules.specs.declared.outcome.Outcome.TheVariants as outcome
 use Rattle.sim_rules.specs.World.{World, Life, Job, Idle, Walks, Keeps, Releasing, Stage, Begins, HasTaken, IsAlive, IsDead, HasLooked, HasDrawn}
 use Rattle.sim_rules.specs.World.{Asking, FirstSees, HasMissed, FoundFailure, Place, WithWorker, InOutbox, InHand, Sweep, KeeperWalk, Rests}
 use Rattle.sim_rules.specs.World.{SweepTakes, SweepGives, CaptureLooks, CaptureGives, LogWork, Resting, Committing, Rotating, Running, begun_by}
-use Rattle.sim_rules.specs.World.{gate_after, job_of, needs_rotation, past_outbox, seen_by, sweep_or}
+use Rattle.sim_rules.specs.World.{gate_after, job_of, needs_rotation, past_outbox, seen_by, seen_of, sweep_or}
 
 -- ---- the device calls that an outcome names
 
@@ -233,14 +233,14 @@ seal_begun (Some running) = Some (record running { seals = 4 })
 
 -- ---- a device call that succeeds
 
--- The last call of a batch commits it; after the last of a rotation the next log is the newest.
+-- The last call of a batch commits it. After the last of a rotation the next log is the newest, of the new version.
 abbrev pub log_called : World → Life → LogWork → Life
 log_called w l Resting = l
 log_called w l (Committing n left) =
     if left == 1 then record l { log = Resting; committed = l.committed + n; gate = gate_after w l n }
     else record l { log = Committing n (left - 1) }
 log_called w l (Rotating left) =
-    if left == 1 then record l { log = Resting; newest = l.newest + 1; gate = log_header_bytes }
+    if left == 1 then record l { log = Resting; newest = l.newest + 1; layout = new_layout; gate = log_header_bytes }
     else record l { log = Rotating (left - 1) }
 
 -- First the calls before the sections, then the write of the section that waits, then the calls of the seal, of which the last seals.
@@ -310,7 +310,7 @@ stopped_or fill x w = w
 -- An opening that succeeds leaves the commands that it found; one that is refused leaves no life.
 abbrev pub opened_or : ℕ → Opened → Outcome → World → World
 opened_or stripes found (outcome.Opened calls prefix entries) w =
-    record { files = synced_below 4 w.files; history = take prefix w.history; life = Some (begun_by stripes found) }
+    record { files = synced_below 4 w.files; history = take prefix w.history; life = Some (begun_by stripes (seen_of w.files) found) }
 opened_or stripes found (outcome.NotOpened calls reason) w = without_life w (synced_below (syncs_made reason calls) w.files)
 opened_or stripes found x w = w
 
@@ -330,6 +330,7 @@ after_inside w l (event.Capture stripe) x = stepped_or x w (λ m end. with_life 
 after_inside w l event.Seal x = sealing_or x w l
 after_inside w l (event.Stop within fill) x = stopped_or fill x w
 after_inside w l event.Leave x = without_life w w.files
+after_inside w l event.Old x = w
 after_inside w l (event.Open stripes fails_at) x = w
 
 abbrev pub after_outside : World → Opened → Event → Outcome → World

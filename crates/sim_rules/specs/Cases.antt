@@ -2,6 +2,7 @@
 use Rattle.std.specs.Prelude.{◌≡◌, ℕ, ◌+◌, ◌-◌, ◌^◌, ◌<◌, ◌≤◌, max, length, Option, Some, None, Bool, true, false, ◌&&◌, ◌||◌, ◌==◌, not}
 use Rattle.std.specs.Prelude.{nat_lt, if◌then◌else◌, is_some, MatchBool}
 use Rattle.std.specs.FinMap as finite
+use Rattle.map_types.specs.declared.commands.Command.{Command}
 use Rattle.map_types.specs.declared.refusals.Refusal.TheVariants as refusal
 use Rattle.ticket_order.specs.declared.record.Asked.{Asked}
 use Rattle.ticket_order.specs.declared.record.Asked.TheVariants.{Changing, Reading}
@@ -38,6 +39,14 @@ use Rattle.sim_rules.specs.Fitting.{fits}
 use Rattle.sim_rules.specs.Due.{due_call, due_file}
 use Rattle.sim_rules.specs.After.{bytes_of, call_of, called, checkpoint_called, file_of, log_called, section_at}
 pub use Rattle.sim_rules.specs.OpeningCases.{Finds, MayTake, OpensFiles, entry_of, names_within}
+
+-- ---- a change begins
+
+-- A change begins its walk if its key is within the limit of the life. Else it is refused with 2, and no walk begins.
+abbrev pub BeginsChange : Life → Command → Outcome → Type 0
+BeginsChange l c outcome.Started = length c.key ≤ l.key_limit
+BeginsChange l c (outcome.Refused refusal.KeyTooLong) = l.key_limit < length c.key
+BeginsChange l c x = ⊥
 
 -- ---- the steps of a call
 
@@ -182,7 +191,7 @@ StepsKeeper w l (CaptureGives n) m end = GivesCaptured w l n m end
 -- n tickets from the committed count on are in hand, and may be one batch of at most `most`
 pub record CanStage (w : World) (l : Life) (most n : ℕ) : Type 0 where
   pub in_hand : (i : ℕ) → i < n → place_of l (l.committed + i) ≡ InHand
-  pub fits : FitsBatch most l.committed (next_commands w l n)
+  pub fits : FitsBatch l.layout most l.committed (next_commands w l n)
 
 -- it is the longest such run
 pub record IsLongestRun (w : World) (l : Life) (most n : ℕ) : Type 0 where
@@ -366,7 +375,7 @@ IsStep (outcome.Stepped m end) P = P m end
 IsStep x P = ⊥
 
 abbrev pub HappensInside : World → Life → Event → Outcome → Type 0
-HappensInside w l (event.Change worker c) x = x ≡ outcome.Started
+HappensInside w l (event.Change worker c) x = BeginsChange l c x
 HappensInside w l (event.Read worker r) x = x ≡ outcome.Started
 HappensInside w l (event.Release worker) x = x ≡ outcome.Started
 HappensInside w l (event.Step worker) x = IsStep x (StepsJob w l worker (job_of l worker))
@@ -381,6 +390,7 @@ HappensInside w l (event.Capture stripe) x = BeginsCapture l stripe x
 HappensInside w l event.Seal x = BeginsSeal l x
 HappensInside w l (event.Stop within fill) x = StopsInside w l within x
 HappensInside w l event.Leave x = x ≡ outcome.Left
+HappensInside w l event.Old x = ⊥
 HappensInside w l (event.Open stripes fails_at) x = ⊥
 
 abbrev pub HappensOutside : World → Opened → Event → Outcome → Type 0

@@ -1,9 +1,8 @@
 -- The device call that is due, by what the events and outcomes so far say.
 use Rattle.std.specs.Prelude.{ℕ, ◌+◌, ◌-◌, List, [], ◌∷◌, ◌++◌, length, take, drop, replicate, Option, Some, None, nat_lt, ◌==◌, if◌then◌else◌}
-use Rattle.log_records.specs.Layout.{first_layout}
 use Rattle.disk_model.specs.Gates.{Call, writes, syncs, open_gate}
 use Rattle.store_layout.specs.Checkpoints.{Section, body_offset, checkpoint_file, checkpoint_header, checkpoint_header_bytes, greatest_mark, sections_bytes}
-use Rattle.store_layout.specs.Logs.{end_frame, frame, header, log_file}
+use Rattle.store_layout.specs.Logs.{end_frame, frame, header, log_file, new_layout}
 use Rattle.sim_rules.specs.declared.event.Side.{Side}
 use Rattle.sim_rules.specs.declared.event.Side.TheVariants as side
 use Rattle.sim_rules.specs.World.{World, Life, LogWork, Resting, Committing, Rotating, Running, next_batch}
@@ -14,16 +13,17 @@ use Rattle.sim_rules.specs.World.{World, Life, LogWork, Resting, Committing, Rot
 abbrev pub frame_call : ℕ → List ℕ → ℕ → Call
 frame_call gate frame left = if left == 4 then writes (gate + 1) (frame ++ 0 ∷ []) else if left == 2 then writes gate (open_gate ∷ []) else syncs
 
--- first come the header of the next log and its closed gate, and a sync; then the end frame, which names its generation
+-- First come the header of the next log, of the new version, and its closed gate, and a sync; then the end frame, which
+-- names its generation.
 abbrev pub rotation_call : Life → ℕ → Call
 rotation_call l left =
-    if left == 6 then writes 0 (header (l.newest + 1) l.committed ++ 0 ∷ [])
+    if left == 6 then writes 0 (header new_layout (l.newest + 1) l.committed ++ 0 ∷ [])
     else if left == 5 then syncs
     else frame_call l.gate (end_frame (l.newest + 1)) left
 
 abbrev pub log_call : World → Life → LogWork → Call
 log_call w l Resting = syncs
-log_call w l (Committing n left) = frame_call l.gate (frame first_layout (next_batch w l n)) left
+log_call w l (Committing n left) = frame_call l.gate (frame l.layout (next_batch w l n)) left
 log_call w l (Rotating left) = rotation_call l left
 
 -- the next log has the other file
@@ -38,15 +38,15 @@ log_number l (Rotating left) = if nat_lt 4 left then log_file (l.newest + 1) els
 abbrev pub clearing_call : ℕ → Call
 clearing_call left = if left == 3 then writes 0 (0 ∷ []) else if left == 2 then syncs else writes 1 (replicate checkpoint_header_bytes 0)
 
--- the last section, behind those before it
+-- the last section, behind those before it, in the layout of the new version
 abbrev pub section_call : List Section → Call
 section_call sections =
-    writes (body_offset + length (sections_bytes first_layout (take (length sections - 1) sections))) (sections_bytes first_layout (drop (length sections - 1) sections))
+    writes (body_offset + length (sections_bytes new_layout (take (length sections - 1) sections))) (sections_bytes new_layout (drop (length sections - 1) sections))
 
 -- the seal: the header, a sync, the gate opened, a sync
 abbrev pub sealing_call : Life → ℕ → Running → ℕ → Call
 sealing_call l low running left =
-    if left == 4 then writes 1 (checkpoint_header running.generation low (greatest_mark running.sections) l.stripes (length (sections_bytes first_layout running.sections)))
+    if left == 4 then writes 1 (checkpoint_header new_layout running.generation low (greatest_mark running.sections) l.stripes (length (sections_bytes new_layout running.sections)))
     else if left == 2 then writes 0 (open_gate ∷ [])
     else syncs
 

@@ -1,5 +1,5 @@
 -- One change on a store of 16 stripes, row by row; and the phases of a commit, a rotation and a checkpoint.
-use Rattle.std.specs.Prelude.{◌≡◌, ℕ, ◌+◌, ◌≤◌, List, [], ◌∷◌, ◌++◌, map, Option, None, Some, true, false}
+use Rattle.std.specs.Prelude.{◌≡◌, ℕ, ◌+◌, ◌≤◌, List, [], ◌∷◌, ◌++◌, length, map, Option, None, Some, true, false}
 use Rattle.std.specs.FinMap as finite
 use Rattle.std.specs.Global.{Vec}
 use Rattle.std.specs.List.{flat_map, range_with_len}
@@ -8,11 +8,11 @@ use Rattle.map_types.specs.declared.commands.Change.TheVariants.{Put}
 use Rattle.map_types.specs.declared.commands.Command.{Command}
 use Rattle.map_types.specs.declared.commands.Reply.TheVariants.{Was}
 use Rattle.map_types.specs.declared.refusals.Refusal.TheVariants as refusal
-use Rattle.log_records.specs.Layout.{first_layout}
 use Rattle.disk_model.specs.declared.fill.Fill.{Fill}
 use Rattle.disk_model.specs.declared.fill.Fill.TheVariants.{Old, New, Byte}
+use Rattle.log_records.specs.Layout.{first_layout}
 use Rattle.store_layout.specs.Examples.{a, number}
-use Rattle.store_layout.specs.Logs.{frame}
+use Rattle.store_layout.specs.Logs.{frame, new_layout}
 use Rattle.store_layout.specs.Opening.{Opened, StandsFor, first_checkpoint}
 use Rattle.store_layout.specs.declared.log_phase.Phase.TheVariants as log_phase
 use Rattle.store_layout.specs.declared.checkpoint_phase.CheckpointPhase.{CheckpointPhase}
@@ -26,7 +26,7 @@ use Rattle.sim_rules.specs.declared.outcome.End.TheVariants as ends
 use Rattle.sim_rules.specs.declared.outcome.Made.TheVariants as made
 use Rattle.sim_rules.specs.declared.outcome.MapEntry.{MapEntry}
 use Rattle.sim_rules.specs.declared.outcome.Outcome.TheVariants as outcome
-use Rattle.sim_rules.specs.World.{World, Life, Running, Committing, Rotating, begun_by, seen_of, start}
+use Rattle.sim_rules.specs.World.{World, Life, Running, Committing, Rotating, begun_by, old_start, seen_of, start}
 use Rattle.sim_rules.specs.After.{after, log_called, running_called, synced_below}
 use Rattle.sim_rules.specs.Cases.{Meets, phase_of_checkpoint, phase_of_log}
 use Rattle.sim_rules.specs.Runs.{Row, IsRun}
@@ -48,15 +48,22 @@ after_rows found w (row ∷ rows) = after_rows found (after w found row.0 row.1)
 abbrev pub new_store : Opened
 new_store = record { checkpoint = first_checkpoint 16; first = []; second = None }
 
+-- the world after it, if it began with this one
+abbrev pub opened_from : World → World
+opened_from from = record { files = synced_below 4 from.files; history = []; life = Some (begun_by 16 (seen_of from.files) new_store) }
+
 abbrev pub opened : World
-opened = record { files = synced_below 4 start.files; history = []; life = Some (begun_by 16 new_store) }
+opened = opened_from start
 
 -- It takes 12 device calls: four syncs, two heads and the head of the checkpoint that is used, the length and the bytes of its file and of its log,
 -- and the gate of the other checkpoint's file.
+abbrev pub OpensFrom : World → Type 0
+OpensFrom from = (stripes : StripeCount) (entries : Vec MapEntry) (calls : ℕ) → stripes.count ≡ 16 → entries.items ≡ [] → calls ≡ 12 →
+    Meets from new_store (event.Open stripes None) (outcome.Opened calls 0 entries)
+    × (after from new_store (event.Open stripes None) (outcome.Opened calls 0 entries) ≡ opened_from from)
+
 abbrev pub NewStoreOpens : Type 0
-NewStoreOpens = (stripes : StripeCount) (entries : Vec MapEntry) (calls : ℕ) → stripes.count ≡ 16 → entries.items ≡ [] → calls ≡ 12 →
-    Meets start new_store (event.Open stripes None) (outcome.Opened calls 0 entries)
-    × (after start new_store (event.Open stripes None) (outcome.Opened calls 0 entries) ≡ opened)
+NewStoreOpens = OpensFrom start
 
 -- So a call fails by which it is refused only among these 12, whatever the event names.
 abbrev pub FailsAmongThem : Type 0
@@ -92,6 +99,14 @@ OtherIsRefused = AllMeet new_store opened (
     ∷ (event.Step 1, outcome.Stepped (made.FoundHeld 1) (ends.Refused (refusal.Busy 1)))
     ∷ [])
 
+-- A key above the limit of a new log is refused. Its worker may begin another change then, and one at the limit begins
+-- its walk.
+abbrev pub LongKeyIsRefused : Type 0
+LongKeyIsRefused = (long short : Command) → length long.key ≡ new_layout.key_limit + 1 → length short.key ≡ new_layout.key_limit → AllMeet new_store opened (
+    (event.Change 0 long, outcome.Refused refusal.KeyTooLong)
+    ∷ (event.Change 0 short, outcome.Started)
+    ∷ [])
+
 -- ---- its entry is swept and staged
 
 abbrev pub stripe_rows : ℕ → End → List Row
@@ -122,7 +137,7 @@ ChangeIsStaged = AllMeet new_store opened staged_rows
 
 -- the batch's frame, and a closed gate
 abbrev pub frame_bytes : List ℕ
-frame_bytes = frame first_layout (record { first = 0; commands = put_a ∷ [] }) ++ 0 ∷ []
+frame_bytes = frame new_layout (record { first = 0; commands = put_a ∷ [] }) ++ 0 ∷ []
 
 abbrev pub written_rows : Vec ℕ → List Row
 written_rows bytes =
@@ -205,6 +220,30 @@ StoppedShut = (bytes gate : Vec ℕ) → bytes.items ≡ frame_bytes → gate.it
     StandsFor (seen_of (stopped_within bytes gate Old).files) 0 finite.empty
     × StandsFor (seen_of (stopped_within bytes gate (Byte 127)).files) 0 finite.empty
 
+-- ---- a directory of version 01
+
+-- it opens as a new store does
+abbrev pub OldStoreOpens : Type 0
+OldStoreOpens = OpensFrom old_start
+
+-- A key above the limit of version 01 is refused, whatever a new log takes; one at the limit begins its walk.
+abbrev pub OldKeyIsRefused : Type 0
+OldKeyIsRefused = (long short : Command) → length long.key ≡ first_layout.key_limit + 1 → length short.key ≡ first_layout.key_limit →
+    AllMeet new_store (opened_from old_start) (
+    (event.Change 0 long, outcome.Refused refusal.KeyTooLong)
+    ∷ (event.Change 0 short, outcome.Started)
+    ∷ [])
+
+-- A run begins with an Old and an opening.
+abbrev pub OldBeginsRun : Type 0
+OldBeginsRun = (stripes : StripeCount) (entries : Vec MapEntry) (calls : ℕ) → stripes.count ≡ 16 → entries.items ≡ [] → calls ≡ 12 →
+    IsRun (event.Old ∷ event.Open stripes None ∷ []) (outcome.Old ∷ outcome.Opened calls 0 entries ∷ [])
+
+-- Behind the opening the Old is skipped.
+abbrev pub SecondOldIsSkipped : Type 0
+SecondOldIsSkipped = (stripes : StripeCount) (entries : Vec MapEntry) (calls : ℕ) → stripes.count ≡ 16 → entries.items ≡ [] → calls ≡ 12 →
+    IsRun (event.Open stripes None ∷ event.Old ∷ []) (outcome.Opened calls 0 entries ∷ outcome.Skipped ∷ [])
+
 -- ---- phases
 
 -- the four calls of a batch commit its commands
@@ -219,6 +258,15 @@ abbrev pub RotationGoesOn : Type 0
 RotationGoesOn = (w : World) (l : Life) →
     map (λ left. phase_of_log (log_called w l (Rotating left)).log) (6 ∷ 5 ∷ 4 ∷ 3 ∷ 2 ∷ 1 ∷ [])
     ≡ log_phase.HeaderWritten ∷ log_phase.Staged ∷ log_phase.Written ∷ log_phase.Synced ∷ log_phase.Opened ∷ log_phase.Idle ∷ []
+
+-- The newest log has its layout until the last call of a rotation; then it is one of the new version. The limit for keys
+-- stays.
+abbrev pub RotationTakesNewVersion : Type 0
+RotationTakesNewVersion = (w : World) (l : Life) →
+    (map (λ left. (log_called w l (Rotating left)).layout) (6 ∷ 5 ∷ 4 ∷ 3 ∷ 2 ∷ 1 ∷ [])
+    ≡ l.layout ∷ l.layout ∷ l.layout ∷ l.layout ∷ l.layout ∷ new_layout ∷ [])
+    × (map (λ left. (log_called w l (Rotating left)).key_limit) (6 ∷ 5 ∷ 4 ∷ 3 ∷ 2 ∷ 1 ∷ [])
+    ≡ l.key_limit ∷ l.key_limit ∷ l.key_limit ∷ l.key_limit ∷ l.key_limit ∷ l.key_limit ∷ [])
 
 -- the phase after the next call of this checkpoint
 abbrev pub next_phase : Life → Running → CheckpointPhase

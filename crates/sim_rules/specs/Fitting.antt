@@ -23,6 +23,7 @@ fits_outside e = false
 
 -- In a life. While a sweep or a capture walks, the keeper makes only that walk's next step.
 abbrev pub fits_inside : Life → Event → Bool
+fits_inside l event.Old = false
 fits_inside l (event.Open stripes fails_at) = false
 fits_inside l (event.Change worker c) = is_worker worker && is_idle (job_of l worker)
 fits_inside l (event.Read worker r) = is_worker worker && is_idle (job_of l worker)
@@ -45,5 +46,6 @@ abbrev pub fits_with : Option Life → Event → Bool
 fits_with None e = fits_outside e
 fits_with (Some l) e = fits_inside l e
 
+-- An Old fits in no world: the one that begins a run comes before the first.
 abbrev pub fits : World → Event → Bool
 fits w e = fits_with w.life e

@@ -27,7 +27,7 @@ pub record Finds (w : World) (found : Opened) (prefix : ℕ) (entries : List Map
 
 -- `calls` device calls are no more than those of an opening that finds what the files hold
 abbrev pub MayTake : World → ℕ → Type 0
-MayTake w calls = (found : Opened) → Holds (seen_of w.files) found → calls ≤ opening_calls found
+MayTake w calls = (found : Opened) → Holds (seen_of w.files) found → calls ≤ opening_calls (seen_of w.files) found
 
 -- An opening is refused with 9 exactly if the device call that its event names was made, as the last. Else it never
 -- comes to that call. Either it finds what the files hold, which the syncs leave as they read, by the device calls that
@@ -35,7 +35,7 @@ MayTake w calls = (found : Opened) → Holds (seen_of w.files) found → calls �
 -- files that hold something makes no more device calls than finding it takes.
 abbrev pub OpensFiles : World → Opened → Option ℕ → Outcome → Type 0
 OpensFiles w found fails_at (outcome.Opened calls prefix entries) =
-    (calls ≡ opening_calls found) × (names_within fails_at calls ≡ false) × Finds w found prefix entries.items
+    (calls ≡ opening_calls (seen_of w.files) found) × (names_within fails_at calls ≡ false) × Finds w found prefix entries.items
 OpensFiles w found fails_at (outcome.NotOpened calls refusal.Failed) = (1 ≤ calls) × (fails_at ≡ Some calls) × MayTake w calls
 OpensFiles w found fails_at (outcome.NotOpened calls reason) =
     (4 ≤ calls) × (names_within fails_at calls ≡ false) × ((reason ≡ refusal.NoMemory) ⊎ Refuses (seen_of w.files) reason) × MayTake w calls

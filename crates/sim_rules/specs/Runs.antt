@@ -1,5 +1,5 @@
 -- Whole runs: what events and outcomes lead to, and the machine of one list that they are a run of.
-use Rattle.std.specs.Prelude.{◌≡◌, ◌⊎◌, ℕ, ◌+◌, List, [], ◌∷◌, length, map, Option, Some, None}
+use Rattle.std.specs.Prelude.{◌≡◌, ◌⊎◌, ℕ, ◌+◌, Bool, true, false, List, [], ◌∷◌, length, map, Option, Some, None}
 use Rattle.std.specs.List.{AllByRecursion}
 use Rattle.std.specs.FinMap as finite
 use Rattle.map_types.specs.declared.refusals.Refusal.TheVariants as refusal
@@ -18,7 +18,7 @@ use Rattle.sim_rules.specs.declared.outcome.Made.TheVariants as made
 use Rattle.sim_rules.specs.declared.outcome.Outcome.{Outcome}
 use Rattle.sim_rules.specs.declared.outcome.Outcome.TheVariants as outcome
 use Rattle.sim_rules.specs.Machine.{Machine, Move, Calls, Releases, Stops, Opens, AreReleasedTo, IsAllowed, begun, moved, whole}
-use Rattle.sim_rules.specs.World.{World, Life, Job, Idle, Walks, Releasing, LogWork, Committing, job_of, seen_of, start}
+use Rattle.sim_rules.specs.World.{World, Life, Job, Idle, Walks, Releasing, LogWork, Committing, job_of, old_start, seen_of, start}
 use Rattle.sim_rules.specs.After.{after, entered}
 use Rattle.sim_rules.specs.Cases.{Meets, entry_of}
 
@@ -121,11 +121,11 @@ Keeps w a row w' a' = AtEachMoment (AreKept w a) (AreKept w' a') row w.files w'.
 
 -- ---- a run
 
--- The rows, the newest first, lead from the beginning to this world, and to this state of the machine.
-unfoldable pub LeadsTo : List Row → World → Machine → Type 0
-LeadsTo [] w a = (w ≡ start) × (a ≡ begun)
-LeadsTo (row ∷ rows) w a =
-    (w0 : World) × (a0 : Machine) × LeadsTo rows w0 a0 × Happens w0 row w × Moves w0 a0 row a × Keeps w0 a0 row w a
+-- The rows, the newest first, lead from the world at the beginning to this one, and to this state of the machine.
+unfoldable pub LeadsTo : World → List Row → World → Machine → Type 0
+LeadsTo from [] w a = (w ≡ from) × (a ≡ begun)
+LeadsTo from (row ∷ rows) w a =
+    (w0 : World) × (a0 : Machine) × LeadsTo from rows w0 a0 × Happens w0 row w × Moves w0 a0 row a × Keeps w0 a0 row w a
 
 -- An opening is refused only for want of memory, or by the device call that its event names, which was its last.
 abbrev pub OpensWell : Row → Type 0
@@ -140,11 +140,24 @@ rows_onto rows es xs = rows
 abbrev pub rows_of : List Event → List Outcome → List Row
 rows_of es xs = rows_onto [] es xs
 
--- The outcomes are those of a run, whatever the events are. There is one for each event, and each meets its case. The
--- files stand for what they have to at each moment. Together the outcomes are a run of the machine of one list.
-pub record IsRun (events : List Event) (outcomes : List Outcome) : Type 0 where
+-- The outcomes are those of a run that begins with this world, whatever the events are. There is one for each event,
+-- and each meets its case. The files stand for what they have to at each moment. Together the outcomes are a run of the
+-- machine of one list.
+pub record IsRunFrom (from : World) (events : List Event) (outcomes : List Outcome) : Type 0 where
   pub one_each : length outcomes ≡ length events
   pub world : World
   pub machine : Machine
-  pub leads : LeadsTo (rows_of events outcomes) world machine
+  pub leads : LeadsTo from (rows_of events outcomes) world machine
   pub opens : AllByRecursion OpensWell (rows_of events outcomes)
+
+-- An Old that is the first event has the outcome Old, and the run goes on from a directory of version 01. Any other run
+-- begins with a new store.
+abbrev pub IsRun : List Event → List Outcome → Type 0
+IsRun (event.Old ∷ events) (outcome.Old ∷ outcomes) = IsRunFrom old_start events outcomes
+IsRun (event.Old ∷ events) outcomes = ⊥
+IsRun events outcomes = IsRunFrom start events outcomes
+
+-- the first event is an Old
+abbrev pub is_old : List Event → Bool
+is_old (event.Old ∷ events) = true
+is_old events = false

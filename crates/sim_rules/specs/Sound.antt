@@ -14,25 +14,27 @@ use Rattle.sim_rules.specs.Machine.{MayStop, Move, Releases, AreReleasedTo, mach
 use Rattle.sim_rules.specs.World.{World, Life}
 use Rattle.sim_rules.specs.Runs.{AtEachMoment, Row, LeadsTo, least_of, most_of, move_of_step}
 
+-- The rows begin with the world `from`.
+
 -- In a life the machine has the whole history, and no reply was released above the durable count.
-pub record IsSoundInside (rows : List Row) (w : World) (durable : ℕ) (released : List Call) : Type 0 where
-  pub leads : LeadsTo rows w (machine w.history released)
+pub record IsSoundInside (from : World) (rows : List Row) (w : World) (durable : ℕ) (released : List Call) : Type 0 where
+  pub leads : LeadsTo from rows w (machine w.history released)
   pub within : AreReleasedTo durable released
 
 -- Between lives it may have kept each number of commands that no release forbids. No reply was released above this
 -- count, which the next opening reaches.
-pub record IsSoundOutside (rows : List Row) (w : World) (least : ℕ) (released : List Call) : Type 0 where
-  pub leads : (p : ℕ) → MayStop p (machine w.history released) → LeadsTo rows w (machine (take p w.history) released)
+pub record IsSoundOutside (from : World) (rows : List Row) (w : World) (least : ℕ) (released : List Call) : Type 0 where
+  pub leads : (p : ℕ) → MayStop p (machine w.history released) → LeadsTo from rows w (machine (take p w.history) released)
   pub within : AreReleasedTo least released
   pub reached : least ≤ length w.history
 
-abbrev pub IsSoundWith : Option Life → List Row → World → ℕ → List Call → Type 0
-IsSoundWith None rows w least released = IsSoundOutside rows w least released
-IsSoundWith (Some l) rows w least released = IsSoundInside rows w l.durable released
+abbrev pub IsSoundWith : Option Life → World → List Row → World → ℕ → List Call → Type 0
+IsSoundWith None from rows w least released = IsSoundOutside from rows w least released
+IsSoundWith (Some l) from rows w least released = IsSoundInside from rows w l.durable released
 
 -- in a life or between lives
-abbrev pub IsSound : List Row → World → ℕ → List Call → Type 0
-IsSound rows w least released = IsSoundWith w.life rows w least released
+abbrev pub IsSound : World → List Row → World → ℕ → List Call → Type 0
+IsSound from rows w least released = IsSoundWith w.life from rows w least released
 
 -- ---- the files
 

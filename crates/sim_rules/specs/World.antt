@@ -4,16 +4,15 @@ use Rattle.std.specs.Prelude.{◌&&◌, ◌||◌, ◌==◌, nat_lt, if◌then◌
 use Rattle.java_hash.specs.Stripes.{stripe_of}
 use Rattle.map_types.specs.declared.commands.Command.{Command}
 use Rattle.map_model.specs.Parts.{is_in_stripe}
-use Rattle.log_records.specs.Layout.{first_layout}
+use Rattle.log_records.specs.Layout.{Layout}
 use Rattle.ticket_order.specs.declared.record.Asked.{Asked}
 use Rattle.ticket_order.specs.declared.record.Asked.TheVariants.{Changing, Reading}
 use Rattle.ticket_order.specs.Legality.{last_of}
 use Rattle.disk_model.specs.Files.{Contents, Files}
 use Rattle.store_layout.specs.Checkpoints.{Section}
-use Rattle.store_layout.specs.Logs.{Batch, frame}
-use Rattle.store_layout.specs.Opening.{FoundLog, Opened, newest_of, prefix_of}
-use Rattle.store_layout.specs.Readings.{gate_behind}
-use Rattle.store_layout.specs.FirstFiles.{new_files}
+use Rattle.store_layout.specs.Logs.{Batch, frame, log_file}
+use Rattle.store_layout.specs.Opening.{FoundLog, Opened, gate_in, key_limit_of, log_layout, newest_of, prefix_of}
+use Rattle.store_layout.specs.FirstFiles.{new_files, old_files}
 
 -- ---- workers
 
@@ -89,6 +88,8 @@ pub record Life : Type 0 where
   pub stripes : ℕ
   -- how many commands the opening found
   pub first : ℕ
+  -- the most bytes that the key of a change may have in this life
+  pub key_limit : ℕ
   pub jobs : List Job
   -- of each worker's pass, the greatest position that it has seen, at first that of the opening
   pub seen : List ℕ
@@ -104,8 +105,9 @@ pub record Life : Type 0 where
   pub is_broken : Bool
   pub committed : ℕ
   pub log : LogWork
-  -- the generation of the newest log, and where its gate stands that counts
+  -- the generation of the newest log, its layout, and where its gate stands that counts
   pub newest : ℕ
+  pub layout : Layout
   pub gate : ℕ
   -- the generation of the sealed checkpoint
   pub sealed : ℕ
@@ -123,13 +125,20 @@ pub record World : Type 0 where
 unfoldable pub start : World
 start = record { files = new_files 16; history = []; life = None }
 
--- the first life's beginning, and each later one's: what was found is committed and published, and nothing is under way
-unfoldable pub begun_by : ℕ → Opened → Life
-begun_by stripes found =
+-- and one that was formatted in version 01
+unfoldable pub old_start : World
+old_start = record { files = old_files 16; history = []; life = None }
+
+-- The first life's beginning, and each later one's: what was found in these contents is committed and published, and
+-- nothing is under way.
+unfoldable pub begun_by : ℕ → Contents → Opened → Life
+begun_by stripes contents found =
     let newest : FoundLog = newest_of found in
+    let content : List ℕ = contents (log_file newest.generation) in
     record {
       stripes = stripes;
       first = prefix_of found;
+      key_limit = key_limit_of contents found;
       jobs = replicate 64 Idle;
       seen = replicate 64 (prefix_of found);
       places = [];
@@ -141,7 +150,8 @@ begun_by stripes found =
       committed = prefix_of found;
       log = Resting;
       newest = newest.generation;
-      gate = gate_behind first_layout newest.generation newest.low newest.batches;
+      layout = log_layout content;
+      gate = gate_in content newest;
       sealed = found.checkpoint.generation;
       checkpoint = None;
     }
@@ -263,7 +273,7 @@ next_batch w l n = record { first = l.committed; commands = next_commands w l n 
 
 -- where the gate stands behind this batch
 abbrev pub gate_after : World → Life → ℕ → ℕ
-gate_after w l n = l.gate + 1 + length (frame first_layout (next_batch w l n))
+gate_after w l n = l.gate + 1 + length (frame l.layout (next_batch w l n))
 
 -- a device call of the checkpoint is still to be made
 abbrev pub has_checkpoint_call : Option Running → Bool

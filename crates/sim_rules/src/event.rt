@@ -20,13 +20,15 @@ pub enum Ending {
 /// One event of a schedule: at most one atomic step, or one device call, or the end of a life.
 #[derive(Drop)]
 pub enum Event {
+    /// The run begins with a directory of version 01. It fits as the first event alone.
+    Old,
     /// The store is opened for `stripes` stripes. If the number of a device call is given, counted
     /// from 1, that call fails.
     Open {
         stripes: StripeCount,
         fails_at: Option<u64>,
     },
-    /// A worker begins the walk of a change; its steps follow.
+    /// A worker begins the walk of a change, unless its key is too long; its steps follow.
     Change {
         worker: usize,
         command: Command,

@@ -1,5 +1,5 @@
 //! One change on a new store, row by row, each as the contract of a function.
-ghost use Rattle.sim_rules.specs.Examples.{BatchIsCommitted, ChangeIsReleased, ChangeIsStaged, CheckpointGoesOn, FailsAmongThem, NewStoreOpens, NotYetInHand, OpeningIsRun, OtherIsRefused, RotationGoesOn, ScheduleIsRun, StoppedBefore, StoppedOpen, StoppedShut, UnwrittenIsNoRun};
+ghost use Rattle.sim_rules.specs.Examples.{BatchIsCommitted, ChangeIsReleased, ChangeIsStaged, CheckpointGoesOn, FailsAmongThem, LongKeyIsRefused, NewStoreOpens, NotYetInHand, OldBeginsRun, OldKeyIsRefused, OldStoreOpens, OpeningIsRun, OtherIsRefused, RotationGoesOn, RotationTakesNewVersion, ScheduleIsRun, SecondOldIsSkipped, StoppedBefore, StoppedOpen, StoppedShut, UnwrittenIsNoRun};
 
 use store_layout::laws::{laws_of_new_stores, laws_of_opening};
 
@@ -12,6 +12,9 @@ pub fn one_change()
 
     // While the stripe is held, another worker's change is refused.
     ensures refused { OtherIsRefused }
+
+    // A key above the limit of a new log is refused.
+    ensures too_long { LongKeyIsRefused }
 
     // The entry is staged once it is swept, and not before.
     ensures not_yet { NotYetInHand }
@@ -40,9 +43,24 @@ pub fn one_commit()
     laws_of_opening();
 }
 
+/// A directory of version 01.
+pub fn old_directory()
+    // It is opened as a new store is, and its log has the limit of its own version for keys.
+    ensures opened { OldStoreOpens }
+    ensures too_long { OldKeyIsRefused }
+
+    // A run begins with it if an Old is its first event. Behind another event an Old is skipped.
+    ensures first { OldBeginsRun }
+    ensures second { SecondOldIsSkipped }
+{
+    laws_of_new_stores();
+    laws_of_opening();
+}
+
 /// The phases of a commit, a rotation and a checkpoint.
 pub fn phases()
     ensures batch { BatchIsCommitted }
     ensures rotation { RotationGoesOn }
+    ensures version { RotationTakesNewVersion }
     ensures checkpoint { CheckpointGoesOn }
 {}

@@ -1,5 +1,6 @@
 //! Laws of whole schedules, each as the contract of a function.
-ghost use Rattle.sim_rules.specs.Laws.{BeginsEmpty, DrawsInside, EndsInside, EnteredAsFailed, FrontIsFound, KnownFolds, KnownIsLegal, KnownStands, LifeGoesOn, LongestRunInHand, NextLifeBegins, OpensOutside, OutcomesAreMoves, QuietInside, QuietOutside, ReleasedStayLegal, ReleasesInside, RowsGoOn, RunsAnswerAsOneThread, SkippedWhereUnfit, SoundAtStart, SoundBetweenIsRun, SoundIsRun, StandingFilesOpen, StopsOutside};
+ghost use Rattle.sim_rules.specs.Laws.{BeginsEmpty, DrawsInside, EndsInside, EnteredAsFailed, FrontIsFound, KnownFolds, KnownIsLegal, KnownStands, LifeGoesOn, LongestRunInHand, NewIsRun, NextLifeBegins, OpensOutside, OutcomesAreMoves, OldIsRun, OldIsSkipped, QuietInside, QuietOutside, ReleasedStayLegal, ReleasesInside, RowsGoOn, RunsAnswerAsOneThread, RunsBegin, SkippedWhereUnfit, SoundAt, SoundBetweenIsRun, SoundIsRun, StandingFilesOpen, StopsOutside};
+ghost use Rattle.sim_rules.specs.World.{old_start, start};
 
 use store_layout::laws::{laws_of_new_stores, laws_of_opening};
 
@@ -18,9 +19,11 @@ pub fn laws_of_known_histories()
 
 /// The outcomes of a run are moves of the machine. An event is skipped exactly if it doesn't fit.
 pub fn laws_of_runs()
+    ensures begins { RunsBegin }
     ensures moves { OutcomesAreMoves }
     ensures answers { RunsAnswerAsOneThread }
     ensures skipped { SkippedWhereUnfit }
+    ensures old { OldIsSkipped }
     ensures rows { RowsGoOn }
 {}
 
@@ -31,7 +34,8 @@ pub fn laws_of_batches()
 
 /// What a schedule begins with, and what a call leaves within which a stop falls.
 pub fn laws_of_files()
-    ensures begins { BeginsEmpty }
+    ensures begins { BeginsEmpty start }
+    ensures old { BeginsEmpty old_start }
     ensures entered { EnteredAsFailed }
 {
     laws_of_new_stores();
@@ -48,8 +52,9 @@ pub fn steps_of_a_life()
 
 /// What it keeps at the beginning and between lives, up to the opening of the next; and what that finds.
 pub fn steps_between_lives()
-    // What the loop keeps holds at the beginning.
-    ensures start { SoundAtStart }
+    // What the loop keeps holds at the beginning, with a new store or a directory of version 01.
+    ensures start { SoundAt start }
+    ensures old { SoundAt old_start }
 
     // Between lives each event keeps it, up to the next opening.
     ensures stops { StopsOutside }
@@ -68,4 +73,8 @@ pub fn steps_between_lives()
 pub fn ends_of_runs()
     ensures inside { SoundIsRun }
     ensures outside { SoundBetweenIsRun }
+
+    // An Old as the first event, or none, says what the run began with.
+    ensures new { NewIsRun }
+    ensures old { OldIsRun }
 {}

@@ -66,6 +66,8 @@ pub struct MapEntry {
 /// What came of an event.
 #[derive(Drop)]
 pub enum Outcome {
+    /// The run began with a directory of version 01.
+    Old,
     /// The event doesn't fit, and changed nothing.
     Skipped,
     Refused(Refusal),

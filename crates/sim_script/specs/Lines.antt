@@ -131,7 +131,8 @@ stop_in_of words = Err Unknown
 
 abbrev pub line_named : Text → List Text → Result Line BadLine
 line_named name words =
-    if bytes_eq name (codes "open") then open_of words
+    if bytes_eq name (codes "old") then alone event.Old words
+    else if bytes_eq name (codes "open") then open_of words
     else if bytes_eq name (codes "start") then start_of words
     else if bytes_eq name (codes "step") then step_of words
     else if bytes_eq name (codes "go") then go_of words

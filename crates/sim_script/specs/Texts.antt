@@ -51,6 +51,7 @@ IsEndText (ends.Refused refusal) text = Unit {0}
 
 -- what came of an event
 abbrev pub IsOutcomeText : Outcome → Text → Type 0
+IsOutcomeText outcome.Old text = text ≡ codes "old"
 IsOutcomeText outcome.Skipped text = text ≡ codes "skipped"
 IsOutcomeText (outcome.Refused refusal) text = Unit {0}
 IsOutcomeText (outcome.NotOpened calls refusal) text = Unit {0}

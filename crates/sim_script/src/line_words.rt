@@ -221,6 +221,7 @@ pub(crate) fn line_of(alloc: Global, words: &[&str]) -> Result<Line, LineError>
         return Err(LineError::Bad(BadLine::Unknown));
     };
     match *name {
+        "old" => alone(Event::Old, words),
         "open" => open_of(words),
         "start" => start_of(alloc, words),
         "step" => step_of(words),

@@ -67,6 +67,7 @@ fn outcome_text(alloc: Global, outcome: &Outcome) -> Result<String, AllocError>
     ensures { IfOk result (λ text. IsOutcomeText outcome.now (string_bytes text)) }
 {
     match outcome {
+        Outcome::Old => String::from_str(alloc, "old"),
         Outcome::Skipped => String::from_str(alloc, "skipped"),
         Outcome::Refused(refusal) | Outcome::NotOpened { refusal, .. } => {
             refusal_text(alloc, *refusal)

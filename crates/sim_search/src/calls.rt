@@ -38,15 +38,25 @@ const FUNCS: [Func; 9] = [
 /// How long a long text is.
 const LONG: usize = 2500;
 
+/// How long a long key is: too long for a log of version 01.
+const LONG_KEY: usize = 300;
+
 /// How many keys there are at most.
 pub(crate) const MOST_KEYS: usize = 12;
 
-fn key(alloc: Global, random: &mut Random, keys: usize) -> Result<Key, AllocError> {
-    let text = KEYS.get(random.place(keys)).copied().unwrap_or("a");
+fn key_of(alloc: Global, text: &str) -> Result<Key, AllocError> {
     match Key::new(alloc, text) {
         Ok(key) => Ok(key),
         Err(_) => Err(AllocError),
     }
+}
+
+fn key(alloc: Global, random: &mut Random, keys: usize) -> Result<Key, AllocError> {
+    if random.one_in(30) {
+        let long = "k".repeat(alloc, LONG_KEY)?;
+        return key_of(alloc, long.as_str());
+    }
+    key_of(alloc, KEYS.get(random.place(keys)).copied().unwrap_or("a"))
 }
 
 fn text(alloc: Global, text: &str) -> Result<Value, AllocError> {

@@ -7,7 +7,7 @@ use std::alloc::{AllocError, Global};
 use store_layout::CheckpointPhase;
 
 /// The names of the kinds of events.
-const EVENTS: [&str; 22] = [
+const EVENTS: [&str; 23] = [
     "open",
     "open with a failing call",
     "change",
@@ -30,6 +30,7 @@ const EVENTS: [&str; 22] = [
     "stop within a log call",
     "stop within a checkpoint call",
     "leave",
+    "old",
 ];
 
 /// The kinds of device calls, with their names.
@@ -75,7 +76,7 @@ struct CallCount {
 /// All counts.
 #[derive(Drop)]
 pub(crate) struct Counts {
-    events: [EventCount; 22],
+    events: [EventCount; 23],
     calls: [CallCount; 12],
     opened: u64,
     not_opened: u64,
@@ -86,6 +87,7 @@ pub(crate) struct Counts {
     failed: u64,
     wrong_phase: u64,
     too_early: u64,
+    too_long: u64,
     sealed: u64,
 }
 
@@ -138,6 +140,7 @@ fn event_place(event: &Event) -> usize {
         } => 19,
         Event::Stop { .. } => 20,
         Event::Leave => 21,
+        Event::Old => 22,
     }
 }
 
@@ -145,7 +148,7 @@ impl Counts {
     /// Nothing was counted.
     pub(crate) fn new() -> Counts {
         Counts {
-            events: [NO_EVENT; 22],
+            events: [NO_EVENT; 23],
             calls: [NO_CALL; 12],
             opened: 0,
             not_opened: 0,
@@ -156,6 +159,7 @@ impl Counts {
             failed: 0,
             wrong_phase: 0,
             too_early: 0,
+            too_long: 0,
             sealed: 0,
         }
     }
@@ -181,6 +185,7 @@ impl Counts {
             Refusal::Failed => one_more(&mut self.failed),
             Refusal::WrongPhase => one_more(&mut self.wrong_phase),
             Refusal::TooEarly => one_more(&mut self.too_early),
+            Refusal::KeyTooLong => one_more(&mut self.too_long),
             _ => {}
         }
     }
@@ -278,9 +283,9 @@ impl Counts {
         let failed = self.failed;
         let wrong = self.wrong_phase;
         let early = self.too_early;
-        format!(in alloc;
-            "refusals: {busy} busy, {failed} failed, {wrong} wrong phase, {early} too early\n"
-        )
+        let long = self.too_long;
+        let files = format!(in alloc; "{failed} failed, {wrong} wrong phase, {early} too early")?;
+        format!(in alloc; "refusals: {busy} busy, {files}, {long} key too long\n")
     }
 
     /// The counts, each kind in a line.

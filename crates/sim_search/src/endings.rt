@@ -1,6 +1,6 @@
 //! How the files stand once a life is over.
 use crate::gates::Gate;
-use crate::guesses::{Guess, checkpoint_file, log_file};
+use crate::guesses::{Guess, KEY_LIMIT, OLD_KEY_LIMIT, checkpoint_file, log_file};
 use disk_model::Fill;
 use store_layout::CheckpointPhase;
 
@@ -21,10 +21,12 @@ impl Guess {
         let mut next = Guess::first();
         next.committed = self.committed;
         next.newest = self.newest;
+        next.is_old = self.is_old;
         next.sealed = self.sealed;
         next.other_gate = Gate::at_rest(other_open);
         if log_open && self.rotates {
             next.newest = self.next_generation();
+            next.is_old = false;
         } else if log_open {
             next.committed = self.committed.wrapping_add(self.staged);
         }
@@ -57,8 +59,14 @@ impl Guess {
         next
     }
 
-    /// The files as they are read.
+    /// The files as they are read. The newest log says how long a key may be in the next life.
     pub(crate) fn as_read(self) -> Guess {
-        self.with_gates(self.log_gate.reads_open(), self.other_gate.reads_open())
+        let mut next = self.with_gates(self.log_gate.reads_open(), self.other_gate.reads_open());
+        next.key_limit = if next.is_old {
+            OLD_KEY_LIMIT
+        } else {
+            KEY_LIMIT
+        };
+        next
     }
 }

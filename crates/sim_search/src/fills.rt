@@ -3,8 +3,11 @@ use crate::random::Random;
 use disk_model::Fill;
 use std::alloc::{AllocError, Global};
 
-/// The record of a put of 5 under the key `a`.
-const RECORD: [u8; 12] = [0x10, 1, b'a', 1, 0, 0, 0, 0, 0, 0, 0, 5];
+/// The record of a put of 5 under the key `a`, in a log of version 01.
+const OLD_RECORD: [u8; 12] = [0x10, 1, b'a', 1, 0, 0, 0, 0, 0, 0, 0, 5];
+
+/// The same in a log of version 02.
+const RECORD: [u8; 13] = [0x10, 0, 1, b'a', 1, 0, 0, 0, 0, 0, 0, 0, 5];
 
 /// An open gate.
 const OPEN: u8 = 0xA5;
@@ -13,22 +16,33 @@ fn push_number(bytes: &mut Vec<u8>, number: u64) -> Result<(), AllocError> {
     bytes.extend_from_slice(&number.to_be_bytes())
 }
 
-// A well-formed batch of `count` records, with this first ticket.
-fn push_frame(bytes: &mut Vec<u8>, first: u64, count: u32) -> Result<(), AllocError> {
+// A well-formed batch of `count` such records, with this first ticket.
+fn push_frame(
+    bytes: &mut Vec<u8>,
+    record: &[u8],
+    first: u64,
+    count: u32,
+) -> Result<(), AllocError> {
+    let size = u32::try_from(record.len()).unwrap_or(0);
+    let length = count.saturating_mul(size).saturating_add(12);
     bytes.push(1)?;
-    bytes.extend_from_slice(&count.saturating_mul(12).saturating_add(12).to_be_bytes())?;
+    bytes.extend_from_slice(&length.to_be_bytes())?;
     push_number(bytes, first)?;
     bytes.extend_from_slice(&count.to_be_bytes())?;
     for _record in 0..count {
-        bytes.extend_from_slice(&RECORD)?;
+        bytes.extend_from_slice(record)?;
     }
     Ok(())
 }
 
-// A well-formed batch with this first ticket, and a gate behind it.
+// A batch with this first ticket, well-formed in one of the versions, and a gate behind it.
 fn push_batch(bytes: &mut Vec<u8>, random: &mut Random, first: u64) -> Result<(), AllocError> {
     let count: u32 = if random.one_in(2) { 1 } else { 2 };
-    push_frame(bytes, first, count)?;
+    if random.one_in(2) {
+        push_frame(bytes, &OLD_RECORD, first, count)?;
+    } else {
+        push_frame(bytes, &RECORD, first, count)?;
+    }
     bytes.push(if random.one_in(2) { OPEN } else { 0 })?;
     Ok(())
 }
@@ -41,19 +55,24 @@ fn push_end(bytes: &mut Vec<u8>, next: u64) -> Result<(), AllocError> {
     Ok(())
 }
 
-// The header of a log, and a gate.
-fn push_log(bytes: &mut Vec<u8>, generation: u64, low: u64) -> Result<(), AllocError> {
-    bytes.push(1)?;
+// The header of a log of this version, and a gate.
+fn push_log(bytes: &mut Vec<u8>, version: u8, generation: u64, low: u64) -> Result<(), AllocError> {
+    bytes.push(version)?;
     push_number(bytes, generation)?;
     push_number(bytes, low)?;
     bytes.push(OPEN)?;
     Ok(())
 }
 
-// The gate and the header of a checkpoint of one stripe, and its empty section.
-fn push_checkpoint(bytes: &mut Vec<u8>, generation: u64, mark: u64) -> Result<(), AllocError> {
+// The gate and the header of a checkpoint of this version and of one stripe, and its empty section.
+fn push_checkpoint(
+    bytes: &mut Vec<u8>,
+    version: u8,
+    generation: u64,
+    mark: u64,
+) -> Result<(), AllocError> {
     bytes.push(OPEN)?;
-    bytes.push(1)?;
+    bytes.push(version)?;
     push_number(bytes, generation)?;
     push_number(bytes, mark)?;
     push_number(bytes, mark)?;
@@ -73,13 +92,14 @@ fn push_noise(bytes: &mut Vec<u8>, random: &mut Random) -> Result<(), AllocError
 fn push_piece(bytes: &mut Vec<u8>, random: &mut Random, tickets: u64) -> Result<(), AllocError> {
     let ticket = random.below(tickets.saturating_add(1));
     let generation = random.below(6);
+    let version = if random.one_in(2) { 1 } else { 2 };
     match random.below(7) {
         0 => Ok(bytes.push(OPEN)?),
         1 => Ok(bytes.push(0)?),
         2 => push_batch(bytes, random, ticket),
         3 => push_end(bytes, generation),
-        4 => push_log(bytes, generation, ticket),
-        5 => push_checkpoint(bytes, generation, ticket),
+        4 => push_log(bytes, version, generation, ticket),
+        5 => push_checkpoint(bytes, version, generation, ticket),
         _ => push_noise(bytes, random),
     }
 }
@@ -120,14 +140,23 @@ pub(crate) fn fill(alloc: Global, random: &mut Random, tickets: u64) -> Result<F
     }
 }
 
-/// Chosen bytes that spell a batch of one record with this first ticket and an open gate, with or
-/// without an open gate before them, at the greatest lengths.
-pub(crate) fn spelled_batch(alloc: Global, first: u64, has_gate: bool) -> Result<Fill, AllocError> {
+/// Chosen bytes that spell a batch of one record, in version 01 or 02, with this first ticket and an
+/// open gate, with or without an open gate before them, at the greatest lengths.
+pub(crate) fn spelled_batch(
+    alloc: Global,
+    is_old: bool,
+    first: u64,
+    has_gate: bool,
+) -> Result<Fill, AllocError> {
     let mut bytes = Vec::new(alloc);
     if has_gate {
         bytes.push(OPEN)?;
     }
-    push_frame(&mut bytes, first, 1)?;
+    if is_old {
+        push_frame(&mut bytes, &OLD_RECORD, first, 1)?;
+    } else {
+        push_frame(&mut bytes, &RECORD, first, 1)?;
+    }
     bytes.push(OPEN)?;
     Ok(Fill::Chosen {
         bytes,

@@ -8,6 +8,7 @@ use std::alloc::{AllocError, Global};
 
 /// A run. Each of its moves is a letter:
 ///
+/// - `v` begins it with a directory of version 01;
 /// - `o` opens the store, and `x` is a stop that leaves A5;
 /// - `a`, `b` and `c` put under this key, by a worker of its own, and `r` releases the reply to `a`;
 /// - `s` sweeps, `g` stages a batch, and `p` publishes its count;
@@ -21,7 +22,7 @@ pub(crate) struct FixedRun {
 }
 
 /// The runs.
-pub(crate) const RUNS: [FixedRun; 3] = [
+pub(crate) const RUNS: [FixedRun; 4] = [
     FixedRun {
         name: "a batch of one change, with one committed before",
         stripes: 16,
@@ -36,6 +37,11 @@ pub(crate) const RUNS: [FixedRun; 3] = [
         name: "the second life of a checkpoint",
         stripes: 1,
         moves: "o a sg llll p n llllll kkk 0k e k x o n kk 0k e kkkk",
+    },
+    FixedRun {
+        name: "a directory of version 01, up to a batch behind its checkpoint",
+        stripes: 1,
+        moves: "v o a sg llll p n llllll kkk 0k e kkkk b sg llll",
     },
 ];
 
@@ -81,6 +87,8 @@ struct Making {
     changes: u64,
     swept: u64,
     committed: u64,
+    /// The run has a directory of version 01, and no checkpoint was begun in it.
+    is_old: bool,
 }
 
 fn stripe_count(stripes: usize) -> StripeCount {
@@ -153,8 +161,8 @@ impl Making {
             Left::Old => Ok(Fill::Old),
             Left::New => Ok(Fill::New),
             Left::Byte(byte) => Ok(Fill::Byte(byte)),
-            Left::Batch => spelled_batch(self.alloc, self.committed, false),
-            Left::GateAndBatch => spelled_batch(self.alloc, self.committed, true),
+            Left::Batch => spelled_batch(self.alloc, self.is_old, self.committed, false),
+            Left::GateAndBatch => spelled_batch(self.alloc, self.is_old, self.committed, true),
         }
     }
 
@@ -169,6 +177,10 @@ impl Making {
 
     fn make(&mut self, letter: u8) -> Result<(), AllocError> {
         match letter {
+            b'v' => {
+                self.is_old = true;
+                self.push(Event::Old)
+            }
             b'o' => self.open(),
             b'a'..=b'c' => self.change(letter),
             b'r' => {
@@ -187,7 +199,10 @@ impl Making {
                 self.committed = self.swept;
                 self.push(Event::Publish)
             }
-            b'n' => self.push(Event::Begin),
+            b'n' => {
+                self.is_old = false;
+                self.push(Event::Begin)
+            }
             b'0'..=b'3' => {
                 let stripe = usize::from(letter.wrapping_sub(b'0'));
                 self.push(Event::Capture { stripe })?;
@@ -225,6 +240,7 @@ pub(crate) fn events_of(
         changes: 0,
         swept: 0,
         committed: 0,
+        is_old: false,
     };
     for letter in run.moves.as_bytes().iter().take(upto) {
         making.make(*letter)?;

@@ -27,6 +27,10 @@ pub(crate) struct Guess {
     pub staged: u64,
     /// The generation of the newest log.
     pub newest: u64,
+    /// It is of version 01.
+    pub is_old: bool,
+    /// How many bytes the key of a change may have in the life.
+    pub key_limit: usize,
     /// The generation of the sealed checkpoint.
     pub sealed: u64,
     /// What comes next in the log.
@@ -47,6 +51,11 @@ pub(crate) struct Step {
     pub guess: Guess,
 }
 
+/// How many bytes a key may have in a log of version 01, and in one of version 02.
+pub(crate) const OLD_KEY_LIMIT: usize = 255;
+
+pub(crate) const KEY_LIMIT: usize = 4095;
+
 /// The file of the log of this generation.
 pub(crate) fn log_file(generation: u64) -> usize {
     if generation % 2 == 0 { 2 } else { 3 }
@@ -64,6 +73,8 @@ impl Guess {
             committed: 0,
             staged: 0,
             newest: 0,
+            is_old: false,
+            key_limit: KEY_LIMIT,
             sealed: 0,
             phase: Phase::Idle,
             rotates: false,
@@ -71,6 +82,13 @@ impl Guess {
             log_gate: Gate::Shut,
             other_gate: Gate::Open,
         }
+    }
+
+    /// The same, if its files are of version 01.
+    pub(crate) fn as_old(self) -> Guess {
+        let mut next = self;
+        next.is_old = true;
+        next
     }
 
     fn answers(self, wanted: PlainOutcome) -> Step {
@@ -163,6 +181,7 @@ impl Guess {
         next.rotates = false;
         if self.rotates {
             next.newest = self.next_generation();
+            next.is_old = false;
         } else {
             next.committed = self.committed.wrapping_add(self.staged);
             next.staged = 0;
@@ -275,6 +294,14 @@ impl Guess {
             }
             None => self.answers(PlainOutcome::Skipped),
         }
+    }
+
+    /// A worker begins a change whose key has `length` bytes.
+    pub(crate) fn change(self, length: usize) -> Step {
+        if length > self.key_limit {
+            return self.answers(PlainOutcome::Refused(Refusal::KeyTooLong));
+        }
+        self.answers(PlainOutcome::Started)
     }
 
     /// A batch of this run is staged.

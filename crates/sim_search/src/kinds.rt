@@ -1,4 +1,5 @@
-//! What a device call is, told by its file, its place and its first byte.
+//! What a device call is, told by its file, its place and its first byte. The first byte of a header
+//! is its version, 1 or 2.
 use sim_rules::DeviceCall;
 
 /// The kinds of device calls. Files 0 and 1 are those of checkpoints, and 2 and 3 those of logs.
@@ -28,7 +29,7 @@ pub(crate) struct PlainCall {
 // What a write to a log is. Its header stands at its beginning, and a gate is one byte.
 fn log_write(at: usize, bytes: &[u8]) -> CallKind {
     match bytes {
-        [1, ..] if at == 0 && bytes.len() == 18 => CallKind::LogHeader,
+        [1 | 2, ..] if at == 0 && bytes.len() == 18 => CallKind::LogHeader,
         [0xA5] if at >= 17 => CallKind::LogGate,
         [1, _, ..] if at >= 18 => CallKind::Frame,
         [2, _, ..] if at >= 18 => CallKind::EndFrame,
@@ -42,7 +43,7 @@ fn checkpoint_write(at: usize, bytes: &[u8]) -> CallKind {
         [0] if at == 0 => CallKind::GateClose,
         [0xA5] if at == 0 => CallKind::SealGate,
         [0, ..] if at == 1 && bytes.len() == 35 => CallKind::Zeros,
-        [1, ..] if at == 1 && bytes.len() == 35 => CallKind::CheckpointHeader,
+        [1 | 2, ..] if at == 1 && bytes.len() == 35 => CallKind::CheckpointHeader,
         [_, ..] if at >= 36 => CallKind::Section,
         _ => CallKind::Unknown,
     }

@@ -182,6 +182,11 @@ impl<'a> Life<'a> {
         run
     }
 
+    /// Whether the worker may begin a call.
+    pub(crate) fn is_idle(&self, worker: usize) -> bool {
+        matches!(self.jobs.get(worker), Some(Job::Idle))
+    }
+
     /// The worker begins a call.
     pub(crate) fn start(&mut self, worker: usize, call: Call<'a>) -> PlainOutcome {
         match self.jobs.get_mut(worker) {

@@ -181,7 +181,11 @@ impl Maker {
                 stripe: self.random.place(self.stripes.saturating_add(1)),
             }),
             48 => Ok(Event::Seal),
-            _ => Ok(Event::Step { worker }),
+            _ => Ok(if self.random.one_in(3) {
+                Event::Old
+            } else {
+                Event::Step { worker }
+            }),
         }
     }
 
@@ -361,10 +365,13 @@ impl Maker {
     }
 }
 
-/// The list with this number: from 200 to 2,000 events.
+/// The list with this number: from 200 to 2,000 events, in half of the lists behind an Old.
 pub(crate) fn make(alloc: Global, seed: u64, list: u64) -> Result<Vec<Event>, AllocError> {
     let mut maker = Maker::new(alloc, seed, list)?;
     let mut events = Vec::new(alloc);
+    if maker.random.one_in(2) {
+        events.push(Event::Old)?;
+    }
     for _event in 0..maker.random.below(1801).saturating_add(200) {
         events.push(maker.next_event()?)?;
     }

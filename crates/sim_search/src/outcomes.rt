@@ -22,6 +22,7 @@ pub(crate) enum PlainEnd {
 /// What came of an event.
 #[derive(Debug, Drop, PartialEq, Eq)]
 pub(crate) enum PlainOutcome {
+    Old,
     Skipped,
     Refused(Refusal),
     Opened {
@@ -90,6 +91,7 @@ impl PlainOutcome {
     /// The outcome without bytes and entries.
     pub(crate) fn of(outcome: &Outcome) -> Result<PlainOutcome, AllocError> {
         Ok(match outcome {
+            Outcome::Old => PlainOutcome::Old,
             Outcome::Skipped => PlainOutcome::Skipped,
             Outcome::Refused(refusal) => PlainOutcome::Refused(*refusal),
             Outcome::Opened { calls, prefix, .. } => PlainOutcome::Opened {

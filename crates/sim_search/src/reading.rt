@@ -4,7 +4,7 @@ use crate::life::{Call, Life};
 use crate::outcomes::{PlainEnd, PlainOutcome};
 use crate::past::Past;
 use disk_model::Fill;
-use map_types::Refusal;
+use map_types::{Command, Refusal};
 use sim_rules::{Event, MapEntry, Outcome, Side};
 use std::alloc::{AllocError, Global};
 use std::mem;
@@ -19,6 +19,8 @@ pub(crate) struct Reading<'a> {
     guesses: Vec<Guess>,
     /// The greatest position of a released reply.
     released: u64,
+    /// No event was read yet.
+    is_first: bool,
 }
 
 // Nothing if it was found; else what was wanted.
@@ -80,6 +82,7 @@ impl<'a> Reading<'a> {
             life: None,
             guesses: vec![in alloc; Guess::first(); 1]?,
             released: 0,
+            is_first: true,
         })
     }
 
@@ -90,7 +93,9 @@ impl<'a> Reading<'a> {
         outcome: &Outcome,
         found: &PlainOutcome,
     ) -> Result<Option<String>, AllocError> {
+        let is_first = mem::replace(&mut self.is_first, false);
         match event {
+            Event::Old if is_first => self.begin_old(found),
             Event::Open { stripes, fails_at } => match outcome {
                 Outcome::Opened { entries, .. } => {
                     self.open(stripes.get(), *fails_at, entries, found)
@@ -101,6 +106,14 @@ impl<'a> Reading<'a> {
             Event::Leave => self.leave(found),
             _ => self.go_on(event, found),
         }
+    }
+
+    // The store is a directory of version 01.
+    fn begin_old(&mut self, found: &PlainOutcome) -> Result<Option<String>, AllocError> {
+        for guess in self.guesses.iter_mut() {
+            *guess = guess.as_old();
+        }
+        compared(self.alloc, &PlainOutcome::Old, found)
     }
 
     // An event of a life, or one that needs a life.
@@ -126,7 +139,10 @@ impl<'a> Reading<'a> {
         found: &PlainOutcome,
     ) -> Result<Option<String>, AllocError> {
         let wanted = match event {
-            Event::Change { worker, command } => life.start(*worker, Call::Change(command)),
+            Event::Old => PlainOutcome::Skipped,
+            Event::Change { worker, command } => {
+                return self.change(life, *worker, command, found);
+            }
             Event::Read { worker, read } => life.start(*worker, Call::Read(read)),
             Event::Release { worker } => life.release(*worker),
             Event::Step { worker } => return self.step(life, *worker, found),
@@ -134,6 +150,30 @@ impl<'a> Reading<'a> {
             _ => return self.keep(life, event, found),
         };
         compared(self.alloc, &wanted, found)
+    }
+
+    // A worker begins a change, if its key isn't too long. The guesses that are left are those of
+    // which it is wanted.
+    fn change(
+        &mut self,
+        life: &mut Life<'a>,
+        worker: usize,
+        command: &'a Command,
+        found: &PlainOutcome,
+    ) -> Result<Option<String>, AllocError> {
+        if !life.is_idle(worker) {
+            return compared(self.alloc, &PlainOutcome::Skipped, found);
+        }
+        let length = command.key.as_str().len();
+        let mut steps = Vec::new(self.alloc);
+        for guess in &self.guesses {
+            steps.push(guess.change(length))?;
+        }
+        let wrong = self.choose(steps, found)?;
+        if matches!(found, PlainOutcome::Started) {
+            let _started = life.start(worker, Call::Change(command));
+        }
+        Ok(wrong)
     }
 
     // A worker makes a step. A reply is released only at a position that is committed.

@@ -107,7 +107,7 @@ module _ (n : ℕ) (b : Record) (position : ℕ) (reply : Reply) (p : Record) wh
   no_capture i e = cc
 
   changing : (s : ChangeStage) → FitsChange n b (ToRelease position reply) s p → ⊥
-  changing (change.Begins new) fits = no_change new.command fits.task_is
+  changing (change.Begins new) fits = no_change new.command fits.0.task_is
   changing (change.HasTaken new t) fits = no_change new.command fits.0.task_is
   changing (change.IsAlive new t) fits = no_change new.command fits.0.task_is
   changing (change.IsReady new t prepared) fits = no_change new.command fits.0.task_is

@@ -1,23 +1,26 @@
 -- A worker begins a walk.
-use Rattle.std.proofs.Common.{ℕ, ◌≡◌, ◌<◌, List, [], None, refl, arith, sym, ◌∙◌, ap, subst, append-nil}
+use Rattle.std.proofs.Common.{ℕ, ◌≡◌, ◌<◌, ◌≤◌, List, [], None, length, refl, arith, sym, ◌∙◌, ap, subst, append-nil}
 use Rattle.map_types.specs.declared.commands.Command.{Command}
+use Rattle.map_types.specs.declared.refusals.Refusal.TheVariants.{KeyTooLong}
 use Rattle.disk_model.specs.Files.{Files}
 use Rattle.ticket_order.specs.declared.held.Held.{Held}
 use Rattle.ticket_order.specs.declared.record.Asked.{Asked}
 use Rattle.ticket_order.specs.declared.record.Asked.TheVariants.{Changing, Reading}
+use Rattle.ticket_order.specs.declared.record.Opening.{Opening}
 use Rattle.ticket_order.specs.declared.record.Record.{Record}
 use Rattle.ticket_order.specs.declared.walk.Walk.{Walk}
+use Rattle.ticket_order.specs.Records.{IsWithin}
 use Rattle.ticket_order.specs.Walks.{ToRelease, Fits}
 use Rattle.one_history.specs.declared.book.Book.{Book}
 use Rattle.one_history.specs.Turns.{record_of}
 use Rattle.sim_rules.specs.declared.event.Event.TheVariants as event
 use Rattle.sim_rules.specs.declared.outcome.Outcome.TheVariants as outcome
-use Rattle.sim_rules.specs.World.{Life, Job, Idle, Walks, Keeps, Releasing, Begins, FirstSees, job_of}
+use Rattle.sim_rules.specs.World.{World, Life, Job, Idle, Walks, Keeps, Releasing, Begins, FirstSees, job_of}
 use Rattle.sim_rules.specs.After.{after, job_releasing}
 use Rattle.sim_workers.specs.Doings.{Doing, Rests, Calls, Waits, Releases, IsCalling, IsKeeping, IsReleasing, JobStands, asking_of, stage_of, task_of}
 use Rattle.sim_workers.specs.WordsInWorld.{WordsStand, drawn_by}
 use Rattle.sim_workers.specs.Workers.{IsNowDoing, WorkersStand}
-use Rattle.sim_workers.specs.Laws.{ChangeBegins, KeepsStanding, ReadBegins, ReleaseBegins}
+use Rattle.sim_workers.specs.Laws.{ChangeBegins, ChangeTurnedDown, KeepsStanding, ReadBegins, ReleaseBegins}
 use Rattle.sim_workers.proofs.WorkersInWorld.{changed, each_job, fitting, in_life, is_one, job_changed, places_kept, world_of}
 
 -- the words stand as they did, whatever the jobs are
@@ -27,6 +30,7 @@ words_same b files history l j job words = record {
   apart = words.apart;
   stripes = words.stripes;
   first = words.first;
+  key_limit = words.key_limit;
   before = words.before;
   count = words.count;
   map = words.map;
@@ -81,17 +85,35 @@ begun_release n p walk held asked position keeps fits = record {
   asking_is = refl;
 }
 
+-- the pass of a worker has the limit of the book
+within_pass : (b : Book) (w : World) (l : Life) (doings : ℕ → Doing) (j : ℕ) (c : Command) → WorkersStand b w l doings → j < 64 → IsWithin b.opening.key_limit c → IsWithin (record_of j b).opening.key_limit c
+within_pass b w l doings j c stand worker within = subst (λ (o : Opening). IsWithin o.key_limit c) (sym (stand.words.one.passes j (omega (arith, worker, stand.passes))).opening) within
+
 pub change_begins : ChangeBegins
 unfolding after
-change_begins b w found doings doings' j c walk stand worker rests fits goes = in_life b w doings (λ x. KeepsStanding x found (event.Change j c) outcome.Started b doings')
+change_begins b w found doings doings' j c walk stand worker rests within fits goes = in_life b w doings (λ x. KeepsStanding x found (event.Change j c) outcome.Started b doings')
     (λ files history l stands.
     let is : (job_of l j ≡ Idle) × ((record_of j b).holding ≡ None) = idle b.stripes (record_of j b) (job_of l j) (subst (λ d. JobStands b.stripes (record_of j b) d (job_of l j)) rests (stands.each j worker)) in
     record {
-      meets = fitting (world_of files history l) found (event.Change j c) outcome.Started (rw (is_one j worker, is.0) refl) refl;
+      meets = fitting (world_of files history l) found (event.Change j c) outcome.Started (rw (is_one j worker, is.0) refl) (subst (λ (z : ℕ). length c.key ≤ z) stands.words.key_limit within);
       answers = tt;
       stand = begins b files history l doings doings' j (Calls walk) (Walks (Changing c) Begins) stands worker goes refl (ap drawn_by is.0)
-          (begun_call b.stripes (record_of j b) walk (Changing c) is.1 (fits b.stripes (record_of j b) is.1));
+          (begun_call b.stripes (record_of j b) walk (Changing c) is.1 (fits b.stripes (record_of j b) is.1 (within_pass b (world_of files history l) l doings j c stands worker within)));
     }) stand
+
+pub change_turned_down : ChangeTurnedDown
+unfolding after
+change_turned_down b w found doings j c stand worker rests longer = in_life b w doings
+    (λ x. KeepsStanding x found (event.Change j c) (outcome.Refused KeyTooLong) b doings × (after x found (event.Change j c) (outcome.Refused KeyTooLong) ≡ x))
+    (λ files history l stands.
+    let is : (job_of l j ≡ Idle) × ((record_of j b).holding ≡ None) = idle b.stripes (record_of j b) (job_of l j) (subst (λ d. JobStands b.stripes (record_of j b) d (job_of l j)) rests (stands.each j worker)) in (
+      record {
+        meets = fitting (world_of files history l) found (event.Change j c) (outcome.Refused KeyTooLong) (rw (is_one j worker, is.0) refl) (subst (λ (z : ℕ). z < length c.key) stands.words.key_limit longer);
+        answers = tt;
+        stand = stands;
+      },
+      refl,
+    )) stand
 
 pub read_begins : ReadBegins
 unfolding after

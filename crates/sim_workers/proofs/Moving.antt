@@ -84,6 +84,7 @@ words_moved b b' files history history' more l j job seen places words one apart
   apart = apart;
   stripes = words.stripes ∙ sym stripes;
   first = words.first ∙ ap (λ (o : Opening). o.first) (sym opening);
+  key_limit = ap (λ (o : Opening). o.key_limit) opening ∙ words.key_limit;
   before = words.before;
   count = words.count ∙ ap (λ (o : Opening). o.first) (sym opening);
   map = ap (λ (o : Opening). o.map) opening ∙ words.map;

@@ -8,8 +8,8 @@ use Rattle.map_types.specs.declared.commands.Command.{Command}
 use Rattle.map_model.specs.Parts.{union_of}
 use Rattle.map_model.specs.Steps.{fold_of}
 use Rattle.atomic_methods.specs.PartState.{PartState}
-use Rattle.disk_model.specs.Files.{Files}
-use Rattle.store_layout.specs.Opening.{Opened, prefix_of}
+use Rattle.disk_model.specs.Files.{Contents, Files}
+use Rattle.store_layout.specs.Opening.{Opened, key_limit_of, prefix_of}
 use Rattle.ticket_order.specs.declared.record.Record.{Record}
 use Rattle.ticket_order.specs.Records.{enrolling, keeper_at_start, newcomer, reach}
 use Rattle.one_history.specs.declared.book.Book.{Book}
@@ -36,18 +36,18 @@ undrawn : (j t : ℕ) → drawn_by (slice_index_or (replicate 64 Idle) j Idle) �
 undrawn j t is = let no : None ≡ Some t = sym (ap drawn_by (idle_at j)) ∙ is in cc
 
 -- no pass holds a stripe
-module _ (first : ℕ) (parts : List PartState) where
+module _ (first limit : ℕ) (parts : List PartState) where
   abbrev book : Book
-  book = at_start first parts 64
+  book = at_start first parts limit 64
 
   abbrev newest : Record
-  newest = enrolling (newcomer (opening_of first parts)) 65
+  newest = enrolling (newcomer (opening_of first parts limit)) 65
 
   worker_is : (j : ℕ) → j < 64 → record_of j book ≡ newest
   worker_is j l =
       let within : j < length (replicate 64 newest) = omega (arith, l) in
-      get_or-append (replicate 64 newest) (enrolling (keeper_at_start (opening_of first parts)) 65 ∷ []) (newcomer (opening_of first parts)) j within
-      ∙ get_or-replicate 64 j newest (newcomer (opening_of first parts)) l
+      get_or-append (replicate 64 newest) (enrolling (keeper_at_start (opening_of first parts limit)) 65 ∷ []) (newcomer (opening_of first parts limit)) j within
+      ∙ get_or-replicate 64 j newest (newcomer (opening_of first parts limit)) l
 
   worker_sees : (j : ℕ) → j < 64 → reach (record_of j book) ≡ first
   worker_sees j l = omega (arith, ap reach (worker_is j l))
@@ -58,10 +58,11 @@ module _ (first : ℕ) (parts : List PartState) where
   keeper_free : (i : ℕ) → HoldsStripe book 64 i → ⊥
   keeper_free i holds = let no : None ≡ Some i = holds.has in cc
 
-  module _ (files : Files) (history : List Command) (stripes : ℕ) (found : Opened) (one : IsOneHistory book) (apart : HoldApart book) (many : length parts ≡ stripes) (same : first ≡ prefix_of found)
+  module _ (files : Files) (history : List Command) (stripes : ℕ) (contents : Contents) (found : Opened) (one : IsOneHistory book) (apart : HoldApart book) (many : length parts ≡ stripes)
+      (same : first ≡ prefix_of found) (within : limit ≡ key_limit_of contents found)
       (count : length history ≡ prefix_of found) (map : union_of (maps_of parts) ≡ fold_of history) where
     abbrev life : Life
-    life = begun_by stripes found
+    life = begun_by stripes contents found
 
     words_begin : WordsStand book (world_of files history life) life
     unfolding begun_by
@@ -70,6 +71,7 @@ module _ (first : ℕ) (parts : List PartState) where
       apart = apart;
       stripes = sym many;
       first = sym same;
+      key_limit = within;
       before = history;
       count = count ∙ sym same;
       map = map;
@@ -119,9 +121,10 @@ module _ (first : ℕ) (parts : List PartState) where
     }
 
 pub life_begins : LifeBegins
-life_begins b w stripes found parts doings is one apart many life count map rest =
+life_begins b w stripes contents found parts doings is one apart many life count map rest =
     let first : ℕ = prefix_of found in
-    let stands : Stand (at_start first parts 64) (world_of w.files w.history (begun_by stripes found)) doings =
-    workers_begin first parts w.files w.history stripes found (subst IsOneHistory is one) (subst HoldApart is apart) many refl count map doings rest in
-    let same : w ≡ world_of w.files w.history (begun_by stripes found) = ap (λ (x : Option Life). record { files = w.files; history = w.history; life = x }) life in
-    subst (λ (x : Book). Stand x w doings) (sym is) (subst (λ (x : World). Stand (at_start first parts 64) x doings) (sym same) stands)
+    let limit : ℕ = key_limit_of contents found in
+    let stands : Stand (at_start first parts limit 64) (world_of w.files w.history (begun_by stripes contents found)) doings =
+    workers_begin first limit parts w.files w.history stripes contents found (subst IsOneHistory is one) (subst HoldApart is apart) many refl refl count map doings rest in
+    let same : w ≡ world_of w.files w.history (begun_by stripes contents found) = ap (λ (x : Option Life). record { files = w.files; history = w.history; life = x }) life in
+    subst (λ (x : Book). Stand x w doings) (sym is) (subst (λ (x : World). Stand (at_start first parts limit 64) x doings) (sym same) stands)

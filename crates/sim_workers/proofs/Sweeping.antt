@@ -272,6 +272,7 @@ module _ (b b' : Book) (w w' : World) (l l' : Life) (doings : ℕ → Doing) (st
     apart = moves.apart;
     stripes = moves.stripes ∙ (stand.words.stripes ∙ sym moves.moved.stripes);
     first = moves.first ∙ (stand.words.first ∙ ap (λ o. o.first) (sym moves.moved.opening));
+    key_limit = ap (λ o. o.key_limit) moves.moved.opening ∙ (stand.words.key_limit ∙ sym moves.key_limit);
     before = stand.words.before;
     count = stand.words.count ∙ ap (λ o. o.first) (sym moves.moved.opening);
     map = ap (λ o. o.map) moves.moved.opening ∙ stand.words.map;
@@ -312,6 +313,7 @@ keeper_rests b w w' l l' doings stand same = record {
     apart = stand.words.apart;
     stripes = same.stripes ∙ stand.words.stripes;
     first = same.first ∙ stand.words.first;
+    key_limit = stand.words.key_limit ∙ sym same.key_limit;
     before = stand.words.before;
     count = stand.words.count;
     map = stand.words.map;

@@ -5,14 +5,13 @@ use Rattle.map_types.specs.declared.commands.Command.{Command}
 use Rattle.map_types.specs.declared.commands.Read as read_type
 use Rattle.map_types.specs.declared.refusals.Refusal.{Refusal}
 use Rattle.map_types.specs.declared.refusals.Refusal.TheVariants as refusal
-use Rattle.ticket_order.specs.declared.stripe.Entry.{Entry}
 use Rattle.ticket_order.specs.declared.held.Held.{Held}
 use Rattle.ticket_order.specs.declared.record.Asked.{Asked}
 use Rattle.ticket_order.specs.declared.record.Asked.TheVariants.{Changing, Reading}
 use Rattle.ticket_order.specs.declared.record.Call.{Call}
 use Rattle.ticket_order.specs.declared.record.Purpose.TheVariants.{Nothing}
 use Rattle.ticket_order.specs.declared.record.StepMade.{StepMade}
-use Rattle.ticket_order.specs.declared.record.StepMade.TheVariants.{Took, FoundHeld, Gave, Drew, Looked, FoundAlive}
+use Rattle.ticket_order.specs.declared.record.StepMade.TheVariants.{FoundHeld, Gave, Drew, Looked, FoundAlive}
 use Rattle.ticket_order.specs.declared.record.Record.{Record}
 use Rattle.ticket_order.specs.declared.walk.Walk.{Walk}
 use Rattle.ticket_order.specs.declared.walk.Stepped.{Stepped}

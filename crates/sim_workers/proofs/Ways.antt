@@ -240,7 +240,7 @@ begun : (n : ℕ) (b : Record) (asked : Asked) (p : Record) → p ≡ b → b.ho
 begun n b asked p is free = goes_by n b asked p (stripe_asked n asked) refl Starts (ap (λ (r : Record). r.steps) is ∙ sym (append-nil b.steps)) (ap (λ (r : Record). stripe_in r.holding) is ∙ ap stripe_in free) (ap (λ (r : Record). r.calls) is)
 
 change_goes : (n : ℕ) (b : Record) (asked : Asked) (s : ChangeStage) (p : Record) → FitsChange n b (task_of asked) s p → GoesBy n b asked p
-change_goes n b asked (change.Begins new) p fits = begun n b asked p fits.is fits.empty_handed
+change_goes n b asked (change.Begins new) p fits = begun n b asked p fits.0.is fits.0.empty_handed
 change_goes n b asked (change.HasTaken new t) p fits =
     after_take n b asked p t.stripe (fits.0.stripe_is ∙ ap (stripe_asked n) (sym (asks_change asked new.command fits.0.task_is)))
     t.content.part.map t.content.outbox.items t.content.last fits.1.taken fits.1.is

@@ -2,6 +2,7 @@
 use Rattle.std.specs.Prelude.{◌≡◌, ◌⊎◌, ℕ, ◌<◌, List, length, Option, Some, None, true, false, ◌&&◌}
 use Rattle.map_types.specs.declared.commands.Command.{Command}
 use Rattle.map_types.specs.declared.commands.Read as read_type
+use Rattle.map_types.specs.declared.refusals.Refusal.TheVariants.{KeyTooLong}
 use Rattle.map_model.specs.Parts.{union_of}
 use Rattle.map_model.specs.Steps.{fold_of}
 use Rattle.atomic_methods.specs.PartState.{PartState}
@@ -9,12 +10,13 @@ use Rattle.ticket_order.specs.declared.held.Held.{Held}
 use Rattle.ticket_order.specs.declared.record.Record.{Record}
 use Rattle.ticket_order.specs.declared.walk.Walk.{Walk}
 use Rattle.ticket_order.specs.declared.walk.Stepped.{Stepped}
+use Rattle.ticket_order.specs.Records.{IsWithin}
 use Rattle.ticket_order.specs.Walks.{ToChange, ToRead, ToRelease, Fits, IsUnderWay}
 use Rattle.one_history.specs.declared.book.Book.{Book}
 use Rattle.one_history.specs.Turns.{at_start, maps_of, record_of}
 use Rattle.one_history.specs.Moves.{IsFree}
 use Rattle.one_history.specs.OneHistory.{HoldApart, HoldsStripe, IsOneHistory}
-use Rattle.store_layout.specs.Opening.{Opened, prefix_of}
+use Rattle.store_layout.specs.Opening.{Contents, Opened, key_limit_of, prefix_of}
 use Rattle.sim_rules.specs.declared.event.Event.{Event}
 use Rattle.sim_rules.specs.declared.event.Event.TheVariants as event
 use Rattle.sim_rules.specs.declared.outcome.End.{End}
@@ -57,11 +59,18 @@ ReleaseFits = (b : Book) (w : World) (doings : ℕ → Doing) (j : ℕ) → Stan
 
 -- ---- a walk begins
 
+-- a change whose key is within the limit
 abbrev pub ChangeBegins : Type 0
 ChangeBegins = (b : Book) (w : World) (found : Opened) (doings doings' : ℕ → Doing) (j : ℕ) (c : Command) (walk : Walk) → Stand b w doings → j < 64
-    → doings j ≡ Rests
-    → ((n : ℕ) (p : Record) → p.holding ≡ None → Fits n p (ToChange c) walk p) → IsNowDoing j (Calls walk) doings doings'
+    → doings j ≡ Rests → IsWithin b.opening.key_limit c
+    → ((n : ℕ) (p : Record) → p.holding ≡ None → IsWithin p.opening.key_limit c → Fits n p (ToChange c) walk p) → IsNowDoing j (Calls walk) doings doings'
     → KeepsStanding w found (event.Change j c) outcome.Started b doings'
+
+-- one with a longer key is refused, and all is as it was
+abbrev pub ChangeTurnedDown : Type 0
+ChangeTurnedDown = (b : Book) (w : World) (found : Opened) (doings : ℕ → Doing) (j : ℕ) (c : Command) → Stand b w doings → j < 64
+    → doings j ≡ Rests → b.opening.key_limit < length c.key
+    → KeepsStanding w found (event.Change j c) (outcome.Refused KeyTooLong) b doings × (after w found (event.Change j c) (outcome.Refused KeyTooLong) ≡ w)
 
 abbrev pub ReadBegins : Type 0
 ReadBegins = (b : Book) (w : World) (found : Opened) (doings doings' : ℕ → Doing) (j : ℕ) (r : read_type.Read) (walk : Walk) → Stand b w doings
@@ -124,11 +133,12 @@ HeldIsTold = (b : Book) (w : World) (l : Life) (doings : ℕ → Doing) (j i : �
 
 -- ---- a life begins
 
--- All workers rest, and the words have made no step, on parts that make the map after the commands that the opening found.
+-- All workers rest, and the words have made no step, on parts that make the map after the commands that the opening
+-- found in these contents. The key of a change may have as many bytes as the contents allow.
 abbrev pub LifeBegins : Type 0
-LifeBegins = (b : Book) (w : World) (stripes : ℕ) (found : Opened) (parts : List PartState) (doings : ℕ → Doing)
-    → b ≡ at_start (prefix_of found) parts 64 → IsOneHistory b → HoldApart b → length parts ≡ stripes
-    → w.life ≡ Some (begun_by stripes found) → length w.history ≡ prefix_of found → union_of (maps_of parts) ≡ fold_of w.history → ((j : ℕ) → j < 64
+LifeBegins = (b : Book) (w : World) (stripes : ℕ) (contents : Contents) (found : Opened) (parts : List PartState) (doings : ℕ → Doing)
+    → b ≡ at_start (prefix_of found) parts (key_limit_of contents found) 64 → IsOneHistory b → HoldApart b → length parts ≡ stripes
+    → w.life ≡ Some (begun_by stripes contents found) → length w.history ≡ prefix_of found → union_of (maps_of parts) ≡ fold_of w.history → ((j : ℕ) → j < 64
     → doings j ≡ Rests) → Stand b w doings
 
 -- ---- the keeper

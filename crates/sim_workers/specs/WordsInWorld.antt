@@ -15,6 +15,7 @@ pub record WordsStand (b : Book) (w : World) (l : Life) : Type 0 where
   pub apart : HoldApart b
   pub stripes : l.stripes ≡ b.stripes
   pub first : l.first ≡ b.opening.first
+  pub key_limit : b.opening.key_limit ≡ l.key_limit
   pub before : List Command
   pub count : length before ≡ b.opening.first
   pub map : b.opening.map ≡ fold_of before

@@ -66,6 +66,7 @@ pub record ConcernsNone (w w' : World) (l l' : Life) : Type 0 where
   pub history : w'.history ≡ w.history
   pub stripes : l'.stripes ≡ l.stripes
   pub first : l'.first ≡ l.first
+  pub key_limit : l'.key_limit ≡ l.key_limit
   pub jobs : l'.jobs ≡ l.jobs
   pub seen : l'.seen ≡ l.seen
   pub places : l'.places ≡ l.places
@@ -88,6 +89,7 @@ pub record KeeperMoves (b b' : Book) (w w' : World) (l l' : Life) : Type 0 where
   pub history : w'.history ≡ w.history
   pub stripes : l'.stripes ≡ l.stripes
   pub first : l'.first ≡ l.first
+  pub key_limit : l'.key_limit ≡ l.key_limit
   pub jobs : l'.jobs ≡ l.jobs
   pub seen : l'.seen ≡ l.seen
   pub durable : l'.durable ≡ (record_of 64 b').published

@@ -1,5 +1,5 @@
 //! Laws of the workers of a life, each as the contract of a function.
-ghost use Rattle.sim_workers.specs.Laws.{ChangeFits, ReadFits, StepFits, ReleaseFits, ChangeBegins, ReadBegins, ReleaseBegins, CallSteps, ReleaseSteps, WalksAreUnderWay, CallsLeave, ReleasesLeave, LifeBegins, FreeIsTold, HeldIsTold, KeeperRests, KeeperSteps};
+ghost use Rattle.sim_workers.specs.Laws.{ChangeFits, ReadFits, StepFits, ReleaseFits, ChangeBegins, ChangeTurnedDown, ReadBegins, ReleaseBegins, CallSteps, ReleaseSteps, WalksAreUnderWay, CallsLeave, ReleasesLeave, LifeBegins, FreeIsTold, HeldIsTold, KeeperRests, KeeperSteps};
 
 /// Which events of a worker fit, by what it does.
 pub fn fits_of_workers()
@@ -14,9 +14,10 @@ pub fn beginnings_of_lives()
     ensures stand { LifeBegins }
 {}
 
-/// A worker begins a walk.
+/// A worker begins a walk; or its change is refused before that, since its key is too long.
 pub fn beginnings_of_walks()
     ensures change { ChangeBegins }
+    ensures turned_down { ChangeTurnedDown }
     ensures read { ReadBegins }
     ensures release { ReleaseBegins }
 {}

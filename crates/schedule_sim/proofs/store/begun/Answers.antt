@@ -9,5 +9,5 @@ use Rattle.schedule_sim.proofs.store.begun.Goals as goal
 pub returns-clause-did : goal.returns-clause-did
 returns-clause-did c = λ w least fails_at old none made exact syncs opened closed.
     let entries = subst (λ parts. map entry_of c.in_ok-entries.entries.items ≡ finite.entries (union_of (maps_of parts))) c.deref.ensures.value c.in_ok-entries.ensures in
-    opened_did (record { front = c.steps_between_lives.ensures.front; parts = c.laws_of_parts.ensures.union }) w least c.args.stripes fails_at c.args.calls old c.args.keeper c.args.parts.items c.args.first _ _ closed none made exact syncs
+    opened_did (record { front = c.steps_between_lives.ensures.front; parts = c.laws_of_parts.ensures.union }) w least c.args.stripes fails_at c.args.calls old c.args.keeper c.args.parts.items c.args.first c.args.limit _ _ closed none made exact syncs
     opened entries c.in_ok-life.ensures.life

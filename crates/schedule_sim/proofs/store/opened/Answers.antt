@@ -19,6 +19,11 @@ returns-else-names_within-clause-did c = if_ok c.begun.result _ _ (λ x did w le
     (sym c.names_within.ensures ∙ c.if-names_within.false) (c.in_ok-calls-in-Ok.ensures (traced_states c.plan_opening.new.disk) c.calls-before.ensures) (c.in-Ok.ensures.made tt) c.in-Ok.ensures.calls (c.in-Ok.ensures.ok tt).1
     (planned w least c.args.disk c.plan_opening.new.disk c.plan_opening.ensures closed)) c.begun.ensures.did
 
+pub returns-else-names_within-clause-told : goal.returns-else-names_within-clause-told
+returns-else-names_within-clause-told c = c.begun.ensures.told c.args.disk
+    (subst (λ (states : List Files). length states + c.in_ok-calls-in-Ok.calls ≡ length (traced_states c.in-Ok.keeper.disk)) c.plan_opening.ensures
+    (c.in_ok-calls-in-Ok.ensures (traced_states c.plan_opening.new.disk) c.calls-before.ensures))
+
 pub returns-in_ok-calls-in-Err-clause-did : goal.returns-in_ok-calls-in-Err-clause-did
 returns-in_ok-calls-in-Err-clause-did c = if_ok c.refused.result _ _ (λ x did w least closed. did w least c.args.stripes c.plan_opening.new.disk
     (c.in_ok-calls-in-Err.ensures (traced_states c.plan_opening.new.disk) c.calls-before.ensures) (c.in-Err.ensures.tried tt) c.in-Err.ensures.stopped (c.in-Err.ensures.err tt).1
