@@ -4,10 +4,10 @@ docs/FORMATS.md and docs/PROTOCOL.md say the same in words. Nothing here is take
 """
 import dataclasses
 
-KEY_LIMIT, TEXT_LIMIT, FRAME_LIMIT = 255, 4096, 16384
-# How many bytes the length of a key takes in files and in requests.
-FILE_KEY_WIDTH, REQUEST_KEY_WIDTH = 1, 2
-OPEN_GATE, VERSION = 0xA5, 1
+KEY_LIMIT, TEXT_LIMIT, FRAME_LIMIT = 4095, 4096, 16384
+# How many bytes the length of a key takes in the files of each version, and in requests.
+FILE_KEY_WIDTHS, REQUEST_KEY_WIDTH = {1: 1, 2: 2}, 2
+OPEN_GATE = 0xA5
 # Refusals by number, and their names as the program prints them.
 NULL_VALUE, KEY_TOO_LONG, VALUE_TOO_LONG, UNKNOWN_METHOD, UNKNOWN_FUNCTION, BAD_FRAME = 1, 2, 3, 4, 5, 6
 NOT_FORMATTED, DAMAGED, WRONG_VERSION, NOT_TEXT = 11, 12, 13, 18
@@ -321,7 +321,7 @@ def is_sealed(content):
 
 def checked_head(files, file):
     content = files[file]
-    if content[1] != VERSION:
+    if content[1] not in FILE_KEY_WIDTHS:
         raise Refused(WRONG_VERSION)
     generation = int.from_bytes(content[2:10], "big")
     if generation % 2 != file:
@@ -329,7 +329,7 @@ def checked_head(files, file):
     return generation
 
 
-def section_at(read, file, stripe, stripes):
+def section_at(read, file, stripe, stripes, key_width):
     """The mark of the stripe's section, and its entries."""
     start = read.at
     try:
@@ -340,7 +340,7 @@ def section_at(read, file, stripe, stripes):
     for _ in range(count):
         start = read.at
         try:
-            key, value = read.key(FILE_KEY_WIDTH), read.value()
+            key, value = read.key(key_width), read.value()
         except Refused:
             raise Refused(DAMAGED, file, start) from None
         if (last is not None and key.encode() <= last) or stripe_of(key, stripes) != stripe:
@@ -360,7 +360,7 @@ def checkpoint_in(files, file):
         raise Refused(DAMAGED, file, 28)
     read, marks, entries = Bytes(content[:36 + length], 36), [], {}
     for stripe in range(stripes):
-        mark, found = section_at(read, file, stripe, stripes)
+        mark, found = section_at(read, file, stripe, stripes, FILE_KEY_WIDTHS[content[1]])
         marks.append(mark)
         entries.update(found)
     if read.rest():
@@ -370,14 +370,14 @@ def checkpoint_in(files, file):
     return low, stripes, marks, entries
 
 
-def batch_in(body, expected):
+def batch_in(body, expected, key_width):
     """The changes of a batch whose frame has this body, or None if it is none that may come next."""
     read = Bytes(body)
     try:
         first, count = read.number(8), read.number(4)
         if first != expected or not 1 <= count <= 65536 or first + count >= 1 << 64 or len(body) > (1 << 20) - 5:
             return None
-        records = [record_at(read, FILE_KEY_WIDTH) for _ in range(count)]
+        records = [record_at(read, key_width) for _ in range(count)]
     except Refused:
         return None
     return None if read.rest() else records
@@ -389,7 +389,7 @@ def log_in(files, generation, low):
     content, changes, at = files[file], [], 17
     if len(content) < 18:
         raise Refused(DAMAGED, file, 0)
-    if content[0] != VERSION:
+    if content[0] not in FILE_KEY_WIDTHS:
         raise Refused(WRONG_VERSION)
     for place, wanted in ((1, generation), (9, low)):
         if int.from_bytes(content[place:place + 8], "big") != wanted:
@@ -404,7 +404,7 @@ def log_in(files, generation, low):
             if length != 8 or int.from_bytes(body, "big") != generation + 1:
                 raise Refused(DAMAGED, file, at)
             return changes, True, at
-        records = batch_in(body, low + len(changes)) if kind == b"\1" else None
+        records = batch_in(body, low + len(changes), FILE_KEY_WIDTHS[content[0]]) if kind == b"\1" else None
         if records is None:
             raise Refused(DAMAGED, file, at)
         changes += records

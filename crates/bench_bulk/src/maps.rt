@@ -42,10 +42,10 @@ fn empty(alloc: Global) -> Result<DurableMap<MemDisk>, Refusal> {
     let count = StripeCount::new(STRIPES).ok_or(Refusal::WrongPhase)?;
     let mut disk = MemDisk::new(alloc);
     format(alloc, &mut disk, count)?;
-    let Ok((keeper, parts, first)) = open_parts(alloc, disk, count) else {
+    let Ok((keeper, parts, first, limit)) = open_parts(alloc, disk, count) else {
         return Err(Refusal::Failed);
     };
-    match DurableMap::new(alloc, keeper, parts, first) {
+    match DurableMap::new(alloc, keeper, parts, first, limit) {
         Ok(map) => Ok(map),
         Err((_disk, refusal)) => Err(refusal),
     }

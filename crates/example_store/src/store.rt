@@ -42,10 +42,10 @@ pub fn open<R: Files<File = File>>(
         Ok(()) | Err(Refusal::AlreadyFormatted) => {}
         Err(refusal) => return Err(refusal),
     }
-    let Ok((keeper, parts, first)) = open_parts(alloc, disk, stripes) else {
+    let Ok((keeper, parts, first, limit)) = open_parts(alloc, disk, stripes) else {
         return Err(Refusal::Failed);
     };
-    match DurableMap::new(alloc, keeper, parts, first) {
+    match DurableMap::new(alloc, keeper, parts, first, limit) {
         Ok(map) => Ok(map),
         Err((_disk, refusal)) => Err(refusal),
     }

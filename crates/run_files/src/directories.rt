@@ -52,7 +52,7 @@ fn refused_text(alloc: Global, mut disk: MemDisk, refusal: Refusal) -> Result<St
 
 fn open(alloc: Global, disk: MemDisk, stripes: StripeCount) -> Result<String, Refusal> {
     match open_parts(alloc, disk, stripes) {
-        Ok((keeper, parts, first)) => opened_text(alloc, &keeper, &parts, first),
+        Ok((keeper, parts, first, _)) => opened_text(alloc, &keeper, &parts, first),
         Err((disk, refusal)) => refused_text(alloc, disk, refusal),
     }
 }

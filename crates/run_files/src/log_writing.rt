@@ -11,10 +11,11 @@ use crate::fills::{failure_of, stop};
 use call_text::refusal_text;
 use disk_model::{Disk, Failure, Fill, MemDisk};
 use gate_log::{Found, GateLog, Phase, Scan, commit_staged};
-use log_records::{Version, record_len};
+use log_records::record_len;
 use map_types::{Change, Command, Key, Refusal, Value};
 use run_cases::number;
 use std::alloc::Global;
+use store_layout::NEW_VERSION;
 use ticket_order::{Entry, Ticket};
 
 /// How many frames are read, at most.
@@ -47,7 +48,11 @@ fn stage_one(log: &mut GateLog, command: Command) -> Result<(), Refusal>
     if ticket > 1000 {
         return Err(Refusal::TicketsSpent);
     }
-    let _len = record_len(Version::First, &command);
+    let version = log.version();
+    if command.key.is_above(version.key_limit()) {
+        return Err(Refusal::KeyTooLong);
+    }
+    let _len = record_len(version, &command);
     log.stage(&[Entry {
         ticket: Ticket::new(ticket),
         command,
@@ -65,8 +70,13 @@ fn stage_two(log: &mut GateLog, one: Command, other: Command) -> Result<(), Refu
     if ticket > 1000 {
         return Err(Refusal::TicketsSpent);
     }
-    let _one_len = record_len(Version::First, &one);
-    let _other_len = record_len(Version::First, &other);
+    let version = log.version();
+    let limit = version.key_limit();
+    if one.key.is_above(limit) || other.key.is_above(limit) {
+        return Err(Refusal::KeyTooLong);
+    }
+    let _one_len = record_len(version, &one);
+    let _other_len = record_len(version, &other);
     log.stage(&[
         Entry {
             ticket: Ticket::new(ticket),
@@ -320,7 +330,7 @@ pub(crate) fn log_resumed(alloc: Global, words: &[&str]) -> Result<String, Refus
     if gate > 1 << 41 {
         return Err(Refusal::WrongPhase);
     }
-    let mut log = GateLog::resume(alloc, 6, 0, gate as usize, 7);
+    let mut log = GateLog::resume(alloc, NEW_VERSION, 6, 0, gate as usize, 7);
     if log.phase() != Phase::Idle {
         return Err(Refusal::WrongPhase);
     }

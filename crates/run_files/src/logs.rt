@@ -11,12 +11,13 @@ use ticket_order::Entry;
 /// How many frames are read, at most.
 const MOST_FRAMES: u32 = 10;
 
-// The tickets and the records of a batch.
+// The tickets and the records of a batch, in the form of a request, whatever the version of the log.
 fn records(alloc: Global, entries: &[Entry]) -> Result<String, Refusal> {
     let mut bytes = Vec::new(alloc);
     for entry in entries {
         put_number(8, entry.ticket.number(), &mut bytes)?;
-        encode(Version::First, &entry.command, &mut bytes)?;
+        let _key = entry.command.key.as_str();
+        encode(Version::Second, &entry.command, &mut bytes)?;
     }
     Ok(hexadecimal(alloc, &bytes)?)
 }

@@ -50,10 +50,10 @@ pub(crate) fn made<D: Disk + Drop, R: AllocGlobal + Wait>(
 pub(crate) fn running<R: Host>(rt: &R, case: &Case<'_>) -> Result<DurableMap<DirDisk<Unknown>>> {
     let alloc = rt.alloc();
     let disk = made(rt, new_directory(rt)?, case)?;
-    let Ok((keeper, parts, first)) = open_parts(alloc, disk, case.stripes) else {
+    let Ok((keeper, parts, first, limit)) = open_parts(alloc, disk, case.stripes) else {
         return Err(anyhow!("the directory is not opened"));
     };
-    match DurableMap::new(alloc, keeper, parts, first) {
+    match DurableMap::new(alloc, keeper, parts, first, limit) {
         Ok(map) => Ok(map),
         Err((_disk, refusal)) => Err(anyhow!("refused {refusal}")),
     }
@@ -104,10 +104,10 @@ fn open_shown<D: Disk + Drop, R: AllocGlobal + Print>(
 /// Shows what was opened with its parts; else the refusal, and hands back the disk.
 fn parts_shown<D: Disk + Drop, R: AllocGlobal + Print>(
     rt: &R,
-    answer: Result<(Keeper<D>, Vec<Part>, u64), (D, Refusal)>,
+    answer: Result<(Keeper<D>, Vec<Part>, u64, u16), (D, Refusal)>,
 ) -> Result<Option<D>> {
     match answer {
-        Ok((_keeper, parts, first)) => {
+        Ok((_keeper, parts, first, _)) => {
             println!(rt; "opened {first}")?;
             for (stripe, part) in parts.iter().enumerate() {
                 print!(rt; "  part {stripe}:")?;

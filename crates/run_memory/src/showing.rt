@@ -109,7 +109,11 @@ pub(crate) fn show_stripes<R: AllocGlobal + Print>(
 /// How many commands are in hand in a row, staged and committed, the phase of the log, and that of
 /// the checkpoint with how many sections it was given.
 pub(crate) fn show_keeper<R: Print, D: Disk>(rt: &R, keeper: &Keeper<D>) -> io::Result<()> {
-    let run = keeper.sweeper.in_hand.longest_run(MOST).count;
+    let run = keeper
+        .sweeper
+        .in_hand
+        .longest_run(keeper.log.version(), MOST)
+        .count;
     let staged = keeper.staged.len();
     let committed = keeper.committed();
     let phase = keeper.log.phase();

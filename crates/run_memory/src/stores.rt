@@ -26,7 +26,8 @@ pub(crate) struct Joined<D: Disk + Drop> {
 fn keepers_pass(stripes: &Stripes) -> Result<Pass, Refusal>
     ensures own { IfOk result (λ pass. IsPassOf stripes.now pass) }
     ensures opening { IfOk result (λ pass. (recorded pass).opening ≡ begun_with stripes.now) }
-    ensures unused { IfOk result (λ pass. IsUnused (begun_with stripes.now).first (recorded pass)) }
+    ensures unused { IfOk result (λ pass. IsUnused (begun_with stripes.now).first
+        (begun_with stripes.now).key_limit (recorded pass)) }
 {
     let pass = stripes.pass()?;
     if !pass.is_keeper() {

@@ -50,7 +50,7 @@ fn opened<R: Host + AllocGlobal>(
     let alloc = rt.alloc();
     let disk = DirDisk::open(rt, alloc, directory, Unknown)?;
     match open_parts(alloc, disk, stripes) {
-        Ok((_keeper, parts, first)) => {
+        Ok((_keeper, parts, first, _)) => {
             let mut entries = 0usize;
             for part in &parts {
                 entries = entries.saturating_add(part.len());

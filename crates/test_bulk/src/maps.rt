@@ -73,10 +73,10 @@ pub(crate) fn open_over(
     let count = StripeCount::new(stripes).ok_or(Refusal::WrongPhase)?;
     let mut disk = formatted(alloc, count)?;
     disk.plan(failure);
-    let Ok((keeper, parts, first)) = open_parts(alloc, disk, count) else {
+    let Ok((keeper, parts, first, limit)) = open_parts(alloc, disk, count) else {
         return Err(Refusal::Failed);
     };
-    match DurableMap::new(alloc, keeper, parts, first) {
+    match DurableMap::new(alloc, keeper, parts, first, limit) {
         Ok(map) => Ok(map),
         Err((_disk, refusal)) => Err(refusal),
     }

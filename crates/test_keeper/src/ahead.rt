@@ -18,8 +18,8 @@ use ticket_order::Steps;
 /// How many zeros are written ahead.
 const AHEAD: usize = 100;
 
-/// The log with eight commands of 8,455 bytes each in one batch, its gate closed.
-const LENGTH: usize = 17 + 1 + 17 + 8 * 8455 + 1;
+/// The log with eight commands of 12,296 bytes each in one batch, its gate closed.
+const LENGTH: usize = 17 + 1 + 17 + 8 * 12_296 + 1;
 
 /// How many commands are found after n device calls of the ninth one's batch. They are given for
 /// each fill of a stop: the old bytes, the new ones, 0, an open gate, and 255.
@@ -73,7 +73,7 @@ fn found<R: Abort>(rt: &R, alloc: Global, disk: MemDisk, fill: &Fill) -> Result<
     let mut disk = disk;
     disk.stop(fill)?;
     match open_parts(alloc, disk, sixteen(rt)) {
-        Ok((_keeper, _parts, first)) => Ok(first),
+        Ok((_keeper, _parts, first, _)) => Ok(first),
         Err((_disk, refusal)) => Err(refusal),
     }
 }

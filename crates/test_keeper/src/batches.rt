@@ -23,7 +23,7 @@ fn text_of(bytes: &[u8]) -> Result<&str, Refusal> {
 }
 
 fn longest_key(alloc: Global) -> Result<Key, Refusal> {
-    Key::new(alloc, text_of(&[b'x'; 255])?)
+    Key::new(alloc, text_of(&[b'x'; 4095])?)
 }
 
 fn longest_value(alloc: Global) -> Result<Value, Refusal> {
@@ -36,7 +36,7 @@ fn longest_change(alloc: Global) -> Result<Change, Refusal> {
     Ok(Change::ReplaceIf { old, new })
 }
 
-// A change whose record takes 8,455 bytes, the most that there is.
+// A change whose record takes 12,296 bytes, the most that there is.
 pub(crate) fn longest(alloc: Global) -> Result<Command, Refusal> {
     let key = longest_key(alloc)?;
     let change = longest_change(alloc)?;
@@ -96,7 +96,7 @@ fn a_batch_has_65536_records(rt: HostRuntime) -> Result<(), Refusal> {
     let alloc = rt.alloc();
     let command = put(alloc, "a", 5)?;
     let staged = stage_times(&rt, alloc, sixteen(&rt), &command, 65_537)?;
-    assert!(rt; staged == (65_536, 17 + 786_449 + 1, 1));
+    assert!(rt; staged == (65_536, 17 + 851_985 + 1, 1));
     Ok(())
 }
 
@@ -104,8 +104,8 @@ fn a_batch_has_65536_records(rt: HostRuntime) -> Result<(), Refusal> {
 fn a_frame_has_1048576_bytes(rt: HostRuntime) -> Result<(), Refusal> {
     let alloc = rt.alloc();
     let command = longest(alloc)?;
-    let staged = stage_times(&rt, alloc, sixteen(&rt), &command, 125)?;
-    assert!(rt; staged == (124, 17 + 1_048_437 + 1, 1));
+    let staged = stage_times(&rt, alloc, sixteen(&rt), &command, 86)?;
+    assert!(rt; staged == (85, 17 + 1_045_177 + 1, 1));
     Ok(())
 }
 

@@ -22,10 +22,10 @@ use ticket_order::Steps;
 const FILE_BYTES: usize = 100;
 
 /// The checkpoint of two stripes, sealed while the keys `a` and `b` were changed.
-const CHECKPOINT: [u8; 82] = [
-    0xA5, 1, 0, 0, 0, 0, 0, 0, 0, 1, 0, 0, 0, 0, 0, 0, 0, 0, 0, 0, 0, 0, 0, 0, 0, 4, 0, 2, 0, 0, 0,
-    0, 0, 0, 0, 0x2E, 0, 0, 0, 0, 0, 0, 0, 2, 0, 0, 0, 1, 1, 0x62, 1, 0, 0, 0, 0, 0, 0, 0, 2, 0, 0,
-    0, 0, 0, 0, 0, 4, 0, 0, 0, 1, 1, 0x61, 1, 0, 0, 0, 0, 0, 0, 0, 4,
+const CHECKPOINT: [u8; 84] = [
+    0xA5, 2, 0, 0, 0, 0, 0, 0, 0, 1, 0, 0, 0, 0, 0, 0, 0, 0, 0, 0, 0, 0, 0, 0, 0, 4, 0, 2, 0, 0, 0,
+    0, 0, 0, 0, 0x30, 0, 0, 0, 0, 0, 0, 0, 2, 0, 0, 0, 1, 0, 1, 0x62, 1, 0, 0, 0, 0, 0, 0, 0, 2, 0,
+    0, 0, 0, 0, 0, 0, 4, 0, 0, 0, 1, 0, 1, 0x61, 1, 0, 0, 0, 0, 0, 0, 0, 4,
 ];
 
 // Makes `times` device calls of the checkpoint.
@@ -195,7 +195,7 @@ fn first_number(alloc: Global, part: &Part) -> Option<i64> {
 // What is opened after a stop: how many commands, and the number that `b` and `a` are mapped to, which
 // are the only keys of their stripes.
 fn opened(alloc: Global, disk: MemDisk, stripes: StripeCount) -> Option<(u64, [i64; 2])> {
-    let Ok((_, parts, first)) = open_parts(alloc, disk, stripes) else {
+    let Ok((_, parts, first, _)) = open_parts(alloc, disk, stripes) else {
         return None;
     };
     let mut numbers = [0; 2];

@@ -99,12 +99,12 @@ fn lengths(disk: &mut MemDisk) -> [usize; 3] {
 }
 
 /// The log that a rotation begins behind one command.
-const SECOND_LOG: [u8; 18] = [1, 0, 0, 0, 0, 0, 0, 0, 1, 0, 0, 0, 0, 0, 0, 0, 1, 0];
+const SECOND_LOG: [u8; 18] = [2, 0, 0, 0, 0, 0, 0, 0, 1, 0, 0, 0, 0, 0, 0, 0, 1, 0];
 
 /// The gate and the header of the checkpoint that the second life seals.
 const SEALED_HEADER: [u8; 36] = [
-    0xA5, 1, 0, 0, 0, 0, 0, 0, 0, 1, 0, 0, 0, 0, 0, 0, 0, 1, 0, 0, 0, 0, 0, 0, 0, 2, 0, 1, 0, 0, 0,
-    0, 0, 0, 0, 0x22,
+    0xA5, 2, 0, 0, 0, 0, 0, 0, 0, 1, 0, 0, 0, 0, 0, 0, 0, 1, 0, 0, 0, 0, 0, 0, 0, 2, 0, 1, 0, 0, 0,
+    0, 0, 0, 0, 0x24,
 ];
 
 // Whether the file begins so.
@@ -117,7 +117,7 @@ fn begins(disk: &mut MemDisk, file: usize, expected: &[u8; 36]) -> bool
 
 // How many commands are opened, and how many entries.
 fn counted(alloc: Global, disk: MemDisk, stripes: StripeCount) -> Option<(u64, usize)> {
-    let Ok((_, parts, first)) = open_parts(alloc, disk, stripes) else {
+    let Ok((_, parts, first, _)) = open_parts(alloc, disk, stripes) else {
         return None;
     };
     let mut entries = 0usize;
@@ -132,12 +132,12 @@ fn a_checkpoint_over_two_lives(rt: HostRuntime) -> Result<(), Refusal> {
     let alloc = rt.alloc();
     let one = StripeCount::new(1).ok_or(Refusal::WrongPhase)?;
     let mut disk = rotate_once(&rt, alloc, one)?;
-    assert_eq!(rt; lengths(&mut disk), [0, 62, 18]);
+    assert_eq!(rt; lengths(&mut disk), [0, 63, 18]);
     assert!(rt; reads(&mut disk, 3, &SECOND_LOG));
     assert!(rt; disk.stop(&Fill::Old).is_ok());
     let (mark, mut disk) = seal_once(&rt, alloc, disk, one)?;
     assert_eq!(rt; mark, 2);
-    assert_eq!(rt; lengths(&mut disk), [70, 62, 48]);
+    assert_eq!(rt; lengths(&mut disk), [72, 63, 49]);
     assert!(rt; begins(&mut disk, 1, &SEALED_HEADER));
     assert!(rt; disk.stop(&Fill::Old).is_ok());
     assert_eq!(rt; counted(alloc, disk, one), Some((2, 2)));

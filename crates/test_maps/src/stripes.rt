@@ -157,7 +157,7 @@ fn a_pass_learns_of_positions(rt: HostRuntime) -> Result<(), Refusal> {
 // Stripes of an empty map, after `first` changes.
 fn empty_after(alloc: Global, count: StripeCount, first: u64) -> Result<Stripes, Refusal> {
     let parts = empty_parts(alloc, count)?;
-    Stripes::new(alloc, count, parts, first)
+    Stripes::new(alloc, count, parts, first, Key::MOST_BYTES as u16)
 }
 
 fn is_absent_at(released: &Released, number: u64) -> bool {

@@ -11,8 +11,8 @@ fn key_of(alloc: Global, len: usize) -> Result<usize, Refusal> {
 
 #[test]
 fn keys_up_to_their_limit(rt: HostRuntime) {
-    assert_eq!(rt; key_of(rt.alloc(), 255), Ok(255));
-    assert_eq!(rt; key_of(rt.alloc(), 256), Err(Refusal::KeyTooLong));
+    assert_eq!(rt; key_of(rt.alloc(), 4095), Ok(4095));
+    assert_eq!(rt; key_of(rt.alloc(), 4096), Err(Refusal::KeyTooLong));
 }
 
 fn is_before(alloc: Global, first: &str, second: &str) -> Result<bool, Refusal> {

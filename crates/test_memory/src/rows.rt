@@ -73,7 +73,7 @@ fn a_row_is_one_batch(rt: HostRuntime) -> Result<(), Fail> {
     let (written, len) = answered(&rt, alloc, 64, 2)?;
     assert_eq!(rt; written.len(), 760);
     assert_eq!(rt; written.as_slice(), replies(alloc, 64)?.as_slice());
-    assert_eq!(rt; len, 804);
+    assert_eq!(rt; len, 868);
     Ok(())
 }
 
@@ -82,7 +82,7 @@ fn a_longer_row_is_two_batches(rt: HostRuntime) -> Result<(), Fail> {
     let alloc = rt.alloc();
     let (written, len) = answered(&rt, alloc, 65, 3)?;
     assert_eq!(rt; written.as_slice(), replies(alloc, 65)?.as_slice());
-    assert_eq!(rt; len, 834);
+    assert_eq!(rt; len, 899);
     Ok(())
 }
 

@@ -46,10 +46,10 @@ pub(crate) fn open<R: Abort>(
     let count = StripeCount::new(16).expect(rt, "16 is a count of stripes");
     let mut disk = disk;
     format(alloc, &mut disk, count)?;
-    let Ok((keeper, parts, first)) = open_parts(alloc, disk, count) else {
+    let Ok((keeper, parts, first, limit)) = open_parts(alloc, disk, count) else {
         return Err(Refusal::Failed);
     };
-    match DurableMap::new(alloc, keeper, parts, first) {
+    match DurableMap::new(alloc, keeper, parts, first, limit) {
         Ok(map) => Ok(map),
         Err((_disk, refusal)) => Err(refusal),
     }

@@ -31,10 +31,10 @@ fn new_map(rt: &HostRuntime, directory: &str) -> Result<DurableMap<DirDisk<Unkno
     let count = StripeCount::new(16).ok_or(Refusal::WrongPhase)?;
     let mut disk = DirDisk::create(rt, alloc, directory, Unknown)?;
     format(alloc, &mut disk, count)?;
-    let Ok((keeper, parts, first)) = open_parts(alloc, disk, count) else {
+    let Ok((keeper, parts, first, limit)) = open_parts(alloc, disk, count) else {
         return Err(Fail::from("the directory is opened"));
     };
-    match DurableMap::new(alloc, keeper, parts, first) {
+    match DurableMap::new(alloc, keeper, parts, first, limit) {
         Ok(map) => Ok(map),
         Err((_disk, refusal)) => Err(Fail::from(refusal)),
     }
