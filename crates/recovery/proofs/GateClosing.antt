@@ -68,3 +68,7 @@ module _ {D : Type 0} (states : D → List Files) (failures : D → ℕ) (honest
   comes_shut wrote new one two =
       subst (λ (file : File). IsShut [] [] file) (sym (now_made states failures 0 syncs wrote new two ∙ ap synced (now_made states failures 0 (writes 0 (0 ∷ [])) mid wrote one)))
       (closed_shut (now (states mid) 0))
+
+pub on_ok2 : {E : Type 0} (P S Q : Type 0) (r : Result (Unit {0}) E) → (P → S → Q) → OnOk r P → OnOk r S → OnOk r Q
+on_ok2 P S Q (Ok x) f p s = f p s
+on_ok2 P S Q (Err e) f p s = tt

@@ -17,5 +17,10 @@ mod LogBeginning
 mod Making
 mod NewFiles
 mod FormattingLemmas
+mod Unmoved
+mod OnePass
+mod Sections
+mod Rotation
+mod Upgraded
 pub mod Finding
 pub mod FirstPasses

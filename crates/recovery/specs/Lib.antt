@@ -6,3 +6,4 @@ pub mod Heads
 pub mod Opening
 pub mod Syncing
 pub mod Formatting
+pub mod Upgrading

@@ -4,13 +4,14 @@ ghost use Rattle.map_types.specs.declared.commands.Command.{Command};
 ghost use Rattle.flusher.specs.Fitting.{Fits};
 
 use crate::checkpoints::{capture_one, commit_most, reads, write_times};
-use crate::stores::{advance_times, join, put_by, rejoin};
+use crate::stores::{advance_times, put_by, rejoin};
 use checkpoint_walk::{begin, seal};
 use disk_model::{Disk, Fill, MemDisk};
 use flusher::Keeper;
 use java_hash::StripeCount;
+use log_records::Version;
 use map_types::Refusal;
-use recovery::open_parts;
+use recovery::{format_as, open_parts, upgrade};
 use std::alloc::Global;
 use std::sync::Wait;
 use ticket_order::Steps;
@@ -47,9 +48,16 @@ fn rotate<D: Disk, R: Wait, S: Steps>(
     Ok(())
 }
 
-// The first life of a store of one stripe.
-fn rotate_once<R: Wait>(rt: &R, alloc: Global, one: StripeCount) -> Result<MemDisk, Refusal> {
-    let mut joined = join(alloc, MemDisk::new(alloc), one)?;
+// The first life of a store of one stripe, which is formatted in this version.
+fn rotate_once<R: Wait>(
+    rt: &R,
+    alloc: Global,
+    one: StripeCount,
+    version: Version,
+) -> Result<MemDisk, Refusal> {
+    let mut disk = MemDisk::new(alloc);
+    format_as(alloc, &mut disk, one, version)?;
+    let mut joined = rejoin(alloc, disk, one)?;
     put_by(&joined.stripes, &mut joined.worker, alloc, "a", 5)?;
     let mut steps = joined.stripes.at(&mut joined.pass);
     rotate(rt, &mut joined.keeper, &mut steps)?;
@@ -73,6 +81,25 @@ fn seal_one<D: Disk, R: Wait, S: Steps>(
     seal(keeper)?;
     write_times(keeper, 4);
     Ok(mark)
+}
+
+// A life of a directory of version 01 with one stripe, in which one command is committed.
+fn commit_old<R: Wait>(rt: &R, alloc: Global, one: StripeCount) -> Result<MemDisk, Refusal> {
+    let mut disk = MemDisk::new(alloc);
+    format_as(alloc, &mut disk, one, Version::First)?;
+    let mut joined = rejoin(alloc, disk, one)?;
+    put_by(&joined.stripes, &mut joined.worker, alloc, "a", 5)?;
+    let mut steps = joined.stripes.at(&mut joined.pass);
+    let _one = sweep_one(rt, &mut joined.keeper, &mut steps)?;
+    Ok(joined.keeper.into_disk())
+}
+
+// The same directory, in the newest version.
+fn upgraded(alloc: Global, disk: MemDisk, one: StripeCount) -> Result<MemDisk, Refusal> {
+    match upgrade(alloc, disk, one) {
+        Ok(disk) => Ok(disk),
+        Err((_disk, refusal)) => Err(refusal),
+    }
 }
 
 // The second life: one command more, and the checkpoint is sealed.
@@ -131,7 +158,7 @@ fn counted(alloc: Global, disk: MemDisk, stripes: StripeCount) -> Option<(u64, u
 fn a_checkpoint_over_two_lives(rt: HostRuntime) -> Result<(), Refusal> {
     let alloc = rt.alloc();
     let one = StripeCount::new(1).ok_or(Refusal::WrongPhase)?;
-    let mut disk = rotate_once(&rt, alloc, one)?;
+    let mut disk = rotate_once(&rt, alloc, one, Version::Second)?;
     assert_eq!(rt; lengths(&mut disk), [0, 63, 18]);
     assert!(rt; reads(&mut disk, 3, &SECOND_LOG));
     assert!(rt; disk.stop(&Fill::Old).is_ok());
@@ -140,6 +167,38 @@ fn a_checkpoint_over_two_lives(rt: HostRuntime) -> Result<(), Refusal> {
     assert_eq!(rt; lengths(&mut disk), [72, 63, 49]);
     assert!(rt; begins(&mut disk, 1, &SEALED_HEADER));
     assert!(rt; disk.stop(&Fill::Old).is_ok());
+    assert_eq!(rt; counted(alloc, disk, one), Some((2, 2)));
+    Ok(())
+}
+
+#[test]
+fn a_checkpoint_on_a_directory_of_version_01(rt: HostRuntime) -> Result<(), Refusal> {
+    let alloc = rt.alloc();
+    let one = StripeCount::new(1).ok_or(Refusal::WrongPhase)?;
+    let mut disk = rotate_once(&rt, alloc, one, Version::First)?;
+    assert_eq!(rt; lengths(&mut disk), [0, 62, 18]);
+    assert!(rt; reads(&mut disk, 3, &SECOND_LOG));
+    assert!(rt; disk.stop(&Fill::Old).is_ok());
+    let (mark, mut disk) = seal_once(&rt, alloc, disk, one)?;
+    assert_eq!(rt; mark, 2);
+    assert_eq!(rt; lengths(&mut disk), [72, 62, 49]);
+    assert_eq!(rt; counted(alloc, disk, one), Some((2, 2)));
+    Ok(())
+}
+
+#[test]
+fn a_directory_of_version_01_is_upgraded(rt: HostRuntime) -> Result<(), Refusal> {
+    let alloc = rt.alloc();
+    let one = StripeCount::new(1).ok_or(Refusal::WrongPhase)?;
+    let mut disk = commit_old(&rt, alloc, one)?;
+    assert_eq!(rt; lengths(&mut disk), [0, 48, 0]);
+    let mut disk = upgraded(alloc, disk, one)?;
+    assert_eq!(rt; lengths(&mut disk), [0, 62, 18]);
+    assert!(rt; reads(&mut disk, 3, &SECOND_LOG));
+    let mut disk = upgraded(alloc, disk, one)?;
+    assert_eq!(rt; lengths(&mut disk), [0, 62, 18]);
+    let (_mark, mut disk) = seal_once(&rt, alloc, disk, one)?;
+    assert_eq!(rt; lengths(&mut disk), [72, 62, 49]);
     assert_eq!(rt; counted(alloc, disk, one), Some((2, 2)));
     Ok(())
 }

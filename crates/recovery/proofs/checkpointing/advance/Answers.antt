@@ -1,0 +1,67 @@
+use Rattle.std.proofs.Common.{◌≡◌, [], ℕ, ◌+◌, suc, refl, sym, ap, ◌∙◌, arith}
+use Rattle.std.proofs.lemmas.Result.{err_from_is_err_and}
+use Rattle.map_types.specs.declared.refusals.Refusal.TheVariants.{Failed}
+use Rattle.flusher.specs.declared.keeper.Keeper.{Keeper}
+use Rattle.flusher.specs.Rotating.{logs_of}
+use Rattle.checkpoint_walk.specs.Checkpointing.{Checkpoints, checkpoints_of}
+use Rattle.recovery.specs.Upgrading.{advanced_by, checkpoints_after}
+use Rattle.recovery.proofs.Unmoved.{checkpoint_failed, checkpoint_goes_on, checkpoint_stands, checkpoint_unmoved, err_of, stays, through}
+use Rattle.recovery.proofs.checkpointing.advance.Goals as goal
+
+pub loop-init : goal.loop-init
+loop-init g c = record {
+  unmoved = λ n o p is. is;
+  stands = λ n o p is. stays g.D.Disk.states g.D.Disk.honest n o c.args.keeper.now p is c.args.keeper.now.disk refl c.stops_of_a_keeper.ensures;
+  checkpoints = refl;
+  logs = refl;
+  stripes = refl;
+}
+
+pub advance-requires : goal.advance-requires
+advance-requires g c =
+    let is = c.requires.unmoved in
+    (is.0, [], is.2, (c.loop.invariant.unmoved is.0 is.1 is.2 is.3).fits)
+
+pub returns-in_err-_phase-clause-stands : goal.returns-in_err-_phase-clause-stands
+returns-in_err-_phase-clause-stands g c = λ n o p is.
+    let k = c.loop.keeper in
+    let now = c.loop.invariant.unmoved n o p is in
+    let no_next = ap (λ l. l.next) c.loop.invariant.logs ∙ c.requires.no_rotation in
+    through g.D.Disk.states g.D.Disk.honest o.first o.map c.args.keeper.now.disk k.disk c.advance.new.keeper.disk (c.loop.invariant.stands n o p is)
+    (checkpoint_stands g.D.Disk.states g.D.Disk.honest n o k p now g.D.Disk.failures c.advance.new.keeper c.advance.result no_next c.advance.ensures.rests c.advance.ensures.steps (c.advance.ensures.any_moment n [] p now.fits))
+
+pub returns-in_err-_phase-clause-err : goal.returns-in_err-_phase-clause-err
+returns-in_err-_phase-clause-err g c =
+    let q = err_from_is_err_and c.from_residual.result c.from_residual.ensures.1 in
+    let first = c.requires.unmoved in
+    let no_next = ap (λ l. l.next) c.loop.invariant.logs ∙ c.requires.no_rotation in
+    rw (q.1, q.2)
+    (err_of (λ refusal. refusal ≡ Failed) c.advance.result c.in_err-_phase.field-0.0 c.in_err-_phase.was
+    (checkpoint_failed g.D.Disk.states g.D.Disk.honest first.0 first.1 c.loop.keeper first.2 (c.loop.invariant.unmoved first.0 first.1 first.2 first.3) g.D.Disk.failures c.advance.new.keeper c.advance.result no_next
+    c.advance.ensures.rests c.advance.ensures.steps))
+
+pub loop-preserved : goal.loop-preserved
+loop-preserved g c =
+    let states = g.D.Disk.states in
+    let honest = g.D.Disk.honest in
+    let k = c.loop.keeper in
+    let new = c.advance.new.keeper in
+    let inv = c.loop.invariant in
+    let first = c.requires.unmoved in
+    let no_next = ap (λ l. l.next) inv.logs ∙ c.requires.no_rotation in
+    let one : c.loop.counter + 1 ≡ suc c.loop.counter = omega arith in
+    record {
+      unmoved = λ n o p is.
+          checkpoint_unmoved states honest n o k p (inv.unmoved n o p is) g.D.Disk.failures new c.advance.result no_next c.advance.ensures.rests c.advance.ensures.steps c.in_ok-_phase._phase c.in_ok-_phase.was
+          c.advance.ensures.works (c.advance.ensures.fits n [] p (inv.unmoved n o p is).fits) c.advance.ensures.same;
+      stands = λ n o p is.
+          let now = inv.unmoved n o p is in
+          through states honest o.first o.map c.args.keeper.now.disk k.disk new.disk (inv.stands n o p is)
+          (checkpoint_stands states honest n o k p now g.D.Disk.failures new c.advance.result no_next c.advance.ensures.rests c.advance.ensures.steps (c.advance.ensures.any_moment n [] p now.fits));
+      checkpoints =
+          let now = inv.unmoved first.0 first.1 first.2 first.3 in
+          checkpoint_goes_on states honest first.0 first.1 k first.2 now g.D.Disk.failures new c.advance.result no_next c.advance.ensures.rests c.advance.ensures.steps c.in_ok-_phase._phase c.in_ok-_phase.was
+          ∙ ap (λ (x : Checkpoints). advanced_by x.writer x) inv.checkpoints ∙ ap (λ (m : ℕ). checkpoints_after m (checkpoints_of c.args.keeper.now)) (sym one);
+      logs = ap logs_of c.advance.ensures.same ∙ inv.logs;
+      stripes = ap (λ k. k.stripes) c.advance.ensures.same ∙ inv.stripes;
+    }

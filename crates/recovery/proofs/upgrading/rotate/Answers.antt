@@ -1,0 +1,35 @@
+use Rattle.std.proofs.Common.{[], refl, ◌∙◌, ap}
+use Rattle.flusher.specs.declared.keeper.Keeper.{Keeper}
+use Rattle.recovery.proofs.Unmoved.{begun_unmoved, stays, still, through}
+use Rattle.recovery.proofs.GateClosing.{on_ok}
+use Rattle.recovery.proofs.Rotation.{rotated}
+use Rattle.recovery.proofs.upgrading.rotate.Goals as goal
+
+pub advance-requires : goal.advance-requires
+advance-requires g c =
+    let is = c.requires in
+    (is.0, is.1, is.2, begun_unmoved g.D.Disk.states g.D.Disk.honest is.0 is.1 c.args.keeper.now is.2 is.3 c.begin.new.keeper c.begin.ensures.same (c.begin.ensures.fits is.0 [] is.2 is.3.fits))
+
+pub returns-in_err-begin-clause-stands : goal.returns-in_err-begin-clause-stands
+returns-in_err-begin-clause-stands g c = λ n o p is.
+    stays g.D.Disk.states g.D.Disk.honest n o c.args.keeper.now p is c.begin.new.keeper.disk (ap (λ (x : Keeper _). x.disk) c.begin.ensures.same) c.stops_of_a_keeper.ensures
+
+pub returns-clause-stands : goal.returns-clause-stands
+returns-clause-stands g c = λ n o p is.
+    let states = g.D.Disk.states in
+    let honest = g.D.Disk.honest in
+    let k = c.args.keeper.now in
+    let k1 = c.begin.new.keeper in
+    through states honest o.first o.map k.disk k1.disk c.advance.new.keeper.disk
+    (stays states honest n o k p is k1.disk (ap (λ (x : Keeper _). x.disk) c.begin.ensures.same) c.stops_of_a_keeper.ensures)
+    (c.advance.ensures.stands n o p (begun_unmoved states honest n o k p is k1 c.begin.ensures.same (c.begin.ensures.fits n [] p is.fits)))
+
+pub returns-clause-unmoved : goal.returns-clause-unmoved
+returns-clause-unmoved g c =
+    on_ok _ _ c.advance.result (λ unmoved n o p is.
+    unmoved n o p (begun_unmoved g.D.Disk.states g.D.Disk.honest n o c.args.keeper.now p is c.begin.new.keeper c.begin.ensures.same (c.begin.ensures.fits n [] p is.fits))) c.advance.ensures.unmoved
+
+pub returns-clause-rotated : goal.returns-clause-rotated
+returns-clause-rotated g c =
+    on_ok _ _ c.advance.result (λ logs at.
+    rotated c.args.keeper.now c.begin.new.keeper c.advance.new.keeper c.in_ok-begin.ensures.ok at c.begin.ensures.same logs c.advance.ensures.checkpoint c.advance.ensures.sealed) c.advance.ensures.logs

@@ -1,0 +1,154 @@
+use Rattle.std.proofs.Common.{◌≡◌, ◌⊎◌, true, false, inl, inr, ℕ, Result, Ok, Err, refl, sym, ap, subst, ◌∙◌}
+use Rattle.std.proofs.lemmas.Result.{err_from_is_err_and}
+use Rattle.java_hash.proofs.StripeLaws.{some_stripe}
+use Rattle.disk_model.proofs.MomentLemmas.{in_the_end}
+use Rattle.one_history.specs.Turns.{maps_of, opening_of}
+use Rattle.map_model.specs.Parts.{union_of}
+use Rattle.disk_model.specs.Files.{now}
+use Rattle.store_layout.specs.Opening.{prefix_of, map_of}
+use Rattle.recovery.specs.LogReading.{contents_of}
+use Rattle.recovery.specs.Upgrading.{IsUpgraded, StaysStanding, StandsAt}
+use Rattle.recovery.proofs.SyncingLemmas.{read_is_left}
+use Rattle.recovery.proofs.Upgraded.{either, newest, newest_before, one_found, standing, unchanged, upgraded_kept, upgraded_before}
+use Rattle.recovery.proofs.upgrading.upgrade.Goals as goal
+
+pub returns-then-is_newest-clause-ok : goal.returns-then-is_newest-clause-ok
+returns-then-is_newest-clause-ok g c =
+    let states = g.D.Disk.states in
+    let failures = g.D.Disk.failures in
+    let honest = g.D.Disk.honest in
+    let law = c.laws_of_parts.ensures.union in
+    let n = c.args.stripes.count in
+    let some = some_stripe n c.args.stripes.allowed in
+    let disk = c.args.disk in
+    let k = c.in_ok-keeper.keeper in
+    let parts = c.in_ok-keeper.parts.items in
+    let first = c.in_ok-keeper.first in
+    let limit = c.in_ok-keeper.limit in
+    let ok = c.in_ok-keeper.ensures.ok in
+    standing states failures honest law n some disk k parts first limit ok c.into_disk.result c.in_ok-keeper.ensures.calls
+    (unchanged states failures honest law n some disk k parts first limit ok c.into_disk.result c.into_disk.ensures c.in_ok-keeper.ensures.stops)
+
+pub returns-then-is_newest-clause-upgraded : goal.returns-then-is_newest-clause-upgraded
+returns-then-is_newest-clause-upgraded g c =
+    let states = g.D.Disk.states in
+    let failures = g.D.Disk.failures in
+    let honest = g.D.Disk.honest in
+    let law = c.laws_of_parts.ensures.union in
+    let n = c.args.stripes.count in
+    let some = some_stripe n c.args.stripes.allowed in
+    let disk = c.args.disk in
+    let k = c.in_ok-keeper.keeper in
+    let parts = c.in_ok-keeper.parts.items in
+    let first = c.in_ok-keeper.first in
+    let limit = c.in_ok-keeper.limit in
+    let ok = c.in_ok-keeper.ensures.ok in
+    λ h found holds. upgraded_before states failures honest law n some disk k parts first limit ok c.into_disk.result c.into_disk.ensures c.in_ok-keeper.ensures.stops c.laws_of_opening.ensures.one_way (sym c.version.ensures ∙ c.is_newest.ensures.newest c.if-is_newest.true) h found holds
+
+pub returns-then-is_newest-clause-reads : goal.returns-then-is_newest-clause-reads
+returns-then-is_newest-clause-reads g c =
+    let states = g.D.Disk.states in
+    let failures = g.D.Disk.failures in
+    let honest = g.D.Disk.honest in
+    let law = c.laws_of_parts.ensures.union in
+    let n = c.args.stripes.count in
+    let some = some_stripe n c.args.stripes.allowed in
+    let disk = c.args.disk in
+    let k = c.in_ok-keeper.keeper in
+    let parts = c.in_ok-keeper.parts.items in
+    let first = c.in_ok-keeper.first in
+    let limit = c.in_ok-keeper.limit in
+    let ok = c.in_ok-keeper.ensures.ok in
+    λ h found holds. upgraded_before states failures honest law n some disk k parts first limit ok c.into_disk.result c.into_disk.ensures c.in_ok-keeper.ensures.stops c.laws_of_opening.ensures.one_way (sym c.version.ensures ∙ c.is_newest.ensures.newest c.if-is_newest.true) h found holds (contents_of states c.into_disk.result) (read_is_left (states c.into_disk.result) (g.met.D.Disk.are_coherent c.into_disk.result))
+
+pub returns-in-Ok-clause-ok : goal.returns-in-Ok-clause-ok
+returns-in-Ok-clause-ok g c =
+    let states = g.D.Disk.states in
+    let failures = g.D.Disk.failures in
+    let honest = g.D.Disk.honest in
+    let law = c.laws_of_parts.ensures.union in
+    let n = c.args.stripes.count in
+    let some = some_stripe n c.args.stripes.allowed in
+    let disk = c.args.disk in
+    let k = c.in_ok-keeper.keeper in
+    let parts = c.in_ok-keeper.parts.items in
+    let first = c.in_ok-keeper.first in
+    let limit = c.in_ok-keeper.limit in
+    let ok = c.in_ok-keeper.ensures.ok in
+    subst (λ d. StaysStanding states failures honest disk d) (sym c.into_disk-in-Ok.ensures)
+    (standing states failures honest law n some disk k parts first limit ok c.upgrade_keeper.new.keeper.disk c.in_ok-keeper.ensures.calls c.upgrade_keeper.ensures.stands)
+
+pub returns-in-Err-clause-stopped : goal.returns-in-Err-clause-stopped
+returns-in-Err-clause-stopped g c =
+    let states = g.D.Disk.states in
+    let failures = g.D.Disk.failures in
+    let honest = g.D.Disk.honest in
+    let law = c.laws_of_parts.ensures.union in
+    let n = c.args.stripes.count in
+    let some = some_stripe n c.args.stripes.allowed in
+    let disk = c.args.disk in
+    let k = c.in_ok-keeper.keeper in
+    let parts = c.in_ok-keeper.parts.items in
+    let first = c.in_ok-keeper.first in
+    let limit = c.in_ok-keeper.limit in
+    let ok = c.in_ok-keeper.ensures.ok in
+    inr (subst (λ d. StaysStanding states failures honest disk d) (sym c.into_disk-in-Err.ensures)
+    (standing states failures honest law n some disk k parts first limit ok c.upgrade_keeper.new.keeper.disk c.in_ok-keeper.ensures.calls c.upgrade_keeper.ensures.stands))
+
+pub returns-in-Ok-clause-upgraded : goal.returns-in-Ok-clause-upgraded
+returns-in-Ok-clause-upgraded g c =
+    let states = g.D.Disk.states in
+    let failures = g.D.Disk.failures in
+    let honest = g.D.Disk.honest in
+    let law = c.laws_of_parts.ensures.union in
+    let n = c.args.stripes.count in
+    let some = some_stripe n c.args.stripes.allowed in
+    let disk = c.args.disk in
+    let k = c.in_ok-keeper.keeper in
+    let parts = c.in_ok-keeper.parts.items in
+    let first = c.in_ok-keeper.first in
+    let limit = c.in_ok-keeper.limit in
+    let ok = c.in_ok-keeper.ensures.ok in
+    upgraded_kept states failures honest law n some disk k parts first limit ok c.in_ok-keeper.ensures.calls c.upgrade_keeper.new.keeper c.into_disk-in-Ok.result c.into_disk-in-Ok.ensures c.upgrade_keeper.ensures.stands (opening_of first parts limit)
+    c.in-Ok.ensures.rotated c.stops_of_a_store.ensures.checkpoint c.laws_of_opening.ensures.one_way refl refl
+
+pub returns-in-Ok-clause-reads : goal.returns-in-Ok-clause-reads
+returns-in-Ok-clause-reads g c =
+    let states = g.D.Disk.states in
+    let failures = g.D.Disk.failures in
+    let honest = g.D.Disk.honest in
+    let law = c.laws_of_parts.ensures.union in
+    let n = c.args.stripes.count in
+    let some = some_stripe n c.args.stripes.allowed in
+    let disk = c.args.disk in
+    let k = c.in_ok-keeper.keeper in
+    let parts = c.in_ok-keeper.parts.items in
+    let first = c.in_ok-keeper.first in
+    let limit = c.in_ok-keeper.limit in
+    let ok = c.in_ok-keeper.ensures.ok in
+    λ h found holds. upgraded_kept states failures honest law n some disk k parts first limit ok c.in_ok-keeper.ensures.calls c.upgrade_keeper.new.keeper c.into_disk-in-Ok.result c.into_disk-in-Ok.ensures c.upgrade_keeper.ensures.stands (opening_of first parts limit)
+    c.in-Ok.ensures.rotated c.stops_of_a_store.ensures.checkpoint c.laws_of_opening.ensures.one_way refl refl h found holds (contents_of states c.into_disk-in-Ok.result) (read_is_left (states c.into_disk-in-Ok.result) (g.met.D.Disk.are_coherent c.into_disk-in-Ok.result))
+
+pub returns-in_err-keeper-clause-err : goal.returns-in_err-keeper-clause-err
+returns-in_err-keeper-clause-err g c =
+    let q = err_from_is_err_and c.from_residual.result c.from_residual.ensures.1 in
+    rw (q.1, q.2) (λ h. let e = c.in_err-keeper.ensures.err h in (e.0, inl e.1))
+
+pub returns-in-Ok-clause-untouched : goal.returns-in-Ok-clause-untouched
+returns-in-Ok-clause-untouched g c =
+    let states = g.D.Disk.states in
+    let failures = g.D.Disk.failures in
+    let honest = g.D.Disk.honest in
+    let law = c.laws_of_parts.ensures.union in
+    let n = c.args.stripes.count in
+    let some = some_stripe n c.args.stripes.allowed in
+    let disk = c.args.disk in
+    let k = c.in_ok-keeper.keeper in
+    let parts = c.in_ok-keeper.parts.items in
+    let first = c.in_ok-keeper.first in
+    let limit = c.in_ok-keeper.limit in
+    let ok = c.in_ok-keeper.ensures.ok in
+    λ h found holds newest.
+    let at = c.upgrade_keeper.ensures.stands.was_honest (subst honest c.into_disk-in-Ok.ensures h) in
+    absurd (c.is_newest.ensures.earlier c.if-is_newest.false
+    (c.version.ensures ∙ newest_before states failures honest law n some disk k parts first limit ok c.laws_of_opening.ensures.one_way at found holds newest))
