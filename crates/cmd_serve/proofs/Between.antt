@@ -9,7 +9,6 @@ use Rattle.ticket_order.specs.Records.{call}
 use Rattle.stripe_locks.specs.Holding.{position_of, reply_of}
 use Rattle.stripe_locks.specs.declared.held.Held.{Held}
 use Rattle.durable_map.specs.Durable.{Begins, CompletesAmong, Finishes, GoesOnWith}
-use Rattle.wire_frames.specs.declared.requests.Bulk.{Bulk}
 use Rattle.wire_frames.specs.declared.requests.Request.{Request}
 use Rattle.wire_frames.specs.declared.requests.Request.TheVariants as request
 use Rattle.connections.specs.Dialogue.{Answer}

@@ -1,3 +1,4 @@
 mod Between
 mod Crosses
+mod Opened
 mod Owning

@@ -1,4 +1,5 @@
 pub mod WholeMap
+pub mod Opening
 pub mod Responding
 pub mod Serving
 pub mod Settings

@@ -8,15 +8,12 @@ use Rattle.ticket_order.specs.declared.record.Asked.TheVariants.{Changing, Readi
 use Rattle.stripe_locks.specs.Holding.{IsHeldAt}
 use Rattle.stripe_locks.specs.declared.held.Held.{Held}
 use Rattle.durable_map.specs.Durable.{Begins, CompletesAmong, Finishes}
-use Rattle.store_layout.specs.Opening.{Opened, Holds}
-use Rattle.recovery.specs.LogReading.{contents_of}
-use Rattle.recovery.specs.Syncing.{SyncsAndLooks}
 use Rattle.wire_frames.specs.declared.requests.Bulk.{Bulk}
 use Rattle.wire_frames.specs.declared.requests.Request.{Request}
 use Rattle.wire_frames.specs.declared.requests.Request.TheVariants as request
 use Rattle.connections.specs.Dialogue.{Answer}
 use Rattle.cmd_text.specs.Printing.{PrintsAtMost, PrintsNothing}
-use Rattle.cmd_directory.specs.Directory.{IsNotOpened}
+use Rattle.cmd_serve.specs.Opening.{IsNotServed, IsServed}
 use Rattle.cmd_serve.specs.Settings.{AreNamed}
 use Rattle.cmd_serve.specs.WholeMap.{CompletesBulk}
 use Rattle.cmd_serve.specs.declared.begun.Begun.{Begun}
@@ -120,17 +117,12 @@ pub record Announces (port : ℕ) (w0 w1 : Option (List ℕ)) (status : ℕ) : T
   pub status_is : status ≡ 1
   pub prints : PrintsAtMost (listening_line port) w0 w1
 
--- the disk was opened, and only read: it stands for a map
-pub record IsOpenedTo {D : Type 0} (states : D → List Files) (failures : D → ℕ) (honest : D → Type 0) (old new : D) : Type 0 where
-  pub looks : SyncsAndLooks states failures honest 4 0 old new
-  pub stands : honest new → honest old × ((found : Opened) × Holds (contents_of states old) found)
-
 -- If a server over the disk ends, the status is 1. It prints its line at most, and nothing if opening the disk was refused. `new` is how opening left
 -- the disk.
 pub record Hosts {D : Type 0} (states : D → List Files) (failures : D → ℕ) (honest : D → Type 0) (port : ℕ) (old : D) (w0 w1 : Option (List ℕ)) (status : ℕ) : Type 0 where
   pub new : D
-  pub ends : (IsOpenedTo states failures honest old new × Announces port w0 w1 status)
-      ⊎ ((refusal : Refusal) × IsNotOpened states failures honest old new refusal × PrintsNothing w0 w1 status)
+  pub ends : (IsServed states failures honest old new × Announces port w0 w1 status)
+      ⊎ ((refusal : Refusal) × IsNotServed states failures honest old new refusal × PrintsNothing w0 w1 status)
 
 -- ---- a directory that was opened
 

@@ -5,6 +5,7 @@ pub mod begun;
 pub mod bulk;
 mod idle;
 pub mod laws;
+mod opening;
 #[cfg(test)]
 mod pipeline_tests;
 pub mod pool;

@@ -5,6 +5,7 @@ ghost use Rattle.cmd_text.specs.Printing.{PrintsAtMost};
 ghost use Rattle.cmd_serve.specs.Serving.{Announces, Hosts, ServesOn};
 ghost use Rattle.cmd_serve.specs.Settings.{AreNamed, IsWorkerCount};
 
+use crate::opening::open_map;
 use crate::pool::{Arrivals, workers};
 use crate::worker::{Gate, NoGate};
 use cmd_directory::Directories;
@@ -14,7 +15,6 @@ use durable_map::{DurableMap, Ends, checkpoint_loop, flush_loop};
 use java_hash::StripeCount;
 use log::{Log, error, info, warn};
 use map_types::Refusal;
-use recovery::open_parts;
 use std::alloc::Global;
 use std::io::Write;
 use std::net::{Net, TcpListener, TcpStream};
@@ -309,19 +309,14 @@ pub(crate) fn serve_disk<
     ensures { Hosts D.states D.failures D.honest settings.now.port
         disk (W.contents output.old) (W.contents output.new) result }
 {
-    match open_parts(alloc, disk, settings.stripes) {
-        Ok((keeper, parts, first, limit)) => match DurableMap::new(
-            alloc, keeper, parts, first, limit,
-        ) {
-            Ok(map) => {
-                if let Err(refusal) = map.set_log_ahead(rt, settings.ahead as usize) {
-                    return refuse(alloc, refusal, error);
-                }
-                let server = Server::new(alloc, map, settings, first_error);
-                host(rt, alloc, &server, first, settings, output, error)
+    match open_map(alloc, disk, settings.stripes) {
+        Ok((map, first)) => {
+            if let Err(refusal) = map.set_log_ahead(rt, settings.ahead as usize) {
+                return refuse(alloc, refusal, error);
             }
-            Err((_disk, refusal)) => refuse(alloc, refusal, error),
-        },
+            let server = Server::new(alloc, map, settings, first_error);
+            host(rt, alloc, &server, first, settings, output, error)
+        }
         Err((_disk, refusal)) => {
             if let Some(cause) = first_error.get() {
                 error!(rt; "the directory can't be opened, {cause}");
@@ -333,7 +328,8 @@ pub(crate) fn serve_disk<
 
 /// Serves the map of a directory on a port of this machine, with the words of its command line. It ends
 /// only by being ended. Of its four files those that are absent are made: an empty one may have been left
-/// out of a copy.
+/// out of a copy. A directory whose newest log is of an earlier version is brought to the newest one
+/// first.
 ///
 /// The status is 2 with a text on `error` if the words aren't allowed. It is 1 with `unreadable` on
 /// `error` if the directory's lock or files, the port or `output` fail. It is 1 with `refused` and

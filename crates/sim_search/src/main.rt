@@ -21,6 +21,7 @@ mod plain_map;
 mod random;
 mod reading;
 mod searching;
+mod steps;
 mod stories;
 
 use crate::counts::Counts;

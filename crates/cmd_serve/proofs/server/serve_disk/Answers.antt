@@ -2,7 +2,4 @@ use Rattle.std.proofs.Common.{inl}
 use Rattle.cmd_serve.proofs.server.serve_disk.Goals as goal
 
 pub returns-in_default : goal.returns-in_default
-returns-in_default g c = record {
-  new = c.in-Ok.keeper.disk;
-  ends = inl (record { looks = c.in-Ok.ensures.calls; stands = λ honest. let opened = c.in-Ok.ensures.ok honest in (opened.0, (opened.1.found, opened.1.holds)) }, c.host.ensures);
-}
+returns-in_default g c = record { new = c.in-Ok.ensures.ok.0; ends = inl (c.in-Ok.ensures.ok.1, c.host.ensures) }
