@@ -20,6 +20,19 @@ PROGRAM = os.path.join(os.path.dirname(os.path.abspath(__file__)), "..", "crates
 PORTS = range(12000, 32000)
 REPLY_SECONDS = 30
 START_SECONDS = 60
+# The files of a program from before version 02: one stripe, and a put of 5 to the key a.
+OLD_FILES = {
+    "ckpt-a": "A501" + 24 * "00" + "0001" + "000000000000000C" + 12 * "00",
+    "ckpt-b": "",
+    "log-a": "01" + 16 * "00" + "A5" + "0100000018" + 8 * "00" + "00000001" + "10016101" + "0000000000000005" + "00",
+    "log-b": "",
+}
+# The same after a rotation, while a checkpoint is under way.
+OLD_FILES_ROTATED = {
+    **OLD_FILES,
+    "log-a": OLD_FILES["log-a"][:-2] + "A5" + "0200000008" + "0000000000000001" + "00",
+    "log-b": "01" + "0000000000000001" + "0000000000000001" + "00",
+}
 
 
 class Dchm:
@@ -178,6 +191,13 @@ def first_line(child):
 def init(program, directory):
     os.mkdir(directory)
     subprocess.run([program, "init", directory], check=True, stdout=subprocess.DEVNULL)
+
+
+def write_files(directory, files):
+    """Writes files in the directory, which are given by name in hexadecimal."""
+    for name, content in files.items():
+        with open(os.path.join(directory, name), "wb") as file:
+            file.write(bytes.fromhex(content))
 
 
 @contextlib.contextmanager
