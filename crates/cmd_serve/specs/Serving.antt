@@ -13,7 +13,7 @@ use Rattle.wire_frames.specs.declared.requests.Request.{Request}
 use Rattle.wire_frames.specs.declared.requests.Request.TheVariants as request
 use Rattle.connections.specs.Dialogue.{Answer}
 use Rattle.cmd_text.specs.Printing.{PrintsAtMost, PrintsNothing}
-use Rattle.cmd_serve.specs.Opening.{IsNotServed, IsServed}
+use Rattle.cmd_serve.specs.Opening.{IsNotOpenedNewest, IsOpenedNewest}
 use Rattle.cmd_serve.specs.Settings.{AreNamed}
 use Rattle.cmd_serve.specs.WholeMap.{CompletesBulk}
 use Rattle.cmd_serve.specs.declared.begun.Begun.{Begun}
@@ -121,8 +121,8 @@ pub record Announces (port : ℕ) (w0 w1 : Option (List ℕ)) (status : ℕ) : T
 -- the disk.
 pub record Hosts {D : Type 0} (states : D → List Files) (failures : D → ℕ) (honest : D → Type 0) (port : ℕ) (old : D) (w0 w1 : Option (List ℕ)) (status : ℕ) : Type 0 where
   pub new : D
-  pub ends : (IsServed states failures honest old new × Announces port w0 w1 status)
-      ⊎ ((refusal : Refusal) × IsNotServed states failures honest old new refusal × PrintsNothing w0 w1 status)
+  pub ends : (IsOpenedNewest states failures honest old new × Announces port w0 w1 status)
+      ⊎ ((refusal : Refusal) × IsNotOpenedNewest states failures honest old new refusal × PrintsNothing w0 w1 status)
 
 -- ---- a directory that was opened
 

@@ -1,9 +1,14 @@
 use Rattle.std.proofs.Common.{inl, inr, refl, sym, ap, subst, ◌∙◌}
 use Rattle.std.proofs.lemmas.Result.{err_from_is_err_and}
+use Rattle.java_hash.proofs.StripeLaws.{some_stripe}
 use Rattle.log_records.specs.Layout.{layout_of}
-use Rattle.cmd_serve.specs.Opening.{IsRead, IsServed}
-use Rattle.cmd_serve.specs.Opening.IsNotServed.{not_opened, not_upgraded}
-use Rattle.cmd_serve.proofs.Opened.{as_it_was, newest, opened_again, upgrades}
+use Rattle.durable_map.specs.Maps.{opening_of}
+use Rattle.recovery.specs.LogReading.{contents_of}
+use Rattle.recovery.specs.Upgrading.{IsNewest}
+use Rattle.recovery.proofs.Finding.{opens_with}
+use Rattle.cmd_serve.specs.Opening.{IsEarlier, IsFound, IsOpenedNewest}
+use Rattle.cmd_serve.specs.Opening.IsNotOpenedNewest.{not_opened, not_upgraded}
+use Rattle.cmd_serve.proofs.Opened.{earlier, found_again, newest, upgrades}
 use Rattle.cmd_serve.proofs.opening.open_map.Goals as goal
 
 pub returns-in_err-keeper-clause-err : goal.returns-in_err-keeper-clause-err
@@ -19,10 +24,15 @@ returns-in_err-map-clause-err g c =
     let disk = c.args.disk in
     let k = c.in_ok-keeper in
     let version = newest c.version.result (λ is. absurd (let same = rw is at c.if-eq.ensures in cc)) in
-    let served = as_it_was states failures honest disk k.keeper.disk k.ensures.calls
-    (λ h. let o = k.ensures.ok h in (o.0, (o.1.found, (o.1.holds, sym o.1.log.version ∙ ap layout_of (sym c.version.ensures ∙ version))))) in
+    let found : IsFound states failures honest IsNewest disk k.keeper.disk = record {
+      looks = k.ensures.calls;
+      left = k.ensures.stops;
+      holds = λ h. let o = k.ensures.ok h in (o.0, (o.1.found, (o.1.holds, sym o.1.log.version ∙ ap layout_of (sym c.version.ensures ∙ version))));
+    } in
+    let opened : IsOpenedNewest states failures honest disk k.keeper.disk = record { ready = disk; is_ready = inl refl; is_newest = found } in
     let q = err_from_is_err_and c.from_residual-in_err-map.result c.from_residual-in_err-map.ensures.1 in
-    rw (q.1, q.2) (inl (subst (λ x. IsServed states failures honest disk x) (sym c.in_err-map.ensures.disk) served))
+    let e = c.in_err-map.ensures in
+    rw (q.1, q.2) (inl (subst (λ x. IsOpenedNewest states failures honest disk x) (sym e.disk) opened, e.err))
 
 pub returns-then-eq-clause-ok : goal.returns-then-eq-clause-ok
 returns-then-eq-clause-ok g c =
@@ -32,9 +42,18 @@ returns-then-eq-clause-ok g c =
     let disk = c.args.disk in
     let k = c.in_ok-keeper in
     let version = newest c.version.result (λ is. absurd (let same = rw is at c.if-eq.ensures in cc)) in
-    let served = as_it_was states failures honest disk k.keeper.disk k.ensures.calls
-    (λ h. let o = k.ensures.ok h in (o.0, (o.1.found, (o.1.holds, sym o.1.log.version ∙ ap layout_of (sym c.version.ensures ∙ version))))) in
-    (k.keeper.disk, served)
+    let found : IsFound states failures honest IsNewest disk k.keeper.disk = record {
+      looks = k.ensures.calls;
+      left = k.ensures.stops;
+      holds = λ h. let o = k.ensures.ok h in (o.0, (o.1.found, (o.1.holds, sym o.1.log.version ∙ ap layout_of (sym c.version.ensures ∙ version))));
+    } in
+    let opened : IsOpenedNewest states failures honest disk k.keeper.disk = record { ready = disk; is_ready = inl refl; is_newest = found } in (
+      k.keeper.disk,
+      opened,
+      λ h.
+          opens_with c.laws_of_parts.ensures.union (contents_of states disk) c.args.stripes.count (some_stripe c.args.stripes.count c.args.stripes.allowed)
+          k.keeper k.parts.items k.first k.limit (opening_of c.in_ok-map.map) (k.ensures.ok h).1 c.in_ok-map.ensures.opening,
+    )
 
 pub returns-in_err-upgraded-clause-err : goal.returns-in_err-upgraded-clause-err
 returns-in_err-upgraded-clause-err g c =
@@ -43,10 +62,18 @@ returns-in_err-upgraded-clause-err g c =
     let honest = g.D.Disk.honest in
     let disk = c.args.disk in
     let k = c.in_ok-keeper in
+    let found : IsFound states failures honest IsEarlier disk k.keeper.disk = record {
+      looks = k.ensures.calls;
+      left = k.ensures.stops;
+      holds = λ h.
+          let o = k.ensures.ok h in
+          (o.0, (o.1.found, (o.1.holds, earlier c.version.result (λ is. absurd (let same = rw is at c.if-eq.ensures in cc)) (contents_of states disk) o.1.found (ap layout_of c.version.ensures ∙ o.1.log.version))));
+    } in
+    let d = c.into_disk.result in
+    let is_earlier = subst (λ x. IsFound states failures honest IsEarlier disk x) (sym c.into_disk.ensures) found in
     let q = err_from_is_err_and c.from_residual-in_err-upgraded.result c.from_residual-in_err-upgraded.ensures.1 in
-    let is : IsRead states failures honest disk k.keeper.disk = record { looks = k.ensures.calls; was_honest = λ h. (k.ensures.ok h).0; left = k.ensures.stops } in
-    let is_read = subst (λ x. IsRead states failures honest disk x) (sym c.into_disk.ensures) is in
-    rw (q.1, q.2) (inr (not_upgraded (record { opened = c.into_disk.result; is_read = is_read; stopped = c.in_err-upgraded.ensures.stopped; reason = c.in_err-upgraded.ensures.err })))
+    let e = c.in_err-upgraded.ensures in
+    rw (q.1, q.2) (inr (not_upgraded (record { opened = d; is_earlier = is_earlier; stopped = e.stopped; reason = e.err })))
 
 pub returns-in_err-keeper-2-clause-err : goal.returns-in_err-keeper-2-clause-err
 returns-in_err-keeper-2-clause-err g c =
@@ -55,12 +82,20 @@ returns-in_err-keeper-2-clause-err g c =
     let honest = g.D.Disk.honest in
     let disk = c.args.disk in
     let k = c.in_ok-keeper in
+    let found : IsFound states failures honest IsEarlier disk k.keeper.disk = record {
+      looks = k.ensures.calls;
+      left = k.ensures.stops;
+      holds = λ h.
+          let o = k.ensures.ok h in
+          (o.0, (o.1.found, (o.1.holds, earlier c.version.result (λ is. absurd (let same = rw is at c.if-eq.ensures in cc)) (contents_of states disk) o.1.found (ap layout_of c.version.ensures ∙ o.1.log.version))));
+    } in
+    let d = c.into_disk.result in
+    let is_earlier = subst (λ x. IsFound states failures honest IsEarlier disk x) (sym c.into_disk.ensures) found in
     let u = c.in_ok-upgraded in
-    let is : IsRead states failures honest disk k.keeper.disk = record { looks = k.ensures.calls; was_honest = λ h. (k.ensures.ok h).0; left = k.ensures.stops } in
-    let is_read = subst (λ x. IsRead states failures honest disk x) (sym c.into_disk.ensures) is in
-    let up = upgrades states failures honest disk c.into_disk.result u.upgraded is_read u.ensures.ok u.ensures.reads in
+    let up = upgrades states failures honest disk d u.upgraded is_earlier u.ensures.ok u.ensures.reads in
     let q = err_from_is_err_and c.from_residual-in_err-keeper-2.result c.from_residual-in_err-keeper-2.ensures.1 in
-    rw (q.1, q.2) (inr (not_opened u.upgraded (inr up) (record { stopped = c.in_err-keeper-2.ensures.stopped; reason = c.in_err-keeper-2.ensures.err })))
+    let e = c.in_err-keeper-2.ensures in
+    rw (q.1, q.2) (inr (not_opened u.upgraded (inr up) (record { stopped = e.stopped; reason = e.err })))
 
 pub returns-in_err-map-2-clause-err : goal.returns-in_err-map-2-clause-err
 returns-in_err-map-2-clause-err g c =
@@ -69,14 +104,23 @@ returns-in_err-map-2-clause-err g c =
     let honest = g.D.Disk.honest in
     let disk = c.args.disk in
     let k = c.in_ok-keeper in
+    let found : IsFound states failures honest IsEarlier disk k.keeper.disk = record {
+      looks = k.ensures.calls;
+      left = k.ensures.stops;
+      holds = λ h.
+          let o = k.ensures.ok h in
+          (o.0, (o.1.found, (o.1.holds, earlier c.version.result (λ is. absurd (let same = rw is at c.if-eq.ensures in cc)) (contents_of states disk) o.1.found (ap layout_of c.version.ensures ∙ o.1.log.version))));
+    } in
+    let d = c.into_disk.result in
+    let is_earlier = subst (λ x. IsFound states failures honest IsEarlier disk x) (sym c.into_disk.ensures) found in
     let u = c.in_ok-upgraded in
-    let is : IsRead states failures honest disk k.keeper.disk = record { looks = k.ensures.calls; was_honest = λ h. (k.ensures.ok h).0; left = k.ensures.stops } in
-    let is_read = subst (λ x. IsRead states failures honest disk x) (sym c.into_disk.ensures) is in
-    let up = upgrades states failures honest disk c.into_disk.result u.upgraded is_read u.ensures.ok u.ensures.reads in
+    let up = upgrades states failures honest disk d u.upgraded is_earlier u.ensures.ok u.ensures.reads in
     let l = c.in_ok-keeper-2 in
-    let served = opened_again states failures honest disk u.upgraded l.keeper.disk up l.ensures.calls (λ h. (l.ensures.ok h).0) in
+    let again = found_again states failures honest disk u.upgraded l.keeper.disk up l.ensures.calls l.ensures.stops (λ h. (l.ensures.ok h).0) in
+    let opened : IsOpenedNewest states failures honest disk l.keeper.disk = record { ready = u.upgraded; is_ready = inr up; is_newest = again } in
     let q = err_from_is_err_and c.from_residual-in_err-map-2.result c.from_residual-in_err-map-2.ensures.1 in
-    rw (q.1, q.2) (inl (subst (λ x. IsServed states failures honest disk x) (sym c.in_err-map-2.ensures.disk) served))
+    let e = c.in_err-map-2.ensures in
+    rw (q.1, q.2) (inl (subst (λ x. IsOpenedNewest states failures honest disk x) (sym e.disk) opened, e.err))
 
 pub returns-clause-ok : goal.returns-clause-ok
 returns-clause-ok g c =
@@ -85,10 +129,23 @@ returns-clause-ok g c =
     let honest = g.D.Disk.honest in
     let disk = c.args.disk in
     let k = c.in_ok-keeper in
+    let found : IsFound states failures honest IsEarlier disk k.keeper.disk = record {
+      looks = k.ensures.calls;
+      left = k.ensures.stops;
+      holds = λ h.
+          let o = k.ensures.ok h in
+          (o.0, (o.1.found, (o.1.holds, earlier c.version.result (λ is. absurd (let same = rw is at c.if-eq.ensures in cc)) (contents_of states disk) o.1.found (ap layout_of c.version.ensures ∙ o.1.log.version))));
+    } in
+    let d = c.into_disk.result in
+    let is_earlier = subst (λ x. IsFound states failures honest IsEarlier disk x) (sym c.into_disk.ensures) found in
     let u = c.in_ok-upgraded in
-    let is : IsRead states failures honest disk k.keeper.disk = record { looks = k.ensures.calls; was_honest = λ h. (k.ensures.ok h).0; left = k.ensures.stops } in
-    let is_read = subst (λ x. IsRead states failures honest disk x) (sym c.into_disk.ensures) is in
-    let up = upgrades states failures honest disk c.into_disk.result u.upgraded is_read u.ensures.ok u.ensures.reads in
+    let up = upgrades states failures honest disk d u.upgraded is_earlier u.ensures.ok u.ensures.reads in
     let l = c.in_ok-keeper-2 in
-    let served = opened_again states failures honest disk u.upgraded l.keeper.disk up l.ensures.calls (λ h. (l.ensures.ok h).0) in
-    (l.keeper.disk, served)
+    let again = found_again states failures honest disk u.upgraded l.keeper.disk up l.ensures.calls l.ensures.stops (λ h. (l.ensures.ok h).0) in
+    let opened : IsOpenedNewest states failures honest disk l.keeper.disk = record { ready = u.upgraded; is_ready = inr up; is_newest = again } in (
+      l.keeper.disk,
+      opened,
+      λ h.
+          opens_with c.laws_of_parts.ensures.union (contents_of states u.upgraded) c.args.stripes.count (some_stripe c.args.stripes.count c.args.stripes.allowed)
+          l.keeper l.parts.items l.first l.limit (opening_of c.in_ok-map-2.map) (l.ensures.ok h).1 c.in_ok-map-2.ensures.opening,
+    )
