@@ -17,8 +17,8 @@ impl<D: Disk + Drop> DurableMap<D> {
     /// key, and not until the change is durable: a pass may begin other calls before it finishes this
     /// one.
     ///
-    /// `Failed` if the store has failed, `TicketsSpent` if 2^62 changes were made, and `NoMemory`: then
-    /// nothing was changed.
+    /// `KeyTooLong` if the key is above the limit, `Failed` if the store has failed, `TicketsSpent` if
+    /// 2^62 changes were made, and `NoMemory`: then nothing was changed.
     pub fn begin_change<R: Wait>(
         &self,
         rt: &R,
@@ -94,7 +94,8 @@ impl<D: Disk + Drop> DurableMap<D> {
     /// Makes a change, and returns once it is durable.
     ///
     /// `Failed` if the store has failed: the change was made or not, and may be found again or not
-    /// once the directory is opened anew. `TicketsSpent` if 2^62 changes were made. `NoMemory`.
+    /// once the directory is opened anew. `KeyTooLong` if the key is above the limit, `TicketsSpent` if
+    /// 2^62 changes were made, and `NoMemory`: then nothing was changed.
     pub fn change<R: Wait>(
         &self,
         rt: &R,

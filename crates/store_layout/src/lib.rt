@@ -14,9 +14,6 @@ pub use checkpoint_phase::CheckpointPhase;
 pub use log_phase::Phase;
 use log_records::Version;
 
-/// The version byte of each file.
-pub const VERSION: u8 = 1;
-
 /// The version of each new generation.
 pub const NEW_VERSION: Version = Version::Second;
 
