@@ -1,9 +1,9 @@
 -- A capture by the only pass of words in which no change was made.
-use Rattle.std.proofs.Common.{◌≡◌, ◌≢◌, ◌⊎◌, inl, inr, ⊎_elim, ℕ, ◌+◌, ◌≤◌, max, List, [], ◌∷◌, length, Option, None, Some, Result, Ok, Err, refl, sym, ap, subst, ◌∙◌, arith}
+use Rattle.std.proofs.Common.{◌≡◌, ◌≢◌, ◌⊎◌, inl, inr, ℕ, ◌+◌, List, [], ◌∷◌, length, Option, None, Some, Result, Ok, Err, refl, sym, ap, subst, ◌∙◌, arith}
 use Rattle.disk_model.specs.Files.{Files}
 use Rattle.map_types.specs.declared.commands.Command.{Command}
 use Rattle.map_types.specs.declared.refusals.Refusal.{Refusal}
-use Rattle.map_types.specs.declared.refusals.Refusal.TheVariants.{Failed as failed, LogFull, NoMemory, WrongPhase}
+use Rattle.map_types.specs.declared.refusals.Refusal.TheVariants.{LogFull, NoMemory}
 use Rattle.ticket_order.specs.declared.record.Opening.{Opening}
 use Rattle.ticket_order.specs.declared.record.Record.{Record}
 use Rattle.ticket_order.specs.declared.record.StepMade.{StepMade}
@@ -12,18 +12,17 @@ use Rattle.ticket_order.specs.declared.walk.Walk.{Walk}
 use Rattle.ticket_order.specs.Records.{reach}
 use Rattle.ticket_order.specs.Legality.{last_of}
 use Rattle.ticket_order.specs.StepRules.{Rises}
-use Rattle.ticket_order.specs.Walks.{Give, Kind, Look, MakesOne, Take, Ticket, kind_of, next_kind}
+use Rattle.ticket_order.specs.Walks.{Give, Kind, Look, MakesOne, Ticket, kind_of, next_kind}
 use Rattle.one_history.specs.declared.book.Book.{Book}
 use Rattle.one_history.specs.Turns.{record_of}
 use Rattle.one_history.specs.Moves.{BookMoves, Raises, WordsMove}
 use Rattle.plain_words.specs.declared.at.At.{At}
 use Rattle.checkpoint_file.specs.States.{CheckpointState, with_section}
 use Rattle.flusher.specs.declared.keeper.Keeper.{Keeper}
-use Rattle.flusher.specs.Fitting.{Fits}
 use Rattle.flusher.specs.KeeperSteps.{is_walking}
 use Rattle.checkpoint_walk.specs.Capturing.{HasLooked, HasTaken}
-use Rattle.checkpoint_walk.specs.Walking.{AfterStep, AfterTake, AfterWalk, FitsBy, FitsWalking, GivesSection, LooksAt, PutsBack, TakesStripe, kind_next}
-use Rattle.recovery.specs.Upgrading.{IsGivenAt, IsRefusedBehind, IsUnmoved, IsUnmovedWith}
+use Rattle.checkpoint_walk.specs.Walking.{AfterStep, AfterTake, AfterWalk, FitsBy, FitsWalking, GivesSection, LooksAt, PutsBack, TakesStripe}
+use Rattle.recovery.specs.Upgrading.{IsGivenAt, IsRefusedBehind, IsUnmovedWith}
 
 -- ---- the words
 

@@ -1,10 +1,7 @@
 -- A rotation is committed, after which the newest log is in the newest version.
-use Rattle.std.proofs.Common.{◌≡◌, ◌≢◌, ◌⊎◌, inl, inr, ℕ, ◌+◌, ◌<◌, ◌≤◌, List, [], ◌++◌, length, Bool, true, false, Option, None, Some, Ok, refl, sym, ap, subst, ◌∙◌, arith}
-use Rattle.disk_model.specs.Files.{Contents, Files, Leaves, now}
-use Rattle.map_model.specs.Maps.{Map}
-use Rattle.ticket_order.specs.declared.record.Opening.{Opening}
+use Rattle.std.proofs.Common.{◌≡◌, ◌⊎◌, inl, inr, ℕ, ◌+◌, List, [], length, Option, None, Some, refl, sym, ap, subst, ◌∙◌}
+use Rattle.disk_model.specs.Files.{Files}
 use Rattle.ticket_order.specs.declared.record.Record.{Record}
-use Rattle.ticket_order.specs.Legality.{history_of}
 use Rattle.java_hash.specs.declared.stripe_count.StripeCount.{StripeCount}
 use Rattle.atomic_methods.specs.PartState.{PartState}
 use Rattle.one_history.specs.declared.book.Book.{Book}
@@ -13,7 +10,6 @@ use Rattle.flusher.specs.Fitting.{Fits, IsUnused}
 use Rattle.flusher.specs.KeeperSteps.{is_walking}
 use Rattle.recovery.specs.Opening.{IsAtStart}
 use Rattle.gate_log.specs.States.{LogState, begun}
-use Rattle.checkpoint_file.specs.States.{CheckpointState, begun as first_writer}
 use Rattle.store_layout.specs.declared.log_phase.Phase.TheVariants.{Idle}
 use Rattle.flusher.specs.declared.keeper.Keeper.{Keeper}
 use Rattle.flusher.specs.Rotating.{Logs, logs_of}

@@ -1,5 +1,5 @@
 -- The sections of a checkpoint that is taken while no change is made.
-use Rattle.std.proofs.Common.{◌≡◌, ◌⊎◌, inl, inr, ℕ, ◌+◌, ◌<◌, ◌≤◌, max, List, [], Option, None, Some, IfSome, Bool, true, false, refl, sym, ap, subst, ◌∙◌, arith}
+use Rattle.std.proofs.Common.{◌≡◌, ◌⊎◌, inl, inr, ℕ, ◌+◌, ◌<◌, ◌≤◌, List, [], Option, None, Some, IfSome, Bool, true, false, refl, sym, ap, subst, ◌∙◌, arith}
 use Rattle.disk_model.specs.Files.{Files}
 use Rattle.map_types.specs.declared.refusals.Refusal.{Refusal}
 use Rattle.map_types.specs.declared.refusals.Refusal.TheVariants.{Failed, TooEarly, WrongPhase}

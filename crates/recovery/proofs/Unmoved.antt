@@ -1,5 +1,5 @@
 -- A keeper that commits and stages nothing: what its calls leave.
-use Rattle.std.proofs.Common.{◌≡◌, ◌≢◌, ◌⊎◌, inl, inr, ⊎_elim, ℕ, zero, suc, ◌+◌, ◌-◌, ◌<◌, ◌≤◌, List, [], ◌∷◌, ◌++◌, length, take, Option, None, Some, Result, Ok, Err, OnOk, OnErr, IfOk, IfErr, true, false, refl, sym, ap, subst, ◌∙◌, arith}
+use Rattle.std.proofs.Common.{◌≡◌, ◌≢◌, ℕ, ◌+◌, ◌-◌, List, [], length, take, Option, None, Some, Result, Ok, Err, OnOk, IfOk, IfErr, true, false, refl, sym, ap, subst, ◌∙◌, arith}
 use Rattle.disk_model.specs.Files.{Files, now}
 use Rattle.disk_model.specs.Gates.{Call}
 use Rattle.disk_model.specs.Moments.{AtEachMoment}
@@ -25,7 +25,7 @@ use Rattle.flusher.specs.declared.keeper.Keeper.{Keeper}
 use Rattle.flusher.specs.declared.sweeper.Sweeper.{Sweeper}
 use Rattle.flusher.specs.Fitting.{Fits, StopsFit, done_after}
 use Rattle.flusher.specs.KeeperSteps.{IsPast, is_walking}
-use Rattle.flusher.specs.Rotating.{Logs, StepsLogs, broken, due_by, due_in, due_of, ended_in, logs_of, rotated_in, stepped, stepped_by}
+use Rattle.flusher.specs.Rotating.{StepsLogs, broken, due_by, due_in, due_of, ended_in, logs_of, rotated_in, stepped, stepped_by}
 use Rattle.disk_model.specs.Calls.{Fails, Makes}
 use Rattle.store_layout.specs.Checkpoints.{checkpoint_file}
 use Rattle.store_layout.specs.Logs.{log_file}

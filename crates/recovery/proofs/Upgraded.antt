@@ -1,6 +1,6 @@
 -- What a directory stands for once it is upgraded, and which version its newest log has.
-use Rattle.std.proofs.Common.{◌≡◌, ◌≢◌, ◌⊎◌, inl, inr, ℕ, ◌+◌, ◌%◌, ◌<◌, ◌≤◌, List, [], ◌++◌, length, Bool, true, false, Option, None, Some, Result, Ok, Err, refl, sym, ap, subst, ◌∙◌, arith}
-use Rattle.disk_model.specs.Files.{Contents, Files, Leaves, MayLeave, now}
+use Rattle.std.proofs.Common.{◌≡◌, ◌≢◌, ◌⊎◌, inl, inr, ℕ, ◌+◌, ◌<◌, List, ◌++◌, Bool, true, false, Option, None, Some, Result, Ok, refl, sym, ap, subst, ◌∙◌, arith}
+use Rattle.disk_model.specs.Files.{Contents, Files, Leaves, now}
 use Rattle.disk_model.proofs.MomentLemmas.{in_the_end, no_call, weaker}
 use Rattle.map_types.specs.declared.refusals.Refusal.{Refusal}
 use Rattle.map_model.specs.Laws.{PartsMakeTheMap}
@@ -16,7 +16,7 @@ use Rattle.ticket_order.specs.Legality.{history_of}
 use Rattle.one_history.specs.Turns.{maps_of}
 use Rattle.store_layout.specs.Checkpoints.{Checkpoint, checkpoint_file}
 use Rattle.store_layout.specs.Logs.{Batch, log_file, new_layout, new_version}
-use Rattle.store_layout.specs.Readings.{Reading, closed, ended}
+use Rattle.store_layout.specs.Readings.{closed, ended}
 use Rattle.store_layout.specs.Opening.{AreLogs, Holds, IsCheckpointIn, IsClosedIn, IsEndedIn, IsOlder, Opened as FoundStore, StandsFor, log_layout, map_of, newest_by, newest_of, prefix_of}
 use Rattle.store_layout.specs.OpeningLaws.{OpensOneWay}
 use Rattle.store_layout.specs.declared.checkpoint_phase.CheckpointPhase.TheVariants as phase
@@ -24,7 +24,6 @@ use Rattle.store_layout.specs.declared.log_phase.Phase.TheVariants.{Idle}
 use Rattle.store_layout.proofs.OwnLayouts.{log_reads, own_of}
 use Rattle.store_layout.proofs.ReadingLemmas.{one_reading}
 use Rattle.store_layout.proofs.Versions.{room_for}
-use Rattle.store_layout.specs.Logs.{layout_for}
 use Rattle.checkpoint_file.specs.States.{CheckpointState, begun as first_writer}
 use Rattle.gate_log.specs.States.{LogState, begun}
 use Rattle.gate_log.specs.LogStates as log
@@ -32,12 +31,11 @@ use Rattle.gate_log.proofs.StandingLemmas.{reads_in}
 use Rattle.store_invariant.specs.Laws.{IsUnsealing, StopsUseCheckpoint}
 use Rattle.store_invariant.specs.StoreStates.{LogsStand}
 use Rattle.flusher.specs.declared.keeper.Keeper.{Keeper}
-use Rattle.flusher.specs.Fitting.{HoldsFor, StopsFit, store_of}
-use Rattle.recovery.proofs.Unmoved.{stands_at}
+use Rattle.flusher.specs.Fitting.{HoldsFor, store_of}
 use Rattle.recovery.specs.LogReading.{GoesOnIn, contents_of}
 use Rattle.recovery.specs.Opening.{IsOpenedAs}
 use Rattle.recovery.specs.Syncing.{LeavesOnly, SyncsAndLooks}
-use Rattle.recovery.specs.Upgrading.{HasRotated, IsNewest, IsUnmoved, IsUpgraded, KeepsFound, StandsAt, StandsThroughout, StaysStanding}
+use Rattle.recovery.specs.Upgrading.{HasRotated, IsNewest, IsUnmoved, IsUpgraded, StandsAt, StandsThroughout, StaysStanding}
 
 ok_inj : (a b : FoundStore) → ◌≡◌ {A = Result FoundStore Refusal} (Ok a) (Ok b) → a ≡ b
 ok_inj a b e = cc

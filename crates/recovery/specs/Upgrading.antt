@@ -57,8 +57,7 @@ pub record StaysStanding {D : Type 0} (states : D → List Files) (failures : D 
   pub was_honest : honest after → honest disk
   pub keeps : honest after → KeepsFound states disk middle after
 
--- Refusals behind an opening: a device call failed, memory was wanting, a stripe has too many entries for a section, or
--- no generation is left.
+-- one of the four refusals that may come behind an opening
 abbrev pub IsRefusedBehind : Refusal → Type 0
 IsRefusedBehind refusal = (refusal ≡ Failed) ⊎ ((refusal ≡ NoMemory) ⊎ ((refusal ≡ LogFull) ⊎ (refusal ≡ WrongPhase)))
 
@@ -121,8 +120,7 @@ pub record IsGivenAt (most : ℕ) (old new : Option CheckpointState) : Type 0 wh
   pub is : new ≡ Some (with_section mark entries state)
   pub low : mark ≤ most
 
--- The newest log was begun anew, in the newest version, and has no batch. None is to follow it, and the checkpoint that
--- goes with it is begun.
+-- The newest log was begun anew, in the newest version, and has no batch. None is to follow it, and a checkpoint is begun.
 pub record HasRotated {D : Type 0} (keeper : Keeper D) : Type 0 where
   pub log : keeper.log ≡ record (begun (keeper.sealed + 1) keeper.log.committed) { phase = Idle }
   pub next : keeper.next ≡ None

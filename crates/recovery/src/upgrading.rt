@@ -29,6 +29,7 @@ use map_types::Refusal;
 use plain_words::{At, PlainWords};
 use std::alloc::Global;
 use store_invariant::laws::stops_of_a_store;
+use store_layout::NEW_VERSION;
 use store_layout::laws::laws_of_opening;
 
 /// The calls of a rotation: the header of the next log is written and synced, and the end frame of the
@@ -72,7 +73,7 @@ fn rotate<D: Disk>(keeper: &mut Keeper<D>) -> Result<(), Refusal>
         ((n : ℕ) (o : Opening) (p : Record) → IsUnmoved D.states D.honest n o keeper.old p
         → IsUnmoved D.states D.honest n o keeper.new p) }
 
-    // If the newest log was that of the sealed checkpoint, the next one is it now.
+    // If the newest log was that of the sealed checkpoint, the next log is the newest now.
     ensures rotated { OnOk result
         (keeper.old.log.generation ≡ keeper.old.sealed → HasRotated keeper.new) }
     ensures err { IfErr result IsRefusedBehind }
@@ -82,7 +83,7 @@ fn rotate<D: Disk>(keeper: &mut Keeper<D>) -> Result<(), Refusal>
     advance(keeper, ROTATION_CALLS)
 }
 
-// The same, once a checkpoint that is under way is sealed.
+// The same, once the checkpoint of the newest log is sealed.
 fn rotate_sealed<D: Disk>(keeper: &mut Keeper<D>, steps: &mut At<'_>) -> Result<(), Refusal>
     // No change was made, and neither a rotation nor a checkpoint is begun.
     requires unmoved { (o : Opening)
@@ -96,7 +97,7 @@ fn rotate_sealed<D: Disk>(keeper: &mut Keeper<D>, steps: &mut At<'_>) -> Result<
         steps.old.words.now
         → StandsThroughout D.states D.honest o.first o.map keeper.old.disk keeper.new.disk }
 
-    // The newest log was that of the sealed checkpoint or the next. Then it has rotated.
+    // If the newest log was that of the sealed checkpoint or of the next, it has rotated.
     ensures rotated { OnOk result
         ((o : Opening)
         → IsUnmovedWith D.states D.honest o keeper.old steps.old.pass
@@ -151,16 +152,13 @@ fn is_newest(version: Version) -> bool
     ensures newest { result ≡ true → version ≡ new_version }
     ensures earlier { result ≡ false → version ≢ new_version }
 {
-    match version {
-        Version::First => false,
-        Version::Second => true,
-    }
+    version == NEW_VERSION
 }
 
 /// Brings the directory to the newest version. It opens it, and if its newest log is of an earlier
-/// version, seals a checkpoint that is under way and commits a rotation: the next log is in the newest
-/// version. Else it writes nothing. It has words of its own, takes no pass of others and waits for
-/// nobody. The disk is handed back, also with a refusal.
+/// version, commits a rotation: the next log is in the newest version. If the newest log isn't that of
+/// the sealed checkpoint, its own checkpoint is taken and sealed before. Else it writes nothing. It
+/// uses the words of one thread, and never waits. The disk is handed back, also with a refusal.
 pub fn upgrade<D: Disk>(alloc: Global, disk: D, stripes: StripeCount) -> Result<D, (D, Refusal)>
     // Nothing is written unless the directory opens; then no stop loses what it stands for.
     ensures ok { IfOk result (StaysStanding D.states D.failures D.honest disk) }
@@ -182,10 +180,14 @@ pub fn upgrade<D: Disk>(alloc: Global, disk: D, stripes: StripeCount) -> Result<
         → Holds (contents_of D.states disk) found
         → IsUpgraded (prefix_of found) (map_of found) (contents_of D.states after)) }
 
-    // If it was so before, nothing is written.
+    // If it was so before, nothing is written, and no other refusal comes than these two.
     ensures untouched { IfOk result (λ after. D.honest after → (found : Opened)
         → Holds (contents_of D.states disk) found → IsNewest (contents_of D.states disk) found
         → SyncsAndLooks D.states D.failures D.honest 4 0 disk after) }
+    ensures unwritten { IfErr result (λ x. D.honest x.0 → (found : Opened)
+        → Holds (contents_of D.states disk) found → IsNewest (contents_of D.states disk) found
+        → Stopped D.states D.failures D.honest 4 disk x.0 x.1
+        × ((x.1 ≡ Refusal.Failed) ⊎ (x.1 ≡ Refusal.NoMemory))) }
 {
     laws_of_parts();
     laws_of_opening();

@@ -1,7 +1,6 @@
 use Rattle.std.proofs.Common.{◌≡◌, [], ℕ, ◌+◌, suc, refl, sym, ap, ◌∙◌, arith}
 use Rattle.std.proofs.lemmas.Result.{err_from_is_err_and}
 use Rattle.map_types.specs.declared.refusals.Refusal.TheVariants.{Failed}
-use Rattle.flusher.specs.declared.keeper.Keeper.{Keeper}
 use Rattle.flusher.specs.Rotating.{logs_of}
 use Rattle.checkpoint_walk.specs.Checkpointing.{Checkpoints, checkpoints_of}
 use Rattle.recovery.specs.Upgrading.{advanced_by, checkpoints_after}

@@ -1,15 +1,10 @@
-use Rattle.std.proofs.Common.{◌≡◌, ◌≢◌, ◌∷◌, [], ℕ, List, Option, None, Some, Result, Ok, Err, OnOk, sym, ap, subst, ◌∙◌}
+use Rattle.std.proofs.Common.{◌≡◌, [], ℕ, None, sym, ap, ◌∙◌}
 use Rattle.std.proofs.lemmas.Result.{err_from_is_err_and}
-use Rattle.map_types.specs.declared.refusals.Refusal.{Refusal}
 use Rattle.map_types.specs.declared.refusals.Refusal.TheVariants.{Failed, WrongPhase}
-use Rattle.ticket_order.specs.declared.walk.Walk.{Walk}
-use Rattle.ticket_order.specs.Walks.{Give, Kind, Look, Take, Ticket, next_kind}
-use Rattle.one_history.specs.Turns.{record_of}
+use Rattle.ticket_order.specs.Walks.{Give, Look, Take, Ticket, next_kind}
 use Rattle.plain_words.specs.declared.at.At.{At}
 use Rattle.flusher.specs.declared.keeper.Keeper.{Keeper}
-use Rattle.checkpoint_walk.specs.Walking.{FitsBy, kind_next}
-use Rattle.recovery.specs.Upgrading.{IsRefusedBehind}
-use Rattle.recovery.proofs.Unmoved.{err_of}
+use Rattle.checkpoint_walk.specs.Walking.{kind_next}
 use Rattle.recovery.proofs.OnePass.{captures_one, captures_two, given_at, gives, has_looked, looks, no_refusal, not_failed, puts_back, refused_behind, same_back, same_by, same_frame, same_given, same_place, same_two, start_fits, taken, takes, unmoved_then}
 use Rattle.recovery.proofs.checkpointing.capture.Goals as goal
 

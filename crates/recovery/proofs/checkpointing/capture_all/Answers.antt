@@ -1,4 +1,4 @@
-use Rattle.std.proofs.Common.{◌≡◌, ◌+◌, ◌<◌, ℕ, refl, sym, ap, ◌∙◌, arith}
+use Rattle.std.proofs.Common.{◌≡◌, refl, ap, ◌∙◌, arith}
 use Rattle.java_hash.specs.declared.stripe_count.StripeCount.{StripeCount}
 use Rattle.one_history.specs.Turns.{record_of}
 use Rattle.flusher.specs.declared.keeper.Keeper.{Keeper}

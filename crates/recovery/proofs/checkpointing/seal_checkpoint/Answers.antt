@@ -1,15 +1,13 @@
-use Rattle.std.proofs.Common.{◌≡◌, ◌⊎◌, ◌+◌, refl, [], Err, sym, ap, ◌∙◌, Result}
+use Rattle.std.proofs.Common.{◌≡◌, ◌⊎◌, ◌+◌, [], Err, ap, ◌∙◌}
 use Rattle.std.proofs.lemmas.Result.{err_from_is_err_and}
 use Rattle.one_history.specs.Turns.{record_of}
 use Rattle.ticket_order.specs.declared.record.Opening.{Opening}
-use Rattle.map_types.specs.declared.refusals.Refusal.{Refusal}
 use Rattle.map_types.specs.declared.refusals.Refusal.TheVariants.{Failed, TooEarly, WrongPhase}
 use Rattle.flusher.specs.declared.keeper.Keeper.{Keeper}
-use Rattle.flusher.specs.Rotating.{Logs, logs_of}
-use Rattle.recovery.specs.Upgrading.{IsRefusedBehind, IsUnmoved, IsUnmovedWith, StandsThroughout}
+use Rattle.recovery.specs.Upgrading.{IsUnmoved, IsUnmovedWith, StandsThroughout}
 use Rattle.recovery.proofs.GateClosing.{on_ok}
 use Rattle.recovery.proofs.Unmoved.{begun_unmoved, err_of, stays, still, through}
-use Rattle.recovery.proofs.Sections.{opens, opens_sealed, published_all, seal_refused, sealing_unmoved, seals, unmoved_with}
+use Rattle.recovery.proofs.Sections.{opens, published_all, seal_refused, sealing_unmoved, seals, unmoved_with}
 use Rattle.recovery.proofs.checkpointing.seal_checkpoint.Goals as goal
 
 pub advance-requires-clause-unmoved : goal.advance-requires-clause-unmoved

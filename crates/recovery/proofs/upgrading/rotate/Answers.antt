@@ -1,6 +1,6 @@
-use Rattle.std.proofs.Common.{[], refl, ◌∙◌, ap}
+use Rattle.std.proofs.Common.{[], ap}
 use Rattle.flusher.specs.declared.keeper.Keeper.{Keeper}
-use Rattle.recovery.proofs.Unmoved.{begun_unmoved, stays, still, through}
+use Rattle.recovery.proofs.Unmoved.{begun_unmoved, stays, through}
 use Rattle.recovery.proofs.GateClosing.{on_ok}
 use Rattle.recovery.proofs.Rotation.{rotated}
 use Rattle.recovery.proofs.upgrading.rotate.Goals as goal

@@ -1,4 +1,4 @@
-use Rattle.std.proofs.Common.{◌≡◌, ◌⊎◌, ◌+◌, inl, inr, ℕ, sym, ap, ◌∙◌}
+use Rattle.std.proofs.Common.{◌≡◌, sym, ap, ◌∙◌}
 use Rattle.one_history.specs.Turns.{record_of}
 use Rattle.flusher.specs.Rotating.{Logs}
 use Rattle.recovery.proofs.GateClosing.{on_ok2}

@@ -1,15 +1,12 @@
-use Rattle.std.proofs.Common.{◌≡◌, ◌⊎◌, true, false, inl, inr, ℕ, Result, Ok, Err, refl, sym, ap, subst, ◌∙◌}
+use Rattle.std.proofs.Common.{inl, inr, refl, sym, subst, ◌∙◌}
 use Rattle.std.proofs.lemmas.Result.{err_from_is_err_and}
 use Rattle.java_hash.proofs.StripeLaws.{some_stripe}
-use Rattle.disk_model.proofs.MomentLemmas.{in_the_end}
-use Rattle.one_history.specs.Turns.{maps_of, opening_of}
-use Rattle.map_model.specs.Parts.{union_of}
-use Rattle.disk_model.specs.Files.{now}
-use Rattle.store_layout.specs.Opening.{prefix_of, map_of}
+use Rattle.one_history.specs.Turns.{opening_of}
+use Rattle.store_layout.specs.Opening.{map_of, prefix_of}
 use Rattle.recovery.specs.LogReading.{contents_of}
-use Rattle.recovery.specs.Upgrading.{IsUpgraded, StaysStanding, StandsAt}
+use Rattle.recovery.specs.Upgrading.{StaysStanding}
 use Rattle.recovery.proofs.SyncingLemmas.{read_is_left}
-use Rattle.recovery.proofs.Upgraded.{either, newest, newest_before, one_found, standing, unchanged, upgraded_kept, upgraded_before}
+use Rattle.recovery.proofs.Upgraded.{newest_before, standing, unchanged, upgraded_kept, upgraded_before}
 use Rattle.recovery.proofs.upgrading.upgrade.Goals as goal
 
 pub returns-then-is_newest-clause-ok : goal.returns-then-is_newest-clause-ok
@@ -152,3 +149,38 @@ returns-in-Ok-clause-untouched g c =
     let at = c.upgrade_keeper.ensures.stands.was_honest (subst honest c.into_disk-in-Ok.ensures h) in
     absurd (c.is_newest.ensures.earlier c.if-is_newest.false
     (c.version.ensures ∙ newest_before states failures honest law n some disk k parts first limit ok c.laws_of_opening.ensures.one_way at found holds newest))
+
+pub returns-in-Err-clause-unwritten : goal.returns-in-Err-clause-unwritten
+returns-in-Err-clause-unwritten g c =
+    let states = g.D.Disk.states in
+    let failures = g.D.Disk.failures in
+    let honest = g.D.Disk.honest in
+    let law = c.laws_of_parts.ensures.union in
+    let n = c.args.stripes.count in
+    let some = some_stripe n c.args.stripes.allowed in
+    let disk = c.args.disk in
+    let k = c.in_ok-keeper.keeper in
+    let parts = c.in_ok-keeper.parts.items in
+    let first = c.in_ok-keeper.first in
+    let limit = c.in_ok-keeper.limit in
+    let ok = c.in_ok-keeper.ensures.ok in
+    λ h found holds newest.
+    let at = c.upgrade_keeper.ensures.stands.was_honest (subst honest c.into_disk-in-Err.ensures h) in
+    absurd (c.is_newest.ensures.earlier c.if-is_newest.false
+    (c.version.ensures ∙ newest_before states failures honest law n some disk k parts first limit ok c.laws_of_opening.ensures.one_way at found holds newest))
+
+pub returns-in_err-keeper-clause-unwritten : goal.returns-in_err-keeper-clause-unwritten
+returns-in_err-keeper-clause-unwritten g c =
+    let q = err_from_is_err_and c.from_residual.result c.from_residual.ensures.1 in
+    let e = c.in_err-keeper.ensures in
+    let never_both = c.laws_of_opening.ensures.never_both in
+    rw (q.1, q.2) (λ h found holds newest. (
+      e.stopped,
+      elim (e.err h).1 [
+        | inl failed ↦ inl failed
+        | inr other ↦ elim other [
+          | inl no_memory ↦ inr no_memory
+          | inr refuses ↦ absurd (never_both (contents_of g.D.Disk.states c.args.disk) (prefix_of found) (map_of found) _ (record { found = found; holds = holds; prefix = refl; map = refl }) refuses)
+        ]
+      ],
+    ))

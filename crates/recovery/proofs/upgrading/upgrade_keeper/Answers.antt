@@ -1,4 +1,4 @@
-use Rattle.std.proofs.Common.{refl, ap, ◌∙◌}
+use Rattle.std.proofs.Common.{refl, ◌∙◌}
 use Rattle.one_history.specs.Turns.{at_start, opening_of, record_of}
 use Rattle.recovery.proofs.GateClosing.{on_ok}
 use Rattle.recovery.proofs.Unmoved.{stays}
