@@ -9,10 +9,11 @@ use Rattle.map_types.specs.declared.refusals.Refusal.{Refusal}
 use Rattle.map_types.specs.declared.refusals.Refusal.TheVariants.{AlreadyFormatted, Failed, NoMemory}
 use Rattle.disk_model.specs.Files.{Files, now}
 use Rattle.disk_model.specs.Moments.{AtEachMoment}
-use Rattle.store_layout.specs.Opening.{Contents, Opened, Holds, Refuses, map_of, prefix_of}
+use Rattle.store_layout.specs.Opening.{Contents, Opened, Holds, map_of, prefix_of}
 use Rattle.recovery.specs.Formatting.{AtStops, IsFormatted, IsNew, IsNewOrUnformatted, IsUnformatted}
-use Rattle.recovery.specs.LogReading.{RefusesFor, contents_of}
-use Rattle.recovery.specs.Syncing.{Stopped, SyncsAndLooks}
+use Rattle.recovery.specs.Opening.{IsNotOpened}
+use Rattle.recovery.specs.LogReading.{contents_of}
+use Rattle.recovery.specs.Syncing.{SyncsAndLooks}
 use Rattle.cmd_text.specs.Naming.{IsNamed, IsStripeCount}
 use Rattle.cmd_text.specs.Printing.{Prints, PrintsNothing}
 use Rattle.cmd_directory.specs.declared.summary.Summary.{Summary}
@@ -91,11 +92,6 @@ pub record IsCounted {D : Type 0} (states : D → List Files) (failures : D → 
 pub record IsSummed {D : Type 0} (states : D → List Files) (failures : D → ℕ) (honest : D → Type 0) (old new : D) (summary : Summary) : Type 0 where
   pub looks : SyncsAndLooks states failures honest 4 0 old new
   pub sums : honest new → honest old × Summarizes (contents_of states old) summary
-
--- opening the disk was refused for a reason, and nothing was written to it
-pub record IsNotOpened {D : Type 0} (states : D → List Files) (failures : D → ℕ) (honest : D → Type 0) (old new : D) (refusal : Refusal) : Type 0 where
-  pub stopped : Stopped states failures honest 4 old new refusal
-  pub reason : honest new → honest old × RefusesFor (Refuses (contents_of states old) refusal) refusal
 
 -- The numbers of the disk were printed, or opening it was refused and nothing was printed.
 abbrev pub Checks : {D : Type 0} → (D → List Files) → (D → ℕ) → (D → Type 0) → D → D → Option (List ℕ) → Option (List ℕ) → ℕ → Type 0

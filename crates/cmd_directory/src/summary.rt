@@ -5,7 +5,8 @@ ghost use Rattle.disk_model.specs.Calls.{Looks};
 ghost use Rattle.gate_log.specs.Scan.{failed_in};
 ghost use Rattle.store_layout.specs.Opening.{Opened, Holds};
 ghost use Rattle.recovery.specs.LogReading.{contents_of};
-ghost use Rattle.cmd_directory.specs.Directory.{IsCounted, IsNotOpened, IsSummed, summary_text};
+ghost use Rattle.recovery.specs.Opening.{IsNotOpened};
+ghost use Rattle.cmd_directory.specs.Directory.{IsCounted, IsSummed, summary_text};
 
 use atomic_methods::Part;
 use checkpoint_file::load;

@@ -2,11 +2,11 @@
 use Rattle.std.specs.Prelude.{◌≡◌, ◌⊎◌, ℕ, List}
 use Rattle.map_types.specs.declared.refusals.Refusal.{Refusal}
 use Rattle.disk_model.specs.Files.{Contents, Files, now}
-use Rattle.store_layout.specs.Opening.{Opened, Holds, Refuses, map_of, prefix_of}
-use Rattle.recovery.specs.LogReading.{RefusesFor, contents_of}
-use Rattle.recovery.specs.Syncing.{LeavesOnly, Stopped, SyncsAndLooks}
-use Rattle.recovery.specs.Upgrading.{IsNewest, IsRefusedBehind, IsUpgraded, StaysStanding}
-use Rattle.cmd_directory.specs.Directory.{IsNotOpened}
+use Rattle.store_layout.specs.Opening.{Opened, Holds, map_of, prefix_of}
+use Rattle.recovery.specs.Opening.{IsNotOpened}
+use Rattle.recovery.specs.LogReading.{contents_of}
+use Rattle.recovery.specs.Syncing.{LeavesOnly, SyncsAndLooks}
+use Rattle.recovery.specs.Upgrading.{IsNewest, IsUpgradeRefused, IsUpgraded, StaysStanding}
 
 -- the newest log of what is found is in an earlier version
 abbrev pub IsEarlier : Contents → Opened → Type 0
@@ -29,12 +29,11 @@ pub record Upgrades {D : Type 0} (states : D → List Files) (failures : D → �
   pub stands : honest upgraded → (found : Opened)
       × (Holds (contents_of states opened) found × IsUpgraded (prefix_of found) (map_of found) (contents_of states upgraded))
 
--- The same, and the upgrade was refused: nothing was written, or on an honest disk no stop loses the map.
-pub record IsNotUpgraded {D : Type 0} (states : D → List Files) (failures : D → ℕ) (honest : D → Type 0) (old new : D) (refusal : Refusal) : Type 0 where
+-- The same, and the upgrade over this many stripes was refused: its opening, which writes nothing, or behind that.
+pub record IsNotUpgraded {D : Type 0} (states : D → List Files) (failures : D → ℕ) (honest : D → Type 0) (stripes : ℕ) (old new : D) (refusal : Refusal) : Type 0 where
   pub opened : D
   pub is_earlier : IsFound states failures honest IsEarlier old opened
-  pub stopped : Stopped states failures honest 4 opened new refusal ⊎ StaysStanding states failures honest opened new
-  pub reason : honest new → honest opened × (RefusesFor (Refuses (contents_of states opened) refusal) refusal ⊎ IsRefusedBehind refusal)
+  pub refused : IsNotOpened states failures honest opened new refusal ⊎ IsUpgradeRefused states failures honest stripes opened new refusal
 
 abbrev pub IsSameOrUpgraded : {D : Type 0} → (D → List Files) → (D → ℕ) → (D → Type 0) → D → D → Type 0
 IsSameOrUpgraded states failures honest old ready = (ready ≡ old) ⊎ Upgrades states failures honest old ready
@@ -46,7 +45,7 @@ pub record IsOpenedNewest {D : Type 0} (states : D → List Files) (failures : D
   pub is_newest : IsFound states failures honest IsNewest ready new
 
 -- the upgrade was refused, or an opening
-pub data IsNotOpenedNewest {D : Type 0} (states : D → List Files) (failures : D → ℕ) (honest : D → Type 0) (old new : D) (refusal : Refusal) : Type 0 where
-  not_upgraded : IsNotUpgraded states failures honest old new refusal → IsNotOpenedNewest states failures honest old new refusal
+pub data IsNotOpenedNewest {D : Type 0} (states : D → List Files) (failures : D → ℕ) (honest : D → Type 0) (stripes : ℕ) (old new : D) (refusal : Refusal) : Type 0 where
+  not_upgraded : IsNotUpgraded states failures honest stripes old new refusal → IsNotOpenedNewest states failures honest stripes old new refusal
   not_opened : (ready : D) → IsSameOrUpgraded states failures honest old ready → IsNotOpened states failures honest ready new refusal
-      → IsNotOpenedNewest states failures honest old new refusal
+      → IsNotOpenedNewest states failures honest stripes old new refusal

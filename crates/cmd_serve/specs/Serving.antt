@@ -117,12 +117,12 @@ pub record Announces (port : ℕ) (w0 w1 : Option (List ℕ)) (status : ℕ) : T
   pub status_is : status ≡ 1
   pub prints : PrintsAtMost (listening_line port) w0 w1
 
--- If a server over the disk ends, the status is 1. It prints its line at most, and nothing if opening the disk was refused. `new` is how opening left
+-- If a server over the disk, of this many stripes, ends, the status is 1. It prints its line at most, and nothing if opening the disk was refused. `new` is how opening left
 -- the disk.
-pub record Hosts {D : Type 0} (states : D → List Files) (failures : D → ℕ) (honest : D → Type 0) (port : ℕ) (old : D) (w0 w1 : Option (List ℕ)) (status : ℕ) : Type 0 where
+pub record Hosts {D : Type 0} (states : D → List Files) (failures : D → ℕ) (honest : D → Type 0) (stripes port : ℕ) (old : D) (w0 w1 : Option (List ℕ)) (status : ℕ) : Type 0 where
   pub new : D
   pub ends : (IsOpenedNewest states failures honest old new × Announces port w0 w1 status)
-      ⊎ ((refusal : Refusal) × IsNotOpenedNewest states failures honest old new refusal × PrintsNothing w0 w1 status)
+      ⊎ ((refusal : Refusal) × IsNotOpenedNewest states failures honest stripes old new refusal × PrintsNothing w0 w1 status)
 
 -- ---- a directory that was opened
 
@@ -135,16 +135,16 @@ pub record AreMisused (words : ServerWords) (w0 w1 : Option (List ℕ)) (status 
 -- IsOpened says that a disk has the files of a directory, as they were when it was opened.
 module _ {D : Type 0} (states : D → List Files) (failures : D → ℕ) (honest : D → Type 0) (IsOpened : List ℕ → D → Type 0) where
   -- a server over a disk of the directory ended
-  pub record HostsDirectory (directory : List ℕ) (port : ℕ) (w0 w1 : Option (List ℕ)) (status : ℕ) : Type 0 where
+  pub record HostsDirectory (directory : List ℕ) (stripes port : ℕ) (w0 w1 : Option (List ℕ)) (status : ℕ) : Type 0 where
     pub disk : D
     pub opened : IsOpened directory disk
-    pub hosts : Hosts states failures honest port disk w0 w1 status
+    pub hosts : Hosts states failures honest stripes port disk w0 w1 status
 
   -- The words name these settings, which are allowed; and a server over the directory ended, or it couldn't be opened, and nothing was printed.
   pub record ServesAs (words : ServerWords) (w0 w1 : Option (List ℕ)) (status : ℕ) : Type 0 where
     pub settings : Settings
     pub named : AreNamed words settings
-    pub ends : HostsDirectory words.directory.now settings.port w0 w1 status ⊎ PrintsNothing w0 w1 status
+    pub ends : HostsDirectory words.directory.now settings.stripes.count settings.port w0 w1 status ⊎ PrintsNothing w0 w1 status
 
   -- a directory was served by these words, if they are allowed
   abbrev pub ServesOn : ServerWords → Option (List ℕ) → Option (List ℕ) → ℕ → Type 0

@@ -34,7 +34,7 @@ pub(crate) fn open_map<D: Disk + Drop>(
     ensures err { IfErr result (λ x.
         (IsOpenedNewest D.states D.failures D.honest disk x.0
         × ((x.1 ≡ Refusal.NoMemory) ⊎ (x.1 ≡ Refusal.SeatsSpent)))
-        ⊎ IsNotOpenedNewest D.states D.failures D.honest disk x.0 x.1) }
+        ⊎ IsNotOpenedNewest D.states D.failures D.honest stripes.count disk x.0 x.1) }
 {
     laws_of_parts();
     let (keeper, parts, first, limit) = open_parts(alloc, disk, stripes)?;

@@ -306,7 +306,7 @@ pub(crate) fn serve_disk<
     output: &mut W,
     error: &mut E,
 ) -> u8
-    ensures { Hosts D.states D.failures D.honest settings.now.port
+    ensures { Hosts D.states D.failures D.honest settings.now.stripes.count settings.now.port
         disk (W.contents output.old) (W.contents output.new) result }
 {
     match open_map(alloc, disk, settings.stripes) {

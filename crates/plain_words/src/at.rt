@@ -1,5 +1,6 @@
 //! The steps of one pass on plain words.
 ghost use Rattle.std.specs.Prelude.{◌≡◌, ◌<◌, length};
+ghost use Rattle.one_history.specs.OneHistory.{IsOneHistory};
 
 use crate::words::PlainWords;
 use java_hash::StripeCount;
@@ -23,6 +24,14 @@ impl<'a> At<'a> {
         ensures pass { result.pass ≡ pass }
     {
         At { words, pass }
+    }
+
+    /// A law: between any two steps there is one history, and the pass is one of its passes.
+    pub fn keeps_one_history(&self)
+        ensures one { IsOneHistory self.now.words.now }
+        ensures within { self.now.pass < length self.now.words.now.passes }
+    {
+        self.words.keeps_one_history();
     }
 }
 

@@ -20,6 +20,8 @@ mod FormattingLemmas
 mod Unmoved
 mod OnePass
 mod Sections
+mod StaysUnmoved
+mod RefusedBehind
 mod Rotation
 mod Upgraded
 pub mod Finding

@@ -1,9 +1,13 @@
 -- A capture by the only pass of words in which no change was made.
-use Rattle.std.proofs.Common.{◌≡◌, ◌≢◌, ◌⊎◌, inl, inr, ℕ, ◌+◌, List, [], ◌∷◌, length, Option, None, Some, Result, Ok, Err, refl, sym, ap, subst, ◌∙◌, arith}
+use Rattle.std.specs.FinMap as finite
+use Rattle.std.proofs.Common.{◌≡◌, ◌≢◌, ◌⊎◌, inl, inr, ℕ, ◌+◌, ◌<◌, ◌≤◌, ◌^◌, List, [], ◌∷◌, length, Option, None, Some, Result, Ok, Err, refl, sym, ap, subst, ◌∙◌, arith}
 use Rattle.disk_model.specs.Files.{Files}
 use Rattle.map_types.specs.declared.commands.Command.{Command}
 use Rattle.map_types.specs.declared.refusals.Refusal.{Refusal}
 use Rattle.map_types.specs.declared.refusals.Refusal.TheVariants.{LogFull, NoMemory}
+use Rattle.map_model.specs.Maps.{Map}
+use Rattle.map_model.specs.Parts.{part_of}
+use Rattle.map_model.specs.Steps.{map_after}
 use Rattle.ticket_order.specs.declared.record.Opening.{Opening}
 use Rattle.ticket_order.specs.declared.record.Record.{Record}
 use Rattle.ticket_order.specs.declared.record.StepMade.{StepMade}
@@ -12,17 +16,21 @@ use Rattle.ticket_order.specs.declared.walk.Walk.{Walk}
 use Rattle.ticket_order.specs.Records.{reach}
 use Rattle.ticket_order.specs.Legality.{last_of}
 use Rattle.ticket_order.specs.StepRules.{Rises}
-use Rattle.ticket_order.specs.Walks.{Give, Kind, Look, MakesOne, Ticket, kind_of, next_kind}
+use Rattle.ticket_order.specs.declared.walk.Stage.{Stage}
+use Rattle.ticket_order.specs.declared.walk.Stage.TheVariants as stage
+use Rattle.ticket_order.specs.Calls.{HasTooMany}
+use Rattle.ticket_order.specs.Walks.{FitsStage, Give, Kind, Look, MakesOne, Ticket, ToCapture, kind_of, next_kind, refusal_of_stage}
 use Rattle.one_history.specs.declared.book.Book.{Book}
 use Rattle.one_history.specs.Turns.{record_of}
 use Rattle.one_history.specs.Moves.{BookMoves, Raises, WordsMove}
+use Rattle.one_history.specs.OneHistory.{IsOneHistory}
 use Rattle.plain_words.specs.declared.at.At.{At}
 use Rattle.checkpoint_file.specs.States.{CheckpointState, with_section}
 use Rattle.flusher.specs.declared.keeper.Keeper.{Keeper}
 use Rattle.flusher.specs.KeeperSteps.{is_walking}
-use Rattle.checkpoint_walk.specs.Capturing.{HasLooked, HasTaken}
+use Rattle.checkpoint_walk.specs.Capturing.{HasLooked, HasTaken, IsCauseOf}
 use Rattle.checkpoint_walk.specs.Walking.{AfterStep, AfterTake, AfterWalk, FitsBy, FitsWalking, GivesSection, LooksAt, PutsBack, TakesStripe}
-use Rattle.recovery.specs.Upgrading.{IsGivenAt, IsRefusedBehind, IsUnmovedWith}
+use Rattle.recovery.specs.Upgrading.{HasLargeStripe, IsGivenAt, IsSectionRefused, IsUnmovedWith}
 
 -- ---- the words
 
@@ -75,6 +83,32 @@ give_same i j e = cc
 
 not_both : (i : ℕ) (kind : Kind) → kind ≡ Look → kind ≡ Give i → ⊥
 not_both i kind a b = let e : Look ≡ Give i = sym a ∙ b in absurd cc
+
+some_refusal : (x y : Refusal) → Some x ≡ Some y → x ≡ y
+some_refusal x y e = cc
+
+-- ---- a stripe that is too large
+
+-- if no change was made, the part that the pass holds is the map's
+large_stripe : (b : Book) (j i : ℕ) (o : Opening) (v : Record) → IsOneHistory b → j < length b.passes → b.history ≡ [] → v.opening ≡ o → HasTooMany v i (record_of j b) → HasLargeStripe b.stripes o.map
+large_stripe b j i o v one within none opening many =
+    let at = many.at in
+    let knows = one.passes j within in
+    let held = knows.held _ (ap (λ (w : Record). w.holding) at.is) in
+    let same : b.opening ≡ o = sym knows.opening ∙ ap (λ (w : Record). w.opening) at.is ∙ opening in
+    let part : part_of b.stripes i o.map ≡ at.part =
+    ap (λ (x : Opening). part_of b.stripes i x.map) (sym same) ∙ ap (λ (h : List Command). part_of b.stripes i (map_after b.opening.map h)) (sym none) ∙ held.content.part_is in
+    record {
+      stripe = i;
+      within = held.within;
+      many = subst (λ (m : Map). 2 ^ 32 ≤ length (finite.entries m)) (sym part) many.many;
+    }
+
+pub section_refused : (b : Book) (j i n : ℕ) (o : Opening) (v : Record) (e : Refusal) → IsOneHistory b → j < length b.passes → b.history ≡ [] → v.opening ≡ o → b.stripes ≡ n
+    → (e ≡ NoMemory) ⊎ ((e ≡ LogFull) × HasTooMany v i (record_of j b)) → IsSectionRefused n o.map e
+section_refused b j i n o v e one within none opening count (inl wanting) = inl wanting
+section_refused b j i n o v e one within none opening count (inr full) =
+    inr (full.0, subst (λ (m : ℕ). HasLargeStripe m o.map) count (large_stripe b j i o v one within none opening full.1))
 
 -- ---- the three steps
 
@@ -166,12 +200,23 @@ module _ {T D : Type 0} (book : T → Book) (pass : T → ℕ) (states : D → L
           let same : stripe ≡ h.0 = give_same stripe h.0 (sym still.next ∙ h.1) in
           subst (λ (i : ℕ). PutsBack (recorded a) i e k2 k3 (recorded a3)) (sym same) (h.2 (recorded a) (subst (λ (i : ℕ). HasLooked (N a2) (recorded a) i looks.next (recorded a2)) same still))
 
-      pub refused_behind : (e : Refusal) → PutsBack (recorded a) stripe e k2 k3 (recorded a3) → IsRefusedBehind e
-      refused_behind e back = by back.no_other
+      -- a walk that is to put its stripe back as too large holds too many entries
+      too_many_in : (s : Stage) → FitsStage (N a2) (recorded a) (ToCapture stripe) s (recorded a2) → refusal_of_stage s ≡ Some LogFull → HasTooMany (recorded a) stripe (recorded a2)
+      too_many_in (stage.Change s) fits e = absurd cc
+      too_many_in (stage.Read s) fits e = absurd cc
+      too_many_in (stage.Release s) fits e = absurd cc
+      too_many_in (stage.Sweep s) fits e = absurd cc
+      too_many_in (stage.Capture s) fits e = absurd cc
+      too_many_in (stage.GivingBack held refusal) fits e = fits.too_many (some_refusal refusal LogFull e) stripe refl
+
+      -- a capture is refused for want of memory, or since it holds too many entries
+      pub cause_of : (e : Refusal) → PutsBack (recorded a) stripe e k2 k3 (recorded a3) → IsCauseOf looks.next e → (e ≡ NoMemory) ⊎ ((e ≡ LogFull) × HasTooMany (recorded a) stripe (recorded a2))
+      cause_of e back cause = by back.no_other cause
         where
-          by : (e ≡ NoMemory) ⊎ (e ≡ LogFull) → IsRefusedBehind e
-          by (inl none) = inr (inl none)
-          by (inr full) = inr (inr (inl full))
+          by : (e ≡ NoMemory) ⊎ (e ≡ LogFull) → IsCauseOf looks.next e → (e ≡ NoMemory) ⊎ ((e ≡ LogFull) × HasTooMany (recorded a) stripe (recorded a2))
+          by (inl none) c = inl none
+          by (inr full) (inl none) = inl none
+          by (inr full) (inr refused) = inr (full, too_many_in looks.next.stage still.fits (refused ∙ ap Some full))
 
       pub same_two : k2 ≡ record k { capture = Some looks.next }
       same_two = looks.is ∙ ap (λ (x : Keeper D). record x { capture = Some looks.next }) t.is

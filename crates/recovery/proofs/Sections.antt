@@ -1,8 +1,6 @@
 -- The sections of a checkpoint that is taken while no change is made.
-use Rattle.std.proofs.Common.{◌≡◌, ◌⊎◌, inl, inr, ℕ, ◌+◌, ◌<◌, ◌≤◌, List, [], Option, None, Some, IfSome, Bool, true, false, refl, sym, ap, subst, ◌∙◌, arith}
+use Rattle.std.proofs.Common.{◌≡◌, ℕ, ◌+◌, ◌<◌, ◌≤◌, List, [], Option, None, Some, IfSome, Bool, true, false, refl, sym, ap, subst, ◌∙◌, arith}
 use Rattle.disk_model.specs.Files.{Files}
-use Rattle.map_types.specs.declared.refusals.Refusal.{Refusal}
-use Rattle.map_types.specs.declared.refusals.Refusal.TheVariants.{Failed, TooEarly, WrongPhase}
 use Rattle.ticket_order.specs.declared.record.Record.{Record}
 use Rattle.flusher.specs.Fitting.{Fits}
 use Rattle.flusher.specs.KeeperSteps.{is_walking}
@@ -12,8 +10,8 @@ use Rattle.one_history.specs.Turns.{record_of}
 use Rattle.checkpoint_file.specs.States.{CheckpointState, begun}
 use Rattle.store_layout.specs.declared.checkpoint_phase.CheckpointPhase.TheVariants.{Header, Ready}
 use Rattle.flusher.specs.declared.keeper.Keeper.{Keeper}
-use Rattle.checkpoint_walk.specs.Checkpointing.{Checkpoints, IsMarkedAbove, IsNextStripe, checkpoints_of, sealing}
-use Rattle.recovery.specs.Upgrading.{HasSections, IsGivenAt, IsRefusedBehind, IsUnmoved, IsUnmovedWith, advanced_by, checkpoints_after}
+use Rattle.checkpoint_walk.specs.Checkpointing.{Checkpoints, HasAllSections, IsMarkedAbove, IsNextStripe, checkpoints_of, sealing}
+use Rattle.recovery.specs.Upgrading.{HasSections, IsGivenAt, IsUnmoved, IsUnmovedWith, advanced_by, checkpoints_after}
 
 some_inj : {A : Type 0} {x y : A} → Some x ≡ Some y → x ≡ y
 some_inj e = cc
@@ -35,6 +33,13 @@ module _ {D : Type 0} (states : D → List Files) (honest : D → Type 0) (o : O
       let low = has.marked in
       let at = is.unmoved.published in
       absurd (omega (arith, over, low, at))
+
+  -- all sections are given, so that the seal is due
+  pub all_given : (generation : ℕ) → HasSections generation k.stripes.count o.first k.checkpoint → HasAllSections k.checkpoint
+  all_given generation has =
+      let of : has.state.stripes ≡ b.stripes = subst (λ (c : Option CheckpointState). IfSome c (λ w. w.stripes ≡ b.stripes)) has.is is.unmoved.fits.stripes.writer in
+      let n : k.stripes.count ≡ b.stripes = is.unmoved.fits.stripes.count in
+      subst HasAllSections (sym has.is) (has.ready, has.count_is ∙ n ∙ sym of)
 
 -- one section more is given and written
 pub one_more : {D : Type 0} (k k1 k2 : Keeper D) (generation count first : ℕ) → HasSections generation count first k.checkpoint → IsGivenAt first k.checkpoint k1.checkpoint
@@ -105,9 +110,3 @@ sealing_unmoved states honest n o k p is new same fits = record {
   works = ap (λ (x : Keeper _). x.is_broken) same ∙ is.works;
   published = ap (λ (x : Keeper _). x.published) same ∙ is.published;
 }
-
--- a seal isn't refused as too early
-pub seal_refused : (e : Refusal) → (e ≡ TooEarly → ⊥) → (e ≡ Failed) ⊎ ((e ≡ WrongPhase) ⊎ (e ≡ TooEarly)) → IsRefusedBehind e
-seal_refused e never (inl failed) = inl failed
-seal_refused e never (inr (inl wrong)) = inr (inr (inr wrong))
-seal_refused e never (inr (inr early)) = absurd (never early)

@@ -125,13 +125,25 @@ module _ {D : Type 0} (states : D → List Files) (honest : D → Type 0) where
       pub checkpoint_stands : (honest keeper.disk → AtEachMoment states keeper.disk new.disk (StopsFit (history_of p) keeper)) → StandsThroughout states honest o.first o.map keeper.disk new.disk
       checkpoint_stands moments = moved new.disk checkpoint_was_honest moments
 
-      pub checkpoint_failed : IfErr r (λ refusal. refusal ≡ Failed)
+      -- a call that fails is counted, and one that succeeds isn't
+      pub checkpoint_failed : IfErr r (λ refusal. (refusal ≡ Failed) × (failures new.disk ≡ failures keeper.disk + 1))
       checkpoint_failed = by r refl is_due
         where
-          by : (x : Result CheckpointPhase Refusal) → r ≡ x → Due → IfErr x (λ refusal. refusal ≡ Failed)
+          by : (x : Result CheckpointPhase Refusal) → r ≡ x → Due → IfErr x (λ refusal. (refusal ≡ Failed) × (failures new.disk ≡ failures keeper.disk + 1))
           by (Ok y) e d = tt
-          by (Err refusal) e (due call w f s) = (subst (λ (x : Result CheckpointPhase Refusal). IfErr x (λ refusal. (refusal ≡ Failed) × (checkpoints_of new ≡ record (checkpoints_of keeper) { writer = Some (record w { is_broken = true }) }) × Fails states failures (checkpoint_file w.generation) call keeper.disk new.disk)) e s.err).0
+          by (Err refusal) e (due call w f s) =
+              let so = err_of (λ refusal. (refusal ≡ Failed) × (checkpoints_of new ≡ record (checkpoints_of keeper) { writer = Some (record w { is_broken = true }) }) × Fails states failures (checkpoint_file w.generation) call keeper.disk new.disk) r refusal e s.err in
+              (so.0, so.2.counted)
           by (Err refusal) e (none d f same) = absurd cc
+
+      pub checkpoint_counted : (y : CheckpointPhase) → r ≡ Ok y → failures new.disk ≡ failures keeper.disk
+      checkpoint_counted y e = by is_due
+        where
+          by : Due → failures new.disk ≡ failures keeper.disk
+          by (due call w f s) =
+              (subst (λ (x : Result CheckpointPhase Refusal). IfOk x (λ phase. (checkpoints_of new ≡ kept_in w.phase (state_after w.phase w) (checkpoints_of keeper)) × (phase ≡ (state_after w.phase w).phase)
+              × Makes states failures (checkpoint_file w.generation) call keeper.disk new.disk)) e s.ok).2.counted
+          by (none d f same) = ap (λ (k : Keeper D). failures k.disk) same
 
       no_change : (w : CheckpointState) (c : CheckpointPhase) (before : Checkpoints) → call_in c w ≡ None → before.writer ≡ Some w → kept_in c (state_after c w) before ≡ before
       no_change w c before e f = elim c as (λ c. call_in c w ≡ None → kept_in c (state_after c w) before ≡ before) [
@@ -206,13 +218,24 @@ module _ {D : Type 0} (states : D → List Files) (honest : D → Type 0) where
           by (due_log s) h = s.was_honest h
           by (none_due d e same) h = subst (λ (k : Keeper D). honest k.disk) same h
 
-      pub logs_failed : IfErr r (λ refusal. refusal ≡ Failed)
+      pub logs_failed : IfErr r (λ refusal. (refusal ≡ Failed) × (failures new.disk ≡ failures keeper.disk + 1))
       logs_failed = by r refl log_due
         where
-          by : (x : Result Phase Refusal) → r ≡ x → DueLog → IfErr x (λ refusal. refusal ≡ Failed)
+          by : (x : Result Phase Refusal) → r ≡ x → DueLog → IfErr x (λ refusal. (refusal ≡ Failed) × (failures new.disk ≡ failures keeper.disk + 1))
           by (Ok y) e d = tt
-          by (Err refusal) e (due_log s) = (err_of (λ refusal. (refusal ≡ Failed) × (logs_of new ≡ broken (logs_of keeper)) × Fails states failures (log_file (due_of (logs_of keeper)).generation) s.call keeper.disk new.disk) r refusal e s.err).0
+          by (Err refusal) e (due_log s) =
+              let so = err_of (λ refusal. (refusal ≡ Failed) × (logs_of new ≡ broken (logs_of keeper)) × Fails states failures (log_file (due_of (logs_of keeper)).generation) s.call keeper.disk new.disk) r refusal e s.err in
+              (so.0, so.2.counted)
           by (Err refusal) e (none_due d f same) = absurd cc
+
+      pub logs_counted : (y : Phase) → r ≡ Ok y → failures new.disk ≡ failures keeper.disk
+      logs_counted y e = by log_due
+        where
+          by : DueLog → failures new.disk ≡ failures keeper.disk
+          by (due_log s) =
+              (subst (λ (x : Result Phase Refusal). IfOk x (λ phase. (logs_of new ≡ stepped (logs_of keeper)) × (phase ≡ (due_of (logs_of new)).phase)
+              × Makes states failures (log_file (due_of (logs_of keeper)).generation) s.call keeper.disk new.disk)) e s.ok).2.counted
+          by (none_due d f same) = ap (λ (k : Keeper D). failures k.disk) same
 
       -- if none is due, the logs are the same after it
       idle_log : (l : LogState) (phase : Phase) → l.phase ≡ phase → phase ≡ log_phase.Idle → log_after phase l ≡ l

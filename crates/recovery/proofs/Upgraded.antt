@@ -35,7 +35,8 @@ use Rattle.flusher.specs.Fitting.{HoldsFor, store_of}
 use Rattle.recovery.specs.LogReading.{GoesOnIn, contents_of}
 use Rattle.recovery.specs.Opening.{IsOpenedAs}
 use Rattle.recovery.specs.Syncing.{LeavesOnly, SyncsAndLooks}
-use Rattle.recovery.specs.Upgrading.{HasRotated, IsNewest, IsUnmoved, IsUpgraded, StandsAt, StandsThroughout, StaysStanding}
+use Rattle.recovery.specs.Upgrading.{HasRotated, IsNewest, IsRefusedBehind, IsUnmoved, IsUpgraded, RefusesBehind, StandsAt, StandsThroughout, StaysStanding}
+use Rattle.recovery.proofs.RefusedBehind.{behind}
 
 ok_inj : (a b : FoundStore) → ◌≡◌ {A = Result FoundStore Refusal} (Ok a) (Ok b) → a ≡ b
 ok_inj a b e = cc
@@ -141,6 +142,23 @@ module _ {D : Type 0} (states : D → List Files) (failures : D → ℕ) (honest
       by : (second : Option (List Batch)) → keeper.log.generation ≡ (newest_by (ok h).1.found.checkpoint (ok h).1.found.first second).generation → (keeper.log.generation ≡ keeper.sealed) ⊎ (keeper.log.generation ≡ keeper.sealed + 1)
       by None e = inl (e ∙ sym (ok h).1.sealed)
       by (Some second) e = inr (e ∙ ap (λ (g : ℕ). g + 1) (sym (ok h).1.sealed))
+
+  -- what was refused behind the opening, of what it found
+  pub refuses_behind : (after : D) (e : Refusal) → SyncsAndLooks states failures honest 4 0 disk keeper.disk → keeper.stripes.count ≡ n → honest keeper.disk
+      → ((keeper.log.generation ≡ keeper.sealed) ⊎ (keeper.log.generation ≡ keeper.sealed + 1) → IsRefusedBehind (failures after ≡ failures keeper.disk + 1) keeper.stripes.count m keeper.log.generation keeper.sealed e)
+      → RefusesBehind (failures after ≡ failures disk + 1) n (contents_of states disk) e
+  refuses_behind after e calls count h refused =
+      let Failing : Type 0 = failures after ≡ failures disk + 1 in
+      let opened = (ok h).1 in
+      let found = opened.found in
+      let synced = calls.synced.counted in
+      let looked = calls.looks.failed_so in
+      let none : failures keeper.disk ≡ failures disk = omega (arith, synced, looked) in
+      let here = behind (failures after ≡ failures keeper.disk + 1) Failing keeper.stripes.count m keeper.log.generation keeper.sealed e (λ failing. failing ∙ ap (λ (x : ℕ). x + 1) none) (refused (either h)) in
+      let of_map = subst (λ (x : Map). IsRefusedBehind Failing keeper.stripes.count x keeper.log.generation keeper.sealed e) (map_found h) here in
+      let of_stripes = subst (λ (x : ℕ). IsRefusedBehind Failing x (map_of found) keeper.log.generation keeper.sealed e) count of_map in
+      let of_log = subst (λ (x : ℕ). IsRefusedBehind Failing n (map_of found) x keeper.sealed e) opened.log.generation of_stripes in
+      record { found = found; holds = opened.holds; cause = subst (λ (x : ℕ). IsRefusedBehind Failing n (map_of found) (newest_of found).generation x e) opened.sealed of_log }
 
 -- ---- the version of the newest log
 

@@ -1,6 +1,8 @@
 -- What opening a directory finds.
 use Rattle.std.specs.Prelude.{◌≡◌, ◌≤◌, ℕ, ◌+◌, false, List, [], length, Option, None}
 use Rattle.java_hash.specs.declared.stripe_count.StripeCount.{StripeCount}
+use Rattle.map_types.specs.declared.refusals.Refusal.{Refusal}
+use Rattle.disk_model.specs.Files.{Files}
 use Rattle.atomic_methods.specs.PartState.{PartState}
 use Rattle.flusher.specs.declared.keeper.Keeper.{Keeper}
 use Rattle.flusher.specs.declared.sweeper.Walking.TheVariants.{Rests}
@@ -9,10 +11,11 @@ use Rattle.store_layout.specs.Calls.{body_bytes, checkpoint_calls, logs_calls}
 use Rattle.store_layout.specs.Checkpoints.{Checkpoint, greatest_mark}
 use Rattle.store_layout.specs.Logs.{Batch}
 use Rattle.store_layout.specs.SectionsAndLog.{restored}
-use Rattle.store_layout.specs.Opening.{Contents, Opened, Holds, AreLogs, key_limit_of, logged_by, map_of, newest_by, newest_of, prefix_of}
+use Rattle.store_layout.specs.Opening.{Contents, Opened, Holds, Refuses, AreLogs, key_limit_of, logged_by, map_of, newest_by, newest_of, prefix_of}
 use Rattle.recovery.specs.declared.opening.Restored.{Restored}
 use Rattle.recovery.specs.Dividing.{IsDivided}
-use Rattle.recovery.specs.LogReading.{GoesOnIn, IsResumed}
+use Rattle.recovery.specs.LogReading.{GoesOnIn, IsResumed, RefusesFor, contents_of}
+use Rattle.recovery.specs.Syncing.{Stopped}
 
 -- the calls that read the heads of both checkpoints, the checkpoint that is used, and its logs
 abbrev pub files_calls : Contents → Opened → ℕ
@@ -77,3 +80,8 @@ pub record IsAtStart {D : Type 0} (stripes : StripeCount) (first : ℕ) (keeper 
   pub stripes_are : keeper.stripes ≡ stripes
   pub working : keeper.is_broken ≡ false
   pub unfailed : keeper.has_failed ≡ false
+
+-- opening the disk was refused for a reason, and nothing was written to it
+pub record IsNotOpened {D : Type 0} (states : D → List Files) (failures : D → ℕ) (honest : D → Type 0) (old new : D) (refusal : Refusal) : Type 0 where
+  pub stopped : Stopped states failures honest 4 old new refusal
+  pub reason : honest new → honest old × RefusesFor (Refuses (contents_of states old) refusal) refusal

@@ -1,11 +1,13 @@
 -- What bringing a directory to the newest version leaves.
-use Rattle.std.specs.Prelude.{◌≡◌, ◌⊎◌, ◌≤◌, ◌+◌, Bool, ℕ, suc, zero, false, List, [], Option, None, Some, length}
+use Rattle.std.specs.FinMap as finite
+use Rattle.std.specs.Prelude.{◌≡◌, ◌≢◌, ◌⊎◌, ◌<◌, ◌≤◌, ◌+◌, ◌^◌, Bool, ℕ, suc, zero, false, List, [], Option, None, Some, length}
 use Rattle.disk_model.specs.Files.{Contents, Files}
 use Rattle.disk_model.specs.Moments.{AtEachMoment}
 use Rattle.map_types.specs.declared.refusals.Refusal.{Refusal}
 use Rattle.map_types.specs.declared.refusals.Refusal.TheVariants.{Failed, LogFull, NoMemory, WrongPhase}
 use Rattle.map_types.specs.declared.texts.Value.{Value}
 use Rattle.map_model.specs.Maps.{Map}
+use Rattle.map_model.specs.Parts.{part_of}
 use Rattle.ticket_order.specs.declared.record.Opening.{Opening}
 use Rattle.ticket_order.specs.declared.record.Record.{Record}
 use Rattle.one_history.specs.declared.book.Book.{Book}
@@ -57,9 +59,45 @@ pub record StaysStanding {D : Type 0} (states : D → List Files) (failures : D 
   pub was_honest : honest after → honest disk
   pub keeps : honest after → KeepsFound states disk middle after
 
--- one of the four refusals that may come behind an opening
-abbrev pub IsRefusedBehind : Refusal → Type 0
-IsRefusedBehind refusal = (refusal ≡ Failed) ⊎ ((refusal ≡ NoMemory) ⊎ ((refusal ≡ LogFull) ⊎ (refusal ≡ WrongPhase)))
+-- ---- what is refused behind an opening
+
+-- a stripe of the map, of n stripes, has too many entries for a section
+pub record HasLargeStripe (n : ℕ) (m : Map) : Type 0 where
+  pub stripe : ℕ
+  pub within : stripe < n
+  pub many : 2 ^ 32 ≤ length (finite.entries (part_of n stripe m))
+
+-- a section of the map's stripes is refused: memory is wanting, or the stripe is too large
+abbrev pub IsSectionRefused : ℕ → Map → Refusal → Type 0
+IsSectionRefused n m refusal = (refusal ≡ NoMemory) ⊎ ((refusal ≡ LogFull) × HasLargeStripe n m)
+
+-- a checkpoint of the map is refused: the one call has failed that `Failing` speaks of, or a section is refused
+abbrev pub IsCheckpointRefused : Type 0 → ℕ → Map → Refusal → Type 0
+IsCheckpointRefused Failing n m refusal = ((refusal ≡ Failed) × Failing) ⊎ IsSectionRefused n m refusal
+
+-- no generation follows this one: its number would not fit in 64 bits
+abbrev pub IsLastGeneration : ℕ → Type 0
+IsLastGeneration generation = generation + 1 < 2 ^ 64 → ⊥
+
+-- An upgrade of this map is refused behind its opening, which found a newest log of this generation and a sealed checkpoint
+-- of that one. A device call has failed; or memory is wanting; or the checkpoint of the newest log had to be taken before,
+-- and a stripe is too large; or no generation follows that of the log.
+abbrev pub IsRefusedBehind : Type 0 → ℕ → Map → ℕ → ℕ → Refusal → Type 0
+IsRefusedBehind Failing n m generation sealed refusal =
+    ((refusal ≡ Failed) × Failing) ⊎ ((refusal ≡ NoMemory) ⊎ (((refusal ≡ LogFull) × (generation ≢ sealed) × HasLargeStripe n m)
+    ⊎ ((refusal ≡ WrongPhase) × IsLastGeneration generation)))
+
+-- the same, of what was found in these files, whose map is divided into n stripes
+pub record RefusesBehind (Failing : Type 0) (n : ℕ) (contents : Contents) (refusal : Refusal) : Type 0 where
+  pub found : FoundStore
+  pub holds : Holds contents found
+  pub cause : IsRefusedBehind Failing n (map_of found) (newest_of found).generation found.checkpoint.generation refusal
+
+-- The upgrade over this many stripes was refused behind its opening. No stop loses what the directory stood for, and on an
+-- honest disk there is a reason.
+pub record IsUpgradeRefused {D : Type 0} (states : D → List Files) (failures : D → ℕ) (honest : D → Type 0) (stripes : ℕ) (old new : D) (refusal : Refusal) : Type 0 where
+  pub stays : StaysStanding states failures honest old new
+  pub reason : honest new → honest old × RefusesBehind (failures new ≡ failures old + 1) stripes (contents_of states old) refusal
 
 -- ---- the keeper, between its calls
 

@@ -1,11 +1,11 @@
 //! A checkpoint is taken while no change is made.
-ghost use Rattle.std.specs.Prelude.{◌≡◌, ◌≢◌, ◌+◌, ◌≤◌, ◌⊎◌, ◌<◌, ℕ, None, Some, IfErr, OnOk};
+ghost use Rattle.std.specs.Prelude.{◌≡◌, ◌≢◌, ◌+◌, ◌≤◌, ◌⊎◌, ◌<◌, ◌^◌, ℕ, None, Some, IfErr, OnOk};
 ghost use Rattle.map_model.specs.Maps.{Map};
 ghost use Rattle.ticket_order.specs.declared.record.Opening.{Opening};
 ghost use Rattle.ticket_order.specs.declared.record.Record.{Record};
 ghost use Rattle.flusher.specs.Rotating.{logs_of};
 ghost use Rattle.checkpoint_walk.specs.Checkpointing.{IsNextStripe, checkpoints_of};
-ghost use Rattle.recovery.specs.Upgrading.{HasSections, IsRefusedBehind, IsUnmoved, IsUnmovedWith, StandsThroughout, checkpoints_after, IsGivenAt};
+ghost use Rattle.recovery.specs.Upgrading.{HasSections, IsCheckpointRefused, IsGivenAt, IsSectionRefused, IsUnmoved, IsUnmovedWith, StandsThroughout, checkpoints_after};
 
 use checkpoint_walk::capture_step;
 use disk_model::Disk;
@@ -38,7 +38,11 @@ fn advance<D: Disk>(keeper: &mut Keeper<D>, calls: usize) -> Result<(), Refusal>
         (checkpoints_of keeper.new ≡ checkpoints_after calls (checkpoints_of keeper.old)) }
     ensures logs { logs_of keeper.new ≡ logs_of keeper.old }
     ensures stripes { keeper.new.stripes ≡ keeper.old.stripes }
-    ensures err { IfErr result (λ refusal. refusal ≡ Refusal.Failed) }
+
+    // Each call succeeds; or one fails, and it is the last.
+    ensures counted { OnOk result (D.failures keeper.new.disk ≡ D.failures keeper.old.disk) }
+    ensures err { IfErr result (λ refusal. (refusal ≡ Refusal.Failed)
+        × (D.failures keeper.new.disk ≡ D.failures keeper.old.disk + 1)) }
 {
     stops_of_a_keeper(keeper);
     for _ in 0..calls {
@@ -75,10 +79,16 @@ fn capture<D: Disk>(
       checkpoint = keeper.new.checkpoint;
       capture = keeper.new.capture;
     } }
-    ensures err { IfErr result IsRefusedBehind }
+
+    // Refused: for want of memory, or if the stripe has too many entries.
+    ensures err { IfErr result (λ refusal. (o : Opening)
+        → IsUnmovedWith D.states D.honest o keeper.old steps.old.pass
+        steps.old.words.now
+        → IsSectionRefused keeper.old.stripes.count o.map refusal) }
 {
     let _taken = capture_step(keeper, stripe, steps)?;
     let _looked = capture_step(keeper, stripe, steps)?;
+    steps.keeps_one_history();
     let _given = capture_step(keeper, stripe, steps)?;
     Ok(())
 }
@@ -110,7 +120,14 @@ fn capture_all<D: Disk>(keeper: &mut Keeper<D>, steps: &mut At<'_>) -> Result<()
     ensures sealed { OnOk result (keeper.new.sealed ≡ keeper.old.sealed) }
     ensures logs { logs_of keeper.new ≡ logs_of keeper.old }
     ensures stripes { keeper.new.stripes ≡ keeper.old.stripes }
-    ensures err { IfErr result IsRefusedBehind }
+
+    // Refused: after the one call that failed, or for a section.
+    ensures counted { OnOk result (D.failures keeper.new.disk ≡ D.failures keeper.old.disk) }
+    ensures err { IfErr result (λ refusal. (o : Opening)
+        → IsUnmovedWith D.states D.honest o keeper.old steps.old.pass
+        steps.old.words.now
+        → IsCheckpointRefused (D.failures keeper.new.disk ≡ D.failures keeper.old.disk + 1)
+        keeper.old.stripes.count o.map refusal) }
 {
     stops_of_a_keeper(keeper);
     for stripe in 0..keeper.stripes.get() {
@@ -148,7 +165,15 @@ pub(crate) fn seal_checkpoint<D: Disk>(
     ensures sealed { OnOk result
         ((keeper.new.sealed ≡ keeper.old.sealed + 1) × (keeper.new.checkpoint ≡ None)) }
     ensures logs { logs_of keeper.new ≡ logs_of keeper.old }
-    ensures err { IfErr result IsRefusedBehind }
+
+    // Refused: after the one call that failed, or for a section.
+    ensures counted { OnOk result (D.failures keeper.new.disk ≡ D.failures keeper.old.disk) }
+    ensures err { IfErr result (λ refusal. (o : Opening)
+        → IsUnmovedWith D.states D.honest o keeper.old steps.old.pass
+        steps.old.words.now
+        → keeper.old.sealed + 1 < 2 ^ 64
+        → IsCheckpointRefused (D.failures keeper.new.disk ≡ D.failures keeper.old.disk + 1)
+        keeper.old.stripes.count o.map refusal) }
 {
     stops_of_a_keeper(keeper);
     checkpoint_walk::begin(keeper)?;

@@ -5,17 +5,19 @@ ghost use Rattle.store_layout.specs.Logs.{new_version};
 ghost use Rattle.ticket_order.specs.declared.record.Opening.{Opening};
 ghost use Rattle.ticket_order.specs.declared.record.Record.{Record};
 ghost use Rattle.one_history.specs.Turns.{opening_of};
-ghost use Rattle.store_layout.specs.Opening.{Holds, Opened, Refuses, map_of, prefix_of};
+ghost use Rattle.store_layout.specs.Opening.{Holds, Opened, map_of, prefix_of};
 ghost use Rattle.store_layout.specs.declared.log_phase.Phase.TheVariants as phase;
 ghost use Rattle.gate_log.specs.States as log_states;
+ghost use Rattle.gate_log.specs.States.{IsResting};
+ghost use Rattle.checkpoint_walk.specs.Checkpointing.{MayBegin};
 ghost use Rattle.flusher.specs.Fitting.{Fits, IsUnused};
 ghost use Rattle.flusher.specs.Rotating.{logs_of};
 ghost use Rattle.recovery.specs.Dividing.{ArePartsOf};
 ghost use Rattle.recovery.specs.Formatting.{AtStops};
-ghost use Rattle.recovery.specs.LogReading.{RefusesFor, contents_of};
-ghost use Rattle.recovery.specs.Opening.{IsAtStart};
+ghost use Rattle.recovery.specs.LogReading.{contents_of};
+ghost use Rattle.recovery.specs.Opening.{IsAtStart, IsNotOpened};
 ghost use Rattle.recovery.specs.Syncing.{Stopped, SyncsAndLooks};
-ghost use Rattle.recovery.specs.Upgrading.{HasRotated, IsNewest, IsRefusedBehind, IsUnmoved, IsUnmovedWith, IsUpgraded, StandsThroughout, StaysStanding, logs_after};
+ghost use Rattle.recovery.specs.Upgrading.{HasRotated, IsNewest, IsRefusedBehind, IsUnmoved, IsUnmovedWith, IsUpgradeRefused, IsUpgraded, StandsThroughout, StaysStanding, logs_after};
 
 use crate::checkpointing::seal_checkpoint;
 use crate::opening::open_parts;
@@ -51,7 +53,10 @@ fn advance<D: Disk>(keeper: &mut Keeper<D>, calls: usize) -> Result<(), Refusal>
     ensures logs { OnOk result (logs_of keeper.new ≡ logs_after calls (logs_of keeper.old)) }
     ensures checkpoint { keeper.new.checkpoint ≡ keeper.old.checkpoint }
     ensures sealed { keeper.new.sealed ≡ keeper.old.sealed }
-    ensures err { IfErr result (λ refusal. refusal ≡ Refusal.Failed) }
+
+    // Refused: after the one call that failed.
+    ensures err { IfErr result (λ refusal. (refusal ≡ Refusal.Failed)
+        × (D.failures keeper.new.disk ≡ D.failures keeper.old.disk + 1)) }
 {
     stops_of_a_keeper(keeper);
     for _ in 0..calls {
@@ -76,7 +81,11 @@ fn rotate<D: Disk>(keeper: &mut Keeper<D>) -> Result<(), Refusal>
     // If the newest log was that of the sealed checkpoint, the next log is the newest now.
     ensures rotated { OnOk result
         (keeper.old.log.generation ≡ keeper.old.sealed → HasRotated keeper.new) }
-    ensures err { IfErr result IsRefusedBehind }
+
+    // Refused: after the one call that failed, or if no checkpoint may begin.
+    ensures err { IfErr result (λ refusal. ((refusal ≡ Refusal.Failed)
+        × (D.failures keeper.new.disk ≡ D.failures keeper.old.disk + 1))
+        ⊎ ((refusal ≡ Refusal.WrongPhase) × (MayBegin keeper.old → ⊥))) }
 {
     stops_of_a_keeper(keeper);
     checkpoint_walk::begin(keeper)?;
@@ -90,6 +99,7 @@ fn rotate_sealed<D: Disk>(keeper: &mut Keeper<D>, steps: &mut At<'_>) -> Result<
         × IsUnmovedWith D.states D.honest o keeper.old steps.old.pass
         steps.old.words.now }
     requires none_runs { (keeper.old.next ≡ None) × (keeper.old.checkpoint ≡ None) }
+    requires rests { IsResting keeper.old.log }
 
     // No stop loses what the opening found.
     ensures stands { (o : Opening)
@@ -106,7 +116,13 @@ fn rotate_sealed<D: Disk>(keeper: &mut Keeper<D>, steps: &mut At<'_>) -> Result<
         ⊎ (keeper.old.log.generation ≡ keeper.old.sealed + 1)
         → ((n : ℕ) × (p : Record) × IsUnmoved D.states D.honest n o keeper.new p)
         × HasRotated keeper.new) }
-    ensures err { IfErr result IsRefusedBehind }
+    ensures err { IfErr result (λ refusal. (o : Opening)
+        → IsUnmovedWith D.states D.honest o keeper.old steps.old.pass
+        steps.old.words.now
+        → (keeper.old.log.generation ≡ keeper.old.sealed)
+        ⊎ (keeper.old.log.generation ≡ keeper.old.sealed + 1)
+        → IsRefusedBehind (D.failures keeper.new.disk ≡ D.failures keeper.old.disk + 1)
+        keeper.old.stripes.count o.map keeper.old.log.generation keeper.old.sealed refusal) }
 {
     if keeper.log.generation() == keeper.sealed {
         return rotate(keeper);
@@ -139,7 +155,12 @@ fn upgrade_keeper<D: Disk>(
         → ((n : ℕ) × (p : Record)
         × IsUnmoved D.states D.honest n (opening_of first parts.items limit) keeper.new p)
         × HasRotated keeper.new) }
-    ensures err { IfErr result IsRefusedBehind }
+    ensures err { IfErr result (λ refusal.
+        (keeper.old.log.generation ≡ keeper.old.sealed)
+        ⊎ (keeper.old.log.generation ≡ keeper.old.sealed + 1)
+        → IsRefusedBehind (D.failures keeper.new.disk ≡ D.failures keeper.old.disk + 1)
+        keeper.old.stripes.count (opening_of first parts.items limit).map keeper.old.log.generation
+        keeper.old.sealed refusal) }
 {
     stops_of_a_keeper(keeper);
     let mut words = PlainWords::new(alloc, keeper.stripes, parts, first, limit, 0)?;
@@ -162,15 +183,11 @@ fn is_newest(version: Version) -> bool
 pub fn upgrade<D: Disk>(alloc: Global, disk: D, stripes: StripeCount) -> Result<D, (D, Refusal)>
     // Nothing is written unless the directory opens; then no stop loses what it stands for.
     ensures ok { IfOk result (StaysStanding D.states D.failures D.honest disk) }
-    ensures stopped { IfErr result (λ x.
-        Stopped D.states D.failures D.honest 4 disk x.0 x.1
-        ⊎ StaysStanding D.states D.failures D.honest disk x.0) }
 
-    // On an honest disk, refused as an opening is, or for what comes behind it.
-    ensures err { IfErr result (λ x. D.honest x.0
-        → D.honest disk
-        × (RefusesFor (Refuses (contents_of D.states disk) x.1) x.1
-        ⊎ IsRefusedBehind x.1)) }
+    // Refused: its opening, which writes nothing; or behind it, and no stop loses what it stands for.
+    ensures refused { IfErr result (λ x.
+        IsNotOpened D.states D.failures D.honest disk x.0 x.1
+        ⊎ IsUpgradeRefused D.states D.failures D.honest stripes.count disk x.0 x.1) }
 
     // On an honest disk the newest log is then in the newest version, also after a stop.
     ensures upgraded { IfOk result (λ after. D.honest after → (found : Opened)

@@ -73,7 +73,7 @@ returns-in_err-upgraded-clause-err g c =
     let is_earlier = subst (λ x. IsFound states failures honest IsEarlier disk x) (sym c.into_disk.ensures) found in
     let q = err_from_is_err_and c.from_residual-in_err-upgraded.result c.from_residual-in_err-upgraded.ensures.1 in
     let e = c.in_err-upgraded.ensures in
-    rw (q.1, q.2) (inr (not_upgraded (record { opened = d; is_earlier = is_earlier; stopped = e.stopped; reason = e.err })))
+    rw (q.1, q.2) (inr (not_upgraded (record { opened = d; is_earlier = is_earlier; refused = e.refused })))
 
 pub returns-in_err-keeper-2-clause-err : goal.returns-in_err-keeper-2-clause-err
 returns-in_err-keeper-2-clause-err g c =

@@ -4,7 +4,7 @@ use Rattle.map_types.specs.declared.refusals.Refusal.TheVariants.{Failed}
 use Rattle.flusher.specs.Rotating.{logs_of}
 use Rattle.checkpoint_walk.specs.Checkpointing.{Checkpoints, checkpoints_of}
 use Rattle.recovery.specs.Upgrading.{advanced_by, checkpoints_after}
-use Rattle.recovery.proofs.Unmoved.{checkpoint_failed, checkpoint_goes_on, checkpoint_stands, checkpoint_unmoved, err_of, stays, through}
+use Rattle.recovery.proofs.Unmoved.{checkpoint_counted, checkpoint_failed, checkpoint_goes_on, checkpoint_stands, checkpoint_unmoved, err_of, stays, through}
 use Rattle.recovery.proofs.checkpointing.advance.Goals as goal
 
 pub loop-init : goal.loop-init
@@ -14,6 +14,7 @@ loop-init g c = record {
   checkpoints = refl;
   logs = refl;
   stripes = refl;
+  counted = refl;
 }
 
 pub advance-requires : goal.advance-requires
@@ -34,10 +35,14 @@ returns-in_err-_phase-clause-err g c =
     let q = err_from_is_err_and c.from_residual.result c.from_residual.ensures.1 in
     let first = c.requires.unmoved in
     let no_next = ap (λ l. l.next) c.loop.invariant.logs ∙ c.requires.no_rotation in
-    rw (q.1, q.2)
-    (err_of (λ refusal. refusal ≡ Failed) c.advance.result c.in_err-_phase.field-0.0 c.in_err-_phase.was
-    (checkpoint_failed g.D.Disk.states g.D.Disk.honest first.0 first.1 c.loop.keeper first.2 (c.loop.invariant.unmoved first.0 first.1 first.2 first.3) g.D.Disk.failures c.advance.new.keeper c.advance.result no_next
-    c.advance.ensures.rests c.advance.ensures.steps))
+    let failures = g.D.Disk.failures in
+    let k = c.loop.keeper in
+    let new = c.advance.new.keeper in
+    let so =
+    err_of (λ refusal. (refusal ≡ Failed) × (failures new.disk ≡ failures k.disk + 1)) c.advance.result c.in_err-_phase.field-0.0 c.in_err-_phase.was
+    (checkpoint_failed g.D.Disk.states g.D.Disk.honest first.0 first.1 k first.2 (c.loop.invariant.unmoved first.0 first.1 first.2 first.3) failures new c.advance.result no_next
+    c.advance.ensures.rests c.advance.ensures.steps) in
+    rw (q.1, q.2) (so.0, so.1 ∙ ap (λ (n : ℕ). n + 1) c.loop.invariant.counted)
 
 pub loop-preserved : goal.loop-preserved
 loop-preserved g c =
@@ -63,4 +68,7 @@ loop-preserved g c =
           ∙ ap (λ (x : Checkpoints). advanced_by x.writer x) inv.checkpoints ∙ ap (λ (m : ℕ). checkpoints_after m (checkpoints_of c.args.keeper.now)) (sym one);
       logs = ap logs_of c.advance.ensures.same ∙ inv.logs;
       stripes = ap (λ k. k.stripes) c.advance.ensures.same ∙ inv.stripes;
+      counted =
+          let now = inv.unmoved first.0 first.1 first.2 first.3 in
+          checkpoint_counted states honest first.0 first.1 k first.2 now g.D.Disk.failures new c.advance.result no_next c.advance.ensures.rests c.advance.ensures.steps c.in_ok-_phase._phase c.in_ok-_phase.was ∙ inv.counted;
     }

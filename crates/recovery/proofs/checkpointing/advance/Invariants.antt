@@ -13,4 +13,5 @@ invariant-loop g l = record {
   checkpoints : checkpoints_of l.keeper ≡ checkpoints_after l.counter (checkpoints_of l.initial.keeper);
   logs : logs_of l.keeper ≡ logs_of l.initial.keeper;
   stripes : l.keeper.stripes ≡ l.initial.keeper.stripes;
+  counted : g.D.Disk.failures l.keeper.disk ≡ g.D.Disk.failures l.initial.keeper.disk;
 }

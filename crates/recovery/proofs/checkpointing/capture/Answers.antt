@@ -4,8 +4,11 @@ use Rattle.map_types.specs.declared.refusals.Refusal.TheVariants.{Failed, WrongP
 use Rattle.ticket_order.specs.Walks.{Give, Look, Take, Ticket, next_kind}
 use Rattle.plain_words.specs.declared.at.At.{At}
 use Rattle.flusher.specs.declared.keeper.Keeper.{Keeper}
+use Rattle.one_history.specs.Turns.{record_of}
+use Rattle.checkpoint_walk.specs.Capturing.{IsCauseOf}
 use Rattle.checkpoint_walk.specs.Walking.{kind_next}
-use Rattle.recovery.proofs.OnePass.{captures_one, captures_two, given_at, gives, has_looked, looks, no_refusal, not_failed, puts_back, refused_behind, same_back, same_by, same_frame, same_given, same_place, same_two, start_fits, taken, takes, unmoved_then}
+use Rattle.recovery.proofs.Unmoved.{err_of}
+use Rattle.recovery.proofs.OnePass.{captures_one, captures_two, cause_of, given_at, gives, has_looked, looks, no_refusal, not_failed, puts_back, same_back, same_by, same_frame, same_given, same_place, same_two, section_refused, start_fits, taken, takes, unmoved_then}
 use Rattle.recovery.proofs.checkpointing.capture.Goals as goal
 
 pub capture_step-requires-3-clause-fits : goal.capture_step-requires-3-clause-fits
@@ -119,23 +122,36 @@ returns-in_err-_given-clause-err g c =
     let k = c.args.keeper.now in
     let k1 = c.capture_step.new.keeper in
     let k2 = c.capture_step-2.new.keeper in
+    let k3 = c.capture_step-3.new.keeper in
     let a = c.args.steps.now in
     let a1 = c.capture_step.new.steps in
     let a2 = c.capture_step-2.new.steps in
+    let a3 = c.capture_step-3.new.steps in
     let book = λ (at : At). at.words.now in
     let pass = λ (at : At). at.pass in
-    let t = takes book pass states honest i k k1 a a1 c.capture_step.result c.requires.unmoved.1.unmoved.over c.capture_step.ensures.after c.in_ok-_taken._taken c.in_ok-_taken.was in
-    let k3 = c.capture_step-3.new.keeper in
-    let a3 = c.capture_step-3.new.steps in
-    let e = c.in_err-_given.field-0.0 in
     let n1 = c.capture_step.ensures.stripes in
     let n2 = c.capture_step-2.ensures.stripes in
     let r2 = c.capture_step-2.result in
     let r3 = c.capture_step-3.result in
-    let back = puts_back book pass states honest i k k1 k2 a a1 a2 t n1 r2 c.capture_step-2.ensures.after k3 a3 n2 r3 c.capture_step-3.ensures.after e c.in_err-_given.was in
-    let same = same_back book pass states honest i k k1 k2 a a1 a2 t n1 r2 c.capture_step-2.ensures.after k3 a3 n2 r3 c.capture_step-3.ensures.after e back in
+    let after2 = c.capture_step-2.ensures.after in
+    let after3 = c.capture_step-3.ensures.after in
+    let e = c.in_err-_given.field-0.0 in
+    let t = takes book pass states honest i k k1 a a1 c.capture_step.result c.requires.unmoved.1.unmoved.over c.capture_step.ensures.after c.in_ok-_taken._taken c.in_ok-_taken.was in
+    let back = puts_back book pass states honest i k k1 k2 a a1 a2 t n1 r2 after2 k3 a3 n2 r3 after3 e c.in_err-_given.was in
+    let two = captures_two book pass states honest i k k1 k2 a a1 a2 t n1 r2 after2 k3 a3 n2 r3 after3 in
+    let look = looks book pass states honest i k k1 k2 a a1 a2 t n1 r2 after2 in
+    let cause = err_of (IsCauseOf look.next) r3 e c.in_err-_given.was (c.capture_step-3.ensures.cause look.next two) in
+    let many = cause_of book pass states honest i k k1 k2 a a1 a2 t n1 r2 after2 k3 a3 n2 r3 after3 e back cause in
+    let made1 = c.capture_step.ensures.one (not_failed c.capture_step.result c.in_ok-_taken._taken Failed c.in_ok-_taken.was) (not_failed c.capture_step.result c.in_ok-_taken._taken WrongPhase c.in_ok-_taken.was) in
+    let made2 = c.capture_step-2.ensures.one (not_failed r2 c.in_ok-_looked._looked Failed c.in_ok-_looked.was) (not_failed r2 c.in_ok-_looked._looked WrongPhase c.in_ok-_looked.was) in
+    let kind1 : kind_next a.words.now.stripes i k.capture ≡ Take i = ap (kind_next a.words.now.stripes i) c.requires.unmoved.1.unmoved.over in
+    let kind2 : kind_next a1.words.now.stripes i k1.capture ≡ Look = ap (kind_next a1.words.now.stripes i) (captures_one book pass states honest i k k1 k2 a a1 a2 t n1 r2 after2) ∙ (taken book pass states honest i k k1 k2 a a1 a2 t n1 r2 after2).next in
+    let same1 = same_by book pass states honest i (kind_next a.words.now.stripes i k.capture) a a1 (λ x. let y : Take i ≡ Ticket = sym kind1 ∙ x in absurd cc) (same_place a a1 c.capture_step.ensures.place) made1 in
+    let same2 = same_by book pass states honest i (kind_next a1.words.now.stripes i k1.capture) a1 a2 (λ x. let y : Look ≡ Ticket = sym kind2 ∙ x in absurd cc) (same_place a1 a2 c.capture_step-2.ensures.place) made2 in
     let q = err_from_is_err_and c.from_residual-in_err-_given.result c.from_residual-in_err-_given.ensures.1 in
-    rw (q.1, q.2) (refused_behind book pass states honest i k k1 k2 a a1 a2 t n1 r2 c.capture_step-2.ensures.after k3 a3 n2 r3 c.capture_step-3.ensures.after e back)
+    rw (q.1, q.2) (λ o is.
+    section_refused a2.words.now a2.pass i k.stripes.count o (record_of a.pass a.words.now) e c.keeps_one_history.ensures.one c.keeps_one_history.ensures.within
+    (same2.history ∙ same1.history ∙ is.none_made) is.unmoved.opening (n2 ∙ n1 ∙ sym is.unmoved.fits.stripes.count) many)
 
 pub returns-clause-disk : goal.returns-clause-disk
 returns-clause-disk g c =

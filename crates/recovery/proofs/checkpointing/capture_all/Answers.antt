@@ -1,8 +1,10 @@
-use Rattle.std.proofs.Common.{◌≡◌, refl, ap, ◌∙◌, arith}
+use Rattle.std.proofs.Common.{◌≡◌, ℕ, ◌+◌, inl, inr, refl, ap, subst, ◌∙◌, arith}
+use Rattle.std.proofs.lemmas.Result.{err_from_is_err_and}
 use Rattle.java_hash.specs.declared.stripe_count.StripeCount.{StripeCount}
 use Rattle.one_history.specs.Turns.{record_of}
 use Rattle.flusher.specs.declared.keeper.Keeper.{Keeper}
 use Rattle.flusher.specs.Rotating.{Logs, logs_of}
+use Rattle.recovery.specs.Upgrading.{IsSectionRefused}
 use Rattle.recovery.proofs.Unmoved.{stays, still, through}
 use Rattle.recovery.proofs.Sections.{is_next, one_more, one_sealed, unmoved_with}
 use Rattle.recovery.proofs.checkpointing.capture_all.Goals as goal
@@ -16,6 +18,7 @@ loop-stripe-init g c = record {
   sealed = refl;
   logs = refl;
   stripes = refl;
+  counted = refl;
 }
 
 pub capture-requires-clause-unmoved : goal.capture-requires-clause-unmoved
@@ -49,6 +52,22 @@ returns-in_err-advance-clause-stands g c = λ o is.
     (still states honest o.first o.map c.args.keeper.now.disk c.loop-stripe.keeper.disk c.capture.new.keeper.disk (inv.stands o is) c.capture.ensures.disk)
     (c.advance.ensures.stands b.stripes o (record_of c.capture.new.steps.pass b) now.unmoved)
 
+pub returns-in_err-capture-clause-err : goal.returns-in_err-capture-clause-err
+returns-in_err-capture-clause-err g c =
+    let inv = c.loop-stripe.invariant in
+    let e = c.in_err-capture.field-0.0 in
+    let q = err_from_is_err_and c.from_residual.result c.from_residual.ensures.1 in
+    rw (q.1, q.2) (λ o is.
+    inr (subst (λ (n : ℕ). IsSectionRefused n o.map e) (ap (λ (s : StripeCount). s.count) inv.stripes) (c.in_err-capture.ensures.err o (inv.unmoved o is))))
+
+pub returns-in_err-advance-clause-err : goal.returns-in_err-advance-clause-err
+returns-in_err-advance-clause-err g c =
+    let failures = g.D.Disk.failures in
+    let inv = c.loop-stripe.invariant in
+    let failed = c.in_err-advance.ensures.err in
+    let q = err_from_is_err_and c.from_residual-in_err-advance.result c.from_residual-in_err-advance.ensures.1 in
+    rw (q.1, q.2) (λ o is. inl (failed.0, failed.1 ∙ ap (λ (n : ℕ). n + 1) (ap failures c.capture.ensures.disk ∙ inv.counted)))
+
 pub loop-stripe-preserved : goal.loop-stripe-preserved
 loop-stripe-preserved g c =
     let states = g.D.Disk.states in
@@ -76,4 +95,5 @@ loop-stripe-preserved g c =
           ∙ ap (λ (x : Keeper _). x.sealed) c.capture.ensures.same ∙ inv.sealed;
       logs = c.advance.ensures.logs ∙ ap logs_of c.capture.ensures.same ∙ inv.logs;
       stripes = c.advance.ensures.stripes ∙ ap (λ (x : Keeper _). x.stripes) c.capture.ensures.same ∙ inv.stripes;
+      counted = c.in_ok-advance.ensures.counted ∙ ap g.D.Disk.failures c.capture.ensures.disk ∙ inv.counted;
     }

@@ -14,4 +14,5 @@ invariant-loop-stripe g l = record {
   sealed : l.keeper.sealed ≡ l.initial.keeper.sealed;
   logs : logs_of l.keeper ≡ logs_of l.initial.keeper;
   stripes : l.keeper.stripes ≡ l.initial.keeper.stripes;
+  counted : g.D.Disk.failures l.keeper.disk ≡ g.D.Disk.failures l.initial.keeper.disk;
 }

@@ -1,321 +1,237 @@
-use Rattle.std.proofs.Common.{◌≡◌, ◌⊎◌, ◌+◌, [], Err, ap, ◌∙◌}
+use Rattle.std.proofs.Common.{◌≡◌, ◌+◌, inl, [], ℕ, ap, ◌∙◌}
 use Rattle.std.proofs.lemmas.Result.{err_from_is_err_and}
+use Rattle.map_types.specs.declared.refusals.Refusal.TheVariants.{Failed}
+use Rattle.java_hash.specs.declared.stripe_count.StripeCount.{StripeCount}
 use Rattle.one_history.specs.Turns.{record_of}
-use Rattle.ticket_order.specs.declared.record.Opening.{Opening}
-use Rattle.map_types.specs.declared.refusals.Refusal.TheVariants.{Failed, TooEarly, WrongPhase}
 use Rattle.flusher.specs.declared.keeper.Keeper.{Keeper}
-use Rattle.recovery.specs.Upgrading.{IsUnmoved, IsUnmovedWith, StandsThroughout}
 use Rattle.recovery.proofs.GateClosing.{on_ok}
-use Rattle.recovery.proofs.Unmoved.{begun_unmoved, err_of, stays, still, through}
-use Rattle.recovery.proofs.Sections.{opens, published_all, seal_refused, sealing_unmoved, seals, unmoved_with}
+use Rattle.recovery.proofs.OpeningLemmas.{if_err}
+use Rattle.recovery.proofs.Sections.{all_given, opens, published_all, seals, unmoved_with}
+use Rattle.recovery.proofs.Unmoved.{through}
+use Rattle.recovery.proofs.StaysUnmoved.{begun, called, captured, left, sealed, stood}
+use Rattle.recovery.proofs.RefusedBehind.{checkpoint_refused, not_begun, not_broken, not_sealed}
 use Rattle.recovery.proofs.checkpointing.seal_checkpoint.Goals as goal
+
+pub returns-in_err-begin-clause-err : goal.returns-in_err-begin-clause-err
+returns-in_err-begin-clause-err g c =
+    let q = err_from_is_err_and c.from_residual.result c.from_residual.ensures.1 in
+    let k = c.args.keeper.now in
+    rw (q.1, q.2) (λ o is below.
+    absurd (not_begun c.begin.result c.in_err-begin.field-0.0 c.in_err-begin.was c.in_err-begin.ensures.no_other (λ failed. not_broken k.is_broken is.unmoved.works (c.begin.ensures.failed.0 failed))
+    (λ wrong. (c.begin.ensures.wrong_phase.0 wrong).1 (record { none_runs = c.requires.none_runs.1; no_rotation = c.requires.none_runs.0; fits = below; rests = λ e. absurd (c.requires.goes_with e) }))))
 
 pub advance-requires-clause-unmoved : goal.advance-requires-clause-unmoved
 advance-requires-clause-unmoved g c =
-    let states = g.D.Disk.states in
-    let honest = g.D.Disk.honest in
-    let k = c.args.keeper.now in
-    let k1 = c.begin.new.keeper in
-    let b = c.args.steps.now.words.now in
-    let j = c.args.steps.now.pass in
-    let p = record_of j b in
-    let un1 : (o : Opening) → IsUnmovedWith states honest o k j b → IsUnmoved states honest b.stripes o k1 p =
-    λ o is. begun_unmoved states honest b.stripes o k p is.unmoved k1 c.begin.ensures.same (c.begin.ensures.fits b.stripes [] p is.unmoved.fits) in
-    let st1 : (o : Opening) → IsUnmovedWith states honest o k j b → StandsThroughout states honest o.first o.map k.disk k1.disk =
-    λ o is. stays states honest b.stripes o k p is.unmoved k1.disk (ap (λ (x : Keeper _). x.disk) c.begin.ensures.same) c.stops_of_a_keeper.ensures in
-    (b.stripes, c.requires.unmoved.0, p, un1 c.requires.unmoved.0 c.requires.unmoved.1)
+    let a = c.args.steps.now in
+    let far = begun g.D.Disk.states g.D.Disk.honest c.args.keeper.now a c.begin.new.keeper c.begin.ensures.same c.begin.ensures.fits c.stops_of_a_keeper.ensures in
+    let first = c.requires.unmoved in
+    (a.words.now.stripes, first.0, record_of a.pass a.words.now, (far.unmoved first.0 first.1).unmoved)
 
 pub returns-in_err-advance-clause-stands : goal.returns-in_err-advance-clause-stands
 returns-in_err-advance-clause-stands g c =
     let states = g.D.Disk.states in
     let honest = g.D.Disk.honest in
     let k = c.args.keeper.now in
+    let a = c.args.steps.now in
+    let b = a.words.now in
     let k1 = c.begin.new.keeper in
-    let b = c.args.steps.now.words.now in
-    let j = c.args.steps.now.pass in
-    let p = record_of j b in
-    let un1 : (o : Opening) → IsUnmovedWith states honest o k j b → IsUnmoved states honest b.stripes o k1 p =
-    λ o is. begun_unmoved states honest b.stripes o k p is.unmoved k1 c.begin.ensures.same (c.begin.ensures.fits b.stripes [] p is.unmoved.fits) in
-    let st1 : (o : Opening) → IsUnmovedWith states honest o k j b → StandsThroughout states honest o.first o.map k.disk k1.disk =
-    λ o is. stays states honest b.stripes o k p is.unmoved k1.disk (ap (λ (x : Keeper _). x.disk) c.begin.ensures.same) c.stops_of_a_keeper.ensures in
-    let k2 = c.advance.new.keeper in
-    let st2 : (o : Opening) → IsUnmovedWith states honest o k j b → StandsThroughout states honest o.first o.map k.disk k2.disk =
-    λ o is. through states honest o.first o.map k.disk k1.disk k2.disk (st1 o is) (c.advance.ensures.stands b.stripes o p (un1 o is)) in
-    st2
+    let far = begun states honest k a k1 c.begin.ensures.same c.begin.ensures.fits c.stops_of_a_keeper.ensures in
+    stood states honest k a k1 a far c.advance.new.keeper (λ o. c.advance.ensures.stands b.stripes o (record_of a.pass b))
+
+pub returns-in_err-advance-clause-err : goal.returns-in_err-advance-clause-err
+returns-in_err-advance-clause-err g c =
+    let q = err_from_is_err_and c.from_residual-in_err-advance.result c.from_residual-in_err-advance.ensures.1 in
+    let failed = c.in_err-advance.ensures.err in
+    rw (q.1, q.2) (λ o is below. inl (failed.0, failed.1 ∙ ap (λ (x : Keeper _). g.D.Disk.failures x.disk + 1) c.begin.ensures.same))
 
 pub capture_all-requires-clause-begun : goal.capture_all-requires-clause-begun
 capture_all-requires-clause-begun g c =
     let states = g.D.Disk.states in
     let honest = g.D.Disk.honest in
     let k = c.args.keeper.now in
+    let a = c.args.steps.now in
+    let b = a.words.now in
     let k1 = c.begin.new.keeper in
-    let b = c.args.steps.now.words.now in
-    let j = c.args.steps.now.pass in
-    let p = record_of j b in
-    let un1 : (o : Opening) → IsUnmovedWith states honest o k j b → IsUnmoved states honest b.stripes o k1 p =
-    λ o is. begun_unmoved states honest b.stripes o k p is.unmoved k1 c.begin.ensures.same (c.begin.ensures.fits b.stripes [] p is.unmoved.fits) in
-    let st1 : (o : Opening) → IsUnmovedWith states honest o k j b → StandsThroughout states honest o.first o.map k.disk k1.disk =
-    λ o is. stays states honest b.stripes o k p is.unmoved k1.disk (ap (λ (x : Keeper _). x.disk) c.begin.ensures.same) c.stops_of_a_keeper.ensures in
     let k2 = c.advance.new.keeper in
-    let st2 : (o : Opening) → IsUnmovedWith states honest o k j b → StandsThroughout states honest o.first o.map k.disk k2.disk =
-    λ o is. through states honest o.first o.map k.disk k1.disk k2.disk (st1 o is) (c.advance.ensures.stands b.stripes o p (un1 o is)) in
-    let un2 : (o : Opening) → IsUnmovedWith states honest o k j b → IsUnmovedWith states honest o k2 j b =
-    λ o is. unmoved_with states honest o k k2 j b is (c.in_ok-advance.ensures.unmoved b.stripes o p (un1 o is)) in
-    let has = λ (o : Opening). opens k1 k2 (k.sealed + 1) k.log.low k.stripes.count o.first k.must_close (c.in_ok-begin.ensures.ok.goes_with c.requires.goes_with).1 c.in_ok-advance.ensures.checkpoints in
-    (c.requires.unmoved.0, k.sealed + 1, un2 c.requires.unmoved.0 c.requires.unmoved.1, has c.requires.unmoved.0)
+    let far1 = begun states honest k a k1 c.begin.ensures.same c.begin.ensures.fits c.stops_of_a_keeper.ensures in
+    let far2 = called states honest k a k1 a far1 k2 (λ o. c.advance.ensures.stands b.stripes o (record_of a.pass b)) (λ o. c.in_ok-advance.ensures.unmoved b.stripes o (record_of a.pass b)) in
+    let first = c.requires.unmoved in (
+      first.0,
+      k.sealed + 1,
+      far2.unmoved first.0 first.1,
+      opens k1 k2 (k.sealed + 1) k.log.low k.stripes.count first.0.first k.must_close (c.in_ok-begin.ensures.ok.goes_with c.requires.goes_with).1 c.in_ok-advance.ensures.checkpoints,
+    )
 
 pub returns-in_err-capture_all-clause-stands : goal.returns-in_err-capture_all-clause-stands
 returns-in_err-capture_all-clause-stands g c =
     let states = g.D.Disk.states in
     let honest = g.D.Disk.honest in
     let k = c.args.keeper.now in
+    let a = c.args.steps.now in
+    let b = a.words.now in
     let k1 = c.begin.new.keeper in
-    let b = c.args.steps.now.words.now in
-    let j = c.args.steps.now.pass in
-    let p = record_of j b in
-    let un1 : (o : Opening) → IsUnmovedWith states honest o k j b → IsUnmoved states honest b.stripes o k1 p =
-    λ o is. begun_unmoved states honest b.stripes o k p is.unmoved k1 c.begin.ensures.same (c.begin.ensures.fits b.stripes [] p is.unmoved.fits) in
-    let st1 : (o : Opening) → IsUnmovedWith states honest o k j b → StandsThroughout states honest o.first o.map k.disk k1.disk =
-    λ o is. stays states honest b.stripes o k p is.unmoved k1.disk (ap (λ (x : Keeper _). x.disk) c.begin.ensures.same) c.stops_of_a_keeper.ensures in
     let k2 = c.advance.new.keeper in
-    let st2 : (o : Opening) → IsUnmovedWith states honest o k j b → StandsThroughout states honest o.first o.map k.disk k2.disk =
-    λ o is. through states honest o.first o.map k.disk k1.disk k2.disk (st1 o is) (c.advance.ensures.stands b.stripes o p (un1 o is)) in
-    let un2 : (o : Opening) → IsUnmovedWith states honest o k j b → IsUnmovedWith states honest o k2 j b =
-    λ o is. unmoved_with states honest o k k2 j b is (c.in_ok-advance.ensures.unmoved b.stripes o p (un1 o is)) in
-    let has = λ (o : Opening). opens k1 k2 (k.sealed + 1) k.log.low k.stripes.count o.first k.must_close (c.in_ok-begin.ensures.ok.goes_with c.requires.goes_with).1 c.in_ok-advance.ensures.checkpoints in
+    let far1 = begun states honest k a k1 c.begin.ensures.same c.begin.ensures.fits c.stops_of_a_keeper.ensures in
+    let far2 = called states honest k a k1 a far1 k2 (λ o. c.advance.ensures.stands b.stripes o (record_of a.pass b)) (λ o. c.in_ok-advance.ensures.unmoved b.stripes o (record_of a.pass b)) in
+    λ o is. through states honest o.first o.map k.disk k2.disk c.capture_all.new.keeper.disk (far2.stands o is) (c.capture_all.ensures.stands o (far2.unmoved o is))
+
+pub returns-in_err-capture_all-clause-err : goal.returns-in_err-capture_all-clause-err
+returns-in_err-capture_all-clause-err g c =
+    let states = g.D.Disk.states in
+    let failures = g.D.Disk.failures in
+    let honest = g.D.Disk.honest in
+    let k = c.args.keeper.now in
+    let a = c.args.steps.now in
+    let b = a.words.now in
+    let k1 = c.begin.new.keeper in
+    let k2 = c.advance.new.keeper in
     let k3 = c.capture_all.new.keeper in
-    let b3 = c.capture_all.new.steps.words.now in
-    let j3 = c.capture_all.new.steps.pass in
-    let st3 : (o : Opening) → IsUnmovedWith states honest o k j b → StandsThroughout states honest o.first o.map k.disk k3.disk =
-    λ o is. through states honest o.first o.map k.disk k2.disk k3.disk (st2 o is) (c.capture_all.ensures.stands o (un2 o is)) in
-    st3
+    let far1 = begun states honest k a k1 c.begin.ensures.same c.begin.ensures.fits c.stops_of_a_keeper.ensures in
+    let far2 = called states honest k a k1 a far1 k2 (λ o. c.advance.ensures.stands b.stripes o (record_of a.pass b)) (λ o. c.in_ok-advance.ensures.unmoved b.stripes o (record_of a.pass b)) in
+    let counted : failures k2.disk ≡ failures k.disk = c.in_ok-advance.ensures.counted ∙ ap (λ (x : Keeper _). failures x.disk) c.begin.ensures.same in
+    let count : k2.stripes.count ≡ k.stripes.count = ap (λ (s : StripeCount). s.count) (c.advance.ensures.stripes ∙ ap (λ (x : Keeper _). x.stripes) c.begin.ensures.same) in
+    let q = err_from_is_err_and c.from_residual-in_err-capture_all.result c.from_residual-in_err-capture_all.ensures.1 in
+    rw (q.1, q.2) (λ o is below.
+    checkpoint_refused (failures k3.disk ≡ failures k2.disk + 1) (failures k3.disk ≡ failures k.disk + 1) k2.stripes.count k.stripes.count o.map c.in_err-capture_all.field-0.0 (λ failing. failing ∙ ap (λ (n : ℕ). n + 1) counted) count
+    (c.in_err-capture_all.ensures.err o (far2.unmoved o is)))
 
 pub seal-requires : goal.seal-requires
 seal-requires g c =
     let states = g.D.Disk.states in
     let honest = g.D.Disk.honest in
     let k = c.args.keeper.now in
+    let a = c.args.steps.now in
+    let b = a.words.now in
     let k1 = c.begin.new.keeper in
-    let b = c.args.steps.now.words.now in
-    let j = c.args.steps.now.pass in
-    let p = record_of j b in
-    let un1 : (o : Opening) → IsUnmovedWith states honest o k j b → IsUnmoved states honest b.stripes o k1 p =
-    λ o is. begun_unmoved states honest b.stripes o k p is.unmoved k1 c.begin.ensures.same (c.begin.ensures.fits b.stripes [] p is.unmoved.fits) in
-    let st1 : (o : Opening) → IsUnmovedWith states honest o k j b → StandsThroughout states honest o.first o.map k.disk k1.disk =
-    λ o is. stays states honest b.stripes o k p is.unmoved k1.disk (ap (λ (x : Keeper _). x.disk) c.begin.ensures.same) c.stops_of_a_keeper.ensures in
     let k2 = c.advance.new.keeper in
-    let st2 : (o : Opening) → IsUnmovedWith states honest o k j b → StandsThroughout states honest o.first o.map k.disk k2.disk =
-    λ o is. through states honest o.first o.map k.disk k1.disk k2.disk (st1 o is) (c.advance.ensures.stands b.stripes o p (un1 o is)) in
-    let un2 : (o : Opening) → IsUnmovedWith states honest o k j b → IsUnmovedWith states honest o k2 j b =
-    λ o is. unmoved_with states honest o k k2 j b is (c.in_ok-advance.ensures.unmoved b.stripes o p (un1 o is)) in
-    let has = λ (o : Opening). opens k1 k2 (k.sealed + 1) k.log.low k.stripes.count o.first k.must_close (c.in_ok-begin.ensures.ok.goes_with c.requires.goes_with).1 c.in_ok-advance.ensures.checkpoints in
-    let k3 = c.capture_all.new.keeper in
-    let b3 = c.capture_all.new.steps.words.now in
-    let j3 = c.capture_all.new.steps.pass in
-    let st3 : (o : Opening) → IsUnmovedWith states honest o k j b → StandsThroughout states honest o.first o.map k.disk k3.disk =
-    λ o is. through states honest o.first o.map k.disk k2.disk k3.disk (st2 o is) (c.capture_all.ensures.stands o (un2 o is)) in
-    let un3 : (o : Opening) → IsUnmovedWith states honest o k j b → IsUnmovedWith states honest o k3 j3 b3 = λ o is. c.in_ok-capture_all.ensures.unmoved o (un2 o is) in
+    let a3 = c.capture_all.new.steps in
+    let far1 = begun states honest k a k1 c.begin.ensures.same c.begin.ensures.fits c.stops_of_a_keeper.ensures in
+    let far2 = called states honest k a k1 a far1 k2 (λ o. c.advance.ensures.stands b.stripes o (record_of a.pass b)) (λ o. c.in_ok-advance.ensures.unmoved b.stripes o (record_of a.pass b)) in
+    let far3 = captured states honest k a k2 a far2 c.capture_all.new.keeper a3 c.capture_all.ensures.stands c.in_ok-capture_all.ensures.unmoved in
     let first = c.requires.unmoved in
-    (b3.stripes, [], record_of j3 b3, (un3 first.0 first.1).unmoved.fits)
+    (a3.words.now.stripes, [], record_of a3.pass a3.words.now, (far3.unmoved first.0 first.1).unmoved.fits)
 
 pub returns-in_err-seal-clause-stands : goal.returns-in_err-seal-clause-stands
 returns-in_err-seal-clause-stands g c =
     let states = g.D.Disk.states in
     let honest = g.D.Disk.honest in
     let k = c.args.keeper.now in
+    let a = c.args.steps.now in
+    let b = a.words.now in
     let k1 = c.begin.new.keeper in
-    let b = c.args.steps.now.words.now in
-    let j = c.args.steps.now.pass in
-    let p = record_of j b in
-    let un1 : (o : Opening) → IsUnmovedWith states honest o k j b → IsUnmoved states honest b.stripes o k1 p =
-    λ o is. begun_unmoved states honest b.stripes o k p is.unmoved k1 c.begin.ensures.same (c.begin.ensures.fits b.stripes [] p is.unmoved.fits) in
-    let st1 : (o : Opening) → IsUnmovedWith states honest o k j b → StandsThroughout states honest o.first o.map k.disk k1.disk =
-    λ o is. stays states honest b.stripes o k p is.unmoved k1.disk (ap (λ (x : Keeper _). x.disk) c.begin.ensures.same) c.stops_of_a_keeper.ensures in
     let k2 = c.advance.new.keeper in
-    let st2 : (o : Opening) → IsUnmovedWith states honest o k j b → StandsThroughout states honest o.first o.map k.disk k2.disk =
-    λ o is. through states honest o.first o.map k.disk k1.disk k2.disk (st1 o is) (c.advance.ensures.stands b.stripes o p (un1 o is)) in
-    let un2 : (o : Opening) → IsUnmovedWith states honest o k j b → IsUnmovedWith states honest o k2 j b =
-    λ o is. unmoved_with states honest o k k2 j b is (c.in_ok-advance.ensures.unmoved b.stripes o p (un1 o is)) in
-    let has = λ (o : Opening). opens k1 k2 (k.sealed + 1) k.log.low k.stripes.count o.first k.must_close (c.in_ok-begin.ensures.ok.goes_with c.requires.goes_with).1 c.in_ok-advance.ensures.checkpoints in
     let k3 = c.capture_all.new.keeper in
-    let b3 = c.capture_all.new.steps.words.now in
-    let j3 = c.capture_all.new.steps.pass in
-    let st3 : (o : Opening) → IsUnmovedWith states honest o k j b → StandsThroughout states honest o.first o.map k.disk k3.disk =
-    λ o is. through states honest o.first o.map k.disk k2.disk k3.disk (st2 o is) (c.capture_all.ensures.stands o (un2 o is)) in
-    let un3 : (o : Opening) → IsUnmovedWith states honest o k j b → IsUnmovedWith states honest o k3 j3 b3 = λ o is. c.in_ok-capture_all.ensures.unmoved o (un2 o is) in
-    let first = c.requires.unmoved in
-    let k4 = c.seal.new.keeper in
-    let p3 = record_of j3 b3 in
-    λ o is. still states honest o.first o.map k.disk k3.disk k4.disk (st3 o is) (ap (λ (x : Keeper _). x.disk) c.in_err-seal.ensures.err)
+    let a3 = c.capture_all.new.steps in
+    let far1 = begun states honest k a k1 c.begin.ensures.same c.begin.ensures.fits c.stops_of_a_keeper.ensures in
+    let far2 = called states honest k a k1 a far1 k2 (λ o. c.advance.ensures.stands b.stripes o (record_of a.pass b)) (λ o. c.in_ok-advance.ensures.unmoved b.stripes o (record_of a.pass b)) in
+    let far3 = captured states honest k a k2 a far2 k3 a3 c.capture_all.ensures.stands c.in_ok-capture_all.ensures.unmoved in
+    left states honest k a k3 a3 far3 c.seal.new.keeper c.in_err-seal.ensures.err
 
 pub returns-in_err-seal-clause-err : goal.returns-in_err-seal-clause-err
 returns-in_err-seal-clause-err g c =
     let states = g.D.Disk.states in
     let honest = g.D.Disk.honest in
     let k = c.args.keeper.now in
+    let a = c.args.steps.now in
+    let b = a.words.now in
     let k1 = c.begin.new.keeper in
-    let b = c.args.steps.now.words.now in
-    let j = c.args.steps.now.pass in
-    let p = record_of j b in
-    let un1 : (o : Opening) → IsUnmovedWith states honest o k j b → IsUnmoved states honest b.stripes o k1 p =
-    λ o is. begun_unmoved states honest b.stripes o k p is.unmoved k1 c.begin.ensures.same (c.begin.ensures.fits b.stripes [] p is.unmoved.fits) in
-    let st1 : (o : Opening) → IsUnmovedWith states honest o k j b → StandsThroughout states honest o.first o.map k.disk k1.disk =
-    λ o is. stays states honest b.stripes o k p is.unmoved k1.disk (ap (λ (x : Keeper _). x.disk) c.begin.ensures.same) c.stops_of_a_keeper.ensures in
     let k2 = c.advance.new.keeper in
-    let st2 : (o : Opening) → IsUnmovedWith states honest o k j b → StandsThroughout states honest o.first o.map k.disk k2.disk =
-    λ o is. through states honest o.first o.map k.disk k1.disk k2.disk (st1 o is) (c.advance.ensures.stands b.stripes o p (un1 o is)) in
-    let un2 : (o : Opening) → IsUnmovedWith states honest o k j b → IsUnmovedWith states honest o k2 j b =
-    λ o is. unmoved_with states honest o k k2 j b is (c.in_ok-advance.ensures.unmoved b.stripes o p (un1 o is)) in
-    let has = λ (o : Opening). opens k1 k2 (k.sealed + 1) k.log.low k.stripes.count o.first k.must_close (c.in_ok-begin.ensures.ok.goes_with c.requires.goes_with).1 c.in_ok-advance.ensures.checkpoints in
     let k3 = c.capture_all.new.keeper in
-    let b3 = c.capture_all.new.steps.words.now in
-    let j3 = c.capture_all.new.steps.pass in
-    let st3 : (o : Opening) → IsUnmovedWith states honest o k j b → StandsThroughout states honest o.first o.map k.disk k3.disk =
-    λ o is. through states honest o.first o.map k.disk k2.disk k3.disk (st2 o is) (c.capture_all.ensures.stands o (un2 o is)) in
-    let un3 : (o : Opening) → IsUnmovedWith states honest o k j b → IsUnmovedWith states honest o k3 j3 b3 = λ o is. c.in_ok-capture_all.ensures.unmoved o (un2 o is) in
-    let first = c.requires.unmoved in
-    let k4 = c.seal.new.keeper in
-    let p3 = record_of j3 b3 in
+    let a3 = c.capture_all.new.steps in
+    let far1 = begun states honest k a k1 c.begin.ensures.same c.begin.ensures.fits c.stops_of_a_keeper.ensures in
+    let far2 = called states honest k a k1 a far1 k2 (λ o. c.advance.ensures.stands b.stripes o (record_of a.pass b)) (λ o. c.in_ok-advance.ensures.unmoved b.stripes o (record_of a.pass b)) in
+    let far3 = captured states honest k a k2 a far2 k3 a3 c.capture_all.ensures.stands c.in_ok-capture_all.ensures.unmoved in
     let q = err_from_is_err_and c.from_residual-in_err-seal.result c.from_residual-in_err-seal.ensures.1 in
-    let e = c.in_err-seal.field-0.0 in
-    let given = c.in_ok-capture_all.ensures.given first.0 (k.sealed + 1) (un2 first.0 first.1) (has first.0) in
-    rw (q.1, q.2)
-    (seal_refused e (λ early. published_all states honest first.0 k3 j3 b3 (un3 first.0 first.1) (k.sealed + 1) k3.stripes.count given (c.seal.ensures.early.0 (c.in_err-seal.was ∙ ap Err early)).2)
-    (err_of (λ e. (e ≡ Failed) ⊎ ((e ≡ WrongPhase) ⊎ (e ≡ TooEarly))) c.seal.result e c.in_err-seal.was c.seal.ensures.no_other))
+    rw (q.1, q.2) (λ o is below.
+    let un3 = far3.unmoved o is in
+    let has = opens k1 k2 (k.sealed + 1) k.log.low k.stripes.count o.first k.must_close (c.in_ok-begin.ensures.ok.goes_with c.requires.goes_with).1 c.in_ok-advance.ensures.checkpoints in
+    let given = c.in_ok-capture_all.ensures.given o (k.sealed + 1) (far2.unmoved o is) has in
+    absurd (not_sealed c.seal.result c.in_err-seal.field-0.0 c.in_err-seal.was c.in_err-seal.ensures.no_other (λ failed. not_broken k3.is_broken un3.unmoved.works (c.seal.ensures.failed.0 failed))
+    (λ wrong. (c.seal.ensures.wrong_phase.0 wrong).1 (all_given states honest o k3 a3.pass a3.words.now un3 (k.sealed + 1) given))
+    (λ early. published_all states honest o k3 a3.pass a3.words.now un3 (k.sealed + 1) k3.stripes.count given (c.seal.ensures.early.0 early).2)))
 
 pub advance-requires-2-clause-unmoved : goal.advance-requires-2-clause-unmoved
 advance-requires-2-clause-unmoved g c =
     let states = g.D.Disk.states in
     let honest = g.D.Disk.honest in
     let k = c.args.keeper.now in
+    let a = c.args.steps.now in
+    let b = a.words.now in
     let k1 = c.begin.new.keeper in
-    let b = c.args.steps.now.words.now in
-    let j = c.args.steps.now.pass in
-    let p = record_of j b in
-    let un1 : (o : Opening) → IsUnmovedWith states honest o k j b → IsUnmoved states honest b.stripes o k1 p =
-    λ o is. begun_unmoved states honest b.stripes o k p is.unmoved k1 c.begin.ensures.same (c.begin.ensures.fits b.stripes [] p is.unmoved.fits) in
-    let st1 : (o : Opening) → IsUnmovedWith states honest o k j b → StandsThroughout states honest o.first o.map k.disk k1.disk =
-    λ o is. stays states honest b.stripes o k p is.unmoved k1.disk (ap (λ (x : Keeper _). x.disk) c.begin.ensures.same) c.stops_of_a_keeper.ensures in
     let k2 = c.advance.new.keeper in
-    let st2 : (o : Opening) → IsUnmovedWith states honest o k j b → StandsThroughout states honest o.first o.map k.disk k2.disk =
-    λ o is. through states honest o.first o.map k.disk k1.disk k2.disk (st1 o is) (c.advance.ensures.stands b.stripes o p (un1 o is)) in
-    let un2 : (o : Opening) → IsUnmovedWith states honest o k j b → IsUnmovedWith states honest o k2 j b =
-    λ o is. unmoved_with states honest o k k2 j b is (c.in_ok-advance.ensures.unmoved b.stripes o p (un1 o is)) in
-    let has = λ (o : Opening). opens k1 k2 (k.sealed + 1) k.log.low k.stripes.count o.first k.must_close (c.in_ok-begin.ensures.ok.goes_with c.requires.goes_with).1 c.in_ok-advance.ensures.checkpoints in
     let k3 = c.capture_all.new.keeper in
-    let b3 = c.capture_all.new.steps.words.now in
-    let j3 = c.capture_all.new.steps.pass in
-    let st3 : (o : Opening) → IsUnmovedWith states honest o k j b → StandsThroughout states honest o.first o.map k.disk k3.disk =
-    λ o is. through states honest o.first o.map k.disk k2.disk k3.disk (st2 o is) (c.capture_all.ensures.stands o (un2 o is)) in
-    let un3 : (o : Opening) → IsUnmovedWith states honest o k j b → IsUnmovedWith states honest o k3 j3 b3 = λ o is. c.in_ok-capture_all.ensures.unmoved o (un2 o is) in
+    let a3 = c.capture_all.new.steps in
+    let far1 = begun states honest k a k1 c.begin.ensures.same c.begin.ensures.fits c.stops_of_a_keeper.ensures in
+    let far2 = called states honest k a k1 a far1 k2 (λ o. c.advance.ensures.stands b.stripes o (record_of a.pass b)) (λ o. c.in_ok-advance.ensures.unmoved b.stripes o (record_of a.pass b)) in
+    let far3 = captured states honest k a k2 a far2 k3 a3 c.capture_all.ensures.stands c.in_ok-capture_all.ensures.unmoved in
+    let far4 = sealed states honest k a k3 a3 far3 c.seal.new.keeper c.in_ok-seal.ensures.ok c.seal.ensures.fits in
     let first = c.requires.unmoved in
-    let k4 = c.seal.new.keeper in
-    let p3 = record_of j3 b3 in
-    let un4 : (o : Opening) → IsUnmovedWith states honest o k j b → IsUnmoved states honest b3.stripes o k4 p3 =
-    λ o is. sealing_unmoved states honest b3.stripes o k3 p3 (un3 o is).unmoved k4 c.in_ok-seal.ensures.ok (c.seal.ensures.fits b3.stripes [] p3 (un3 o is).unmoved.fits) in
-    let st4 : (o : Opening) → IsUnmovedWith states honest o k j b → StandsThroughout states honest o.first o.map k.disk k4.disk =
-    λ o is. still states honest o.first o.map k.disk k3.disk k4.disk (st3 o is) (ap (λ (x : Keeper _). x.disk) c.in_ok-seal.ensures.ok) in
-    (b3.stripes, first.0, p3, un4 first.0 first.1)
+    (a3.words.now.stripes, first.0, record_of a3.pass a3.words.now, (far4.unmoved first.0 first.1).unmoved)
 
 pub returns-clause-stands : goal.returns-clause-stands
 returns-clause-stands g c =
     let states = g.D.Disk.states in
     let honest = g.D.Disk.honest in
     let k = c.args.keeper.now in
+    let a = c.args.steps.now in
+    let b = a.words.now in
     let k1 = c.begin.new.keeper in
-    let b = c.args.steps.now.words.now in
-    let j = c.args.steps.now.pass in
-    let p = record_of j b in
-    let un1 : (o : Opening) → IsUnmovedWith states honest o k j b → IsUnmoved states honest b.stripes o k1 p =
-    λ o is. begun_unmoved states honest b.stripes o k p is.unmoved k1 c.begin.ensures.same (c.begin.ensures.fits b.stripes [] p is.unmoved.fits) in
-    let st1 : (o : Opening) → IsUnmovedWith states honest o k j b → StandsThroughout states honest o.first o.map k.disk k1.disk =
-    λ o is. stays states honest b.stripes o k p is.unmoved k1.disk (ap (λ (x : Keeper _). x.disk) c.begin.ensures.same) c.stops_of_a_keeper.ensures in
     let k2 = c.advance.new.keeper in
-    let st2 : (o : Opening) → IsUnmovedWith states honest o k j b → StandsThroughout states honest o.first o.map k.disk k2.disk =
-    λ o is. through states honest o.first o.map k.disk k1.disk k2.disk (st1 o is) (c.advance.ensures.stands b.stripes o p (un1 o is)) in
-    let un2 : (o : Opening) → IsUnmovedWith states honest o k j b → IsUnmovedWith states honest o k2 j b =
-    λ o is. unmoved_with states honest o k k2 j b is (c.in_ok-advance.ensures.unmoved b.stripes o p (un1 o is)) in
-    let has = λ (o : Opening). opens k1 k2 (k.sealed + 1) k.log.low k.stripes.count o.first k.must_close (c.in_ok-begin.ensures.ok.goes_with c.requires.goes_with).1 c.in_ok-advance.ensures.checkpoints in
     let k3 = c.capture_all.new.keeper in
-    let b3 = c.capture_all.new.steps.words.now in
-    let j3 = c.capture_all.new.steps.pass in
-    let st3 : (o : Opening) → IsUnmovedWith states honest o k j b → StandsThroughout states honest o.first o.map k.disk k3.disk =
-    λ o is. through states honest o.first o.map k.disk k2.disk k3.disk (st2 o is) (c.capture_all.ensures.stands o (un2 o is)) in
-    let un3 : (o : Opening) → IsUnmovedWith states honest o k j b → IsUnmovedWith states honest o k3 j3 b3 = λ o is. c.in_ok-capture_all.ensures.unmoved o (un2 o is) in
-    let first = c.requires.unmoved in
+    let a3 = c.capture_all.new.steps in
     let k4 = c.seal.new.keeper in
-    let p3 = record_of j3 b3 in
-    let un4 : (o : Opening) → IsUnmovedWith states honest o k j b → IsUnmoved states honest b3.stripes o k4 p3 =
-    λ o is. sealing_unmoved states honest b3.stripes o k3 p3 (un3 o is).unmoved k4 c.in_ok-seal.ensures.ok (c.seal.ensures.fits b3.stripes [] p3 (un3 o is).unmoved.fits) in
-    let st4 : (o : Opening) → IsUnmovedWith states honest o k j b → StandsThroughout states honest o.first o.map k.disk k4.disk =
-    λ o is. still states honest o.first o.map k.disk k3.disk k4.disk (st3 o is) (ap (λ (x : Keeper _). x.disk) c.in_ok-seal.ensures.ok) in
-    λ o is. through states honest o.first o.map k.disk k4.disk c.advance-2.new.keeper.disk (st4 o is) (c.advance-2.ensures.stands b3.stripes o p3 (un4 o is))
+    let far1 = begun states honest k a k1 c.begin.ensures.same c.begin.ensures.fits c.stops_of_a_keeper.ensures in
+    let far2 = called states honest k a k1 a far1 k2 (λ o. c.advance.ensures.stands b.stripes o (record_of a.pass b)) (λ o. c.in_ok-advance.ensures.unmoved b.stripes o (record_of a.pass b)) in
+    let far3 = captured states honest k a k2 a far2 k3 a3 c.capture_all.ensures.stands c.in_ok-capture_all.ensures.unmoved in
+    let far4 = sealed states honest k a k3 a3 far3 k4 c.in_ok-seal.ensures.ok c.seal.ensures.fits in
+    stood states honest k a k4 a3 far4 c.advance-2.new.keeper (λ o. c.advance-2.ensures.stands a3.words.now.stripes o (record_of a3.pass a3.words.now))
 
 pub returns-clause-unmoved : goal.returns-clause-unmoved
 returns-clause-unmoved g c =
     let states = g.D.Disk.states in
     let honest = g.D.Disk.honest in
     let k = c.args.keeper.now in
+    let a = c.args.steps.now in
+    let b = a.words.now in
     let k1 = c.begin.new.keeper in
-    let b = c.args.steps.now.words.now in
-    let j = c.args.steps.now.pass in
-    let p = record_of j b in
-    let un1 : (o : Opening) → IsUnmovedWith states honest o k j b → IsUnmoved states honest b.stripes o k1 p =
-    λ o is. begun_unmoved states honest b.stripes o k p is.unmoved k1 c.begin.ensures.same (c.begin.ensures.fits b.stripes [] p is.unmoved.fits) in
-    let st1 : (o : Opening) → IsUnmovedWith states honest o k j b → StandsThroughout states honest o.first o.map k.disk k1.disk =
-    λ o is. stays states honest b.stripes o k p is.unmoved k1.disk (ap (λ (x : Keeper _). x.disk) c.begin.ensures.same) c.stops_of_a_keeper.ensures in
     let k2 = c.advance.new.keeper in
-    let st2 : (o : Opening) → IsUnmovedWith states honest o k j b → StandsThroughout states honest o.first o.map k.disk k2.disk =
-    λ o is. through states honest o.first o.map k.disk k1.disk k2.disk (st1 o is) (c.advance.ensures.stands b.stripes o p (un1 o is)) in
-    let un2 : (o : Opening) → IsUnmovedWith states honest o k j b → IsUnmovedWith states honest o k2 j b =
-    λ o is. unmoved_with states honest o k k2 j b is (c.in_ok-advance.ensures.unmoved b.stripes o p (un1 o is)) in
-    let has = λ (o : Opening). opens k1 k2 (k.sealed + 1) k.log.low k.stripes.count o.first k.must_close (c.in_ok-begin.ensures.ok.goes_with c.requires.goes_with).1 c.in_ok-advance.ensures.checkpoints in
     let k3 = c.capture_all.new.keeper in
-    let b3 = c.capture_all.new.steps.words.now in
-    let j3 = c.capture_all.new.steps.pass in
-    let st3 : (o : Opening) → IsUnmovedWith states honest o k j b → StandsThroughout states honest o.first o.map k.disk k3.disk =
-    λ o is. through states honest o.first o.map k.disk k2.disk k3.disk (st2 o is) (c.capture_all.ensures.stands o (un2 o is)) in
-    let un3 : (o : Opening) → IsUnmovedWith states honest o k j b → IsUnmovedWith states honest o k3 j3 b3 = λ o is. c.in_ok-capture_all.ensures.unmoved o (un2 o is) in
-    let first = c.requires.unmoved in
+    let a3 = c.capture_all.new.steps in
     let k4 = c.seal.new.keeper in
-    let p3 = record_of j3 b3 in
-    let un4 : (o : Opening) → IsUnmovedWith states honest o k j b → IsUnmoved states honest b3.stripes o k4 p3 =
-    λ o is. sealing_unmoved states honest b3.stripes o k3 p3 (un3 o is).unmoved k4 c.in_ok-seal.ensures.ok (c.seal.ensures.fits b3.stripes [] p3 (un3 o is).unmoved.fits) in
-    let st4 : (o : Opening) → IsUnmovedWith states honest o k j b → StandsThroughout states honest o.first o.map k.disk k4.disk =
-    λ o is. still states honest o.first o.map k.disk k3.disk k4.disk (st3 o is) (ap (λ (x : Keeper _). x.disk) c.in_ok-seal.ensures.ok) in
-    on_ok _ _ c.advance-2.result (λ unmoved o is. unmoved_with states honest o k3 c.advance-2.new.keeper j3 b3 (un3 o is) (unmoved b3.stripes o p3 (un4 o is))) c.advance-2.ensures.unmoved
+    let far1 = begun states honest k a k1 c.begin.ensures.same c.begin.ensures.fits c.stops_of_a_keeper.ensures in
+    let far2 = called states honest k a k1 a far1 k2 (λ o. c.advance.ensures.stands b.stripes o (record_of a.pass b)) (λ o. c.in_ok-advance.ensures.unmoved b.stripes o (record_of a.pass b)) in
+    let far3 = captured states honest k a k2 a far2 k3 a3 c.capture_all.ensures.stands c.in_ok-capture_all.ensures.unmoved in
+    let far4 = sealed states honest k a k3 a3 far3 k4 c.in_ok-seal.ensures.ok c.seal.ensures.fits in
+    let at = record_of a3.pass a3.words.now in
+    on_ok _ _ c.advance-2.result (λ kept o is. let was = far4.unmoved o is in unmoved_with states honest o k4 c.advance-2.new.keeper a3.pass a3.words.now was (kept a3.words.now.stripes o at was.unmoved)) c.advance-2.ensures.unmoved
 
 pub returns-clause-sealed : goal.returns-clause-sealed
 returns-clause-sealed g c =
     let states = g.D.Disk.states in
     let honest = g.D.Disk.honest in
     let k = c.args.keeper.now in
+    let a = c.args.steps.now in
+    let b = a.words.now in
     let k1 = c.begin.new.keeper in
-    let b = c.args.steps.now.words.now in
-    let j = c.args.steps.now.pass in
-    let p = record_of j b in
-    let un1 : (o : Opening) → IsUnmovedWith states honest o k j b → IsUnmoved states honest b.stripes o k1 p =
-    λ o is. begun_unmoved states honest b.stripes o k p is.unmoved k1 c.begin.ensures.same (c.begin.ensures.fits b.stripes [] p is.unmoved.fits) in
-    let st1 : (o : Opening) → IsUnmovedWith states honest o k j b → StandsThroughout states honest o.first o.map k.disk k1.disk =
-    λ o is. stays states honest b.stripes o k p is.unmoved k1.disk (ap (λ (x : Keeper _). x.disk) c.begin.ensures.same) c.stops_of_a_keeper.ensures in
     let k2 = c.advance.new.keeper in
-    let st2 : (o : Opening) → IsUnmovedWith states honest o k j b → StandsThroughout states honest o.first o.map k.disk k2.disk =
-    λ o is. through states honest o.first o.map k.disk k1.disk k2.disk (st1 o is) (c.advance.ensures.stands b.stripes o p (un1 o is)) in
-    let un2 : (o : Opening) → IsUnmovedWith states honest o k j b → IsUnmovedWith states honest o k2 j b =
-    λ o is. unmoved_with states honest o k k2 j b is (c.in_ok-advance.ensures.unmoved b.stripes o p (un1 o is)) in
-    let has = λ (o : Opening). opens k1 k2 (k.sealed + 1) k.log.low k.stripes.count o.first k.must_close (c.in_ok-begin.ensures.ok.goes_with c.requires.goes_with).1 c.in_ok-advance.ensures.checkpoints in
     let k3 = c.capture_all.new.keeper in
-    let b3 = c.capture_all.new.steps.words.now in
-    let j3 = c.capture_all.new.steps.pass in
-    let st3 : (o : Opening) → IsUnmovedWith states honest o k j b → StandsThroughout states honest o.first o.map k.disk k3.disk =
-    λ o is. through states honest o.first o.map k.disk k2.disk k3.disk (st2 o is) (c.capture_all.ensures.stands o (un2 o is)) in
-    let un3 : (o : Opening) → IsUnmovedWith states honest o k j b → IsUnmovedWith states honest o k3 j3 b3 = λ o is. c.in_ok-capture_all.ensures.unmoved o (un2 o is) in
+    let far1 = begun states honest k a k1 c.begin.ensures.same c.begin.ensures.fits c.stops_of_a_keeper.ensures in
+    let far2 = called states honest k a k1 a far1 k2 (λ o. c.advance.ensures.stands b.stripes o (record_of a.pass b)) (λ o. c.in_ok-advance.ensures.unmoved b.stripes o (record_of a.pass b)) in
     let first = c.requires.unmoved in
-    let k4 = c.seal.new.keeper in
-    let p3 = record_of j3 b3 in
-    let un4 : (o : Opening) → IsUnmovedWith states honest o k j b → IsUnmoved states honest b3.stripes o k4 p3 =
-    λ o is. sealing_unmoved states honest b3.stripes o k3 p3 (un3 o is).unmoved k4 c.in_ok-seal.ensures.ok (c.seal.ensures.fits b3.stripes [] p3 (un3 o is).unmoved.fits) in
-    let st4 : (o : Opening) → IsUnmovedWith states honest o k j b → StandsThroughout states honest o.first o.map k.disk k4.disk =
-    λ o is. still states honest o.first o.map k.disk k3.disk k4.disk (st3 o is) (ap (λ (x : Keeper _). x.disk) c.in_ok-seal.ensures.ok) in
-    let given = c.in_ok-capture_all.ensures.given first.0 (k.sealed + 1) (un2 first.0 first.1) (has first.0) in
-    on_ok _ _ c.advance-2.result (λ all. seals k3 k4 c.advance-2.new.keeper (k.sealed + 1) k3.stripes.count first.0.first given (ap (λ (x : Keeper _). x.checkpoint) c.in_ok-seal.ensures.ok) all) c.advance-2.ensures.checkpoints
+    let has = opens k1 k2 (k.sealed + 1) k.log.low k.stripes.count first.0.first k.must_close (c.in_ok-begin.ensures.ok.goes_with c.requires.goes_with).1 c.in_ok-advance.ensures.checkpoints in
+    let given = c.in_ok-capture_all.ensures.given first.0 (k.sealed + 1) (far2.unmoved first.0 first.1) has in
+    on_ok _ _ c.advance-2.result (λ all. seals k3 c.seal.new.keeper c.advance-2.new.keeper (k.sealed + 1) k3.stripes.count first.0.first given (ap (λ (x : Keeper _). x.checkpoint) c.in_ok-seal.ensures.ok) all) c.advance-2.ensures.checkpoints
+
+pub returns-clause-counted : goal.returns-clause-counted
+returns-clause-counted g c =
+    let failures = g.D.Disk.failures in
+    let counted : failures c.seal.new.keeper.disk ≡ failures c.args.keeper.now.disk =
+    ap (λ (x : Keeper _). failures x.disk) c.in_ok-seal.ensures.ok ∙ c.in_ok-capture_all.ensures.counted ∙ c.in_ok-advance.ensures.counted ∙ ap (λ (x : Keeper _). failures x.disk) c.begin.ensures.same in
+    on_ok _ _ c.advance-2.result (λ none. none ∙ counted) c.advance-2.ensures.counted
+
+pub returns-clause-err : goal.returns-clause-err
+returns-clause-err g c =
+    let failures = g.D.Disk.failures in
+    let counted : failures c.seal.new.keeper.disk ≡ failures c.args.keeper.now.disk =
+    ap (λ (x : Keeper _). failures x.disk) c.in_ok-seal.ensures.ok ∙ c.in_ok-capture_all.ensures.counted ∙ c.in_ok-advance.ensures.counted ∙ ap (λ (x : Keeper _). failures x.disk) c.begin.ensures.same in
+    if_err (λ e. (e ≡ Failed) × (failures c.advance-2.new.keeper.disk ≡ failures c.seal.new.keeper.disk + 1)) _ c.advance-2.result (λ e failed o is below. inl (failed.0, failed.1 ∙ ap (λ (n : ℕ). n + 1) counted)) c.advance-2.ensures.err

@@ -3,7 +3,7 @@ use Rattle.std.proofs.lemmas.Result.{err_from_is_err_and}
 use Rattle.map_types.specs.declared.refusals.Refusal.TheVariants.{Failed}
 use Rattle.flusher.specs.Rotating.{logs_of, stepped}
 use Rattle.recovery.specs.Upgrading.{logs_after}
-use Rattle.recovery.proofs.Unmoved.{err_of, logs_failed, logs_go_on, logs_stand, logs_unmoved, stays, through}
+use Rattle.recovery.proofs.Unmoved.{err_of, logs_counted, logs_failed, logs_go_on, logs_stand, logs_unmoved, stays, through}
 use Rattle.recovery.proofs.upgrading.advance.Goals as goal
 
 pub loop-init : goal.loop-init
@@ -13,6 +13,7 @@ loop-init g c = record {
   logs = refl;
   checkpoint = refl;
   sealed = refl;
+  counted = refl;
 }
 
 pub advance-requires : goal.advance-requires
@@ -31,10 +32,14 @@ pub returns-in_err-_phase-clause-err : goal.returns-in_err-_phase-clause-err
 returns-in_err-_phase-clause-err g c =
     let q = err_from_is_err_and c.from_residual.result c.from_residual.ensures.1 in
     let first = c.requires in
-    rw (q.1, q.2)
-    (err_of (λ refusal. refusal ≡ Failed) c.advance.result c.in_err-_phase.field-0.0 c.in_err-_phase.was
-    (logs_failed g.D.Disk.states g.D.Disk.honest first.0 first.1 c.loop.keeper first.2 (c.loop.invariant.unmoved first.0 first.1 first.2 first.3) g.D.Disk.failures c.advance.new.self c.advance.result
-    c.advance.ensures.rests c.advance.ensures.steps))
+    let failures = g.D.Disk.failures in
+    let k = c.loop.keeper in
+    let new = c.advance.new.self in
+    let so =
+    err_of (λ refusal. (refusal ≡ Failed) × (failures new.disk ≡ failures k.disk + 1)) c.advance.result c.in_err-_phase.field-0.0 c.in_err-_phase.was
+    (logs_failed g.D.Disk.states g.D.Disk.honest first.0 first.1 k first.2 (c.loop.invariant.unmoved first.0 first.1 first.2 first.3) failures new c.advance.result
+    c.advance.ensures.rests c.advance.ensures.steps) in
+    rw (q.1, q.2) (so.0, so.1 ∙ ap (λ (n : ℕ). n + 1) c.loop.invariant.counted)
 
 pub loop-preserved : goal.loop-preserved
 loop-preserved g c =
@@ -59,4 +64,7 @@ loop-preserved g c =
           ∙ ap stepped inv.logs ∙ ap (λ (m : ℕ). logs_after m (logs_of c.args.keeper.now)) (sym one);
       checkpoint = ap (λ k. k.checkpoint) c.advance.ensures.same ∙ inv.checkpoint;
       sealed = ap (λ k. k.sealed) c.advance.ensures.same ∙ inv.sealed;
+      counted =
+          let now = inv.unmoved first.0 first.1 first.2 first.3 in
+          logs_counted states honest first.0 first.1 k first.2 now g.D.Disk.failures new c.advance.result c.advance.ensures.rests c.advance.ensures.steps c.in_ok-_phase._phase c.in_ok-_phase.was ∙ inv.counted;
     }

@@ -12,4 +12,5 @@ invariant-loop g l = record {
   logs : logs_of l.keeper ≡ logs_after l.counter (logs_of l.initial.keeper);
   checkpoint : l.keeper.checkpoint ≡ l.initial.keeper.checkpoint;
   sealed : l.keeper.sealed ≡ l.initial.keeper.sealed;
+  counted : g.D.Disk.failures l.keeper.disk ≡ g.D.Disk.failures l.initial.keeper.disk;
 }

@@ -1,5 +1,10 @@
-use Rattle.std.proofs.Common.{[], ap}
+use Rattle.std.proofs.Common.{◌≡◌, ◌+◌, inl, [], ap, ◌∙◌}
+use Rattle.std.proofs.lemmas.Result.{err_from_is_err_and}
+use Rattle.map_types.specs.declared.refusals.Refusal.TheVariants.{Failed}
 use Rattle.flusher.specs.declared.keeper.Keeper.{Keeper}
+use Rattle.checkpoint_walk.specs.Checkpointing.{MayBegin}
+use Rattle.recovery.proofs.OpeningLemmas.{if_err}
+use Rattle.recovery.proofs.RefusedBehind.{not_broken, not_rotated}
 use Rattle.recovery.proofs.Unmoved.{begun_unmoved, stays, through}
 use Rattle.recovery.proofs.GateClosing.{on_ok}
 use Rattle.recovery.proofs.Rotation.{rotated}
@@ -33,3 +38,18 @@ pub returns-clause-rotated : goal.returns-clause-rotated
 returns-clause-rotated g c =
     on_ok _ _ c.advance.result (λ logs at.
     rotated c.args.keeper.now c.begin.new.keeper c.advance.new.keeper c.in_ok-begin.ensures.ok at c.begin.ensures.same logs c.advance.ensures.checkpoint c.advance.ensures.sealed) c.advance.ensures.logs
+
+pub returns-in_err-begin-clause-err : goal.returns-in_err-begin-clause-err
+returns-in_err-begin-clause-err g c =
+    let k = c.args.keeper.now in
+    let q = err_from_is_err_and c.from_residual.result c.from_residual.ensures.1 in
+    rw (q.1, q.2)
+    (not_rotated (g.D.Disk.failures c.begin.new.keeper.disk ≡ g.D.Disk.failures k.disk + 1) (MayBegin k) c.begin.result c.in_err-begin.field-0.0 c.in_err-begin.was c.in_err-begin.ensures.no_other
+    (λ failed. not_broken k.is_broken c.requires.3.works (c.begin.ensures.failed.0 failed)) (λ wrong. (c.begin.ensures.wrong_phase.0 wrong).1))
+
+pub returns-clause-err : goal.returns-clause-err
+returns-clause-err g c =
+    let failures = g.D.Disk.failures in
+    let k1 = c.begin.new.keeper in
+    let k2 = c.advance.new.keeper in
+    if_err (λ e. (e ≡ Failed) × (failures k2.disk ≡ failures k1.disk + 1)) _ c.advance.result (λ e failed. inl (failed.0, failed.1 ∙ ap (λ (x : Keeper _). failures x.disk + 1) c.begin.ensures.same)) c.advance.ensures.err

@@ -1,12 +1,13 @@
-use Rattle.std.proofs.Common.{inl, inr, refl, sym, subst, ◌∙◌}
+use Rattle.std.proofs.Common.{◌≡◌, ◌+◌, inl, inr, refl, sym, ap, subst, ◌∙◌}
 use Rattle.std.proofs.lemmas.Result.{err_from_is_err_and}
+use Rattle.java_hash.specs.declared.stripe_count.StripeCount.{StripeCount}
 use Rattle.java_hash.proofs.StripeLaws.{some_stripe}
 use Rattle.one_history.specs.Turns.{opening_of}
 use Rattle.store_layout.specs.Opening.{map_of, prefix_of}
 use Rattle.recovery.specs.LogReading.{contents_of}
-use Rattle.recovery.specs.Upgrading.{StaysStanding}
+use Rattle.recovery.specs.Upgrading.{IsUpgradeRefused, StaysStanding}
 use Rattle.recovery.proofs.SyncingLemmas.{read_is_left}
-use Rattle.recovery.proofs.Upgraded.{newest_before, standing, unchanged, upgraded_kept, upgraded_before}
+use Rattle.recovery.proofs.Upgraded.{newest_before, refuses_behind, standing, unchanged, upgraded_kept, upgraded_before}
 use Rattle.recovery.proofs.upgrading.upgrade.Goals as goal
 
 pub returns-then-is_newest-clause-ok : goal.returns-then-is_newest-clause-ok
@@ -75,23 +76,6 @@ returns-in-Ok-clause-ok g c =
     subst (λ d. StaysStanding states failures honest disk d) (sym c.into_disk-in-Ok.ensures)
     (standing states failures honest law n some disk k parts first limit ok c.upgrade_keeper.new.keeper.disk c.in_ok-keeper.ensures.calls c.upgrade_keeper.ensures.stands)
 
-pub returns-in-Err-clause-stopped : goal.returns-in-Err-clause-stopped
-returns-in-Err-clause-stopped g c =
-    let states = g.D.Disk.states in
-    let failures = g.D.Disk.failures in
-    let honest = g.D.Disk.honest in
-    let law = c.laws_of_parts.ensures.union in
-    let n = c.args.stripes.count in
-    let some = some_stripe n c.args.stripes.allowed in
-    let disk = c.args.disk in
-    let k = c.in_ok-keeper.keeper in
-    let parts = c.in_ok-keeper.parts.items in
-    let first = c.in_ok-keeper.first in
-    let limit = c.in_ok-keeper.limit in
-    let ok = c.in_ok-keeper.ensures.ok in
-    inr (subst (λ d. StaysStanding states failures honest disk d) (sym c.into_disk-in-Err.ensures)
-    (standing states failures honest law n some disk k parts first limit ok c.upgrade_keeper.new.keeper.disk c.in_ok-keeper.ensures.calls c.upgrade_keeper.ensures.stands))
-
 pub returns-in-Ok-clause-upgraded : goal.returns-in-Ok-clause-upgraded
 returns-in-Ok-clause-upgraded g c =
     let states = g.D.Disk.states in
@@ -126,10 +110,11 @@ returns-in-Ok-clause-reads g c =
     λ h found holds. upgraded_kept states failures honest law n some disk k parts first limit ok c.in_ok-keeper.ensures.calls c.upgrade_keeper.new.keeper c.into_disk-in-Ok.result c.into_disk-in-Ok.ensures c.upgrade_keeper.ensures.stands (opening_of first parts limit)
     c.in-Ok.ensures.rotated c.stops_of_a_store.ensures.checkpoint c.laws_of_opening.ensures.one_way refl refl h found holds (contents_of states c.into_disk-in-Ok.result) (read_is_left (states c.into_disk-in-Ok.result) (g.met.D.Disk.are_coherent c.into_disk-in-Ok.result))
 
-pub returns-in_err-keeper-clause-err : goal.returns-in_err-keeper-clause-err
-returns-in_err-keeper-clause-err g c =
+pub returns-in_err-keeper-clause-refused : goal.returns-in_err-keeper-clause-refused
+returns-in_err-keeper-clause-refused g c =
     let q = err_from_is_err_and c.from_residual.result c.from_residual.ensures.1 in
-    rw (q.1, q.2) (λ h. let e = c.in_err-keeper.ensures.err h in (e.0, inl e.1))
+    let e = c.in_err-keeper.ensures in
+    rw (q.1, q.2) (inl (record { stopped = e.stopped; reason = e.err }))
 
 pub returns-in-Ok-clause-untouched : goal.returns-in-Ok-clause-untouched
 returns-in-Ok-clause-untouched g c =
@@ -184,3 +169,29 @@ returns-in_err-keeper-clause-unwritten g c =
         ]
       ],
     ))
+
+pub returns-in-Err-clause-refused : goal.returns-in-Err-clause-refused
+returns-in-Err-clause-refused g c =
+    let states = g.D.Disk.states in
+    let failures = g.D.Disk.failures in
+    let honest = g.D.Disk.honest in
+    let law = c.laws_of_parts.ensures.union in
+    let n = c.args.stripes.count in
+    let some = some_stripe n c.args.stripes.allowed in
+    let disk = c.args.disk in
+    let k = c.in_ok-keeper.keeper in
+    let parts = c.in_ok-keeper.parts.items in
+    let first = c.in_ok-keeper.first in
+    let limit = c.in_ok-keeper.limit in
+    let ok = c.in_ok-keeper.ensures.ok in
+    let e = c.in-Err.refusal in
+    let count = ap (λ (s : StripeCount). s.count) c.in_ok-keeper.ensures.start.stripes_are in
+    let after = c.upgrade_keeper.new.keeper.disk in
+    let stays = standing states failures honest law n some disk k parts first limit ok after c.in_ok-keeper.ensures.calls c.upgrade_keeper.ensures.stands in
+    let refused : IsUpgradeRefused states failures honest n disk after e = record {
+      stays = stays;
+      reason = λ h.
+          let at = c.upgrade_keeper.ensures.stands.was_honest h in
+          ((ok at).0, refuses_behind states failures honest law n some disk k parts first limit ok after e c.in_ok-keeper.ensures.calls count at c.in-Err.ensures.err);
+    } in
+    inr (subst (λ d. IsUpgradeRefused states failures honest n disk d e) (sym c.into_disk-in-Err.ensures) refused)

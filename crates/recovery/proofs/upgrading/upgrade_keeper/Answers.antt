@@ -1,4 +1,8 @@
-use Rattle.std.proofs.Common.{refl, ◌∙◌}
+use Rattle.std.proofs.Common.{◌≡◌, ◌⊎◌, inl, inr, ◌+◌, refl, ap, ◌∙◌}
+use Rattle.std.proofs.lemmas.Result.{err_from_is_err_and}
+use Rattle.gate_log.specs.States.{LogState}
+use Rattle.recovery.specs.Upgrading.{IsRefusedBehind}
+use Rattle.recovery.proofs.OpeningLemmas.{if_err}
 use Rattle.one_history.specs.Turns.{at_start, opening_of, record_of}
 use Rattle.recovery.proofs.GateClosing.{on_ok}
 use Rattle.recovery.proofs.Unmoved.{stays}
@@ -39,3 +43,22 @@ returns-clause-rotated g c =
     rotated (opening_of c.args.first parts c.args.limit)
     (starts_at g.D.Disk.states g.D.Disk.honest k c.requires.start.0 k.stripes.count c.args.first c.args.limit parts c.requires.start.1 c.requires.parts.one_each c.requires.fits c.new-steps.result.pass c.new-steps.result.words.now
     c.new-steps.ensures.pass (c.new-steps.ensures.words ∙ c.in_ok-words.ensures.ok))) c.rotate_sealed.ensures.rotated
+
+pub rotate_sealed-requires-clause-rests : goal.rotate_sealed-requires-clause-rests
+rotate_sealed-requires-clause-rests g c = let resumed = c.requires.start.1.resumed in (ap (λ (l : LogState). l.phase) resumed, ap (λ (l : LogState). l.ending) resumed)
+
+pub returns-in_err-words-clause-err : goal.returns-in_err-words-clause-err
+returns-in_err-words-clause-err g c =
+    let q = err_from_is_err_and c.from_residual.result c.from_residual.ensures.1 in
+    rw (q.1, q.2) (λ either. inr (inl c.in_err-words.ensures.err))
+
+pub returns-clause-err : goal.returns-clause-err
+returns-clause-err g c =
+    let k = c.args.keeper.now in
+    let parts = c.args.parts.items in
+    let o = opening_of c.args.first parts c.args.limit in
+    let Failing : Type 0 = g.D.Disk.failures c.rotate_sealed.new.keeper.disk ≡ g.D.Disk.failures k.disk + 1 in
+    let is =
+    starts_at g.D.Disk.states g.D.Disk.honest k c.requires.start.0 k.stripes.count c.args.first c.args.limit parts c.requires.start.1 c.requires.parts.one_each c.requires.fits c.new-steps.result.pass c.new-steps.result.words.now
+    c.new-steps.ensures.pass (c.new-steps.ensures.words ∙ c.in_ok-words.ensures.ok) in
+    if_err _ (λ e. (k.log.generation ≡ k.sealed) ⊎ (k.log.generation ≡ k.sealed + 1) → IsRefusedBehind Failing k.stripes.count o.map k.log.generation k.sealed e) c.rotate_sealed.result (λ e refused. refused o is) c.rotate_sealed.ensures.err
