@@ -11,11 +11,14 @@ use stripe_locks::{Pass, Stripes};
 /// Keys of four stripes, one for each thread.
 const KEYS: [&str; 4] = ["a", "b", "c", "d"];
 
+fn putting(number: u32) -> Change {
+    Change::Put(Value::Int(i64::from(number)))
+}
+
 fn put(alloc: Global, key: &str, number: u32) -> Result<Command, Refusal> {
-    Ok(Command {
-        key: Key::new(alloc, key)?,
-        change: Change::Put(Value::Int(i64::from(number))),
-    })
+    let key = Key::new(alloc, key)?;
+    let change = putting(number);
+    Ok(Command { key, change })
 }
 
 fn get(alloc: Global, key: &str) -> Result<Read, Refusal> {
@@ -28,9 +31,23 @@ fn get(alloc: Global, key: &str) -> Result<Read, Refusal> {
 /// A change and a read on a part that no other thread has.
 fn pair_on_a_part(part: &mut Part, alloc: Global, number: u32) -> Result<(), Refusal> {
     let command = put(alloc, KEYS[0], number)?;
-    let prepared = part.prepare(alloc, &command)?;
-    part.act(&command.key, prepared);
-    part.read(&get(alloc, KEYS[0])?)?;
+    let changed = change_part(part, alloc, &command);
+    drop(command);
+    changed?;
+    read_part(part, alloc)
+}
+
+fn change_part(part: &mut Part, alloc: Global, command: &Command) -> Result<(), Refusal> {
+    let prepared = part.prepare(alloc, command)?;
+    drop(part.act(&command.key, prepared));
+    Ok(())
+}
+
+fn read_part(part: &Part, alloc: Global) -> Result<(), Refusal> {
+    let read = get(alloc, KEYS[0])?;
+    let reply = part.read(&read);
+    drop(read);
+    drop(reply?);
     Ok(())
 }
 

@@ -1,6 +1,6 @@
 //! Calls of a map, on the plain program and on a part.
 use atomic_methods::Part;
-use call_text::{Asked, parse_call, reply_text};
+use call_text::{Asked, CallError, parse_call, reply_text};
 use java_hash::StripeCount;
 use map_model::ReferenceMap;
 use map_types::{Command, Read, Refusal, Reply};
@@ -40,6 +40,19 @@ fn read(
     reply_of(alloc, &expected, &reply)
 }
 
+fn made(
+    alloc: Global,
+    reference: &mut ReferenceMap,
+    part: &mut Part,
+    asked: &Result<Asked, CallError>,
+) -> Result<String, Refusal> {
+    match asked {
+        Ok(Asked::Change(command)) => changed(alloc, reference, part, command),
+        Ok(Asked::Read(asked)) => read(alloc, reference, part, asked),
+        Err(_) => Err(Refusal::WrongPhase),
+    }
+}
+
 // The reply to the call of these words.
 fn answered(
     alloc: Global,
@@ -48,11 +61,10 @@ fn answered(
     call: &str,
 ) -> Result<String, Refusal> {
     let words: Vec<&str> = call.split(' ').collect(alloc)?;
-    match parse_call(alloc, &words) {
-        Ok(Asked::Change(command)) => changed(alloc, reference, part, &command),
-        Ok(Asked::Read(asked)) => read(alloc, reference, part, &asked),
-        Err(_) => Err(Refusal::WrongPhase),
-    }
+    let asked = parse_call(alloc, &words);
+    let told = made(alloc, reference, part, &asked);
+    drop(asked);
+    told
 }
 
 // How many entries there are, and then the keys and values.

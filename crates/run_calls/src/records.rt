@@ -8,6 +8,21 @@ use map_types::{Command, Key, Refusal, Value};
 use run_cases::{Names, hexadecimal, number};
 use std::alloc::Global;
 
+// Whether the record of this length was read as this command to its end.
+fn is_same(
+    version: Version,
+    read: &Result<(Command, usize), Refusal>,
+    len: usize,
+    command: &Command,
+) -> Result<bool, Refusal> {
+    match read {
+        Ok((read, used)) => {
+            Ok(*used == len && record_len(version, read) == *used && *read == *command)
+        }
+        Err(refusal) => Err(*refusal),
+    }
+}
+
 // Whether a record is read as this command to its end, whatever follows it.
 fn is_read(
     version: Version,
@@ -17,8 +32,10 @@ fn is_read(
 ) -> Result<bool, Refusal> {
     let mut followed = bytes.to_vec(alloc)?;
     followed.push(0x10)?;
-    let (read, used) = decode(version, alloc, &followed)?;
-    Ok(used == bytes.len() && record_len(version, &read) == used && read == *command)
+    let read = decode(version, alloc, &followed);
+    let is_same = is_same(version, &read, bytes.len(), command);
+    drop(read);
+    is_same
 }
 
 fn is_cut(version: Version, alloc: Global, front: &[u8]) -> bool {
@@ -34,13 +51,6 @@ fn are_cut(version: Version, alloc: Global, bytes: &[u8]) -> bool {
     true
 }
 
-fn change_of(alloc: Global, words: &[&str]) -> Result<Command, Refusal> {
-    match parse_call(alloc, words) {
-        Ok(Asked::Change(command)) => Ok(command),
-        _ => Err(Refusal::WrongPhase),
-    }
-}
-
 fn record_text(
     version: Version,
     alloc: Global,
@@ -54,16 +64,33 @@ fn record_text(
     Ok(String::from_str(alloc, "read otherwise")?)
 }
 
-/// The record of the change that the words ask for. It is read as that change again, and each front of it
-/// is refused as `BadFrame`.
-pub(crate) fn record(version: Version, alloc: Global, words: &[&str]) -> Result<String, Refusal> {
-    let command = change_of(alloc, words)?;
+fn record_of(version: Version, alloc: Global, command: &Command) -> Result<String, Refusal> {
     if command.key.is_above(version.key_limit()) {
         return Err(Refusal::KeyTooLong);
     }
     let mut bytes = Vec::new(alloc);
-    encode(version, &command, &mut bytes)?;
-    record_text(version, alloc, &bytes, &command)
+    encode(version, command, &mut bytes)?;
+    record_text(version, alloc, &bytes, command)
+}
+
+/// The record of the change that the words ask for. It is read as that change again, and each front of it
+/// is refused as `BadFrame`.
+pub(crate) fn record(version: Version, alloc: Global, words: &[&str]) -> Result<String, Refusal> {
+    match parse_call(alloc, words) {
+        Ok(Asked::Change(command)) => record_of(version, alloc, &command),
+        _ => Err(Refusal::WrongPhase),
+    }
+}
+
+// How many bytes the record has that these begin with.
+fn length_read(version: Version, alloc: Global, bytes: &[u8]) -> Result<usize, Refusal> {
+    let read = decode(version, alloc, bytes);
+    let length = match &read {
+        Ok((_, used)) => Ok(*used),
+        Err(refusal) => Err(*refusal),
+    };
+    drop(read);
+    length
 }
 
 /// How bytes are refused as a record.
@@ -77,7 +104,7 @@ pub(crate) fn read_record(
         return Err(Refusal::WrongPhase);
     };
     let bytes = names.bytes(alloc, word)?;
-    let (_command, used) = decode(version, alloc, &bytes)?;
+    let used = length_read(version, alloc, &bytes)?;
     Ok(format!(in alloc; "a record of {used} bytes")?)
 }
 

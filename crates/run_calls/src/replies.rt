@@ -93,6 +93,26 @@ fn is_whole(alloc: Global, answer: &Answer, bytes: &[u8]) -> bool {
         && drips(alloc, bytes, true)
 }
 
+fn told(alloc: Global, answer: &Answer) -> Result<String, Refusal> {
+    let text = answer_text(alloc, answer)?;
+    Ok(text)
+}
+
+fn read_told(alloc: Global, read: &Result<Answer, AnswerError>) -> Result<String, Refusal> {
+    match read {
+        Ok(answer) => told(alloc, answer),
+        Err(AnswerError::NotAReply) => Ok(String::from_str(alloc, "not a reply")?),
+        Err(AnswerError::NoMemory) => Err(Refusal::NoMemory),
+    }
+}
+
+fn told_with_fronts(alloc: Global, answer: &Answer, bytes: &[u8]) -> Result<String, Refusal> {
+    if !is_whole(alloc, answer, bytes) || !are_fronts(alloc, answer, bytes) {
+        return Ok(String::from_str(alloc, "written or cut otherwise")?);
+    }
+    told(alloc, answer)
+}
+
 /// The reply that a frame has. It is written as that frame again, also to a writer that halts, and no front
 /// of the frame is a reply.
 pub(crate) fn reply(alloc: Global, names: &Names, words: &[&str]) -> Result<String, Refusal> {
@@ -100,13 +120,10 @@ pub(crate) fn reply(alloc: Global, names: &Names, words: &[&str]) -> Result<Stri
         return Err(Refusal::WrongPhase);
     };
     let bytes = names.bytes(alloc, word)?;
-    let Some(answer) = whole_answer(alloc, &bytes) else {
-        return Ok(String::from_str(alloc, "no reply")?);
-    };
-    if !is_whole(alloc, &answer, &bytes) || !are_fronts(alloc, &answer, &bytes) {
-        return Ok(String::from_str(alloc, "written or cut otherwise")?);
+    match whole_answer(alloc, &bytes) {
+        Some(answer) => told_with_fronts(alloc, &answer, &bytes),
+        None => Ok(String::from_str(alloc, "no reply")?),
     }
-    Ok(answer_text(alloc, &answer)?)
 }
 
 /// The answer that is the body of a frame.
@@ -115,9 +132,8 @@ pub(crate) fn answer(alloc: Global, names: &Names, words: &[&str]) -> Result<Str
         return Err(Refusal::WrongPhase);
     };
     let bytes = names.bytes(alloc, word)?;
-    match read_answer(alloc, &bytes) {
-        Ok(answer) => Ok(answer_text(alloc, &answer)?),
-        Err(AnswerError::NotAReply) => Ok(String::from_str(alloc, "not a reply")?),
-        Err(AnswerError::NoMemory) => Err(Refusal::NoMemory),
-    }
+    let read = read_answer(alloc, &bytes);
+    let told = read_told(alloc, &read);
+    drop(read);
+    told
 }

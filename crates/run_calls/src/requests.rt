@@ -15,15 +15,25 @@ fn is_framed(alloc: Global, request: &Request, frame: &[u8]) -> bool {
     }
 }
 
-fn gives(alloc: Global, feeder: &mut Feeder, frame: &[u8]) -> bool {
-    match feeder.next() {
-        Some(Ok(request)) => is_framed(alloc, &request, frame),
+fn is_framed_ok(alloc: Global, message: &Option<Result<Request, Refusal>>, frame: &[u8]) -> bool {
+    match message {
+        Some(Ok(request)) => is_framed(alloc, request, frame),
         _ => false,
     }
 }
 
+fn gives(alloc: Global, feeder: &mut Feeder, frame: &[u8]) -> bool {
+    let message = feeder.next();
+    let is_given = is_framed_ok(alloc, &message, frame);
+    drop(message);
+    is_given
+}
+
 fn gives_nothing(feeder: &mut Feeder) -> bool {
-    feeder.next().is_none()
+    let message = feeder.next();
+    let is_none = message.is_none();
+    drop(message);
+    is_none
 }
 
 // Whether the request comes once both parts are there, and no sooner.
@@ -72,13 +82,24 @@ fn comes_however_cut(alloc: Global, frame: &[u8]) -> Result<bool, Refusal> {
     Ok(comes_in_every_cutting(alloc, frame)? && comes_three_times(alloc, frame)?)
 }
 
-fn request_of(alloc: Global, words: &[&str]) -> Result<Request, Refusal> {
+fn frame_of(alloc: Global, request: Request) -> Result<Vec<u8>, Refusal> {
+    let frame = request_frame(alloc, &request);
+    drop(request);
+    frame
+}
+
+// The frame of the request that the words ask for.
+fn frame_asked(alloc: Global, words: &[&str]) -> Result<Vec<u8>, Refusal> {
     match parse_words(alloc, words) {
-        Ok(Called::Keyed(Asked::Change(command))) => Ok(Request::Change(command)),
-        Ok(Called::Keyed(Asked::Read(read))) => Ok(Request::Read(read)),
-        Ok(Called::Count) => Ok(Request::Bulk(Bulk::Count)),
-        Ok(Called::Reduce(func, threshold)) => Ok(Request::Bulk(Bulk::Reduce(func, threshold))),
-        Ok(Called::Search(threshold, value)) => Ok(Request::Bulk(Bulk::Search(threshold, value))),
+        Ok(Called::Keyed(Asked::Change(command))) => frame_of(alloc, Request::Change(command)),
+        Ok(Called::Keyed(Asked::Read(read))) => frame_of(alloc, Request::Read(read)),
+        Ok(Called::Count) => frame_of(alloc, Request::Bulk(Bulk::Count)),
+        Ok(Called::Reduce(func, threshold)) => {
+            frame_of(alloc, Request::Bulk(Bulk::Reduce(func, threshold)))
+        }
+        Ok(Called::Search(threshold, value)) => {
+            frame_of(alloc, Request::Bulk(Bulk::Search(threshold, value)))
+        }
         Err(_) => Err(Refusal::WrongPhase),
     }
 }
@@ -86,8 +107,7 @@ fn request_of(alloc: Global, words: &[&str]) -> Result<Request, Refusal> {
 /// The frame of the request that the words ask for. The request comes out of a stream of it, however the
 /// stream is cut.
 pub(crate) fn request(alloc: Global, words: &[&str]) -> Result<String, Refusal> {
-    let request = request_of(alloc, words)?;
-    let frame = request_frame(alloc, &request)?;
+    let frame = frame_asked(alloc, words)?;
     if comes_however_cut(alloc, &frame)? {
         return Ok(hexadecimal(alloc, &frame)?);
     }
@@ -98,7 +118,7 @@ pub(crate) fn request(alloc: Global, words: &[&str]) -> Result<String, Refusal> 
 fn message_text(alloc: Global, message: Result<Request, Refusal>) -> Result<String, Refusal> {
     match message {
         Ok(request) => {
-            let frame = request_frame(alloc, &request)?;
+            let frame = frame_of(alloc, request)?;
             Ok(hexadecimal(alloc, &frame)?)
         }
         Err(refusal) => Ok(refusal_text(alloc, refusal)?),

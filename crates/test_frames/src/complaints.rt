@@ -1,54 +1,84 @@
 //! What is printed, and the numbers that words name.
 use cmd_text::{break_off, cannot_open, port_named, print, refuse, stripes_named};
 use map_types::Refusal;
+use std::alloc::Global;
 use std::io;
 use std::io::ErrorKind;
+
+// Whether a printed line is all that there is.
+fn is_printed_alone(output: &mut Vec<u8>, error: &mut Vec<u8>) -> bool {
+    let status = print("did yes\n", output, error);
+    status == 0 && output.as_slice() == b"did yes\n".as_slice() && error.is_empty()
+}
+
+// The statuses of a refusal, of a text that breaks off, and of two files that cannot be opened.
+fn complaints(alloc: Global, error: &mut Vec<u8>) -> [u8; 4] {
+    [
+        refuse(alloc, Refusal::Failed, error),
+        break_off(error),
+        cannot_open(alloc, &io::Error::from(ErrorKind::NotFound), error),
+        cannot_open(alloc, &io::Error::from(ErrorKind::OutOfMemory), error),
+    ]
+}
+
+/// What is said of them.
+const COMPLAINTS: &[u8] = b"refused 9 Failed\nunreadable\nunreadable\nrefused 7 NoMemory\n";
 
 #[test]
 fn what_is_said(rt: HostRuntime) {
     let alloc = rt.alloc();
     let mut output = Vec::new(alloc);
     let mut error = Vec::new(alloc);
-    assert_eq!(rt; print("did yes\n", &mut output, &mut error), 0);
-    assert!(rt; error.is_empty());
-    assert_eq!(rt; refuse(alloc, Refusal::Failed, &mut error), 1);
-    assert_eq!(rt; break_off(&mut error), 1);
-    let failure = io::Error::from(ErrorKind::NotFound);
-    assert_eq!(rt; cannot_open(alloc, &failure, &mut error), 1);
-    let failure = io::Error::from(ErrorKind::OutOfMemory);
-    assert_eq!(rt; cannot_open(alloc, &failure, &mut error), 1);
-    assert_eq!(rt; output.as_slice(), b"did yes\n".as_slice());
-    assert_eq!(rt;
-        error.as_slice(),
-        b"refused 9 Failed\nunreadable\nunreadable\nrefused 7 NoMemory\n".as_slice()
-    );
+    assert!(rt; is_printed_alone(&mut output, &mut error));
+    drop(output);
+    let are_exits = complaints(alloc, &mut error) == [1; 4];
+    assert!(rt; are_exits && error.as_slice() == COMPLAINTS, "{error:?}");
+    drop(error);
+}
+
+// Whether a line that is too long for an output of five bytes is cut short, and this is said.
+fn is_cut_short(error: &mut Vec<u8>) -> bool {
+    let mut room = [0u8; 5];
+    let mut output = room.as_mut_slice();
+    let status = print("formatted 16\n", &mut output, error);
+    status == 1 && room == *b"forma" && error.as_slice() == b"unreadable\n".as_slice()
 }
 
 #[test]
 fn an_output_that_fails(rt: HostRuntime) {
-    let alloc = rt.alloc();
-    let mut room = [0u8; 5];
-    let mut output = room.as_mut_slice();
-    let mut error = Vec::new(alloc);
-    assert_eq!(rt; print("formatted 16\n", &mut output, &mut error), 1);
-    assert_eq!(rt; room, *b"forma");
-    assert_eq!(rt; error.as_slice(), b"unreadable\n".as_slice());
+    let mut error = Vec::new(rt.alloc());
+    assert!(rt; is_cut_short(&mut error), "{error:?}");
+    drop(error);
+}
+
+/// Words, and the port and the count of stripes that each of them names.
+static WORDS: [(&str, Option<u16>, Option<usize>); 15] = [
+    ("65535", Some(65535), None),
+    ("+1", Some(1), Some(1)),
+    ("0", None, None),
+    ("65536", None, None),
+    ("", None, None),
+    ("-1", None, None),
+    (" 7", None, None),
+    ("port", None, None),
+    ("1", Some(1), Some(1)),
+    ("16", Some(16), Some(16)),
+    ("256", Some(256), Some(256)),
+    ("3", Some(3), None),
+    ("512", Some(512), None),
+    ("16 ", None, None),
+    ("-2", None, None),
+];
+
+// Whether the word names this port, and this count of stripes.
+fn names(word: &str, port: Option<u16>, count: Option<usize>) -> bool {
+    let stripes = stripes_named(word).map(|stripes| stripes.get());
+    port_named(word) == port && stripes == count
 }
 
 #[test]
 fn words_that_name_numbers(rt: HostRuntime) {
-    assert_eq!(rt; port_named("65535"), Some(65535));
-    assert_eq!(rt; port_named("+1"), Some(1));
-    for word in ["0", "65536", "", "-1", " 7", "port"] {
-        assert!(rt; port_named(word).is_none(), "{word}");
-    }
-    for (word, count) in [("1", 1), ("16", 16), ("256", 256)] {
-        assert!(rt;
-            matches!(stripes_named(word), Some(stripes) if stripes.get() == count),
-            "{word}"
-        );
-    }
-    for word in ["0", "3", "512", "", "16 ", "-2"] {
-        assert!(rt; stripes_named(word).is_none(), "{word}");
+    for (word, port, count) in &WORDS {
+        assert!(rt; names(word, *port, *count), "{word}");
     }
 }

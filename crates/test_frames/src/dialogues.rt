@@ -1,6 +1,6 @@
 //! The dialogues of connections, over readers and writers that halt.
 use connections::{Calls, ConnectionError, serve_connection};
-use map_types::{Change, Command, Refusal, Reply, Value};
+use map_types::{Change, Refusal, Reply, Value};
 use std::alloc::Global;
 use std::io;
 use std::io::{Read, Write};
@@ -19,6 +19,32 @@ impl OneValue {
         OneValue {
             value: None,
             held: 0,
+        }
+    }
+
+    fn now(&self) -> Result<Reply, Refusal> {
+        Ok(Reply::Now(self.value.clone()?))
+    }
+
+    fn count(&self) -> Reply {
+        let count = i64::from(self.value.is_some());
+        Reply::Now(Some(Value::Int(count)))
+    }
+
+    fn put(&mut self, value: &Value) -> Result<Reply, Refusal> {
+        let value = value.clone()?;
+        Ok(Reply::Was(self.value.replace(value)))
+    }
+
+    fn answer(&mut self, request: &Request) -> Result<Reply, Refusal> {
+        match request {
+            Request::Read(_) | Request::Bulk(Bulk::Reduce(..)) => self.now(),
+            Request::Bulk(Bulk::Count) => Ok(self.count()),
+            Request::Bulk(Bulk::Search(..)) => Err(Refusal::Failed),
+            Request::Change(command) => match &command.change {
+                Change::Put(value) => self.put(value),
+                _ => Err(Refusal::Failed),
+            },
         }
     }
 }
@@ -43,29 +69,16 @@ impl Calls for OneValue {
         true
     }
 
-    fn give_up(&mut self, _request: Request) {
+    fn give_up(&mut self, request: Request) {
+        drop(request);
         self.held = self.held.wrapping_sub(1);
     }
 
     fn finish(&mut self, request: Request) -> Result<Reply, Refusal> {
         self.held = self.held.wrapping_sub(1);
-        match request {
-            Request::Read(_) | Request::Bulk(Bulk::Reduce(..)) => {
-                Ok(Reply::Now(self.value.clone()?))
-            }
-            Request::Bulk(Bulk::Count) => {
-                let count = i64::from(self.value.is_some());
-                Ok(Reply::Now(Some(Value::Int(count))))
-            }
-            Request::Bulk(Bulk::Search(..)) => Err(Refusal::Failed),
-            Request::Change(command) => {
-                let Command { change, .. } = command;
-                match change {
-                    Change::Put(value) => Ok(Reply::Was(self.value.replace(value))),
-                    _ => Err(Refusal::Failed),
-                }
-            }
-        }
+        let reply = self.answer(&request);
+        drop(request);
+        reply
     }
 }
 

@@ -17,14 +17,42 @@ enum Did {
     GivesUp,
 }
 
+// What is done with a request whose call begins.
+fn begun(request: &Request) -> Did {
+    match request {
+        Request::Bulk(_) => Did::BeginsWhole,
+        Request::Change(_) | Request::Read(_) => Did::BeginsSingle,
+    }
+}
+
+// What is done with a request whose call is finished.
+fn finished(request: &Request) -> Did {
+    match request {
+        Request::Bulk(_) => Did::FinishesWhole,
+        Request::Change(_) | Request::Read(_) => Did::FinishesSingle,
+    }
+}
+
 /// Calls that write down what is done with them, and answer each with the same value.
 #[derive(Drop)]
-struct Noted {
-    value: Value,
+struct Noted<'a> {
+    value: &'a Value,
     done: Vec<Did>,
 }
 
-impl Calls for Noted {
+impl Noted<'_> {
+    fn note(&mut self, did: Did) -> Result<(), Refusal> {
+        self.done.push(did)?;
+        Ok(())
+    }
+
+    fn noted_reply(&mut self, did: Did) -> Result<Reply, Refusal> {
+        self.note(did)?;
+        Ok(Reply::Now(Some(self.value.clone()?)))
+    }
+}
+
+impl Calls for Noted<'_> {
     type Held = Request;
 
     ghost began = { λ _ _ _ _. Unit {0} };
@@ -36,11 +64,13 @@ impl Calls for Noted {
     ghost owns = { λ _ _. Unit {0} };
 
     fn begin(&mut self, request: Request) -> Result<Request, Refusal> {
-        self.done.push(match request {
-            Request::Bulk(_) => Did::BeginsWhole,
-            Request::Change(_) | Request::Read(_) => Did::BeginsSingle,
-        })?;
-        Ok(request)
+        match self.note(begun(&request)) {
+            Ok(()) => Ok(request),
+            Err(refusal) => {
+                drop(request);
+                Err(refusal)
+            }
+        }
     }
 
     fn may_finish(&self, _request: &Request) -> bool {
@@ -48,14 +78,13 @@ impl Calls for Noted {
     }
 
     fn finish(&mut self, request: Request) -> Result<Reply, Refusal> {
-        self.done.push(match request {
-            Request::Bulk(_) => Did::FinishesWhole,
-            Request::Change(_) | Request::Read(_) => Did::FinishesSingle,
-        })?;
-        Ok(Reply::Now(Some(self.value.clone()?)))
+        let did = finished(&request);
+        drop(request);
+        self.noted_reply(did)
     }
 
-    fn give_up(&mut self, _request: Request) {
+    fn give_up(&mut self, request: Request) {
+        drop(request);
         let _noted = self.done.push(Did::GivesUp);
     }
 }
@@ -79,8 +108,20 @@ impl Write for Lengths {
     }
 }
 
-/// What was done with the calls of these frames, and how long the writes were.
-fn served(alloc: Global, value: Value, frames: &[u8]) -> Result<(Vec<Did>, Vec<usize>), Fail> {
+/// What was done with the calls of frames, and how long the writes were.
+#[derive(Drop)]
+struct Outcome {
+    done: Vec<Did>,
+    written: Vec<usize>,
+}
+
+impl Outcome {
+    fn is(&self, done: &[Did], written: &[usize]) -> bool {
+        self.done.as_slice() == done && self.written.as_slice() == written
+    }
+}
+
+fn served(alloc: Global, value: &Value, frames: &[u8]) -> Result<Outcome, Fail> {
     let mut calls = Noted {
         value,
         done: Vec::new(alloc),
@@ -90,7 +131,10 @@ fn served(alloc: Global, value: Value, frames: &[u8]) -> Result<(Vec<Did>, Vec<u
     };
     let mut reader = frames;
     serve_connection(alloc, &mut reader, &mut writer, &mut calls)?;
-    Ok((calls.done, writer.written))
+    Ok(Outcome {
+        done: calls.done,
+        written: writer.written,
+    })
 }
 
 /// A put of `a`.
@@ -108,12 +152,18 @@ fn joined(alloc: Global, frames: &[&[u8]]) -> Result<Vec<u8>, Fail> {
     Ok(bytes)
 }
 
+// What comes of frames behind one another.
+fn served_together(alloc: Global, value: &Value, frames: &[&[u8]]) -> Result<Outcome, Fail> {
+    let bytes = joined(alloc, frames)?;
+    let served = served(alloc, value, &bytes);
+    drop(bytes);
+    served
+}
+
 #[test]
 fn calls_are_begun_before_the_first_is_finished(rt: HostRuntime) -> Result<(), Fail> {
-    let alloc = rt.alloc();
-    let frames = joined(alloc, &[PUT, PUT, PUT])?;
-    let (done, written) = served(alloc, Value::Int(5), &frames)?;
-    let wanted = [
+    let served = served_together(rt.alloc(), &Value::Int(5), &[PUT, PUT, PUT])?;
+    let wanted = &[
         Did::BeginsSingle,
         Did::BeginsSingle,
         Did::BeginsSingle,
@@ -121,8 +171,13 @@ fn calls_are_begun_before_the_first_is_finished(rt: HostRuntime) -> Result<(), F
         Did::FinishesSingle,
         Did::FinishesSingle,
     ];
-    assert_eq!(rt; done.as_slice(), wanted.as_slice());
-    assert_eq!(rt; written.as_slice(), [36].as_slice());
+    assert!(rt;
+        served.is(wanted, &[36]),
+        "{:?} {:?}",
+        served.done,
+        served.written
+    );
+    drop(served);
     Ok(())
 }
 
@@ -130,10 +185,9 @@ fn calls_are_begun_before_the_first_is_finished(rt: HostRuntime) -> Result<(), F
 /// the next is.
 #[test]
 fn a_request_of_the_whole_map_is_alone(rt: HostRuntime) -> Result<(), Fail> {
-    let alloc = rt.alloc();
-    let frames = joined(alloc, &[PUT, PUT, COUNT, COUNT, PUT])?;
-    let (done, written) = served(alloc, Value::Int(5), &frames)?;
-    let wanted = [
+    let frames = &[PUT, PUT, COUNT, COUNT, PUT];
+    let served = served_together(rt.alloc(), &Value::Int(5), frames)?;
+    let wanted = &[
         Did::BeginsSingle,
         Did::BeginsSingle,
         Did::FinishesSingle,
@@ -145,21 +199,36 @@ fn a_request_of_the_whole_map_is_alone(rt: HostRuntime) -> Result<(), Fail> {
         Did::BeginsSingle,
         Did::FinishesSingle,
     ];
-    assert_eq!(rt; done.as_slice(), wanted.as_slice());
-    assert_eq!(rt; written.as_slice(), [24, 12, 12, 12].as_slice());
+    assert!(rt;
+        served.is(wanted, &[24, 12, 12, 12]),
+        "{:?} {:?}",
+        served.done,
+        served.written
+    );
+    drop(served);
     Ok(())
+}
+
+fn longest_text(alloc: Global) -> Result<Value, Fail> {
+    let text = "v".repeat(alloc, 4096)?;
+    Ok(Value::text(alloc, text.as_str())?)
+}
+
+// What comes of 64 puts that are answered with a text of 4,096 bytes.
+fn served_with_text(alloc: Global) -> Result<Outcome, Fail> {
+    let value = longest_text(alloc)?;
+    let served = served_together(alloc, &value, &[PUT; 64]);
+    drop(value);
+    served
 }
 
 /// A reply with a text of 4,096 bytes has 4,102, of which 15 leave no room for another in 65,536.
 #[test]
 fn gathered_replies_stay_within_their_room(rt: HostRuntime) -> Result<(), Fail> {
-    let alloc = rt.alloc();
-    let value = Value::text(alloc, "v".repeat(alloc, 4096)?.as_str())?;
-    let frames = joined(alloc, &[PUT; 64])?;
-    let (_done, written) = served(alloc, value, &frames)?;
-    assert_eq!(rt;
-        written.as_slice(),
-        [61_530, 61_530, 61_530, 61_530, 16_408].as_slice()
-    );
+    let served = served_with_text(rt.alloc())?;
+    let is_gathered = served.written.as_slice()
+        == [61_530, 61_530, 61_530, 61_530, 16_408].as_slice();
+    assert!(rt; is_gathered, "{:?}", served.written);
+    drop(served);
     Ok(())
 }
