@@ -1,16 +1,29 @@
 //! Texts that are joined, at their limit.
+use crate::parts::text_of;
 use map_types::{Func, FuncError, Refusal, Value};
 use named_functions::apply;
 use std::alloc::Global;
 
+// Whether CONCAT of this text and one of `arg` bytes is too long.
+fn is_too_long_behind(alloc: Global, old: &Value, arg: usize) -> Result<bool, Refusal> {
+    let arg = text_of(alloc, arg)?;
+    let joined = apply(alloc, Func::Concat, Some(old), Some(&arg));
+    drop(arg);
+    let is_long = match &joined {
+        Ok(Err(fault)) => Ok(*fault == FuncError::TooLong),
+        Ok(Ok(_)) => Ok(false),
+        Err(refusal) => Err(*refusal),
+    };
+    drop(joined);
+    is_long
+}
+
 // Whether CONCAT of texts of these lengths is too long.
 fn is_too_long(alloc: Global, old: usize, arg: usize) -> Result<bool, Refusal> {
-    let old = Value::text(alloc, "v".repeat(alloc, old)?.as_str())?;
-    let arg = Value::text(alloc, "v".repeat(alloc, arg)?.as_str())?;
-    match apply(alloc, Func::Concat, Some(&old), Some(&arg))? {
-        Err(fault) => Ok(fault == FuncError::TooLong),
-        Ok(_) => Ok(false),
-    }
+    let old = text_of(alloc, old)?;
+    let is_long = is_too_long_behind(alloc, &old, arg);
+    drop(old);
+    is_long
 }
 
 #[test]

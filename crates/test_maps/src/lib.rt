@@ -12,6 +12,8 @@ mod parts;
 #[cfg(test)]
 mod stripes;
 #[cfg(test)]
+mod threads;
+#[cfg(test)]
 mod tickets;
 #[cfg(test)]
 mod types;

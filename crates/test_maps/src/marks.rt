@@ -36,17 +36,43 @@ fn change_four(stripes: &Stripes, pass: &mut Pass, alloc: Global) -> [Tried; 4]
     ]
 }
 
+// What comes of the four changes, and whether the marks before them, behind them and behind these
+// are right.
+fn mark_by_changes(stripes: &Stripes, alloc: Global) -> Result<([Tried; 4], [bool; 3]), Refusal> {
+    let mut pass = stripes.pass()?;
+    let before = are_exactly(&stripes.take_marks(), &[]);
+    let tried = change_four(stripes, &mut pass, alloc);
+    drop(pass);
+    let behind = are_exactly(&stripes.take_marks(), &[0, 63, 64, 255]);
+    let then = are_exactly(&stripes.take_marks(), &[]);
+    Ok((tried, [before, behind, then]))
+}
+
 #[test]
 fn a_change_marks_its_stripe(rt: HostRuntime) -> Result<(), Refusal> {
     let alloc = rt.alloc();
     let count = StripeCount::new(256).expect(&rt, "256 is a count of stripes");
     let stripes = Stripes::empty(alloc, count)?;
-    let mut pass = stripes.pass()?;
-    assert!(rt; are_exactly(&stripes.take_marks(), &[]));
-    assert!(rt; change_four(&stripes, &mut pass, alloc) == [Tried::Held; 4]);
-    assert!(rt; are_exactly(&stripes.take_marks(), &[0, 63, 64, 255]));
-    assert!(rt; are_exactly(&stripes.take_marks(), &[]));
+    let marked = mark_by_changes(&stripes, alloc);
+    drop(stripes);
+    let (tried, are_marked) = marked?;
+    assert!(rt; tried == [Tried::Held; 4]);
+    assert_eq!(rt; are_marked, [true; 3]);
     Ok(())
+}
+
+// What comes of a put of `a`, a read of `b` and a read of `a`, and whether the marks behind each
+// are right.
+fn mark_by_reads(stripes: &Stripes, alloc: Global) -> Result<([Tried; 3], [bool; 3]), Refusal> {
+    let mut pass = stripes.pass()?;
+    let put = try_put(stripes, &mut pass, alloc, "a");
+    let by_put = are_exactly(&stripes.take_marks(), &[97]);
+    let other = try_get(stripes, &mut pass, alloc, "b");
+    let by_other = are_exactly(&stripes.take_marks(), &[]);
+    let get = try_get(stripes, &mut pass, alloc, "a");
+    drop(pass);
+    let by_get = are_exactly(&stripes.take_marks(), &[97]);
+    Ok(([put, other, get], [by_put, by_other, by_get]))
 }
 
 // No sweep has taken the entry, so that whoever gives the stripe back marks it.
@@ -55,12 +81,10 @@ fn a_read_marks_a_stripe_with_entries(rt: HostRuntime) -> Result<(), Refusal> {
     let alloc = rt.alloc();
     let count = StripeCount::new(256).expect(&rt, "256 is a count of stripes");
     let stripes = Stripes::empty(alloc, count)?;
-    let mut pass = stripes.pass()?;
-    assert!(rt; try_put(&stripes, &mut pass, alloc, "a") == Tried::Held);
-    assert!(rt; are_exactly(&stripes.take_marks(), &[97]));
-    assert!(rt; try_get(&stripes, &mut pass, alloc, "b") == Tried::Held);
-    assert!(rt; are_exactly(&stripes.take_marks(), &[]));
-    assert!(rt; try_get(&stripes, &mut pass, alloc, "a") == Tried::Held);
-    assert!(rt; are_exactly(&stripes.take_marks(), &[97]));
+    let marked = mark_by_reads(&stripes, alloc);
+    drop(stripes);
+    let (tried, are_marked) = marked?;
+    assert!(rt; tried == [Tried::Held; 3]);
+    assert_eq!(rt; are_marked, [true; 3]);
     Ok(())
 }

@@ -1,5 +1,5 @@
 //! One part: its longest texts, a change that is ready, and memory that is refused.
-use atomic_methods::{Part, Ready};
+use atomic_methods::{Acted, Part, Ready, Unready};
 use java_hash::StripeCount;
 use map_types::{Change, Command, Func, FuncError, Key, Question, Read, Refusal, Reply, Value};
 use std::alloc::Global;
@@ -11,7 +11,7 @@ fn empty_part(alloc: Global) -> Result<Part, Refusal> {
     }
 }
 
-fn text_of(alloc: Global, len: usize) -> Result<Value, Refusal> {
+pub(crate) fn text_of(alloc: Global, len: usize) -> Result<Value, Refusal> {
     let text = "v".repeat(alloc, len)?;
     Value::text(alloc, text.as_str())
 }
@@ -42,11 +42,17 @@ fn command(alloc: Global, key: &str, step: Step) -> Result<Command, Refusal> {
     Ok(Command { key, change })
 }
 
+fn changed(part: &mut Part, alloc: Global, command: &Command) -> Result<Reply, Refusal> {
+    let prepared = part.prepare(alloc, command)?;
+    Ok(part.act(&command.key, prepared))
+}
+
 // Makes the change of the key "k".
 fn change(part: &mut Part, alloc: Global, step: Step) -> Result<Reply, Refusal> {
     let command = command(alloc, "k", step)?;
-    let prepared = part.prepare(alloc, &command)?;
-    Ok(part.act(&command.key, prepared))
+    let reply = changed(part, alloc, &command);
+    drop(command);
+    reply
 }
 
 /// What comes of a text that is joined by another.
@@ -80,10 +86,16 @@ fn is_longest(alloc: Global, part: &mut Part) -> Result<bool, Refusal> {
     Ok(is_done(change(part, alloc, Step::RemoveText(4096))?))
 }
 
+fn join_and_remove(alloc: Global, part: &mut Part, len: usize) -> Result<(Joined, bool), Refusal> {
+    let joined = join(alloc, part, len)?;
+    Ok((joined, is_longest(alloc, part)?))
+}
+
 fn joined_and_removed(alloc: Global, len: usize) -> Result<(Joined, bool), Refusal> {
     let mut part = empty_part(alloc)?;
-    let joined = join(alloc, &mut part, len)?;
-    Ok((joined, is_longest(alloc, &mut part)?))
+    let joined = join_and_remove(alloc, &mut part, len);
+    drop(part);
+    joined
 }
 
 #[test]
@@ -97,19 +109,44 @@ fn longest_text(rt: HostRuntime) {
     }
 }
 
-// Whether a change that is ready replies that nothing was mapped, and how many entries there are
-// then.
-fn act(ready: Ready) -> (bool, usize) {
-    let acted = ready.act();
-    (acted.reply == Reply::Was(None), acted.part.len())
+// Whether the reply is that nothing was mapped, and how many entries there are.
+fn left_by(acted: &Acted) -> (bool, usize) {
+    let is_first = matches!(acted.reply, Reply::Was(None));
+    (is_first, acted.part.len())
 }
 
+fn act(ready: Ready) -> (bool, usize) {
+    let acted = ready.act();
+    let left = left_by(&acted);
+    drop(acted);
+    left
+}
+
+fn act_if_ready(ready: Result<Ready, Unready>) -> Result<(bool, usize), Refusal> {
+    match ready {
+        Ok(ready) => Ok(act(ready)),
+        Err(unready) => {
+            let refusal = unready.refusal;
+            drop(unready);
+            Err(refusal)
+        }
+    }
+}
+
+fn act_on_empty(alloc: Global, command: Command) -> Result<(bool, usize), Refusal> {
+    match empty_part(alloc) {
+        Ok(part) => act_if_ready(Ready::new(alloc, part, command)),
+        Err(refusal) => {
+            drop(command);
+            Err(refusal)
+        }
+    }
+}
+
+// What a change of an empty part leaves.
 fn acted(alloc: Global) -> Result<(bool, usize), Refusal> {
     let command = command(alloc, "a", Step::Put(5))?;
-    match Ready::new(alloc, empty_part(alloc)?, command) {
-        Ok(ready) => Ok(act(ready)),
-        Err(unready) => Err(unready.refusal),
-    }
+    act_on_empty(alloc, command)
 }
 
 #[test]
@@ -130,14 +167,29 @@ fn is_kept(alloc: Global, part: &Part) -> Result<bool, Refusal> {
     Ok(is_five(part.read(&read)?) && part.len() == 1)
 }
 
-fn is_ready(part: &mut Part, alloc: Global, command: Command) -> bool {
-    part.prepare(alloc, &command).is_ok()
+fn is_ready(part: &mut Part, alloc: Global, command: &Command) -> bool {
+    let prepared = part.prepare(alloc, command);
+    let is_ready = prepared.is_ok();
+    drop(prepared);
+    is_ready
 }
 
 // Prepares the change of a key, which may be refused. Whether the key "k" stays the same.
 fn stays(alloc: Global, part: &mut Part, key: &str, step: Step) -> Result<bool, Refusal> {
-    let _is_ready = is_ready(part, alloc, command(alloc, key, step)?);
+    let command = command(alloc, key, step)?;
+    let _is_ready = is_ready(part, alloc, &command);
+    drop(command);
     is_kept(alloc, part)
+}
+
+// Maps the key "k" to 5. Whether it stays so at each of three changes.
+fn stays_five(alloc: Global, part: &mut Part) -> Result<[bool; 3], Refusal> {
+    drop(change(part, alloc, Step::Put(5))?);
+    Ok([
+        stays(alloc, part, "k", Step::Put(6))?,
+        stays(alloc, part, "k", Step::Remove)?,
+        stays(alloc, part, "b", Step::Put(7))?,
+    ])
 }
 
 /// Whichever one allocation is refused, a change that isn't prepared leaves the content.
@@ -145,13 +197,8 @@ fn stays(alloc: Global, part: &mut Part, key: &str, step: Step) -> Result<bool, 
 fn refused_memory(rt: HostRuntime) -> Result<(), Refusal> {
     let alloc = rt.alloc();
     let mut part = empty_part(alloc)?;
-    change(&mut part, alloc, Step::Put(5))?;
-    for (key, step) in [
-        ("k", Step::Put(6)),
-        ("k", Step::Remove),
-        ("b", Step::Put(7)),
-    ] {
-        assert!(rt; stays(alloc, &mut part, key, step)?, "{key}");
-    }
+    let stays = stays_five(alloc, &mut part);
+    drop(part);
+    assert_eq!(rt; stays?, [true; 3]);
     Ok(())
 }

@@ -19,11 +19,20 @@ fn is_before(alloc: Global, first: &str, second: &str) -> Result<bool, Refusal> 
     Ok(Key::new(alloc, first)? < Key::new(alloc, second)?)
 }
 
+fn is_its_clone(key: &Key) -> Result<bool, Refusal> {
+    let clone = key.clone()?;
+    let is_same = *key == clone;
+    drop(clone);
+    Ok(is_same)
+}
+
 #[test]
 fn keys_in_byte_order(rt: HostRuntime) -> Result<(), Refusal> {
     assert!(rt; is_before(rt.alloc(), "a", "aa")?);
     let key = Key::new(rt.alloc(), "a")?;
-    assert!(rt; key == key.clone()?);
+    let is_its_clone = is_its_clone(&key);
+    drop(key);
+    assert!(rt; is_its_clone?);
     Ok(())
 }
 
@@ -42,18 +51,32 @@ fn value_of(alloc: Global, len: usize) -> Result<bool, Refusal> {
 
 #[test]
 fn texts_up_to_their_limit(rt: HostRuntime) {
-    assert_eq!(rt; text_of(rt.alloc(), 4096), Ok(4096));
-    assert_eq!(rt; text_of(rt.alloc(), 4097), Err(Refusal::ValueTooLong));
-    assert_eq!(rt; value_of(rt.alloc(), 4096), Ok(true));
-    assert_eq!(rt; value_of(rt.alloc(), 4097), Err(Refusal::ValueTooLong));
+    let alloc = rt.alloc();
+    assert_eq!(rt;
+        (text_of(alloc, 4096), value_of(alloc, 4096)),
+        (Ok(4096), Ok(true))
+    );
+    let refusal = Refusal::ValueTooLong;
+    assert_eq!(rt;
+        (text_of(alloc, 4097), value_of(alloc, 4097)),
+        (Err(refusal), Err(refusal))
+    );
+}
+
+// `ab`, followed by `c`.
+fn joined(alloc: Global) -> Result<Text, Refusal> {
+    let tail = Text::new(alloc, "c")?;
+    let both = Text::new(alloc, "ab")?.followed_by(alloc, &tail);
+    drop(tail);
+    both
 }
 
 #[test]
 fn texts_follow_one_another(rt: HostRuntime) -> Result<(), Refusal> {
     let alloc = rt.alloc();
-    let tail = Text::new(alloc, "c")?;
-    let both = Text::new(alloc, "ab")?.followed_by(alloc, &tail)?;
+    let both = joined(alloc)?;
     assert_eq!(rt; both.as_str(), "abc");
+    drop(both);
     Ok(())
 }
 
@@ -81,24 +104,33 @@ fn functions_by_number(rt: HostRuntime) {
     }
 }
 
+fn is_printed(alloc: Global, refusal: Refusal, text: &str) -> Result<bool, Refusal> {
+    let printed = format!(in alloc; "{refusal}")?;
+    let is_printed = printed.as_str() == text;
+    drop(printed);
+    Ok(is_printed)
+}
+
+/// Refusals, their numbers and how they are printed.
+static REFUSALS: [(Refusal, u8, &str); 4] = [
+    (Refusal::BadFrame, 6, "6 BadFrame"),
+    (Refusal::Busy { stripe: 3 }, 8, "8 Busy 3"),
+    (
+        Refusal::Damaged {
+            file: 2,
+            offset: 17,
+        },
+        12,
+        "12 Damaged 2 17",
+    ),
+    (Refusal::SeatsSpent, 19, "19 SeatsSpent"),
+];
+
 #[test]
 fn printed_refusals(rt: HostRuntime) -> Result<(), Refusal> {
-    let alloc = rt.alloc();
-    for (refusal, number, text) in [
-        (Refusal::BadFrame, 6, "6 BadFrame"),
-        (Refusal::Busy { stripe: 3 }, 8, "8 Busy 3"),
-        (
-            Refusal::Damaged {
-                file: 2,
-                offset: 17,
-            },
-            12,
-            "12 Damaged 2 17",
-        ),
-        (Refusal::SeatsSpent, 19, "19 SeatsSpent"),
-    ] {
-        assert_eq!(rt; refusal.number(), number);
-        assert_eq!(rt; format!(in alloc; "{refusal}")?.as_str(), text);
+    for (refusal, number, text) in &REFUSALS {
+        let is_printed = is_printed(rt.alloc(), *refusal, text)?;
+        assert!(rt; is_printed && refusal.number() == *number, "{text}");
     }
     Ok(())
 }

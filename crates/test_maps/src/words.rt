@@ -1,5 +1,5 @@
 //! Whole calls over plain words.
-ghost use Rattle.std.specs.Prelude.{◌≡◌};
+ghost use Rattle.std.specs.Prelude.{◌≡◌, None, false, true};
 
 use java_hash::StripeCount;
 use map_types::{Change, Command, Key, Question, Read, Refusal, Reply, Value};
@@ -8,7 +8,9 @@ use std::alloc::Global;
 use std::process::Abort;
 use ticket_order::{Held, Released, Steps, release, try_call, try_read};
 
-fn sixteen<R: Abort>(rt: &R) -> StripeCount {
+fn sixteen<R: Abort>(rt: &R) -> StripeCount
+    ensures { result.count ≡ 16 }
+{
     StripeCount::new(16).expect(rt, "16 is a count of stripes")
 }
 
@@ -42,50 +44,96 @@ fn is_one_at_one(released: &Released) -> bool {
     }
 }
 
+// Makes a put, and a read that is published. Their positions, and whether the number 1 is read at
+// position 1.
+fn put_and_read<S: Steps>(steps: &mut S, alloc: Global) -> Result<(u64, u64, bool), Refusal>
+    requires empty_handed { (S.recorded steps.old).holding ≡ None }
+    requires by_keeper { (S.recorded steps.old).keeper ≡ true }
+    requires unfailed { (S.recorded steps.old).failed ≡ false }
+{
+    let put = try_call(steps, alloc, put_one(alloc)?)?;
+    let changed = position_of(&put);
+    put.give_up();
+    let held = try_read(steps, get_one(alloc)?)?;
+    let read = position_of(&held);
+    steps.durable(read);
+    let released = release(steps, held);
+    let is_one = is_one_at_one(&released);
+    drop(released);
+    Ok((changed, read, is_one))
+}
+
 #[test]
 fn one_pass_puts_and_reads(rt: HostRuntime) -> Result<(), Refusal> {
     let alloc = rt.alloc();
     let mut words = PlainWords::empty(alloc, sixteen(&rt), 0)?;
-    let mut at = At::new(&mut words, 0);
-    let changed = position_of(&try_call(&mut at, alloc, put_one(alloc)?)?);
-    let held = try_read(&mut at, get_one(alloc)?)?;
-    let read = position_of(&held);
-    at.durable(read);
-    let released = release(&mut at, held);
-    assert!(rt; changed == 1 && read == 1 && is_one_at_one(&released));
+    let made = put_and_read(&mut At::new(&mut words, 0), alloc);
+    drop(words);
+    assert_eq!(rt; made, Ok((1, 1, true)));
     Ok(())
+}
+
+// Makes a put, and gives its reply up. Its position.
+fn give_up_put<S: Steps>(steps: &mut S, alloc: Global) -> Result<u64, Refusal>
+    requires { (S.recorded steps.old).holding ≡ None }
+{
+    let held = try_call(steps, alloc, put_one(alloc)?)?;
+    let position = position_of(&held);
+    held.give_up();
+    Ok(position)
 }
 
 #[test]
 fn a_held_reply_is_given_up(rt: HostRuntime) -> Result<(), Refusal> {
     let alloc = rt.alloc();
     let mut words = PlainWords::empty(alloc, sixteen(&rt), 0)?;
-    let held = try_call(&mut At::new(&mut words, 0), alloc, put_one(alloc)?)?;
-    assert_eq!(rt; held.position().number(), 1);
-    held.give_up();
+    let position = give_up_put(&mut At::new(&mut words, 0), alloc);
+    drop(words);
+    assert_eq!(rt; position, Ok(1));
     Ok(())
+}
+
+// Makes a put. Whether its reply has to wait.
+fn waits<S: Steps>(steps: &mut S, alloc: Global) -> Result<bool, Refusal>
+    requires { (S.recorded steps.old).holding ≡ None }
+{
+    let changed = try_call(steps, alloc, put_one(alloc)?)?;
+    let released = release(steps, changed);
+    let waits = matches!(released, Released::NotYet(_));
+    drop(released);
+    Ok(waits)
 }
 
 #[test]
 fn a_reply_waits_until_its_position_is_durable(rt: HostRuntime) -> Result<(), Refusal> {
     let alloc = rt.alloc();
     let mut words = PlainWords::empty(alloc, sixteen(&rt), 0)?;
-    let mut at = At::new(&mut words, 0);
-    let changed = try_call(&mut at, alloc, put_one(alloc)?)?;
-    assert!(rt; matches!(release(&mut at, changed), Released::NotYet(_)));
+    let waits = waits(&mut At::new(&mut words, 0), alloc);
+    drop(words);
+    assert!(rt; waits?);
     Ok(())
+}
+
+// How many stripes there are, whether pass 0 is alive before the keeper fails and behind it, and
+// whether it gets stripe 3 then, and pass 1 too.
+fn shared(alloc: Global, count: StripeCount) -> Result<(usize, [bool; 4]), Refusal>
+    requires { count.count ≡ 16 }
+{
+    let mut words = PlainWords::empty(alloc, count, 2)?;
+    let stripes = words.stripes().get();
+    let before = At::new(&mut words, 0).alive();
+    At::new(&mut words, 2).fail();
+    let behind = At::new(&mut words, 0).alive();
+    let is_got = At::new(&mut words, 0).take(3).is_some();
+    let is_got_twice = At::new(&mut words, 1).take(3).is_some();
+    words.keeps_one_history();
+    drop(words);
+    Ok((stripes, [before, behind, is_got, is_got_twice]))
 }
 
 #[test]
 fn passes_share_the_words(rt: HostRuntime) -> Result<(), Refusal> {
-    let alloc = rt.alloc();
-    let mut words = PlainWords::empty(alloc, sixteen(&rt), 2)?;
-    assert_eq!(rt; words.stripes().get(), 16);
-    assert!(rt; At::new(&mut words, 0).alive());
-    At::new(&mut words, 2).fail();
-    assert!(rt; !At::new(&mut words, 0).alive());
-    assert!(rt; At::new(&mut words, 0).take(3).is_some());
-    assert!(rt; At::new(&mut words, 1).take(3).is_none());
-    words.keeps_one_history();
+    let shared = shared(rt.alloc(), sixteen(&rt))?;
+    assert_eq!(rt; shared, (16, [true, false, true, false]));
     Ok(())
 }

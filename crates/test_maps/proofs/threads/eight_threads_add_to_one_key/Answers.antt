@@ -1,7 +1,7 @@
 use denote.Param.Send.{sendable}
 use Rattle.std.proofs.Crossing.{crosses}
 use Rattle.stripe_locks.proofs.Crosses.{stripes_sync}
-use Rattle.test_maps.proofs.stripes.eight_threads_add_to_one_key.Goals as goal
+use Rattle.test_maps.proofs.threads.eight_threads_add_to_one_key.Goals as goal
 
 pub map_indices-requires-sync-F : goal.map_indices-requires-sync-F
 map_indices-requires-sync-F c κs h = search (stripes_sync, sendable, crosses) depth 20

@@ -6,7 +6,7 @@ use Rattle.map_types.specs.declared.refusals.Refusal.{Refusal}
 use Rattle.stripe_locks.specs.Holding.{IsHeldOf}
 use Rattle.stripe_locks.specs.Passes.{IsPassOf}
 use Rattle.stripe_locks.specs.declared.held.Held.{Held}
-use Rattle.test_maps.proofs.stripes.greatest_of.Goals as goal
+use Rattle.test_maps.proofs.threads.greatest_of.Goals as goal
 
 pub loop-held-preserved : goal.loop-held-preserved
 loop-held-preserved c =

@@ -1,7 +1,0 @@
-use Rattle.std.proofs.Common.{◌≡◌, None}
-use Rattle.stripe_locks.specs.Holding.{IsHeldOf}
-use Rattle.stripe_locks.specs.Passes.{recorded, IsPassOf}
-use Rattle.test_maps.proofs.stripes.add_often.Given as goal
-
-abbrev pub invariant-loop-turn : goal.invariant-loop-turn
-invariant-loop-turn g l = IsPassOf l.stripes l.pass × ((recorded l.pass).holding ≡ None) × IsHeldOf l.stripes l.last
