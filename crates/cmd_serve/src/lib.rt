@@ -12,6 +12,8 @@ pub mod pool;
 pub mod server;
 #[cfg(test)]
 mod server_tests;
+#[cfg(test)]
+mod stalling_tests;
 pub mod worker;
 
 pub use begun::Begun;

@@ -1,9 +1,8 @@
 use crate::NoGate;
 use crate::server::Server;
-use crate::server_tests::{WAS_ABSENT, served, settings, sixteen};
-use disk_model::{DirDisk, FirstError, Unknown};
-use durable_map::DurableMap;
-use recovery::{format, open_parts};
+use crate::server_tests::{WAS_ABSENT, served, server_of, sixteen};
+use disk_model::{DirDisk, Unknown};
+use recovery::format;
 use std::alloc::Global;
 use std::fs;
 use std::fs::File;
@@ -49,13 +48,7 @@ fn server_over(rt: &HostRuntime, directory: &str) -> Result<Server<DirDisk<Unkno
     let alloc = rt.alloc();
     let mut disk = DirDisk::create(rt, alloc, directory, Unknown)?;
     format(alloc, &mut disk, sixteen()?).map_err(|_| "it is formatted")?;
-    let Ok((keeper, parts, first, limit)) = open_parts(alloc, disk, sixteen()?) else {
-        return Err(Fail::from("it is opened"));
-    };
-    match DurableMap::new(alloc, keeper, parts, first, limit) {
-        Ok(map) => Ok(Server::new(alloc, map, &settings(1)?, FirstError::new(alloc)?)),
-        Err(_) => Err(Fail::from("there is memory")),
-    }
+    server_of(alloc, disk)
 }
 
 /// How many batches a log has that holds the puts and nothing else.
@@ -74,10 +67,12 @@ fn puts_in_one_piece_share_batches(rt: HostRuntime) -> Result<(), Fail> {
     let alloc = rt.alloc();
     let _ = fs::remove_dir_all(&rt, "pipeline");
     fs::create_dir(&rt, "pipeline")?;
-    let server = server_over(&rt, "pipeline")?;
     let puts = numbered_puts(alloc)?;
-    let sent = served(&rt, alloc, &server, &NoGate, &[puts.as_slice()], 1)?;
-    assert_eq!(rt; sent.as_slice(), numbers_before(alloc)?.as_slice());
+    let replies = numbers_before(alloc)?;
+    let server = server_over(&rt, "pipeline")?;
+    let sent = served(&rt, alloc, &server, &NoGate, &[puts.as_slice()], 1);
+    drop(server);
+    assert_eq!(rt; sent?.as_slice(), replies.as_slice());
     let batches = batches_of(&rt, alloc, "pipeline/log-a")?;
     assert!(rt; batches > 0 && batches < PUTS, "{batches}");
     fs::remove_dir_all(&rt, "pipeline")?;

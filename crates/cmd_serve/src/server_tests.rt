@@ -1,7 +1,7 @@
+use crate::opening::open_map;
 use crate::server::{Server, Settings, run, serve_disk};
 use crate::{Arrivals, Gate, NoGate};
 use disk_model::{Disk, Failure, Fill, FirstError, MemDisk};
-use durable_map::DurableMap;
 use java_hash::StripeCount;
 use log::Log;
 use recovery::{format, open_parts};
@@ -16,7 +16,7 @@ use std::thread::Threads;
 use std::time::{Clock, Duration};
 
 /// How many turns a gate holds a request at most, each of a millisecond.
-const MOST_TURNS: u32 = 10_000;
+pub(crate) const MOST_TURNS: u32 = 10_000;
 
 /// An opening makes fewer device calls.
 const MOST_CALLS: u64 = 1_000;
@@ -25,7 +25,7 @@ const MOST_CALLS: u64 = 1_000;
 const NO_CHECKPOINT: u64 = 1_000_000;
 
 /// A put of 5 at `a`, and its reply at first and later.
-const PUT: &[u8] = b"\x00\x0D\x10\x00\x01a\x01\x00\x00\x00\x00\x00\x00\x00\x05";
+pub(crate) const PUT: &[u8] = b"\x00\x0D\x10\x00\x01a\x01\x00\x00\x00\x00\x00\x00\x00\x05";
 
 pub(crate) const WAS_ABSENT: &[u8] = b"\x00\x02\x00\x00";
 
@@ -72,22 +72,29 @@ pub(crate) fn settings(port: u16) -> Result<Settings, Fail> {
     })
 }
 
+/// A server of the map of the disk.
+pub(crate) fn server_of<D: Disk + Drop>(alloc: Global, disk: D) -> Result<Server<D>, Fail> {
+    let settings = settings(1)?;
+    let first_error = FirstError::new(alloc)?;
+    match open_map(alloc, disk, settings.stripes) {
+        Ok((map, _first)) => Ok(Server::new(alloc, map, &settings, first_error)),
+        Err(_) => Err(Fail::from("it is opened")),
+    }
+}
+
 /// A server of an empty map, whose disk fails as planned.
-fn server_over(alloc: Global, failure: Option<Failure>) -> Result<Server<MemDisk>, Fail> {
+pub(crate) fn server_over(
+    alloc: Global,
+    failure: Option<Failure>,
+) -> Result<Server<MemDisk>, Fail> {
     let mut disk = formatted(alloc)?;
     disk.plan(failure);
-    let Ok((keeper, parts, first, limit)) = open_parts(alloc, disk, sixteen()?) else {
-        return Err(Fail::from("it is opened"));
-    };
-    match DurableMap::new(alloc, keeper, parts, first, limit) {
-        Ok(map) => Ok(Server::new(alloc, map, &settings(1)?, FirstError::new(alloc)?)),
-        Err(_) => Err(Fail::from("there is memory")),
-    }
+    server_of(alloc, disk)
 }
 
 /// The two ends of `count` connections: those of the clients, and those of the server, which come
 /// in their order.
-fn connected<R: Net<Listener = TcpListener, Stream = TcpStream>>(
+pub(crate) fn connected<R: Net<Listener = TcpListener, Stream = TcpStream>>(
     rt: &R,
     alloc: Global,
     count: usize,
@@ -107,7 +114,7 @@ fn connected<R: Net<Listener = TcpListener, Stream = TcpStream>>(
 
 /// Connections that were made beforehand; the last of the list comes first.
 #[derive(Drop)]
-struct Listed {
+pub(crate) struct Listed {
     streams: Vec<TcpStream>,
 }
 
@@ -202,9 +209,10 @@ fn a_request_that_is_held_holds_up_no_other(rt: HostRuntime) -> Result<(), Fail>
         has_answered: AtomicBool::new(false),
         was_in_time: AtomicBool::new(false),
     };
-    let sent = served(&rt, rt.alloc(), &server, &gate, &[PUT, PUT], 2)?;
+    let sent = served(&rt, rt.alloc(), &server, &gate, &[PUT, PUT], 2);
+    drop(server);
     assert!(rt; gate.was_in_time.load(Ordering::SeqCst));
-    assert!(rt; [ABSENT_AND_5, FIVE_AND_ABSENT].contains(&sent.as_slice()));
+    assert!(rt; [ABSENT_AND_5, FIVE_AND_ABSENT].contains(&sent?.as_slice()));
     Ok(())
 }
 
@@ -218,116 +226,46 @@ fn leave_before_last(clients: &mut Vec<TcpStream>) -> Result<(), Fail> {
     Ok(())
 }
 
-#[test]
-fn a_connection_breaks_off_alone(rt: HostRuntime) -> Result<(), Fail> {
-    let server = server_over(rt.alloc(), None)?;
-    let (mut clients, mut listed) = connected(&rt, rt.alloc(), 5)?;
+/// What five clients are sent: one goes without a reply, and the others send nothing, a part of a put,
+/// a refused length, and a put.
+fn sent_beside_broken<
+    R: Net<Listener = TcpListener, Stream = TcpStream> + Clock + Log + Threads + Wait + Sync,
+>(rt: &R, alloc: Global, server: &Server<MemDisk>) -> Result<Vec<u8>, Fail> {
+    let (mut clients, mut listed) = connected(rt, alloc, 5)?;
     leave_before_last(&mut clients)?;
     let long = b"\x00\x00\x00\x04\x01\x00\x01a";
     send_each(clients.as_slice(), &[b"", &PUT[..9], long, PUT])?;
-    run(&rt, &server, &NoGate, &mut listed, 1).map_err(|_| "threads start")?;
-    let sent = received(rt.alloc(), clients.as_slice());
-    assert_eq!(rt; sent.as_slice(), BAD_FRAME_AND_5);
+    run(rt, server, &NoGate, &mut listed, 1).map_err(|_| "threads start")?;
+    Ok(received(alloc, clients.as_slice()))
+}
+
+#[test]
+fn a_connection_breaks_off_alone(rt: HostRuntime) -> Result<(), Fail> {
+    let server = server_over(rt.alloc(), None)?;
+    let sent = sent_beside_broken(&rt, rt.alloc(), &server);
+    drop(server);
+    assert_eq!(rt; sent?.as_slice(), BAD_FRAME_AND_5);
     Ok(())
 }
 
-/// The first connection stays open until the reply of the second has come.
-#[derive(Drop)]
-struct Stalling {
-    listed: Listed,
-    stalled: Option<TcpStream>,
-    client: TcpStream,
-    reply: [u8; 4],
-    was_answered: bool,
-}
-
-impl Arrivals for Stalling {
-    fn next(&mut self) -> Option<TcpStream> {
-        if let Some(stream) = self.listed.next() {
-            return Some(stream);
-        }
-        let mut client = &self.client;
-        self.was_answered = client.read_exact(&mut self.reply).is_ok();
-        self.stalled = None;
-        None
-    }
-}
-
-impl Stalling {
-    /// One client sends these bytes, and another one a put.
-    fn new<R: Net<Listener = TcpListener, Stream = TcpStream>>(
-        rt: &R,
-        alloc: Global,
-        bytes: &[u8],
-    ) -> Result<Stalling, Fail> {
-        let (mut clients, listed) = connected(rt, alloc, 2)?;
-        let mut client = clients.pop().ok_or("there are two")?;
-        let mut stalled = clients.pop().ok_or("there are two")?;
-        stalled.write_all(bytes)?;
-        client.write_all(PUT)?;
-        client.shutdown(Shutdown::Write)?;
-        client.set_read_timeout(Some(Duration::from_millis(u64::from(MOST_TURNS))))?;
-        let stalled = Some(stalled);
-        Ok(Stalling {
-            listed,
-            stalled,
-            client,
-            reply: [0; 4],
-            was_answered: false,
-        })
-    }
-}
-
-/// Whether a put is answered beside a client that sends these bytes, and then neither reads nor ends.
-fn is_answered_beside<
+/// Eight clients add 1 to two counters, a hundred times each, and then another one asks for both: how
+/// many bytes the eight are sent, and what the other one is.
+fn add_and_ask<
     R: Net<Listener = TcpListener, Stream = TcpStream> + Clock + Log + Threads + Wait + Sync,
->(rt: &R, alloc: Global, bytes: &[u8]) -> Result<bool, Fail> {
-    let server = server_over(alloc, None)?;
-    let mut stalling = Stalling::new(rt, alloc, bytes)?;
-    run(rt, &server, &NoGate, &mut stalling, 2).map_err(|_| "threads start")?;
-    Ok(stalling.was_answered && stalling.reply.as_slice() == WAS_ABSENT)
+>(rt: &R, alloc: Global, server: &Server<MemDisk>) -> Result<(usize, Vec<u8>), Fail> {
+    let merges = repeated(alloc, ADD_TO_A_AND_B, 100)?;
+    let sent = served(rt, alloc, server, &NoGate, &[merges.as_slice(); 8], 8)?;
+    let counts = served(rt, alloc, server, &NoGate, &[GET_A_AND_B], 1)?;
+    Ok((sent.len(), counts))
 }
 
-#[test]
-fn a_client_that_stalls_holds_up_no_other(rt: HostRuntime) -> Result<(), Fail> {
-    assert!(rt; is_answered_beside(&rt, rt.alloc(), &PUT[..9])?);
-    Ok(())
-}
-
-/// A put of the longest text at `k`, and 4,000 questions for it. The replies are 16 MB, more than a
-/// connection holds of what isn't read.
-fn questions_for_long(alloc: Global) -> Result<Vec<u8>, Fail> {
-    let mut requests = Vec::new(alloc);
-    requests.extend_from_slice(b"\x10\x07\x10\x00\x01k\x02\x10\x00")?;
-    requests.resize(9 + 4_096, b't')?;
-    for _ in 0..4_000 {
-        requests.extend_from_slice(b"\x00\x04\x01\x00\x01k")?;
-    }
-    Ok(requests)
-}
-
-#[test]
-fn a_client_that_never_reads_holds_up_no_other(rt: HostRuntime) -> Result<(), Fail> {
-    let requests = questions_for_long(rt.alloc())?;
-    assert!(rt; is_answered_beside(&rt, rt.alloc(), requests.as_slice())?);
-    Ok(())
-}
-
-/// Eight clients add 1 to two counters, a hundred times each, and then another one asks for both.
 #[test]
 fn eight_clients_share_two_counters(rt: HostRuntime) -> Result<(), Fail> {
     let server = server_over(rt.alloc(), None)?;
-    let merges = repeated(rt.alloc(), ADD_TO_A_AND_B, 100)?;
-    let sent = served(
-        &rt,
-        rt.alloc(),
-        &server,
-        &NoGate,
-        &[merges.as_slice(); 8],
-        8,
-    )?;
-    assert_eq!(rt; sent.len(), 8 * 200 * 12);
-    let counts = served(&rt, rt.alloc(), &server, &NoGate, &[GET_A_AND_B], 1)?;
+    let sent = add_and_ask(&rt, rt.alloc(), &server);
+    drop(server);
+    let (len, counts) = sent?;
+    assert_eq!(rt; len, 8 * 200 * 12);
     assert_eq!(rt; counts.as_slice(), BOTH_ARE_800);
     Ok(())
 }
@@ -338,7 +276,10 @@ fn calls_of_opening(alloc: Global) -> Result<u64, Fail> {
         let fill = Fill::Old;
         let mut disk = formatted(alloc)?;
         disk.plan(Some(Failure { after, fill }));
-        if open_parts(alloc, disk, sixteen()?).is_ok() {
+        let opened = open_parts(alloc, disk, sixteen()?);
+        let is_opened = opened.is_ok();
+        drop(opened);
+        if is_opened {
             return Ok(after);
         }
     }
@@ -350,10 +291,11 @@ fn calls_of_opening(alloc: Global) -> Result<u64, Fail> {
 fn after_a_device_failure_each_call_fails(rt: HostRuntime) -> Result<(), Fail> {
     let fill = Fill::Old;
     let after = calls_of_opening(rt.alloc())?.wrapping_add(2);
-    let server = server_over(rt.alloc(), Some(Failure { after, fill }))?;
     let puts = repeated(rt.alloc(), PUT, 30)?;
-    let sent = served(&rt, rt.alloc(), &server, &NoGate, &[puts.as_slice(); 3], 1)?;
-    assert_eq!(rt; sent.as_slice(), ALL_FAILED);
+    let server = server_over(rt.alloc(), Some(Failure { after, fill }))?;
+    let sent = served(&rt, rt.alloc(), &server, &NoGate, &[puts.as_slice(); 3], 1);
+    drop(server);
+    assert_eq!(rt; sent?.as_slice(), ALL_FAILED);
     Ok(())
 }
 
