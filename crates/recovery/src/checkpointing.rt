@@ -15,7 +15,7 @@ use plain_words::At;
 
 /// The most calls that a checkpoint makes before its first section: it closes its gate, syncs that, and
 /// makes room for its header.
-const OPENING_CALLS: usize = 3;
+const HEAD_CALLS: usize = 3;
 /// The call that writes a section.
 const SECTION_CALLS: usize = 1;
 /// The calls of a seal: the header is written and synced, the gate opened and synced.
@@ -177,7 +177,7 @@ pub(crate) fn seal_checkpoint<D: Disk>(
 {
     stops_of_a_keeper(keeper);
     checkpoint_walk::begin(keeper)?;
-    advance(keeper, OPENING_CALLS)?;
+    advance(keeper, HEAD_CALLS)?;
     capture_all(keeper, steps)?;
     checkpoint_walk::seal(keeper)?;
     advance(keeper, SEALING_CALLS)
