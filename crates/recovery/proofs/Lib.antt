@@ -19,6 +19,7 @@ mod NewFiles
 mod FormattingLemmas
 mod Unmoved
 mod OnePass
+mod ThreeSteps
 mod Sections
 mod StaysUnmoved
 mod RefusedBehind
