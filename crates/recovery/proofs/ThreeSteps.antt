@@ -1,22 +1,26 @@
 -- A capture by its three steps, TAKE, LOOK and GIVE, of each of which the contract of a step tells.
-use Rattle.std.proofs.Common.{◌≡◌, ◌≢◌, ℕ, ◌<◌, List, [], ◌∷◌, length, Option, None, Some, Result, Ok, Err, IfErr, sym, ap, ◌∙◌}
+use Rattle.std.proofs.Common.{◌≡◌, ◌≢◌, ◌⊎◌, inl, inr, ℕ, ◌<◌, List, [], ◌∷◌, ◌++◌, length, Option, None, Some, Result, Ok, Err, IfErr, arith, refl, sym, ap, subst, ◌∙◌}
+use Rattle.std.proofs.lemmas.List.{append_cancel_left}
 use Rattle.disk_model.specs.Files.{Files}
 use Rattle.map_types.specs.declared.refusals.Refusal.{Refusal}
+use Rattle.map_types.specs.declared.refusals.Refusal.TheVariants as refusal
 use Rattle.map_types.specs.declared.refusals.Refusal.TheVariants.{Failed, WrongPhase}
 use Rattle.ticket_order.specs.declared.record.Opening.{Opening}
 use Rattle.ticket_order.specs.declared.record.Record.{Record}
 use Rattle.ticket_order.specs.declared.record.StepMade.{StepMade}
+use Rattle.ticket_order.specs.declared.record.StepMade.TheVariants.{FoundHeld}
 use Rattle.ticket_order.specs.declared.walk.Walk.{Walk}
+use Rattle.ticket_order.specs.Records.{missing}
 use Rattle.ticket_order.specs.Walks.{Give, Look, MakesOne, Take, Ticket, next_kind}
 use Rattle.one_history.specs.declared.book.Book.{Book}
-use Rattle.one_history.specs.Moves.{BookMoves}
+use Rattle.one_history.specs.Moves.{BookMoves, WordsMove}
 use Rattle.one_history.specs.OneHistory.{IsOneHistory}
 use Rattle.one_history.specs.Turns.{record_of}
 use Rattle.plain_words.specs.declared.at.At.{At}
 use Rattle.checkpoint_file.specs.States.{with_section}
 use Rattle.flusher.specs.declared.keeper.Keeper.{Keeper}
 use Rattle.checkpoint_walk.specs.Capturing.{IsCauseOf}
-use Rattle.checkpoint_walk.specs.Walking.{AfterStep, FitsBy, GivesSection, LooksAt, TakesStripe, kind_next}
+use Rattle.checkpoint_walk.specs.Walking.{AfterStep, AfterTake, FitsBy, GivesSection, LooksAt, TakesStripe, kind_next}
 use Rattle.recovery.specs.Upgrading.{IsGivenAt, IsSectionRefused, IsUnmovedWith}
 use Rattle.recovery.proofs.Unmoved.{err_of}
 use Rattle.recovery.proofs.OnePass.{IsSame, captures_one, captures_two, cause_of, given_at, gives, has_looked, looks, no_refusal, not_failed, puts_back, same_back, same_by, same_frame, same_given, same_place, same_two, section_refused, taken, takes, unmoved_then}
@@ -39,6 +43,50 @@ pub record IsStep {D : Type 0} (stripe : ℕ) (k : Keeper D) (a : At) (k' : Keep
   pub place : a'.words.ghost_name ∷ a'.pass ∷ [] ≡ a.words.ghost_name ∷ a.pass ∷ []
   pub one : r ≢ Err Failed → r ≢ Err WrongPhase → MakesOne record_at moves_at (kind_next a.words.now.stripes stripe k.capture) a a'
   pub after : AfterStep a.words.now.stripes stripe k.capture k k' (record_at a) (record_at a') r
+
+-- a refused TAKE wasn't made, or it found the stripe held
+take_refused : {D : Type 0} (n i : ℕ) (k k1 : Keeper D) (p w : Record) (e : Refusal) → AfterTake n i k k1 p w (Err e) → (e ≡ Failed) ⊎ ((e ≡ WrongPhase) ⊎ (w ≡ missing p i))
+take_refused n i k k1 p w Failed h = inl refl
+take_refused n i k k1 p w WrongPhase h = inr (inl refl)
+take_refused n i k k1 p w (refusal.Busy j) h = inr (inr h.missed)
+take_refused n i k k1 p w (refusal.Damaged file offset) h = absurd h
+take_refused n i k k1 p w refusal.NullValue h = absurd h
+take_refused n i k k1 p w refusal.KeyTooLong h = absurd h
+take_refused n i k k1 p w refusal.ValueTooLong h = absurd h
+take_refused n i k k1 p w refusal.UnknownMethod h = absurd h
+take_refused n i k k1 p w refusal.UnknownFunction h = absurd h
+take_refused n i k k1 p w refusal.BadFrame h = absurd h
+take_refused n i k k1 p w refusal.NoMemory h = absurd h
+take_refused n i k k1 p w refusal.TicketsSpent h = absurd h
+take_refused n i k k1 p w refusal.NotFormatted h = absurd h
+take_refused n i k k1 p w refusal.WrongVersion h = absurd h
+take_refused n i k k1 p w refusal.LogFull h = absurd h
+take_refused n i k k1 p w refusal.AlreadyFormatted h = absurd h
+take_refused n i k k1 p w refusal.TooEarly h = absurd h
+take_refused n i k k1 p w refusal.NotText h = absurd h
+take_refused n i k k1 p w refusal.SeatsSpent h = absurd h
+
+same_step : (x y : StepMade) → ◌≡◌ {A = List StepMade} (x ∷ []) (y ∷ []) → x ≡ y
+same_step x y e = cc
+
+-- a TAKE by the only pass isn't refused, but before it is made
+pub take_made : {D : Type 0} (stripe : ℕ) (k k1 : Keeper D) (a a1 : At) (r : Result (Option ℕ) Refusal) (free : k.capture ≡ None) (s : IsStep stripe k a k1 a1 r) (e : Refusal) → r ≡ Err e
+    → (r ≡ Err Failed → ⊥) → (r ≡ Err WrongPhase → ⊥) → length a.words.now.passes ≡ 1 → a.pass < length a.words.now.passes → ⊥
+take_made stripe k k1 a a1 r free s e was works due one within =
+    by (take_refused a.words.now.stripes stripe k k1 (record_at a) (record_at a1) e
+    (subst (λ (x : Result (Option ℕ) Refusal). AfterTake a.words.now.stripes stripe k k1 (record_at a) (record_at a1) x) was
+    (subst (λ (c : Option Walk). AfterStep a.words.now.stripes stripe c k k1 (record_at a) (record_at a1) r) free s.after)))
+  where
+    by : (e ≡ Failed) ⊎ ((e ≡ WrongPhase) ⊎ (record_at a1 ≡ missing (record_at a) stripe)) → ⊥
+    by (inl failed) = works (was ∙ ap Err failed)
+    by (inr (inl wrong)) = due (was ∙ ap Err wrong)
+    by (inr (inr missed)) =
+        let step = s.one works due in
+        let steps : (record_at a).steps ++ step.made ∷ [] ≡ (record_at a).steps ++ FoundHeld stripe ∷ [] = sym step.steps ∙ ap (λ (w : Record). w.steps) missed in
+        let same : step.made ≡ FoundHeld stripe = same_step step.made (FoundHeld stripe) (append_cancel_left (record_at a).steps (step.made ∷ []) (FoundHeld stripe ∷ []) steps) in
+        let held = (subst (λ (made : StepMade). WordsMove a.pass made a.words.now a1.words.now) same step.moved.words).1 in
+        let there = held.holds.within in
+        held.other (omega (arith, there, within, one))
 
 module _ {D : Type 0} (states : D → List Files) (honest : D → Type 0) (stripe : ℕ) (k k1 k2 : Keeper D) (a a1 a2 : At) (r1 r2 : Result (Option ℕ) Refusal)
     (free : k.capture ≡ None) (x1 : Option ℕ) (ok1 : r1 ≡ Ok x1) (s1 : IsStep stripe k a k1 a1 r1) (s2 : IsStep stripe k1 a1 k2 a2 r2) where

@@ -2,7 +2,8 @@ use Rattle.std.proofs.Common.{[], None, ap}
 use Rattle.std.proofs.lemmas.Result.{err_from_is_err_and}
 use Rattle.flusher.specs.declared.keeper.Keeper.{Keeper}
 use Rattle.recovery.proofs.OnePass.{same_frame, start_fits}
-use Rattle.recovery.proofs.ThreeSteps.{IsStep, given_alone, given_low, left, never_refused, refused, unmoved}
+use Rattle.recovery.proofs.ThreeSteps.{IsStep, given_alone, given_low, left, never_refused, refused, take_made, unmoved}
+use Rattle.recovery.proofs.RefusedBehind.{not_broken}
 use Rattle.recovery.proofs.checkpointing.capture.Goals as goal
 
 pub capture_step-requires-3-clause-fits : goal.capture_step-requires-3-clause-fits
@@ -210,3 +211,15 @@ returns-clause-given g c =
     let three = c.capture_step-3.ensures in
     let s3 : IsStep i k2 a2 k3 a3 c.capture_step-3.result = record { stripes = three.stripes; place = three.place; one = three.one; after = three.after } in
     given_low states honest i k k1 k2 a a1 a2 c.capture_step.result c.capture_step-2.result c.requires.unmoved.1.unmoved.over c.in_ok-_taken._taken c.in_ok-_taken.was s1 s2 k3 a3 c.capture_step-3.result c.in_ok-_looked._looked c.in_ok-_looked.was s3 c.in_ok-_given._given c.in_ok-_given.was
+
+pub returns-in_err-_taken-clause-err : goal.returns-in_err-_taken-clause-err
+returns-in_err-_taken-clause-err g c =
+    let i = c.args.stripe in
+    let k = c.args.keeper.now in
+    let a = c.args.steps.now in
+    let r = c.capture_step.result in
+    let one = c.capture_step.ensures in
+    let is = c.requires.unmoved.1 in
+    let s : IsStep i k a c.capture_step.new.keeper c.capture_step.new.steps r = record { stripes = one.stripes; place = one.place; one = one.one; after = one.after } in
+    absurd (take_made i k c.capture_step.new.keeper a c.capture_step.new.steps r is.unmoved.over s c.in_err-_taken.field-0.0 c.in_err-_taken.was (λ failed. not_broken k.is_broken is.unmoved.works (one.failed.0 failed).1)
+    (λ wrong. (one.wrong_phase.0 wrong).2 c.requires.next) is.one a.within)
