@@ -1,4 +1,5 @@
-use Rattle.std.proofs.Common.{inl, inr, ℕ, Err, ap, sym, ◌∙◌, subst}
+use Rattle.std.proofs.Common.{◌≡◌, ◌↔◌, inl, inr, ℕ, true, false, Result, Ok, Err, ap, sym, ◌∙◌, subst}
+use Rattle.map_types.specs.declared.refusals.Refusal.{Refusal}
 use Rattle.map_types.specs.declared.refusals.Refusal.TheVariants.{Failed, WrongPhase}
 use Rattle.flusher.specs.declared.keeper.Keeper.{Keeper}
 use Rattle.disk_model.specs.Files.{now}
@@ -70,3 +71,15 @@ returns-in-Ok-clause-given g c = λ done sections f h given.
     let there : HasGiven c.loop-try.keeper.checkpoint sections (now (states c.loop-try.keeper.disk)) = subst (λ (k : Keeper g.row.D.Denot). HasGiven k.checkpoint sections (now (states k.disk))) (sym i.keeper) given in
     let honest = subst (λ (k : Keeper g.row.D.Denot). g.D.Disk.honest k.disk) (sym i.keeper) h in
     subst (λ (n : ℕ). GivesPart states n (history_of w) c.in-Ok.mark sections c.try_capture.new.keeper) i.stripes (c.in-Ok.ensures.given done sections (i.fits done f) honest there)
+
+pub returns-in-Ok-clause-failed : goal.returns-in-Ok-clause-failed
+returns-in-Ok-clause-failed g c = subst (λ (x : Keeper g.row.D.Denot). ◌≡◌ {A = Result ℕ Refusal} (Ok c.in-Ok.mark) (Err Failed) ↔ (x.is_broken ≡ true)) c.loop-try.invariant.keeper c.in-Ok.ensures.failed
+
+pub returns-in-Ok-clause-wrong_phase : goal.returns-in-Ok-clause-wrong_phase
+returns-in-Ok-clause-wrong_phase g c = subst (λ (x : Keeper g.row.D.Denot). ◌≡◌ {A = Result ℕ Refusal} (Ok c.in-Ok.mark) (Err WrongPhase) ↔ ((x.is_broken ≡ false) × (IsNextStripe c.args.stripe x.next x.checkpoint → ⊥))) c.loop-try.invariant.keeper c.in-Ok.ensures.wrong_phase
+
+pub returns-in_default-clause-failed : goal.returns-in_default-clause-failed
+returns-in_default-clause-failed g c = subst (λ (x : Keeper g.row.D.Denot). ◌≡◌ {A = Result ℕ Refusal} (Err c.in-Err.refusal) (Err Failed) ↔ (x.is_broken ≡ true)) c.loop-try.invariant.keeper c.in-Err.ensures.failed
+
+pub returns-in_default-clause-wrong_phase : goal.returns-in_default-clause-wrong_phase
+returns-in_default-clause-wrong_phase g c = subst (λ (x : Keeper g.row.D.Denot). ◌≡◌ {A = Result ℕ Refusal} (Err c.in-Err.refusal) (Err WrongPhase) ↔ ((x.is_broken ≡ false) × (IsNextStripe c.args.stripe x.next x.checkpoint → ⊥))) c.loop-try.invariant.keeper c.in-Err.ensures.wrong_phase
