@@ -35,7 +35,7 @@ use Rattle.flusher.specs.Fitting.{HoldsFor, store_of}
 use Rattle.recovery.specs.LogReading.{GoesOnIn, contents_of}
 use Rattle.recovery.specs.Opening.{IsOpenedAs}
 use Rattle.recovery.specs.Syncing.{LeavesOnly, SyncsAndLooks}
-use Rattle.recovery.specs.Upgrading.{HasRotated, IsNewest, IsRefusedBehind, IsUnmoved, IsUpgraded, RefusesBehind, StandsAt, StandsThroughout, StaysStanding}
+use Rattle.recovery.specs.Upgrading.{HasRotated, IsLastGeneration, IsNewest, IsRefusedBehind, IsUnmoved, IsUpgraded, RefusesBehind, StandsAt, StandsThroughout, StaysStanding}
 use Rattle.recovery.proofs.RefusedBehind.{behind}
 
 ok_inj : (a b : FoundStore) → ◌≡◌ {A = Result FoundStore Refusal} (Ok a) (Ok b) → a ≡ b
@@ -145,7 +145,7 @@ module _ {D : Type 0} (states : D → List Files) (failures : D → ℕ) (honest
 
   -- what was refused behind the opening, of what it found
   pub refuses_behind : (after : D) (e : Refusal) → SyncsAndLooks states failures honest 4 0 disk keeper.disk → keeper.stripes.count ≡ n → honest keeper.disk
-      → ((keeper.log.generation ≡ keeper.sealed) ⊎ (keeper.log.generation ≡ keeper.sealed + 1) → IsRefusedBehind (failures after ≡ failures keeper.disk + 1) keeper.stripes.count m keeper.log.generation keeper.sealed e)
+      → IsRefusedBehind (failures after ≡ failures keeper.disk + 1) ((keeper.log.generation ≡ keeper.sealed) ⊎ (keeper.log.generation ≡ keeper.sealed + 1) → IsLastGeneration keeper.log.generation) keeper.stripes.count m keeper.log.generation keeper.sealed e
       → RefusesBehind (failures after ≡ failures disk + 1) n (contents_of states disk) e
   refuses_behind after e calls count h refused =
       let Failing : Type 0 = failures after ≡ failures disk + 1 in
@@ -154,11 +154,11 @@ module _ {D : Type 0} (states : D → List Files) (failures : D → ℕ) (honest
       let synced = calls.synced.counted in
       let looked = calls.looks.failed_so in
       let none : failures keeper.disk ≡ failures disk = omega (arith, synced, looked) in
-      let here = behind (failures after ≡ failures keeper.disk + 1) Failing keeper.stripes.count m keeper.log.generation keeper.sealed e (λ failing. failing ∙ ap (λ (x : ℕ). x + 1) none) (refused (either h)) in
-      let of_map = subst (λ (x : Map). IsRefusedBehind Failing keeper.stripes.count x keeper.log.generation keeper.sealed e) (map_found h) here in
-      let of_stripes = subst (λ (x : ℕ). IsRefusedBehind Failing x (map_of found) keeper.log.generation keeper.sealed e) count of_map in
-      let of_log = subst (λ (x : ℕ). IsRefusedBehind Failing n (map_of found) x keeper.sealed e) opened.log.generation of_stripes in
-      record { found = found; holds = opened.holds; cause = subst (λ (x : ℕ). IsRefusedBehind Failing n (map_of found) (newest_of found).generation x e) opened.sealed of_log }
+      let here = behind (failures after ≡ failures keeper.disk + 1) Failing _ (IsLastGeneration keeper.log.generation) keeper.stripes.count m keeper.log.generation keeper.sealed e (λ failing. failing ∙ ap (λ (x : ℕ). x + 1) none) (λ last. last (either h)) refused in
+      let of_map = subst (λ (x : Map). IsRefusedBehind Failing (IsLastGeneration keeper.log.generation) keeper.stripes.count x keeper.log.generation keeper.sealed e) (map_found h) here in
+      let of_stripes = subst (λ (x : ℕ). IsRefusedBehind Failing (IsLastGeneration keeper.log.generation) x (map_of found) keeper.log.generation keeper.sealed e) count of_map in
+      let of_log = subst (λ (x : ℕ). IsRefusedBehind Failing (IsLastGeneration x) n (map_of found) x keeper.sealed e) opened.log.generation of_stripes in
+      record { found = found; holds = opened.holds; cause = subst (λ (x : ℕ). IsRefusedBehind Failing (IsLastGeneration (newest_of found).generation) n (map_of found) (newest_of found).generation x e) opened.sealed of_log }
 
 -- ---- the version of the newest log
 

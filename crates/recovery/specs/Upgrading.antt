@@ -81,17 +81,18 @@ IsLastGeneration generation = generation + 1 < 2 ^ 64 → ⊥
 
 -- An upgrade of this map is refused behind its opening, which found a newest log of this generation and a sealed checkpoint
 -- of that one. A device call has failed; or memory is wanting; or the checkpoint of the newest log had to be taken before,
--- and a stripe is too large; or no generation follows that of the log.
-abbrev pub IsRefusedBehind : Type 0 → ℕ → Map → ℕ → ℕ → Refusal → Type 0
-IsRefusedBehind Failing n m generation sealed refusal =
+-- and a stripe is too large; or no checkpoint may begin, for the reason `Last`.
+abbrev pub IsRefusedBehind : Type 0 → Type 0 → ℕ → Map → ℕ → ℕ → Refusal → Type 0
+IsRefusedBehind Failing Last n m generation sealed refusal =
     ((refusal ≡ Failed) × Failing) ⊎ ((refusal ≡ NoMemory) ⊎ (((refusal ≡ LogFull) × (generation ≢ sealed) × HasLargeStripe n m)
-    ⊎ ((refusal ≡ WrongPhase) × IsLastGeneration generation)))
+    ⊎ ((refusal ≡ WrongPhase) × Last)))
 
--- the same, of what was found in these files, whose map is divided into n stripes
+-- The same, of what was found in these files, whose map is divided into n stripes. No checkpoint may begin only if no
+-- generation follows that of the newest log.
 pub record RefusesBehind (Failing : Type 0) (n : ℕ) (contents : Contents) (refusal : Refusal) : Type 0 where
   pub found : FoundStore
   pub holds : Holds contents found
-  pub cause : IsRefusedBehind Failing n (map_of found) (newest_of found).generation found.checkpoint.generation refusal
+  pub cause : IsRefusedBehind Failing (IsLastGeneration (newest_of found).generation) n (map_of found) (newest_of found).generation found.checkpoint.generation refusal
 
 -- The upgrade over this many stripes was refused behind its opening. No stop loses what the directory stood for, and on an
 -- honest disk there is a reason.

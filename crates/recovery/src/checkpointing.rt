@@ -1,11 +1,11 @@
 //! A checkpoint is taken while no change is made.
-ghost use Rattle.std.specs.Prelude.{◌≡◌, ◌≢◌, ◌+◌, ◌≤◌, ◌⊎◌, ◌<◌, ◌^◌, ℕ, None, Some, IfErr, OnOk};
+ghost use Rattle.std.specs.Prelude.{◌≡◌, ◌≢◌, ◌+◌, ◌≤◌, ◌⊎◌, ◌<◌, ℕ, None, Some, IfErr, OnOk};
 ghost use Rattle.map_model.specs.Maps.{Map};
 ghost use Rattle.ticket_order.specs.declared.record.Opening.{Opening};
 ghost use Rattle.ticket_order.specs.declared.record.Record.{Record};
 ghost use Rattle.flusher.specs.Rotating.{logs_of};
 ghost use Rattle.checkpoint_walk.specs.Checkpointing.{IsNextStripe, checkpoints_of};
-ghost use Rattle.recovery.specs.Upgrading.{HasSections, IsCheckpointRefused, IsGivenAt, IsSectionRefused, IsUnmoved, IsUnmovedWith, StandsThroughout, checkpoints_after};
+ghost use Rattle.recovery.specs.Upgrading.{HasSections, IsCheckpointRefused, IsGivenAt, IsLastGeneration, IsSectionRefused, IsUnmoved, IsUnmovedWith, StandsThroughout, checkpoints_after};
 
 use checkpoint_walk::capture_step;
 use disk_model::Disk;
@@ -166,14 +166,14 @@ pub(crate) fn seal_checkpoint<D: Disk>(
         ((keeper.new.sealed ≡ keeper.old.sealed + 1) × (keeper.new.checkpoint ≡ None)) }
     ensures logs { logs_of keeper.new ≡ logs_of keeper.old }
 
-    // Refused: after the one call that failed, or for a section.
+    // Refused: after the one call that failed, for a section, or since no generation follows.
     ensures counted { OnOk result (D.failures keeper.new.disk ≡ D.failures keeper.old.disk) }
     ensures err { IfErr result (λ refusal. (o : Opening)
         → IsUnmovedWith D.states D.honest o keeper.old steps.old.pass
         steps.old.words.now
-        → keeper.old.sealed + 1 < 2 ^ 64
         → IsCheckpointRefused (D.failures keeper.new.disk ≡ D.failures keeper.old.disk + 1)
-        keeper.old.stripes.count o.map refusal) }
+        keeper.old.stripes.count o.map refusal
+        ⊎ ((refusal ≡ Refusal.WrongPhase) × IsLastGeneration keeper.old.sealed)) }
 {
     stops_of_a_keeper(keeper);
     checkpoint_walk::begin(keeper)?;

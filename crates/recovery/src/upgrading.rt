@@ -17,7 +17,7 @@ ghost use Rattle.recovery.specs.Formatting.{AtStops};
 ghost use Rattle.recovery.specs.LogReading.{contents_of};
 ghost use Rattle.recovery.specs.Opening.{IsAtStart, IsNotOpened};
 ghost use Rattle.recovery.specs.Syncing.{Stopped, SyncsAndLooks};
-ghost use Rattle.recovery.specs.Upgrading.{HasRotated, IsNewest, IsRefusedBehind, IsUnmoved, IsUnmovedWith, IsUpgradeRefused, IsUpgraded, StandsThroughout, StaysStanding, logs_after};
+ghost use Rattle.recovery.specs.Upgrading.{HasRotated, IsLastGeneration, IsNewest, IsRefusedBehind, IsUnmoved, IsUnmovedWith, IsUpgradeRefused, IsUpgraded, StandsThroughout, StaysStanding, logs_after};
 
 use crate::checkpointing::seal_checkpoint;
 use crate::opening::open_parts;
@@ -99,7 +99,6 @@ fn rotate_sealed<D: Disk>(keeper: &mut Keeper<D>, steps: &mut At<'_>) -> Result<
         × IsUnmovedWith D.states D.honest o keeper.old steps.old.pass
         steps.old.words.now }
     requires none_runs { (keeper.old.next ≡ None) × (keeper.old.checkpoint ≡ None) }
-    requires rests { IsResting keeper.old.log }
 
     // No stop loses what the opening found.
     ensures stands { (o : Opening)
@@ -119,9 +118,10 @@ fn rotate_sealed<D: Disk>(keeper: &mut Keeper<D>, steps: &mut At<'_>) -> Result<
     ensures err { IfErr result (λ refusal. (o : Opening)
         → IsUnmovedWith D.states D.honest o keeper.old steps.old.pass
         steps.old.words.now
-        → (keeper.old.log.generation ≡ keeper.old.sealed)
-        ⊎ (keeper.old.log.generation ≡ keeper.old.sealed + 1)
         → IsRefusedBehind (D.failures keeper.new.disk ≡ D.failures keeper.old.disk + 1)
+        (IsResting keeper.old.log → (keeper.old.log.generation ≡ keeper.old.sealed)
+        ⊎ (keeper.old.log.generation ≡ keeper.old.sealed + 1)
+        → IsLastGeneration keeper.old.log.generation)
         keeper.old.stripes.count o.map keeper.old.log.generation keeper.old.sealed refusal) }
 {
     if keeper.log.generation() == keeper.sealed {
@@ -156,9 +156,10 @@ fn upgrade_keeper<D: Disk>(
         × IsUnmoved D.states D.honest n (opening_of first parts.items limit) keeper.new p)
         × HasRotated keeper.new) }
     ensures err { IfErr result (λ refusal.
-        (keeper.old.log.generation ≡ keeper.old.sealed)
+        IsRefusedBehind (D.failures keeper.new.disk ≡ D.failures keeper.old.disk + 1)
+        ((keeper.old.log.generation ≡ keeper.old.sealed)
         ⊎ (keeper.old.log.generation ≡ keeper.old.sealed + 1)
-        → IsRefusedBehind (D.failures keeper.new.disk ≡ D.failures keeper.old.disk + 1)
+        → IsLastGeneration keeper.old.log.generation)
         keeper.old.stripes.count (opening_of first parts.items limit).map keeper.old.log.generation
         keeper.old.sealed refusal) }
 {

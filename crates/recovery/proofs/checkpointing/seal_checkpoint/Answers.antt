@@ -4,21 +4,24 @@ use Rattle.map_types.specs.declared.refusals.Refusal.TheVariants.{Failed}
 use Rattle.java_hash.specs.declared.stripe_count.StripeCount.{StripeCount}
 use Rattle.one_history.specs.Turns.{record_of}
 use Rattle.flusher.specs.declared.keeper.Keeper.{Keeper}
+use Rattle.checkpoint_walk.specs.Checkpointing.{MayBegin}
 use Rattle.recovery.proofs.GateClosing.{on_ok}
 use Rattle.recovery.proofs.OpeningLemmas.{if_err}
 use Rattle.recovery.proofs.Sections.{all_given, opens, published_all, seals, unmoved_with}
 use Rattle.recovery.proofs.Unmoved.{through}
 use Rattle.recovery.proofs.StaysUnmoved.{begun, called, captured, left, sealed, stood}
-use Rattle.recovery.proofs.RefusedBehind.{checkpoint_refused, not_begun, not_broken, not_sealed}
+use Rattle.recovery.proofs.RefusedBehind.{begin_refused, checkpoint_refused, not_broken, not_rotated, not_sealed}
 use Rattle.recovery.proofs.checkpointing.seal_checkpoint.Goals as goal
 
 pub returns-in_err-begin-clause-err : goal.returns-in_err-begin-clause-err
 returns-in_err-begin-clause-err g c =
     let q = err_from_is_err_and c.from_residual.result c.from_residual.ensures.1 in
     let k = c.args.keeper.now in
-    rw (q.1, q.2) (λ o is below.
-    absurd (not_begun c.begin.result c.in_err-begin.field-0.0 c.in_err-begin.was c.in_err-begin.ensures.no_other (λ failed. not_broken k.is_broken is.unmoved.works (c.begin.ensures.failed.0 failed))
-    (λ wrong. (c.begin.ensures.wrong_phase.0 wrong).1 (record { none_runs = c.requires.none_runs.1; no_rotation = c.requires.none_runs.0; fits = below; rests = λ e. absurd (c.requires.goes_with e) }))))
+    let F : Type 0 = g.D.Disk.failures c.begin.new.keeper.disk ≡ g.D.Disk.failures k.disk + 1 in
+    let e = c.in_err-begin.field-0.0 in
+    rw (q.1, q.2) (λ o is.
+    begin_refused F (MayBegin k) k.stripes.count o.map k.sealed e (λ below. record { none_runs = c.requires.none_runs.1; no_rotation = c.requires.none_runs.0; fits = below; rests = λ same. absurd (c.requires.goes_with same) })
+    (not_rotated F (MayBegin k) c.begin.result e c.in_err-begin.was c.in_err-begin.ensures.no_other (λ failed. not_broken k.is_broken is.unmoved.works (c.begin.ensures.failed.0 failed)) (λ wrong. (c.begin.ensures.wrong_phase.0 wrong).1)))
 
 pub advance-requires-clause-unmoved : goal.advance-requires-clause-unmoved
 advance-requires-clause-unmoved g c =
@@ -42,7 +45,7 @@ pub returns-in_err-advance-clause-err : goal.returns-in_err-advance-clause-err
 returns-in_err-advance-clause-err g c =
     let q = err_from_is_err_and c.from_residual-in_err-advance.result c.from_residual-in_err-advance.ensures.1 in
     let failed = c.in_err-advance.ensures.err in
-    rw (q.1, q.2) (λ o is below. inl (failed.0, failed.1 ∙ ap (λ (x : Keeper _). g.D.Disk.failures x.disk + 1) c.begin.ensures.same))
+    rw (q.1, q.2) (λ o is. inl (inl (failed.0, failed.1 ∙ ap (λ (x : Keeper _). g.D.Disk.failures x.disk + 1) c.begin.ensures.same)))
 
 pub capture_all-requires-clause-begun : goal.capture_all-requires-clause-begun
 capture_all-requires-clause-begun g c =
@@ -91,9 +94,9 @@ returns-in_err-capture_all-clause-err g c =
     let counted : failures k2.disk ≡ failures k.disk = c.in_ok-advance.ensures.counted ∙ ap (λ (x : Keeper _). failures x.disk) c.begin.ensures.same in
     let count : k2.stripes.count ≡ k.stripes.count = ap (λ (s : StripeCount). s.count) (c.advance.ensures.stripes ∙ ap (λ (x : Keeper _). x.stripes) c.begin.ensures.same) in
     let q = err_from_is_err_and c.from_residual-in_err-capture_all.result c.from_residual-in_err-capture_all.ensures.1 in
-    rw (q.1, q.2) (λ o is below.
+    rw (q.1, q.2) (λ o is. inl (
     checkpoint_refused (failures k3.disk ≡ failures k2.disk + 1) (failures k3.disk ≡ failures k.disk + 1) k2.stripes.count k.stripes.count o.map c.in_err-capture_all.field-0.0 (λ failing. failing ∙ ap (λ (n : ℕ). n + 1) counted) count
-    (c.in_err-capture_all.ensures.err o (far2.unmoved o is)))
+    (c.in_err-capture_all.ensures.err o (far2.unmoved o is))))
 
 pub seal-requires : goal.seal-requires
 seal-requires g c =
@@ -142,7 +145,7 @@ returns-in_err-seal-clause-err g c =
     let far2 = called states honest k a k1 a far1 k2 (λ o. c.advance.ensures.stands b.stripes o (record_of a.pass b)) (λ o. c.in_ok-advance.ensures.unmoved b.stripes o (record_of a.pass b)) in
     let far3 = captured states honest k a k2 a far2 k3 a3 c.capture_all.ensures.stands c.in_ok-capture_all.ensures.unmoved in
     let q = err_from_is_err_and c.from_residual-in_err-seal.result c.from_residual-in_err-seal.ensures.1 in
-    rw (q.1, q.2) (λ o is below.
+    rw (q.1, q.2) (λ o is.
     let un3 = far3.unmoved o is in
     let has = opens k1 k2 (k.sealed + 1) k.log.low k.stripes.count o.first k.must_close (c.in_ok-begin.ensures.ok.goes_with c.requires.goes_with).1 c.in_ok-advance.ensures.checkpoints in
     let given = c.in_ok-capture_all.ensures.given o (k.sealed + 1) (far2.unmoved o is) has in
@@ -234,4 +237,4 @@ returns-clause-err g c =
     let failures = g.D.Disk.failures in
     let counted : failures c.seal.new.keeper.disk ≡ failures c.args.keeper.now.disk =
     ap (λ (x : Keeper _). failures x.disk) c.in_ok-seal.ensures.ok ∙ c.in_ok-capture_all.ensures.counted ∙ c.in_ok-advance.ensures.counted ∙ ap (λ (x : Keeper _). failures x.disk) c.begin.ensures.same in
-    if_err (λ e. (e ≡ Failed) × (failures c.advance-2.new.keeper.disk ≡ failures c.seal.new.keeper.disk + 1)) _ c.advance-2.result (λ e failed o is below. inl (failed.0, failed.1 ∙ ap (λ (n : ℕ). n + 1) counted)) c.advance-2.ensures.err
+    if_err (λ e. (e ≡ Failed) × (failures c.advance-2.new.keeper.disk ≡ failures c.seal.new.keeper.disk + 1)) _ c.advance-2.result (λ e failed o is. inl (inl (failed.0, failed.1 ∙ ap (λ (n : ℕ). n + 1) counted))) c.advance-2.ensures.err

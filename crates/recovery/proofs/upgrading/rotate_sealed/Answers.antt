@@ -44,19 +44,19 @@ pub returns-then-generation-keeper-clause-err : goal.returns-then-generation-kee
 returns-then-generation-keeper-clause-err g c =
     let k = c.args.keeper.now in
     let same : k.log.generation ≡ k.sealed = sym c.generation.ensures ∙ c.if-generation-keeper.true in
-    let Failing : Type 0 = g.D.Disk.failures c.rotate.new.keeper.disk ≡ g.D.Disk.failures k.disk + 1 in
-    if_err (λ e. ((e ≡ Failed) × Failing) ⊎ ((e ≡ WrongPhase) × (MayBegin k → ⊥))) _ c.rotate.result
-    (λ e refused o is either. behind_rotation Failing Failing (MayBegin k) k.stripes.count o.map k.log.generation k.sealed e (λ failing. failing)
-    (λ below. record { none_runs = c.requires.none_runs.1; no_rotation = c.requires.none_runs.0; fits = subst (λ (n : ℕ). n + 1 < 2 ^ 64) same below; rests = λ x. c.requires.rests }) refused) c.rotate.ensures.err
+    let F : Type 0 = g.D.Disk.failures c.rotate.new.keeper.disk ≡ g.D.Disk.failures k.disk + 1 in
+    if_err (λ e. ((e ≡ Failed) × F) ⊎ ((e ≡ WrongPhase) × (MayBegin k → ⊥))) _ c.rotate.result
+    (λ e refused o is. behind_rotation F F (MayBegin k) _ k.stripes.count o.map k.log.generation k.sealed e (λ failing. failing)
+    (λ never rests either below. never (record { none_runs = c.requires.none_runs.1; no_rotation = c.requires.none_runs.0; fits = subst (λ (n : ℕ). n + 1 < 2 ^ 64) same below; rests = λ x. rests })) refused) c.rotate.ensures.err
 
 pub returns-in_err-seal_checkpoint-clause-err : goal.returns-in_err-seal_checkpoint-clause-err
 returns-in_err-seal_checkpoint-clause-err g c =
     let k = c.args.keeper.now in
     let other : k.log.generation ≢ k.sealed = λ e. c.if-generation-keeper.false (c.generation.ensures ∙ e) in
     let q = err_from_is_err_and c.from_residual.result c.from_residual.ensures.1 in
-    rw (q.1, q.2) (λ o is either.
-    behind_seal _ k.stripes.count o.map k.log.generation k.sealed c.in_err-seal_checkpoint.field-0.0 other
-    (c.in_err-seal_checkpoint.ensures.err o is (subst (λ (n : ℕ). n < 2 ^ 64) (c.generation.ensures ∙ is_after _ _ either other) (omega (arith, c.generation.type_inv)))))
+    rw (q.1, q.2) (λ o is.
+    behind_seal _ _ k.stripes.count o.map k.log.generation k.sealed c.in_err-seal_checkpoint.field-0.0 other
+    (λ last rests either below. last (subst (λ (n : ℕ). n < 2 ^ 64) (c.generation.ensures ∙ is_after _ _ either other) (omega (arith, c.generation.type_inv)))) (c.in_err-seal_checkpoint.ensures.err o is))
 
 pub returns-clause-err : goal.returns-clause-err
 returns-clause-err g c =
@@ -68,10 +68,10 @@ returns-clause-err g c =
     let ok = c.in_ok-seal_checkpoint.ensures in
     let logs = c.seal_checkpoint.ensures.logs in
     if_err (λ e. ((e ≡ Failed) × (failures k2.disk ≡ failures k1.disk + 1)) ⊎ ((e ≡ WrongPhase) × (MayBegin k1 → ⊥))) _ c.rotate-2.result
-    (λ e refused o is either. behind_rotation (failures k2.disk ≡ failures k1.disk + 1) (failures k2.disk ≡ failures k.disk + 1) (MayBegin k1) k.stripes.count o.map k.log.generation k.sealed e (λ failing. failing ∙ ap (λ (n : ℕ). n + 1) ok.counted)
-    (λ below. record {
+    (λ e refused o is. behind_rotation (failures k2.disk ≡ failures k1.disk + 1) (failures k2.disk ≡ failures k.disk + 1) (MayBegin k1) _ k.stripes.count o.map k.log.generation k.sealed e (λ failing. failing ∙ ap (λ (n : ℕ). n + 1) ok.counted)
+    (λ never rests either below. never (record {
       none_runs = ok.sealed.1;
       no_rotation = ap (λ (l : Logs). l.next) logs ∙ c.requires.none_runs.0;
       fits = subst (λ (n : ℕ). n + 1 < 2 ^ 64) (is_after _ _ either other ∙ sym ok.sealed.0) below;
-      rests = λ x. subst IsResting (sym (ap (λ (l : Logs). l.newest) logs)) c.requires.rests;
-    }) refused) c.rotate-2.ensures.err
+      rests = λ x. subst IsResting (sym (ap (λ (l : Logs). l.newest) logs)) rests;
+    })) refused) c.rotate-2.ensures.err

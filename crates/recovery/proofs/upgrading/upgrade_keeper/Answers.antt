@@ -1,7 +1,8 @@
 use Rattle.std.proofs.Common.{◌≡◌, ◌⊎◌, inl, inr, ◌+◌, refl, ap, ◌∙◌}
 use Rattle.std.proofs.lemmas.Result.{err_from_is_err_and}
-use Rattle.gate_log.specs.States.{LogState}
-use Rattle.recovery.specs.Upgrading.{IsRefusedBehind}
+use Rattle.gate_log.specs.States.{IsResting, LogState}
+use Rattle.recovery.specs.Upgrading.{IsLastGeneration, IsRefusedBehind}
+use Rattle.recovery.proofs.RefusedBehind.{behind}
 use Rattle.recovery.proofs.OpeningLemmas.{if_err}
 use Rattle.one_history.specs.Turns.{at_start, opening_of, record_of}
 use Rattle.recovery.proofs.GateClosing.{on_ok}
@@ -44,13 +45,10 @@ returns-clause-rotated g c =
     (starts_at g.D.Disk.states g.D.Disk.honest k c.requires.start.0 k.stripes.count c.args.first c.args.limit parts c.requires.start.1 c.requires.parts.one_each c.requires.fits c.new-steps.result.pass c.new-steps.result.words.now
     c.new-steps.ensures.pass (c.new-steps.ensures.words ∙ c.in_ok-words.ensures.ok))) c.rotate_sealed.ensures.rotated
 
-pub rotate_sealed-requires-clause-rests : goal.rotate_sealed-requires-clause-rests
-rotate_sealed-requires-clause-rests g c = let resumed = c.requires.start.1.resumed in (ap (λ (l : LogState). l.phase) resumed, ap (λ (l : LogState). l.ending) resumed)
-
 pub returns-in_err-words-clause-err : goal.returns-in_err-words-clause-err
 returns-in_err-words-clause-err g c =
     let q = err_from_is_err_and c.from_residual.result c.from_residual.ensures.1 in
-    rw (q.1, q.2) (λ either. inr (inl c.in_err-words.ensures.err))
+    rw (q.1, q.2) (inr (inl c.in_err-words.ensures.err))
 
 pub returns-clause-err : goal.returns-clause-err
 returns-clause-err g c =
@@ -61,4 +59,8 @@ returns-clause-err g c =
     let is =
     starts_at g.D.Disk.states g.D.Disk.honest k c.requires.start.0 k.stripes.count c.args.first c.args.limit parts c.requires.start.1 c.requires.parts.one_each c.requires.fits c.new-steps.result.pass c.new-steps.result.words.now
     c.new-steps.ensures.pass (c.new-steps.ensures.words ∙ c.in_ok-words.ensures.ok) in
-    if_err _ (λ e. (k.log.generation ≡ k.sealed) ⊎ (k.log.generation ≡ k.sealed + 1) → IsRefusedBehind Failing k.stripes.count o.map k.log.generation k.sealed e) c.rotate_sealed.result (λ e refused. refused o is) c.rotate_sealed.ensures.err
+    let resumed = c.requires.start.1.resumed in
+    let rests : IsResting k.log = (ap (λ (l : LogState). l.phase) resumed, ap (λ (l : LogState). l.ending) resumed) in
+    let Last : Type 0 = (k.log.generation ≡ k.sealed) ⊎ (k.log.generation ≡ k.sealed + 1) → IsLastGeneration k.log.generation in
+    if_err _ (λ e. IsRefusedBehind Failing Last k.stripes.count o.map k.log.generation k.sealed e) c.rotate_sealed.result
+    (λ e refused. behind Failing Failing (IsResting k.log → Last) Last k.stripes.count o.map k.log.generation k.sealed e (λ failing. failing) (λ last. last rests) (refused o is)) c.rotate_sealed.ensures.err
