@@ -36,6 +36,7 @@ pub fn try_call<S: Steps>(steps: &mut S, alloc: Global, command: Command) -> Res
     ensures stripes { S.stripe_count steps.new ≡ S.stripe_count steps.old }
 {
     if command.key.is_above(steps.key_limit()) {
+        drop(command);
         return Err(Refusal::KeyTooLong);
     }
     let spread = spread_of(command.key.as_str());
@@ -47,7 +48,10 @@ pub fn try_call<S: Steps>(steps: &mut S, alloc: Global, command: Command) -> Res
             spread,
             Taken { stripe, content },
         ),
-        None => Err(Refusal::Busy { stripe }),
+        None => {
+            drop(command);
+            Err(Refusal::Busy { stripe })
+        }
     }
 }
 
@@ -220,14 +224,19 @@ fn change_on<S: Steps>(
     ensures stripes { S.stripe_count steps.new ≡ S.stripe_count steps.old }
 {
     if !steps.alive() {
+        drop(new);
         return Err(taken.give_back(Refusal::Failed, steps));
     }
     if steps.look() >= TICKET_LIMIT {
+        drop(new);
         return Err(taken.give_back(Refusal::TicketsSpent, steps));
     }
     match taken.content.prepare(new.alloc, &new.command, spread) {
         Ok(prepared) => Ok(change_ready(steps, new, taken, prepared)),
-        Err(refusal) => Err(taken.give_back(refusal, steps)),
+        Err(refusal) => {
+            drop(new);
+            Err(taken.give_back(refusal, steps))
+        }
     }
 }
 
@@ -285,6 +294,7 @@ fn read_from<S: Steps>(
     ensures stripes { S.stripe_count steps.new ≡ S.stripe_count steps.old }
 {
     if !steps.alive() {
+        drop(read);
         return Err(taken.give_back(Refusal::Failed, steps));
     }
     let position = taken.content.read_position(steps.seen());
@@ -293,6 +303,9 @@ fn read_from<S: Steps>(
             steps.give(taken.stripe, taken.content, Purpose::Answer(read));
             Ok(Held { position, reply })
         }
-        Err(refusal) => Err(taken.give_back(refusal, steps)),
+        Err(refusal) => {
+            drop(read);
+            Err(taken.give_back(refusal, steps))
+        }
     }
 }

@@ -86,24 +86,32 @@ impl ChangeStage {
                 let stripe = stripe_of(new.command.key.as_str(), steps.stripes());
                 match steps.take(stripe) {
                     Some(content) => ChangeStage::HasTaken(new, Taken { stripe, content }).more(),
-                    None => Stepped::Refused(Refusal::Busy { stripe }),
+                    None => {
+                        drop(new);
+                        Stepped::Refused(Refusal::Busy { stripe })
+                    }
                 }
             }
             ChangeStage::HasTaken(new, taken) => {
                 if steps.alive() {
                     ChangeStage::IsAlive(new, taken).more()
                 } else {
+                    drop(new);
                     taken.refused(Refusal::Failed)
                 }
             }
             ChangeStage::IsAlive(new, mut taken) => {
                 if steps.look() >= TICKET_LIMIT {
+                    drop(new);
                     return taken.refused(Refusal::TicketsSpent);
                 }
                 let spread = spread_of(new.command.key.as_str());
                 match taken.content.prepare(new.alloc, &new.command, spread) {
                     Ok(prepared) => ChangeStage::IsReady(new, taken, prepared).more(),
-                    Err(refusal) => taken.refused(refusal),
+                    Err(refusal) => {
+                        drop(new);
+                        taken.refused(refusal)
+                    }
                 }
             }
             ChangeStage::IsReady(new, taken, prepared) => {

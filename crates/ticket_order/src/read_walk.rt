@@ -49,17 +49,24 @@ impl ReadStage {
                 let stripe = stripe_of(read.key.as_str(), steps.stripes());
                 match steps.take(stripe) {
                     Some(content) => ReadStage::HasTaken(read, Taken { stripe, content }).more(),
-                    None => Stepped::Refused(Refusal::Busy { stripe }),
+                    None => {
+                        drop(read);
+                        Stepped::Refused(Refusal::Busy { stripe })
+                    }
                 }
             }
             ReadStage::HasTaken(read, taken) => {
                 if !steps.alive() {
+                    drop(read);
                     return taken.refused(Refusal::Failed);
                 }
                 let position = taken.content.read_position(steps.seen());
                 match taken.content.part.read(&read) {
                     Ok(reply) => ReadStage::HasRead(read, taken, Held { position, reply }).more(),
-                    Err(refusal) => taken.refused(refusal),
+                    Err(refusal) => {
+                        drop(read);
+                        taken.refused(refusal)
+                    }
                 }
             }
             ReadStage::HasRead(read, taken, held) => {
