@@ -55,6 +55,29 @@ impl NewChange {
     }
 }
 
+// Makes the step of a change that has all its memory: TICKET.
+fn draw<S: Steps>(new: NewChange, taken: Taken, prepared: Prepared, steps: &mut S) -> Stepped
+    requires { (b : Record) × (task : Task) × FitsChange (S.stripe_count steps.old) b task
+        (ChangeStage.IsReady new taken prepared) (S.recorded steps.old) }
+
+    // One step is made, the next; fewer are left.
+    ensures one { MakesOne S.recorded S.moves (next_of_change (S.stripe_count steps.old)
+        (ChangeStage.IsReady new taken prepared)) steps.old steps.new }
+    ensures next { (b : Record) (task : Task) → FitsChange (S.stripe_count steps.old) b task
+        (ChangeStage.IsReady new taken prepared) (S.recorded steps.old)
+        → Next (S.stripe_count steps.old) b task result (S.recorded steps.new) }
+    ensures shorter { HasFewerLeft (left_of_change (ChangeStage.IsReady new taken prepared))
+        result }
+
+    // It is the same pass, over as many stripes.
+    ensures place { S.place steps.new ≡ S.place steps.old }
+    ensures stripes { S.stripe_count steps.new ≡ S.stripe_count steps.old }
+{
+    let ticket = steps.ticket(&new.command);
+    let (taken, held) = new.drawn(taken, prepared, ticket);
+    ChangeStage::HasDrawn(taken, held).more()
+}
+
 impl ChangeStage {
     fn more(self) -> Stepped
         ensures { result ≡ Stepped.More (record { stage = Stage.Change self }) }
@@ -114,11 +137,7 @@ impl ChangeStage {
                     }
                 }
             }
-            ChangeStage::IsReady(new, taken, prepared) => {
-                let ticket = steps.ticket(&new.command);
-                let (taken, held) = new.drawn(taken, prepared, ticket);
-                ChangeStage::HasDrawn(taken, held).more()
-            }
+            ChangeStage::IsReady(new, taken, prepared) => draw(new, taken, prepared, steps),
             ChangeStage::HasDrawn(taken, held) => {
                 steps.give(taken.stripe, taken.content, Purpose::Nothing);
                 Stepped::Held(held)

@@ -1,5 +1,5 @@
 use Rattle.std.proofs.Common.{refl}
-use Rattle.ticket_order.proofs.Walking.{may_give_back, may_draw, change_failed, change_spent, change_starved, drawn}
+use Rattle.ticket_order.proofs.Walking.{may_give_back, change_failed, change_spent, change_starved}
 use Rattle.ticket_order.proofs.change_walk.ChangeStage.step.Goals as goal
 
 pub returns-else-alive-clause-next : goal.returns-else-alive-clause-next
@@ -19,16 +19,11 @@ returns-in-Err-clause-next g c = λ b task f.
     rw c.refused-in-Err.ensures
     (change_starved _ b _ _ task c.in-IsAlive.new.command _ c.in-IsAlive.taken _ _ h.0 h.1 c.look.ensures.step c.if-look-ge-TICKET_LIMIT.false refl c.prepare.ensures.part c.prepare.ensures.outbox c.prepare.ensures.last c.in-Err.ensures.err)
 
-pub ticket-ticket-requires : goal.ticket-ticket-requires
-ticket-ticket-requires g c =
-    let h = rw c.in-IsReady.is at c.requires.2 in
-    record { fits = may_draw _ c.requires.0 _ c.in-IsReady.new.command c.in-IsReady.taken h.0.stripe_is h.1 h.2 h.4 }
+pub draw-requires : goal.draw-requires
+draw-requires g c = (c.requires.0, c.requires.1, rw c.in-IsReady.is at c.requires.2)
 
 pub returns-in-IsReady-clause-next : goal.returns-in-IsReady-clause-next
-returns-in-IsReady-clause-next g c = λ b task f.
-    let h = rw c.in-IsReady.is at f in
-    rw c.more-in-IsReady.ensures
-    (drawn _ b _ _ task c.in-IsReady.new.command c.ticket-ticket.result c.in-IsReady.taken _ _ h.0 h.1 h.2 c.ticket-ticket.ensures.step c.drawn-taken.ensures h.4)
+returns-in-IsReady-clause-next g c = λ b task f. c.draw.ensures.next b task (rw c.in-IsReady.is at f)
 
 pub give-requires : goal.give-requires
 give-requires g c =
