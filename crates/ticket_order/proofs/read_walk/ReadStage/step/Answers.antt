@@ -1,6 +1,26 @@
-use Rattle.std.proofs.Common.{max, ◌∙◌, ap}
+use Rattle.std.proofs.Common.{◌≡◌, ℕ, max, sym, subst, ◌∙◌, ap, rules}
+use Rattle.java_hash.specs.Stripes.{stripe_of}
+use Rattle.map_types.specs.declared.commands.Read as read_type
+use Rattle.ticket_order.specs.declared.stripe.Stripe.{Stripe}
+use Rattle.ticket_order.specs.declared.read_walk.ReadStage.TheVariants as read
+use Rattle.ticket_order.specs.declared.record.Record.{Record}
+use Rattle.ticket_order.specs.declared.walk.Stage.TheVariants as stage
+use Rattle.ticket_order.specs.declared.walk.Stepped.{Stepped}
+use Rattle.ticket_order.specs.declared.walk.Stepped.TheVariants as stepped
+use Rattle.ticket_order.specs.StepRules.{TakesStripe}
+use Rattle.ticket_order.specs.Walks.{Task, ToRead, HasBegun, Next}
 use Rattle.ticket_order.proofs.Walking.{taken_content, may_answer, answered_alive, read_failed, read_starved, made_read}
 use Rattle.ticket_order.proofs.read_walk.ReadStage.step.Goals as goal
+
+-- a TAKE that found the stripe free leaves the walk that has taken it
+taken_read : (n : ℕ) (b p w : Record) (task : Task) (r : read_type.Read) (i : ℕ) (x : Stripe) (z : Stepped) → HasBegun b task (ToRead r) p → i ≡ stripe_of n r.key → TakesStripe n p i x w
+    → z ≡ stepped.More (record { stage = stage.Read (read.HasTaken r (record { stripe = i; content = x })) }) → Next n b task z w
+taken_read n b p w task r i x z h at took is = subst (λ (y : Stepped). Next n b task y w) (sym is) (record { task_is = h.task_is; stripe_is = at }, subst (λ (q : Record). TakesStripe n q i x w) h.is took)
+
+pub returns-in-Some-clause-next : goal.returns-in-Some-clause-next
+returns-in-Some-clause-next g c = λ b task f.
+    let h = rw c.in-Begins.is at f in
+    taken_read _ b _ _ task c.in-Begins.read c.stripe_of-stripe.result c.in-Some.content _ h (search rules) c.in-Some.ensures.step (cc)
 
 pub returns-then-not-alive-clause-next : goal.returns-then-not-alive-clause-next
 returns-then-not-alive-clause-next g c = λ b task f.
