@@ -176,6 +176,7 @@ impl Stripes {
         ensures same { IsSamePass pass.old pass.new }
     {
         if command.key.is_above(pass.key_limit) {
+            drop(command);
             return Err(Refusal::KeyTooLong);
         }
         let spread = spread_of(command.key.as_str());
