@@ -1,4 +1,4 @@
-use Rattle.std.proofs.Common.{◌∙◌, arith}
+use Rattle.std.proofs.Common.{◌∙◌, arith, refl}
 use Rattle.disk_model.proofs.MomentLemmas.{goes_on}
 use Rattle.recovery.specs.Formatting.{AtStops, IsNewOrUnformatted}
 use Rattle.recovery.proofs.FormattingLemmas.{is_clear, looked_moments, starts, stopped_moments}
@@ -21,6 +21,24 @@ pub returns-then-branch-clause-moments : goal.returns-then-branch-clause-moments
 returns-then-branch-clause-moments g c = λ honest at.
     looked_moments (IsNewOrUnformatted c.args.stripes.count) g.D.Disk.states g.D.Disk.failures c.args.disk.now (g.met.D.Disk.are_coherent c.args.disk.now) (starts _ _ at) g.D.Disk.honest 2 _ c.sync_files.new.disk c.is_formatted.new.disk (omega arith)
     c.in_ok-sync_files.ensures.ok c.is_formatted.ensures.looks
+
+pub returns-then-branch-clause-unformatted : goal.returns-then-branch-clause-unformatted
+returns-then-branch-clause-unformatted g c = λ honest no. absurd (no refl)
+
+pub returns-then-branch-clause-ok : goal.returns-then-branch-clause-ok
+returns-then-branch-clause-ok g c = tt
+
+pub returns-then-branch-clause-written : goal.returns-then-branch-clause-written
+returns-then-branch-clause-written g c = tt
+
+pub returns-then-branch-clause-reads : goal.returns-then-branch-clause-reads
+returns-then-branch-clause-reads g c = tt
+
+pub returns-then-branch-clause-read_in : goal.returns-then-branch-clause-read_in
+returns-then-branch-clause-read_in g c = tt
+
+pub returns-then-branch-clause-files : goal.returns-then-branch-clause-files
+returns-then-branch-clause-files g c = tt
 
 pub returns-in_err-bytes-clause-moments : goal.returns-in_err-bytes-clause-moments
 returns-in_err-bytes-clause-moments g c = λ honest at.
