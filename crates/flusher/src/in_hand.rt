@@ -90,11 +90,14 @@ impl InHand {
         let Entry { ticket, command } = entry;
         let ticket = ticket.number();
         if ticket < self.next {
+            drop(command);
             return;
         }
         let index = (ticket - self.next) as usize;
         if index < self.slots.len() {
             drop(mem::replace(&mut self.slots[index], Some(command)));
+        } else {
+            drop(command);
         }
     }
 
