@@ -18,6 +18,7 @@ use crate::sections::{check, give};
 use disk_model::Disk;
 use flusher::{Keeper, pass_goes_on};
 use map_types::Refusal;
+use std::mem;
 use std::sync::Wait;
 use store_invariant::laws::steps_of_checkpoints;
 use ticket_order::{Stepped, Steps, Walk};
@@ -81,6 +82,13 @@ pub fn capture_step<D: Disk, S: Steps>(
     }
 }
 
+// The walk of a capture is under way, where none was.
+fn go_under_way<D: Disk>(keeper: &mut Keeper<D>, walk: Walk)
+    ensures { keeper.new ≡ record keeper.old { capture = Some walk } }
+{
+    drop(mem::replace(&mut keeper.capture, Some(walk)));
+}
+
 // The first step.
 fn take<D: Disk, S: Steps>(
     keeper: &mut Keeper<D>,
@@ -122,7 +130,7 @@ fn take<D: Disk, S: Steps>(
     }
     match hold(keeper.alloc, stripe, steps) {
         Some(walk) => {
-            keeper.capture = Some(walk);
+            go_under_way(keeper, walk);
             Ok(None)
         }
         None => Err(Refusal::Busy { stripe }),
@@ -162,7 +170,7 @@ fn go_on<D: Disk, S: Steps>(
     }
     match walk.step(steps) {
         Stepped::More(walk) => {
-            keeper.capture = Some(walk);
+            go_under_way(keeper, walk);
             Ok(None)
         }
         Stepped::Refused(refusal) => Err(refusal),

@@ -1,4 +1,4 @@
-use Rattle.std.proofs.Common.{ap, sym, refl, ◌∙◌}
+use Rattle.std.proofs.Common.{ap, sym, ◌∙◌}
 use Rattle.std.specs.Option.{option_copied}
 use Rattle.ticket_order.specs.Walks.{ToCapture}
 use Rattle.checkpoint_walk.proofs.Walked.{looked_after, looked_of, some_there, taken_of, under_way}
@@ -34,5 +34,5 @@ returns-in-More-clause-after g c =
       kind = t.next;
       next = c.in-More.walk;
       looked = λ b i k. looked_after n b i c.args.walk c.in-More.walk p w c.step.ensures.one.made k c.step.ensures.one.steps (c.in-More.ensures.next b (ToCapture i) k.fits);
-      is = refl;
+      is = c.go_under_way.ensures;
     }

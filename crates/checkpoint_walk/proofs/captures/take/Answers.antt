@@ -14,8 +14,9 @@ returns-in-Some-clause-fits g c = λ done f.
     let n = g.S.Steps.stripe_count c.args.steps.now in
     let w = g.S.Steps.recorded c.hold.new.steps in
     let k = c.args.keeper.now in
-    subst (λ (m : ℕ). FitsWalking states honest m done (record k { capture = Some c.in-Some.walk }) w) (sym c.in-Some.ensures.stripes)
-    (taking_fits states honest n done k (g.S.Steps.recorded c.args.steps.now) w c.args.stripe c.in-Some.walk f c.requires.rests c.in-Ok.ensures.ok.0 c.in-Ok.ensures.ok.1 c.in-Some.ensures.some)
+    subst (λ (m : ℕ). FitsWalking states honest m done c.go_under_way.new.keeper w) (sym c.in-Some.ensures.stripes)
+    (subst (λ (keeper : _). FitsWalking states honest n done keeper w) (sym c.go_under_way.ensures)
+    (taking_fits states honest n done k (g.S.Steps.recorded c.args.steps.now) w c.args.stripe c.in-Some.walk f c.requires.rests c.in-Ok.ensures.ok.0 c.in-Ok.ensures.ok.1 c.in-Some.ensures.some))
 
 pub returns-in-None-clause-fits : goal.returns-in-None-clause-fits
 returns-in-None-clause-fits g c = λ done f.
