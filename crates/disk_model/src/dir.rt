@@ -6,7 +6,7 @@ ghost use Rattle.disk_model.specs.Events.{states_from, failures_of, AllAgree};
 ghost use Rattle.disk_model.specs.declared.fill.Fill.{Fill};
 ghost use Rattle.disk_model.specs.declared.fill.Fill.TheVariants.{New};
 
-use crate::first_error::FirstError;
+use crate::first_error::{FirstError, NAMES};
 use crate::past::{Note, Past};
 use crate::{DeviceError, Disk};
 use std::alloc::{AllocError, Global};
@@ -106,12 +106,7 @@ fn open_files<R: FileSystem<File = File>, S: Start>(
     ensures { IfOk result (λ disk. disk.past.events ≡ []) }
 {
     let lock = lock_file(rt, format!(in alloc; "{directory}/lock")?)?;
-    let files = [
-        open_one(rt, how, format!(in alloc; "{directory}/ckpt-a")?)?,
-        open_one(rt, how, format!(in alloc; "{directory}/ckpt-b")?)?,
-        open_one(rt, how, format!(in alloc; "{directory}/log-a")?)?,
-        open_one(rt, how, format!(in alloc; "{directory}/log-b")?)?,
-    ];
+    let files = open_four(rt, alloc, directory, how)?;
     // The names too are to be there after a stop.
     File::open(rt, directory)?.sync_all()?;
     Ok(DirDisk {
@@ -121,6 +116,20 @@ fn open_files<R: FileSystem<File = File>, S: Start>(
         first_error: FirstError::new(alloc)?,
         start: PhantomData,
     })
+}
+
+// The four files, of which some may be absent.
+fn open_four<R: FileSystem<File = File>>(
+    rt: &R,
+    alloc: Global,
+    directory: &str,
+    how: &OpenOptions,
+) -> io::Result<[Option<File>; 4]> {
+    let mut files = [None, None, None, None];
+    for (file, name) in files.iter_mut().zip(&NAMES) {
+        *file = open_one(rt, how, format!(in alloc; "{directory}/{name}")?)?;
+    }
+    Ok(files)
 }
 
 // Opens the file, or makes it, and locks it. The lock lasts until the file is closed.

@@ -7,7 +7,7 @@ use std::sync::{Arc, OnceLock};
 use thiserror::Error;
 
 /// The names of the four files, in the order of their numbers.
-const NAMES: [&str; 4] = ["ckpt-a", "ckpt-b", "log-a", "log-b"];
+pub(crate) const NAMES: [&str; 4] = ["ckpt-a", "ckpt-b", "log-a", "log-b"];
 
 /// A call of a file that failed.
 #[derive(Debug, Drop, Error)]
