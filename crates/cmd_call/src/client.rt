@@ -149,16 +149,19 @@ pub fn call<M: Servers, W: Write, E: Write>(
         Err(CallError::NoMemory) => None,
     };
     let Some(port) = port_named(port) else {
+        drop(request);
         say(error, NO_PORT);
         return MISUSED;
     };
     let Some(request) = request else {
         return refuse(alloc, Refusal::NoMemory, error);
     };
-    match machine.connect_to(port) {
+    let status = match machine.connect_to(port) {
         Ok((mut reader, mut writer)) => {
             ask(alloc, &mut reader, &mut writer, &request, output, error)
         }
         Err(_) => give_up(alloc, Unanswered::NoReply, error),
-    }
+    };
+    drop(request);
+    status
 }
