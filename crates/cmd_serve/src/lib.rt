@@ -6,18 +6,14 @@ pub mod bulk;
 mod idle;
 pub mod laws;
 mod opening;
-#[cfg(test)]
-mod pipeline_tests;
 pub mod pool;
 pub mod server;
-#[cfg(test)]
-mod server_tests;
-#[cfg(test)]
-mod stalling_tests;
+pub mod service;
 pub mod worker;
 
 pub use begun::Begun;
 pub use bulk::{RespondBy, Responds, Task, answer_of, respond_by};
 pub use pool::{Arrivals, workers};
 pub use server::{ServerWords, serve};
+pub use service::{Service, serve_map};
 pub use worker::{Gate, NoGate, Worker};

@@ -6,12 +6,12 @@ ghost use Rattle.cmd_serve.specs.Serving.{Announces, Hosts, ServesOn};
 ghost use Rattle.cmd_serve.specs.Settings.{AreNamed, IsWorkerCount};
 
 use crate::opening::open_map;
-use crate::pool::{Arrivals, workers};
-use crate::worker::{Gate, NoGate};
+use crate::pool::Arrivals;
+use crate::service::{Service, serve_map};
+use crate::worker::NoGate;
 use cmd_directory::Directories;
 use cmd_text::{MISUSED, break_off, cannot_open, port_named, refuse, say, stripes_named};
 use disk_model::{Disk, FirstError};
-use durable_map::{DurableMap, Ends, checkpoint_loop, flush_loop};
 use java_hash::StripeCount;
 use log::{Log, error, info, warn};
 use map_types::Refusal;
@@ -19,7 +19,6 @@ use std::alloc::Global;
 use std::io::Write;
 use std::net::{Net, TcpListener, TcpStream};
 use std::sync::Wait;
-use std::sync::atomic::{AtomicBool, Ordering};
 use std::thread::Threads;
 use std::time::{Clock, Duration};
 use std::{io, thread};
@@ -28,10 +27,6 @@ use wire_frames::write_whole;
 /// How long a server waits before it tries again to accept a connection, in milliseconds: what fails
 /// (as for want of descriptors) fails again at once.
 const ACCEPT_PAUSE: u64 = 20;
-
-/// What is to be done about a store that has failed.
-const WHAT_TO_DO: &str =
-    "each call is refused from now on; remedy the cause, end this process and start it again";
 
 /// The words of a server's command line.
 #[derive(Clone, Copy)]
@@ -103,114 +98,6 @@ fn settings_named(words: &ServerWords<'_>) -> Result<Settings, &'static str>
     })
 }
 
-/// Whether the loops of a server are to end.
-#[derive(Drop)]
-struct Ending {
-    has_ended: AtomicBool,
-}
-
-impl Ends for Ending {
-    fn has_ended(&self) -> bool {
-        self.has_ended.load(Ordering::SeqCst)
-    }
-}
-
-/// What the threads of a server share.
-#[derive(Drop)]
-pub(crate) struct Server<D: Disk + Drop> {
-    alloc: Global,
-    map: DurableMap<D>,
-    bytes: u64,
-    idle: u32,
-    first_error: FirstError,
-    ending: Ending,
-    has_told: AtomicBool,
-}
-
-impl<D: Disk + Drop> Server<D> {
-    /// A server of the map with these settings; `first_error` tells of its disk.
-    pub(crate) fn new(
-        alloc: Global,
-        map: DurableMap<D>,
-        settings: &Settings,
-        first_error: FirstError,
-    ) -> Server<D> {
-        let has_ended = AtomicBool::new(false);
-        Server {
-            alloc,
-            map,
-            bytes: settings.bytes,
-            idle: settings.idle,
-            first_error,
-            ending: Ending { has_ended },
-            has_told: AtomicBool::new(false),
-        }
-    }
-
-    // Writes a record of why a loop ended, if it is the first that says that the store has failed.
-    fn tell<L: Log>(&self, rt: &L, ended: Result<(), Refusal>) {
-        let Err(refusal) = ended else {
-            return;
-        };
-        if self.has_told.swap(true, Ordering::SeqCst) {
-            return;
-        }
-        match self.first_error.get() {
-            Some(cause) => error!(rt; "the store has failed, {cause}: {WHAT_TO_DO}"),
-            None => error!(rt; "the store has failed, {refusal}: {WHAT_TO_DO}"),
-        }
-    }
-
-    // Makes the loops end.
-    fn end(&self) {
-        self.ending.has_ended.store(true, Ordering::SeqCst);
-    }
-}
-
-/// Runs the two loops of the map on threads of their own and serves the connections with `count`
-/// workers, until no more come. If the store fails, one record says so. Refused with `NoMemory` if a
-/// thread can't be started.
-pub(crate) fn run<
-    D: Disk + Drop + Send,
-    G: Gate + Sync,
-    C: Arrivals,
-    R: Clock + Log + Threads + Wait + Sync,
->(rt: &R, server: &Server<D>, gate: &G, arrivals: &mut C, count: usize) -> Result<(), Refusal>
-    ensures { IfErr result (λ refusal. refusal ≡ Refusal.NoMemory) }
-{
-    let has_started = thread::scope(thread::scope_env(), rt, |scope| {
-        let flusher = scope.spawn(move || server.tell(
-            rt,
-            flush_loop(rt, &server.map, &server.ending),
-        ));
-        let keeper = scope.spawn(move || {
-            server.tell(
-                rt,
-                checkpoint_loop(rt, &server.map, server.bytes, &server.ending),
-            );
-        });
-        let has_started = flusher.is_ok()
-            && keeper.is_ok()
-            && workers(
-                rt,
-                server.alloc,
-                &server.map,
-                gate,
-                arrivals,
-                count,
-                server.idle,
-            )
-            .is_ok();
-        server.end();
-        has_started
-    });
-    if has_started {
-        Ok(())
-    } else {
-        Err(Refusal::NoMemory)
-    }
-}
-
 /// The connections that a listener accepts.
 #[derive(Drop)]
 struct Acceptor<'a, R: Clock + Log> {
@@ -254,18 +141,10 @@ fn host<
     W: Write,
     E: Write,
     R: Net<Listener = TcpListener, Stream = TcpStream> + Clock + Log + Threads + Wait + Sync,
->(
-    rt: &R,
-    alloc: Global,
-    server: &Server<D>,
-    first: u64,
-    settings: &Settings,
-    output: &mut W,
-    error: &mut E,
-) -> u8
-    ensures { Announces settings.now.port (W.contents output.old) (W.contents output.new) result }
+>(rt: &R, service: &Service<'_, D>, port: u16, first: u64, output: &mut W, error: &mut E) -> u8
+    ensures { Announces port (W.contents output.old) (W.contents output.new) result }
 {
-    let port = settings.port;
+    let alloc = service.alloc;
     let Ok(line) = format!(in alloc; "listening {port}\n") else {
         return refuse(alloc, Refusal::NoMemory, error);
     };
@@ -284,7 +163,7 @@ fn host<
         rt,
         listener: &listener,
     };
-    match run(rt, server, &NoGate, &mut acceptor, settings.workers) {
+    match serve_map(rt, service, &NoGate, &mut acceptor) {
         Ok(()) => break_off(error),
         Err(refusal) => refuse(alloc, refusal, error),
     }
@@ -314,8 +193,15 @@ pub(crate) fn serve_disk<
             if let Err(refusal) = map.set_log_ahead(rt, settings.ahead as usize) {
                 return refuse(alloc, refusal, error);
             }
-            let server = Server::new(alloc, map, settings, first_error);
-            host(rt, alloc, &server, first, settings, output, error)
+            let service = Service {
+                alloc,
+                map: &map,
+                first_error: &first_error,
+                bytes: settings.bytes,
+                workers: settings.workers,
+                idle: settings.idle,
+            };
+            host(rt, &service, settings.port, first, output, error)
         }
         Err((_disk, refusal)) => {
             if let Some(cause) = first_error.get() {

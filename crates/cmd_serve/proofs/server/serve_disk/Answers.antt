@@ -1,5 +1,5 @@
 use Rattle.std.proofs.Common.{inl}
 use Rattle.cmd_serve.proofs.server.serve_disk.Goals as goal
 
-pub returns-in_default : goal.returns-in_default
-returns-in_default g c = let ok = c.in-Ok.ensures.ok in record { new = ok.0; ends = inl (ok.1, c.host.ensures) }
+pub returns-in-Ok : goal.returns-in-Ok
+returns-in-Ok g c = let ok = c.in-Ok.ensures.ok in record { new = ok.0; ends = inl (ok.1, c.host.ensures) }

@@ -1,7 +1,8 @@
-use crate::NoGate;
-use crate::server::Server;
-use crate::server_tests::{WAS_ABSENT, served, server_of, sixteen};
+//! Puts of one connection that are sent in one piece, over a directory.
+use crate::clients::{WAS_ABSENT, map_of, served, sixteen};
+use cmd_serve::NoGate;
 use disk_model::{DirDisk, Unknown};
+use durable_map::DurableMap;
 use recovery::format;
 use std::alloc::Global;
 use std::fs;
@@ -43,12 +44,12 @@ fn numbers_before(alloc: Global) -> Result<Vec<u8>, Fail> {
     Ok(replies)
 }
 
-/// A server of the empty map of a directory, which is made.
-fn server_over(rt: &HostRuntime, directory: &str) -> Result<Server<DirDisk<Unknown>>, Fail> {
+/// The empty map of a directory.
+fn map_over(rt: &HostRuntime, directory: &str) -> Result<DurableMap<DirDisk<Unknown>>, Fail> {
     let alloc = rt.alloc();
     let mut disk = DirDisk::create(rt, alloc, directory, Unknown)?;
     format(alloc, &mut disk, sixteen()?).map_err(|_| "it is formatted")?;
-    server_of(alloc, disk)
+    map_of(alloc, disk)
 }
 
 /// How many batches a log has that holds the puts and nothing else.
@@ -69,9 +70,9 @@ fn puts_in_one_piece_share_batches(rt: HostRuntime) -> Result<(), Fail> {
     fs::create_dir(&rt, "pipeline")?;
     let puts = numbered_puts(alloc)?;
     let replies = numbers_before(alloc)?;
-    let server = server_over(&rt, "pipeline")?;
-    let sent = served(&rt, alloc, &server, &NoGate, &[puts.as_slice()], 1);
-    drop(server);
+    let map = map_over(&rt, "pipeline")?;
+    let sent = served(&rt, alloc, &map, &NoGate, &[puts.as_slice()], 1);
+    drop(map);
     assert_eq!(rt; sent?.as_slice(), replies.as_slice());
     let batches = batches_of(&rt, alloc, "pipeline/log-a")?;
     assert!(rt; batches > 0 && batches < PUTS, "{batches}");

@@ -1,6 +1,6 @@
-use crate::server::run;
-use crate::server_tests::{Listed, MOST_TURNS, PUT, WAS_ABSENT, connected, server_over};
-use crate::{Arrivals, NoGate};
+//! Clients that neither read nor end.
+use crate::clients::{Listed, MOST_TURNS, PUT, WAS_ABSENT, connected, map_over, serve_listed};
+use cmd_serve::{Arrivals, NoGate};
 use log::Log;
 use std::alloc::Global;
 use std::io::{Read, Write};
@@ -62,10 +62,10 @@ fn is_answered_beside<
     R: Net<Listener = TcpListener, Stream = TcpStream> + Clock + Log + Threads + Wait + Sync,
 >(rt: &R, alloc: Global, bytes: &[u8]) -> Result<bool, Fail> {
     let mut stalling = Stalling::new(rt, alloc, bytes)?;
-    let server = server_over(alloc, None)?;
-    let ran = run(rt, &server, &NoGate, &mut stalling, 2);
-    drop(server);
-    ran.map_err(|_| "threads start")?;
+    let map = map_over(alloc, None)?;
+    let ran = serve_listed(rt, alloc, &map, &NoGate, &mut stalling, 2);
+    drop(map);
+    ran?;
     Ok(stalling.was_answered && stalling.reply.as_slice() == WAS_ABSENT)
 }
 

@@ -1,0 +1,9 @@
+use denote.Param.Send.{sendable}
+use Rattle.cmd_serve.proofs.Crosses.{ending_sync, service_sync}
+use Rattle.cmd_serve.proofs.service.fn.serve_map.scope.Goals as goal
+
+pub spawn-flusher-requires-send-F : goal.spawn-flusher-requires-send-F
+spawn-flusher-requires-send-F g c κs h = search (service_sync, ending_sync, sendable) depth 12
+
+pub spawn-keeper-requires-send-F : goal.spawn-keeper-requires-send-F
+spawn-keeper-requires-send-F g c κs h = search (service_sync, ending_sync, sendable) depth 12

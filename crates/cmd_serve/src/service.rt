@@ -1,0 +1,118 @@
+//! The loops of a map and the workers that serve it, each on a thread of its own.
+ghost use Rattle.std.specs.Prelude.{◌≡◌, IfErr};
+
+use crate::pool::{Arrivals, workers};
+use crate::worker::Gate;
+use disk_model::{Disk, FirstError};
+use durable_map::{DurableMap, Ends, checkpoint_loop, flush_loop};
+use log::{Log, error};
+use map_types::Refusal;
+use std::alloc::Global;
+use std::sync::Wait;
+use std::sync::atomic::{AtomicBool, Ordering};
+use std::thread;
+use std::thread::Threads;
+use std::time::Clock;
+
+/// What is to be done about a store that has failed.
+const WHAT_TO_DO: &str =
+    "each call is refused from now on; remedy the cause, end this process and start it again";
+
+/// A map that is served, and how its loops and its workers are to do that.
+#[derive(Drop)]
+pub struct Service<'a, D: Disk + Drop> {
+    pub alloc: Global,
+    pub map: &'a DurableMap<D>,
+    /// What tells of the first call of the map's files that failed.
+    pub first_error: &'a FirstError,
+    /// The length of the log that begins a checkpoint.
+    pub bytes: u64,
+    /// How many connections are served at a time.
+    pub workers: usize,
+    /// For how many seconds a client may be idle; 0 is for ever.
+    pub idle: u32,
+}
+
+/// What the threads of the two loops share beside their map.
+#[derive(Drop)]
+struct Ending {
+    has_ended: AtomicBool,
+    has_told: AtomicBool,
+}
+
+impl Ends for Ending {
+    fn has_ended(&self) -> bool {
+        self.has_ended.load(Ordering::SeqCst)
+    }
+}
+
+impl Ending {
+    fn new() -> Ending {
+        Ending {
+            has_ended: AtomicBool::new(false),
+            has_told: AtomicBool::new(false),
+        }
+    }
+
+    // Makes the loops end.
+    fn end(&self) {
+        self.has_ended.store(true, Ordering::SeqCst);
+    }
+
+    // Writes a record of why a loop ended, if it is the first that says that the store has failed.
+    fn tell<L: Log>(&self, rt: &L, first_error: &FirstError, ended: Result<(), Refusal>) {
+        let Err(refusal) = ended else {
+            return;
+        };
+        if self.has_told.swap(true, Ordering::SeqCst) {
+            return;
+        }
+        match first_error.get() {
+            Some(cause) => error!(rt; "the store has failed, {cause}: {WHAT_TO_DO}"),
+            None => error!(rt; "the store has failed, {refusal}: {WHAT_TO_DO}"),
+        }
+    }
+}
+
+/// Runs the two loops of the map on threads of their own and serves the connections with its workers,
+/// until no more come. If the store fails, one Error record says so. Refused with `NoMemory` if a thread
+/// can't be started.
+pub fn serve_map<
+    D: Disk + Drop + Send,
+    G: Gate + Sync,
+    C: Arrivals,
+    R: Clock + Log + Threads + Wait + Sync,
+>(rt: &R, service: &Service<'_, D>, gate: &G, arrivals: &mut C) -> Result<(), Refusal>
+    ensures { IfErr result (λ refusal. refusal ≡ Refusal.NoMemory) }
+{
+    let ending = &Ending::new();
+    let has_started = thread::scope(thread::scope_env(), rt, |scope| {
+        let flusher = scope.spawn(move || {
+            let ended = flush_loop(rt, service.map, ending);
+            ending.tell(rt, service.first_error, ended);
+        });
+        let keeper = scope.spawn(move || {
+            let ended = checkpoint_loop(rt, service.map, service.bytes, ending);
+            ending.tell(rt, service.first_error, ended);
+        });
+        let has_started = flusher.is_ok()
+            && keeper.is_ok()
+            && workers(
+                rt,
+                service.alloc,
+                service.map,
+                gate,
+                arrivals,
+                service.workers,
+                service.idle,
+            )
+            .is_ok();
+        ending.end();
+        has_started
+    });
+    if has_started {
+        Ok(())
+    } else {
+        Err(Refusal::NoMemory)
+    }
+}

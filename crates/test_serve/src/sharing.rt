@@ -1,0 +1,132 @@
+//! Clients that share a map: one that is held, one that breaks off, and eight at once.
+use crate::clients::{
+    MOST_TURNS, PUT, connected, map_over, received, repeated, send_each, serve_listed, served,
+};
+use cmd_serve::{Gate, NoGate};
+use disk_model::MemDisk;
+use durable_map::DurableMap;
+use log::Log;
+use std::alloc::Global;
+use std::io::Write;
+use std::net::{Net, TcpListener, TcpStream};
+use std::sync::Wait;
+use std::sync::atomic::{AtomicBool, Ordering};
+use std::test::Fail;
+use std::thread;
+use std::thread::Threads;
+use std::time::{Clock, Duration};
+
+/// The replies to two clients.
+const ABSENT_AND_5: &[u8] = b"\x00\x02\x00\x00\x00\x0A\x00\x01\x00\x00\x00\x00\x00\x00\x00\x05";
+
+const FIVE_AND_ABSENT: &[u8] = b"\x00\x0A\x00\x01\x00\x00\x00\x00\x00\x00\x00\x05\x00\x02\x00\x00";
+
+/// What is answered to a refused length, and what is to another client.
+const BAD_FRAME_AND_5: &[u8] = b"\x00\x02\x86\x00\x00\x0A\x00\x01\x00\x00\x00\x00\x00\x00\x00\x05";
+
+/// Two merges of 1 with the sum, two questions, and their answers after 800 were added to each.
+const ADD_TO_A_AND_B: &[u8] =
+    b"\x00\x0E\x19\x00\x01a\x04\x01\x00\x00\x00\x00\x00\x00\x00\x01\x00\x0E\x19\x00\x01b\x04\x01\x00\x00\x00\x00\x00\x00\x00\x01";
+
+const GET_A_AND_B: &[u8] = b"\x00\x04\x01\x00\x01a\x00\x04\x01\x00\x01b";
+
+const BOTH_ARE_800: &[u8] =
+    b"\x00\x0A\x01\x01\x00\x00\x00\x00\x00\x00\x03\x20\x00\x0A\x01\x01\x00\x00\x00\x00\x00\x00\x03\x20";
+
+/// Holds the first request until the second was answered.
+#[derive(Drop)]
+struct HoldsFirst<'a, R> {
+    rt: &'a R,
+    has_answered: AtomicBool,
+    was_in_time: AtomicBool,
+}
+
+impl<R: Clock> Gate for HoldsFirst<'_, R> {
+    fn before(&self, n: u64) {
+        if n > 0 {
+            return;
+        }
+        for _ in 0..MOST_TURNS {
+            if self.has_answered.load(Ordering::SeqCst) {
+                self.was_in_time.store(true, Ordering::SeqCst);
+                return;
+            }
+            thread::sleep(self.rt, Duration::from_millis(1));
+        }
+    }
+
+    fn after(&self, n: u64) {
+        if n == 1 {
+            self.has_answered.store(true, Ordering::SeqCst);
+        }
+    }
+}
+
+#[test]
+fn a_request_that_is_held_holds_up_no_other(rt: HostRuntime) -> Result<(), Fail> {
+    let map = map_over(rt.alloc(), None)?;
+    let gate = HoldsFirst {
+        rt: &rt,
+        has_answered: AtomicBool::new(false),
+        was_in_time: AtomicBool::new(false),
+    };
+    let sent = served(&rt, rt.alloc(), &map, &gate, &[PUT, PUT], 2);
+    drop(map);
+    assert!(rt; gate.was_in_time.load(Ordering::SeqCst));
+    assert!(rt; [ABSENT_AND_5, FIVE_AND_ABSENT].contains(&sent?.as_slice()));
+    Ok(())
+}
+
+/// The client before the last makes two puts, and goes without a reply.
+fn leave_before_last(clients: &mut Vec<TcpStream>) -> Result<(), Fail> {
+    let last = clients.pop().ok_or("there is a last")?;
+    let mut gone = clients.pop().ok_or("there is one before")?;
+    gone.write_all(PUT)?;
+    gone.write_all(PUT)?;
+    clients.push(last)?;
+    Ok(())
+}
+
+/// What five clients are sent: one goes without a reply, and the others send nothing, a part of a put,
+/// a refused length, and a put.
+fn sent_beside_broken<
+    R: Net<Listener = TcpListener, Stream = TcpStream> + Clock + Log + Threads + Wait + Sync,
+>(rt: &R, alloc: Global, map: &DurableMap<MemDisk>) -> Result<Vec<u8>, Fail> {
+    let (mut clients, mut listed) = connected(rt, alloc, 5)?;
+    leave_before_last(&mut clients)?;
+    let long = b"\x00\x00\x00\x04\x01\x00\x01a";
+    send_each(clients.as_slice(), &[b"", &PUT[..9], long, PUT])?;
+    serve_listed(rt, alloc, map, &NoGate, &mut listed, 1)?;
+    Ok(received(alloc, clients.as_slice()))
+}
+
+#[test]
+fn a_connection_breaks_off_alone(rt: HostRuntime) -> Result<(), Fail> {
+    let map = map_over(rt.alloc(), None)?;
+    let sent = sent_beside_broken(&rt, rt.alloc(), &map);
+    drop(map);
+    assert_eq!(rt; sent?.as_slice(), BAD_FRAME_AND_5);
+    Ok(())
+}
+
+/// Eight clients add 1 to two counters, a hundred times each, and then another one asks for both: how
+/// many bytes the eight are sent, and what the other one is.
+fn add_and_ask<
+    R: Net<Listener = TcpListener, Stream = TcpStream> + Clock + Log + Threads + Wait + Sync,
+>(rt: &R, alloc: Global, map: &DurableMap<MemDisk>) -> Result<(usize, Vec<u8>), Fail> {
+    let merges = repeated(alloc, ADD_TO_A_AND_B, 100)?;
+    let sent = served(rt, alloc, map, &NoGate, &[merges.as_slice(); 8], 8)?;
+    let counts = served(rt, alloc, map, &NoGate, &[GET_A_AND_B], 1)?;
+    Ok((sent.len(), counts))
+}
+
+#[test]
+fn eight_clients_share_two_counters(rt: HostRuntime) -> Result<(), Fail> {
+    let map = map_over(rt.alloc(), None)?;
+    let sent = add_and_ask(&rt, rt.alloc(), &map);
+    drop(map);
+    let (len, counts) = sent?;
+    assert_eq!(rt; len, 8 * 200 * 12);
+    assert_eq!(rt; counts.as_slice(), BOTH_ARE_800);
+    Ok(())
+}
