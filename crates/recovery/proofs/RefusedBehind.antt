@@ -1,8 +1,9 @@
 -- What a step behind an opening is refused for.
-use Rattle.std.proofs.Common.{◌≡◌, ◌≢◌, ◌⊎◌, inl, inr, ℕ, ◌+◌, ◌<◌, ◌^◌, Bool, true, false, Result, Err, sym, ap, subst, ◌∙◌}
+use Rattle.std.proofs.Common.{◌≡◌, ◌≢◌, ◌⊎◌, inl, inr, ℕ, ◌+◌, ◌<◌, ◌^◌, Bool, true, false, Result, Err, refl, sym, ap, subst, ◌∙◌, arith}
 use Rattle.map_types.specs.declared.refusals.Refusal.{Refusal}
-use Rattle.map_types.specs.declared.refusals.Refusal.TheVariants.{Failed, TooEarly, WrongPhase}
+use Rattle.map_types.specs.declared.refusals.Refusal.TheVariants.{Failed, LogFull, NoMemory, TooEarly, WrongPhase}
 use Rattle.map_model.specs.Maps.{Map}
+use Rattle.store_layout.specs.Failures.{failed_in}
 use Rattle.recovery.specs.Upgrading.{IsCheckpointRefused, IsLastGeneration, IsRefusedBehind, IsSectionRefused}
 
 pub not_broken : (b : Bool) → b ≡ false → b ≡ true → ⊥
@@ -49,3 +50,19 @@ behind F G Last Then n m generation sealed e so last (inl failed) = inl (failed.
 behind F G Last Then n m generation sealed e so last (inr (inl wanting)) = inr (inl wanting)
 behind F G Last Then n m generation sealed e so last (inr (inr (inl full))) = inr (inr (inl full))
 behind F G Last Then n m generation sealed e so last (inr (inr (inr wrong))) = inr (inr (inr (wrong.0, last wrong.1)))
+
+-- ---- how many calls failed
+
+counted_none : (e : Refusal) (old new : ℕ) → failed_in {X = ℕ} (Err e) ≡ 0 → new ≡ old → new ≡ old + failed_in {X = ℕ} (Err e)
+counted_none e old new none same = let sum : old ≡ old + 0 = omega arith in same ∙ sum ∙ ap (λ (n : ℕ). old + n) (sym none)
+
+counted_other : (e other : Refusal) (old new : ℕ) → e ≡ other → (other ≡ Failed → ⊥) → failed_in {X = ℕ} (Err other) ≡ 0 → (e ≢ Failed → new ≡ old) → new ≡ old + failed_in {X = ℕ} (Err e)
+counted_other e other old new is differs none same =
+    counted_none e old new (subst (λ (r : Refusal). failed_in {X = ℕ} (Err r) ≡ 0) (sym is) none) (same (λ failed. differs (sym is ∙ failed)))
+
+pub counted_behind : (F Last : Type 0) (n : ℕ) (m : Map) (generation sealed : ℕ) (e : Refusal) (old new : ℕ) → (F → new ≡ old + 1) → (e ≢ Failed → new ≡ old) → IsRefusedBehind F Last n m generation sealed e
+    → new ≡ old + failed_in {X = ℕ} (Err e)
+counted_behind F Last n m generation sealed e old new so same (inl failed) = subst (λ (r : Refusal). new ≡ old + failed_in {X = ℕ} (Err r)) (sym failed.0) (so failed.1)
+counted_behind F Last n m generation sealed e old new so same (inr (inl wanting)) = counted_other e NoMemory old new wanting (λ is. absurd cc) refl same
+counted_behind F Last n m generation sealed e old new so same (inr (inr (inl full))) = counted_other e LogFull old new full.0 (λ is. absurd cc) refl same
+counted_behind F Last n m generation sealed e old new so same (inr (inr (inr wrong))) = counted_other e WrongPhase old new wrong.0 (λ is. absurd cc) refl same

@@ -83,3 +83,7 @@ module _ {D : Type 0} (states : D → List Files) (failures : D → ℕ) where
   left_as_read honest failed old new is contents leaves number below =
       rest_leaves (contents_of states old number) (contents number)
       (subst (λ (file : File). MayLeave file (contents number)) (settled honest failed old new is number below) (leaves number below))
+
+-- no call failed
+pub none_failed : {D : Type 0} (states : D → List Files) (failures : D → ℕ) (honest : D → Type 0) (most : ℕ) (old new : D) → SyncsAndLooks states failures honest most 0 old new → failures new ≡ failures old
+none_failed states failures honest most old new calls = let sum : failures calls.mid + 0 ≡ failures calls.mid = omega arith in calls.looks.failed_so ∙ sum ∙ calls.synced.counted

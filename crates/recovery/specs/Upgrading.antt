@@ -1,6 +1,6 @@
 -- What bringing a directory to the newest version leaves.
 use Rattle.std.specs.FinMap as finite
-use Rattle.std.specs.Prelude.{◌≡◌, ◌≢◌, ◌⊎◌, ◌<◌, ◌≤◌, ◌+◌, ◌^◌, Bool, ℕ, suc, zero, false, List, [], Option, None, Some, length}
+use Rattle.std.specs.Prelude.{◌≡◌, ◌≢◌, ◌⊎◌, ◌<◌, ◌≤◌, ◌+◌, ◌^◌, Bool, ℕ, suc, zero, false, List, [], Option, None, Some, Err, length}
 use Rattle.disk_model.specs.Files.{Contents, Files}
 use Rattle.disk_model.specs.Moments.{AtEachMoment}
 use Rattle.map_types.specs.declared.refusals.Refusal.{Refusal}
@@ -12,6 +12,7 @@ use Rattle.ticket_order.specs.declared.record.Opening.{Opening}
 use Rattle.ticket_order.specs.declared.record.Record.{Record}
 use Rattle.one_history.specs.declared.book.Book.{Book}
 use Rattle.one_history.specs.Turns.{record_of}
+use Rattle.store_layout.specs.Failures.{failed_in}
 use Rattle.store_layout.specs.Logs.{log_file, new_layout}
 use Rattle.store_layout.specs.Opening.{Holds, Opened as FoundStore, StandsFor, log_layout, map_of, newest_of, prefix_of}
 use Rattle.store_layout.specs.declared.checkpoint_phase.CheckpointPhase.TheVariants.{Ready}
@@ -95,9 +96,10 @@ pub record RefusesBehind (Failing : Type 0) (n : ℕ) (contents : Contents) (ref
   pub cause : IsRefusedBehind Failing (IsLastGeneration (newest_of found).generation) n (map_of found) (newest_of found).generation found.checkpoint.generation refusal
 
 -- The upgrade over this many stripes was refused behind its opening. No stop loses what the directory stood for, and on an
--- honest disk there is a reason.
+-- honest disk there is a reason. One call failed if it is `Failed`, and else none.
 pub record IsUpgradeRefused {D : Type 0} (states : D → List Files) (failures : D → ℕ) (honest : D → Type 0) (stripes : ℕ) (old new : D) (refusal : Refusal) : Type 0 where
   pub stays : StaysStanding states failures honest old new
+  pub counted : failures new ≡ failures old + failed_in {X = ℕ} (Err refusal)
   pub reason : honest new → honest old × RefusesBehind (failures new ≡ failures old + 1) stripes (contents_of states old) refusal
 
 -- ---- the keeper, between its calls

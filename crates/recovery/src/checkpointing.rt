@@ -123,6 +123,8 @@ fn capture_all<D: Disk>(keeper: &mut Keeper<D>, steps: &mut At<'_>) -> Result<()
 
     // Refused: after the one call that failed, or for a section.
     ensures counted { OnOk result (D.failures keeper.new.disk ≡ D.failures keeper.old.disk) }
+    ensures unfailing { IfErr result (λ refusal. refusal ≢ Refusal.Failed
+        → D.failures keeper.new.disk ≡ D.failures keeper.old.disk) }
     ensures err { IfErr result (λ refusal. (o : Opening)
         → IsUnmovedWith D.states D.honest o keeper.old steps.old.pass
         steps.old.words.now
@@ -168,6 +170,8 @@ pub(crate) fn seal_checkpoint<D: Disk>(
 
     // Refused: after the one call that failed, for a section, or since no generation follows.
     ensures counted { OnOk result (D.failures keeper.new.disk ≡ D.failures keeper.old.disk) }
+    ensures unfailing { IfErr result (λ refusal. refusal ≢ Refusal.Failed
+        → D.failures keeper.new.disk ≡ D.failures keeper.old.disk) }
     ensures err { IfErr result (λ refusal. (o : Opening)
         → IsUnmovedWith D.states D.honest o keeper.old steps.old.pass
         steps.old.words.now

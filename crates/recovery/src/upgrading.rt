@@ -54,7 +54,8 @@ fn advance<D: Disk>(keeper: &mut Keeper<D>, calls: usize) -> Result<(), Refusal>
     ensures checkpoint { keeper.new.checkpoint ≡ keeper.old.checkpoint }
     ensures sealed { keeper.new.sealed ≡ keeper.old.sealed }
 
-    // Refused: after the one call that failed.
+    // Each call succeeds; or one fails, and it is the last.
+    ensures counted { OnOk result (D.failures keeper.new.disk ≡ D.failures keeper.old.disk) }
     ensures err { IfErr result (λ refusal. (refusal ≡ Refusal.Failed)
         × (D.failures keeper.new.disk ≡ D.failures keeper.old.disk + 1)) }
 {
@@ -83,6 +84,9 @@ fn rotate<D: Disk>(keeper: &mut Keeper<D>) -> Result<(), Refusal>
         (keeper.old.log.generation ≡ keeper.old.sealed → HasRotated keeper.new) }
 
     // Refused: after the one call that failed, or if no checkpoint may begin.
+    ensures counted { OnOk result (D.failures keeper.new.disk ≡ D.failures keeper.old.disk) }
+    ensures unfailing { IfErr result (λ refusal. refusal ≢ Refusal.Failed
+        → D.failures keeper.new.disk ≡ D.failures keeper.old.disk) }
     ensures err { IfErr result (λ refusal. ((refusal ≡ Refusal.Failed)
         × (D.failures keeper.new.disk ≡ D.failures keeper.old.disk + 1))
         ⊎ ((refusal ≡ Refusal.WrongPhase) × (MayBegin keeper.old → ⊥))) }
@@ -115,6 +119,11 @@ fn rotate_sealed<D: Disk>(keeper: &mut Keeper<D>, steps: &mut At<'_>) -> Result<
         ⊎ (keeper.old.log.generation ≡ keeper.old.sealed + 1)
         → ((n : ℕ) × (p : Record) × IsUnmoved D.states D.honest n o keeper.new p)
         × HasRotated keeper.new) }
+
+    // No call fails; or one does, and it is the last.
+    ensures counted { OnOk result (D.failures keeper.new.disk ≡ D.failures keeper.old.disk) }
+    ensures unfailing { IfErr result (λ refusal. refusal ≢ Refusal.Failed
+        → D.failures keeper.new.disk ≡ D.failures keeper.old.disk) }
     ensures err { IfErr result (λ refusal. (o : Opening)
         → IsUnmovedWith D.states D.honest o keeper.old steps.old.pass
         steps.old.words.now
@@ -155,6 +164,11 @@ fn upgrade_keeper<D: Disk>(
         → ((n : ℕ) × (p : Record)
         × IsUnmoved D.states D.honest n (opening_of first parts.items limit) keeper.new p)
         × HasRotated keeper.new) }
+
+    // No call fails; or one does, and it is the last.
+    ensures counted { OnOk result (D.failures keeper.new.disk ≡ D.failures keeper.old.disk) }
+    ensures unfailing { IfErr result (λ refusal. refusal ≢ Refusal.Failed
+        → D.failures keeper.new.disk ≡ D.failures keeper.old.disk) }
     ensures err { IfErr result (λ refusal.
         IsRefusedBehind (D.failures keeper.new.disk ≡ D.failures keeper.old.disk + 1)
         ((keeper.old.log.generation ≡ keeper.old.sealed)
@@ -182,8 +196,9 @@ fn is_newest(version: Version) -> bool
 /// the sealed checkpoint, its own checkpoint is taken and sealed before. Else it writes nothing. It
 /// uses the words of one thread, and never waits. The disk is handed back, also with a refusal.
 pub fn upgrade<D: Disk>(alloc: Global, disk: D, stripes: StripeCount) -> Result<D, (D, Refusal)>
-    // Nothing is written unless the directory opens; then no stop loses what it stands for.
+    // Nothing is written unless the directory opens; then no stop loses what it stands for. No call fails.
     ensures ok { IfOk result (StaysStanding D.states D.failures D.honest disk) }
+    ensures unfailing { IfOk result (λ after. D.failures after ≡ D.failures disk) }
 
     // Refused: its opening, which writes nothing; or behind it, and no stop loses what it stands for.
     ensures refused { IfErr result (λ x.

@@ -97,3 +97,13 @@ loop-stripe-preserved g c =
       stripes = c.advance.ensures.stripes ∙ ap (λ (x : Keeper _). x.stripes) c.capture.ensures.same ∙ inv.stripes;
       counted = c.in_ok-advance.ensures.counted ∙ ap g.D.Disk.failures c.capture.ensures.disk ∙ inv.counted;
     }
+
+pub returns-in_err-capture-clause-unfailing : goal.returns-in_err-capture-clause-unfailing
+returns-in_err-capture-clause-unfailing g c =
+    let q = err_from_is_err_and c.from_residual.result c.from_residual.ensures.1 in
+    rw (q.1, q.2) (λ other. ap g.D.Disk.failures c.capture.ensures.disk ∙ c.loop-stripe.invariant.counted)
+
+pub returns-in_err-advance-clause-unfailing : goal.returns-in_err-advance-clause-unfailing
+returns-in_err-advance-clause-unfailing g c =
+    let q = err_from_is_err_and c.from_residual-in_err-advance.result c.from_residual-in_err-advance.ensures.1 in
+    rw (q.1, q.2) (λ other. absurd (other c.in_err-advance.ensures.err.0))

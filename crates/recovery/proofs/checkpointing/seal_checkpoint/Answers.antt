@@ -238,3 +238,23 @@ returns-clause-err g c =
     let counted : failures c.seal.new.keeper.disk ≡ failures c.args.keeper.now.disk =
     ap (λ (x : Keeper _). failures x.disk) c.in_ok-seal.ensures.ok ∙ c.in_ok-capture_all.ensures.counted ∙ c.in_ok-advance.ensures.counted ∙ ap (λ (x : Keeper _). failures x.disk) c.begin.ensures.same in
     if_err (λ e. (e ≡ Failed) × (failures c.advance-2.new.keeper.disk ≡ failures c.seal.new.keeper.disk + 1)) _ c.advance-2.result (λ e failed o is. inl (inl (failed.0, failed.1 ∙ ap (λ (n : ℕ). n + 1) counted))) c.advance-2.ensures.err
+
+pub returns-in_err-begin-clause-unfailing : goal.returns-in_err-begin-clause-unfailing
+returns-in_err-begin-clause-unfailing g c =
+    let q = err_from_is_err_and c.from_residual.result c.from_residual.ensures.1 in
+    rw (q.1, q.2) (λ other. ap (λ (x : Keeper _). g.D.Disk.failures x.disk) c.begin.ensures.same)
+
+pub returns-in_err-advance-clause-unfailing : goal.returns-in_err-advance-clause-unfailing
+returns-in_err-advance-clause-unfailing g c =
+    let q = err_from_is_err_and c.from_residual-in_err-advance.result c.from_residual-in_err-advance.ensures.1 in
+    rw (q.1, q.2) (λ other. absurd (other c.in_err-advance.ensures.err.0))
+
+pub returns-in_err-capture_all-clause-unfailing : goal.returns-in_err-capture_all-clause-unfailing
+returns-in_err-capture_all-clause-unfailing g c =
+    let q = err_from_is_err_and c.from_residual-in_err-capture_all.result c.from_residual-in_err-capture_all.ensures.1 in
+    rw (q.1, q.2) (λ other. c.in_err-capture_all.ensures.unfailing other ∙ c.in_ok-advance.ensures.counted ∙ ap (λ (x : Keeper _). g.D.Disk.failures x.disk) c.begin.ensures.same)
+
+pub returns-clause-unfailing : goal.returns-clause-unfailing
+returns-clause-unfailing g c =
+    let failures = g.D.Disk.failures in
+    if_err (λ e. (e ≡ Failed) × (failures c.advance-2.new.keeper.disk ≡ failures c.seal.new.keeper.disk + 1)) _ c.advance-2.result (λ e failed other. absurd (other failed.0)) c.advance-2.ensures.err

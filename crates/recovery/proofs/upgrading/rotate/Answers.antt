@@ -53,3 +53,17 @@ returns-clause-err g c =
     let k1 = c.begin.new.keeper in
     let k2 = c.advance.new.keeper in
     if_err (λ e. (e ≡ Failed) × (failures k2.disk ≡ failures k1.disk + 1)) _ c.advance.result (λ e failed. inl (failed.0, failed.1 ∙ ap (λ (x : Keeper _). failures x.disk + 1) c.begin.ensures.same)) c.advance.ensures.err
+
+pub returns-clause-counted : goal.returns-clause-counted
+returns-clause-counted g c =
+    on_ok _ _ c.advance.result (λ none. none ∙ ap (λ (x : Keeper _). g.D.Disk.failures x.disk) c.begin.ensures.same) c.advance.ensures.counted
+
+pub returns-in_err-begin-clause-unfailing : goal.returns-in_err-begin-clause-unfailing
+returns-in_err-begin-clause-unfailing g c =
+    let q = err_from_is_err_and c.from_residual.result c.from_residual.ensures.1 in
+    rw (q.1, q.2) (λ other. ap (λ (x : Keeper _). g.D.Disk.failures x.disk) c.begin.ensures.same)
+
+pub returns-clause-unfailing : goal.returns-clause-unfailing
+returns-clause-unfailing g c =
+    let failures = g.D.Disk.failures in
+    if_err (λ e. (e ≡ Failed) × (failures c.advance.new.keeper.disk ≡ failures c.begin.new.keeper.disk + 1)) _ c.advance.result (λ e failed other. absurd (other failed.0)) c.advance.ensures.err

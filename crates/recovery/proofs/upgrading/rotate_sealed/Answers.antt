@@ -5,7 +5,7 @@ use Rattle.one_history.specs.Turns.{record_of}
 use Rattle.flusher.specs.Rotating.{Logs}
 use Rattle.gate_log.specs.States.{IsResting}
 use Rattle.checkpoint_walk.specs.Checkpointing.{MayBegin}
-use Rattle.recovery.proofs.GateClosing.{on_ok2}
+use Rattle.recovery.proofs.GateClosing.{on_ok, on_ok2}
 use Rattle.recovery.proofs.OpeningLemmas.{if_err}
 use Rattle.recovery.proofs.RefusedBehind.{behind_rotation, behind_seal}
 use Rattle.recovery.proofs.Unmoved.{through}
@@ -75,3 +75,18 @@ returns-clause-err g c =
       fits = subst (λ (n : ℕ). n + 1 < 2 ^ 64) (is_after _ _ either other ∙ sym ok.sealed.0) below;
       rests = λ x. subst IsResting (sym (ap (λ (l : Logs). l.newest) logs)) rests;
     })) refused) c.rotate-2.ensures.err
+
+pub returns-in_err-seal_checkpoint-clause-unfailing : goal.returns-in_err-seal_checkpoint-clause-unfailing
+returns-in_err-seal_checkpoint-clause-unfailing g c =
+    let q = err_from_is_err_and c.from_residual.result c.from_residual.ensures.1 in
+    rw (q.1, q.2) c.in_err-seal_checkpoint.ensures.unfailing
+
+pub returns-clause-counted : goal.returns-clause-counted
+returns-clause-counted g c = on_ok _ _ c.rotate-2.result (λ none. none ∙ c.in_ok-seal_checkpoint.ensures.counted) c.rotate-2.ensures.counted
+
+pub returns-clause-unfailing : goal.returns-clause-unfailing
+returns-clause-unfailing g c =
+    let failures = g.D.Disk.failures in
+    let k2 = c.rotate-2.new.keeper.disk in
+    let k1 = c.seal_checkpoint.new.keeper.disk in
+    if_err (λ e. e ≢ Failed → failures k2 ≡ failures k1) _ c.rotate-2.result (λ e none other. none other ∙ c.in_ok-seal_checkpoint.ensures.counted) c.rotate-2.ensures.unfailing

@@ -1,4 +1,4 @@
-use Rattle.std.proofs.Common.{◌≡◌, ◌+◌, inl, inr, refl, sym, ap, subst, ◌∙◌}
+use Rattle.std.proofs.Common.{◌≡◌, ℕ, ◌+◌, inl, inr, refl, sym, ap, subst, ◌∙◌}
 use Rattle.std.proofs.lemmas.Result.{err_from_is_err_and}
 use Rattle.java_hash.specs.declared.stripe_count.StripeCount.{StripeCount}
 use Rattle.java_hash.proofs.StripeLaws.{some_stripe}
@@ -6,7 +6,8 @@ use Rattle.one_history.specs.Turns.{opening_of}
 use Rattle.store_layout.specs.Opening.{map_of, prefix_of}
 use Rattle.recovery.specs.LogReading.{contents_of}
 use Rattle.recovery.specs.Upgrading.{IsUpgradeRefused, StaysStanding}
-use Rattle.recovery.proofs.SyncingLemmas.{read_is_left}
+use Rattle.recovery.proofs.RefusedBehind.{counted_behind}
+use Rattle.recovery.proofs.SyncingLemmas.{none_failed, read_is_left}
 use Rattle.recovery.proofs.Upgraded.{newest_before, refuses_behind, standing, unchanged, upgraded_kept, upgraded_before}
 use Rattle.recovery.proofs.upgrading.upgrade.Goals as goal
 
@@ -188,10 +189,22 @@ returns-in-Err-clause-refused g c =
     let count = ap (λ (s : StripeCount). s.count) c.in_ok-keeper.ensures.start.stripes_are in
     let after = c.upgrade_keeper.new.keeper.disk in
     let stays = standing states failures honest law n some disk k parts first limit ok after c.in_ok-keeper.ensures.calls c.upgrade_keeper.ensures.stands in
+    let none = none_failed states failures honest 4 disk k.disk c.in_ok-keeper.ensures.calls in
     let refused : IsUpgradeRefused states failures honest n disk after e = record {
       stays = stays;
+      counted = counted_behind _ _ _ _ _ _ e (failures disk) (failures after) (λ failing. failing ∙ ap (λ (x : ℕ). x + 1) none) (λ other. c.in-Err.ensures.unfailing other ∙ none) c.in-Err.ensures.err;
       reason = λ h.
           let at = c.upgrade_keeper.ensures.stands.was_honest h in
           ((ok at).0, refuses_behind states failures honest law n some disk k parts first limit ok after e c.in_ok-keeper.ensures.calls count at c.in-Err.ensures.err);
     } in
     inr (subst (λ d. IsUpgradeRefused states failures honest n disk d e) (sym c.into_disk-in-Err.ensures) refused)
+
+pub returns-then-is_newest-clause-unfailing : goal.returns-then-is_newest-clause-unfailing
+returns-then-is_newest-clause-unfailing g c =
+    let failures = g.D.Disk.failures in
+    ap failures c.into_disk.ensures ∙ none_failed g.D.Disk.states failures g.D.Disk.honest 4 c.args.disk c.in_ok-keeper.keeper.disk c.in_ok-keeper.ensures.calls
+
+pub returns-in-Ok-clause-unfailing : goal.returns-in-Ok-clause-unfailing
+returns-in-Ok-clause-unfailing g c =
+    let failures = g.D.Disk.failures in
+    ap failures c.into_disk-in-Ok.ensures ∙ c.in-Ok.ensures.counted ∙ none_failed g.D.Disk.states failures g.D.Disk.honest 4 c.args.disk c.in_ok-keeper.keeper.disk c.in_ok-keeper.ensures.calls

@@ -64,3 +64,8 @@ returns-clause-err g c =
     let Last : Type 0 = (k.log.generation ≡ k.sealed) ⊎ (k.log.generation ≡ k.sealed + 1) → IsLastGeneration k.log.generation in
     if_err _ (λ e. IsRefusedBehind Failing Last k.stripes.count o.map k.log.generation k.sealed e) c.rotate_sealed.result
     (λ e refused. behind Failing Failing (IsResting k.log → Last) Last k.stripes.count o.map k.log.generation k.sealed e (λ failing. failing) (λ last. last rests) (refused o is)) c.rotate_sealed.ensures.err
+
+pub returns-in_err-words-clause-unfailing : goal.returns-in_err-words-clause-unfailing
+returns-in_err-words-clause-unfailing g c =
+    let q = err_from_is_err_and c.from_residual.result c.from_residual.ensures.1 in
+    rw (q.1, q.2) (λ other. refl)
