@@ -5,6 +5,7 @@ pub mod Fitting
 pub mod After
 pub mod Due
 pub mod OpeningCases
+pub mod WorkerCases
 pub mod Cases
 pub mod Runs
 pub mod Sound
