@@ -34,8 +34,10 @@ pub trait Calls {
         ensures others { (other : Self.Held) → owns self.old other → owns self.new other };
 
     /// Whether `finish` will likely return without a wait. It is a hint, and no clause speaks of
-    /// it.
-    fn may_finish(&self, held: &Self::Held) -> bool;
+    /// it. Left out it says no; then the replies before it are written first.
+    fn may_finish(&self, _held: &Self::Held) -> bool {
+        false
+    }
 
     /// Answers a call that was begun.
     fn finish(&mut self, held: Self::Held) -> Result<Reply, Refusal>
