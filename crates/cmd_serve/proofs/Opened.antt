@@ -21,13 +21,14 @@ earlier Second is_not contents found of = absurd (is_not refl)
 
 module _ {D : Type 0} (states : D → List Files) (failures : D → ℕ) (honest : D → Type 0) where
   -- it was opened, and then upgraded
-  pub upgrades : (disk opened upgraded : D) → IsFound states failures honest IsEarlier disk opened → StaysStanding states failures honest opened upgraded
+  pub upgrades : (disk opened upgraded : D) → IsFound states failures honest IsEarlier disk opened → StaysStanding states failures honest opened upgraded → failures upgraded ≡ failures opened
       → (honest upgraded → (found : FoundStore) → Holds (contents_of states opened) found → IsUpgraded (prefix_of found) (map_of found) (contents_of states upgraded))
       → Upgrades states failures honest disk upgraded
-  upgrades disk opened upgraded is stays reads = record {
+  upgrades disk opened upgraded is stays unfailing reads = record {
     opened = opened;
     is_earlier = is;
     stays = stays;
+    unfailing = unfailing;
     stands = λ h. let kept = stays.keeps h in (kept.found, (kept.holds, reads h kept.found kept.holds));
   }
 

@@ -20,12 +20,13 @@ pub record IsFound {D : Type 0} (states : D → List Files) (failures : D → �
   pub holds : honest opened → honest old
       × ((found : Opened) × (Holds (contents_of states old) found × Is (contents_of states old) found))
 
--- The disk was opened, its newest log was in an earlier version, and it was upgraded. On an honest disk no stop loses the
--- map that it stood for, and afterwards it stands for the same.
+-- The disk was opened, its newest log was in an earlier version, and it was upgraded; no device call failed. On an honest
+-- disk no stop loses the map that it stood for, and afterwards it stands for the same.
 pub record Upgrades {D : Type 0} (states : D → List Files) (failures : D → ℕ) (honest : D → Type 0) (old upgraded : D) : Type 0 where
   pub opened : D
   pub is_earlier : IsFound states failures honest IsEarlier old opened
   pub stays : StaysStanding states failures honest opened upgraded
+  pub unfailing : failures upgraded ≡ failures opened
   pub stands : honest upgraded → (found : Opened)
       × (Holds (contents_of states opened) found × IsUpgraded (prefix_of found) (map_of found) (contents_of states upgraded))
 

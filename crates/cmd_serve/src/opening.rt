@@ -8,6 +8,7 @@ ghost use Rattle.cmd_serve.specs.Opening.{IsNotOpenedNewest, IsOpenedNewest};
 use disk_model::Disk;
 use durable_map::DurableMap;
 use java_hash::StripeCount;
+use log::{Log, info};
 use map_model::laws::laws_of_parts;
 use map_types::Refusal;
 use recovery::{open_parts, upgrade};
@@ -15,10 +16,12 @@ use std::alloc::Global;
 use store_layout::NEW_VERSION;
 
 /// The map of the directory, and how many commands it begins with. If the newest log is of an earlier
-/// version, the directory is upgraded and opened again. Else it is opened once, which writes nothing.
+/// version, the directory is upgraded, the log has a record of it, and the directory is opened again.
+/// Else it is opened once, which writes nothing.
 /// Refused as `open_parts` and `upgrade` are; or with `NoMemory`, or with `SeatsSpent` if the keeper's
 /// pass can't be had. The disk is handed back with a refusal.
-pub(crate) fn open_map<D: Disk + Drop>(
+pub(crate) fn open_map<D: Disk + Drop, L: Log>(
+    rt: &L,
     alloc: Global,
     disk: D,
     stripes: StripeCount,
@@ -44,6 +47,8 @@ pub(crate) fn open_map<D: Disk + Drop>(
     }
     drop(parts);
     let upgraded = upgrade(alloc, keeper.into_disk(), stripes)?;
+    let version = NEW_VERSION.byte();
+    info!(rt; "upgraded to version {version}");
     let (keeper, parts, first, limit) = open_parts(alloc, upgraded, stripes)?;
     let map = DurableMap::new(alloc, keeper, parts, first, limit)?;
     Ok((map, first))

@@ -188,7 +188,7 @@ pub(crate) fn serve_disk<
     ensures { Hosts D.states D.failures D.honest settings.now.stripes.count settings.now.port
         disk (W.contents output.old) (W.contents output.new) result }
 {
-    match open_map(alloc, disk, settings.stripes) {
+    match open_map(rt, alloc, disk, settings.stripes) {
         Ok((map, first)) => {
             if let Err(refusal) = map.set_log_ahead(rt, settings.ahead as usize) {
                 return refuse(alloc, refusal, error);
@@ -221,8 +221,8 @@ pub(crate) fn serve_disk<
 /// `error` if the directory's lock or files, the port or `output` fail. It is 1 with `refused` and
 /// the refusal if the directory can't be opened or no memory is found. An Error record has the
 /// cause of what the system refused. Once it listens it prints `listening` and the port, and writes
-/// a record of how many commands the map begins with. If the store fails later, one Error record
-/// says why.
+/// a record of how many commands the map begins with. An upgrade has a record too. If the store fails
+/// later, one Error record says why.
 pub fn serve<
     R: Net<Listener = TcpListener, Stream = TcpStream> + Clock + Log + Threads + Wait + Sync,
     M: Directories,

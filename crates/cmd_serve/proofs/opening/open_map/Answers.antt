@@ -92,7 +92,7 @@ returns-in_err-keeper-2-clause-err g c =
     let d = c.into_disk.result in
     let is_earlier = subst (λ x. IsFound states failures honest IsEarlier disk x) (sym c.into_disk.ensures) found in
     let u = c.in_ok-upgraded in
-    let up = upgrades states failures honest disk d u.upgraded is_earlier u.ensures.ok u.ensures.reads in
+    let up = upgrades states failures honest disk d u.upgraded is_earlier u.ensures.ok u.ensures.unfailing u.ensures.reads in
     let q = err_from_is_err_and c.from_residual-in_err-keeper-2.result c.from_residual-in_err-keeper-2.ensures.1 in
     let e = c.in_err-keeper-2.ensures in
     rw (q.1, q.2) (inr (not_opened u.upgraded (inr up) (record { stopped = e.stopped; reason = e.err })))
@@ -114,7 +114,7 @@ returns-in_err-map-2-clause-err g c =
     let d = c.into_disk.result in
     let is_earlier = subst (λ x. IsFound states failures honest IsEarlier disk x) (sym c.into_disk.ensures) found in
     let u = c.in_ok-upgraded in
-    let up = upgrades states failures honest disk d u.upgraded is_earlier u.ensures.ok u.ensures.reads in
+    let up = upgrades states failures honest disk d u.upgraded is_earlier u.ensures.ok u.ensures.unfailing u.ensures.reads in
     let l = c.in_ok-keeper-2 in
     let again = found_again states failures honest disk u.upgraded l.keeper.disk up l.ensures.calls l.ensures.stops (λ h. (l.ensures.ok h).0) in
     let opened : IsOpenedNewest states failures honest disk l.keeper.disk = record { ready = u.upgraded; is_ready = inr up; is_newest = again } in
@@ -139,7 +139,7 @@ returns-clause-ok g c =
     let d = c.into_disk.result in
     let is_earlier = subst (λ x. IsFound states failures honest IsEarlier disk x) (sym c.into_disk.ensures) found in
     let u = c.in_ok-upgraded in
-    let up = upgrades states failures honest disk d u.upgraded is_earlier u.ensures.ok u.ensures.reads in
+    let up = upgrades states failures honest disk d u.upgraded is_earlier u.ensures.ok u.ensures.unfailing u.ensures.reads in
     let l = c.in_ok-keeper-2 in
     let again = found_again states failures honest disk u.upgraded l.keeper.disk up l.ensures.calls l.ensures.stops (λ h. (l.ensures.ok h).0) in
     let opened : IsOpenedNewest states failures honest disk l.keeper.disk = record { ready = u.upgraded; is_ready = inr up; is_newest = again } in (
