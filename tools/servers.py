@@ -1,8 +1,7 @@
-"""What bench/ and tests/ share: requests and replies of both protocols, and the servers' processes."""
+"""What bench/ and tests/ share: requests and replies, and the servers' processes."""
 import contextlib
 import os
 import random
-import re
 import resource
 import select
 import shutil
@@ -68,35 +67,6 @@ class Dchm:
         if kind != "merge" and reply == b"\x00\x02" + status + b"\x00":
             return None
         raise ValueError(f"reply to {kind}: {reply.hex(' ')}")
-
-
-class Redis:
-    """GET, SET and INCRBY, as arrays of bulk strings."""
-    WORDS = {"get": b"GET", "put": b"SET", "merge": b"INCRBY"}
-    NUMBER = re.compile(rb":(-?\d+)\r\n")
-    BULK = re.compile(rb"\$(\d+)\r\n(-?\d+)\r\n")
-
-    @classmethod
-    def request(cls, kind, key, number=None):
-        words = [cls.WORDS[kind], key] + ([] if kind == "get" else [b"%d" % number])
-        return b"*%d\r\n" % len(words) + b"".join(b"$%d\r\n%s\r\n" % (len(word), word) for word in words)
-
-    @staticmethod
-    def is_whole(reply):
-        """A bulk string has two lines (here each is a number's), any other reply has one."""
-        lines = 2 if reply[:1] == b"$" and reply[1:2] != b"-" else 1
-        return reply[-2:] == b"\r\n" and reply.count(b"\r\n") >= lines
-
-    @classmethod
-    def number(cls, kind, reply):
-        """The number that the reply tells; None if it tells none."""
-        if kind == "merge" and (found := cls.NUMBER.fullmatch(reply)):
-            return int(found[1])
-        if kind == "get" and (found := cls.BULK.fullmatch(reply)) and int(found[1]) == len(found[2]):
-            return int(found[2])
-        if (kind, reply) in (("get", b"$-1\r\n"), ("put", b"+OK\r\n")):
-            return None
-        raise ValueError(f"reply to {kind}: {reply!r}")
 
 
 class Connection:
