@@ -68,4 +68,3 @@ loop-preserved g c =
           let now = inv.unmoved first.0 first.1 first.2 first.3 in
           logs_counted states honest first.0 first.1 k first.2 now g.D.Disk.failures new c.advance.result c.advance.ensures.rests c.advance.ensures.steps c.in_ok-_phase._phase c.in_ok-_phase.was ∙ inv.counted;
     }
-
