@@ -9,8 +9,9 @@ use Rattle.map_types.specs.declared.refusals.Refusal.{Refusal}
 use Rattle.map_types.specs.declared.refusals.Refusal.TheVariants.{AlreadyFormatted, Failed, NoMemory}
 use Rattle.disk_model.specs.Files.{Files, now}
 use Rattle.disk_model.specs.Moments.{AtEachMoment}
+use Rattle.store_layout.specs.Logs.{new_layout}
 use Rattle.store_layout.specs.Opening.{Contents, Opened, Holds, map_of, prefix_of}
-use Rattle.recovery.specs.Formatting.{AtStops, IsFormatted, IsNew, IsNewOrUnformatted, IsUnformatted}
+use Rattle.recovery.specs.Formatting.{AtStops, IsFormatted, IsNew, IsNewOrUnformatted, IsUnformatted, IsWrittenIn}
 use Rattle.recovery.specs.Opening.{IsNotOpened}
 use Rattle.recovery.specs.LogReading.{contents_of}
 use Rattle.recovery.specs.Syncing.{SyncsAndLooks}
@@ -39,12 +40,15 @@ CannotFormat states failures honest old new refusal =
     ((refusal ≡ Failed) × (failures new ≡ failures old + 1))
     ⊎ ((refusal ≡ NoMemory) ⊎ ((refusal ≡ AlreadyFormatted) × (honest new → IsFormatted (contents_of states old))))
 
--- The disk wasn't formatted before, and no device call failed. Whatever a stop leaves now is a new store of `stripes` stripes, and the line names that
--- number.
+-- The disk wasn't formatted before, and no device call failed. Whatever a read gives or a stop leaves now is a new store of `stripes` stripes, in files of
+-- the newest version, and the line names that number.
 pub record IsMade {D : Type 0} (states : D → List Files) (failures : D → ℕ) (honest : D → Type 0) (stripes : ℕ) (old new : D) (w0 w1 : Option (List ℕ)) (status : ℕ) : Type 0 where
   pub unformatted : honest new → IsUnformatted (contents_of states old)
   pub unfailing : failures new ≡ failures old
   pub stands : honest new → AtStops (IsNew stripes) (now (states new))
+  pub written : honest new → AtStops (IsWrittenIn new_layout) (now (states new))
+  pub reads : honest new → IsNew stripes (contents_of states new)
+  pub read_in : honest new → IsWrittenIn new_layout (contents_of states new)
   pub prints : Prints (formatted_line stripes) w0 w1 status
 
 -- formatting was refused for a reason, and but for a device failure nothing was written

@@ -24,6 +24,9 @@ returns-in-Ok-format g c =
         unformatted = λ honest. made.unformatted honest (λ e. absurd cc) (λ e. absurd cc);
         unfailing = let same = made.failures in omega (arith, same);
         stands = made.ok;
+        written = made.written;
+        reads = made.reads;
+        read_in = made.read_in;
         prints = subst (λ (text : List ℕ). Prints text (g.W.Write.contents c.args.output.now) (g.W.Write.contents c.print.new.output) c.print.result) line c.print.ensures;
       });
     }
