@@ -1,6 +1,7 @@
 -- What the words of `dchm call` ask for, and what came of it.
 use Rattle.std.specs.Prelude.{◌≡◌, ◌⊎◌, ℕ, Bool, true, false, List, [], ◌∷◌, None, Some, Result, MatchResult, codes}
 use Rattle.std.specs.Str.{bytes_eq}
+use Rattle.std.specs.declared.io.Error.{Error}
 use Rattle.call_text.specs.Names.{Text}
 use Rattle.call_text.specs.Whole.{parse_words}
 use Rattle.wire_frames.specs.declared.receiving.ReplyError.{ReplyError}
@@ -16,14 +17,16 @@ asks_lines [] = false
 asks_lines (word ∷ []) = bytes_eq word (codes "-")
 asks_lines (word ∷ next ∷ words) = false
 
--- IsConnected says of a reader and a writer that they are the ends of a new connection to a port. Fails says that reading a reply ended with an error, of what the reader had left before and has left then.
-module _ {R W : Type 0} (Fails : Known → Known → ReplyError → Type 0) (remaining : R → Known) (contents : W → Known) (IsConnected : ℕ → R → W → Type 0) where
-  -- a new connection to the port; or none, if no server can be reached
+-- IsConnected says of a reader and a writer that they are the ends of a new connection to a port. IsUnreachable says that a connection to a port was tried,
+-- and there was none, for an error. Fails says that reading a reply ended with an error, of what the reader had left before and has left then.
+module _ {R W : Type 0} (Fails : Known → Known → ReplyError → Type 0) (remaining : R → Known) (contents : W → Known) (IsConnected : ℕ → R → W → Type 0)
+    (IsUnreachable : ℕ → Error → Type 0) where
+  -- a new connection to the port; or none, as one was tried and couldn't be had, for an error
   abbrev pub Connects : ℕ → Ends → Type 0
-  Connects port None = Unit {0}
+  Connects port None = (error : Error) × IsUnreachable port error
   Connects port (Some ends) = (reader : R) × (writer : W) × IsConnected port reader writer × (ends ≡ (remaining reader, contents writer))
 
-  -- the lines of the input were answered over such a connection; if memory, the input or the output failed, the status is 1
+  -- the lines of the input were answered over such a connection, or without one; if memory, the input or the output failed, the status is 1
   pub record AnswersAt (port : ℕ) (i0 i1 o0 o1 : Known) (status : ℕ) : Type 0 where
     pub ends : Ends
     pub result : Result ℕ Stop
@@ -40,4 +43,4 @@ module _ {R W : Type 0} (Fails : Known → Known → ReplyError → Type 0) (rem
   -- for one call nothing is read of the input
   pub record MakesCalls (word : List ℕ) (words : List Text) (i0 i1 o0 o1 : Known) (status : ℕ) : Type 0 where
     pub lines : asks_lines words ≡ true → CallsLines word i0 i1 o0 o1 status
-    pub one : asks_lines words ≡ false → (i1 ≡ i0) × CallsServer remaining contents IsConnected word (parse_words words) o0 o1 status
+    pub one : asks_lines words ≡ false → (i1 ≡ i0) × CallsServer remaining contents IsConnected IsUnreachable word (parse_words words) o0 o1 status

@@ -27,7 +27,7 @@ pub fn call_lines<M: Servers, I: Read, W: Write, E: Write>(
     error: &mut E,
 ) -> u8
     ensures { CallsLines M.Reader.fails M.Reader.remaining M.Writer.contents M.is_connected
-        port.now (I.remaining input.old) (I.remaining input.new)
+        M.is_unreachable port.now (I.remaining input.old) (I.remaining input.new)
         (W.contents output.old) (W.contents output.new) result }
 {
     let Some(port) = port_named(port) else {
@@ -63,7 +63,7 @@ pub fn make_calls<M: Servers, I: Read, W: Write, E: Write>(
     error: &mut E,
 ) -> u8
     ensures { MakesCalls M.Reader.fails M.Reader.remaining M.Writer.contents M.is_connected
-        port.now (map (λ word. word.now) words.now)
+        M.is_unreachable port.now (map (λ word. word.now) words.now)
         (I.remaining input.old) (I.remaining input.new)
         (W.contents output.old) (W.contents output.new) result }
 {

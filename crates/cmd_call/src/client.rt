@@ -1,7 +1,7 @@
 //! A call of a server: its request is sent, and its reply is printed.
 ghost use Rattle.std.specs.Prelude.{◌≡◌, IfNone, IfOk, IfSome, map, string_bytes};
 ghost use Rattle.call_text.specs.Whole.{parse_words};
-ghost use Rattle.cmd_call.specs.Client.{AsksServer, CallsServer, Exchanges, IsReplyLine, PrintsReply, keyed_request, request_of};
+ghost use Rattle.cmd_call.specs.Client.{AsksServer, CallsAtPort, CallsServer, Exchanges, IsReplyLine, PrintsReply, keyed_request, request_of};
 
 use crate::servers::Servers;
 use call_text::{Asked, BadWord, CallError, Called, parse_words, reply_text};
@@ -130,6 +130,26 @@ fn misuse<E: Write>(alloc: Global, word: BadWord, error: &mut E) -> u8
     MISUSED
 }
 
+/// Sends the request to the server at the port of this machine, and prints its reply.
+fn ask_at<M: Servers, W: Write, E: Write>(
+    machine: &M,
+    alloc: Global,
+    port: u16,
+    request: &Request,
+    output: &mut W,
+    error: &mut E,
+) -> u8
+    ensures { CallsAtPort M.Reader.remaining M.Writer.contents M.is_connected M.is_unreachable port
+        request.now (W.contents output.old) (W.contents output.new) result }
+{
+    match machine.connect_to(port) {
+        Ok((mut reader, mut writer)) => {
+            ask(alloc, &mut reader, &mut writer, request, output, error)
+        }
+        Err(_) => give_up(alloc, Unanswered::NoReply, error),
+    }
+}
+
 /// Sends what the words ask for to the server at the port of this machine, and prints its reply.
 pub fn call<M: Servers, W: Write, E: Write>(
     machine: &M,
@@ -139,8 +159,8 @@ pub fn call<M: Servers, W: Write, E: Write>(
     output: &mut W,
     error: &mut E,
 ) -> u8
-    ensures { CallsServer M.Reader.remaining M.Writer.contents M.is_connected port.now
-        (parse_words (map (λ word. word.now) words.now)) (W.contents output.old)
+    ensures { CallsServer M.Reader.remaining M.Writer.contents M.is_connected M.is_unreachable
+        port.now (parse_words (map (λ word. word.now) words.now)) (W.contents output.old)
         (W.contents output.new) result }
 {
     let request = match parse_words(alloc, words) {
@@ -156,12 +176,7 @@ pub fn call<M: Servers, W: Write, E: Write>(
     let Some(request) = request else {
         return refuse(alloc, Refusal::NoMemory, error);
     };
-    let status = match machine.connect_to(port) {
-        Ok((mut reader, mut writer)) => {
-            ask(alloc, &mut reader, &mut writer, &request, output, error)
-        }
-        Err(_) => give_up(alloc, Unanswered::NoReply, error),
-    };
+    let status = ask_at(machine, alloc, port, &request, output, error);
     drop(request);
     status
 }

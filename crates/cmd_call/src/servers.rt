@@ -1,5 +1,6 @@
 //! How a server is reached.
 ghost use Rattle.std.specs.Prelude.{ℕ, List, Option, IfErr, IfOk};
+ghost use Rattle.std.specs.declared.io.Error.{Error};
 ghost use Rattle.wire_frames.specs.declared.receiving.ReplyError.{ReplyError};
 ghost use Rattle.wire_frames.specs.Receiving.{ReadsReply};
 
@@ -33,7 +34,8 @@ impl<R: Read> Replies for R {
 }
 
 /// Connects to the servers of this machine. What a call of one does is proved for every type that
-/// connects: a reader and a writer come of this call alone.
+/// connects: a reader and a writer come of this call alone, and so does the error of a connection
+/// that can't be had.
 pub trait Servers {
     /// The end of a connection that gives what the server sends.
     type Reader: Replies + Drop;
@@ -44,18 +46,25 @@ pub trait Servers {
     /// These are the ends of a new connection to this port.
     ghost is_connected: { ℕ → Self.Reader → Self.Writer → Type 0 };
 
+    /// A connection to this port was tried, and there was none, for this error.
+    ghost is_unreachable: { ℕ → Error → Type 0 };
+
     /// A new connection to the port.
     fn connect_to(&self, port: u16) -> io::Result<(Self::Reader, Self::Writer)>
-        ensures { IfOk result (λ ends. is_connected port ends.0 ends.1) };
+        ensures connected { IfOk result (λ ends. is_connected port ends.0 ends.1) }
+        ensures unreachable { IfErr result (λ error. is_unreachable port error) };
 }
 
-/// The servers that the system reaches. To which port a socket is connected, no contract can tell.
+/// The servers that the system reaches. To which port a socket is connected, and what the system
+/// refuses, no contract can tell.
 impl<N: Net<Stream = TcpStream>> Servers for N {
     type Reader = TcpStream;
 
     type Writer = TcpStream;
 
     ghost is_connected = { λ port reader writer. Unit {0} };
+
+    ghost is_unreachable = { λ port error. Unit {0} };
 
     fn connect_to(&self, port: u16) -> io::Result<(TcpStream, TcpStream)> {
         let reader = TcpStream::connect(self, ("127.0.0.1", port))?;

@@ -100,8 +100,8 @@ pub fn dchm<T: Host, M: Directories + Servers, R: Read, W: Write, E: Write>(
 ) -> u8
     ensures { Ran M.Opened.states M.Opened.failures M.Opened.honest M.is_opened M.is_created
         M.is_refused M.Reader.fails M.Reader.remaining M.Writer.contents M.is_connected
-        (map string_bytes words.now) (R.remaining input.old) (R.remaining input.new)
-        (W.contents output.old) (W.contents output.new) result }
+        M.is_unreachable (map string_bytes words.now) (R.remaining input.old)
+        (R.remaining input.new) (W.contents output.old) (W.contents output.new) result }
 {
     match order_of(alloc, words) {
         Ok(Order::Mem) => mem(rt, alloc, input, output, error),
