@@ -1,5 +1,6 @@
 //! Directories as they are opened and formatted.
 use crate::disks::{content, disk_of, plan};
+use crate::fills::{failure_of, stop};
 use atomic_methods::Part;
 use call_text::refusal_text;
 use disk_model::{Disk, MemDisk};
@@ -8,7 +9,7 @@ use java_hash::StripeCount;
 use map_types::Refusal;
 use recovery::{format, open_parts};
 use run_cases::{Names, put_entries};
-use std::alloc::Global;
+use std::alloc::{AllocError, Global};
 
 fn stripes_of(word: &str) -> Result<StripeCount, Refusal> {
     let Ok(count) = word.parse::<u16>() else {
@@ -91,4 +92,65 @@ pub(crate) fn formatted(alloc: Global, names: &Names, words: &[&str]) -> Result<
     let files = format_text(alloc, &mut disk, stripes_of(stripes)?)?;
     let then = open(alloc, disk, stripes_of(others)?)?;
     Ok(format!(in alloc; "{files}; {then}")?)
+}
+
+// What is opened of new files, if the device fails after `after` calls that format them for `stripes`
+// stripes. A write that fails leaves what `failing` says, and a stop what `stopping` does.
+fn opened_left(
+    alloc: Global,
+    stripes: StripeCount,
+    after: &str,
+    failing: &str,
+    stopping: &str,
+) -> Result<String, Refusal> {
+    let mut disk = MemDisk::new(alloc);
+    disk.plan(failure_of(alloc, after, failing)?);
+    if format(alloc, &mut disk, stripes) != Err(Refusal::Failed) {
+        return Err(Refusal::WrongPhase);
+    }
+    stop(alloc, &mut disk, stopping)?;
+    open(alloc, disk, stripes)
+}
+
+// Adds the text to what was told, unless it is just that.
+fn tell(text: &str, told: &mut String) -> Result<(), AllocError> {
+    if told.as_str() == text {
+        return Ok(());
+    }
+    if !told.is_empty() {
+        told.push_str(" or ")?;
+    }
+    told.push_str(text)
+}
+
+// Tells what is opened after each of the stops that `stoppings` says.
+fn tell_stops(
+    alloc: Global,
+    stripes: StripeCount,
+    after: &str,
+    failing: &str,
+    stoppings: &str,
+    told: &mut String,
+) -> Result<(), Refusal> {
+    for stopping in stoppings.split('/') {
+        let text = opened_left(alloc, stripes, after, failing, stopping)?;
+        tell(text.as_str(), told)?;
+    }
+    Ok(())
+}
+
+/// What is opened under `stripes` stripes, if the machine is stopped within a call that formats new
+/// files, or after that call failed. The second word says how many calls came before it. A write that
+/// fails leaves what the third says, and a stop what the fourth does: each has fills with `/` between
+/// them, and all pairs of them are tried.
+pub(crate) fn store_left(alloc: Global, words: &[&str]) -> Result<String, Refusal> {
+    let [stripes, after, failings, stoppings] = words else {
+        return Err(Refusal::WrongPhase);
+    };
+    let stripes = stripes_of(stripes)?;
+    let mut told = String::new(alloc);
+    for failing in failings.split('/') {
+        tell_stops(alloc, stripes, after, failing, stoppings, &mut told)?;
+    }
+    Ok(told)
 }

@@ -1,7 +1,7 @@
 //! What is done in a case, by its kind.
 use crate::checkpoint_writing::{checkpoint_left, checkpoint_written, seal_left};
 use crate::checkpoints::{fronts_loaded, loaded};
-use crate::directories::{formatted, opened};
+use crate::directories::{formatted, opened, store_left};
 use crate::disk_steps::stepped;
 use crate::log_writing::{log_ended, log_resumed, log_written};
 use crate::logs::scanned;
@@ -30,6 +30,7 @@ fn come_of(
         "left_seals" => seal_left(alloc, words),
         "directories" => opened(alloc, names, words),
         "formatting" => formatted(alloc, names, words),
+        "left_stores" => store_left(alloc, words),
         _ => Err(Refusal::WrongPhase),
     }
 }
