@@ -32,7 +32,7 @@ short_unsealed content h = grind (arith, nat_tests)
 -- ---- the closing of the gate
 
 -- of a file of which one write of the first byte is pending
-closing_leaves : (old : List ℕ) (file : File) → drop 1 file.seen ≡ drop 1 old → file.pending ≡ record { at = 0; size = 1 } ∷ [] → file.base ≡ old → file.greatest ≡ max (length old) 1
+closing_leaves : (old : List ℕ) (file : File) → drop 1 file.seen ≡ drop 1 old → file.pending ≡ record { at = 0; bytes = 0 ∷ [] } ∷ [] → file.base ≡ old → file.greatest ≡ max (length old) 1
     → is_to_close old ≡ true → (content : List ℕ) → MayLeave file content → (content ≡ old) ⊎ (is_sealed content ≡ false)
 closing_leaves [] file behind pending base greatest opens content left = inr (short_unsealed content (omega (arith, left.no_longer, greatest)))
 closing_leaves (gate ∷ rest) file behind pending base greatest opens content left =
@@ -66,7 +66,7 @@ closed_written old opens = record {
   leaves = closing_leaves old (written 0 (0 ∷ []) (at_rest old)) refl refl refl refl opens;
 }
 
-pub closed_torn : (old : List ℕ) (torn : File) → is_to_close old ≡ true → IsTorn 0 1 (at_rest old) torn
+pub closed_torn : (old : List ℕ) (torn : File) → is_to_close old ≡ true → IsTorn 0 (0 ∷ []) (at_rest old) torn
     → (content : List ℕ) → MayLeave torn content → (content ≡ old) ⊎ (is_sealed content ≡ false)
 closed_torn old torn opens tears = closing_leaves old torn tears.after tears.pending tears.base tears.greatest opens
 
@@ -105,7 +105,7 @@ shut_more behind bytes old shut =
       seen = ap (λ n. overwritten n bytes old.seen) size ∙ ap (λ (l : List ℕ). overwritten (length before) bytes l) shut.seen
           ∙ overwritten_at before shut.rest bytes ∙ ap (λ (l : List ℕ). shut.gate ∷ l) (sym (append_assoc behind bytes (drop (length bytes) shut.rest)));
       closed = shut.closed;
-      sure = sure_reached 0 1 (1 + length behind) (length bytes) (overwritten (1 + length behind) bytes old.seen) old (inl (omega arith)) shut.sure;
+      sure = sure_reached 0 1 (1 + length behind) bytes (overwritten (1 + length behind) bytes old.seen) old (inl (omega arith)) shut.sure;
     }
 
 -- the bytes right behind the gate are written over
@@ -120,7 +120,7 @@ shut_over bytes space behind old same shut =
           ∙ ap (λ (l : List ℕ). before ++ (bytes ++ l)) (drop_at space (behind ++ shut.rest) (length bytes) (sym same))
           ∙ ap (λ (l : List ℕ). shut.gate ∷ l) (sym (append_assoc bytes behind shut.rest));
       closed = shut.closed;
-      sure = sure_reached 0 1 1 (length bytes) (overwritten 1 bytes old.seen) old (inl (omega arith)) shut.sure;
+      sure = sure_reached 0 1 1 bytes (overwritten 1 bytes old.seen) old (inl (omega arith)) shut.sure;
     }
 
 -- what is behind the gate decides nothing
@@ -128,15 +128,15 @@ pub shut_less : (behind : List ℕ) (file : File) → IsShut [] behind file → 
 shut_less behind file shut = record { gate = shut.gate; rest = behind ++ shut.rest; seen = shut.seen; closed = shut.closed; sure = shut.sure }
 
 -- a write behind the gate fails
-pub shut_torn_behind : (at size : ℕ) (old new : File) → 1 ≤ at → IsShut [] [] old → IsTorn at size old new → IsShut [] [] new
-shut_torn_behind at size old new h shut torn =
+pub shut_torn_behind : (at : ℕ) (bytes : List ℕ) (old new : File) → 1 ≤ at → IsShut [] [] old → IsTorn at bytes old new → IsShut [] [] new
+shut_torn_behind at bytes old new h shut torn =
     let kept : new.seen ≡ shut.gate ∷ drop 1 new.seen = front_kept new.seen old.seen at h torn.before shut.seen in
     record {
       gate = shut.gate;
       rest = drop 1 new.seen;
       seen = kept;
       closed = shut.closed;
-      sure = sure_torn 0 1 at size old new torn (inl h) shut.sure;
+      sure = sure_torn 0 1 at bytes old new torn (inl h) shut.sure;
     }
   where
     front_kept : (new old : List ℕ) (at : ℕ) → 1 ≤ at → take at new ≡ take at old → old ≡ shut.gate ∷ shut.rest → new ≡ shut.gate ∷ drop 1 new

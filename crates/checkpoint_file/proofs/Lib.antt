@@ -2,7 +2,7 @@ mod Bounds
 pub mod Versions
 mod FileSteps
 mod EntryLemmas
-mod StandingLemmas
+pub mod StandingLemmas
 mod CallLemmas
 mod AdvanceLemmas
 mod StagingLemmas

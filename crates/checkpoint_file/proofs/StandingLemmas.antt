@@ -234,25 +234,25 @@ module _ (w : CheckpointState) (sections : List Section) (knows : HasGiven w sec
   FailsIn None old new = ⊥
   FailsIn (Some call) old new = MayFailTo call old new
 
-  filled_torn : (before : List Section) (at size : ℕ) (file new : File) (content : List ℕ) → 1 ≤ at → IsFilled before file → IsTorn at size file new → MayLeave new content → is_sealed content ≡ false
-  filled_torn before at size file new content h filled torn left =
-      shut_leaves [] new content (shut_torn_behind at size file new h (shut_less (filled.space ++ sections_bytes new_layout before) file filled.shut) torn) left
+  filled_torn : (before : List Section) (at : ℕ) (bytes : List ℕ) (file new : File) (content : List ℕ) → 1 ≤ at → IsFilled before file → IsTorn at bytes file new → MayLeave new content → is_sealed content ≡ false
+  filled_torn before at bytes file new content h filled torn left =
+      shut_leaves [] new content (shut_torn_behind at bytes file new h (shut_less (filled.space ++ sections_bytes new_layout before) file filled.shut) torn) left
 
   failed_reads_in : (phase : CheckpointPhase) (old : List ℕ) (file new : File) → AtPhase phase w old sections file → FailsIn (call_in phase w) file new
       → (content : List ℕ) → MayLeave new content → MayRead phase w old sections content
   failed_reads_in Idle old file new at fails content left = absurd fails
-  failed_reads_in Gate old file new at fails content left = closed_torn old new at.2 (subst (λ f. IsTorn 0 1 f new) at.1 fails) content left
+  failed_reads_in Gate old file new at fails content left = closed_torn old new at.2 (subst (λ f. IsTorn 0 (0 ∷ []) f new) at.1 fails) content left
   failed_reads_in GateWritten old file new at fails content left = at.1.leaves content (subst (λ f. MayLeave f content) fails left)
   failed_reads_in GateSynced old file new at fails content left =
-      shut_leaves [] new content (shut_torn_behind 1 (length {A = ℕ} (replicate 35 0)) file new (omega arith) at.1 fails) left
+      shut_leaves [] new content (shut_torn_behind 1 (replicate 35 0) file new (omega arith) at.1 fails) left
   failed_reads_in Ready old file new at fails content left = absurd fails
   failed_reads_in Staged old file new at fails content left =
-      filled_torn at.before (36 + w.body) (length w.section) file new content (omega arith) at.filled fails left
-  failed_reads_in Header old file new at fails content left = filled_torn sections 1 (length header) file new content (omega arith) at.1.filled fails left
+      filled_torn at.before (36 + w.body) w.section file new content (omega arith) at.filled fails left
+  failed_reads_in Header old file new at fails content left = filled_torn sections 1 header file new content (omega arith) at.1.filled fails left
   failed_reads_in HeaderWritten old file new at fails content left =
       shut_leaves (written_of w sections) file content at.1 (subst (λ f. MayLeave f content) fails left)
   failed_reads_in HeaderSynced old file new at fails content left =
-      opening_leaves new content at.0 (opening_torn [] (written_of w sections) file new at.2 fails) left
+      opening_leaves new content at.0 (opening_torn [] (written_of w sections) 165 file new at.2 fails) left
   failed_reads_in Opened old file new at fails content left = opening_leaves file content at.0 at.1 (subst (λ f. MayLeave f content) fails left)
   failed_reads_in Sealed old file new at fails content left = absurd fails
 

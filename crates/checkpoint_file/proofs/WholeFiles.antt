@@ -11,6 +11,7 @@ use Rattle.map_types.specs.declared.refusals.Refusal.TheVariants.{Damaged, Faile
 use Rattle.log_records.specs.Layout.{Layout, layout_of}
 use Rattle.log_records.specs.Agreement.{IsBytes}
 use Rattle.store_layout.specs.Checkpoints.{Section, AreMarkedFrom, AreSections, IsCheckpoint, greatest_mark, sections_bytes}
+use Rattle.store_layout.specs.Failures.{IsFileRefused}
 use Rattle.store_layout.specs.Faults.{HasFault, IsBadCheckpoint, bad_size, bad_section, bad_marks, body_in, body_length_in, greatest_in, low_in, left_over, size_fault, stripes_in, version_in}
 use Rattle.store_layout.proofs.CheckpointLemmas.{greatest_push, marks_push}
 use Rattle.store_layout.proofs.CheckpointReading.{fields_make}
@@ -159,6 +160,12 @@ module _ (file : ℕ) (content : List ℕ) (head : Head) (is : IsHead head file 
         (λ i. record { generation = sym (generation ∙ is.fields.generation) i; low = sym (low ∙ is.fields.low) i; stripes = sym named i; sections = sections }) made
 
 -- ---- refusals
+
+-- whatever the reason, the file is damaged
+pub place_refused : (file : ℕ) (Reason : ℕ → Type 0) (refusal : Refusal) → RefusesIn file Reason refusal → IsFileRefused file refusal
+place_refused file Reason refusal (inl failed) = inl failed
+place_refused file Reason refusal (inr (inl memory)) = inr (inl memory)
+place_refused file Reason refusal (inr (inr damaged)) = inr (inr (inr (damaged.0, damaged.1)))
 
 size_refused_by : (file : ℕ) (content : List ℕ) (head : Head) (H : Type 0) (refusal : Refusal) → (H → HasFields head content → size_fault file content ≡ Some refusal)
     → H → IsHead head file content → IsBadCheckpoint (layout_of head.version) file content refusal

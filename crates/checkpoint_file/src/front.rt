@@ -3,6 +3,7 @@ ghost use Rattle.std.specs.Prelude.{◌≡◌, ◌⊎◌, ℕ, ◌+◌, ◌<◌,
 ghost use Rattle.disk_model.specs.Calls.{Looks};
 ghost use Rattle.file_pieces.specs.Counting.{Made, ReadsPieces, ReadsAtMost};
 ghost use Rattle.file_pieces.specs.Pieces.{Holds, end_of};
+ghost use Rattle.store_layout.specs.Failures.{IsFileRefused};
 ghost use Rattle.checkpoint_file.specs.Heads.{failed_in};
 ghost use Rattle.checkpoint_file.specs.Loads.{seen_in, StandsAt, ForRest, RefusesIn};
 ghost use Rattle.checkpoint_file.specs.Front.{IsAt, IsBefore, Reaches, most_entry_bytes};
@@ -106,6 +107,7 @@ pub(crate) fn reach_body<D: Disk>(
         → OnOk result (Holds (seen_in D.states disk.new body.file) reader.new) }
     ensures err { IfErr result (λ refusal. (refusal ≡ Refusal.Failed)
         ⊎ ((refusal ≡ Refusal.NoMemory) ⊎ (D.honest disk.new → ⊥))) }
+    ensures listed { IfErr result (IsFileRefused body.file) }
 {
     read_on(disk, reader, body, 0)
 }

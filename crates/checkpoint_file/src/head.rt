@@ -5,6 +5,7 @@ ghost use Rattle.disk_model.specs.Files.{now};
 ghost use Rattle.file_pieces.specs.Counting.{Made};
 ghost use Rattle.log_records.specs.Layout.{layout_of};
 ghost use Rattle.store_layout.specs.Checkpoints.{is_sealed};
+ghost use Rattle.store_layout.specs.Failures.{IsFileFault};
 ghost use Rattle.store_layout.specs.Faults.{head_fault};
 ghost use Rattle.store_layout.specs.Logs.{is_read};
 ghost use Rattle.checkpoint_file.specs.Heads.{HasFields, IsHead, failed_in};
@@ -67,7 +68,9 @@ pub fn read_head<D: Disk>(disk: &mut D, file: usize) -> Result<Option<Head>, Ref
     ensures none { D.honest disk.new → IfOk result (λ found. IfNone found
         (is_sealed (now (D.states disk.old) file).seen ≡ false)) }
 
-    // Refused: the call failed, or the head has a fault.
+    // Refused: the call failed, or the file is at fault; as its head says if honest.
+    ensures listed { IfErr result (λ refusal. (refusal ≡ Refusal.Failed)
+        ⊎ IsFileFault file refusal) }
     ensures err { IfErr result (λ refusal. (refusal ≡ Refusal.Failed)
         ⊎ (D.honest disk.new
         → head_fault file (now (D.states disk.old) file).seen ≡ Some refusal)) }

@@ -8,6 +8,7 @@ ghost use Rattle.file_pieces.specs.Pieces.{Holds, end_of, pieces_in};
 ghost use Rattle.log_records.specs.Layout.{layout_of};
 ghost use Rattle.store_layout.specs.Checkpoints.{IsCheckpoint, sections_bytes, is_sealed};
 ghost use Rattle.store_layout.specs.Calls.{checkpoint_calls};
+ghost use Rattle.store_layout.specs.Failures.{IsFileFault, IsFileRefused};
 ghost use Rattle.store_layout.specs.Faults.{HasFault, IsBadCheckpoint, body_length_in, size_fault, version_in};
 ghost use Rattle.store_layout.specs.Opening.{IsCheckpointIn};
 ghost use Rattle.checkpoint_file.specs.Heads.{HasFields, IsHead, failed_in};
@@ -149,6 +150,7 @@ fn body_of(file: u8, head: &Head, len: usize) -> Result<(StripeCount, Unread), R
         → OnOk result (size_fault file content ≡ None) }
 
     // Refused: the first of these that is not so; never as Failed.
+    ensures listed { IfErr result (IsFileFault file) }
     ensures err { IfErr result (λ refusal. (content : List ℕ) → len ≡ length content
         → HasFields head.now content → size_fault file content ≡ Some refusal) }
     ensures unfailed { failed_in result ≡ 0 }
@@ -200,6 +202,7 @@ fn sized_body<D: Disk>(
         → OnOk result (size_fault file (seen_in D.states disk.old file) ≡ None) }
 
     // Refused: a failed call, no memory, or the first of these that is not so.
+    ensures listed { IfErr result (IsFileRefused file) }
     ensures err { IfErr result (λ refusal. (refusal ≡ Refusal.Failed)
         ⊎ ((refusal ≡ Refusal.NoMemory)
         ⊎ (D.honest disk.new → HasFields head.now (seen_in D.states disk.old file)
@@ -237,6 +240,7 @@ fn load_body<D: Disk>(
         AreLoaded (layout_of loaded.version) loaded.stripes.count loaded.sections.items) }
 
     // Refused: a failed call, no memory, or the first fault behind the head.
+    ensures listed { IfErr result (IsFileRefused file) }
     ensures err { IfErr result (λ refusal. (refusal ≡ Refusal.Failed)
         ⊎ ((refusal ≡ Refusal.NoMemory)
         ⊎ (D.honest disk.new → IsHead head.now file (seen_in D.states disk.old file)
@@ -294,7 +298,8 @@ pub fn load<D: Disk>(
     ensures version { D.honest disk.new → IfOk result (λ found. IfSome found (λ loaded.
         (layout_of loaded.version).version ≡ version_in (now (D.states disk.old) file).seen)) }
 
-    // Refused: a failed call, no memory, or the file's first fault.
+    // Refused: a failed call, no memory, or a fault of the file; its first if honest.
+    ensures listed { IfErr result (IsFileRefused file) }
     ensures err { IfErr result (λ refusal. (refusal ≡ Refusal.Failed)
         ⊎ ((refusal ≡ Refusal.NoMemory)
         ⊎ (D.honest disk.new → IsUnloadable file (now (D.states disk.old) file).seen refusal))) }

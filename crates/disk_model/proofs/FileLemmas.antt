@@ -4,7 +4,7 @@ use mathlib.Core.Path.{fun_ext}
 use Rattle.std.proofs.lemmas.List.{ext_get_or, get_or-take, get_or-drop, get_or_append_left, get_or-append_right, get_or_past}
 use Rattle.std.proofs.lemmas.Bool.{cases_eq, cases_lt}
 use Rattle.std.proofs.lemmas.Bool.Decides.{nat_tests}
-use Rattle.disk_model.specs.Files.{File, Files, AreBytes, byte_at, is_in, is_written, is_pending, overwritten, reached, written, at_rest, now, with_file, IsCoherent, AreCoherent, AllCoherent, IsTorn, MayLeave}
+use Rattle.disk_model.specs.Files.{File, Files, AreBytes, byte_at, is_between, is_written, is_pending, overwritten, reached, written, at_rest, now, with_file, IsCoherent, AreCoherent, AllCoherent, IsTorn, MayLeave}
 
 -- ---- lists of bytes
 
@@ -32,13 +32,13 @@ bytes_overwritten at bytes old are are' =
     bytes_append (take at old) (bytes ++ drop (at + length bytes) old) (bytes_take at old are')
     (bytes_append bytes (drop (at + length bytes) old) are (bytes_drop (at + length bytes) old are'))
 
-outside : (i at size : ℕ) → is_in i (record { at = at; size = size }) ≡ false → (i < at) ⊎ (at + size ≤ i)
+outside : (i at size : ℕ) → is_between i at size ≡ false → (i < at) ⊎ (at + size ≤ i)
 outside i at size h = ⊎_elim {C = (i < at) ⊎ (at + size ≤ i)} (λ below. inl below)
     (λ from. ⊎_elim {C = (i < at) ⊎ (at + size ≤ i)} (λ under. absurd (grind (arith, nat_tests))) (λ past. inr past) (cases_lt i (at + size)))
     (cases_lt i at)
 
 -- outside of its range a write changes nothing
-pub kept_outside : (i at : ℕ) (bytes old : List ℕ) → i < length old → is_in i (record { at = at; size = length bytes }) ≡ false
+pub kept_outside : (i at : ℕ) (bytes old : List ℕ) → i < length old → is_between i at (length bytes) ≡ false
     → byte_at i (overwritten at bytes old) ≡ byte_at i old
 kept_outside i at bytes old here h = ⊎_elim {C = byte_at i (overwritten at bytes old) ≡ byte_at i old}
     (λ before.
@@ -70,14 +70,14 @@ on_disk file i h = ⊎_elim {C = i < length file.base} (λ below. below) (λ pas
     or_true false = refl
 
 -- after a write that left other bytes than these as they were
-pub coherent_reached : (at size : ℕ) (seen : List ℕ) (file : File) → IsCoherent file → length file.base ≤ length seen → length seen ≤ max file.greatest (at + size)
-    → ((i : ℕ) → i < length file.base → is_in i (record { at = at; size = size }) ≡ false → byte_at i seen ≡ byte_at i file.seen) → AreBytes seen
-    → IsCoherent (reached at size seen file)
-coherent_reached at size seen file h long short same are = record {
+pub coherent_reached : (at : ℕ) (bytes seen : List ℕ) (file : File) → IsCoherent file → length file.base ≤ length seen → length seen ≤ max file.greatest (at + length bytes)
+    → ((i : ℕ) → i < length file.base → is_between i at (length bytes) ≡ false → byte_at i seen ≡ byte_at i file.seen) → AreBytes seen
+    → IsCoherent (reached at bytes seen file)
+coherent_reached at bytes seen file h long short same are = record {
   no_shorter = long;
   no_longer = short;
   same = λ i clear.
-      let parts = neither (is_in i (record { at = at; size = size })) (is_written i file.pending) (nat_le (length file.base) i) clear in
+      let parts = neither (is_between i at (length bytes)) (is_written i file.pending) (nat_le (length file.base) i) clear in
       h.same i parts.1 ∙ sym (same i (on_disk file i parts.1) parts.0);
   bytes = are;
   base_bytes = h.base_bytes;
@@ -87,15 +87,15 @@ pub coherent_written : (at : ℕ) (bytes : List ℕ) (file : File) → IsCoheren
 coherent_written at bytes file h are =
     let size : length (overwritten at bytes file.seen) ≡ min at (length file.seen) + (length bytes + (length file.seen - (at + length bytes))) =
     simp (length-append, length-take, length-drop) refl in
-    coherent_reached at (length bytes) (overwritten at bytes file.seen) file h (omega (arith, h.no_shorter)) (omega (arith, h.no_longer))
+    coherent_reached at bytes (overwritten at bytes file.seen) file h (omega (arith, h.no_shorter)) (omega (arith, h.no_longer))
     (λ i here clear. kept_outside i at bytes file.seen (omega (arith, h.no_shorter)) clear) are
 
-pub coherent_lost : (at size : ℕ) (file : File) → IsCoherent file → IsCoherent (reached at size file.seen file)
-coherent_lost at size file h =
-    coherent_reached at size file.seen file h h.no_shorter (omega (arith, h.no_longer)) (λ i here clear. refl) h.bytes
+pub coherent_lost : (at : ℕ) (bytes : List ℕ) (file : File) → IsCoherent file → IsCoherent (reached at bytes file.seen file)
+coherent_lost at bytes file h =
+    coherent_reached at bytes file.seen file h h.no_shorter (omega (arith, h.no_longer)) (λ i here clear. refl) h.bytes
 
-pub lost_is_torn : (at size : ℕ) (file : File) → IsTorn at size file (reached at size file.seen file)
-lost_is_torn at size file = record { before = refl; after = refl; no_shorter = omega arith; no_longer = omega arith; base = refl; pending = refl; greatest = refl }
+pub lost_is_torn : (at : ℕ) (bytes : List ℕ) (file : File) → IsTorn at bytes file (reached at bytes file.seen file)
+lost_is_torn at bytes file = record { before = refl; after = refl; no_shorter = omega arith; no_longer = omega arith; base = refl; pending = refl; greatest = refl }
 
 pub with_same : (number : ℕ) (file : File) (files : Files) → with_file number file files number ≡ file
 with_same number file files = grind (arith, nat_tests)

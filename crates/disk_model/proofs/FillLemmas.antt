@@ -7,7 +7,7 @@ use Rattle.std.proofs.lemmas.List.FromFn.{map-range_with_len_more, length-map-ra
 use Rattle.std.proofs.lemmas.Bool.{cases_lt}
 use Rattle.std.proofs.lemmas.List.Elements.{filter-append}
 use Rattle.std.proofs.lemmas.Bool.Decides.{nat_tests}
-use Rattle.disk_model.specs.Files.{File, Files, AreBytes, byte_at, is_in, is_written, is_pending, overwritten, MayLeave, IsCoherent, IsTorn}
+use Rattle.disk_model.specs.Files.{File, Files, AreBytes, byte_at, is_between, is_written, is_pending, overwritten, MayLeave, IsCoherent, IsTorn}
 use Rattle.disk_model.specs.Fills.{HasBytes, bytes_by, within, pending_below, pending_before, length_left, byte_left, left_by, length_torn, byte_torn, bytes_torn, seen_torn, torn}
 use Rattle.disk_model.specs.declared.fill.Fill.{Fill}
 use Rattle.disk_model.specs.declared.fill.Fill.TheVariants.{Old, New, Byte, Chosen}
@@ -83,15 +83,15 @@ module _ (fill : Fill) (number at : ℕ) (bytes : List ℕ) (file : File) where
   pub coherent_torn : IsCoherent file → AreBytes (seen_torn fill number at bytes file) → IsCoherent (torn fill number at bytes file)
   coherent_torn h are =
       let b = length_torn_between fill number at bytes file in
-      coherent_reached at (length bytes) (take cut whole) file h
+      coherent_reached at bytes (take cut whole) file h
       (omega (arith, b.0, b.1, length-take cut whole, length-whole, h.no_shorter)) (omega (arith, b.0, b.1, length-take cut whole, length-whole, h.no_longer))
       (λ i here clear.
       let inside : i < cut = omega (arith, b.0, h.no_shorter) in
-      let clear' = subst (λ n. is_in i (record { at = at; size = n }) ≡ false) (sym (length-bytes_torn fill at bytes file)) clear in
+      let clear' = subst (λ n. is_between i at n ≡ false) (sym (length-bytes_torn fill at bytes file)) clear in
       get_or-take cut whole i 0 inside ∙ kept_outside i at (bytes_torn fill at bytes file) file.seen (omega (arith, h.no_shorter)) clear')
       are
 
-  pub torn_is_torn : at ≤ length file.seen → IsTorn at (length bytes) file (torn fill number at bytes file)
+  pub torn_is_torn : at ≤ length file.seen → IsTorn at bytes file (torn fill number at bytes file)
   torn_is_torn inside =
       let b = length_torn_between fill number at bytes file in
       let size = length-take cut whole in

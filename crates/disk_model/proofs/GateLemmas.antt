@@ -2,7 +2,7 @@
 use Rattle.std.proofs.Common.{Bool, true, false, ◌||◌, ◌≡◌, ◌≢◌, ◌⊎◌, inl, inr, ⊎_elim, ℕ, ◌+◌, ◌<◌, ◌≤◌, List, [], ◌∷◌, ◌++◌, length, take, drop, refl, sym, ◌∙◌, ap, subst, arith, append_assoc, length-append, length-take, length-drop, take-append-drop, zero-add}
 use Rattle.std.proofs.lemmas.List.{take_at, drop_at, ext_get_or, get_or-take, get_or-drop, get_or-append-add, get_or_append_left, drop-drop, drop_more}
 use Rattle.std.proofs.lemmas.Bool.Decides.{nat_tests}
-use Rattle.disk_model.specs.Files.{Range, File, byte_at, is_in, is_written, is_pending, overwritten, reached, written, synced, IsSure, IsTorn, MayLeave}
+use Rattle.disk_model.specs.Files.{Range, File, byte_at, is_between, is_written, is_pending, overwritten, reached, written, synced, IsSure, IsTorn, MayLeave}
 use Rattle.disk_model.specs.Gates.{IsShut, IsOpening, IsOpen}
 
 -- ---- bytes that are on the disk
@@ -10,7 +10,7 @@ use Rattle.disk_model.specs.Gates.{IsShut, IsOpening, IsOpen}
 pub sure_inside : (low high low' high' : ℕ) (file : File) → low ≤ low' → high' ≤ high → IsSure low high file → IsSure low' high' file
 sure_inside low high low' high' file l h sure = record { long = omega (arith, sure.long); clear = λ i from below. sure.clear i (omega arith) (omega arith) }
 
-outside_range : (i at size : ℕ) → (i < at) ⊎ (at + size ≤ i) → is_in i (record { at = at; size = size }) ≡ false
+outside_range : (i at size : ℕ) → (i < at) ⊎ (at + size ≤ i) → is_between i at size ≡ false
 outside_range i at size (inl below) = grind (arith, nat_tests)
 outside_range i at size (inr past) = grind (arith, nat_tests)
 
@@ -18,21 +18,21 @@ both_false : (a b : Bool) → a ≡ false → b ≡ false → (a || b) ≡ false
 both_false false b h k = k
 both_false true b h k = absurd (cc)
 
-clear_apart : (low high at size : ℕ) (ranges : List Range) → (high ≤ at) ⊎ (at + size ≤ low) → ((i : ℕ) → low ≤ i → i < high → is_written i ranges ≡ false)
-    → (i : ℕ) → low ≤ i → i < high → is_written i (record { at = at; size = size } ∷ ranges) ≡ false
-clear_apart low high at size ranges apart clear i from below =
-    both_false (is_in i (record { at = at; size = size })) (is_written i ranges)
-    (outside_range i at size (⊎_elim {C = (i < at) ⊎ (at + size ≤ i)} (λ before. inl (omega arith)) (λ behind. inr (omega arith)) apart))
+clear_apart : (low high at : ℕ) (bytes : List ℕ) (ranges : List Range) → (high ≤ at) ⊎ (at + length bytes ≤ low) → ((i : ℕ) → low ≤ i → i < high → is_written i ranges ≡ false)
+    → (i : ℕ) → low ≤ i → i < high → is_written i (record { at = at; bytes = bytes } ∷ ranges) ≡ false
+clear_apart low high at bytes ranges apart clear i from below =
+    both_false (is_between i at (length bytes)) (is_written i ranges)
+    (outside_range i at (length bytes) (⊎_elim {C = (i < at) ⊎ (at + length bytes ≤ i)} (λ before. inl (omega arith)) (λ behind. inr (omega arith)) apart))
     (clear i from below)
 
 -- a write elsewhere leaves them there
-pub sure_reached : (low high at size : ℕ) (seen : List ℕ) (file : File) → (high ≤ at) ⊎ (at + size ≤ low) → IsSure low high file → IsSure low high (reached at size seen file)
-sure_reached low high at size seen file apart sure = record { long = sure.long; clear = clear_apart low high at size file.pending apart sure.clear }
+pub sure_reached : (low high at : ℕ) (bytes seen : List ℕ) (file : File) → (high ≤ at) ⊎ (at + length bytes ≤ low) → IsSure low high file → IsSure low high (reached at bytes seen file)
+sure_reached low high at bytes seen file apart sure = record { long = sure.long; clear = clear_apart low high at bytes file.pending apart sure.clear }
 
-pub sure_torn : (low high at size : ℕ) (old new : File) → IsTorn at size old new → (high ≤ at) ⊎ (at + size ≤ low) → IsSure low high old → IsSure low high new
-sure_torn low high at size old new torn apart sure = record {
+pub sure_torn : (low high at : ℕ) (bytes : List ℕ) (old new : File) → IsTorn at bytes old new → (high ≤ at) ⊎ (at + length bytes ≤ low) → IsSure low high old → IsSure low high new
+sure_torn low high at bytes old new torn apart sure = record {
   long = omega (arith, ap length torn.base, sure.long);
-  clear = subst (λ (ranges : List Range). (i : ℕ) → low ≤ i → i < high → is_written i ranges ≡ false) (sym torn.pending) (clear_apart low high at size old.pending apart sure.clear);
+  clear = subst (λ (ranges : List Range). (i : ℕ) → low ≤ i → i < high → is_written i ranges ≡ false) (sym torn.pending) (clear_apart low high at bytes old.pending apart sure.clear);
 }
 
 pub sure_synced : (low high : ℕ) (file : File) → high ≤ length file.seen → IsSure low high (synced file)
@@ -74,20 +74,20 @@ overwritten_at front back bytes =
     ∙ ap (λ (l : List ℕ). front ++ (bytes ++ l)) (sym (drop-drop (length bytes) (length front) (front ++ back)) ∙ ap (λ (l : List ℕ). drop (length bytes) l) (drop_at front back (length front) refl))
 
 -- what a torn write leaves in front of it
-pub torn_front : (n : ℕ) (old new : File) (front back : List ℕ) → IsTorn (length front) n old new → old.seen ≡ front ++ back → new.seen ≡ front ++ drop (length front) new.seen
-torn_front n old new front back torn is =
+pub torn_front : (bytes : List ℕ) (old new : File) (front back : List ℕ) → IsTorn (length front) bytes old new → old.seen ≡ front ++ back → new.seen ≡ front ++ drop (length front) new.seen
+torn_front bytes old new front back torn is =
     sym (take-append-drop (length front) new.seen)
     ∙ ap (λ (l : List ℕ). l ++ drop (length front) new.seen) (torn.before ∙ ap (λ (l : List ℕ). take (length front) l) is ∙ take_at front back (length front) refl)
 
 -- a torn write of one byte
-pub torn_byte : (old new : File) (front back : List ℕ) (b : ℕ) → IsTorn (length front) 1 old new → old.seen ≡ front ++ b ∷ back → (any : ℕ) × (new.seen ≡ front ++ any ∷ back)
-torn_byte old new front back b torn is =
+pub torn_byte : (old new : File) (front back : List ℕ) (b gate : ℕ) → IsTorn (length front) (gate ∷ []) old new → old.seen ≡ front ++ b ∷ back → (any : ℕ) × (new.seen ≡ front ++ any ∷ back)
+torn_byte old new front back b gate torn is =
     let n = length front in
     let long : n < length new.seen = omega (arith, torn.no_shorter, ap length is, length-append front (b ∷ back)) in
     let behind : drop (n + 1) new.seen ≡ back =
     torn.after ∙ ap (λ (l : List ℕ). drop (n + 1) l) is ∙ sym (drop-drop 1 n (front ++ b ∷ back)) ∙ ap (λ (l : List ℕ). drop 1 l) (drop_at front (b ∷ back) n refl) in (
       byte_at n new.seen,
-      torn_front 1 old new front (b ∷ back) torn is ∙ ap (λ (l : List ℕ). front ++ l) (drop_more new.seen n 0 long ∙ ap (λ (l : List ℕ). byte_at n new.seen ∷ l) behind),
+      torn_front (gate ∷ []) old new front (b ∷ back) torn is ∙ ap (λ (l : List ℕ). front ++ l) (drop_more new.seen n 0 long ∙ ap (λ (l : List ℕ). byte_at n new.seen ∷ l) behind),
     )
 
 -- ---- gates
@@ -112,19 +112,19 @@ shut_written front bytes old shut =
       seen = ap (λ n. overwritten n bytes old.seen) (sym (gate_size front shut.gate)) ∙ ap (λ (l : List ℕ). overwritten (length before) bytes l) (shut.seen ∙ gate_split front [] shut.rest shut.gate)
           ∙ overwritten_at before shut.rest bytes ∙ append_assoc front (shut.gate ∷ []) (bytes ++ drop (length bytes) shut.rest);
       closed = shut.closed;
-      sure = sure_reached 0 (length front + 1) (length front + 1) (length bytes) (overwritten (length front + 1) bytes old.seen) old (inl (omega arith)) shut.sure;
+      sure = sure_reached 0 (length front + 1) (length front + 1) bytes (overwritten (length front + 1) bytes old.seen) old (inl (omega arith)) shut.sure;
     }
 
-pub shut_torn : (front : List ℕ) (n : ℕ) (old new : File) → IsShut front [] old → IsTorn (length front + 1) n old new → IsShut front [] new
-shut_torn front n old new shut torn =
+pub shut_torn : (front bytes : List ℕ) (old new : File) → IsShut front [] old → IsTorn (length front + 1) bytes old new → IsShut front [] new
+shut_torn front bytes old new shut torn =
     let before = front ++ shut.gate ∷ [] in
     record {
       gate = shut.gate;
       rest = drop (length before) new.seen;
-      seen = torn_front n old new before shut.rest (subst (λ k. IsTorn k n old new) (sym (gate_size front shut.gate)) torn) (shut.seen ∙ gate_split front [] shut.rest shut.gate)
+      seen = torn_front bytes old new before shut.rest (subst (λ k. IsTorn k bytes old new) (sym (gate_size front shut.gate)) torn) (shut.seen ∙ gate_split front [] shut.rest shut.gate)
           ∙ append_assoc front (shut.gate ∷ []) (drop (length before) new.seen);
       closed = shut.closed;
-      sure = sure_torn 0 (length front + 1) (length front + 1) n old new torn (inl (omega arith)) shut.sure;
+      sure = sure_torn 0 (length front + 1) (length front + 1) bytes old new torn (inl (omega arith)) shut.sure;
     }
 
 pub shut_synced : (front behind : List ℕ) (file : File) → IsShut front behind file → IsShut front behind (synced file)
@@ -158,19 +158,19 @@ opening_written front behind old opening = record {
   gate = 165;
   rest = opening.rest;
   seen = gate_written front behind old opening;
-  sure_front = sure_reached 0 (length front) (length front) 1 (overwritten (length front) (165 ∷ []) old.seen) old (inl (omega arith)) opening.sure_front;
-  sure_behind = sure_reached (length front + 1) (length front + 1 + length behind) (length front) 1 (overwritten (length front) (165 ∷ []) old.seen) old (inr (omega arith)) opening.sure_behind;
+  sure_front = sure_reached 0 (length front) (length front) (165 ∷ []) (overwritten (length front) (165 ∷ []) old.seen) old (inl (omega arith)) opening.sure_front;
+  sure_behind = sure_reached (length front + 1) (length front + 1 + length behind) (length front) (165 ∷ []) (overwritten (length front) (165 ∷ []) old.seen) old (inr (omega arith)) opening.sure_behind;
 }
 
-pub opening_torn : (front behind : List ℕ) (old new : File) → IsOpening front behind old → IsTorn (length front) 1 old new → IsOpening front behind new
-opening_torn front behind old new opening torn =
-    let byte : (any : ℕ) × (new.seen ≡ front ++ any ∷ (behind ++ opening.rest)) = torn_byte old new front (behind ++ opening.rest) opening.gate torn opening.seen in
+pub opening_torn : (front behind : List ℕ) (gate : ℕ) (old new : File) → IsOpening front behind old → IsTorn (length front) (gate ∷ []) old new → IsOpening front behind new
+opening_torn front behind gate old new opening torn =
+    let byte : (any : ℕ) × (new.seen ≡ front ++ any ∷ (behind ++ opening.rest)) = torn_byte old new front (behind ++ opening.rest) opening.gate gate torn opening.seen in
     record {
       gate = byte.0;
       rest = opening.rest;
       seen = byte.1;
-      sure_front = sure_torn 0 (length front) (length front) 1 old new torn (inl (omega arith)) opening.sure_front;
-      sure_behind = sure_torn (length front + 1) (length front + 1 + length behind) (length front) 1 old new torn (inr (omega arith)) opening.sure_behind;
+      sure_front = sure_torn 0 (length front) (length front) (gate ∷ []) old new torn (inl (omega arith)) opening.sure_front;
+      sure_behind = sure_torn (length front + 1) (length front + 1 + length behind) (length front) (gate ∷ []) old new torn (inr (omega arith)) opening.sure_behind;
     }
 
 -- an open gate is on the disk

@@ -50,16 +50,16 @@ module _ (kept : List Kept) (events : List Event) (number : ℕ) (one : Kept) (l
   was_coherent = now_coherent (states_of events) holds.coherent number low
 
   -- a failed write, noted with what is kept after it
-  pub tore_seen : (at size : ℕ) (seen : List ℕ) (events' : List Event) → IsKept one (reached at size seen old_file)
-      → ((other : Kept) → events' ≡ tore number at size (get_or (set kept number one) number other).seen.items ∷ events) → events' ≡ tore number at size seen ∷ events
-  tore_seen at size seen events' is noted =
+  pub tore_seen : (at : ℕ) (bytes seen : List ℕ) (events' : List Event) → IsKept one (reached at bytes seen old_file)
+      → ((other : Kept) → events' ≡ tore number at bytes (get_or (set kept number one) number other).seen.items ∷ events) → events' ≡ tore number at bytes seen ∷ events
+  tore_seen at bytes seen events' is noted =
       let inside : number < length kept = omega (arith, holds.are.count) in
-      noted one ∙ ap (λ (k : Kept). tore number at size k.seen.items ∷ events) (get_or-set_same kept number one one inside) ∙ ap (λ (l : List ℕ). tore number at size l ∷ events) is.seen
+      noted one ∙ ap (λ (k : Kept). tore number at bytes k.seen.items ∷ events) (get_or-set_same kept number one one inside) ∙ ap (λ (l : List ℕ). tore number at bytes l ∷ events) is.seen
 
-  pub tore_holds : (at size : ℕ) (seen : List ℕ) (events' : List Event) → IsKept one (reached at size seen old_file) → IsCoherent (reached at size seen old_file)
-      → events' ≡ tore number at size seen ∷ events → Holds (set kept number one) events'
-  tore_holds at size seen events' is is_coherent noted =
-      subst (λ (es : List Event). Holds (set kept number one) es) (sym noted) (one_changed kept events (tore number at size seen) number one (reached at size seen old_file) low holds refl is is_coherent)
+  pub tore_holds : (at : ℕ) (bytes seen : List ℕ) (events' : List Event) → IsKept one (reached at bytes seen old_file) → IsCoherent (reached at bytes seen old_file)
+      → events' ≡ tore number at bytes seen ∷ events → Holds (set kept number one) events'
+  tore_holds at bytes seen events' is is_coherent noted =
+      subst (λ (es : List Event). Holds (set kept number one) es) (sym noted) (one_changed kept events (tore number at bytes seen) number one (reached at bytes seen old_file) low holds refl is is_coherent)
 
   pub wrote_holds : (at : ℕ) (bytes : List ℕ) (events' : List Event) → IsKept one (written at bytes old_file) → events' ≡ wrote number at bytes ∷ events → Holds (set kept number one) events'
   wrote_holds at bytes events' is noted =

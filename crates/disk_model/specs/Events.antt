@@ -13,8 +13,8 @@ pub data Event : Type 0 where
   -- a look or a sync failed
   failed : Event
   wrote : (file at : ℕ) → (bytes : List ℕ) → Event
-  -- a write of `size` bytes failed, and left this to be read
-  tore : (file at size : ℕ) → (seen : List ℕ) → Event
+  -- a write of these bytes failed, and left this to be read
+  tore : (file at : ℕ) → (bytes seen : List ℕ) → Event
   -- a write failed, and what it left to be read is not known
   broke : (file at : ℕ) → (bytes : List ℕ) → Event
   synced_file : (file : ℕ) → Event
@@ -29,7 +29,7 @@ abbrev pub event_of : Note → Event
 event_of note.Looked = looked
 event_of note.Failed = failed
 event_of (note.Wrote file at bytes) = wrote file at bytes.now
-event_of (note.Tore file at size seen) = tore file at size seen.now
+event_of (note.Tore file at bytes seen) = tore file at bytes.now seen.now
 event_of (note.Broke file at bytes) = broke file at bytes.now
 event_of (note.Synced file) = synced_file file
 event_of (note.Measured file len) = measured file len
@@ -41,7 +41,7 @@ abbrev pub after : Fill → Event → Files → Files
 after unknown looked files = files
 after unknown failed files = files
 after unknown (wrote file at bytes) files = with_file file (written at bytes (files file)) files
-after unknown (tore file at size seen) files = with_file file (reached at size seen (files file)) files
+after unknown (tore file at bytes seen) files = with_file file (reached at bytes seen (files file)) files
 after unknown (broke file at bytes) files = with_file file (torn unknown file at bytes (files file)) files
 after unknown (synced_file file) files = with_file file (synced (files file)) files
 after unknown (measured file len) files = files
@@ -71,7 +71,7 @@ AllAgree start unknown (event ∷ events) = Agrees event (now (states_from start
 
 abbrev pub failures_in : Event → ℕ
 failures_in failed = 1
-failures_in (tore file at size seen) = 1
+failures_in (tore file at bytes seen) = 1
 failures_in (broke file at bytes) = 1
 failures_in event = 0
 

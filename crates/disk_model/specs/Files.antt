@@ -5,10 +5,10 @@ use Rattle.std.specs.Coded.{le_prop}
 use Rattle.std.proofs.Common.{refl, arith}
 use native.Mathlib.Nat.{ℕ_set}
 
--- the bytes that one write may have reached
+-- what one write was to write, and from which place on; it may have reached that range
 pub record Range : Type 0 where
   pub at : ℕ
-  pub size : ℕ
+  pub bytes : List ℕ
 
 pub record File : Type 0 where
   -- what a read gives
@@ -35,8 +35,12 @@ byte_at i bytes = slice_index_or bytes i 0
 abbrev pub AreBytes : List ℕ → Type 0
 AreBytes bytes = (i : ℕ) → byte_at i bytes < 256
 
+-- place i is one of the `size` places from `at` on
+abbrev pub is_between : ℕ → ℕ → ℕ → Bool
+is_between i at size = nat_le at i && nat_lt i (at + size)
+
 abbrev pub is_in : ℕ → Range → Bool
-is_in i range = nat_le range.at i && nat_lt i (range.at + range.size)
+is_in i range = is_between i range.at (length range.bytes)
 
 abbrev pub is_written : ℕ → List Range → Bool
 is_written i [] = false
@@ -87,24 +91,25 @@ with_file number file files = λ n. if n == number then file else files n
 abbrev pub overwritten : ℕ → List ℕ → List ℕ → List ℕ
 overwritten at bytes old = take at old ++ (bytes ++ drop (at + length bytes) old)
 
--- after a write of `size` bytes at this place, which left this to be read
-abbrev pub reached : ℕ → ℕ → List ℕ → File → File
-reached at size seen file = record { seen = seen; base = file.base; pending = record { at = at; size = size } ∷ file.pending; greatest = max file.greatest (at + size) }
+-- after a write of these bytes at this place, which left this to be read
+abbrev pub reached : ℕ → List ℕ → List ℕ → File → File
+reached at bytes seen file =
+    record { seen = seen; base = file.base; pending = record { at = at; bytes = bytes } ∷ file.pending; greatest = max file.greatest (at + length bytes) }
 
 -- after a write
 abbrev pub written : ℕ → List ℕ → File → File
-written at bytes file = reached at (length bytes) (overwritten at bytes file.seen) file
+written at bytes file = reached at bytes (overwritten at bytes file.seen) file
 
--- After a write of `size` bytes that failed: any bytes in its range, and any length up to its end. What was pending and
+-- After a write of these bytes that failed: any bytes in its range, and any length up to its end. What was pending and
 -- the range are pending.
-pub record IsTorn (at size : ℕ) (old new : File) : Type 0 where
+pub record IsTorn (at : ℕ) (bytes : List ℕ) (old new : File) : Type 0 where
   pub before : take at new.seen ≡ take at old.seen
-  pub after : drop (at + size) new.seen ≡ drop (at + size) old.seen
+  pub after : drop (at + length bytes) new.seen ≡ drop (at + length bytes) old.seen
   pub no_shorter : length old.seen ≤ length new.seen
-  pub no_longer : length new.seen ≤ max (length old.seen) (at + size)
+  pub no_longer : length new.seen ≤ max (length old.seen) (at + length bytes)
   pub base : new.base ≡ old.base
-  pub pending : new.pending ≡ record { at = at; size = size } ∷ old.pending
-  pub greatest : new.greatest ≡ max old.greatest (at + size)
+  pub pending : new.pending ≡ record { at = at; bytes = bytes } ∷ old.pending
+  pub greatest : new.greatest ≡ max old.greatest (at + length bytes)
 
 -- after a successful sync
 abbrev pub synced : File → File

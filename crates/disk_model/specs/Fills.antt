@@ -74,4 +74,4 @@ abbrev pub seen_torn : Fill → ℕ → ℕ → List ℕ → File → List ℕ
 seen_torn fill number at bytes file = take (length_torn fill number at bytes file) (overwritten at (bytes_torn fill at bytes file) file.seen)
 
 abbrev pub torn : Fill → ℕ → ℕ → List ℕ → File → File
-torn fill number at bytes file = reached at (length bytes) (seen_torn fill number at bytes file) file
+torn fill number at bytes file = reached at bytes (seen_torn fill number at bytes file) file

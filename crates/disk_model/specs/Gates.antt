@@ -46,5 +46,5 @@ called syncs file = synced file
 
 -- a call that failed may leave the file so
 abbrev pub MayFailTo : Call → File → File → Type 0
-MayFailTo (writes at bytes) old new = IsTorn at (length bytes) old new
+MayFailTo (writes at bytes) old new = IsTorn at bytes old new
 MayFailTo syncs old new = new ≡ old

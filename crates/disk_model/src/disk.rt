@@ -69,7 +69,7 @@ pub trait Disk {
         ensures torn { OnErr result
             ((left : File)
             × (at ≤ length (now (states self.old) file).seen
-            → IsTorn at (length bytes.now) (now (states self.old) file) left)
+            → IsTorn at bytes.now (now (states self.old) file) left)
             × (states self.new ≡ with_file file left (now (states self.old)) ∷ states self.old)) }
 
         // A disk that is honest was so before; a failure is counted.

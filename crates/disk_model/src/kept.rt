@@ -1,6 +1,6 @@
 // One file, kept in memory with what a stop may leave of it.
 ghost use Rattle.std.specs.Prelude.{◌≡◌, ◌+◌, ◌-◌, ◌<◌, ◌≤◌, ◌^◌, ℕ, List, true, false, ◌&&◌, ◌||◌, nat_le, nat_lt, [], ◌++◌, take, length, min, max, OnOk, OnErr, IfOk, slice_index_or, vec_capacity};
-ghost use Rattle.disk_model.specs.Files.{File, AreBytes, is_in, is_pending, overwritten, reached, written, synced, at_rest};
+ghost use Rattle.disk_model.specs.Files.{File, AreBytes, is_between, is_pending, overwritten, reached, written, synced, at_rest};
 ghost use Rattle.disk_model.specs.Fills.{torn, byte_torn, bytes_torn, length_torn, pending_below, length_left, byte_left, bytes_by};
 
 use crate::Fill;
@@ -56,16 +56,16 @@ impl Kept {
         })
     }
 
-    // Notes that a write of `size` bytes was made there.
-    pub(crate) fn touch(&mut self, at: usize, size: usize)
+    // Notes that a write of these bytes was made there.
+    pub(crate) fn touch(&mut self, at: usize, bytes: &[u8])
         ensures kept { (file : File) → IsKept self.old file
-            → IsKept self.new (reached at size file.seen file) }
+            → IsKept self.new (reached at bytes.now file.seen file) }
         ensures seen { self.new.seen ≡ self.old.seen }
         ensures clean { self.new.clean ≤ at }
     {
-        self.greatest = self.greatest.max(at as u128 + size as u128);
+        self.greatest = self.greatest.max(at as u128 + bytes.len() as u128);
         self.clean = self.clean.min(at);
-        mark(&mut self.reached, at, size);
+        mark(&mut self.reached, at, bytes.len());
     }
 
     pub(crate) fn write(&mut self, at: usize, bytes: &[u8]) -> Result<(), AllocError>
@@ -75,7 +75,7 @@ impl Kept {
         ensures err { OnErr result ((file : File) → IsKept self.old file → IsKept self.new file) }
     {
         make_room(&mut self.seen, at + bytes.len())?;
-        self.touch(at, bytes.len());
+        self.touch(at, bytes);
         overwrite(&mut self.seen, at, bytes)
     }
 
@@ -100,7 +100,7 @@ impl Kept {
         overwrite(&mut next, at, &left)?;
         let len = len_torn(number, self.seen.len(), next.len(), fill);
         let next = truncated(next, len);
-        self.touch(at, bytes.len());
+        self.touch(at, bytes);
         self.seen = next;
         Ok(())
     }
@@ -271,7 +271,7 @@ fn truncated(mut bytes: Vec<u8>, len: usize) -> Vec<u8>
 fn mark(marks: &mut [bool], at: usize, size: usize)
     ensures { (i : ℕ) → i < length marks.old
         → slice_index_or marks.new i true
-        ≡ is_in i (record { at = at; size = size }) || slice_index_or marks.old i true }
+        ≡ is_between i at size || slice_index_or marks.old i true }
 {
     let end = at.saturating_add(size).min(marks.len());
     for place in at..end {

@@ -105,7 +105,7 @@ impl MemDisk {
         ensures same { OnOk result (is_short self.new ≡ is_short self.old) }
 
         // No memory: a read gives what it gave, and the range is pending.
-        ensures lost { OnErr result (LosesWrite file at (length bytes.now) self.old self.new) }
+        ensures lost { OnErr result (LosesWrite file at bytes.now self.old self.new) }
 
         // A failure is counted, and the plan stays.
         ensures ok { OnOk result (memory_failures self.new ≡ memory_failures self.old) }
@@ -118,7 +118,7 @@ impl MemDisk {
                 Ok(())
             }
             Err(_) => {
-                self.lose(file, at, bytes.len());
+                self.lose(file, at, bytes);
                 Err(DeviceError)
             }
         }
@@ -128,7 +128,7 @@ impl MemDisk {
     fn tear(&mut self, file: usize, at: usize, bytes: &[u8], fill: &Fill)
         requires file { file < 4 }
         requires place { at ≤ length (now (memory_states self.old) file).seen }
-        ensures torn { LosesWrite file at (length bytes.now) self.old self.new
+        ensures torn { LosesWrite file at bytes.now self.old self.new
             ⊎ ((is_short self.new ≡ is_short self.old)
             × (memory_states self.new
             ≡ with_file file (torn fill.now file at bytes.now (now (memory_states self.old) file))
@@ -138,22 +138,22 @@ impl MemDisk {
     {
         let alloc = self.alloc;
         match self.files[file].tear(alloc, file, at, bytes, fill) {
-            Ok(()) => self.past = tore(&self.past, &self.files, file, at, bytes.len()),
-            Err(_) => self.lose(file, at, bytes.len()),
+            Ok(()) => self.past = tore(&self.past, &self.files, file, at, bytes),
+            Err(_) => self.lose(file, at, bytes),
         }
     }
 
     // A write that found no memory.
-    fn lose(&mut self, file: usize, at: usize, size: usize)
+    fn lose(&mut self, file: usize, at: usize, bytes: &[u8])
         requires file { file < 4 }
         requires place { at ≤ length (now (memory_states self.old) file).seen }
-        ensures lost { LosesWrite file at size self.old self.new }
+        ensures lost { LosesWrite file at bytes.now self.old self.new }
         ensures failures { memory_failures self.new ≡ memory_failures self.old + 1 }
         ensures planned { planned_of self.new ≡ planned_of self.old }
     {
-        self.files[file].touch(at, size);
+        self.files[file].touch(at, bytes);
         self.is_short = true;
-        self.past = tore(&self.past, &self.files, file, at, size);
+        self.past = tore(&self.past, &self.files, file, at, bytes);
     }
 
     // A call that reads.
@@ -235,19 +235,19 @@ impl Disk for MemDisk {
         ensures torn { OnErr result
             ((left : File)
             × (at ≤ length (now (memory_states self.old) file).seen
-            → IsTorn at (length bytes.now) (now (memory_states self.old) file) left)
+            → IsTorn at bytes.now (now (memory_states self.old) file) left)
             × (memory_states self.new ≡ with_file file left (now (memory_states self.old))
             ∷ memory_states self.old)) }
 
         // What a failure leaves: the bytes of the planned fill, or what stood there.
         ensures failed { IfSome (due_of (planned_of self.old)) (λ fill.
-            LosesWrite file at (length bytes.now) self.old self.new
+            LosesWrite file at bytes.now self.old self.new
             ⊎ ((is_short self.new ≡ is_short self.old)
             × (memory_states self.new
             ≡ with_file file (torn fill file at bytes.now (now (memory_states self.old) file))
             (now (memory_states self.old)) ∷ memory_states self.old))) }
         ensures lost { IfNone (due_of (planned_of self.old))
-            (OnErr result (LosesWrite file at (length bytes.now) self.old self.new)) }
+            (OnErr result (LosesWrite file at bytes.now self.old self.new)) }
 
         // One call by the plan; a failure is counted.
         ensures plan { IsByPlan self.old self.new (is_ok result) }
@@ -318,10 +318,10 @@ fn left_files(alloc: Global, files: &[Kept; 4], fill: &Fill) -> Result<[Kept; 4]
     ])
 }
 
-// Notes a failed write of `size` bytes, after which a read gives what is kept.
-fn tore(past: &Past, files: &[Kept; 4], file: usize, at: usize, size: usize) -> Past
+// Notes a failed write of these bytes, after which a read gives what is kept.
+fn tore(past: &Past, files: &[Kept; 4], file: usize, at: usize, bytes: &[u8]) -> Past
     requires { file < 4 }
-    ensures { (other : Kept) → result.events ≡ tore file at size
+    ensures { (other : Kept) → result.events ≡ tore file at bytes.now
         (slice_index_or files.now file other).seen.items ∷ past.now.events }
 {
     let kept = &files[file];
@@ -329,7 +329,7 @@ fn tore(past: &Past, files: &[Kept; 4], file: usize, at: usize, size: usize) -> 
     past.with(&Note::Tore {
         file,
         at,
-        size,
+        bytes,
         seen,
     })
 }

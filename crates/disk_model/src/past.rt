@@ -19,7 +19,7 @@ pub(crate) enum Note<'a> {
     Tore {
         file: usize,
         at: usize,
-        size: usize,
+        bytes: &'a [u8],
         seen: &'a [u8],
     },
     Broke {

@@ -15,7 +15,7 @@ use Rattle.flusher.specs.declared.sweeper.Swept.TheVariants.{More, Held, Done}
 use Rattle.flusher.specs.declared.sweeper.Walking.{Walking}
 use Rattle.flusher.specs.declared.sweeper.Walking.TheVariants.{Rests, SweepTakes, SweepGives}
 use Rattle.flusher.specs.Sweeping.{BeginsSweep, StepsOn, next_kind}
-use Rattle.flusher.specs.KeeperSteps.{AreOfSweep, MakesSweep, looks_of}
+use Rattle.flusher.specs.KeeperSteps.{AreOfSweep, HasGivenBack, MakesSweep, looks_of}
 
 looks_more : (xs ys : List StepMade) → looks_of (xs ++ ys) ≡ looks_of xs ++ looks_of ys
 looks_more [] ys = refl
@@ -138,3 +138,31 @@ not_over begun now p w (Done count) going k = absurd (going count refl)
 pub stays_in : (begun now : Option Sweep) (p w : Record) → IsUnderWay begun now p w → IfSome now (λ sweep. MakesSweep begun sweep.count p w)
 stays_in begun None p w u = tt
 stays_in begun (Some sweep) p w u = record { made = u.made; steps = u.steps; sweep = u.so_far }
+
+-- ---- a step that was refused
+
+is_given : (made : StepMade) (i : ℕ) → kind_of made ≡ Give i → made ≡ step.Gave i
+is_given (step.Took j es last) i is = cc
+is_given (step.FoundHeld j) i is = cc
+is_given (step.Gave j) i is = cc
+is_given (step.Drew t) i is = cc
+is_given (step.Looked q) i is = cc
+is_given (step.Published n) i is = cc
+is_given (step.Saw d) i is = cc
+is_given step.Failed i is = cc
+is_given (step.FoundAlive b) i is = cc
+
+pub gave_back : (n : ℕ) (begun now : Option Sweep) (walking : Walking) (old : Hand) (new : Sweeper) (p v w : Record) (e : Refusal) (made : StepMade) → w.steps ≡ v.steps ++ made ∷ [] → kind_of made ≡ next_kind now walking
+    → StepsOn n now walking old new v w (Err e) → IsUnderWay begun now p v → HasGivenBack new p w
+gave_back n begun None walking old new p v w e made steps kind k u = absurd (never e k.answer)
+  where
+    never : (x : Refusal) → (let y : Result Swept Refusal = Err x in let z : Result Swept Refusal = Ok More in y ≡ z) → ⊥
+    never x h = cc
+gave_back n begun (Some sweep) Rests old new p v w e made steps kind k u = absurd k
+gave_back n begun (Some sweep) SweepTakes old new p v w e made steps kind k u = absurd k
+gave_back n begun (Some sweep) (SweepGives walk) old new p v w e made steps kind k u = record {
+  sweep = sweep;
+  sweep_is = k.sweep_is;
+  before = u.made;
+  steps = one_more p v w u.made made u.steps steps ∙ ap (λ (x : StepMade). p.steps ++ (u.made ++ x ∷ [])) (is_given made sweep.stripe kind);
+}

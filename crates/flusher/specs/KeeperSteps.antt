@@ -13,7 +13,7 @@ use Rattle.flusher.specs.declared.sweeper.Sweeper.{Sweeper}
 use Rattle.flusher.specs.declared.sweeper.Sweep.{Sweep}
 use Rattle.ticket_order.specs.declared.record.Record.{Record}
 use Rattle.ticket_order.specs.declared.record.StepMade.{StepMade}
-use Rattle.ticket_order.specs.declared.record.StepMade.TheVariants.{Looked}
+use Rattle.ticket_order.specs.declared.record.StepMade.TheVariants.{Gave, Looked}
 use Rattle.ticket_order.specs.Calls.{SweepsStripe}
 use Rattle.store_layout.specs.Hands.{Hand, IsLongest}
 use Rattle.flusher.specs.Gathering.{HasSweptBelow, Collects}
@@ -66,6 +66,13 @@ pub record StaysAt (n : ℕ) (sweeper : Sweeper) (p : Record) : Type 0 where
   pub sweep : Sweep
   pub sweep_is : sweeper.sweep ≡ Some sweep
   pub below : HasSweptBelow n sweep.count sweep.stripe p
+
+-- It stays at a stripe that it had taken: the last of the steps that the pass's record gained is the GIVE of that stripe.
+pub record HasGivenBack (sweeper : Sweeper) (p w : Record) : Type 0 where
+  pub sweep : Sweep
+  pub sweep_is : sweeper.sweep ≡ Some sweep
+  pub before : List StepMade
+  pub steps : w.steps ≡ p.steps ++ (before ++ Gave sweep.stripe ∷ [])
 
 -- what the LOOKs among these steps found, in order
 abbrev pub looks_of : List StepMade → List ℕ

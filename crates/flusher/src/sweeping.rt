@@ -6,7 +6,7 @@ ghost use Rattle.ticket_order.specs.Walks.{MakesOne};
 ghost use Rattle.gate_log.specs.States.{commands_of};
 ghost use Rattle.flusher.specs.HandSteps.{SameEntries};
 ghost use Rattle.flusher.specs.Sweeping.{HasGathered, IsDone, StepsOn, next_kind};
-ghost use Rattle.flusher.specs.KeeperSteps.{MakesSweep, StaysAt, SweepsOnce, is_walking};
+ghost use Rattle.flusher.specs.KeeperSteps.{HasGivenBack, MakesSweep, StaysAt, SweepsOnce, is_walking};
 ghost use Rattle.flusher.specs.Fitting.{Fits, HasSeenMore, IsQuiet};
 
 use crate::keeper::Keeper;
@@ -78,9 +78,11 @@ impl<D: Disk> Keeper<D> {
         ensures count { IfOk result (λ count.
             MakesSweep self.old.sweeper.sweep count (S.recorded steps.old) (S.recorded steps.new)) }
 
-        // Refused for want of memory: the sweep stays begun, at its stripe.
+        // Refused for want of memory: the sweep stays begun, at the stripe that it gave back.
         ensures err { IfErr result (λ refusal. (refusal ≡ Refusal.NoMemory)
             × StaysAt (S.stripe_count steps.new) self.new.sweeper (S.recorded steps.new)) }
+        ensures gave { OnErr result
+            (HasGivenBack self.new.sweeper (S.recorded steps.old) (S.recorded steps.new)) }
         ensures stays { OnErr result
             (IfSome self.new.sweeper.sweep (λ sweep.
             MakesSweep self.old.sweeper.sweep sweep.count (S.recorded steps.old)

@@ -37,8 +37,8 @@ module _ (log : LogState) (batches staged : List Batch) (old : File) (is : log.p
       stands_in (written (log.gate + 1) bytes old) (subst (λ n. IsShut front [] (written (n + 1) bytes old)) (sym stands.knows.gate)
       (shut_bare front bytes (written (length front + 1) bytes old) (shut_written front bytes old at.1)))
 
-  stands_torn : (size : ℕ) (new : File) → IsTorn (log.gate + 1) size old new → Stands log batches staged new
-  stands_torn size new torn = stands_in new (shut_torn front size old new at.1 (subst (λ n. IsTorn (n + 1) size old new) stands.knows.gate torn))
+  stands_torn : (bytes : List ℕ) (new : File) → IsTorn (log.gate + 1) bytes old new → Stands log batches staged new
+  stands_torn bytes new torn = stands_in new (shut_torn front bytes old new at.1 (subst (λ n. IsTorn (n + 1) bytes old new) stands.knows.gate torn))
 
 module _ {D : Type 0} (states : D → List Files) (failures : D → ℕ) (honest : D → Type 0) (log : LogState) (count : ℕ) (disk next : D) (due : IsAheadDue count log) (was_honest : honest next → honest disk) where
   abbrev start : File
@@ -79,7 +79,7 @@ module _ {D : Type 0} (states : D → List Files) (failures : D → ℕ) (honest
     stands = tt;
     any_moment = λ batches staged stands.
         let torn = fails.may (placed_ahead log batches staged start due.staged stands) in
-        let there = stands_torn log batches staged start due.staged stands (length (replicate count 0)) fails.left torn in
+        let there = stands_torn log batches staged start due.staged stands (replicate count 0) fails.left torn in
         moved states failures honest log disk next fails.left fails.state batches staged stands
         (λ ready content left. reads_in log batches there.knows log.phase staged fails.left there.stands ready content left);
   }

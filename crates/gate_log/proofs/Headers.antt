@@ -1,12 +1,13 @@
 -- The header that was read is the file's.
-use Rattle.std.proofs.Common.{◌≡◌, ℕ, ◌-◌, min, List, [], ◌∷◌, ◌++◌, length, slice_index_or, take, drop, sym, ap, ◌∙◌, append_assoc, arith}
+use Rattle.std.proofs.Common.{◌≡◌, inl, inr, ℕ, ◌-◌, min, List, [], ◌∷◌, ◌++◌, length, slice_index_or, take, drop, sym, ap, ◌∙◌, append_assoc, arith}
 use Rattle.std.proofs.lemmas.List.{take_min, length-append, length-take, take-append-drop, append-nil}
 use Rattle.byteorder.specs.Endian.{big_bytes}
 use Rattle.byteorder.specs.Numbers.{length-bytes_high_first}
 use Rattle.map_types.specs.declared.refusals.Refusal.{Refusal}
 use Rattle.log_records.specs.declared.versions.Version.{Version}
 use Rattle.log_records.specs.Layout.{layout_of}
-use Rattle.store_layout.specs.Logs.{header}
+use Rattle.store_layout.specs.Failures.{IsFileFault}
+use Rattle.store_layout.specs.Logs.{header, log_file}
 use Rattle.store_layout.specs.Readings.{HasHeader, IsBadHeader, too_short, wrong_version, wrong_generation, wrong_low}
 use Rattle.file_pieces.specs.Pieces.{ReaderState, Holds}
 use Rattle.gate_log.specs.Scan.{HasRead, ScanState}
@@ -31,6 +32,13 @@ bad_header generation low content refusal (too_short short is) = too_short (omeg
 bad_header generation low content refusal (wrong_version v g l h other is) = wrong_version v g l (header_more v g l content h) other is
 bad_header generation low content refusal (wrong_generation v g l h known other is) = wrong_generation v g l (header_more v g l content h) known other is
 bad_header generation low content refusal (wrong_low v l h known other is) = wrong_low v l (header_more v generation l content h) known other is
+
+-- whatever is wrong with the header is a fault of the file
+pub header_fault : (generation low : ℕ) (content : List ℕ) (refusal : Refusal) → IsBadHeader generation low content refusal → IsFileFault (log_file generation) refusal
+header_fault generation low content refusal (too_short short is) = inr (0, is)
+header_fault generation low content refusal (wrong_version v g l h other is) = inl is
+header_fault generation low content refusal (wrong_generation v g l h known other is) = inr (1, is)
+header_fault generation low content refusal (wrong_low v l h known other is) = inr (9, is)
 
 abbrev at_first : Version → ℕ → ℕ → ReaderState → ScanState
 at_first version generation low reader = record { version = version; generation = generation; gate = 17; expected = low; reader = reader }

@@ -11,6 +11,7 @@ use Rattle.disk_model.specs.Files.{Files, now}
 use Rattle.file_pieces.specs.Pieces.{ReaderState, IsSameFile, pieces_in}
 use Rattle.disk_model.proofs.MomentLemmas.{one_call, goes_on, in_the_end, weaker}
 use Rattle.store_layout.specs.Readings.{HasHeader}
+use Rattle.store_layout.specs.Failures.{IsFileRefused}
 use Rattle.gate_log.specs.Scan.{RefusesAt, log_bytes}
 use Rattle.store_layout.specs.Logs.{log_file}
 use Rattle.gate_log.specs.ScanParts.{HasFrame, bytes_of}
@@ -110,6 +111,12 @@ pub never_damaged : (generation gate : ℕ) (P Q : Type 0) (refusal : Refusal) �
 never_damaged generation gate P Q refusal f (inl h) = inl h
 never_damaged generation gate P Q refusal f (inr (inl h)) = inr (inl h)
 never_damaged generation gate P Q refusal f (inr (inr h)) = absurd (f h.1)
+
+-- whatever the reason, the file is damaged
+pub gate_refused : (generation gate : ℕ) (P : Type 0) (refusal : Refusal) → RefusesAt generation gate P refusal → IsFileRefused (log_file generation) refusal
+gate_refused generation gate P refusal (inl failed) = inl failed
+gate_refused generation gate P refusal (inr (inl no_memory)) = inr (inl no_memory)
+gate_refused generation gate P refusal (inr (inr damaged)) = inr (inr (inr (gate, damaged.0)))
 
 -- ---- what stands behind a frame's length
 

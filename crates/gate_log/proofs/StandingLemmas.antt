@@ -233,10 +233,10 @@ module _ (log : LogState) (batches : List Batch) (knows : HasCommitted log batch
   failed_reads_in Header staged old new at fails ready content left = absurd ready
   failed_reads_in HeaderWritten staged old new at fails ready content left = absurd ready
   failed_reads_in Staged staged old new at fails ready content left =
-      inl (shut_reads [] new content (shut_torn front (length behind) old new at.1 (subst (λ n. IsTorn (n + 1) (length behind) old new) knows.gate fails)) left)
+      inl (shut_reads [] new content (shut_torn front behind old new at.1 (subst (λ n. IsTorn (n + 1) behind old new) knows.gate fails)) left)
   failed_reads_in Written staged old new at fails ready content left = inl (shut_reads behind old content at.1 (subst (λ f. MayLeave f content) fails left))
   failed_reads_in Synced staged old new at fails ready content left =
-      opening_reads log.ending staged new content at.0 (opening_torn front behind old new at.2 (subst (λ n. IsTorn n 1 old new) knows.gate fails)) left
+      opening_reads log.ending staged new content at.0 (opening_torn front behind 165 old new at.2 (subst (λ n. IsTorn n (165 ∷ []) old new) knows.gate fails)) left
   failed_reads_in Opened staged old new at fails ready content left = opening_reads log.ending staged old content at.0 at.1 (subst (λ f. MayLeave f content) fails left)
 
   pub failed_reads : (phase : Phase) (staged : List Batch) (old new : File) → AtPhase phase log batches staged old → (call : Call) → call_in phase log ≡ Some call → MayFailTo call old new

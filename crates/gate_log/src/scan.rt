@@ -6,6 +6,7 @@ ghost use Rattle.disk_model.specs.Files.{now};
 ghost use Rattle.file_pieces.specs.Counting.{Made, MadeAtMost, ReadsPieces, ReadsAtMost};
 ghost use Rattle.file_pieces.specs.Pieces.{Holds, end_of, pieces_in};
 ghost use Rattle.log_records.specs.Layout.{Layout, IsLayout, layout_of};
+ghost use Rattle.store_layout.specs.Failures.{IsFileRefused};
 ghost use Rattle.store_layout.specs.Logs.{Batch, IsClosed, IsEnded, log_file};
 ghost use Rattle.store_layout.specs.Readings.{IsBadHeader, IsBroken, Reading, Reads};
 ghost use Rattle.gate_log.specs.Scan.{ScanState, HasRead, IsFound, IsStill, GoesOn, ReadsAtGate, failed_in, last_gate, log_bytes, RefusesFor};
@@ -108,7 +109,8 @@ impl Scan {
         ensures version { D.honest disk.new → IfOk result (λ scan. (layout_of scan.version).version
             ≡ slice_index_or (log_bytes D.states disk.old generation) 0 0) }
 
-        // Refused: a failed call, no memory, or the first fault of the header.
+        // Refused: a failed call, no memory, or a fault of the file; the header's first if honest.
+        ensures listed { IfErr result (IsFileRefused (log_file generation)) }
         ensures refused { D.honest disk.new → IfErr result (λ refusal. (refusal ≡ Refusal.Failed)
             ⊎ ((refusal ≡ Refusal.NoMemory)
             ⊎ IsBadHeader generation low (log_bytes D.states disk.old generation) refusal)) }

@@ -52,7 +52,7 @@ module _ (content : List ℕ) (opens : is_to_close content ≡ true) (is : Unsea
   pub closing_written : (left : List ℕ) → MayLeave (written 0 (0 ∷ []) (at_rest content)) left → Unsealed left
   closing_written left may = short_unsealed left (omega (arith, may.no_longer, open_short content opens is))
 
-  pub closing_torn : (file : File) → IsTorn 0 1 (at_rest content) file → (left : List ℕ) → MayLeave file left → Unsealed left
+  pub closing_torn : (file : File) → IsTorn 0 (0 ∷ []) (at_rest content) file → (left : List ℕ) → MayLeave file left → Unsealed left
   closing_torn file torn left may = short_unsealed left (omega (arith, may.no_longer, torn.greatest, open_short content opens is))
 
   pub closing_synced : (left : List ℕ) → MayLeave (synced (written 0 (0 ∷ []) (at_rest content))) left → Unsealed left
@@ -97,8 +97,8 @@ module _ (bytes : List ℕ) where
     pub is_behind : IsShut [] bytes behind
     is_behind = shut_written [] bytes file shut
 
-    pub torn_behind : (left : File) → IsTorn 1 (length bytes) file left → IsShut [] [] left
-    torn_behind left torn = shut_torn [] (length bytes) file left shut torn
+    pub torn_behind : (left : File) → IsTorn 1 bytes file left → IsShut [] [] left
+    torn_behind left torn = shut_torn [] bytes file left shut torn
 
     pub is_down : IsShut [] bytes down
     is_down = shut_synced [] bytes behind is_behind
@@ -109,8 +109,8 @@ module _ (bytes : List ℕ) where
     pub is_opened : IsOpening [] bytes opened
     is_opened = opening_written [] bytes down is_opening
 
-    pub torn_opening : (left : File) → IsTorn 0 1 down left → IsOpening [] bytes left
-    torn_opening left torn = opening_torn [] bytes down left is_opening torn
+    pub torn_opening : (left : File) → IsTorn 0 (165 ∷ []) down left → IsOpening [] bytes left
+    torn_opening left torn = opening_torn [] bytes 165 down left is_opening torn
 
     pub sealed : (left : List ℕ) → MayLeave (synced opened) left → (rest : List ℕ) × (left ≡ 165 ∷ (bytes ++ rest))
     sealed left may = left_open [] bytes (synced opened) left (open_synced [] bytes is_opening.rest opened (gate_written [] bytes down is_opening)) may

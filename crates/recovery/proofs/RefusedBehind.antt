@@ -4,7 +4,7 @@ use Rattle.map_types.specs.declared.refusals.Refusal.{Refusal}
 use Rattle.map_types.specs.declared.refusals.Refusal.TheVariants.{Failed, LogFull, NoMemory, TooEarly, WrongPhase}
 use Rattle.map_model.specs.Maps.{Map}
 use Rattle.store_layout.specs.Failures.{failed_in}
-use Rattle.recovery.specs.Upgrading.{IsCheckpointRefused, IsLastGeneration, IsRefusedBehind, IsSectionRefused}
+use Rattle.recovery.specs.Upgrading.{IsCheckpointRefused, IsLastGeneration, IsListedBehind, IsRefusedBehind, IsSectionRefused}
 
 pub not_broken : (b : Bool) → b ≡ false → b ≡ true → ⊥
 not_broken b works broken = let x : true ≡ false = sym broken ∙ works in absurd cc
@@ -50,6 +50,12 @@ behind F G Last Then n m generation sealed e so last (inl failed) = inl (failed.
 behind F G Last Then n m generation sealed e so last (inr (inl wanting)) = inr (inl wanting)
 behind F G Last Then n m generation sealed e so last (inr (inr (inl full))) = inr (inr (inl full))
 behind F G Last Then n m generation sealed e so last (inr (inr (inr wrong))) = inr (inr (inr (wrong.0, last wrong.1)))
+
+pub listed_behind : (F Last : Type 0) (n : ℕ) (m : Map) (generation sealed : ℕ) (e : Refusal) → IsRefusedBehind F Last n m generation sealed e → IsListedBehind e
+listed_behind F Last n m generation sealed e (inl failed) = inl failed.0
+listed_behind F Last n m generation sealed e (inr (inl wanting)) = inr (inl wanting)
+listed_behind F Last n m generation sealed e (inr (inr (inl full))) = inr (inr (inl full.0))
+listed_behind F Last n m generation sealed e (inr (inr (inr wrong))) = inr (inr (inr wrong.0))
 
 -- ---- how many calls failed
 

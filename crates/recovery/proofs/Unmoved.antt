@@ -1,8 +1,9 @@
 -- A keeper that commits and stages nothing: what its calls leave.
-use Rattle.std.proofs.Common.{◌≡◌, ◌≢◌, ℕ, ◌+◌, ◌-◌, List, [], length, take, Option, None, Some, Result, Ok, Err, OnOk, IfOk, IfErr, true, false, refl, sym, ap, subst, ◌∙◌, arith}
-use Rattle.disk_model.specs.Files.{Files, now}
-use Rattle.disk_model.specs.Gates.{Call}
+use Rattle.std.proofs.Common.{◌≡◌, ◌≢◌, ◌⊎◌, inl, inr, IfSome, ℕ, ◌+◌, ◌-◌, List, [], length, take, Option, None, Some, Result, Ok, Err, OnOk, IfOk, IfErr, true, false, refl, sym, ap, subst, ◌∙◌, arith}
+use Rattle.disk_model.specs.Files.{Contents, File, Files, now}
+use Rattle.disk_model.specs.Gates.{Call, called}
 use Rattle.disk_model.specs.Moments.{AtEachMoment}
+use Rattle.disk_model.proofs.FileLemmas.{with_other}
 use Rattle.disk_model.proofs.MomentLemmas.{goes_on, no_call, weaker}
 use Rattle.map_types.specs.declared.commands.Command.{Command}
 use Rattle.map_types.specs.declared.refusals.Refusal.{Refusal}
@@ -14,29 +15,49 @@ use Rattle.ticket_order.specs.declared.stripe.Entry.{Entry}
 use Rattle.ticket_order.specs.declared.record.Opening.{Opening}
 use Rattle.ticket_order.specs.declared.record.Record.{Record}
 use Rattle.ticket_order.specs.Legality.{history_of}
-use Rattle.store_layout.specs.Opening.{StandsFor}
+use Rattle.store_layout.specs.Opening.{StandsFor, checkpoint_layout}
 use Rattle.store_layout.specs.declared.log_phase.Phase.{Phase}
 use Rattle.store_layout.specs.declared.log_phase.Phase.TheVariants as log_phase
 use Rattle.store_layout.specs.declared.checkpoint_phase.CheckpointPhase.{CheckpointPhase}
 use Rattle.store_layout.specs.declared.checkpoint_phase.CheckpointPhase.TheVariants as phase
+use Rattle.checkpoint_file.specs.CheckpointStates as checkpoint
 use Rattle.checkpoint_file.specs.States.{CheckpointState, call_in, state_after}
 use Rattle.gate_log.specs.States.{LogState, commands_of, log_after}
 use Rattle.flusher.specs.declared.keeper.Keeper.{Keeper}
 use Rattle.flusher.specs.declared.sweeper.Sweeper.{Sweeper}
-use Rattle.flusher.specs.Fitting.{Fits, StopsFit, done_after}
+use Rattle.flusher.specs.Fitting.{Fits, HoldsFor, StopsFit, done_after, store_of}
 use Rattle.flusher.specs.KeeperSteps.{IsPast, is_walking}
 use Rattle.flusher.specs.Rotating.{StepsLogs, broken, due_by, due_in, due_of, ended_in, logs_of, rotated_in, stepped, stepped_by}
 use Rattle.disk_model.specs.Calls.{Fails, Makes}
-use Rattle.store_layout.specs.Checkpoints.{checkpoint_file}
+use Rattle.store_layout.specs.Checkpoints.{Checkpoint, Section, checkpoint_file}
+use Rattle.store_layout.specs.Faults.{stripes_in}
 use Rattle.store_layout.specs.Logs.{log_file}
-use Rattle.checkpoint_walk.specs.Checkpointing.{phase_of, Checkpoints, StepsCheckpoint, call_due, checkpoints_of, kept_in}
-use Rattle.recovery.specs.Upgrading.{IsUnmoved, StandsAt, StandsThroughout, advanced_by}
+use Rattle.store_layout.specs.UsedCheckpoint.{UsesCheckpoint}
+use Rattle.store_layout.proofs.CheckpointFields.{has_stripes}
+use Rattle.store_invariant.specs.StoreStates.{WriterStands, Writes}
+use Rattle.checkpoint_walk.specs.Checkpointing.{phase_of, Checkpoints, HasGiven, StepsCheckpoint, call_due, checkpoints_of, kept_in}
+use Rattle.recovery.specs.LogReading.{contents_of}
+use Rattle.recovery.specs.Upgrading.{IsUnmoved, StandsAt, StandsThroughout, advanced_by, sealed_stripes}
 
 pub err_of : {A : Type 0} (P : Refusal → Type 0) (r : Result A Refusal) (e : Refusal) → r ≡ Err e → IfErr r P → P e
 err_of P r e is h = subst (λ x. IfErr x P) is h
 
 pub ok_of : {A : Type 0} (P : Type 0) (r : Result A Refusal) (y : A) → r ≡ Ok y → OnOk r P → P
 ok_of P r y is h = subst (λ x. OnOk x P) is h
+
+-- only the last sync of a seal changes which checkpoint is sealed
+keeps_sealed : (c : CheckpointPhase) (after : CheckpointState) (before : Checkpoints) → (c ≡ phase.Opened) ⊎ ((kept_in c after before).sealed ≡ before.sealed)
+keeps_sealed phase.Idle after before = inr refl
+keeps_sealed phase.Gate after before = inr refl
+keeps_sealed phase.GateWritten after before = inr refl
+keeps_sealed phase.GateSynced after before = inr refl
+keeps_sealed phase.Ready after before = inr refl
+keeps_sealed phase.Staged after before = inr refl
+keeps_sealed phase.Header after before = inr refl
+keeps_sealed phase.HeaderWritten after before = inr refl
+keeps_sealed phase.HeaderSynced after before = inr refl
+keeps_sealed phase.Opened after before = inl refl
+keeps_sealed phase.Sealed after before = inr refl
 
 -- ---- what a stop leaves
 
@@ -67,6 +88,14 @@ module _ {D : Type 0} (states : D → List Files) (honest : D → Type 0) where
     was_honest = λ h. one.was_honest (two.was_honest h);
     moments = λ h. goes_on states old mid new (StandsAt p m) (one.moments (two.was_honest h)) (two.moments h);
   }
+
+  -- a call in another file leaves that of the sealed checkpoint
+  other_file : (failures : D → ℕ) (number : ℕ) (call : Call) (keeper new : Keeper D) → Makes states failures number call keeper.disk new.disk → checkpoint_file keeper.sealed ≢ number → new.sealed ≡ keeper.sealed
+      → sealed_stripes states new ≡ sealed_stripes states keeper
+  other_file failures number call keeper new makes other sealed =
+      ap (λ (g : ℕ). stripes_in (contents_of states new.disk (checkpoint_file g))) sealed
+      ∙ ap (λ (past : List Files). stripes_in (now past (checkpoint_file keeper.sealed)).seen) makes.state
+      ∙ ap (λ (file : File). stripes_in file.seen) (with_other number (called call (now (states keeper.disk) number)) (now (states keeper.disk)) (checkpoint_file keeper.sealed) other)
 
   module _ (n : ℕ) (o : Opening) (keeper : Keeper D) (p : Record) (is : IsUnmoved states honest n o keeper p) where
     -- no call was made
@@ -175,6 +204,50 @@ module _ {D : Type 0} (states : D → List Files) (honest : D → Type 0) where
               so ∙ ap (λ (x : Option CheckpointState). advanced_by x (checkpoints_of keeper)) (sym f)
           by (none d f same) = ap checkpoints_of same ∙ sym (unadvanced keeper.checkpoint refl d)
 
+      -- a checkpoint that is sealed now has the keeper's stripes; else the sealed one is as it was
+      abbrev Sealed : Type 0
+      Sealed = ((new.sealed ≡ keeper.sealed) × (sealed_stripes states new ≡ sealed_stripes states keeper)) ⊎ (sealed_stripes states new ≡ keeper.stripes.count)
+
+      uses_new : (w : CheckpointState) (sections : List Section) → keeper.checkpoint ≡ Some w → new.sealed ≡ w.generation → UsesCheckpoint (checkpoint.checkpoint_of w sections) (now (states new.disk)) → sealed_stripes states new ≡ keeper.stripes.count
+      uses_new w sections f at uses =
+          let contents : Contents = contents_of states new.disk in
+          let found = uses.read.0 in
+          let k = found.checkpoint in
+          let same : k ≡ checkpoint.checkpoint_of w sections = uses.read.2 in
+          let g : new.sealed ≡ k.generation = at ∙ sym (ap (λ (x : Checkpoint). x.generation) same) in
+          let content : List ℕ = contents (checkpoint_file k.generation) in
+          let of_writer : w.stripes ≡ n = subst (λ (c : Option CheckpointState). IfSome c (λ w. w.stripes ≡ n)) f is.fits.stripes.writer in
+          ap (λ (x : ℕ). stripes_in (contents (checkpoint_file x))) g ∙ has_stripes (checkpoint_layout content) k content uses.read.1.checkpoint
+          ∙ ap (λ (x : Checkpoint). x.stripes) same ∙ of_writer ∙ sym is.fits.stripes.count
+
+      pub checkpoint_sealed : (y : CheckpointPhase) → r ≡ Ok y → honest new.disk
+          → ((w : CheckpointState) (sections : List Section) → honest new.disk → keeper.next ≡ None → keeper.checkpoint ≡ Some w → w.phase ≡ phase.Opened → HasGiven keeper.checkpoint sections (now (states keeper.disk))
+          → OnOk r (UsesCheckpoint (checkpoint.checkpoint_of w sections) (now (states new.disk)))) → Sealed
+      checkpoint_sealed y e h uses = by is_due
+        where
+          by : Due → Sealed
+          by (none d f same) = inl (ap (λ (k : Keeper D). k.sealed) same, ap (λ (k : Keeper D). sealed_stripes states k) same)
+          by (due call w f s) =
+              let ok = subst (λ (x : Result CheckpointPhase Refusal). IfOk x (λ phase. (checkpoints_of new ≡ kept_in w.phase (state_after w.phase w) (checkpoints_of keeper)) × (phase ≡ (state_after w.phase w).phase)
+              × Makes states failures (checkpoint_file w.generation) call keeper.disk new.disk)) e s.ok in
+              let front : HoldsFor (history_of p) keeper (now (states keeper.disk)) = is.fits.stores.works is.works (s.was_honest h) in
+              let place : File = now (states keeper.disk) (checkpoint_file (keeper.sealed + 1)) in
+              let writes : Writes w (store_of keeper) front.held place = subst (λ (c : Option CheckpointState). WriterStands c (store_of keeper) front.held place) f front.stands.kept.writer in
+              let generation : w.generation ≡ keeper.sealed + 1 = writes.generation in
+              elim (keeps_sealed w.phase (state_after w.phase w) (checkpoints_of keeper)) [
+                | inl last ↦ (
+                    let given : HasGiven (Some w) front.held.sections (now (states keeper.disk)) = (front.held.other, subst (λ (g : ℕ). checkpoint.Stands w front.held.other front.held.sections (now (states keeper.disk) (checkpoint_file g))) (sym generation) writes.stands) in
+                    let used = ok_of (UsesCheckpoint (checkpoint.checkpoint_of w front.held.sections) (now (states new.disk))) r y e
+                    (uses w front.held.sections h no_next f last (subst (λ (c : Option CheckpointState). HasGiven c front.held.sections (now (states keeper.disk))) (sym f) given)) in
+                    let at : new.sealed ≡ w.generation = ap (λ (c : Checkpoints). c.sealed) ok.0 ∙ ap (λ (c : CheckpointPhase). (kept_in c (state_after c w) (checkpoints_of keeper)).sealed) last in
+                    inr (uses_new w front.held.sections f at used)
+                    )
+                | inr same ↦ (
+                    let at : new.sealed ≡ keeper.sealed = ap (λ (c : Checkpoints). c.sealed) ok.0 ∙ same in
+                    inl (at, other_file failures (checkpoint_file w.generation) call keeper new ok.2 (λ x. absurd (omega (arith, x, generation))) at)
+                    )
+              ]
+
       pub checkpoint_unmoved : (y : CheckpointPhase) → r ≡ Ok y → (OnOk r (new.is_broken ≡ false)) → Fits states honest n [] new p
           → new ≡ record keeper { disk = new.disk; sealed = new.sealed; checkpoint = new.checkpoint; must_close = new.must_close; is_broken = new.is_broken } → IsUnmoved states honest n o new p
       checkpoint_unmoved y e works fits same = record {
@@ -276,6 +349,17 @@ module _ {D : Type 0} (states : D → List Files) (honest : D → Type 0) where
           by (due_log s) = (subst (λ (x : Result Phase Refusal). IfOk x (λ phase. (logs_of new ≡ stepped (logs_of keeper)) × (phase ≡ (due_of (logs_of new)).phase)
               × Makes states failures (log_file (due_of (logs_of keeper)).generation) s.call keeper.disk new.disk)) e s.ok).0
           by (none_due d f same) = ap logs_of same ∙ sym (unstepped keeper.log keeper.next d)
+
+      -- no call of a log is in a file of checkpoints
+      pub logs_keep : (y : Phase) → r ≡ Ok y → new.sealed ≡ keeper.sealed → sealed_stripes states new ≡ sealed_stripes states keeper
+      logs_keep y e sealed = by log_due
+        where
+          by : DueLog → sealed_stripes states new ≡ sealed_stripes states keeper
+          by (due_log s) =
+              let makes = (subst (λ (x : Result Phase Refusal). IfOk x (λ phase. (logs_of new ≡ stepped (logs_of keeper)) × (phase ≡ (due_of (logs_of new)).phase)
+              × Makes states failures (log_file (due_of (logs_of keeper)).generation) s.call keeper.disk new.disk)) e s.ok).2 in
+              other_file failures (log_file (due_of (logs_of keeper)).generation) s.call keeper new makes (λ x. absurd (omega (arith, x))) sealed
+          by (none_due d f same) = ap (λ (k : Keeper D). sealed_stripes states k) same
 
       -- nothing is staged, and no walk is under way
       past_staged : (next : Option LogState) (x : Phase) (old new : Sweeper) (staged left : List Entry) → IsPast next x old staged new left → staged ≡ [] → left ≡ []

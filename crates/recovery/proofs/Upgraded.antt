@@ -1,6 +1,6 @@
 -- What a directory stands for once it is upgraded, and which version its newest log has.
 use Rattle.std.proofs.Common.{◌≡◌, ◌≢◌, ◌⊎◌, inl, inr, ℕ, ◌+◌, ◌<◌, List, ◌++◌, Bool, true, false, Option, None, Some, Result, Ok, refl, sym, ap, subst, ◌∙◌, arith}
-use Rattle.disk_model.specs.Files.{Contents, Files, Leaves, now}
+use Rattle.disk_model.specs.Files.{Contents, File, Files, Leaves, now}
 use Rattle.disk_model.proofs.MomentLemmas.{in_the_end, no_call, weaker}
 use Rattle.map_types.specs.declared.refusals.Refusal.{Refusal}
 use Rattle.map_model.specs.Laws.{PartsMakeTheMap}
@@ -15,9 +15,11 @@ use Rattle.ticket_order.specs.declared.record.Record.{Record}
 use Rattle.ticket_order.specs.Legality.{history_of}
 use Rattle.one_history.specs.Turns.{maps_of}
 use Rattle.store_layout.specs.Checkpoints.{Checkpoint, checkpoint_file}
+use Rattle.store_layout.specs.Faults.{stripes_in}
+use Rattle.store_layout.proofs.CheckpointFields.{has_stripes}
 use Rattle.store_layout.specs.Logs.{Batch, log_file, new_layout, new_version}
 use Rattle.store_layout.specs.Readings.{closed, ended}
-use Rattle.store_layout.specs.Opening.{AreLogs, Holds, IsCheckpointIn, IsClosedIn, IsEndedIn, IsOlder, Opened as FoundStore, StandsFor, log_layout, map_of, newest_by, newest_of, prefix_of}
+use Rattle.store_layout.specs.Opening.{AreLogs, Holds, IsCheckpointIn, IsClosedIn, IsEndedIn, IsOlder, Opened as FoundStore, StandsFor, checkpoint_layout, log_layout, map_of, newest_by, newest_of, prefix_of}
 use Rattle.store_layout.specs.OpeningLaws.{OpensOneWay}
 use Rattle.store_layout.specs.declared.checkpoint_phase.CheckpointPhase.TheVariants as phase
 use Rattle.store_layout.specs.declared.log_phase.Phase.TheVariants.{Idle}
@@ -35,7 +37,7 @@ use Rattle.flusher.specs.Fitting.{HoldsFor, store_of}
 use Rattle.recovery.specs.LogReading.{GoesOnIn, contents_of}
 use Rattle.recovery.specs.Opening.{IsOpenedAs}
 use Rattle.recovery.specs.Syncing.{LeavesOnly, SyncsAndLooks}
-use Rattle.recovery.specs.Upgrading.{HasRotated, IsLastGeneration, IsNewest, IsRefusedBehind, IsUnmoved, IsUpgraded, RefusesBehind, StandsAt, StandsThroughout, StaysStanding}
+use Rattle.recovery.specs.Upgrading.{HasRotated, IsLastGeneration, IsNewest, IsRefusedBehind, IsUnmoved, IsUpgraded, RefusesBehind, SealsOne, StandsAt, StandsThroughout, StaysStanding, UsesStripes, sealed_stripes}
 use Rattle.recovery.proofs.RefusedBehind.{behind}
 
 ok_inj : (a b : FoundStore) → ◌≡◌ {A = Result FoundStore Refusal} (Ok a) (Ok b) → a ≡ b
@@ -129,6 +131,30 @@ module _ {D : Type 0} (states : D → List Files) (failures : D → ℕ) (honest
         newest = ap log_layout (log_same (contents_of states disk) contents same (newest_of found).generation) ∙ sym goes.version ∙ ap layout_of version;
       }
 
+  pub stripes_before : (after : D) → after ≡ keeper.disk → LeavesOnly (now (states keeper.disk)) (contents_of states disk) → OpensOneWay → (found : FoundStore) → Holds (contents_of states disk) found
+      → (contents : Contents) → Leaves (now (states after)) contents → UsesStripes found.checkpoint.stripes contents
+  stripes_before after e stops one_way found holds contents leaves x here =
+      let same = stops contents (subst (λ (d : D). Leaves (now (states d)) contents) e leaves) in
+      ap (λ (f : FoundStore). f.checkpoint.stripes) (one_found one_way contents x found here (same_holds (contents_of states disk) contents same found holds))
+
+  pub newest_found : OpensOneWay → honest keeper.disk → (found : FoundStore) → Holds (contents_of states disk) found → keeper.log.version ≡ new_version → IsNewest (contents_of states disk) found
+  newest_found one_way at found holds version =
+      let opened = (ok at).1 in
+      let one : opened.found ≡ found = one_found one_way (contents_of states disk) opened.found found opened.holds holds in
+      let goes : GoesOnIn (contents_of states disk) (newest_of found) keeper.log = subst (λ (x : FoundStore). GoesOnIn (contents_of states disk) (newest_of x) keeper.log) one opened.log in
+      sym goes.version ∙ ap layout_of version
+
+  -- what the file of the sealed checkpoint names
+  pub opened_stripes : LeavesOnly (now (states keeper.disk)) (contents_of states disk) → Leaves (now (states keeper.disk)) (contents_of states keeper.disk) → OpensOneWay → honest keeper.disk → (found : FoundStore) → Holds (contents_of states disk) found
+      → sealed_stripes states keeper ≡ found.checkpoint.stripes
+  opened_stripes stops left one_way at found holds =
+      let opened = (ok at).1 in
+      let one : opened.found ≡ found = one_found one_way (contents_of states disk) opened.found found opened.holds holds in
+      let sealed : keeper.sealed ≡ found.checkpoint.generation = opened.sealed ∙ ap (λ (x : FoundStore). x.checkpoint.generation) one in
+      let content : List ℕ = contents_of states disk (checkpoint_file found.checkpoint.generation) in
+      ap stripes_in (stops (contents_of states keeper.disk) left (checkpoint_file keeper.sealed) (omega arith)) ∙ ap (λ (g : ℕ). stripes_in (contents_of states disk (checkpoint_file g))) sealed
+      ∙ has_stripes (checkpoint_layout content) found.checkpoint content holds.checkpoint
+
   pub newest_before : OpensOneWay → honest keeper.disk → (found : FoundStore) → Holds (contents_of states disk) found → IsNewest (contents_of states disk) found → keeper.log.version ≡ new_version
   newest_before one_way at found holds newest =
       let opened = (ok at).1 in
@@ -142,6 +168,24 @@ module _ {D : Type 0} (states : D → List Files) (failures : D → ℕ) (honest
       by : (second : Option (List Batch)) → keeper.log.generation ≡ (newest_by (ok h).1.found.checkpoint (ok h).1.found.first second).generation → (keeper.log.generation ≡ keeper.sealed) ⊎ (keeper.log.generation ≡ keeper.sealed + 1)
       by None e = inl (e ∙ sym (ok h).1.sealed)
       by (Some second) e = inr (e ∙ ap (λ (g : ℕ). g + 1) (sym (ok h).1.sealed))
+
+  -- whether the newest log is that of the sealed checkpoint
+  pub seals_one : OpensOneWay → honest keeper.disk → (found : FoundStore) → Holds (contents_of states disk) found → SealsOne (contents_of states disk) found → keeper.log.generation ≢ keeper.sealed
+  seals_one one_way at found holds seals e =
+      let opened = (ok at).1 in
+      let one : opened.found ≡ found = one_found one_way (contents_of states disk) opened.found found opened.holds holds in
+      seals.1 (sym (opened.log.generation ∙ ap (λ (x : FoundStore). (newest_of x).generation) one) ∙ e ∙ opened.sealed ∙ ap (λ (x : FoundStore). x.checkpoint.generation) one)
+
+  pub seals_none : OpensOneWay → (at : honest keeper.disk) → (found : FoundStore) → Holds (contents_of states disk) found → (IsNewest (contents_of states disk) found → ⊥) → (SealsOne (contents_of states disk) found → ⊥) → keeper.log.generation ≡ keeper.sealed
+  seals_none one_way at found holds earlier never =
+      let opened = (ok at).1 in
+      let one : opened.found ≡ found = one_found one_way (contents_of states disk) opened.found found opened.holds holds in
+      let newest : keeper.log.generation ≡ (newest_of found).generation = opened.log.generation ∙ ap (λ (x : FoundStore). (newest_of x).generation) one in
+      let sealed : keeper.sealed ≡ found.checkpoint.generation = opened.sealed ∙ ap (λ (x : FoundStore). x.checkpoint.generation) one in
+      elim (either at) [
+        | inl same ↦ same
+        | inr next ↦ absurd (never (earlier, λ e. absurd (omega (arith, e, next, newest, sealed))))
+      ]
 
   -- what was refused behind the opening, of what it found
   pub refuses_behind : (after : D) (e : Refusal) → SyncsAndLooks states failures honest 4 0 disk keeper.disk → keeper.stripes.count ≡ n → honest keeper.disk
@@ -188,6 +232,13 @@ module _ {D : Type 0} (states : D → List Files) (honest : D → Type 0) (n : �
 
   k : found.checkpoint ≡ front.held.found.checkpoint
   k = ap (λ (x : FoundStore). x.checkpoint) (one_found one_way contents found uses.0 holds uses.1) ∙ uses.2
+
+  pub stripes_used : found.checkpoint.stripes ≡ sealed_stripes states keeper
+  stripes_used =
+      let c = front.held.found.checkpoint in
+      let sealed = front.stands.kept.checkpoint in
+      ap (λ (x : Checkpoint). x.stripes) k
+      ∙ sym (ap (λ (file : File). stripes_in file.seen) sealed.settled ∙ has_stripes (checkpoint_layout sealed.content) c sealed.content sealed.checkpoint)
 
   pub newest : IsNewest contents found
   newest = by front.held.found.second front.stands.kept.logs
@@ -255,3 +306,13 @@ module _ {D : Type 0} (states : D → List Files) (failures : D → ℕ) (honest
       subst (λ (x : Map). IsUpgraded (prefix_of found) x contents) map
       (subst (λ (x : ℕ). IsUpgraded x o.map contents) prefix
       (upgraded_after states honest rotated.0.0 o new rotated.0.1 rotated.0.2 rotated.1 uses one_way here end_o contents left))
+
+  pub stripes_kept : (new : Keeper D) (after : D) → after ≡ new.disk → StandsThroughout states honest first (union_of (maps_of parts)) keeper.disk new.disk → (o : Opening)
+      → ((keeper.log.generation ≡ keeper.sealed) ⊎ (keeper.log.generation ≡ keeper.sealed + 1) → ((m : ℕ) × (p : Record) × IsUnmoved states honest m o new p) × HasRotated new) → StopsUseCheckpoint → OpensOneWay
+      → honest after → (contents : Contents) → Leaves (now (states after)) contents → (x : FoundStore) → Holds contents x → x.checkpoint.stripes ≡ sealed_stripes states new
+  stripes_kept new after e stands o rotates uses one_way h contents leaves x here =
+      let now_honest = subst honest e h in
+      let at = stands.was_honest now_honest in
+      let rotated = rotates (either states failures honest law n some disk keeper parts first limit ok at) in
+      let left : Leaves (now (states new.disk)) contents = subst (λ (d : D). Leaves (now (states d)) contents) e leaves in
+      stripes_used states honest rotated.0.0 o new rotated.0.1 rotated.0.2 rotated.1 uses one_way now_honest contents left x here

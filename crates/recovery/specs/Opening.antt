@@ -9,6 +9,7 @@ use Rattle.flusher.specs.declared.sweeper.Walking.TheVariants.{Rests}
 use Rattle.ticket_order.specs.declared.record.Opening.{Opening}
 use Rattle.store_layout.specs.Calls.{body_bytes, checkpoint_calls, logs_calls}
 use Rattle.store_layout.specs.Checkpoints.{Checkpoint, greatest_mark}
+use Rattle.store_layout.specs.Failures.{AreFilesRefused}
 use Rattle.store_layout.specs.Logs.{Batch}
 use Rattle.store_layout.specs.SectionsAndLog.{restored}
 use Rattle.store_layout.specs.Opening.{Contents, Opened, Holds, Refuses, AreLogs, key_limit_of, logged_by, map_of, newest_by, newest_of, prefix_of}
@@ -81,7 +82,8 @@ pub record IsAtStart {D : Type 0} (stripes : StripeCount) (first : ℕ) (keeper 
   pub working : keeper.is_broken ≡ false
   pub unfailed : keeper.has_failed ≡ false
 
--- opening the disk was refused for a reason, and nothing was written to it
+-- Opening the disk was refused, and nothing was written to it. On an honest disk the files give the reason.
 pub record IsNotOpened {D : Type 0} (states : D → List Files) (failures : D → ℕ) (honest : D → Type 0) (old new : D) (refusal : Refusal) : Type 0 where
   pub stopped : Stopped states failures honest 4 old new refusal
+  pub listed : AreFilesRefused refusal
   pub reason : honest new → honest old × RefusesFor (Refuses (contents_of states old) refusal) refusal

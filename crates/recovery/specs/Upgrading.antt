@@ -13,6 +13,8 @@ use Rattle.ticket_order.specs.declared.record.Record.{Record}
 use Rattle.one_history.specs.declared.book.Book.{Book}
 use Rattle.one_history.specs.Turns.{record_of}
 use Rattle.store_layout.specs.Failures.{failed_in}
+use Rattle.store_layout.specs.Checkpoints.{checkpoint_file}
+use Rattle.store_layout.specs.Faults.{stripes_in}
 use Rattle.store_layout.specs.Logs.{log_file, new_layout}
 use Rattle.store_layout.specs.Opening.{Holds, Opened as FoundStore, StandsFor, log_layout, map_of, newest_of, prefix_of}
 use Rattle.store_layout.specs.declared.checkpoint_phase.CheckpointPhase.TheVariants.{Ready}
@@ -45,6 +47,15 @@ pub record IsUpgraded (p : ℕ) (m : Map) (contents : Contents) : Type 0 where
   pub prefix : prefix_of found ≡ p
   pub map : map_of found ≡ m
   pub newest : IsNewest contents found
+
+-- the checkpoint that these files use has n stripes
+abbrev pub UsesStripes : ℕ → Contents → Type 0
+UsesStripes n contents = (found : FoundStore) → Holds contents found → found.checkpoint.stripes ≡ n
+
+-- An upgrade of what was found seals a checkpoint: the newest log isn't in the newest version, nor that of the sealed
+-- checkpoint.
+abbrev pub SealsOne : Contents → FoundStore → Type 0
+SealsOne contents found = (IsNewest contents found → ⊥) × ((newest_of found).generation ≢ found.checkpoint.generation)
 
 -- The opening of `disk` left it as `middle`, and found this. A stop at any moment from there on leaves files that stand
 -- for the same map after as many commands.
@@ -95,14 +106,23 @@ pub record RefusesBehind (Failing : Type 0) (n : ℕ) (contents : Contents) (ref
   pub holds : Holds contents found
   pub cause : IsRefusedBehind Failing (IsLastGeneration (newest_of found).generation) n (map_of found) (newest_of found).generation found.checkpoint.generation refusal
 
+-- behind its opening an upgrade is refused as these alone, whatever the device gives
+abbrev pub IsListedBehind : Refusal → Type 0
+IsListedBehind refusal = (refusal ≡ Failed) ⊎ ((refusal ≡ NoMemory) ⊎ ((refusal ≡ LogFull) ⊎ (refusal ≡ WrongPhase)))
+
 -- The upgrade over this many stripes was refused behind its opening. No stop loses what the directory stood for, and on an
 -- honest disk there is a reason. One call failed if it is `Failed`, and else none.
 pub record IsUpgradeRefused {D : Type 0} (states : D → List Files) (failures : D → ℕ) (honest : D → Type 0) (stripes : ℕ) (old new : D) (refusal : Refusal) : Type 0 where
   pub stays : StaysStanding states failures honest old new
   pub counted : failures new ≡ failures old + failed_in {X = ℕ} (Err refusal)
+  pub listed : IsListedBehind refusal
   pub reason : honest new → honest old × RefusesBehind (failures new ≡ failures old + 1) stripes (contents_of states old) refusal
 
 -- ---- the keeper, between its calls
+
+-- how many stripes the file of the sealed checkpoint names
+abbrev pub sealed_stripes : {D : Type 0} → (D → List Files) → Keeper D → ℕ
+sealed_stripes states keeper = stripes_in (contents_of states keeper.disk (checkpoint_file keeper.sealed))
 
 -- an honest disk was so before, and no stop between the two loses the map m after the first p commands
 pub record StandsThroughout {D : Type 0} (states : D → List Files) (honest : D → Type 0) (p : ℕ) (m : Map) (old new : D) : Type 0 where

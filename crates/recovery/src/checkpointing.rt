@@ -5,7 +5,7 @@ ghost use Rattle.ticket_order.specs.declared.record.Opening.{Opening};
 ghost use Rattle.ticket_order.specs.declared.record.Record.{Record};
 ghost use Rattle.flusher.specs.Rotating.{logs_of};
 ghost use Rattle.checkpoint_walk.specs.Checkpointing.{IsNextStripe, checkpoints_of};
-ghost use Rattle.recovery.specs.Upgrading.{HasSections, IsCheckpointRefused, IsGivenAt, IsLastGeneration, IsSectionRefused, IsUnmoved, IsUnmovedWith, StandsThroughout, checkpoints_after};
+ghost use Rattle.recovery.specs.Upgrading.{HasSections, IsCheckpointRefused, IsGivenAt, IsLastGeneration, IsSectionRefused, IsUnmoved, IsUnmovedWith, StandsThroughout, checkpoints_after, sealed_stripes};
 
 use checkpoint_walk::capture_step;
 use disk_model::Disk;
@@ -38,6 +38,11 @@ fn advance<D: Disk>(keeper: &mut Keeper<D>, calls: usize) -> Result<(), Refusal>
         (checkpoints_of keeper.new ≡ checkpoints_after calls (checkpoints_of keeper.old)) }
     ensures logs { logs_of keeper.new ≡ logs_of keeper.old }
     ensures stripes { keeper.new.stripes ≡ keeper.old.stripes }
+
+    // A checkpoint that is sealed by these calls has as many stripes as the keeper.
+    ensures seals { OnOk result
+        (D.honest keeper.new.disk → keeper.new.sealed ≢ keeper.old.sealed
+        → sealed_stripes D.states keeper.new ≡ keeper.old.stripes.count) }
 
     // Each call succeeds; or one fails, and it is the last.
     ensures counted { OnOk result (D.failures keeper.new.disk ≡ D.failures keeper.old.disk) }
@@ -163,9 +168,12 @@ pub(crate) fn seal_checkpoint<D: Disk>(
         → IsUnmovedWith D.states D.honest o keeper.new steps.new.pass
         steps.new.words.now) }
 
-    // The next generation is sealed, and none is begun.
+    // The next generation is sealed, for the keeper's stripes, and none is begun.
     ensures sealed { OnOk result
         ((keeper.new.sealed ≡ keeper.old.sealed + 1) × (keeper.new.checkpoint ≡ None)) }
+    ensures stripes { OnOk result
+        (D.honest keeper.new.disk
+        → sealed_stripes D.states keeper.new ≡ keeper.old.stripes.count) }
     ensures logs { logs_of keeper.new ≡ logs_of keeper.old }
 
     // Refused: after the one call that failed, for a section, or since no generation follows.

@@ -2,6 +2,7 @@
 ghost use Rattle.std.specs.Prelude.{◌≡◌, ◌⊎◌, ◌<◌, Some, IfOk, IfErr, OnOk, OnErr};
 ghost use Rattle.disk_model.specs.Calls.{Looks};
 ghost use Rattle.file_pieces.specs.Counting.{Made, MadeAtMost};
+ghost use Rattle.store_layout.specs.Failures.{AreFilesRefused};
 ghost use Rattle.store_layout.specs.Opening.{heads_fault};
 ghost use Rattle.checkpoint_file.specs.Heads.{failed_in};
 ghost use Rattle.recovery.specs.Heads.{IsUsed};
@@ -24,6 +25,7 @@ pub(crate) fn newest_file<D: Disk>(disk: &mut D) -> Result<usize, Refusal>
     ensures ok { D.honest disk.new → IfOk result (IsUsed (contents_of D.states disk.old)) }
 
     // Refused by a failed call, or for what is wrong with the heads.
+    ensures listed { IfErr result AreFilesRefused }
     ensures err { IfErr result (λ refusal. (refusal ≡ Refusal.Failed)
         ⊎ (D.honest disk.new → heads_fault (contents_of D.states disk.old) ≡ Some refusal)) }
 {

@@ -4,6 +4,7 @@ ghost use Rattle.disk_model.specs.Calls.{Looks};
 ghost use Rattle.file_pieces.specs.Counting.{Made, MadeAtMost};
 ghost use Rattle.store_layout.specs.Calls.{log_calls, logs_calls};
 ghost use Rattle.store_layout.specs.Checkpoints.{Section};
+ghost use Rattle.store_layout.specs.Failures.{AreFilesRefused, IsFileRefused};
 ghost use Rattle.store_layout.specs.Logs.{Batch, log_file};
 ghost use Rattle.store_layout.specs.Opening.{AreBadLogs, AreLogs, log_layout};
 ghost use Rattle.gate_log.specs.Scan.{failed_in, log_bytes};
@@ -51,7 +52,8 @@ fn read_log<D: Disk>(
     ensures ok { D.honest disk.new → IfOk result (λ x. IsLogRead generation low
         (log_bytes D.states disk.old generation) restoring.old x.0 x.1 restoring.new) }
 
-    // On an honest disk, refused by a call, for memory, or for a damaged log.
+    // Refused by a call, for memory, or for a fault; on an honest disk the log is damaged.
+    ensures listed { IfErr result (IsFileRefused (log_file generation)) }
     ensures err { D.honest disk.new → IfErr result (λ refusal. RefusesFor
         (IsBadLog generation low (log_bytes D.states disk.old generation) refusal) refusal) }
 {
@@ -107,7 +109,8 @@ pub(crate) fn read_logs<D: Disk>(
         (AreReplayed (contents_of D.states disk.old)
         (checkpoint_with generation low stripes sections) restoring.old restoring.new) }
 
-    // On an honest disk, refused by a call, for memory, or for damaged logs.
+    // Refused by a call, for memory, or for a fault; on an honest disk the logs are damaged.
+    ensures listed { IfErr result AreFilesRefused }
     ensures err { D.honest disk.new → (stripes : ℕ) (sections : List Section)
         → IfErr result (λ refusal.
         RefusesFor

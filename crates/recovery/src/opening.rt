@@ -5,6 +5,7 @@ ghost use Rattle.disk_model.specs.Files.{now};
 ghost use Rattle.file_pieces.specs.Counting.{Made, MadeAtMost};
 ghost use Rattle.log_records.specs.Layout.{layout_of};
 ghost use Rattle.store_layout.specs.Calls.{logs_calls, opening_calls, reading_calls};
+ghost use Rattle.store_layout.specs.Failures.{AreFilesRefused};
 ghost use Rattle.store_layout.specs.Logs.{Batch};
 ghost use Rattle.store_layout.specs.Checkpoints.{checkpoint_file, is_to_close};
 ghost use Rattle.ticket_order.specs.declared.record.Record.{Record};
@@ -78,7 +79,8 @@ fn restore_from<D: Disk>(
         → IfOk result
         (IsRestored (contents_of D.states disk.old) (checkpoint_of loaded) stripes.count) }
 
-    // On an honest disk, refused by a call, for memory, or for damaged logs.
+    // Refused by a call, for memory, or for a fault; on an honest disk the logs are damaged.
+    ensures listed { IfErr result AreFilesRefused }
     ensures err { D.honest disk.new → IfErr result (λ refusal. RefusesFor
         (AreBadLogs (contents_of D.states disk.old) (checkpoint_of loaded) refusal) refusal) }
 {
@@ -117,7 +119,8 @@ fn restore<D: Disk>(alloc: Global, disk: &mut D, stripes: StripeCount) -> Result
     ensures ok { D.honest disk.new
         → IfOk result (IsOpened (contents_of D.states disk.old) stripes.count) }
 
-    // On an honest disk, refused by a call, memory, or what its files hold.
+    // Refused by a call, memory, or a fault; on an honest disk what its files hold.
+    ensures listed { IfErr result AreFilesRefused }
     ensures err { D.honest disk.new → IfErr result (λ refusal. RefusesFor
         (Refuses (contents_of D.states disk.old) refusal) refusal) }
 {
@@ -155,7 +158,8 @@ fn read_files<D: Disk>(
     ensures gate { D.honest disk.new → IfOk result (λ x. x.1 ≡ is_to_close
         (contents_of D.states disk.old (checkpoint_file (x.0.sealed + 1)))) }
 
-    // On an honest disk, refused by a call, memory, or what its files hold.
+    // Refused by a call, memory, or a fault; on an honest disk what its files hold.
+    ensures listed { IfErr result AreFilesRefused }
     ensures err { D.honest disk.new → IfErr result (λ refusal. RefusesFor
         (Refuses (contents_of D.states disk.old) refusal) refusal) }
 {
@@ -194,7 +198,8 @@ fn open_files<D: Disk>(
     ensures gate { D.honest disk.new → IfOk result (λ x. x.1 ≡ is_to_close
         (contents_of D.states disk.old (checkpoint_file (x.0.sealed + 1)))) }
 
-    // On an honest disk, refused by a call, memory, or what its files hold.
+    // Refused by a call, memory, or a fault; on an honest disk what its files hold.
+    ensures listed { IfErr result AreFilesRefused }
     ensures err { D.honest disk.new → IfErr result (λ refusal. RefusesFor
         (Refuses (contents_of D.states disk.old) refusal) refusal) }
 {
@@ -237,6 +242,9 @@ pub fn open_parts<D: Disk>(
         x.3) }
     ensures err { IfErr result (λ x. D.honest x.0
         → D.honest disk × RefusesFor (Refuses (contents_of D.states disk) x.1) x.1) }
+
+    // Of any disk: a failed call, no memory, no seal, or a fault of one of the files.
+    ensures listed { IfErr result (λ x. AreFilesRefused x.1) }
 
     // A stop now leaves exactly the files as they were read.
     ensures stops { IfOk result (λ x. LeavesOnly (now (D.states x.0.disk))
@@ -294,6 +302,9 @@ pub fn open<D: Disk>(
         → OpensWith (contents_of D.states disk) (begun_with x.1)) }
     ensures err { IfErr result (λ x. D.honest x.0
         → D.honest disk × RefusesFor (Refuses (contents_of D.states disk) x.1) x.1) }
+
+    // Of any disk: a failed call, no memory, no seal, or a fault of one of the files.
+    ensures listed { IfErr result (λ x. AreFilesRefused x.1) }
 
     // A stop now leaves exactly the files as they were read.
     ensures stops { IfOk result (λ x. LeavesOnly (now (D.states x.0.disk))

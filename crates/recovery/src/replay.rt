@@ -4,6 +4,7 @@ ghost use Rattle.disk_model.specs.Calls.{Looks};
 ghost use Rattle.file_pieces.specs.Counting.{ReadsPieces, ReadsAtMost};
 ghost use Rattle.file_pieces.specs.Pieces.{end_of, pieces_in};
 ghost use Rattle.log_records.specs.Layout.{layout_of};
+ghost use Rattle.store_layout.specs.Failures.{IsFileRefused};
 ghost use Rattle.store_layout.specs.Logs.{Batch, log_file};
 ghost use Rattle.gate_log.specs.Scan.{HasRead, failed_in, log_bytes};
 ghost use Rattle.recovery.specs.Restoring.{IsSameFrame};
@@ -73,6 +74,7 @@ pub(crate) fn replay<D: Disk>(
         (log_bytes D.states disk.old generation) restoring.old end scan.new restoring.new) }
 
     // Refused by a call, for memory, or for a frame that may not stand there.
+    ensures listed { IfErr result (IsFileRefused (log_file generation)) }
     ensures err { IfErr result (λ refusal.
         RefusesFor
         (D.honest disk.new → (low : ℕ)

@@ -17,7 +17,7 @@ ghost use Rattle.recovery.specs.Formatting.{AtStops};
 ghost use Rattle.recovery.specs.LogReading.{contents_of};
 ghost use Rattle.recovery.specs.Opening.{IsAtStart, IsNotOpened};
 ghost use Rattle.recovery.specs.Syncing.{Stopped, SyncsAndLooks};
-ghost use Rattle.recovery.specs.Upgrading.{HasRotated, IsLastGeneration, IsNewest, IsRefusedBehind, IsUnmoved, IsUnmovedWith, IsUpgradeRefused, IsUpgraded, StandsThroughout, StaysStanding, logs_after};
+ghost use Rattle.recovery.specs.Upgrading.{HasRotated, IsLastGeneration, IsNewest, IsRefusedBehind, IsUnmoved, IsUnmovedWith, IsUpgradeRefused, IsUpgraded, SealsOne, StandsThroughout, StaysStanding, UsesStripes, logs_after, sealed_stripes};
 
 use crate::checkpointing::seal_checkpoint;
 use crate::opening::open_parts;
@@ -53,6 +53,8 @@ fn advance<D: Disk>(keeper: &mut Keeper<D>, calls: usize) -> Result<(), Refusal>
     ensures logs { OnOk result (logs_of keeper.new ≡ logs_after calls (logs_of keeper.old)) }
     ensures checkpoint { keeper.new.checkpoint ≡ keeper.old.checkpoint }
     ensures sealed { keeper.new.sealed ≡ keeper.old.sealed }
+    ensures stripes { OnOk result
+        (sealed_stripes D.states keeper.new ≡ sealed_stripes D.states keeper.old) }
 
     // Each call succeeds; or one fails, and it is the last.
     ensures counted { OnOk result (D.failures keeper.new.disk ≡ D.failures keeper.old.disk) }
@@ -82,6 +84,8 @@ fn rotate<D: Disk>(keeper: &mut Keeper<D>) -> Result<(), Refusal>
     // If the newest log was that of the sealed checkpoint, the next log is the newest now.
     ensures rotated { OnOk result
         (keeper.old.log.generation ≡ keeper.old.sealed → HasRotated keeper.new) }
+    ensures stripes { OnOk result
+        (sealed_stripes D.states keeper.new ≡ sealed_stripes D.states keeper.old) }
 
     // Refused: after the one call that failed, or if no checkpoint may begin.
     ensures counted { OnOk result (D.failures keeper.new.disk ≡ D.failures keeper.old.disk) }
@@ -119,6 +123,14 @@ fn rotate_sealed<D: Disk>(keeper: &mut Keeper<D>, steps: &mut At<'_>) -> Result<
         ⊎ (keeper.old.log.generation ≡ keeper.old.sealed + 1)
         → ((n : ℕ) × (p : Record) × IsUnmoved D.states D.honest n o keeper.new p)
         × HasRotated keeper.new) }
+
+    // The sealed checkpoint has its stripes; one that had to be sealed first, the keeper's.
+    ensures kept { OnOk result
+        (keeper.old.log.generation ≡ keeper.old.sealed
+        → sealed_stripes D.states keeper.new ≡ sealed_stripes D.states keeper.old) }
+    ensures stripes { OnOk result
+        (D.honest keeper.new.disk → keeper.old.log.generation ≢ keeper.old.sealed
+        → sealed_stripes D.states keeper.new ≡ keeper.old.stripes.count) }
 
     // No call fails; or one does, and it is the last.
     ensures counted { OnOk result (D.failures keeper.new.disk ≡ D.failures keeper.old.disk) }
@@ -164,6 +176,14 @@ fn upgrade_keeper<D: Disk>(
         → ((n : ℕ) × (p : Record)
         × IsUnmoved D.states D.honest n (opening_of first parts.items limit) keeper.new p)
         × HasRotated keeper.new) }
+
+    // The sealed checkpoint has its stripes; one that had to be sealed first, the keeper's.
+    ensures kept { OnOk result
+        (keeper.old.log.generation ≡ keeper.old.sealed
+        → sealed_stripes D.states keeper.new ≡ sealed_stripes D.states keeper.old) }
+    ensures stripes { OnOk result
+        (D.honest keeper.new.disk → keeper.old.log.generation ≢ keeper.old.sealed
+        → sealed_stripes D.states keeper.new ≡ keeper.old.stripes.count) }
 
     // No call fails; or one does, and it is the last.
     ensures counted { OnOk result (D.failures keeper.new.disk ≡ D.failures keeper.old.disk) }
@@ -212,6 +232,15 @@ pub fn upgrade<D: Disk>(alloc: Global, disk: D, stripes: StripeCount) -> Result<
     ensures reads { IfOk result (λ after. D.honest after → (found : Opened)
         → Holds (contents_of D.states disk) found
         → IsUpgraded (prefix_of found) (map_of found) (contents_of D.states after)) }
+
+    // The checkpoint has the stripes that it had; one that it had to seal, those asked for.
+    ensures kept { IfOk result (λ after. D.honest after → (found : Opened)
+        → Holds (contents_of D.states disk) found
+        → (SealsOne (contents_of D.states disk) found → ⊥)
+        → AtStops (UsesStripes found.checkpoint.stripes) (now (D.states after))) }
+    ensures stripes { IfOk result (λ after. D.honest after → (found : Opened)
+        → Holds (contents_of D.states disk) found → SealsOne (contents_of D.states disk) found
+        → AtStops (UsesStripes stripes.count) (now (D.states after))) }
 
     // If it was so before, nothing is written, and no other refusal comes than these two.
     ensures untouched { IfOk result (λ after. D.honest after → (found : Opened)

@@ -6,8 +6,9 @@ use call_text::refusal_text;
 use disk_model::{Disk, MemDisk};
 use flusher::Keeper;
 use java_hash::StripeCount;
+use log_records::Version;
 use map_types::Refusal;
-use recovery::{format, open_parts};
+use recovery::{format, format_as, open_parts};
 use run_cases::{Names, put_entries};
 use std::alloc::{AllocError, Global};
 
@@ -70,9 +71,14 @@ pub(crate) fn opened(alloc: Global, names: &Names, words: &[&str]) -> Result<Str
     open(alloc, disk, stripes)
 }
 
-// The four files that are left of a disk that is formatted.
-fn format_text(alloc: Global, disk: &mut MemDisk, stripes: StripeCount) -> Result<String, Refusal> {
-    format(alloc, disk, stripes)?;
+// The four files that are left of a disk that is formatted in this version.
+fn format_text(
+    alloc: Global,
+    disk: &mut MemDisk,
+    stripes: StripeCount,
+    version: Version,
+) -> Result<String, Refusal> {
+    format_as(alloc, disk, stripes, version)?;
     let zero = content(alloc, disk, 0)?;
     let one = content(alloc, disk, 1)?;
     let two = content(alloc, disk, 2)?;
@@ -80,16 +86,21 @@ fn format_text(alloc: Global, disk: &mut MemDisk, stripes: StripeCount) -> Resul
     Ok(format!(in alloc; "{zero} {one} {two} {three}")?)
 }
 
-/// What is left of a disk with these files that is formatted for `stripes` stripes, and what is
-/// then opened under `others` stripes. A number behind them says after how many calls the device
-/// fails.
-pub(crate) fn formatted(alloc: Global, names: &Names, words: &[&str]) -> Result<String, Refusal> {
+/// What is left of a disk with these files that is formatted in this version for `stripes` stripes,
+/// and what is then opened under `others` stripes. A number behind them says after how many calls the
+/// device fails.
+pub(crate) fn formatted(
+    alloc: Global,
+    names: &Names,
+    version: Version,
+    words: &[&str],
+) -> Result<String, Refusal> {
     let [stripes, others, zero, one, two, three, words @ ..] = words else {
         return Err(Refusal::WrongPhase);
     };
     let mut disk = disk_of(alloc, names, &[zero, one, two, three])?;
     plan(&mut disk, words)?;
-    let files = format_text(alloc, &mut disk, stripes_of(stripes)?)?;
+    let files = format_text(alloc, &mut disk, stripes_of(stripes)?, version)?;
     let then = open(alloc, disk, stripes_of(others)?)?;
     Ok(format!(in alloc; "{files}; {then}")?)
 }

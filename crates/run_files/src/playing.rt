@@ -5,9 +5,11 @@ use crate::directories::{formatted, opened, store_left};
 use crate::disk_steps::stepped;
 use crate::log_writing::{log_ended, log_resumed, log_written};
 use crate::logs::scanned;
+use log_records::Version;
 use map_types::Refusal;
 use run_cases::{Names, Plays};
 use std::alloc::Global;
+use store_layout::NEW_VERSION;
 
 // What comes of a case of this kind, whose input has these words.
 fn come_of(
@@ -29,7 +31,8 @@ fn come_of(
         "left_checkpoints" => checkpoint_left(alloc, words),
         "left_seals" => seal_left(alloc, words),
         "directories" => opened(alloc, names, words),
-        "formatting" => formatted(alloc, names, words),
+        "formatting" => formatted(alloc, names, NEW_VERSION, words),
+        "formatting_of_the_first_version" => formatted(alloc, names, Version::First, words),
         "left_stores" => store_left(alloc, words),
         _ => Err(Refusal::WrongPhase),
     }

@@ -32,7 +32,7 @@ use Rattle.sim_rules.specs.declared.outcome.DeviceCall.{DeviceCall}
 use Rattle.sim_rules.specs.World.{World, Life}
 use Rattle.sim_rules.specs.Fitting.{fits, fits_with, has_call}
 use Rattle.sim_rules.specs.After.{failed, file_of}
-use Rattle.sim_rules.specs.Cases.{IsPossible, IsThere}
+use Rattle.sim_rules.specs.Cases.{IsPossible}
 use Rattle.sim_rules.specs.Due.{due_file}
 use Rattle.sim_rules.specs.Laws.{EnteredAsFailed, KnownStands}
 use Rattle.sim_keeper.specs.Laws.{CheckpointCallIsTold, LogCallIsTold, WalkIsTold}

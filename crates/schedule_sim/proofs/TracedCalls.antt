@@ -80,10 +80,10 @@ came old new (Err e) fill call possible by_plan planned long made lost =
     lost_so (memory_states new) fill (planned_of old) call (memory_states old) possible d (lost d.due d.due_is)
 
 -- a write that failed by the plan left what the fill says
-pub write_lost : (old new : MemDisk) (file at size : ℕ) (o : Option Fill) (due : Fill) (left : Fill → List Files) → is_short new ≡ false
-    → IfSome o (λ f. LosesWrite file at size old new ⊎ ((is_short new ≡ is_short old) × (memory_states new ≡ left f))) → o ≡ Some due → memory_states new ≡ left due
-write_lost old new file at size None due left long failed is = absurd (let no : None ≡ Some due = is in cc)
-write_lost old new file at size (Some f) due left long failed is =
+pub write_lost : (old new : MemDisk) (file at : ℕ) (bytes : List ℕ) (o : Option Fill) (due : Fill) (left : Fill → List Files) → is_short new ≡ false
+    → IfSome o (λ f. LosesWrite file at bytes old new ⊎ ((is_short new ≡ is_short old) × (memory_states new ≡ left f))) → o ≡ Some due → memory_states new ≡ left due
+write_lost old new file at bytes None due left long failed is = absurd (let no : None ≡ Some due = is in cc)
+write_lost old new file at bytes (Some f) due left long failed is =
     elim failed [ inl loses ↦ absurd (let no : true ≡ false = sym loses.short ∙ long in cc) | inr torn ↦ torn.1 ∙ ap left (let e : Some f ≡ Some due = is in cc) ]
 
 pub where_ok : {T E : Type 0} (answer : Result T E) {A B : Type 0} → (A → B) → OnOk answer A → OnOk answer B
@@ -118,7 +118,7 @@ same_torn one other same (device.Sync number) files = refl
 
 -- what chosen bytes and lengths leave
 abbrev pub chosen_torn : List ℕ → List ℕ → ℕ → ℕ → List ℕ → File → File
-chosen_torn chosen lens number at bytes file = reached at (length bytes)
+chosen_torn chosen lens number at bytes file = reached at bytes
     (take (within (length file.seen) (max (length file.seen) (at + length bytes)) (get_or lens number 0))
     (overwritten at (bytes_by (length bytes) (λ i. get_or chosen i (byte_at i bytes))) file.seen)) file
 

@@ -49,11 +49,11 @@ IsCounted (Some n) states = n ≡ length states
 
 -- ---- each of these is a proposition
 
-range_set : IsSet Range
-range_set = hlevel ℕ_set
-
 numbers_set : IsSet (List ℕ)
 numbers_set = list_set ℕ_set
+
+range_set : IsSet Range
+range_set = hlevel (ℕ_set, numbers_set)
 
 ranges_set : IsSet (List Range)
 ranges_set = list_set range_set

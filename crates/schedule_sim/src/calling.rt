@@ -94,7 +94,7 @@ impl Life {
         }
     }
 
-    // The logs make their next device call. No contract of a disk tells which of its calls failed,
+    // The logs make their next device call. No contract of a keeper tells with which fill it failed,
     // so this asks the disk's note. The paths with no note are taken only if memory was missing.
     fn call_log(&mut self, ending: &Ending) -> Result<Outcome, AllocError>
         requires life { (w : World) × IsLife w self.old }

@@ -16,4 +16,4 @@ mod watched;
 
 pub use disk_model::Fill;
 pub use running::{Trace, run};
-pub use sim_rules::{Event, Outcome};
+pub use sim_rules::{DeviceCall, End, Ending, Event, Made, MapEntry, Outcome, Side};

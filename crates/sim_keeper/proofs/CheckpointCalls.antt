@@ -1,8 +1,10 @@
 -- A device call of the checkpoint.
-use Rattle.std.proofs.Common.{◌≡◌, ◌⊎◌, inl, inr, ℕ, List, length, Option, Some, None, true, false, not, Ok, refl, sym, ◌∙◌, ap, subst}
+use Rattle.std.proofs.Common.{◌≡◌, ◌⊎◌, inl, inr, ℕ, List, length, Option, Some, None, true, false, not, Ok, Err, refl, sym, ◌∙◌, ap, subst}
 use Rattle.map_types.specs.declared.commands.Command.{Command}
+use Rattle.map_types.specs.declared.refusals.Refusal.{Refusal}
 use Rattle.ticket_order.specs.declared.record.Record.{Record}
-use Rattle.disk_model.specs.Files.{Files, now}
+use Rattle.disk_model.specs.declared.fill.Fill.{Fill}
+use Rattle.disk_model.specs.Files.{File, Files, now}
 use Rattle.disk_model.specs.Gates.{Call}
 use Rattle.store_layout.specs.Checkpoints.{Section, checkpoint_file}
 use Rattle.log_records.specs.Layout.{layout_of}
@@ -10,6 +12,7 @@ use Rattle.gate_log.specs.States.{LogState}
 use Rattle.store_layout.specs.declared.checkpoint_phase.CheckpointPhase.{CheckpointPhase}
 use Rattle.store_layout.specs.declared.checkpoint_phase.CheckpointPhase.TheVariants.{Idle, Gate, GateWritten, GateSynced, Ready, Staged, Header, HeaderWritten, HeaderSynced, Opened, Sealed}
 use Rattle.checkpoint_file.specs.States.{CheckpointState, call_in, state_after}
+use Rattle.checkpoint_file.proofs.StandingLemmas.{placed}
 use Rattle.flusher.specs.declared.keeper.Keeper.{Keeper}
 use Rattle.flusher.specs.Fitting.{Fits}
 use Rattle.checkpoint_walk.specs.Checkpointing.{Checkpoints, HasGiven, StepsCheckpoint, call_due, checkpoints_of, kept_in}
@@ -26,15 +29,14 @@ use Rattle.sim_rules.specs.After.{called, checkpoint_called, failed, file_of, ru
 use Rattle.sim_rules.specs.Due.{checkpoint_call, checkpoint_number, running_call}
 use Rattle.sim_rules.specs.Cases.{IsDue, IsPossible, UsesRunning, is_last_call, phase_of_checkpoint, phase_of_running}
 use Rattle.sim_keeper.specs.Laws.{CheckpointAnswers, CheckpointFails, file_due}
-use Rattle.sim_keeper.specs.Promises.{IsMade, TriesCheckpoint}
+use Rattle.sim_keeper.specs.Promises.{IsLost, IsMade, TriesCheckpoint}
 use Rattle.sim_keeper.specs.Showing.{running_in, running_shown, sweep_shown, walk_by, work_by}
 use Rattle.sim_keeper.specs.KeeperInWorld.{Answers, BeginsBoth, IsWritten, KeeperStands, KnowsStore}
 use Rattle.sim_keeper.proofs.StagedTold.{staged_told}
 use Rattle.sim_keeper.proofs.CheckpointDue.{checkpoint_due}
-use Rattle.sim_keeper.proofs.FilesTold.{files_are_told}
 use Rattle.sim_keeper.proofs.Deciding.{not_true, two_ways}
 use Rattle.sim_keeper.proofs.Moved.{same_history}
-use Rattle.sim_keeper.proofs.SameCall.{known_call}
+use Rattle.sim_keeper.proofs.SameCall.{known_call, lost_call}
 use Rattle.sim_keeper.proofs.Sealing.{stripes_by}
 
 -- ---- the world's checkpoint after a call
@@ -241,8 +243,38 @@ checkpoint_answers {D} states failures honest n done old new p w l call phase f 
 
 -- ---- a call that fails
 
+module _ {D : Type 0} (states : D → List Files) (failures : D → ℕ) (honest : D → Type 0) (n : ℕ) (done : List Command) (old new : Keeper D) (p : Record) (w : World) (l : Life) (fill : Fill) (call : DeviceCall) (e : Refusal)
+    (f : Fits states honest n done old p) (s : KeeperStands states old p w l) (works : old.is_broken ≡ false) (alone : old.next ≡ None) (has : has_checkpoint_call l.checkpoint ≡ true)
+    (t : TriesCheckpoint states failures honest old new (Err e)) (lost : IsLost states fill call old.disk new.disk) (v : CheckpointState) (is : old.checkpoint ≡ Some v)
+    (named : file_of call ≡ file_due old.checkpoint) where
+  -- the call that failed is the one that is due
+  lost_is_due : IsDue w l side.Checkpoint call
+  lost_is_due =
+      let files : Files = now (states old.disk) in
+      let file : File = files (checkpoint_file v.generation) in
+      let written : IsWritten (Some v) l.checkpoint files = subst (λ o. IsWritten o l.checkpoint files) is (s.store works).checkpoint in
+      let stands = written.2.1 in
+      let one = due v written.0 v.phase (sym (ap has_checkpoint_call written.1) ∙ has) in
+      let steps = t.steps works one.0 v (ap (λ o. call_due o old.checkpoint) alone ∙ ap (call_due None) is ∙ one.1) is in
+      let fails = steps.err.2 in
+      let there : file_of call ≡ checkpoint_file v.generation = named ∙ ap file_due is in
+      let stripes : v.stripes ≡ l.stripes = stripes_by n old f.stripes v is ∙ sym f.stripes.count ∙ sym s.stripes in
+      let told : one.0 ≡ running_call l v.low (running_shown v written.0) = checkpoint_due v l written.2.0 written.0 file one.0 stands stripes one.1 in
+      let may = fails.may (placed v written.0 stands.knows v.phase written.2.0 file stands.stands one.0 one.1) in
+      record {
+        file = there ∙ ap checkpoint_number (sym written.1);
+        low = v.low;
+        what = lost_call fill call one.0 (checkpoint_file v.generation) files (now (states new.disk)) fails.left there lost.state (ap now fails.state) may ∙ told
+            ∙ ap (checkpoint_call l v.low) (sym written.1);
+        possible = subst (λ fs. IsPossible fs call) (sym s.files) lost.possible;
+      }
+
 pub checkpoint_fails : {D : Type 0} (states : D → List Files) (failures : D → ℕ) (honest : D → Type 0) → CheckpointFails states failures honest
-checkpoint_fails {D} states failures honest n done old new p w l fill call e f h s works t lost named =
+checkpoint_fails {D} states failures honest n done old new p w l fill call e f h s works has t lost named =
+    let k = s.store works in
+    let b = both_true (not (is_rotating l.log)) (has_checkpoint_call l.checkpoint) has in
+    let alone : old.next ≡ None = not_rotating old.log old.next (length old.staged.items) (sym (ap is_rotating k.log) ∙ not_true (is_rotating l.log) b.0) in
+    let v = writer_of old.checkpoint l.checkpoint (now (states old.disk)) k.checkpoint b.1 in
     let m : Life = record l { is_broken = true } in
     let capture : new.capture ≡ old.capture = ap (λ (k : Keeper D). k.capture) t.same in
     let stripes : new.stripes ≡ old.stripes = ap (λ (k : Keeper D). k.stripes) t.same in
@@ -250,7 +282,7 @@ checkpoint_fails {D} states failures honest n done old new p w l fill call e f h
     record {
       happens = (
         s.is_broken ∙ works,
-        record { file = named ∙ (files_are_told states honest n done old p w l f h s works).1; possible = subst (λ fs. IsPossible fs call) (sym s.files) lost.possible },
+        lost_is_due states failures honest n done old new p w l fill call e f s works alone b.1 t lost v.0 v.1 named,
       );
       stands = record {
         life = refl;

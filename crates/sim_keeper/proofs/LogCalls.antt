@@ -1,17 +1,25 @@
 -- A device call of the log.
-use Rattle.std.proofs.Common.{◌≡◌, ℕ, ◌+◌, ◌-◌, List, length, Option, None, Bool, true, false, ◌==◌, if◌then◌else◌, Ok, refl, sym, ◌∙◌, ap, subst, arith}
+use Rattle.std.proofs.Common.{◌≡◌, ℕ, ◌+◌, ◌-◌, List, [], length, Option, None, Some, Bool, true, false, ◌==◌, if◌then◌else◌, Ok, Err, refl, sym, ◌∙◌, ap, subst, arith}
 use Rattle.map_types.specs.declared.commands.Command.{Command}
+use Rattle.map_types.specs.declared.refusals.Refusal.{Refusal}
 use Rattle.map_types.specs.declared.refusals.Refusal.TheVariants as refusal
 use Rattle.ticket_order.specs.declared.record.Record.{Record}
+use Rattle.disk_model.specs.declared.fill.Fill.{Fill}
 use Rattle.disk_model.specs.Files.{Files, now}
 use Rattle.disk_model.specs.Gates as disk
-use Rattle.store_layout.specs.Logs.{log_file, new_layout}
+use Rattle.store_layout.specs.Logs.{Batch, log_file, new_layout}
 use Rattle.store_layout.specs.declared.log_phase.Phase.{Phase}
-use Rattle.gate_log.specs.States.{LogState}
+use Rattle.store_layout.specs.declared.log_phase.Phase.TheVariants.{Header, HeaderWritten}
+use Rattle.ticket_order.specs.Legality.{history_of}
+use Rattle.gate_log.specs.States.{LogState, call_in}
+use Rattle.gate_log.specs.LogStates as log
+use Rattle.gate_log.proofs.StandingLemmas.{placed}
+use Rattle.store_invariant.specs.States.{newest_batches}
 use Rattle.flusher.specs.declared.keeper.Keeper.{Keeper}
 use Rattle.flusher.specs.declared.sweeper.Sweeper.{Sweeper}
-use Rattle.flusher.specs.Fitting.{Fits}
-use Rattle.flusher.specs.Rotating.{Logs, MayRotate, due_of, logs_of}
+use Rattle.flusher.specs.Fitting.{Fits, store_of}
+use Rattle.flusher.proofs.StoreSteps.{log_in, next_in}
+use Rattle.flusher.specs.Rotating.{Logs, MayRotate, due_by, due_in, due_of, logs_of}
 use Rattle.sim_rules.specs.declared.event.Ending.{Ending}
 use Rattle.sim_rules.specs.declared.event.Ending.TheVariants as ending
 use Rattle.sim_rules.specs.declared.event.Event.TheVariants as event
@@ -23,14 +31,13 @@ use Rattle.sim_rules.specs.World.{World, Life, LogWork, Resting, Committing, Rot
 use Rattle.sim_rules.specs.After.{call_of, called, failed, file_of, log_called, with_files}
 use Rattle.sim_rules.specs.Cases.{IsDue, IsPossible, MakesCall}
 use Rattle.sim_keeper.specs.Laws.{BrokenAnswers, LogAnswers, LogFails}
-use Rattle.sim_keeper.specs.Promises.{IsMade, TriesLog}
+use Rattle.sim_keeper.specs.Promises.{IsLost, IsMade, TriesLog}
 use Rattle.sim_keeper.specs.Showing.{sweep_shown, walk_by, work_shown}
 use Rattle.sim_keeper.specs.KeeperInWorld.{Answers, BeginsBoth, IsWritten, KeeperStands, KnowsStore}
 use Rattle.sim_keeper.proofs.Deciding.{not_true, two_ways}
-use Rattle.sim_keeper.proofs.FilesTold.{files_are_told}
 use Rattle.sim_keeper.proofs.Known.{staged_gate}
 use Rattle.sim_keeper.proofs.LogDue.{log_due}
-use Rattle.sim_keeper.proofs.SameCall.{known_call}
+use Rattle.sim_keeper.proofs.SameCall.{known_call, lost_call}
 use Rattle.sim_keeper.proofs.LogMoves.{Before, Moved, both_after, due_moves, moved, none_begun, same_sweep, written_beside}
 use Rattle.sim_keeper.proofs.Moved.{inside, same_history}
 use Rattle.sim_keeper.proofs.StagedTold.{staged_told}
@@ -126,8 +133,55 @@ log_answers {D} states failures honest n done old new p w l call phase f h s wor
 
 -- ---- a call that fails
 
+-- the call that is due begins at the end of its file or before
+module _ (files : Files) (newest : LogState) where
+  abbrev IsPlacedIn : LogState → Type 0
+  IsPlacedIn at = (call : disk.Call) → call_in at.phase at ≡ Some call → disk.IsPlaced call (files (log_file at.generation))
+
+  stands_placed : (at : LogState) (batches staged : List Batch) → log.Stands at batches staged (files (log_file at.generation)) → IsPlacedIn at
+  stands_placed at batches staged stands call due = placed at batches stands.knows at.phase staged (files (log_file at.generation)) stands.stands call due
+
+  turn_placed : (ph : Phase) (next : LogState) → IsPlacedIn newest → IsPlacedIn next → IsPlacedIn (due_in ph newest next)
+  turn_placed Header next first second = second
+  turn_placed HeaderWritten next first second = second
+  turn_placed ph next first second = first
+
+  next_placed : (o : Option LogState) → IsPlacedIn newest → ((next : LogState) → o ≡ Some next → IsPlacedIn next) → IsPlacedIn (due_by newest o)
+  next_placed None first second = first
+  next_placed (Some next) first second = turn_placed next.phase next first (second next refl)
+
+module _ {D : Type 0} (states : D → List Files) (failures : D → ℕ) (honest : D → Type 0) (n : ℕ) (done : List Command) (old new : Keeper D) (p : Record) (w : World) (l : Life) (fill : Fill) (call : DeviceCall) (e : Refusal)
+    (f : Fits states honest n done old p) (h : honest old.disk) (s : KeeperStands states old p w l) (works : old.is_broken ≡ false) (goes : is_resting l.log ≡ false) (t : TriesLog states failures honest old new (Err e)) (lost : IsLost states fill call old.disk new.disk)
+    (named : file_of call ≡ log_file (due_of (logs_of old)).generation) where
+  abbrev files : Files
+  files = now (states old.disk)
+
+  due_placed : IsPlacedIn files old.log (due_of (logs_of old))
+  due_placed =
+      let holds = f.stores.works works h in
+      let held = holds.held in
+      next_placed files old.log old.next
+      (stands_placed files old.log old.log (newest_batches held.found.first held.found.second) held.staged (log_in (history_of p) (store_of old) held files holds.stands))
+      (λ next is. stands_placed files old.log next [] [] (next_in (history_of p) (store_of old) held next files holds.stands is))
+
+  -- the call that failed is the one that is due
+  lost_is_due : IsDue w l side.Log call
+  lost_is_due =
+      let k = s.store works in
+      let stays : is_resting (work_shown (logs_of old) (length old.staged.items)) ≡ false = sym (ap is_resting k.log) ∙ goes in
+      let before : Before l old.log = record { committed = s.committed; generation = k.newest; layout = k.layout; gate = k.gate } in
+      let steps = t.steps works (due_moves w l old.log before old.next (length old.staged.items) old.staged.items f.rotation stays) in
+      let due = log_due states honest n done old p w l f h works s steps.call steps.due in
+      let fails = steps.err.2 in
+      record {
+        file = named ∙ due.1;
+        low = 0;
+        what = lost_call fill call steps.call (log_file (due_of (logs_of old)).generation) files (now (states new.disk)) fails.left named lost.state (ap now fails.state) (fails.may (due_placed steps.call steps.due)) ∙ due.0;
+        possible = subst (λ fs. IsPossible fs call) (sym s.files) lost.possible;
+      }
+
 pub log_fails : {D : Type 0} (states : D → List Files) (failures : D → ℕ) (honest : D → Type 0) → LogFails states failures honest
-log_fails {D} states failures honest n done old new p w l fill call e f h s works t lost named =
+log_fails {D} states failures honest n done old new p w l fill call e f h s works has t lost named =
     let m : Life = record l { is_broken = true } in
     let capture : new.capture ≡ old.capture = ap (λ (k : Keeper D). k.capture) t.same in
     let stripes : new.stripes ≡ old.stripes = ap (λ (k : Keeper D). k.stripes) t.same in
@@ -135,7 +189,7 @@ log_fails {D} states failures honest n done old new p w l fill call e f h s work
     record {
       happens = (
         s.is_broken ∙ works,
-        record { file = named ∙ (files_are_told states honest n done old p w l f h s works).0; possible = subst (λ fs. IsPossible fs call) (sym s.files) lost.possible },
+        lost_is_due states failures honest n done old new p w l fill call e f h s works (not_true (is_resting l.log) has) t lost named,
       );
       stands = record {
         life = refl;

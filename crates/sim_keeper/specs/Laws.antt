@@ -97,7 +97,7 @@ LogAnswers {D} states failures honest = (n : ℕ) (done : List Command) (old new
 -- and which fails
 abbrev pub LogFails : {D : Type 0} → (D → List Files) → (D → ℕ) → (D → Type 0) → Type 0
 LogFails {D} states failures honest = (n : ℕ) (done : List Command) (old new : Keeper D) (p : Record) (w : World) (l : Life) (fill : Fill) (call : DeviceCall) (e : Refusal)
-    → Fits states honest n done old p → honest old.disk → KeeperStands states old p w l → old.is_broken ≡ false
+    → Fits states honest n done old p → honest old.disk → KeeperStands states old p w l → old.is_broken ≡ false → has_call side.Log l ≡ true
     → TriesLog states failures honest old new (Err e) → IsLost states fill call old.disk new.disk → file_of call ≡ log_file (due_of (logs_of old)).generation → Answers states new p w l (event.Device side.Log (ending.Fails fill)) (outcome.CallFailed call)
 
 -- the file of the checkpoint that is written
@@ -113,7 +113,7 @@ CheckpointAnswers {D} states failures honest = (n : ℕ) (done : List Command) (
 
 abbrev pub CheckpointFails : {D : Type 0} → (D → List Files) → (D → ℕ) → (D → Type 0) → Type 0
 CheckpointFails {D} states failures honest = (n : ℕ) (done : List Command) (old new : Keeper D) (p : Record) (w : World) (l : Life) (fill : Fill) (call : DeviceCall) (e : Refusal)
-    → Fits states honest n done old p → honest old.disk → KeeperStands states old p w l → old.is_broken ≡ false
+    → Fits states honest n done old p → honest old.disk → KeeperStands states old p w l → old.is_broken ≡ false → has_call side.Checkpoint l ≡ true
     → TriesCheckpoint states failures honest old new (Err e) → IsLost states fill call old.disk new.disk → file_of call ≡ file_due old.checkpoint → Answers states new p w l (event.Device side.Checkpoint (ending.Fails fill)) (outcome.CallFailed call)
 
 -- After a call has failed none is made.

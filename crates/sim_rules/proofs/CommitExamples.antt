@@ -12,7 +12,7 @@ use Rattle.disk_model.specs.Gates.{writes}
 use Rattle.store_layout.specs.Logs.{frame, header}
 use Rattle.sim_rules.specs.World.{World, begun_by, start}
 use Rattle.sim_rules.specs.After.{after}
-use Rattle.sim_rules.specs.Examples.{AllMeet, ChangeIsReleased, after_rows, frame_bytes, new_store, opened, released_rows, staged_rows, withheld_rows, written_rows}
+use Rattle.sim_rules.specs.Examples.{AllMeet, ChangeIsReleased, FailsAsDue, after_rows, frame_bytes, new_store, opened, released_rows, staged_rows, withheld_rows, written_rows}
 use Rattle.sim_rules.proofs.RowExamples.{change_is_staged, meet_on}
 
 -- ---- bytes
@@ -48,6 +48,10 @@ written bytes = after_rows new_store staged (written_rows bytes)
 
 unfoldable pub withheld : Vec ℕ → World
 withheld bytes = after_rows new_store (written bytes) withheld_rows
+
+pub fails_as_due : FailsAsDue
+unfolding after begun_by start stripe_of hash_of weighted_sum units_of chars frame header
+fails_as_due fill call meets = (meets.1.file, meets.1.what)
 
 written_meets : (bytes : Vec ℕ) → bytes.items ≡ frame_bytes → AllMeet new_store staged (written_rows bytes)
 unfolding staged after begun_by start stripe_of hash_of weighted_sum units_of chars frame header

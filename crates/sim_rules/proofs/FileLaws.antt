@@ -68,7 +68,7 @@ no_longer at bytes old l = simp (length-append, length-take, length-drop) (omega
 -- all of it is read
 torn_whole : (number at : ℕ) (bytes : List ℕ) (file : File) → at ≤ length file.seen → torn New number at bytes file ≡ written at bytes file
 torn_whole number at bytes file l =
-    ap (λ (seen : List ℕ). reached at (length bytes) seen file)
+    ap (λ (seen : List ℕ). reached at bytes seen file)
     (ap (λ (left : List ℕ). take (max (length file.seen) (at + length bytes)) (overwritten at left file.seen)) (all_bytes bytes)
     ∙ take_all (max (length file.seen) (at + length bytes)) (overwritten at bytes file.seen) (no_longer at bytes file.seen l))
 

@@ -122,11 +122,6 @@ pub record IsDue (w : World) (l : Life) (s : Side) (call : DeviceCall) : Type 0 
   pub what : call_of call ≡ due_call w l low s
   pub possible : IsPossible w.files call
 
--- of a call that fails the file is told: it is the one that is due
-pub record IsThere (w : World) (l : Life) (s : Side) (call : DeviceCall) : Type 0 where
-  pub file : file_of call ≡ due_file l s
-  pub possible : IsPossible w.files call
-
 -- a frame's four calls: it is written, synced, its gate is opened, that is synced
 abbrev pub frame_phase : ℕ → Phase
 frame_phase left =
@@ -184,8 +179,8 @@ UsesRunning files l None = ⊥
 UsesRunning files l (Some running) = is_last_call running ≡ true →
     (low : ℕ) × UsesCheckpoint (record { generation = running.generation; low = low; stripes = l.stripes; sections = running.sections }) files
 
--- The outcome names the call and, if it succeeds, the phase after it. After a device failure of this life it is refusal
--- 9, and no call is made.
+-- The outcome names the call, which is the one that is due also if it fails, and the phase after one that succeeds. After
+-- a device failure of this life it is refusal 9, and no call is made.
 abbrev pub MakesCall : World → Life → Side → Ending → Outcome → Type 0
 MakesCall w l s e (outcome.Refused refusal.Failed) = l.is_broken ≡ true
 MakesCall w l side.Log ending.Done (outcome.Logged call phase) =
@@ -193,7 +188,7 @@ MakesCall w l side.Log ending.Done (outcome.Logged call phase) =
 MakesCall w l side.Checkpoint ending.Done (outcome.Checkpointed call phase) =
     (l.is_broken ≡ false) × IsDue w l side.Checkpoint call × (phase ≡ phase_of_checkpoint (checkpoint_called l l.checkpoint).checkpoint)
     × UsesRunning (called call w.files) l l.checkpoint
-MakesCall w l s (ending.Fails fill) (outcome.CallFailed call) = (l.is_broken ≡ false) × IsThere w l s call
+MakesCall w l s (ending.Fails fill) (outcome.CallFailed call) = (l.is_broken ≡ false) × IsDue w l s call
 MakesCall w l s e x = ⊥
 
 -- ---- a checkpoint

@@ -10,6 +10,7 @@ use Rattle.map_types.specs.declared.commands.Reply.TheVariants.{Was}
 use Rattle.map_types.specs.declared.refusals.Refusal.TheVariants as refusal
 use Rattle.disk_model.specs.declared.fill.Fill.{Fill}
 use Rattle.disk_model.specs.declared.fill.Fill.TheVariants.{Old, New, Byte}
+use Rattle.disk_model.specs.Gates.{writes}
 use Rattle.log_records.specs.Layout.{first_layout}
 use Rattle.store_layout.specs.Examples.{a, number}
 use Rattle.store_layout.specs.Logs.{frame, new_layout}
@@ -20,6 +21,7 @@ use Rattle.store_layout.specs.declared.checkpoint_phase.CheckpointPhase.TheVaria
 use Rattle.sim_rules.specs.declared.event.Ending.TheVariants as ending
 use Rattle.sim_rules.specs.declared.event.Event.TheVariants as event
 use Rattle.sim_rules.specs.declared.event.Side.TheVariants as side
+use Rattle.sim_rules.specs.declared.outcome.DeviceCall.{DeviceCall}
 use Rattle.sim_rules.specs.declared.outcome.DeviceCall.TheVariants as device
 use Rattle.sim_rules.specs.declared.outcome.End.{End}
 use Rattle.sim_rules.specs.declared.outcome.End.TheVariants as ends
@@ -27,7 +29,7 @@ use Rattle.sim_rules.specs.declared.outcome.Made.TheVariants as made
 use Rattle.sim_rules.specs.declared.outcome.MapEntry.{MapEntry}
 use Rattle.sim_rules.specs.declared.outcome.Outcome.TheVariants as outcome
 use Rattle.sim_rules.specs.World.{World, Life, Running, Committing, Rotating, begun_by, old_start, seen_of, start}
-use Rattle.sim_rules.specs.After.{after, log_called, running_called, synced_below}
+use Rattle.sim_rules.specs.After.{after, call_of, file_of, log_called, running_called, synced_below}
 use Rattle.sim_rules.specs.Cases.{Meets, phase_of_checkpoint, phase_of_log}
 use Rattle.sim_rules.specs.Runs.{Row, IsRun}
 
@@ -175,6 +177,14 @@ schedule_rows stripes entries bytes gate =
 abbrev pub ScheduleIsRun : Type 0
 ScheduleIsRun = (stripes : StripeCount) (entries : Vec MapEntry) (bytes gate : Vec ℕ) → stripes.count ≡ 16 → entries.items ≡ [] → bytes.items ≡ frame_bytes
     → gate.items ≡ 165 ∷ [] → IsRun (map (λ row. row.0) (schedule_rows stripes entries bytes gate)) (map (λ row. row.1) (schedule_rows stripes entries bytes gate))
+
+-- ---- or its first call fails
+
+-- That is the write of the frame and a closed gate, whatever it leaves.
+abbrev pub FailsAsDue : Type 0
+FailsAsDue = (fill : Fill) (call : DeviceCall) →
+    Meets (after_rows new_store opened staged_rows) new_store (event.Device side.Log (ending.Fails fill)) (outcome.CallFailed call)
+    → (file_of call ≡ 2) × (call_of call ≡ writes 18 frame_bytes)
 
 -- ---- or nothing is written
 

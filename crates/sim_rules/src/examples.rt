@@ -1,5 +1,5 @@
 //! One change on a new store, row by row, each as the contract of a function.
-ghost use Rattle.sim_rules.specs.Examples.{BatchIsCommitted, ChangeIsReleased, ChangeIsStaged, CheckpointGoesOn, FailsAmongThem, LongKeyIsRefused, NewStoreOpens, NotYetInHand, OldBeginsRun, OldKeyIsRefused, OldStoreOpens, OpeningIsRun, OtherIsRefused, RotationGoesOn, RotationTakesNewVersion, ScheduleIsRun, SecondOldIsSkipped, StoppedBefore, StoppedOpen, StoppedShut, UnwrittenIsNoRun};
+ghost use Rattle.sim_rules.specs.Examples.{BatchIsCommitted, ChangeIsReleased, ChangeIsStaged, CheckpointGoesOn, FailsAmongThem, FailsAsDue, LongKeyIsRefused, NewStoreOpens, NotYetInHand, OldBeginsRun, OldKeyIsRefused, OldStoreOpens, OpeningIsRun, OtherIsRefused, RotationGoesOn, RotationTakesNewVersion, ScheduleIsRun, SecondOldIsSkipped, StoppedBefore, StoppedOpen, StoppedShut, UnwrittenIsNoRun};
 
 use store_layout::laws::{laws_of_new_stores, laws_of_opening};
 
@@ -25,11 +25,14 @@ pub fn one_change()
 }
 
 /// Its frame is written and its reply released; or the machine stops before that; or nothing is written,
-/// and it isn't committed.
+/// or a call fails, and it isn't committed.
 pub fn one_commit()
     // Its frame is written, its reply is released, and all of it is a run.
     ensures released { ChangeIsReleased }
     ensures run { ScheduleIsRun }
+
+    // If the first call fails, it is the write of the frame.
+    ensures fails { FailsAsDue }
 
     // Syncs of another file in place of the writes make no run.
     ensures unwritten { UnwrittenIsNoRun }

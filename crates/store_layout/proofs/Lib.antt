@@ -17,6 +17,7 @@ pub mod Openings
 pub mod OwnLayouts
 pub mod ReadingLemmas
 pub mod RefusalExamples
+pub mod Refused
 pub mod Restoring
 pub mod SectionRows
 pub mod Versions

@@ -4,10 +4,11 @@ ghost use Rattle.map_types.specs.declared.commands.Command.{Command};
 ghost use Rattle.stripe_locks.specs.Passes.{recorded, IsPassOf};
 ghost use Rattle.flusher.specs.Fitting.{Fits};
 
-use crate::stores::{MOST, join, make_once, put, put_by, sixteen, sweep_and_commit};
+use crate::stores::{MOST, join, join_as, make_once, put, put_by, sixteen, sweep_and_commit};
 use disk_model::{Disk, MemDisk};
 use flusher::Keeper;
 use java_hash::StripeCount;
+use log_records::Version;
 use map_types::{Change, Command, Key, Refusal, Value};
 use std::alloc::Global;
 use std::sync::Wait;
@@ -26,6 +27,10 @@ fn longest_key(alloc: Global) -> Result<Key, Refusal> {
     Key::new(alloc, text_of(&[b'x'; 4095])?)
 }
 
+fn longest_key_of_version_01(alloc: Global) -> Result<Key, Refusal> {
+    Key::new(alloc, text_of(&[b'x'; 255])?)
+}
+
 fn longest_value(alloc: Global) -> Result<Value, Refusal> {
     Value::text(alloc, text_of(&[b'x'; 4096])?)
 }
@@ -39,6 +44,13 @@ fn longest_change(alloc: Global) -> Result<Change, Refusal> {
 // A change whose record takes 12,296 bytes, the most that there is.
 pub(crate) fn longest(alloc: Global) -> Result<Command, Refusal> {
     let key = longest_key(alloc)?;
+    let change = longest_change(alloc)?;
+    Ok(Command { key, change })
+}
+
+// A change whose record in version 01 takes 8,455 bytes, the most that there is.
+fn longest_of_version_01(alloc: Global) -> Result<Command, Refusal> {
+    let key = longest_key_of_version_01(alloc)?;
     let change = longest_change(alloc)?;
     Ok(Command { key, change })
 }
@@ -77,15 +89,16 @@ fn stage_twice<D: Disk, R: Wait, S: Steps>(
     Ok((first, gate, second))
 }
 
-// Two batches of a change that was made `times` times.
+// Two batches of a change that was made `times` times, on a log of this version.
 fn stage_times<R: Wait>(
     rt: &R,
     alloc: Global,
     count: StripeCount,
+    version: Version,
     command: &Command,
     times: u64,
 ) -> Result<(u32, usize, u32), Refusal> {
-    let mut joined = join(alloc, MemDisk::new(alloc), count)?;
+    let mut joined = join_as(alloc, MemDisk::new(alloc), count, version)?;
     make_often(&joined.stripes, &mut joined.worker, command, times)?;
     let mut steps = joined.stripes.at(&mut joined.pass);
     stage_twice(rt, &mut joined.keeper, &mut steps)
@@ -95,8 +108,12 @@ fn stage_times<R: Wait>(
 fn a_batch_has_65536_records(rt: HostRuntime) -> Result<(), Refusal> {
     let alloc = rt.alloc();
     let command = put(alloc, "a", 5)?;
-    let staged = stage_times(&rt, alloc, sixteen(&rt), &command, 65_537)?;
-    assert!(rt; staged == (65_536, 17 + 851_985 + 1, 1));
+    let first_gate = 17 + 786_449 + 1;
+    let second_gate = 17 + 851_985 + 1;
+    for (version, gate) in [(Version::First, first_gate), (Version::Second, second_gate)] {
+        let staged = stage_times(&rt, alloc, sixteen(&rt), version, &command, 65_537)?;
+        assert_eq!(rt; staged, (65_536, gate, 1));
+    }
     Ok(())
 }
 
@@ -104,8 +121,17 @@ fn a_batch_has_65536_records(rt: HostRuntime) -> Result<(), Refusal> {
 fn a_frame_has_1048576_bytes(rt: HostRuntime) -> Result<(), Refusal> {
     let alloc = rt.alloc();
     let command = longest(alloc)?;
-    let staged = stage_times(&rt, alloc, sixteen(&rt), &command, 86)?;
-    assert!(rt; staged == (85, 17 + 1_045_177 + 1, 1));
+    let staged = stage_times(&rt, alloc, sixteen(&rt), Version::Second, &command, 86)?;
+    assert_eq!(rt; staged, (85, 17 + 1_045_177 + 1, 1));
+    Ok(())
+}
+
+#[test]
+fn a_frame_of_version_01_has_1048576_bytes(rt: HostRuntime) -> Result<(), Refusal> {
+    let alloc = rt.alloc();
+    let command = longest_of_version_01(alloc)?;
+    let staged = stage_times(&rt, alloc, sixteen(&rt), Version::First, &command, 125)?;
+    assert_eq!(rt; staged, (124, 17 + 1_048_437 + 1, 1));
     Ok(())
 }
 

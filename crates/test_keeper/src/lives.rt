@@ -171,6 +171,54 @@ fn a_checkpoint_over_two_lives(rt: HostRuntime) -> Result<(), Refusal> {
     Ok(())
 }
 
+// What is opened of the first life after a stop.
+fn counted_after_rotation<R: Wait>(
+    rt: &R,
+    alloc: Global,
+    one: StripeCount,
+    version: Version,
+) -> Result<Option<(u64, usize)>, Refusal> {
+    let mut disk = rotate_once(rt, alloc, one, version)?;
+    match disk.stop(&Fill::Old) {
+        Ok(()) => Ok(counted(alloc, disk, one)),
+        Err(_) => Err(Refusal::Failed),
+    }
+}
+
+#[test]
+fn a_stop_behind_a_rotation(rt: HostRuntime) -> Result<(), Refusal> {
+    let alloc = rt.alloc();
+    let one = StripeCount::new(1).ok_or(Refusal::WrongPhase)?;
+    for version in [Version::First, Version::Second] {
+        let came = counted_after_rotation(&rt, alloc, one, version)?;
+        assert_eq!(rt; came, Some((1, 1)));
+    }
+    Ok(())
+}
+
+// The limit of keys with which the disk is opened.
+fn limit_of(alloc: Global, disk: MemDisk, stripes: StripeCount) -> Option<u16> {
+    let Ok((_, _, _, limit)) = open_parts(alloc, disk, stripes) else {
+        return None;
+    };
+    Some(limit)
+}
+
+// The newest log decides it, which is of the newest version behind a rotation.
+#[test]
+fn limits_of_keys(rt: HostRuntime) -> Result<(), Refusal> {
+    let alloc = rt.alloc();
+    let one = StripeCount::new(1).ok_or(Refusal::WrongPhase)?;
+    let mut new = MemDisk::new(alloc);
+    format_as(alloc, &mut new, one, Version::Second)?;
+    assert_eq!(rt; limit_of(alloc, new, one), Some(4095));
+    let old = commit_old(&rt, alloc, one)?;
+    assert_eq!(rt; limit_of(alloc, old, one), Some(255));
+    let rotated = rotate_once(&rt, alloc, one, Version::First)?;
+    assert_eq!(rt; limit_of(alloc, rotated, one), Some(4095));
+    Ok(())
+}
+
 #[test]
 fn a_checkpoint_on_a_directory_of_version_01(rt: HostRuntime) -> Result<(), Refusal> {
     let alloc = rt.alloc();

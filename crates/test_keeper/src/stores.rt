@@ -9,8 +9,9 @@ ghost use Rattle.flusher.specs.Fitting.{Fits, IsUnused};
 use disk_model::{Disk, MemDisk};
 use flusher::Keeper;
 use java_hash::StripeCount;
+use log_records::Version;
 use map_types::{Change, Command, Key, Refusal, Value};
-use recovery::{format, open};
+use recovery::{format, format_as, open};
 use std::alloc::Global;
 use std::process::Abort;
 use std::sync::Wait;
@@ -82,6 +83,25 @@ pub(crate) fn join(alloc: Global, disk: MemDisk, count: StripeCount) -> Result<J
 {
     let mut disk = disk;
     format(alloc, &mut disk, count)?;
+    rejoin(alloc, disk, count)
+}
+
+// The same in this version.
+pub(crate) fn join_as(
+    alloc: Global,
+    disk: MemDisk,
+    count: StripeCount,
+    version: Version,
+) -> Result<Joined, Refusal>
+    ensures own { IfOk result (λ joined. IsPassOf joined.stripes joined.pass
+        × IsPassOf joined.stripes joined.worker) }
+    ensures fits { IfOk result (λ joined.
+        Fits ⟦<MemDisk as Disk>⟧.states ⟦<MemDisk as Disk>⟧.honest (stripe_count joined.stripes) []
+        joined.keeper (recorded joined.pass)) }
+    ensures free { IfOk result (λ joined. (recorded joined.worker).holding ≡ None) }
+{
+    let mut disk = disk;
+    format_as(alloc, &mut disk, count, version)?;
     rejoin(alloc, disk, count)
 }
 

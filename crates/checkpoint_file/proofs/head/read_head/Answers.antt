@@ -1,4 +1,4 @@
-use Rattle.std.proofs.Common.{◌≡◌, ◌≢◌, ◌≤◌, ◌%◌, List, ℕ, length, slice_index_or, inr, sym, ap, subst, ◌∙◌, arith, true}
+use Rattle.std.proofs.Common.{◌≡◌, ◌≢◌, ◌≤◌, ◌%◌, List, ℕ, length, slice_index_or, inr, refl, sym, ap, subst, ◌∙◌, arith, true}
 use Rattle.disk_model.specs.Files.{now}
 use Rattle.store_layout.specs.Checkpoints.{is_sealed}
 use Rattle.log_records.specs.Layout.{layout_of}
@@ -57,3 +57,6 @@ returns-clause-some g c = λ honest.
       version = ap (λ v. (layout_of v).version) c.fields_of-head.ensures.version ∙ version.0 ∙ sym second;
       fields = fields;
     }
+
+pub returns-then-head-file-clause-listed : goal.returns-then-head-file-clause-listed
+returns-then-head-file-clause-listed g c = inr (inr (2, refl))

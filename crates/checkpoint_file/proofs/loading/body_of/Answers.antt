@@ -1,4 +1,4 @@
-use Rattle.std.proofs.Common.{◌≡◌, ◌+◌, ◌<◌, ℕ, length, true, subst, ◌∙◌, arith}
+use Rattle.std.proofs.Common.{◌≡◌, inr, ◌+◌, ◌<◌, ℕ, length, true, refl, subst, ◌∙◌, arith}
 use Rattle.java_hash.specs.Stripes.{is_stripe_count}
 use Rattle.store_layout.specs.Faults.{body_length_in, stripes_in}
 use Rattle.checkpoint_file.proofs.WholeFiles.{body_past}
@@ -14,3 +14,9 @@ returns-then-len-lt-BODY_OFFSET-clause-err c = λ content len fields.
       | then-len-lt-BODY_OFFSET-via-else-len-lt-BODY_OFFSET+then-head-len w ↦ omega (arith, len, same)
     ] in
     body_past c.args.file content (subst (λ (n : ℕ). is_stripe_count n ≡ true) count c.in-Some.stripes.allowed) past
+
+pub returns-in_default-clause-listed : goal.returns-in_default-clause-listed
+returns-in_default-clause-listed c = inr (26, refl)
+
+pub returns-then-len-lt-BODY_OFFSET-clause-listed : goal.returns-then-len-lt-BODY_OFFSET-clause-listed
+returns-then-len-lt-BODY_OFFSET-clause-listed c = inr (28, refl)

@@ -3,6 +3,7 @@ use Rattle.std.proofs.lemmas.Result.{err_from_is_err_and}
 use Rattle.log_records.specs.Layout.{layout_of}
 use Rattle.store_layout.specs.Checkpoints.{IsCheckpoint}
 use Rattle.store_layout.specs.Faults.{version_in}
+use Rattle.store_layout.proofs.Refused.{at_fault}
 use Rattle.checkpoint_file.specs.Heads.{IsHead}
 use Rattle.checkpoint_file.specs.Loads.{checkpoint_of, seen_in}
 use Rattle.checkpoint_file.proofs.LookLemmas.{looks_on, same_seen}
@@ -57,3 +58,8 @@ returns-in_err-load_body-in-Some-clause-tried g c = λ honest.
     let first = c.in_ok-head.ensures.called in
     let more = c.in_err-load_body-in-Some.ensures.tried in
     rw q.1 (omega (arith, first, more, body))
+
+pub returns-in_err-head-clause-listed : goal.returns-in_err-head-clause-listed
+returns-in_err-head-clause-listed g c =
+    let q = err_from_is_err_and c.from_residual.result c.from_residual.ensures.1 in
+    rw (q.1, q.2) (at_fault c.args.file c.in_err-head.field-0.0 c.in_err-head.ensures.listed)

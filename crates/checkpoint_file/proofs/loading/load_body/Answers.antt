@@ -1,13 +1,14 @@
-use Rattle.std.proofs.Common.{◌≡◌, ◌≢◌, ◌⊎◌, List, inl, inr, refl, sym, ap, subst, ◌∙◌, arith}
+use Rattle.std.proofs.Common.{◌≡◌, ◌≢◌, ◌⊎◌, ℕ, List, inl, inr, refl, sym, ap, subst, ◌∙◌, arith}
 use Rattle.std.proofs.lemmas.Result.{err_from_is_err_and}
 use Rattle.log_records.specs.Layout.{layout_of}
 use Rattle.store_layout.specs.Checkpoints.{AreMarkedFrom, greatest_mark}
+use Rattle.store_layout.specs.Failures.{IsFileRefused}
 use Rattle.store_layout.specs.Faults.{body_in}
 use Rattle.checkpoint_file.specs.declared.loading.LoadedSection.{LoadedSection}
 use Rattle.checkpoint_file.specs.declared.loading.LoadedCheckpoint.{LoadedCheckpoint}
 use Rattle.checkpoint_file.specs.Loads.{sections_of, seen_in, IsBodyOf}
 use Rattle.checkpoint_file.proofs.LookLemmas.{looks_on}
-use Rattle.checkpoint_file.proofs.WholeFiles.{all_bytes, size_refused, sections_refused, of_file, has_bad_marks, is_checkpoint}
+use Rattle.checkpoint_file.proofs.WholeFiles.{all_bytes, place_refused, size_refused, sections_refused, of_file, has_bad_marks, is_checkpoint}
 use Rattle.checkpoint_file.proofs.loading.load_body.Goals as goal
 
 pub returns-in_err-stripes-clause-err : goal.returns-in_err-stripes-clause-err
@@ -71,3 +72,12 @@ returns-clause-ok g c = λ honest is.
     is_checkpoint c.args.file (seen_in g.D.Disk.states c.args.disk.now c.args.file) c.args.head.now is (c.in_ok-stripes.ensures.ok first is.fields) loaded refl refl place.0 body
     (all_bytes (g.D.Disk.states c.args.disk.now) c.args.file (omega (arith, low)) (g.met.D.Disk.are_coherent c.args.disk.now))
     (sym greatest ∙ c.if-greatest-head.false) marks
+
+pub returns-in_err-sections-clause-listed : goal.returns-in_err-sections-clause-listed
+returns-in_err-sections-clause-listed g c =
+    let q = err_from_is_err_and c.from_residual-in_err-sections.result c.from_residual-in_err-sections.ensures.1 in
+    let file = c.in_ok-stripes.ensures.place.1.file_is in
+    rw (q.1, q.2) (subst (λ (n : ℕ). IsFileRefused n c.in_err-sections.field-0.0) file (place_refused c.in_ok-stripes.body.file _ c.in_err-sections.field-0.0 c.in_err-sections.ensures.err))
+
+pub returns-then-greatest-head-clause-listed : goal.returns-then-greatest-head-clause-listed
+returns-then-greatest-head-clause-listed g c = inr (inr (inr (18, refl)))

@@ -1,4 +1,4 @@
-use Rattle.std.proofs.Common.{ℕ, List, sym, subst}
+use Rattle.std.proofs.Common.{inr, ℕ, List, sym, subst}
 use Rattle.std.proofs.lemmas.Result.{err_from_is_err_and}
 use Rattle.file_pieces.specs.Pieces.{Holds}
 use Rattle.checkpoint_file.proofs.LookLemmas.{looks_on, same_seen}
@@ -19,3 +19,8 @@ returns-in_err-reach_body-clause-looks g c =
 pub returns-clause-looks : goal.returns-clause-looks
 returns-clause-looks g c =
     looks_on g.D.Disk.states g.D.Disk.failures g.D.Disk.honest 0 c.args.disk.now c.begin_file.new.disk c.reach_body.new.disk c.in_ok-reader.ensures.looks c.in_ok-reach_body.ensures.looks
+
+pub returns-in_err-stripes-clause-listed : goal.returns-in_err-stripes-clause-listed
+returns-in_err-stripes-clause-listed g c =
+    let q = err_from_is_err_and c.from_residual-in_err-stripes.result c.from_residual-in_err-stripes.ensures.1 in
+    rw (q.1, q.2) (inr (inr c.in_err-stripes.ensures.listed))

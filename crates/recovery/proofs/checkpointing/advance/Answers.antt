@@ -1,10 +1,11 @@
-use Rattle.std.proofs.Common.{◌≡◌, [], ℕ, ◌+◌, suc, refl, sym, ap, ◌∙◌, arith}
+use Rattle.std.proofs.Common.{◌≡◌, inl, inr, [], ℕ, ◌+◌, suc, refl, sym, ap, ◌∙◌, arith}
 use Rattle.std.proofs.lemmas.Result.{err_from_is_err_and}
+use Rattle.java_hash.specs.declared.stripe_count.StripeCount.{StripeCount}
 use Rattle.map_types.specs.declared.refusals.Refusal.TheVariants.{Failed}
 use Rattle.flusher.specs.Rotating.{logs_of}
 use Rattle.checkpoint_walk.specs.Checkpointing.{Checkpoints, checkpoints_of}
 use Rattle.recovery.specs.Upgrading.{advanced_by, checkpoints_after}
-use Rattle.recovery.proofs.Unmoved.{checkpoint_counted, checkpoint_failed, checkpoint_goes_on, checkpoint_stands, checkpoint_unmoved, err_of, stays, through}
+use Rattle.recovery.proofs.Unmoved.{checkpoint_counted, checkpoint_failed, checkpoint_goes_on, checkpoint_sealed, checkpoint_stands, checkpoint_unmoved, checkpoint_was_honest, err_of, stays, through}
 use Rattle.recovery.proofs.checkpointing.advance.Goals as goal
 
 pub loop-init : goal.loop-init
@@ -14,6 +15,7 @@ loop-init g c = record {
   checkpoints = refl;
   logs = refl;
   stripes = refl;
+  seals = λ h other. absurd (other refl);
   counted = refl;
 }
 
@@ -68,6 +70,14 @@ loop-preserved g c =
           ∙ ap (λ (x : Checkpoints). advanced_by x.writer x) inv.checkpoints ∙ ap (λ (m : ℕ). checkpoints_after m (checkpoints_of c.args.keeper.now)) (sym one);
       logs = ap logs_of c.advance.ensures.same ∙ inv.logs;
       stripes = ap (λ k. k.stripes) c.advance.ensures.same ∙ inv.stripes;
+      seals = λ h other.
+          let now = inv.unmoved first.0 first.1 first.2 first.3 in
+          let was = checkpoint_was_honest states honest first.0 first.1 k first.2 now g.D.Disk.failures new c.advance.result no_next c.advance.ensures.rests c.advance.ensures.steps h in
+          elim (checkpoint_sealed states honest first.0 first.1 k first.2 now g.D.Disk.failures new c.advance.result no_next c.advance.ensures.rests c.advance.ensures.steps c.in_ok-_phase._phase c.in_ok-_phase.was h
+          (λ w sections. c.advance.ensures.sealed first.0 [] first.2 w sections now.fits)) [
+            | inl kept ↦ kept.1 ∙ inv.seals was (λ e. other (kept.0 ∙ e))
+            | inr sealed ↦ sealed ∙ ap (λ (s : StripeCount). s.count) inv.stripes
+          ];
       counted =
           let now = inv.unmoved first.0 first.1 first.2 first.3 in
           checkpoint_counted states honest first.0 first.1 k first.2 now g.D.Disk.failures new c.advance.result no_next c.advance.ensures.rests c.advance.ensures.steps c.in_ok-_phase._phase c.in_ok-_phase.was ∙ inv.counted;

@@ -1,13 +1,13 @@
-use Rattle.std.proofs.Common.{◌≡◌, ◌+◌, inl, [], ℕ, ap, ◌∙◌}
+use Rattle.std.proofs.Common.{◌≡◌, ◌+◌, inl, [], ℕ, ap, ◌∙◌, arith}
 use Rattle.std.proofs.lemmas.Result.{err_from_is_err_and}
 use Rattle.map_types.specs.declared.refusals.Refusal.TheVariants.{Failed}
 use Rattle.java_hash.specs.declared.stripe_count.StripeCount.{StripeCount}
 use Rattle.one_history.specs.Turns.{record_of}
 use Rattle.flusher.specs.declared.keeper.Keeper.{Keeper}
 use Rattle.checkpoint_walk.specs.Checkpointing.{MayBegin}
-use Rattle.recovery.proofs.GateClosing.{on_ok}
+use Rattle.recovery.proofs.GateClosing.{on_ok, on_ok2}
 use Rattle.recovery.proofs.OpeningLemmas.{if_err}
-use Rattle.recovery.proofs.Sections.{all_given, opens, published_all, seals, unmoved_with}
+use Rattle.recovery.proofs.Sections.{all_given, opens, opens_sealed, published_all, seals, unmoved_with}
 use Rattle.recovery.proofs.Unmoved.{through}
 use Rattle.recovery.proofs.StaysUnmoved.{begun, called, captured, left, sealed, stood}
 use Rattle.recovery.proofs.RefusedBehind.{begin_refused, checkpoint_refused, not_broken, not_rotated, not_sealed}
@@ -258,3 +258,31 @@ pub returns-clause-unfailing : goal.returns-clause-unfailing
 returns-clause-unfailing g c =
     let failures = g.D.Disk.failures in
     if_err (λ e. (e ≡ Failed) × (failures c.advance-2.new.keeper.disk ≡ failures c.seal.new.keeper.disk + 1)) _ c.advance-2.result (λ e failed other. absurd (other failed.0)) c.advance-2.ensures.err
+
+pub returns-clause-stripes : goal.returns-clause-stripes
+returns-clause-stripes g c =
+    let states = g.D.Disk.states in
+    let honest = g.D.Disk.honest in
+    let k = c.args.keeper.now in
+    let a = c.args.steps.now in
+    let b = a.words.now in
+    let k1 = c.begin.new.keeper in
+    let k2 = c.advance.new.keeper in
+    let k3 = c.capture_all.new.keeper in
+    let k4 = c.seal.new.keeper in
+    let k5 = c.advance-2.new.keeper in
+    let far1 = begun states honest k a k1 c.begin.ensures.same c.begin.ensures.fits c.stops_of_a_keeper.ensures in
+    let far2 = called states honest k a k1 a far1 k2 (λ o. c.advance.ensures.stands b.stripes o (record_of a.pass b)) (λ o. c.in_ok-advance.ensures.unmoved b.stripes o (record_of a.pass b)) in
+    let first = c.requires.unmoved in
+    let begins = (c.in_ok-begin.ensures.ok.goes_with c.requires.goes_with).1 in
+    let has = opens k1 k2 (k.sealed + 1) k.log.low k.stripes.count first.0.first k.must_close begins c.in_ok-advance.ensures.checkpoints in
+    let given = c.in_ok-capture_all.ensures.given first.0 (k.sealed + 1) (far2.unmoved first.0 first.1) has in
+    let before : k4.sealed ≡ k.sealed = ap (λ (x : Keeper _). x.sealed) c.in_ok-seal.ensures.ok ∙ c.in_ok-capture_all.ensures.sealed
+    ∙ opens_sealed k1 k2 (k.sealed + 1) k.log.low k.stripes.count k.must_close begins c.in_ok-advance.ensures.checkpoints ∙ ap (λ (x : Keeper _). x.sealed) c.begin.ensures.same in
+    let count : k4.stripes.count ≡ k.stripes.count = ap (λ (x : Keeper _). x.stripes.count) c.in_ok-seal.ensures.ok
+    ∙ ap (λ (s : StripeCount). s.count) (c.capture_all.ensures.stripes ∙ c.advance.ensures.stripes ∙ ap (λ (x : Keeper _). x.stripes) c.begin.ensures.same) in
+    on_ok2 _ _ _ c.advance-2.result
+    (λ all seals_for h.
+    let after : k5.sealed ≡ k.sealed + 1 = (seals k3 k4 k5 (k.sealed + 1) k3.stripes.count first.0.first given (ap (λ (x : Keeper _). x.checkpoint) c.in_ok-seal.ensures.ok) all).0 in
+    seals_for h (λ e. absurd (omega (arith, e, before, after))) ∙ count)
+    c.advance-2.ensures.checkpoints c.advance-2.ensures.seals

@@ -3,6 +3,7 @@ use Rattle.std.proofs.lemmas.Result.{err_from_is_err_and}
 use Rattle.disk_model.specs.Files.{Files}
 use Rattle.store_layout.specs.Checkpoints.{is_sealed}
 use Rattle.store_layout.specs.Opening.{Contents}
+use Rattle.store_layout.proofs.Refused.{at_fault, of_files}
 use Rattle.checkpoint_file.specs.Heads.{IsHead}
 use Rattle.gate_log.proofs.Scanning.{looks_on, same_now}
 use Rattle.recovery.specs.LogReading.{contents_of}
@@ -86,3 +87,13 @@ returns-in-Some-Some-2-clause-ok g c = λ honest.
     let second = subst (λ (content : List ℕ). IsHead c.in-Some-Some.second 1 content) same (rw c.in-Some-Some.is-1 at (c.in_ok-second.ensures.some honest)) in
     both_sealed contents first.opened first.faultless second.opened second.faultless false
     (is_older contents c.in-Some-Some.first.generation c.in-Some-Some.second.generation first.fields.generation second.fields.generation (let no = c.if-second-first.false in omega (arith, no)))
+
+pub returns-in_err-first-clause-listed : goal.returns-in_err-first-clause-listed
+returns-in_err-first-clause-listed g c =
+    let q = err_from_is_err_and c.from_residual.result c.from_residual.ensures.1 in
+    rw (q.1, q.2) (of_files 0 c.in_err-first.field-0.0 (omega arith) (at_fault 0 c.in_err-first.field-0.0 c.in_err-first.ensures.listed))
+
+pub returns-in_err-second-clause-listed : goal.returns-in_err-second-clause-listed
+returns-in_err-second-clause-listed g c =
+    let q = err_from_is_err_and c.from_residual-in_err-second.result c.from_residual-in_err-second.ensures.1 in
+    rw (q.1, q.2) (of_files 1 c.in_err-second.field-0.0 (omega arith) (at_fault 1 c.in_err-second.field-0.0 c.in_err-second.ensures.listed))

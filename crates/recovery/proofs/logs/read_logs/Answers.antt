@@ -2,6 +2,7 @@ use Rattle.std.proofs.Common.{◌≡◌, ◌+◌, ℕ, List, inr, sym, subst, ar
 use Rattle.std.proofs.lemmas.Result.{err_from_is_err_and}
 use Rattle.store_layout.specs.Opening.{Contents, log_layout}
 use Rattle.store_layout.specs.Logs.{log_file}
+use Rattle.store_layout.proofs.Refused.{of_files}
 use Rattle.gate_log.proofs.Scanning.{looks_on, same_bytes}
 use Rattle.gate_log.specs.States.{begun}
 use Rattle.file_pieces.specs.Counting.{Made}
@@ -137,3 +138,23 @@ returns-clause-tried g c = λ honest stripes sections first second logs.
     let other = subst (λ x. IsLogRead c.in-Some.next c.in_ok-end.first.committed (contents (log_file c.in-Some.next)) c.read_log.new.restoring x c.in_ok-end-2.second c.read_log-2.new.restoring) c.in-Ended.is
     (subst (λ content. IsLogRead c.in-Some.next c.in_ok-end.first.committed content c.read_log.new.restoring c.in_ok-end-2.end c.in_ok-end-2.second c.read_log-2.new.restoring) same (rw c.committed.ensures at (c.in_ok-end-2.ensures.ok honest))) in
     absurd (never_twice contents c.in-Some.next c.in_ok-end.first.committed c.in_ok-end.first.gate _ other.batches ends other.ends)
+
+pub returns-in_err-end-clause-listed : goal.returns-in_err-end-clause-listed
+returns-in_err-end-clause-listed g c =
+    let q = err_from_is_err_and c.from_residual.result c.from_residual.ensures.1 in
+    rw (q.1, q.2) (of_files (log_file c.args.generation) c.in_err-end.field-0.0 (omega arith) c.in_err-end.ensures.listed)
+
+pub returns-in_err-end-2-clause-listed : goal.returns-in_err-end-2-clause-listed
+returns-in_err-end-2-clause-listed g c =
+    let q = err_from_is_err_and c.from_residual-in_err-end-2.result c.from_residual-in_err-end-2.ensures.1 in
+    rw (q.1, q.2) (of_files (log_file c.in-Some.next) c.in_err-end-2.field-0.0 (omega arith) c.in_err-end-2.ensures.listed)
+
+pub returns-in_default-clause-listed : goal.returns-in_default-clause-listed
+returns-in_default-clause-listed g c =
+    let log = c.in_ok-end.first in
+    of_files (log_file log.generation) _ (omega arith) (inr (inr (inr (log.gate, c.damaged.ensures))))
+
+pub returns-clause-listed : goal.returns-clause-listed
+returns-clause-listed g c =
+    let log = c.in_ok-end-2.second in
+    of_files (log_file log.generation) _ (omega arith) (inr (inr (inr (log.gate, c.damaged-in-Ended.ensures))))

@@ -1,6 +1,7 @@
-use Rattle.std.proofs.Common.{◌∙◌, ap}
+use Rattle.std.proofs.Common.{inl, inr, ◌∙◌, ap, arith}
 use Rattle.java_hash.proofs.StripeLaws.{some_stripe}
 use Rattle.store_layout.specs.Opening.{Contents}
+use Rattle.store_layout.proofs.Refused.{of_files}
 use Rattle.ticket_order.specs.declared.record.Opening.{Opening}
 use Rattle.stripe_locks.specs.Passes.{begun_with}
 use Rattle.recovery.specs.LogReading.{contents_of}
@@ -31,3 +32,6 @@ returns-in-Ok-clause-limit g c = ap (λ (o : Opening). o.key_limit) c.in-Ok.ensu
 pub returns-in-Ok-clause-fits : goal.returns-in-Ok-clause-fits
 returns-in-Ok-clause-fits g c = λ p opening unused.
     c.in_ok-keeper.ensures.fits p (opening ∙ c.in-Ok.ensures.opening) (rw c.in-Ok.ensures.opening at unused)
+
+pub returns-in-Err-clause-listed : goal.returns-in-Err-clause-listed
+returns-in-Err-clause-listed g c = of_files 0 c.in-Err.refusal (omega arith) (inr (inl c.in-Err.ensures.err))

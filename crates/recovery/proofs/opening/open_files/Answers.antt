@@ -1,7 +1,8 @@
-use Rattle.std.proofs.Common.{◌≡◌, ◌+◌, OnErr, OnOk, sym, subst, arith}
+use Rattle.std.proofs.Common.{◌≡◌, inl, ◌+◌, OnErr, OnOk, sym, subst, arith}
 use Rattle.std.proofs.lemmas.Result.{err_from_is_err_and, on_err_weaker, on_ok_weaker}
 use Rattle.file_pieces.specs.Counting.{Made, MadeAtMost}
 use Rattle.store_layout.specs.Calls.{reading_calls}
+use Rattle.store_layout.proofs.Refused.{of_files}
 use Rattle.store_layout.specs.Checkpoints.{is_to_close, checkpoint_file}
 use Rattle.store_layout.specs.Opening.{Contents, Holds, Refuses}
 use Rattle.recovery.specs.LogReading.{RefusesFor, contents_of}
@@ -53,3 +54,8 @@ returns-clause-tried g c = λ honest found holds.
     let read = subst (λ (x : Contents). OnErr c.read_files.result (MadeAtMost g.D.Disk.states (reading_calls x found) c.sync_files.new.disk c.read_files.new.disk)) same
     (c.read_files.ensures.tried honest found (subst (λ (x : Contents). Holds x found) (sym same) holds)) in
     on_err_weaker c.read_files.result (λ (read : MadeAtMost g.D.Disk.states (reading_calls contents found) c.sync_files.new.disk c.read_files.new.disk). omega (arith, synced, read)) read
+
+pub returns-in_err-sync_files-clause-listed : goal.returns-in_err-sync_files-clause-listed
+returns-in_err-sync_files-clause-listed g c =
+    let q = err_from_is_err_and c.from_residual.result c.from_residual.ensures.1 in
+    rw (q.1, q.2) (of_files 0 c.in_err-sync_files.field-0.0 (omega arith) (inl c.in_err-sync_files.ensures.failed))

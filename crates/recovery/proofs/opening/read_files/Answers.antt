@@ -1,7 +1,8 @@
-use Rattle.std.proofs.Common.{◌≡◌, ◌+◌, ◌-◌, ap, ◌∙◌, arith}
+use Rattle.std.proofs.Common.{◌≡◌, inl, ◌+◌, ◌-◌, ap, ◌∙◌, arith}
 use Rattle.std.proofs.lemmas.Result.{err_from_is_err_and}
 use Rattle.disk_model.specs.Files.{Files}
 use Rattle.store_layout.specs.Checkpoints.{is_to_close, checkpoint_file}
+use Rattle.store_layout.proofs.Refused.{of_files}
 use Rattle.recovery.specs.LogReading.{contents_of}
 use Rattle.gate_log.proofs.Scanning.{looks_on, same_now}
 use Rattle.recovery.proofs.opening.read_files.Goals as goal
@@ -42,3 +43,8 @@ returns-in_err-must_close-clause-tried g c = λ honest found holds.
     let one = c.in_ok-restored.ensures.called (c.in_err-must_close.ensures.failed.was_honest honest) found holds in
     let two = c.in_err-must_close.ensures.called in
     rw q.1 (omega (arith, one, two))
+
+pub returns-in_err-must_close-clause-listed : goal.returns-in_err-must_close-clause-listed
+returns-in_err-must_close-clause-listed g c =
+    let q = err_from_is_err_and c.from_residual-in_err-must_close.result c.from_residual-in_err-must_close.ensures.1 in
+    rw (q.1, q.2) (of_files 0 c.in_err-must_close.field-0.0 (omega arith) (inl c.in_err-must_close.ensures.err))

@@ -6,6 +6,7 @@ use Rattle.store_layout.specs.Faults.{body_length_in}
 use Rattle.disk_model.specs.Calls.{Looks}
 use Rattle.disk_model.specs.Files.{Files}
 use Rattle.store_layout.specs.Checkpoints.{is_sealed}
+use Rattle.store_layout.proofs.Refused.{of_files}
 use Rattle.store_layout.specs.Opening.{Contents, AreBadLogs, AreLogs, IsCheckpointIn, Refuses}
 use Rattle.recovery.proofs.CallLemmas.{body_found, checkpoint_found}
 use Rattle.checkpoint_file.specs.declared.loading.LoadedCheckpoint.{LoadedCheckpoint}
@@ -132,3 +133,9 @@ returns-clause-tried g c = λ honest found holds.
     (c.restore_from.ensures.tried honest found.first found.second logs) in
     on_err_weaker c.restore_from.result
     (λ (three : MadeAtMost g.D.Disk.states (logs_calls contents k found.first found.second) c.load.new.disk c.restore_from.new.disk). omega (arith, one, two, body, of_found.body, of_found.calls, three)) made
+
+pub returns-in_err-loaded-clause-listed : goal.returns-in_err-loaded-clause-listed
+returns-in_err-loaded-clause-listed g c =
+    let q = err_from_is_err_and c.from_residual-in_err-loaded.result c.from_residual-in_err-loaded.ensures.1 in
+    let few = c.in_ok-file.ensures.file in
+    rw (q.1, q.2) (of_files c.in_ok-file.file c.in_err-loaded.field-0.0 (omega (arith, few)) c.in_err-loaded.ensures.listed)

@@ -1,6 +1,8 @@
-use Rattle.std.proofs.Common.{◌≡◌, inr, refl, ap, ◌∙◌, arith}
+use Rattle.std.proofs.Common.{◌≡◌, inl, inr, refl, ap, ◌∙◌, arith}
 use Rattle.std.proofs.lemmas.Result.{err_from_is_err_and}
+use Rattle.store_layout.specs.Logs.{log_file}
 use Rattle.store_layout.specs.Opening.{Contents}
+use Rattle.store_layout.proofs.Refused.{of_files}
 use Rattle.checkpoint_file.specs.Loads.{sections_of}
 use Rattle.recovery.specs.Counting.{greatest_of}
 use Rattle.recovery.specs.LogReading.{contents_of}
@@ -42,3 +44,13 @@ pub returns-then-committed-greatest_of-clause-tried : goal.returns-then-committe
 returns-then-committed-greatest_of-clause-tried g c = λ honest first second logs.
     let called = c.in_ok-log.ensures.called honest c.args.loaded.stripes.count (sections_of c.args.loaded.sections.items) first second logs in
     omega (arith, called)
+
+pub returns-in_err-restoring-clause-listed : goal.returns-in_err-restoring-clause-listed
+returns-in_err-restoring-clause-listed g c =
+    let q = err_from_is_err_and c.from_residual.result c.from_residual.ensures.1 in
+    rw (q.1, q.2) (of_files 0 c.in_err-restoring.field-0.0 (omega arith) (inr (inl c.in_err-restoring.ensures.err)))
+
+pub returns-then-committed-greatest_of-clause-listed : goal.returns-then-committed-greatest_of-clause-listed
+returns-then-committed-greatest_of-clause-listed g c =
+    let log = c.in_ok-log.log in
+    of_files (log_file log.generation) _ (omega arith) (inr (inr (inr (log.gate, c.damaged.ensures))))

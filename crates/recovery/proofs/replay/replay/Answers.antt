@@ -2,13 +2,14 @@ use Rattle.std.proofs.Common.{◌≡◌, ℕ, ◌+◌, List, [], ◌∷◌, ◌+
 use Rattle.std.proofs.lemmas.Result.{err_from_is_err_and}
 use Rattle.log_records.specs.Layout.{Layout, layout_of}
 use Rattle.log_records.proofs.Layouts.{layout_room}
-use Rattle.store_layout.specs.Logs.{IsClosed, IsEnded, log_front}
+use Rattle.store_layout.specs.Failures.{IsFileRefused}
+use Rattle.store_layout.specs.Logs.{IsClosed, IsEnded, log_file, log_front}
 use Rattle.log_records.specs.declared.versions.Version.{Version}
 use Rattle.recovery.specs.declared.replay.End.TheVariants.{Closed, Ended}
 use Rattle.recovery.specs.LogReading.{EndsAt, IsReading, IsReplayed}
 use Rattle.gate_log.specs.Scan.{HasRead, IsNextBatch, ReadsAtGate, log_bytes}
 use Rattle.gate_log.specs.States.{batch_of}
-use Rattle.gate_log.proofs.Scanning.{looks_on, max_pieces}
+use Rattle.gate_log.proofs.Scanning.{gate_refused, looks_on, max_pieces}
 use Rattle.file_pieces.specs.Pieces.{end_of, pieces_in}
 use Rattle.recovery.proofs.PrefixLemmas.{reads_inside}
 use Rattle.recovery.proofs.ReplayLemmas.{batch_more, broken_for, few_batches, frame_on, pieces_further, pieces_upto, same_log}
@@ -174,3 +175,12 @@ returns-clause-tried g c = λ honest low last begun ends.
     let over = c.loop-test.false in
     let fits = c.damaged.ensures.fits in
     absurd (omega (arith, many, few, over, fits))
+
+pub returns-in_err-entries-clause-listed : goal.returns-in_err-entries-clause-listed
+returns-in_err-entries-clause-listed g c =
+    let q = err_from_is_err_and c.from_residual.result c.from_residual.ensures.1 in
+    let r = c.in_err-entries.field-0.0 in
+    rw (q.1, q.2) (subst (λ (n : ℕ). IsFileRefused (log_file n) r) c.loop.invariant.generation (gate_refused c.loop.scan.generation c.loop.scan.gate _ r c.in_err-entries.ensures.err))
+
+pub returns-clause-listed : goal.returns-clause-listed
+returns-clause-listed g c = inr (inr (inr (c.loop.scan.gate, c.damaged.ensures.value)))

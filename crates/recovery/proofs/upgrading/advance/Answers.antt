@@ -3,7 +3,7 @@ use Rattle.std.proofs.lemmas.Result.{err_from_is_err_and}
 use Rattle.map_types.specs.declared.refusals.Refusal.TheVariants.{Failed}
 use Rattle.flusher.specs.Rotating.{logs_of, stepped}
 use Rattle.recovery.specs.Upgrading.{logs_after}
-use Rattle.recovery.proofs.Unmoved.{err_of, logs_counted, logs_failed, logs_go_on, logs_stand, logs_unmoved, stays, through}
+use Rattle.recovery.proofs.Unmoved.{err_of, logs_counted, logs_failed, logs_go_on, logs_keep, logs_stand, logs_unmoved, stays, through}
 use Rattle.recovery.proofs.upgrading.advance.Goals as goal
 
 pub loop-init : goal.loop-init
@@ -13,6 +13,7 @@ loop-init g c = record {
   logs = refl;
   checkpoint = refl;
   sealed = refl;
+  stripes = refl;
   counted = refl;
 }
 
@@ -64,6 +65,10 @@ loop-preserved g c =
           ∙ ap stepped inv.logs ∙ ap (λ (m : ℕ). logs_after m (logs_of c.args.keeper.now)) (sym one);
       checkpoint = ap (λ k. k.checkpoint) c.advance.ensures.same ∙ inv.checkpoint;
       sealed = ap (λ k. k.sealed) c.advance.ensures.same ∙ inv.sealed;
+      stripes =
+          let now = inv.unmoved first.0 first.1 first.2 first.3 in
+          logs_keep states honest first.0 first.1 k first.2 now g.D.Disk.failures new c.advance.result c.advance.ensures.rests c.advance.ensures.steps c.in_ok-_phase._phase c.in_ok-_phase.was (ap (λ k. k.sealed) c.advance.ensures.same)
+          ∙ inv.stripes;
       counted =
           let now = inv.unmoved first.0 first.1 first.2 first.3 in
           logs_counted states honest first.0 first.1 k first.2 now g.D.Disk.failures new c.advance.result c.advance.ensures.rests c.advance.ensures.steps c.in_ok-_phase._phase c.in_ok-_phase.was ∙ inv.counted;

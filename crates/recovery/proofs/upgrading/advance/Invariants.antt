@@ -2,7 +2,7 @@ use Rattle.std.proofs.Common.{◌≡◌, ℕ}
 use Rattle.ticket_order.specs.declared.record.Opening.{Opening}
 use Rattle.ticket_order.specs.declared.record.Record.{Record}
 use Rattle.flusher.specs.Rotating.{logs_of}
-use Rattle.recovery.specs.Upgrading.{IsUnmoved, StandsThroughout, logs_after}
+use Rattle.recovery.specs.Upgrading.{IsUnmoved, StandsThroughout, logs_after, sealed_stripes}
 use Rattle.recovery.proofs.upgrading.advance.Given as goal
 
 abbrev pub invariant-loop : goal.invariant-loop
@@ -12,5 +12,6 @@ invariant-loop g l = record {
   logs : logs_of l.keeper ≡ logs_after l.counter (logs_of l.initial.keeper);
   checkpoint : l.keeper.checkpoint ≡ l.initial.keeper.checkpoint;
   sealed : l.keeper.sealed ≡ l.initial.keeper.sealed;
+  stripes : sealed_stripes g.D.Disk.states l.keeper ≡ sealed_stripes g.D.Disk.states l.initial.keeper;
   counted : g.D.Disk.failures l.keeper.disk ≡ g.D.Disk.failures l.initial.keeper.disk;
 }

@@ -3,6 +3,7 @@ use Rattle.std.proofs.lemmas.Result.{err_from_is_err_and}
 use Rattle.map_types.specs.declared.refusals.Refusal.TheVariants.{Failed}
 use Rattle.flusher.specs.declared.keeper.Keeper.{Keeper}
 use Rattle.checkpoint_walk.specs.Checkpointing.{MayBegin}
+use Rattle.recovery.specs.Upgrading.{sealed_stripes}
 use Rattle.recovery.proofs.OpeningLemmas.{if_err}
 use Rattle.recovery.proofs.RefusedBehind.{not_broken, not_rotated}
 use Rattle.recovery.proofs.Unmoved.{begun_unmoved, stays, through}
@@ -67,3 +68,7 @@ pub returns-clause-unfailing : goal.returns-clause-unfailing
 returns-clause-unfailing g c =
     let failures = g.D.Disk.failures in
     if_err (λ e. (e ≡ Failed) × (failures c.advance.new.keeper.disk ≡ failures c.begin.new.keeper.disk + 1)) _ c.advance.result (λ e failed other. absurd (other failed.0)) c.advance.ensures.err
+
+pub returns-clause-stripes : goal.returns-clause-stripes
+returns-clause-stripes g c =
+    on_ok _ _ c.advance.result (λ same. same ∙ ap (λ (x : Keeper _). sealed_stripes g.D.Disk.states x) c.begin.ensures.same) c.advance.ensures.stripes

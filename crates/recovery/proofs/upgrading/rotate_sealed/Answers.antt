@@ -90,3 +90,21 @@ returns-clause-unfailing g c =
     let k2 = c.rotate-2.new.keeper.disk in
     let k1 = c.seal_checkpoint.new.keeper.disk in
     if_err (λ e. e ≢ Failed → failures k2 ≡ failures k1) _ c.rotate-2.result (λ e none other. none other ∙ c.in_ok-seal_checkpoint.ensures.counted) c.rotate-2.ensures.unfailing
+
+pub returns-then-generation-keeper-clause-kept : goal.returns-then-generation-keeper-clause-kept
+returns-then-generation-keeper-clause-kept g c = on_ok _ _ c.rotate.result (λ same at. same) c.rotate.ensures.stripes
+
+pub returns-then-generation-keeper-clause-stripes : goal.returns-then-generation-keeper-clause-stripes
+returns-then-generation-keeper-clause-stripes g c =
+    on_ok _ _ c.rotate.result (λ same h other. absurd (other (sym c.generation.ensures ∙ c.if-generation-keeper.true))) c.rotate.ensures.stripes
+
+pub returns-clause-kept : goal.returns-clause-kept
+returns-clause-kept g c =
+    on_ok _ _ c.rotate-2.result (λ same at. absurd (c.if-generation-keeper.false (c.generation.ensures ∙ at))) c.rotate-2.ensures.stripes
+
+pub returns-clause-stripes : goal.returns-clause-stripes
+returns-clause-stripes g c =
+    let first = c.requires.unmoved in
+    let b = c.seal_checkpoint.new.steps.words.now in
+    let was = (c.rotate-2.ensures.stands b.stripes first.0 (record_of c.seal_checkpoint.new.steps.pass b) (c.in_ok-seal_checkpoint.ensures.unmoved first.0 first.1).unmoved).was_honest in
+    on_ok _ _ c.rotate-2.result (λ same h other. same ∙ c.in_ok-seal_checkpoint.ensures.stripes (was h)) c.rotate-2.ensures.stripes

@@ -11,9 +11,9 @@ invariant_of-self c =
     let file = now (states_of old.past.events) c.args.file in
     let holds : Holds old.files old.past.events = record { are = old.kept; coherent = old.coherent } in
     let is = c.touch.ensures.kept file (old.kept.each c.args.file c.index-self-file.result c.requires.file) in
-    let noted = tore_seen old.files old.past.events c.args.file c.touch.new.self c.requires.file holds c.args.at c.args.size file.seen c.tore-self.result.events is c.tore-self.ensures in
-    let next = tore_holds old.files old.past.events c.args.file c.touch.new.self c.requires.file holds c.args.at c.args.size file.seen c.tore-self.result.events is
-    (coherent_lost c.args.at c.args.size file (was_coherent old.files old.past.events c.args.file c.touch.new.self c.requires.file holds)) noted in
+    let noted = tore_seen old.files old.past.events c.args.file c.touch.new.self c.requires.file holds c.args.at c.args.bytes.now file.seen c.tore-self.result.events is c.tore-self.ensures in
+    let next = tore_holds old.files old.past.events c.args.file c.touch.new.self c.requires.file holds c.args.at c.args.bytes.now file.seen c.tore-self.result.events is
+    (coherent_lost c.args.at c.args.bytes.now file (was_coherent old.files old.past.events c.args.file c.touch.new.self c.requires.file holds)) noted in
     record { kept = next.are; coherent = next.coherent }
 
 pub returns-clause-lost : goal.returns-clause-lost
@@ -22,7 +22,7 @@ returns-clause-lost c =
     let file = now (states_of old.past.events) c.args.file in
     let holds : Holds old.files old.past.events = record { are = old.kept; coherent = old.coherent } in
     let is = c.touch.ensures.kept file (old.kept.each c.args.file c.index-self-file.result c.requires.file) in
-    let noted = tore_seen old.files old.past.events c.args.file c.touch.new.self c.requires.file holds c.args.at c.args.size file.seen c.tore-self.result.events is c.tore-self.ensures in
+    let noted = tore_seen old.files old.past.events c.args.file c.touch.new.self c.requires.file holds c.args.at c.args.bytes.now file.seen c.tore-self.result.events is c.tore-self.ensures in
     record { short = refl; state = ap (λ (es : List Event). states_of es) noted }
 
 pub returns-clause-failures : goal.returns-clause-failures
@@ -31,5 +31,5 @@ returns-clause-failures c =
     let file = now (states_of old.past.events) c.args.file in
     let holds : Holds old.files old.past.events = record { are = old.kept; coherent = old.coherent } in
     let is = c.touch.ensures.kept file (old.kept.each c.args.file c.index-self-file.result c.requires.file) in
-    let noted = tore_seen old.files old.past.events c.args.file c.touch.new.self c.requires.file holds c.args.at c.args.size file.seen c.tore-self.result.events is c.tore-self.ensures in
+    let noted = tore_seen old.files old.past.events c.args.file c.touch.new.self c.requires.file holds c.args.at c.args.bytes.now file.seen c.tore-self.result.events is c.tore-self.ensures in
     ap (λ (es : List Event). failures_of es) noted

@@ -1,4 +1,4 @@
-use Rattle.std.proofs.Common.{inr, refl, ap, subst, List, ℕ, length}
+use Rattle.std.proofs.Common.{inr, refl, ap, subst, List, ℕ}
 use Rattle.disk_model.specs.Files.{now, AreBytes}
 use Rattle.disk_model.specs.Fills.{seen_torn}
 use Rattle.disk_model.specs.Events.{Event, states_of, failures_of}
@@ -16,10 +16,9 @@ invariant_of-self c =
     let holds : Holds old.files events = record { are = old.kept; coherent = old.coherent } in
     let is = c.in-Ok.ensures.ok file (old.kept.each number c.index-self-file.result c.requires.file) in
     let seen = seen_torn c.args.fill.now number c.args.at c.args.bytes.now file in
-    let size = length c.args.bytes.now in
-    let noted = tore_seen old.files events number one c.requires.file holds c.args.at size seen c.tore-self.result.events is c.tore-self.ensures in
+    let noted = tore_seen old.files events number one c.requires.file holds c.args.at c.args.bytes.now seen c.tore-self.result.events is c.tore-self.ensures in
     let are = subst (λ (l : List ℕ). AreBytes l) is.seen one.bytes in
-    let next = tore_holds old.files events number one c.requires.file holds c.args.at size seen c.tore-self.result.events is
+    let next = tore_holds old.files events number one c.requires.file holds c.args.at c.args.bytes.now seen c.tore-self.result.events is
     (coherent_torn c.args.fill.now number c.args.at c.args.bytes.now file (was_coherent old.files events number one c.requires.file holds) are) noted in
     record { kept = next.are; coherent = next.coherent }
 
@@ -33,8 +32,7 @@ returns-in-Ok-clause-torn c =
     let holds : Holds old.files events = record { are = old.kept; coherent = old.coherent } in
     let is = c.in-Ok.ensures.ok file (old.kept.each number c.index-self-file.result c.requires.file) in
     let seen = seen_torn c.args.fill.now number c.args.at c.args.bytes.now file in
-    let size = length c.args.bytes.now in
-    let noted = tore_seen old.files events number one c.requires.file holds c.args.at size seen c.tore-self.result.events is c.tore-self.ensures in
+    let noted = tore_seen old.files events number one c.requires.file holds c.args.at c.args.bytes.now seen c.tore-self.result.events is c.tore-self.ensures in
     inr (refl, ap (λ (es : List Event). states_of es) noted)
 
 pub returns-in-Ok-clause-failures : goal.returns-in-Ok-clause-failures
@@ -47,6 +45,5 @@ returns-in-Ok-clause-failures c =
     let holds : Holds old.files events = record { are = old.kept; coherent = old.coherent } in
     let is = c.in-Ok.ensures.ok file (old.kept.each number c.index-self-file.result c.requires.file) in
     let seen = seen_torn c.args.fill.now number c.args.at c.args.bytes.now file in
-    let size = length c.args.bytes.now in
-    let noted = tore_seen old.files events number one c.requires.file holds c.args.at size seen c.tore-self.result.events is c.tore-self.ensures in
+    let noted = tore_seen old.files events number one c.requires.file holds c.args.at c.args.bytes.now seen c.tore-self.result.events is c.tore-self.ensures in
     ap (λ (es : List Event). failures_of es) noted

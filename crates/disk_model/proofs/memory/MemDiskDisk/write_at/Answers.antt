@@ -10,9 +10,8 @@ pub returns-in-Some-clause-torn : goal.returns-in-Some-clause-torn
 returns-in-Some-clause-torn c =
     let files = now (memory_states c.args.self.now) in
     let file = files c.args.file in
-    let size = length c.args.bytes.now in
-    ⊎_elim {C = (left : File) × (c.args.at ≤ length file.seen → IsTorn c.args.at size file left) × (memory_states c.tear.new.self ≡ with_file c.args.file left files ∷ memory_states c.args.self.now)}
-    (λ lost. (reached c.args.at size file.seen file, (λ inside. lost_is_torn c.args.at size file), lost.state))
+    ⊎_elim {C = (left : File) × (c.args.at ≤ length file.seen → IsTorn c.args.at c.args.bytes.now file left) × (memory_states c.tear.new.self ≡ with_file c.args.file left files ∷ memory_states c.args.self.now)}
+    (λ lost. (reached c.args.at c.args.bytes.now file.seen file, (λ inside. lost_is_torn c.args.at c.args.bytes.now file), lost.state))
     (λ made. (torn c.in-Some.fill c.args.file c.args.at c.args.bytes.now file, torn_is_torn c.in-Some.fill c.args.file c.args.at c.args.bytes.now file, made.1))
     c.tear.ensures.torn
 

@@ -4,7 +4,7 @@ use Rattle.gate_log.specs.States.{commands_of}
 use Rattle.flusher.specs.declared.keeper.Keeper.{Keeper}
 use Rattle.flusher.specs.declared.sweeper.Swept.TheVariants.{Done}
 use Rattle.flusher.specs.Sweeping.{IsDone}
-use Rattle.flusher.proofs.Counting.{After, goes_on, not_over, stays_in}
+use Rattle.flusher.proofs.Counting.{After, gave_back, goes_on, not_over, stays_in}
 use Rattle.flusher.proofs.Quiet.{quiet_then}
 use Rattle.flusher.proofs.Seeing.{sees_then}
 use Rattle.flusher.proofs.Trying.{put_back_at, stays_at}
@@ -32,6 +32,11 @@ pub returns-in-Err-clause-stays : goal.returns-in-Err-clause-stays
 returns-in-Err-clause-stays g c =
     let one = c.sweep_step.ensures.one in
     stays_in _ _ _ _ (goes_on _ _ _ _ _ _ _ _ _ _ one.made one.steps one.kind_is c.in-Err.ensures.steps_on c.loop-step.invariant.under_way)
+
+pub returns-in-Err-clause-gave : goal.returns-in-Err-clause-gave
+returns-in-Err-clause-gave g c =
+    let one = c.sweep_step.ensures.one in
+    gave_back _ _ _ _ _ _ _ _ _ _ one.made one.steps one.kind_is c.in-Err.ensures.steps_on c.loop-step.invariant.under_way
 
 pub returns-in-Done-clause-count : goal.returns-in-Done-clause-count
 returns-in-Done-clause-count g c =

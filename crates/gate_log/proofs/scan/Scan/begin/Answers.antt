@@ -7,8 +7,8 @@ use Rattle.log_records.specs.Layout.{layout_of}
 use Rattle.store_layout.specs.Readings.{HasHeader, IsBadHeader}
 use Rattle.gate_log.specs.Scan.{log_bytes}
 use Rattle.gate_log.specs.ScanParts.{bytes_of}
-use Rattle.gate_log.proofs.Headers.{bad_header, header_bytes, header_read, version_first}
-use Rattle.gate_log.proofs.Scanning.{looks_on, never_damaged, same_now}
+use Rattle.gate_log.proofs.Headers.{bad_header, header_bytes, header_fault, header_read, version_first}
+use Rattle.gate_log.proofs.Scanning.{gate_refused, looks_on, never_damaged, same_now}
 use Rattle.gate_log.proofs.scan.Scan.begin.Goals as goal
 
 pub returns-in_err-reach-clause-looks : goal.returns-in_err-reach-clause-looks
@@ -95,3 +95,13 @@ returns-clause-version g c = λ honest.
     let whole : c.len.result ≡ length content = len ∙ sym same_len ∙ held.whole in
     let bytes = header_bytes content c.bytes.result.now c.len.result c.min-end.result whole (omega arith) (c.bytes.ensures.same content held) in
     version_first (layout_of c.in_ok-version.version).version c.args.generation c.args.low content (subst (HasHeader (layout_of c.in_ok-version.version).version c.args.generation c.args.low) bytes c.in_ok-version.ensures.ok)
+
+pub returns-in_err-reach-clause-listed : goal.returns-in_err-reach-clause-listed
+returns-in_err-reach-clause-listed g c =
+    let q = err_from_is_err_and c.from_residual-in_err-reach.result c.from_residual-in_err-reach.ensures.1 in
+    rw (q.1, q.2) (gate_refused c.args.generation 17 _ c.in_err-reach.field-0.0 c.in_err-reach.ensures.err)
+
+pub returns-in_err-version-clause-listed : goal.returns-in_err-version-clause-listed
+returns-in_err-version-clause-listed g c =
+    let q = err_from_is_err_and c.from_residual-in_err-version.result c.from_residual-in_err-version.ensures.1 in
+    rw (q.1, q.2) (inr (inr (header_fault c.args.generation c.args.low _ _ c.in_err-version.ensures.err)))

@@ -49,6 +49,6 @@ invariant_of-self c =
           (λ e. came old.disk disk answer old.fill call possible made.plan old.planned (long e)
           (subst (λ bs. OnOk answer (memory_states disk ≡ with_file c.args.file (written c.args.at bs (now states c.args.file)) (now states) ∷ states)) same made.written)
           (where_err answer (λ any due is. subst (λ bs. memory_states disk ≡ left bs due) same
-          (write_lost old.disk disk c.args.file c.args.at (length c.args.bytes.now) (due_of (planned_of old.disk)) due (left c.args.bytes.now) (long e) made.failed is)) made.torn));
+          (write_lost old.disk disk c.args.file c.args.at c.args.bytes.now (due_of (planned_of old.disk)) due (left c.args.bytes.now) (long e) made.failed is)) made.torn));
       counted = counted_on old.calls c.one_more-self.result (memory_states disk) states c.one_more-self.ensures grown old.counted;
     }
