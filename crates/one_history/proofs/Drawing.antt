@@ -24,7 +24,7 @@ use Rattle.one_history.specs.declared.book.Book.{Book}
 use Rattle.one_history.specs.declared.slot.Slot.{Slot}
 use Rattle.one_history.specs.declared.slot.Slot.TheVariants.{Home, HeldBy}
 use Rattle.one_history.specs.Interleaving.{is_held_by, with_last}
-use Rattle.one_history.specs.Turns.{record_of, words_of, unseen, drew}
+use Rattle.one_history.specs.Turns.{record_of, pass_step, words_of, unseen, drew}
 use Rattle.one_history.specs.OneHistory.{IsFront, IsUpTo, Holds, Knows, AreOf, IsOneHistory, changes_by, stripe_in}
 use Rattle.one_history.specs.Moves.{BookMoves}
 use Rattle.one_history.specs.SharedWords.{slot_of, holder_in, Lies, draws_left, IsKept}
@@ -256,6 +256,7 @@ module _ (n t durable : ℕ) (has_failed : Bool) (slots : List Slot) (b : Book) 
     stripes = refl;
     passes = length-set b.passes j w;
     others = λ l ne. other_records b j l s w h' (b.authors ++ j ∷ []) b.effects ne;
+    order = ap (λ m. b.interleaving ++ pass_step j (made.Drew m) ∷ []) (sym t_is);
     words = record {
       command = c;
       reply = (step (part_held r.holding) c).reply;

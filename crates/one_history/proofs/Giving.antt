@@ -1,5 +1,5 @@
 -- GIVE.
-use Rattle.std.proofs.Common.{ℕ, ◌≡◌, ◌≢◌, ◌⊎◌, ◌<◌, ◌≤◌, ◌++◌, ◌==◌, List, [], Bool, true, false, Option, Some, None, length, set, refl, arith, sym, ◌∙◌, ap, subst, inl, inr, append-nil}
+use Rattle.std.proofs.Common.{ℕ, ◌≡◌, ◌≢◌, ◌⊎◌, ◌<◌, ◌≤◌, ◌++◌, ◌==◌, List, [], ◌∷◌, Bool, true, false, Option, Some, None, length, set, refl, arith, sym, ◌∙◌, ap, subst, inl, inr, append-nil}
 use Rattle.std.proofs.lemmas.List.{get_or-set_same, get_or-set_other}
 use Rattle.std.proofs.Math.ListN.{length-set}
 use Rattle.std.specs.Prelude.{if◌then◌else◌}
@@ -23,7 +23,7 @@ use Rattle.one_history.specs.declared.book.KeeperEffects.{KeeperEffects}
 use Rattle.one_history.specs.declared.slot.Slot.{Slot}
 use Rattle.one_history.specs.declared.slot.Slot.TheVariants.{Home, HeldBy}
 use Rattle.one_history.specs.Interleaving.{Words, with_holder}
-use Rattle.one_history.specs.Turns.{record_of, words_of, given, gave}
+use Rattle.one_history.specs.Turns.{record_of, pass_step, words_of, given, gave}
 use Rattle.one_history.specs.OneHistory.{HasDone, Holds, Knows, AreOf, IsOneHistory, HoldsStripe, stripe_in}
 use Rattle.one_history.specs.Moves.{BookMoves, SeesNoMore, SeesRead}
 use Rattle.one_history.specs.SharedWords.{slot_of, holder_in, Lies, draws_left, IsKept}
@@ -236,6 +236,7 @@ module _ (n t durable : ℕ) (has_failed : Bool) (slots : List Slot) (b : Book) 
     stripes = refl;
     passes = length-set b.passes j w;
     others = λ l ne. other_records b j l s w b.history b.authors k' ne;
+    order = ap (λ m. b.interleaving ++ pass_step j (made.Gave m) ∷ []) (stripe_here ∙ may.stripe_is);
     words = (record { history = refl; authors = refl }, record { entries = swept_by p r.holding; effects = refl; taken = ap (λ (y : Record). y.taken) same_now ∙ after.taken });
     raises = subst (λ (y : Record). SeesNoMore r y ⊎ SeesRead r (last_of b.stripes i b.opening.first b.history) y) (sym same_now) raised;
   }

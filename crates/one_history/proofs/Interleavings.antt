@@ -1,5 +1,5 @@
 -- One more step in an interleaving.
-use Rattle.std.proofs.Common.{ℕ, zero, suc, ◌≡◌, ◌≢◌, ◌==◌, ◌++◌, List, [], ◌∷◌, true, false, get_or, refl, ap}
+use Rattle.std.proofs.Common.{ℕ, zero, suc, ◌≡◌, ◌≢◌, ◌==◌, ◌++◌, List, [], ◌∷◌, true, false, get_or, refl, sym, ◌∙◌, ap, append_assoc, append-nil}
 use Rattle.std.specs.Prelude.{if◌then◌else◌}
 use Rattle.std.specs.List.{All}
 use Rattle.std.proofs.lemmas.List.Elements.{All-head, All-tail}
@@ -7,7 +7,7 @@ use Rattle.std.proofs.lemmas.Bool.{eq-eqb, ne_eqb}
 use Rattle.ticket_order.specs.declared.record.StepMade.{StepMade}
 use Rattle.ticket_order.specs.declared.record.Record.{Record}
 use Rattle.one_history.specs.declared.book.PassStep.{PassStep}
-use Rattle.one_history.specs.Interleaving.{Words, moved_by, Finds, words_after, AreFound, steps_by}
+use Rattle.one_history.specs.Interleaving.{Words, moved_by, Finds, words_after, AreFound, GoesOn, steps_by}
 use Rattle.one_history.specs.Turns.{pass_step}
 
 pub after_push : (w : Words) (xs : List PassStep) (s : PassStep) → words_after w (xs ++ s ∷ []) ≡ moved_by s.pass s.step (words_after w xs)
@@ -34,6 +34,13 @@ pub by_other : (j l : ℕ) (s : StepMade) (xs : List PassStep) → j ≢ l → s
 unfolding steps_by
 by_other j l s [] ne = ap (λ t. if t then s ∷ [] else []) (ne_eqb j l ne)
 by_other j l s (x ∷ xs) ne = ap (λ r. if x.pass == l then x.step ∷ r else r) (by_other j l s xs ne)
+
+pub goes_on_itself : (xs : List PassStep) → GoesOn xs xs
+goes_on_itself xs = record { later = []; is = sym (append-nil xs) }
+
+-- it goes on by one step more
+pub goes_on_by : (earlier xs ys : List PassStep) (x : PassStep) → ys ≡ xs ++ x ∷ [] → GoesOn earlier xs → GoesOn earlier ys
+goes_on_by earlier xs ys x e g = record { later = g.later ++ x ∷ []; is = e ∙ (ap (λ r. r ++ x ∷ []) g.is ∙ append_assoc earlier g.later (x ∷ [])) }
 
 -- where no pass made a step, none has one
 pub none_made : (xs : List Record) (d : Record) (j : ℕ) → d.steps ≡ [] → All (λ (v : Record). v.steps ≡ []) xs → (get_or xs j d).steps ≡ []

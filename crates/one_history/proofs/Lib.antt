@@ -14,3 +14,4 @@ pub mod Starts
 pub mod GivenParts
 pub mod Joining
 pub mod Staying
+pub mod Ends

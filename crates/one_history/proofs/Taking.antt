@@ -176,6 +176,7 @@ module _ (n t durable : ℕ) (has_failed : Bool) (slots : List Slot) (b : Book) 
     stripes = refl;
     passes = length-set b.passes j w;
     others = λ l ne. other_records b j l s w b.history b.authors b.effects ne;
+    order = refl;
     words = (record { same = record { history = refl; authors = refl }; effects = refl }, free_before);
     raises = (subst (λ (y : Record). Rises (record_of j b) (past es) y) (sym same_now) sees_outbox.rises, at_home.outbox_is, at_home.last_is);
   }

@@ -16,7 +16,7 @@ use Rattle.one_history.specs.declared.book.KeeperEffects.{KeeperEffects}
 use Rattle.one_history.specs.declared.slot.Slot.{Slot}
 use Rattle.one_history.specs.declared.slot.Slot.TheVariants.{HeldBy}
 use Rattle.one_history.specs.Interleaving.{IsAnother, Finds, moved_by}
-use Rattle.one_history.specs.Turns.{record_of, words_of, unseen, unseen_to, looked, saw, found_alive, found_held, published, failed}
+use Rattle.one_history.specs.Turns.{record_of, pass_step, words_of, unseen, unseen_to, looked, saw, found_alive, found_held, published, failed}
 use Rattle.one_history.specs.OneHistory.{IsFront, HasDone, Holds, Knows, AreOf, IsOneHistory, HoldsStripe, stripe_in}
 use Rattle.one_history.specs.Moves.{BookMoves, WordsMove, Raises, SameWords}
 use Rattle.one_history.specs.SharedWords.{slot_of, holder_in, Lies, draws_left, IsKept}
@@ -88,9 +88,13 @@ module _ (n t durable : ℕ) (has_failed : Bool) (slots : List Slot) (b : Book) 
       let same : record_of j (looked j b) ≡ w = same_record b j (made.Looked (reach w)) w b.history b.authors b.effects within in
       rw same (record { between = unseen r b.history; is = refl; count_is = (let c : t ≡ b.opening.first + length b.history = kept.counted in omega (arith, first_is, ap length whole)) })
 
+  -- its LOOK finds the count of tickets
+  looks_all : t ≡ reach (looking (record_of j b) (unseen (record_of j b) b.history))
+  looks_all = (let c : t ≡ b.opening.first + length b.history = kept.counted in omega (arith, first_is, ap length whole))
+
   -- what no step of one pass changes
-  moved : (w : Record) (s m : StepMade) (h : List Command) (authors : List ℕ) (k : KeeperEffects) → WordsMove j m b (turned b j s w h authors k) → Raises j m b (turned b j s w h authors k) → BookMoves j m b (turned b j s w h authors k)
-  moved w s m h authors k x raises = record { opening = refl; stripes = refl; passes = length-set b.passes j w; others = λ l ne. other_records b j l s w h authors k ne; words = x; raises = raises }
+  moved : (w : Record) (s m : StepMade) (h : List Command) (authors : List ℕ) (k : KeeperEffects) → s ≡ m → WordsMove j m b (turned b j s w h authors k) → Raises j m b (turned b j s w h authors k) → BookMoves j m b (turned b j s w h authors k)
+  moved w s m h authors k is x raises = record { opening = refl; stripes = refl; passes = length-set b.passes j w; others = λ l ne. other_records b j l s w h authors k ne; order = ap (λ z. b.interleaving ++ pass_step j z ∷ []) is; words = x; raises = raises }
 
   -- the pass has seen no more
   not_raised : (s : StepMade) (w : Record) (k : KeeperEffects) → w.opening ≡ (record_of j b).opening → w.seen ≡ (record_of j b).seen → reach (record_of j (turned b j s w b.history b.authors k)) ≡ reach (record_of j b)
@@ -100,7 +104,7 @@ module _ (n t durable : ℕ) (has_failed : Bool) (slots : List Slot) (b : Book) 
   same_words s w = record { same = record { history = refl; authors = refl }; effects = refl }
 
   pub moves_looked : BookMoves j (made.Looked t) b (looked j b)
-  moves_looked = let w : Record = looking (record_of j b) (unseen (record_of j b) b.history) in let s : StepMade = made.Looked (reach w) in moved w s (made.Looked t) b.history b.authors b.effects (same_words s w, kept.counted) (sym looks.count_is)
+  moves_looked = let w : Record = looking (record_of j b) (unseen (record_of j b) b.history) in let s : StepMade = made.Looked (reach w) in moved w s (made.Looked t) b.history b.authors b.effects (ap made.Looked (sym looks_all)) (same_words s w, kept.counted) (sym looks.count_is)
 
   -- SEE
   sees_all : (x : ℕ) → x ≤ b.opening.first + length b.history → SeesTo (record_of j b).opening.first x (record_of j b).seen (unseen_to x (record_of j b) b.history) b.history
@@ -145,7 +149,7 @@ module _ (n t durable : ℕ) (has_failed : Bool) (slots : List Slot) (b : Book) 
   pub moves_saw : BookMoves j (made.Saw durable) b (saw j b)
   moves_saw =
       let r : Record = record_of j b in let w : Record = seeing r b.effects.durable (unseen_to b.effects.durable r b.history) in let s : StepMade = made.Saw b.effects.durable in
-      moved w s (made.Saw durable) b.history b.authors b.effects (same_words s w, kept.durable_is) sees.rises
+      moved w s (made.Saw durable) b.history b.authors b.effects (ap made.Saw (sym kept.durable_is)) (same_words s w, kept.durable_is) sees.rises
 
   -- ALIVE
   pub kept_found_alive : IsKept n t durable has_failed slots (found_alive j b)
@@ -169,7 +173,7 @@ module _ (n t durable : ℕ) (has_failed : Bool) (slots : List Slot) (b : Book) 
   pub moves_found_alive : BookMoves j (made.FoundAlive (not has_failed)) b (found_alive j b)
   moves_found_alive =
       let w : Record = living (record_of j b) (not b.effects.failed) in let s : StepMade = made.FoundAlive (not b.effects.failed) in
-      moved w s (made.FoundAlive (not has_failed)) b.history b.authors b.effects (same_words s w, ap not kept.failed_is) (not_raised s w b.effects refl refl)
+      moved w s (made.FoundAlive (not has_failed)) b.history b.authors b.effects (ap (λ x. made.FoundAlive (not x)) (sym kept.failed_is)) (same_words s w, ap not kept.failed_is) (not_raised s w b.effects refl refl)
 
   -- TAKE of a stripe that another holds
   pub misses : (i : ℕ) → record_of j (found_held j i b) ≡ missing (record_of j b) i
@@ -192,7 +196,7 @@ module _ (n t durable : ℕ) (has_failed : Bool) (slots : List Slot) (b : Book) 
     pub moves_found_held : BookMoves j (made.FoundHeld i) b (found_held j i b)
     moves_found_held =
         let w : Record = missing (record_of j b) i in let s : StepMade = made.FoundHeld i in
-        moved w s s b.history b.authors b.effects (same_words s w, record { holder = l; other = another; holds = holder }) (not_raised s w b.effects refl refl)
+        moved w s s b.history b.authors b.effects refl (same_words s w, record { holder = l; other = another; holds = holder }) (not_raised s w b.effects refl refl)
 
   -- DURABLE and FAIL, which the keeper makes
   module _ (k' : KeeperEffects) (s : StepMade) (w : Record) (keeper : (record_of j b).keeper ≡ true) (same : k'.keeper ≡ b.effects.keeper) (taken_is : k'.taken ≡ b.effects.taken) (begun : b.opening.first ≤ k'.durable) (reached : k'.durable ≤ b.opening.first + length b.history)
@@ -242,7 +246,7 @@ module _ (n t durable : ℕ) (has_failed : Bool) (slots : List Slot) (b : Book) 
   pub moves_published : (x : ℕ) → BookMoves j (made.Published x) b (published j x b)
   moves_published x =
       let w : Record = publishing (record_of j b) x in let k' : KeeperEffects = record b.effects { durable = max b.effects.durable x } in
-      moved w (made.Published x) (made.Published x) b.history b.authors k' (record { history = refl; authors = refl }, refl) (not_raised (made.Published x) w k' refl refl)
+      moved w (made.Published x) (made.Published x) b.history b.authors k' refl (record { history = refl; authors = refl }, refl) (not_raised (made.Published x) w k' refl refl)
 
   pub kept_failed : (record_of j b).keeper ≡ true → IsKept n t durable true slots (failed j b)
   unfolding here
@@ -263,4 +267,4 @@ module _ (n t durable : ℕ) (has_failed : Bool) (slots : List Slot) (b : Book) 
   pub moves_failed : BookMoves j made.Failed b (failed j b)
   moves_failed =
       let w : Record = failing (record_of j b) in let k' : KeeperEffects = record b.effects { failed = true } in
-      moved w made.Failed made.Failed b.history b.authors k' (record { history = refl; authors = refl }, refl) (not_raised made.Failed w k' refl refl)
+      moved w made.Failed made.Failed b.history b.authors k' refl (record { history = refl; authors = refl }, refl) (not_raised made.Failed w k' refl refl)

@@ -1,5 +1,5 @@
 -- What the words hold after steps of passes in one order, and what each step finds in them.
-use Rattle.std.specs.Prelude.{◌≡◌, ◌≢◌, ℕ, ◌+◌, ◌≤◌, ◌==◌, max, List, [], ◌∷◌, Option, Some, None, Bool, true, false, not, if◌then◌else◌}
+use Rattle.std.specs.Prelude.{◌≡◌, ◌≢◌, ℕ, ◌+◌, ◌≤◌, ◌==◌, max, List, [], ◌∷◌, ◌++◌, Option, Some, None, Bool, true, false, not, if◌then◌else◌}
 use Rattle.ticket_order.specs.declared.record.Opening.{Opening}
 use Rattle.ticket_order.specs.declared.record.StepMade.{StepMade}
 use Rattle.ticket_order.specs.declared.record.StepMade.TheVariants.{Took, FoundHeld, Gave, Drew, Looked, Published, Saw, Failed, FoundAlive}
@@ -71,6 +71,11 @@ words_after w (s ∷ rest) = words_after (moved_by s.pass s.step w) rest
 unfoldable pub AreFound : Words → List PassStep → Type 0
 AreFound w [] = Unit {0}
 AreFound w (s ∷ rest) = Finds s.pass s.step w × AreFound (moved_by s.pass s.step w) rest
+
+-- the order goes on from what it was earlier
+pub record GoesOn (earlier order : List PassStep) : Type 0 where
+  pub later : List PassStep
+  pub is : order ≡ earlier ++ later
 
 -- the steps of the pass j
 unfoldable pub steps_by : ℕ → List PassStep → List StepMade

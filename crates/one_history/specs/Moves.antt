@@ -12,7 +12,7 @@ use Rattle.ticket_order.specs.Records.{call, past, reach}
 use Rattle.ticket_order.specs.Legality.{entries_from, entries_of, last_of}
 use Rattle.ticket_order.specs.StepRules.{Rises}
 use Rattle.one_history.specs.declared.book.Book.{Book}
-use Rattle.one_history.specs.Turns.{record_of}
+use Rattle.one_history.specs.Turns.{record_of, pass_step}
 use Rattle.one_history.specs.OneHistory.{HoldsStripe}
 
 -- no pass holds the stripe
@@ -91,11 +91,12 @@ Raises j (Saw d) b b' = Rises (record_of j b) d (record_of j b')
 Raises j (Gave i) b b' = SeesNoMore (record_of j b) (record_of j b') ⊎ SeesRead (record_of j b) (last_of b.stripes i b.opening.first b.history) (record_of j b')
 Raises j step b b' = reach (record_of j b') ≡ reach (record_of j b)
 
--- one step of the pass j
+-- One step of the pass j. It stands last in the one order, behind all that were made before it.
 pub record BookMoves (j : ℕ) (made : StepMade) (b b' : Book) : Type 0 where
   pub opening : b'.opening ≡ b.opening
   pub stripes : b'.stripes ≡ b.stripes
   pub passes : length b'.passes ≡ length b.passes
   pub others : (l : ℕ) → l ≢ j → record_of l b' ≡ record_of l b
+  pub order : b'.interleaving ≡ b.interleaving ++ pass_step j made ∷ []
   pub words : WordsMove j made b b'
   pub raises : Raises j made b b'

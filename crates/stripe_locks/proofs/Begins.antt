@@ -8,7 +8,6 @@ use Rattle.atomic_table.specs.Table.{opening}
 use Rattle.atomic_methods.specs.PartState.{PartState}
 use Rattle.ticket_order.specs.declared.stripe.Stripe.{Stripe}
 use Rattle.ticket_order.specs.declared.record.Opening.{Opening}
-use Rattle.ticket_order.specs.declared.record.Record.{Record}
 use Rattle.ticket_order.specs.Records.{newcomer}
 use Rattle.one_history.specs.declared.slot.Slot.{Slot}
 use Rattle.one_history.specs.declared.slot.Slot.TheVariants.{Home, HeldBy}
@@ -16,7 +15,9 @@ use Rattle.one_history.specs.Turns.{opening_of, at_start}
 use Rattle.one_history.specs.OneHistory.{AreParts}
 use Rattle.one_history.specs.SharedWords.{slot_of, IsPlaced, IsKept, no_part}
 use Rattle.one_history.proofs.Starts.{kept_at_start, count_at_start}
+use Rattle.stripe_locks.specs.declared.view.SeatView.{SeatView}
 use Rattle.stripe_locks.specs.Rule.{Stands, Sits, Kept}
+use Rattle.stripe_locks.specs.Plays.{stepless}
 use Rattle.stripe_locks.specs.Placed.{slot_with, AreStored}
 
 at_home : (xs : List (Option Stripe)) (i : ℕ) (content : Stripe) → i < length xs → slot_of i (map slot_with xs) ≡ Home content → get_elem? (map some xs) i ≡ some (some (Some content))
@@ -29,11 +30,11 @@ stands_first : (words : List ℕ) (xs : List (Option Stripe)) (i first : ℕ) (p
 stands_first words xs i first p (Home content) lt zero_there e here = (zero_there, at_home xs i content lt e)
 stands_first words xs i first p (HeldBy j) lt zero_there e here = absurd here
 
-alone : (P : ℕ → Record → Type 0) (v : Record) → P 0 v → (l : ℕ) (u : Record) → get_elem? (v ∷ []) l ≡ some u → P l u
+alone : (P : ℕ → SeatView → Type 0) (v : SeatView) → P 0 v → (l : ℕ) (u : SeatView) → get_elem? (v ∷ []) l ≡ some u → P l u
 alone P v here zero u e = subst (P 0) (some-injective v u e) here
 alone P v here (suc l) u e = absurd (some-ne-none u (sym e))
 
-pub opens : (n first limit : ℕ) (parts : List PartState) (ws : List ℕ) (xs : List (Option Stripe)) → length parts ≡ n → AreParts n parts → AreStored first parts xs → ws ≡ set (set (replicate (n + 4) 0) 0 first) 1 first → Kept (opening_of first parts limit) (opening ws xs (newcomer (opening_of first parts limit)))
+pub opens : (n first limit : ℕ) (parts : List PartState) (ws : List ℕ) (xs : List (Option Stripe)) → length parts ≡ n → AreParts n parts → AreStored first parts xs → ws ≡ set (set (replicate (n + 4) 0) 0 first) 1 first → Kept (opening_of first parts limit) (opening ws xs (stepless (newcomer (opening_of first parts limit))))
 opens n first limit parts ws xs count are stored is =
     let o : Opening = opening_of first parts limit in
     let blank : List ℕ = replicate (n + 4) 0 in
@@ -59,5 +60,5 @@ opens n first limit parts ws xs count are stored is =
       keeper = refl;
       unjoined = λ e. refl;
       each_stripe = λ i lt. stands_first ws xs i first (get_or parts i no_part) (slot_of i (map slot_with xs)) (omega arith) (word (i + 4) (omega arith) (omega arith)) refl (stored.each i (omega arith));
-      each_seat = alone (λ l u. Sits (λ place. 0) (at_start first parts limit 0) (get_or ws 3 0) l u u.enrolled) (newcomer o) (record { few = omega arith; front = record { rest = []; is = refl }; other_front = record { rest = []; is = refl }; borne_out = All-nil _ });
+      each_seat = alone (λ l u. Sits (λ place. 0) (at_start first parts limit 0) (get_or ws 3 0) l u u.pass.enrolled) (stepless (newcomer o)) (record { few = omega arith; front = record { rest = []; is = refl }; other_front = record { rest = []; is = refl }; borne_out = All-nil _; goes_on = record { later = []; is = refl } });
     }

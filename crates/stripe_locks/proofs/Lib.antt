@@ -7,4 +7,5 @@ pub mod Misses
 pub mod Naming
 pub mod Comparing
 pub mod Refuted
+pub mod LastSteps
 pub mod Crosses

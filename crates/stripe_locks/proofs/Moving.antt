@@ -27,9 +27,10 @@ use Rattle.one_history.proofs.Watching.{kept_found_held, misses, moves_found_hel
 use Rattle.one_history.proofs.Taking.{kept_took, takes_stripe, moves_took}
 use Rattle.one_history.proofs.Giving.{kept_gave, moves_gave, in_slots}
 use Rattle.one_history.proofs.Giving as giving
+use Rattle.stripe_locks.specs.declared.view.SeatView.{SeatView}
 use Rattle.stripe_locks.specs.Rule.{Stands, IsSeated, Kept}
 use Rattle.stripe_locks.specs.Plays.{IsSameOne, TakesHome, took, gave}
-use Rattle.stripe_locks.proofs.Turning.{St, M, Homes, seated, in_book, turned, reread}
+use Rattle.stripe_locks.proofs.Turning.{St, M, Homes, view_of, seated, in_book, turned, reread}
 
 -- the places of the stripes, where one changes
 others_stand : (words : List ℕ) (homes : Homes) (i x : ℕ) (h : maybe.Option (Option Stripe)) (l : ℕ) → l ≢ i → (slot : Slot) → Stands words homes l slot → Stands (set words (i + 4) x) (set homes i h) l slot
@@ -63,9 +64,9 @@ held_at words homes i (HeldBy j) z e = record { holder = j; slot_is = refl }
 
 -- what the pass has to show for a word that was found
 abbrev pub Goes : Opening → St → ℕ → ℕ → M → (ℕ → M → Type 0) → ℕ → Type 0
-Goes o s word id me then x = (w : Record) × (a : Act (Option Stripe)) × Valid s.homes me.1 a × Kept o (stepped s word x id me.1 w a) × then (get_or s.words word 0) (w, carried_after me.1 a)
+Goes o s word id me then x = (w : SeatView) × (a : Act (Option Stripe)) × Valid s.homes me.1 a × Kept o (stepped s word x id me.1 w a) × then (get_or s.words word 0) (w, carried_after me.1 a)
 
-module _ (o : Opening) (n id : ℕ) (me : M) (i number : ℕ) (is_pass : me.0.enrolled ≡ true) (empty : me.0.holding ≡ None) (lt : i < n) (numbered : me.0.passes ≡ number) (s : St) (k : Kept o s) (wide : length s.homes ≡ n) (at : get_elem? s.views id ≡ some me.0) where
+module _ (o : Opening) (n id : ℕ) (me : M) (i number : ℕ) (is_pass : me.0.pass.enrolled ≡ true) (empty : me.0.pass.holding ≡ None) (lt : i < n) (numbered : me.0.pass.passes ≡ number) (s : St) (k : Kept o s) (wide : length s.homes ≡ n) (at : get_elem? s.views id ≡ some me.0) where
   q : IsSeated k.seats k.book (get_or s.words 3 0) id me.0
   q = seated o s k id me.0 at is_pass
 
@@ -95,8 +96,8 @@ module _ (o : Opening) (n id : ℕ) (me : M) (i number : ℕ) (is_pass : me.0.en
       let b' : Book = turns.took q.place i f.content k.book in
       let w : Record = record_of q.place b' in
       let law : TakesStripe k.book.stripes (record_of q.place k.book) i f.content w = takes_stripe _ _ _ _ _ k.book q.place k.kept in_it i f.content of_book no_stripe f.slot_is in
-      let told' : TakesStripe n me.0 i f.content w = subst (λ v. TakesStripe n v i f.content w) q.view_is (subst (λ (m : ℕ). TakesStripe m (record_of q.place k.book) i f.content w) (k.kept.stripes_are ∙ wide) law) in
-      let same : IsSameOne me.0 w = record { enrolled = ap (λ (r : Record). r.enrolled) told'.is; passes = ap (λ (r : Record). r.passes) told'.is; keeper = ap (λ (r : Record). r.keeper) told'.is; opening = ap (λ (r : Record). r.opening) told'.is } in
+      let told' : TakesStripe n me.0.pass i f.content w = subst (λ v. TakesStripe n v i f.content w) q.view_is (subst (λ (m : ℕ). TakesStripe m (record_of q.place k.book) i f.content w) (k.kept.stripes_are ∙ wide) law) in
+      let same : IsSameOne me.0.pass w = record { enrolled = ap (λ (r : Record). r.enrolled) told'.is; passes = ap (λ (r : Record). r.passes) told'.is; keeper = ap (λ (r : Record). r.keeper) told'.is; opening = ap (λ (r : Record). r.opening) told'.is } in
       let words' : List ℕ = set s.words (i + 4) number in
       let n4 : length s.words ≡ length s.homes + 4 = k.wide in
       let kept' = kept_took _ _ _ _ _ k.book q.place k.kept in_it i f.content of_book no_stripe f.slot_is in
@@ -104,13 +105,13 @@ module _ (o : Opening) (n id : ℕ) (me : M) (i number : ℕ) (is_pass : me.0.en
       let one_on : get_or words' 1 0 ≡ get_or s.words 1 0 = get_or-set_other s.words (i + 4) 1 number 0 (λ e. omega arith) in
       let holds : get_or words' (i + 4) 0 ≡ q.place + 1 = get_or-set_same s.words (i + 4) number 0 (omega arith) ∙ (sym numbered ∙ q.number_is) in
       let sized : i < length k.slots = (let l : length k.slots ≡ length s.homes = k.kept.sized in omega arith) in (
-        w,
+        view_of q.place b',
         takes i (Some f.content),
         f.home_is,
         turned o s k id me.0 at is_pass (made.Took i f.content.outbox.items f.content.last) b' (set k.slots i (HeldBy q.place)) words' (set s.homes i none) (moves_took _ _ _ _ _ k.book q.place k.kept in_it i f.content of_book no_stripe f.slot_is) refl (front_refl k.book.history) same
             (rw (zero_on, one_on) kept') (length-set s.words (i + 4) number) (length-set s.homes i none) (get_or-set_other s.words (i + 4) 2 number 0 (λ e. omega arith) ∙ k.failure) (get_or-set_other s.words (i + 4) 3 number 0 (λ e. omega arith))
             (all_stand s.words s.homes k.slots i number none (HeldBy q.place) sized k.each_stripe holds),
-        ((λ _. subst (λ (m : ℕ). TakesHome n m me (w, (i, Some f.content) ∷ me.1)) (sym minus) (record { content = f.content; has = refl; takes = told'; same = same })), λ held. absurd (held zero)),
+        ((λ _. subst (λ (m : ℕ). TakesHome n m me (view_of q.place b', (i, Some f.content) ∷ me.1)) (sym minus) (record { content = f.content; has = refl; takes = told'; same = same })), λ held. absurd (held zero)),
       )
 
   found_held : get_or s.words (i + 4) 0 ≢ 0 → Goes o s (i + 4) id me told (get_or s.words (i + 4) 0)
@@ -119,16 +120,16 @@ module _ (o : Opening) (n id : ℕ) (me : M) (i number : ℕ) (is_pass : me.0.en
       let f = held_at s.words s.homes i (slot_of i k.slots) (k.each_stripe i within) ne in
       let b' : Book = turns.found_held q.place i k.book in
       let w : Record = record_of q.place b' in
-      let law : w ≡ missing me.0 i = misses _ _ _ _ _ k.book q.place k.kept in_it i ∙ ap (λ (v : Record). missing v i) q.view_is in
-      let same : IsSameOne me.0 w = record { enrolled = ap (λ (r : Record). r.enrolled) law; passes = ap (λ (r : Record). r.passes) law; keeper = ap (λ (r : Record). r.keeper) law; opening = ap (λ (r : Record). r.opening) law } in (
-        w,
+      let law : w ≡ missing me.0.pass i = misses _ _ _ _ _ k.book q.place k.kept in_it i ∙ ap (λ (v : Record). missing v i) q.view_is in
+      let same : IsSameOne me.0.pass w = record { enrolled = ap (λ (r : Record). r.enrolled) law; passes = ap (λ (r : Record). r.passes) law; keeper = ap (λ (r : Record). r.keeper) law; opening = ap (λ (r : Record). r.opening) law } in (
+        view_of q.place b',
         keeps,
         tt,
         reread o s k id me.0 at is_pass (made.FoundHeld i) b' (i + 4) me.1 (moves_found_held _ _ _ _ _ k.book q.place k.kept in_it i f.holder of_book no_stripe f.slot_is) refl refl same (kept_found_held _ _ _ _ _ k.book q.place k.kept in_it i f.holder of_book no_stripe f.slot_is),
-        ((λ free. absurd (ne free)), λ _. (refl, law ∙ ap (missing me.0) (sym minus))),
+        ((λ free. absurd (ne free)), λ _. (refl, law ∙ ap (missing me.0.pass) (sym minus))),
       )
 
-pub allows_take : (o : Opening) (n id : ℕ) (me : M) (i number : ℕ) → me.0.enrolled ≡ true → me.0.holding ≡ None → i < n → me.0.passes ≡ number → Allows (Kept o) n id me (i + 4) (λ x. either (eqb x 0) number x) (took (step n (i + 4) 0 number none) me)
+pub allows_take : (o : Opening) (n id : ℕ) (me : M) (i number : ℕ) → me.0.pass.enrolled ≡ true → me.0.pass.holding ≡ None → i < n → me.0.pass.passes ≡ number → Allows (Kept o) n id me (i + 4) (λ x. either (eqb x 0) number x) (took (step n (i + 4) 0 number none) me)
 allows_take o n id me i number is_pass empty lt numbered s k wide at range =
     exchanged (get_or s.words (i + 4) 0) 0 number (Goes o s (i + 4) id me (took (step n (i + 4) 0 number none) me))
     (found_free o n id me i number is_pass empty lt numbered s k wide at)
@@ -144,18 +145,18 @@ gives_same n Sweep v w g = given_same Sweep v w g.is
 gives_same n Capture v w g = given_same Capture v w g.is
 
 -- GIVE of the content that the seat has
-pub allows_give : (o : Opening) (n id : ℕ) (me : M) (i : ℕ) (content : Stripe) (p : Purpose) (more : List (ℕ × Option Stripe)) → me.0.enrolled ≡ true → me.1 ≡ (i, Some content) ∷ more → MayGive n me.0 i content p → Allows (Kept o) n id me (i + 4) (λ _. 0) (λ _. gave p (step n (i + 4) 0 0 none) me 0)
+pub allows_give : (o : Opening) (n id : ℕ) (me : M) (i : ℕ) (content : Stripe) (p : Purpose) (more : List (ℕ × Option Stripe)) → me.0.pass.enrolled ≡ true → me.1 ≡ (i, Some content) ∷ more → MayGive n me.0.pass i content p → Allows (Kept o) n id me (i + 4) (λ _. 0) (λ _. gave p (step n (i + 4) 0 0 none) me 0)
 allows_give o n id me i content p more is_pass has may s k wide at range =
     let q = seated o s k id me.0 at is_pass in let in_it = in_book o s k id me.0 at is_pass in
     let stripes : k.book.stripes ≡ n = k.kept.stripes_are ∙ wide in
-    let may' : MayGive k.book.stripes (record_of q.place k.book) i content p = subst (λ v. MayGive k.book.stripes v i content p) (sym q.view_is) (subst (λ (m : ℕ). MayGive m me.0 i content p) (sym stripes) may) in
+    let may' : MayGive k.book.stripes (record_of q.place k.book) i content p = subst (λ v. MayGive k.book.stripes v i content p) (sym q.view_is) (subst (λ (m : ℕ). MayGive m me.0.pass i content p) (sym stripes) may) in
     let sized : i < length k.slots = in_slots _ _ _ _ _ k.book q.place k.kept in_it i content p may' in
     let within : i < length s.homes = (let l : length k.slots ≡ length s.homes = k.kept.sized in omega arith) in
     let b' : Book = turns.gave q.place p k.book in
     let w : Record = record_of q.place b' in
     let law : Gives k.book.stripes p (record_of q.place k.book) w = giving.gives _ _ _ _ _ k.book q.place k.kept in_it i content p may' in
-    let told : Gives n p me.0 w = subst (λ v. Gives n p v w) q.view_is (subst (λ (m : ℕ). Gives m p (record_of q.place k.book) w) stripes law) in
-    let same : IsSameOne me.0 w = gives_same n p me.0 w told in
+    let told : Gives n p me.0.pass w = subst (λ v. Gives n p v w) q.view_is (subst (λ (m : ℕ). Gives m p (record_of q.place k.book) w) stripes law) in
+    let same : IsSameOne me.0.pass w = gives_same n p me.0.pass w told in
     let words' : List ℕ = set s.words (i + 4) 0 in let homes' : Homes = set s.homes i (some (Some content)) in
     let n4 : length s.words ≡ length s.homes + 4 = k.wide in
     let kept' = kept_gave _ _ _ _ _ k.book q.place k.kept in_it i content p may' in
@@ -163,7 +164,7 @@ allows_give o n id me i content p more is_pass has may s k wide at range =
     let one_on : get_or words' 1 0 ≡ get_or s.words 1 0 = get_or-set_other s.words (i + 4) 1 0 0 (λ e. omega arith) in
     let free : get_or words' (i + 4) 0 ≡ 0 = get_or-set_same s.words (i + 4) 0 0 (omega arith) in
     subst (λ (cs : List (ℕ × Option Stripe)). Goes o s (i + 4) id (me.0, cs) (λ _. gave p (step n (i + 4) 0 0 none) (me.0, cs) 0) 0) (sym has) (
-      w,
+      view_of q.place b',
       gives,
       tt,
       turned o s k id me.0 at is_pass (made.Gave i) b' (set k.slots i (Home content)) words' homes' (moves_gave _ _ _ _ _ k.book q.place k.kept in_it i content p may') refl (front_refl k.book.history) same

@@ -5,3 +5,4 @@ pub mod Passes
 pub mod Holding
 pub mod Waits
 pub mod Fronts
+pub mod OneOrder

@@ -9,7 +9,7 @@ use Rattle.stripe_locks.specs.Plays.{joining}
 
 -- all that the pass did and saw
 abbrev pub recorded : Pass → Record
-recorded p = p.seat.me.0
+recorded p = p.seat.me.0.pass
 
 abbrev pub stripe_count : Stripes → ℕ
 stripe_count s = s.count.count

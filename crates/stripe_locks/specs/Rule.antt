@@ -12,14 +12,15 @@ use Rattle.ticket_order.specs.declared.stripe.Entry.{Entry}
 use Rattle.ticket_order.specs.declared.record.Opening.{Opening}
 use Rattle.ticket_order.specs.declared.record.StepMade.{StepMade}
 use Rattle.ticket_order.specs.declared.record.StepMade.TheVariants.{Saw, FoundAlive}
-use Rattle.ticket_order.specs.declared.record.Record.{Record}
 use Rattle.ticket_order.specs.Records.{keeper_at_start, enrolling}
 use Rattle.one_history.specs.declared.book.Book.{Book}
 use Rattle.one_history.specs.declared.slot.Slot.{Slot}
 use Rattle.one_history.specs.declared.slot.Slot.TheVariants.{Home, HeldBy}
+use Rattle.one_history.specs.Interleaving.{GoesOn, steps_by}
 use Rattle.one_history.specs.Turns.{record_of}
 use Rattle.one_history.specs.OneHistory.{IsFront}
 use Rattle.one_history.specs.SharedWords.{slot_of, IsKept}
+use Rattle.stripe_locks.specs.declared.view.SeatView.{SeatView}
 
 abbrev pub bit : Bool → ℕ
 bit true = 1
@@ -30,13 +31,16 @@ abbrev pub Stands : List ℕ → List (maybe.Option (Option Stripe)) → ℕ →
 Stands words homes i (Home content) = (slice_index words (i + 4) ≡ 0) × (get_elem? homes i ≡ some (some (Some content)))
 Stands words homes i (HeldBy j) = slice_index words (i + 4) ≡ j + 1
 
--- the seat is that of the pass at this place of the book, whose record is its view
-pub record IsSeated (seats : ℕ → ℕ) (b : Book) (joined : ℕ) (id : ℕ) (v : Record) : Type 0 where
+-- The seat is that of the pass at this place of the book, whose record it knows. The one order goes on from the order
+-- that it knows, in which all steps of the pass stand.
+pub record IsSeated (seats : ℕ → ℕ) (b : Book) (joined : ℕ) (id : ℕ) (v : SeatView) : Type 0 where
   pub place : ℕ
-  pub number_is : v.passes ≡ place + 1
+  pub number_is : v.pass.passes ≡ place + 1
   pub within : place < joined
   pub seat_is : seats place ≡ id
-  pub view_is : record_of place b ≡ v
+  pub view_is : record_of place b ≡ v.pass
+  pub goes_on : GoesOn v.order b.interleaving
+  pub made : steps_by place v.order ≡ v.pass.steps
 
 abbrev pub commands_of : List Entry → List Command
 commands_of entries = map (λ (e : Entry). e.command) entries
@@ -48,19 +52,23 @@ BearsOut published failed (Saw d) = d ≤ published
 BearsOut published failed (FoundAlive is_alive) = is_alive ≡ false → failed ≡ true
 BearsOut published failed step = Unit {0}
 
--- The seat is no pass's. What its view has of the history are two fronts; its steps are borne out by what it has of the keeper's effects.
-pub record IsUnseated (b : Book) (joined : ℕ) (v : Record) : Type 0 where
-  pub few : v.passes ≤ joined
-  pub front : IsFront v.seen b.history
-  pub other_front : IsFront (commands_of v.taken) b.history
-  pub borne_out : All (BearsOut v.published v.failed) v.steps
+-- The seat is no pass's. What it knows of the history are two fronts; its steps are borne out by what it knows of the
+-- keeper's effects. The one order goes on from the order that it knows.
+pub record IsUnseated (b : Book) (joined : ℕ) (v : SeatView) : Type 0 where
+  pub few : v.pass.passes ≤ joined
+  pub front : IsFront v.pass.seen b.history
+  pub other_front : IsFront (commands_of v.pass.taken) b.history
+  pub borne_out : All (BearsOut v.pass.published v.pass.failed) v.pass.steps
+  pub goes_on : GoesOn v.order b.interleaving
 
-abbrev pub Sits : (ℕ → ℕ) → Book → ℕ → ℕ → Record → Bool → Type 0
+abbrev pub Sits : (ℕ → ℕ) → Book → ℕ → ℕ → SeatView → Bool → Type 0
 Sits seats b joined id v true = IsSeated seats b joined id v
 Sits seats b joined id v false = IsUnseated b joined v
 
 -- `joined` passes have joined, at most 4,096. The keeper's is the first; until it joins, its record stands in the book as it will begin.
-pub record Kept (o : Opening) (s : State (Option Stripe) Record) : Type 0 where
+-- A step changes the view of its own pass alone. So the one order stays as it was up to the last step of each other
+-- pass, and grows at its end.
+pub record Kept (o : Opening) (s : State (Option Stripe) SeatView) : Type 0 where
   pub book : Book
   pub slots : List Slot
   pub seats : ℕ → ℕ
@@ -73,4 +81,4 @@ pub record Kept (o : Opening) (s : State (Option Stripe) Record) : Type 0 where
   pub keeper : book.effects.keeper ≡ 0
   pub unjoined : slice_index s.words 3 ≡ 0 → record_of 0 book ≡ enrolling (keeper_at_start o) 1
   pub each_stripe : (i : ℕ) → i < length s.homes → Stands s.words s.homes i (slot_of i slots)
-  pub each_seat : (id : ℕ) (v : Record) → get_elem? s.views id ≡ some v → Sits seats book (slice_index s.words 3) id v v.enrolled
+  pub each_seat : (id : ℕ) (v : SeatView) → get_elem? s.views id ≡ some v → Sits seats book (slice_index s.words 3) id v v.pass.enrolled

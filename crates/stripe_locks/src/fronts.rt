@@ -7,13 +7,14 @@ ghost use Rattle.stripe_locks.specs.Fronts.{AreComparable, StandsInOneHistory, b
 
 use crate::rule::Pass;
 use crate::stripes::{Stripes, TICKETS};
+use crate::view::SeatView;
 use atomic_table::{Join, Play};
-use ticket_order::{Record, Stripe};
+use ticket_order::Stripe;
 
 /// Two seats become one, which keeps what both have seen.
 pub struct Meet;
 
-impl Join<Record> for Meet {
+impl Join<SeatView> for Meet {
     ghost both = { both_fronts };
 
     ghost spent = { no_front };
@@ -22,14 +23,14 @@ impl Join<Record> for Meet {
 /// What both had seen are two fronts of one history.
 pub struct Compare;
 
-impl Play<Option<Stripe>, Record> for Compare {
+impl Play<Option<Stripe>, SeatView> for Compare {
     ghost then = { compared };
 }
 
 /// The record is one of the one history.
 pub struct Attest;
 
-impl Play<Option<Stripe>, Record> for Attest {
+impl Play<Option<Stripe>, SeatView> for Attest {
     ghost then = { attested };
 }
 

@@ -1,4 +1,5 @@
-//! What follows from the definitions of held replies.
+//! What follows from the definitions of held replies, and of the rule of the shared words.
+ghost use Rattle.stripe_locks.specs.OneOrder.{IsDetermined, StandLast};
 ghost use Rattle.stripe_locks.specs.Holding.{name_of_words, IsHeldAt, IsHeldOf};
 ghost use Rattle.stripe_locks.specs.declared.held.Held.{Held};
 ghost use Rattle.stripe_locks.specs.declared.stripes.Stripes.{Stripes};
@@ -8,4 +9,16 @@ ghost use Rattle.stripe_locks.specs.declared.stripes.Stripes.{Stripes};
 pub fn held_at_is_held_of()
     ensures { (stripes : Stripes) (held : Held)
         → IsHeldAt (name_of_words stripes) held → IsHeldOf stripes held }
+{}
+
+/// No step is put into the past. Whatever a pass records by one atomic step that keeps the rule of
+/// the shared words, it stands last in the one order, and finds what the words hold then.
+pub fn new_steps_stand_last()
+    ensures { StandLast }
+{}
+
+/// The order of all steps isn't chosen anew from step to step: what the seats of all passes know
+/// determines it.
+pub fn seats_determine_the_order()
+    ensures { IsDetermined }
 {}

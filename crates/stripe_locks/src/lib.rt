@@ -14,6 +14,7 @@ mod rule;
 mod starts;
 mod steps;
 mod stripes;
+mod view;
 mod waiting;
 
 pub use beginning::Beginning;
@@ -22,3 +23,4 @@ pub use held::{Held, Released};
 pub use marks::Marks;
 pub use rule::{Pass, StripeRule};
 pub use stripes::Stripes;
+pub use view::SeatView;

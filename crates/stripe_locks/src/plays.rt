@@ -3,9 +3,10 @@ ghost use Rattle.map_types.specs.declared.commands.Command.{Command};
 ghost use Rattle.ticket_order.specs.declared.record.Purpose.{Purpose};
 ghost use Rattle.stripe_locks.specs.Plays.{sat, enrolled, took, gave, drew, looked, published, saw, failed, lived};
 
+use crate::view::SeatView;
 use atomic_table::Play;
 use std::marker::{Brand, PhantomData};
-use ticket_order::{Record, Stripe};
+use ticket_order::Stripe;
 
 /// Which change draws the ticket. The call picks it.
 pub trait Asks {
@@ -33,20 +34,20 @@ impl Gives for Brand {
 /// A new seat, which no pass has yet.
 pub struct Sit;
 
-impl Play<Option<Stripe>, Record> for Sit {
+impl Play<Option<Stripe>, SeatView> for Sit {
     ghost then = { sat };
 }
 
 /// The seat becomes that of a pass.
 pub struct Enroll;
 
-impl Play<Option<Stripe>, Record> for Enroll {
+impl Play<Option<Stripe>, SeatView> for Enroll {
     ghost then = { enrolled };
 }
 
 pub struct Take;
 
-impl Play<Option<Stripe>, Record> for Take {
+impl Play<Option<Stripe>, SeatView> for Take {
     ghost then = { took };
 }
 
@@ -54,7 +55,7 @@ pub struct Give<G> {
     purpose: PhantomData<G>,
 }
 
-impl<G: Gives> Play<Option<Stripe>, Record> for Give<G> {
+impl<G: Gives> Play<Option<Stripe>, SeatView> for Give<G> {
     ghost then = { gave G.purpose };
 }
 
@@ -62,36 +63,36 @@ pub struct Draw<C> {
     change: PhantomData<C>,
 }
 
-impl<C: Asks> Play<Option<Stripe>, Record> for Draw<C> {
+impl<C: Asks> Play<Option<Stripe>, SeatView> for Draw<C> {
     ghost then = { drew C.change };
 }
 
 pub struct Look;
 
-impl Play<Option<Stripe>, Record> for Look {
+impl Play<Option<Stripe>, SeatView> for Look {
     ghost then = { looked };
 }
 
 pub struct Publish;
 
-impl Play<Option<Stripe>, Record> for Publish {
+impl Play<Option<Stripe>, SeatView> for Publish {
     ghost then = { published };
 }
 
 pub struct See;
 
-impl Play<Option<Stripe>, Record> for See {
+impl Play<Option<Stripe>, SeatView> for See {
     ghost then = { saw };
 }
 
 pub struct Fail;
 
-impl Play<Option<Stripe>, Record> for Fail {
+impl Play<Option<Stripe>, SeatView> for Fail {
     ghost then = { failed };
 }
 
 pub struct Alive;
 
-impl Play<Option<Stripe>, Record> for Alive {
+impl Play<Option<Stripe>, SeatView> for Alive {
     ghost then = { lived };
 }

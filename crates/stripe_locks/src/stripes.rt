@@ -14,11 +14,12 @@ ghost use Rattle.std.specs.Prelude.{◌≡◌, ◌+◌};
 use crate::beginning::Beginning;
 use crate::marks::MARK_WORDS;
 use crate::rule::StripeRule;
+use crate::view::SeatView;
 use atomic_table::Table;
 use java_hash::StripeCount;
 use std::alloc::Global;
 use std::sync::atomic::AtomicU64;
-use ticket_order::{Record, Stripe};
+use ticket_order::Stripe;
 
 // The words: the ticket count, the durable count, the failure word, the count of passes, and then
 // one for each stripe. The word of a stripe is 0 if the stripe is free, else the number of its
@@ -37,7 +38,7 @@ pub(crate) const FIRST_STRIPE: usize = 4;
 /// steps of any threads there is one history.
 #[derive(Drop)]
 pub struct Stripes {
-    pub(crate) table: Table<Option<Stripe>, Record, Beginning, StripeRule, Global>,
+    pub(crate) table: Table<Option<Stripe>, SeatView, Beginning, StripeRule, Global>,
     pub(crate) count: StripeCount,
     // The count of tickets with which the stripes began.
     pub(crate) first: u64,

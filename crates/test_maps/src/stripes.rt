@@ -7,6 +7,7 @@ use map_types::{Change, Command, Key, Question, Read, Refusal, Reply, Value};
 use one_history::empty_parts;
 use std::alloc::Global;
 use std::process::Abort;
+use std::sync::Wait;
 use stripe_locks::{Held, Pass, Released, Stripes};
 use ticket_order::{Position, Steps};
 
@@ -186,6 +187,63 @@ fn reads_at(stripes: &Stripes, pass: &mut Pass, read: Read, number: u64) -> bool
         }
         Err(_) => false,
     }
+}
+
+// Stripes of an empty map, whose keys have at most 255 bytes.
+fn empty_of_short_keys(alloc: Global, count: StripeCount) -> Result<Stripes, Refusal> {
+    let parts = empty_parts(alloc, count)?;
+    Stripes::new(alloc, count, parts, 0, 255)
+}
+
+// The key of this many bytes, each an `x`.
+fn key_of(alloc: Global, bytes: usize) -> Result<String, Refusal> {
+    let mut key = String::new(alloc);
+    for _ in 0..bytes {
+        key.push('x')?;
+    }
+    Ok(key)
+}
+
+// The number of the refusal, or 0.
+fn number_of<T: Drop>(answer: Result<T, Refusal>) -> u8 {
+    match answer {
+        Ok(_) => 0,
+        Err(refusal) => refusal.number(),
+    }
+}
+
+// What a change and a read of the key come to: `try_call`, `call` and `try_read`; and how many
+// tickets are drawn then.
+fn call_with<R: Wait>(
+    rt: &R,
+    stripes: &Stripes,
+    alloc: Global,
+    key: &str,
+) -> Result<([u8; 3], u64), Refusal> {
+    let mut pass = stripes.pass()?;
+    let tried = number_of(stripes.try_call(&mut pass, put(alloc, key, 1)?));
+    let called = number_of(stripes.call(rt, &mut pass, put(alloc, key, 1)?));
+    let read = number_of(stripes.try_read(&mut pass, get(alloc, key)?));
+    let count = stripes.look(&mut pass);
+    Ok(([tried, called, read], count))
+}
+
+// A change of a longer key is refused before it takes its stripe; a read is served.
+#[test]
+fn keys_above_the_limit(rt: HostRuntime) -> Result<(), Refusal> {
+    let alloc = rt.alloc();
+    let stripes = empty_of_short_keys(alloc, sixteen(&rt))?;
+    assert_eq!(rt; stripes.key_limit(), 255);
+    let (longer, longest) = (key_of(alloc, 256)?, key_of(alloc, 255)?);
+    assert_eq!(rt;
+        call_with(&rt, &stripes, alloc, longer.as_str()),
+        Ok(([2, 2, 0], 0))
+    );
+    assert_eq!(rt;
+        call_with(&rt, &stripes, alloc, longest.as_str()),
+        Ok(([0, 0, 0], 2))
+    );
+    Ok(())
 }
 
 // What comes of puts of `a` and `b`, and whether a read of `a` is released at this position.

@@ -259,6 +259,7 @@ pub record OfTask (n : ℕ) (task same : Task) (i j : ℕ) : Type 0 where
 pub record HasChanged (c : Command) (before : Taken) (ticket : ℕ) (t : Taken) (h : Held) : Type 0 where
   pub stripe : t.stripe ≡ before.stripe
   pub part : t.content.part.map ≡ (step before.content.part.map c).map
+  pub growth : t.content.part.growth ≡ before.content.part.growth
   pub outbox : t.content.outbox.items ≡ before.content.outbox.items ++ entry ticket c ∷ []
   pub last : t.content.last ≡ ticket + 1
   pub position : h.position ≡ ticket + 1

@@ -1,5 +1,6 @@
 //! What lies in a stripe.
-ghost use Rattle.std.specs.Prelude.{◌≡◌, ◌+◌, ◌^◌, ◌<◌, max, [], ◌∷◌, ◌++◌, IfOk, IfErr};
+ghost use Rattle.std.specs.Prelude.{◌≡◌, ◌+◌, ◌^◌, ◌<◌, max, [], ◌∷◌, ◌++◌, IfOk, IfErr, OnOk, OnErr};
+ghost use Rattle.atomic_methods.specs.PartState.{HasGrown};
 ghost use Rattle.java_hash.specs.Hash.{hash_of, spread_of};
 ghost use Rattle.map_model.specs.Steps.{step};
 ghost use Rattle.ticket_order.specs.Records.{entry};
@@ -52,7 +53,7 @@ impl Stripe {
     }
 
     // Gets the memory that the change needs, for whose key the hash has this spread. The content
-    // stays.
+    // stays. A growth that is due begins or is put off, and the one that runs is helped once.
     pub(crate) fn prepare(
         &mut self,
         alloc: Global,
@@ -60,11 +61,17 @@ impl Stripe {
         spread: u32,
     ) -> Result<Prepared, Refusal>
         requires { spread ≡ spread_of (hash_of command.now.key) }
+
+        // The memory is there, or none was found; the content stays.
         ensures ok { IfOk result (HasMemory command.now self.new) }
         ensures err { IfErr result (λ refusal. refusal ≡ Refusal.NoMemory) }
         ensures part { self.new.part.map ≡ self.old.part.map }
         ensures outbox { self.new.outbox.items ≡ self.old.outbox.items }
         ensures last { self.new.last ≡ self.old.last }
+
+        // A growth that is due begins or is put off; if refused, it stays.
+        ensures growth { OnOk result (HasGrown self.old.part self.new.part) }
+        ensures unchanged { OnErr result (self.new.part.growth ≡ self.old.part.growth) }
     {
         if self.outbox.reserve(1).is_err() {
             return Err(Refusal::NoMemory);
@@ -77,6 +84,7 @@ impl Stripe {
         requires memory { HasMemory command self.old prepared }
         requires small { ticket < 2 ^ 63 }
         ensures part { self.new.part.map ≡ (step self.old.part.map command).map }
+        ensures growth { self.new.part.growth ≡ self.old.part.growth }
         ensures outbox { self.new.outbox.items ≡ self.old.outbox.items ++ entry ticket command
             ∷ [] }
         ensures last { self.new.last ≡ ticket + 1 }

@@ -1,0 +1,40 @@
+-- That the one order of steps grows at its end alone.
+use Rattle.std.specs.Prelude.{◌≡◌, ℕ, ◌+◌, ◌-◌, ◌<◌, List, ◌++◌, map, Option, true, slice_index, slice_set}
+use mathlib.Core.Option.{some}
+use lib.ListN.{get_elem?}
+use Rattle.atomic_table.specs.Table.{State, Act, stepped}
+use Rattle.ticket_order.specs.declared.stripe.Stripe.{Stripe}
+use Rattle.ticket_order.specs.declared.record.Opening.{Opening}
+use Rattle.ticket_order.specs.declared.record.StepMade.{StepMade}
+use Rattle.one_history.specs.Interleaving.{AreFound}
+use Rattle.one_history.specs.Turns.{pass_step, words_of}
+use Rattle.stripe_locks.specs.declared.view.SeatView.{SeatView}
+use Rattle.stripe_locks.specs.Rule.{Kept}
+use Rattle.stripe_locks.specs.Plays.{Sat}
+
+-- the seat of the pass at the place j
+pub record HasSeat (views : List SeatView) (j : ℕ) : Type 0 where
+  pub id : ℕ
+  pub view : SeatView
+  pub at : get_elem? views id ≡ some view
+  pub is_pass : view.pass.enrolled ≡ true
+  pub number_is : view.pass.passes ≡ j + 1
+
+-- each pass that joined has its seat: no two were compared, which spends both
+abbrev pub AllSit : State (Option Stripe) SeatView → Type 0
+AllSit s = (j : ℕ) → j < slice_index s.words 3 → HasSeat s.views j
+
+-- Whatever a pass records by one atomic step that keeps the rule, it stands last in the one order, and finds what the
+-- words hold then.
+abbrev pub StandLast : Type 0
+StandLast = (o : Opening) (s : State (Option Stripe) SeatView) (before : Kept o s) → AllSit s
+    → (id : ℕ) (me : Sat) → get_elem? s.views id ≡ some me.0 → me.0.pass.enrolled ≡ true
+    → (i x : ℕ) (w : SeatView) (a : Act (Option Stripe)) (after : Kept o (stepped s i x id me.1 w a))
+    → w.pass.enrolled ≡ true → w.pass.passes ≡ me.0.pass.passes → slice_index (slice_set s.words i x) 3 ≡ slice_index s.words 3
+    → (new : List StepMade) → w.pass.steps ≡ me.0.pass.steps ++ new
+    → (after.book.interleaving ≡ before.book.interleaving ++ map (pass_step (me.0.pass.passes - 1)) new)
+    × AreFound (words_of before.book) (map (pass_step (me.0.pass.passes - 1)) new)
+
+-- The order isn't chosen anew: what the seats of all passes know determines it.
+abbrev pub IsDetermined : Type 0
+IsDetermined = (o : Opening) (s : State (Option Stripe) SeatView) (one other : Kept o s) → AllSit s → other.book.interleaving ≡ one.book.interleaving
