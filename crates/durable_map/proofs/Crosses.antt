@@ -8,11 +8,13 @@ use Rattle.disk_model.specs.declared.disk.Disk.{Ghosts}
 use Rattle.atomic_table.proofs.shared.Shared.TheSendSync as shared
 use Rattle.atomic_table.proofs.shared.Seat.TheSendSync as seat
 use Rattle.atomic_table.proofs.send_lease.SendLease.TheSendSync as lease
+use Rattle.keyed_lock.proofs.guarding.KeyedLock.TheSendSync as keyed
 use Rattle.stripe_locks.specs.contracts.stripes.Stripes as Stripes
 use Rattle.stripe_locks.specs.contracts.rule.Pass as Pass
 use Rattle.stripe_locks.proofs.Crosses.{stripe_send, stripes_sync}
 use Rattle.durable_map.specs.contracts.locked_keeper.LockedKeeper as LockedKeeper
 use Rattle.durable_map.specs.contracts.locked_keeper.LockedKeeper.TheInside as Inside
+use Rattle.durable_map.specs.contracts.locked_keeper.LockedKeeperKeyedStripes.TheImpl as fitting
 use Rattle.durable_map.specs.contracts.map.DurableMap as DurableMap
 use Rattle.atomic_methods.proofs.Crosses.{prepared_send}
 use Rattle.map_types.proofs.commands.Reply.TheSendSync as reply
@@ -93,10 +95,10 @@ module _ (D : RattleType) where
     locked s = search (inside s, view_send)
 
     map_fields_send : IsSend D → AllSend (shape (DurableMap.the_type D g)).fields
-    map_fields_send s = (heap.Arc-send Stripes.the_row stripes_send stripes_sync, ((search (locked s, crosses)), tt))
+    map_fields_send s = (heap.Arc-send Stripes.the_row stripes_send stripes_sync, (keyed.the_field_send (LockedKeeper.the_row D g) Stripes.the_row (fitting.ghosts D g fitting.no_dict) (locked s), tt))
 
     map_fields_sync : IsSend D → AllSync (shape (DurableMap.the_type D g)).fields
-    map_fields_sync s = (heap.Arc-sync Stripes.the_row stripes_send stripes_sync, ((search (locked s, crosses)), tt))
+    map_fields_sync s = (heap.Arc-sync Stripes.the_row stripes_send stripes_sync, (keyed.the_field_sync (LockedKeeper.the_row D g) Stripes.the_row (fitting.ghosts D g fitting.no_dict) (locked s), tt))
 
     pub map_send : IsSend D → IsSend (DurableMap.the_row D g)
     map_send s = recorded_send _ _ _ (DurableMap.the_type D g).to_one (struct_send (shape (DurableMap.the_type D g)) (map_fields_send s))

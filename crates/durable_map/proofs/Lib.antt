@@ -8,5 +8,6 @@ mod Between
 mod Sealed
 mod Ahead
 mod Causes
+mod Released
 pub mod Viewing
 pub mod Crosses

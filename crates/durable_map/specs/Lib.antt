@@ -1,3 +1,4 @@
 pub mod LockedKeepers
 pub mod Durable
 pub mod Maps
+pub mod RunningStore

@@ -60,3 +60,10 @@ pub record Keeps {D : Type 0} (states : D → List Files) (honest : D → Type 0
   pub given : keeper.is_broken ≡ false → honest keeper.disk → CapturesStand n (history_of p) keeper.checkpoint (now (states keeper.disk))
   -- the sealed checkpoint's marks are committed
   pub sealed : KeepsSealed states honest keeper
+
+-- What is seen of the locked value: the record of its pass, the numbers that tell the words on which the pass makes its
+-- steps from all others, and the disk.
+pub record Locked (D : Type 0) : Type 0 where
+  pub pass : Record
+  pub words : List ℕ
+  pub disk : D

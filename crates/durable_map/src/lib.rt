@@ -9,6 +9,7 @@ mod locked_keeper;
 mod loops;
 mod map;
 mod reads;
+mod starts;
 mod tries;
 mod views;
 

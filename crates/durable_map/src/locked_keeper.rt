@@ -3,6 +3,7 @@ ghost use Rattle.std.specs.Prelude.{◌≡◌, ◌<◌, ◌≤◌, ℕ, List, No
 ghost use Rattle.std.specs.Arc.{arc_value};
 ghost use Rattle.map_types.specs.declared.commands.Command.{Command};
 ghost use Rattle.ticket_order.specs.declared.record.Record.{Record};
+ghost use Rattle.stripe_locks.specs.Holding.{name_of_words};
 ghost use Rattle.stripe_locks.specs.Passes.{recorded, stripe_count, IsPassOf};
 ghost use Rattle.durable_map.specs.LockedKeepers.{HasCause, Keeps};
 
@@ -10,6 +11,7 @@ use crate::keeping;
 use checkpoint_file::CheckpointPhase;
 use disk_model::Disk;
 use flusher::Keeper;
+use keyed_lock::Keyed;
 use map_types::Refusal;
 use std::alloc::Global;
 use std::marker::Model;
@@ -44,21 +46,37 @@ pub(crate) struct LockedKeeper<D: Disk> {
 
 impl<D: Disk> Model for LockedKeeper<D> {
     ghost use Rattle.std.specs.Arc.{arc_value};
-    ghost use Rattle.ticket_order.specs.declared.record.Record.{Record};
+    ghost use Rattle.std.specs.Coded.{coded_ℕ, coded_list, coded×, code_by};
+    ghost use Rattle.std.specs.Prelude.{refl};
     ghost use Rattle.ticket_order.specs.contracts.record.Record as record_type;
+    ghost use Rattle.stripe_locks.specs.Holding.{name_of_words};
     ghost use Rattle.stripe_locks.specs.Passes.{recorded, stripe_count, IsPassOf};
-    ghost use Rattle.durable_map.specs.LockedKeepers.{HasCause, Keeps};
+    ghost use Rattle.durable_map.specs.LockedKeepers.{HasCause, Keeps, Locked};
 
-    ghost Value = { Record };
+    ghost Value = { Locked D };
 
-    ghost coded = { record_type.the_row.coded };
+    ghost coded = { code_by _ (coded× record_type.the_row.coded (coded× (coded_list coded_ℕ) D.code))
+        (λ x. (x.pass, (x.words, x.disk)))
+        (λ p. record { pass = p.0; words = p.1.0; disk = p.1.1 }) (λ _. refl) };
 
-    ghost view = { λ locked. recorded locked.pass };
+    ghost view = { λ locked. record {
+      pass = recorded locked.pass;
+      words = name_of_words (arc_value locked.stripes);
+      disk = locked.keeper.disk;
+    } };
 
     ghost invariant = { λ locked. IsPassOf (arc_value locked.stripes) locked.pass
         × Keeps D.states D.honest (stripe_count (arc_value locked.stripes)) locked.keeper
         (recorded locked.pass)
         × HasCause locked.is_full locked.keeper };
+}
+
+/// The pass under the lock makes its steps on the words of the stripes that are the lock's key.
+impl<D: Disk> Keyed<Stripes> for LockedKeeper<D> {
+    ghost use Rattle.std.specs.Prelude.{◌≡◌};
+    ghost use Rattle.stripe_locks.specs.Holding.{name_of_words};
+
+    ghost fits = { λ stripes locked. locked.words ≡ name_of_words stripes };
 }
 
 impl<D: Disk> LockedKeeper<D> {
@@ -72,7 +90,9 @@ impl<D: Disk> LockedKeeper<D> {
         requires keeps { Keeps D.states D.honest (stripe_count (arc_value stripes)) keeper
             (recorded pass) }
         requires cause { HasCause false keeper }
-        ensures { result ≡ recorded pass }
+        ensures pass { result.pass ≡ recorded pass }
+        ensures words { result.words ≡ name_of_words (arc_value stripes) }
+        ensures disk { result.disk ≡ keeper.disk }
     {
         LockedKeeper {
             stripes,
@@ -82,13 +102,23 @@ impl<D: Disk> LockedKeeper<D> {
         }
     }
 
+    /// The disk, for a map that couldn't be begun.
+    pub(crate) fn into_disk(self) -> D
+        ensures { result ≡ self.disk }
+    {
+        let LockedKeeper { keeper, .. } = self;
+        keeper.into_disk()
+    }
+
     /// How many commands are committed.
     pub(crate) fn committed(&self) -> u64 {
         self.keeper.committed()
     }
 
     // Takes the entries of a stripe, unless another pass holds it or no memory is found.
-    fn sweep(&mut self, stripe: usize) {
+    fn sweep(&mut self, stripe: usize)
+        ensures words { self.new.words ≡ self.old.words }
+    {
         if stripe >= self.stripes.stripes().get() {
             return;
         }
@@ -97,7 +127,9 @@ impl<D: Disk> LockedKeeper<D> {
     }
 
     // Takes the entries of each stripe that is marked, or of each at all, unless another pass holds it.
-    fn gather(&mut self, sweeps_all: bool) {
+    fn gather(&mut self, sweeps_all: bool)
+        ensures words { self.new.words ≡ self.old.words }
+    {
         let marks = self.stripes.take_marks();
         for stripe in 0..self.stripes.stripes().get() {
             if sweeps_all || marks.contains(stripe) {
@@ -107,7 +139,9 @@ impl<D: Disk> LockedKeeper<D> {
     }
 
     // Stages the longest batch of what is in hand, and returns its length.
-    fn stage(&mut self) -> Result<u32, Refusal> {
+    fn stage(&mut self) -> Result<u32, Refusal>
+        ensures words { self.new.words ≡ self.old.words }
+    {
         let staged = keeping::stage(&mut self.keeper, MOST_COMMANDS);
         if matches!(staged, Err(Refusal::LogFull)) {
             self.is_full = true;
@@ -116,12 +150,16 @@ impl<D: Disk> LockedKeeper<D> {
     }
 
     // Writes zeros ahead of the staged batch, if that is due.
-    fn write_ahead(&mut self) -> Result<(), Refusal> {
+    fn write_ahead(&mut self) -> Result<(), Refusal>
+        ensures words { self.new.words ≡ self.old.words }
+    {
         keeping::write_ahead(&mut self.keeper)
     }
 
     // Makes the device call that is due in the logs.
-    fn advance_logs(&mut self) -> Result<(), Refusal> {
+    fn advance_logs(&mut self) -> Result<(), Refusal>
+        ensures words { self.new.words ≡ self.old.words }
+    {
         let _phase = keeping::advance_logs(&mut self.keeper)?;
         Ok(())
     }
@@ -132,7 +170,9 @@ impl<D: Disk> LockedKeeper<D> {
     }
 
     // DURABLE with the committed count, and wakes those who wait for it, if any do.
-    fn publish(&mut self) {
+    fn publish(&mut self)
+        ensures words { self.new.words ≡ self.old.words }
+    {
         let mut steps = self.stripes.at(&mut self.pass);
         keeping::publish(&mut self.keeper, &mut steps);
         self.stripes.wake_released();
@@ -140,7 +180,9 @@ impl<D: Disk> LockedKeeper<D> {
 
     /// FAIL, and wakes all who wait for it or for their positions. If no device call has failed and no
     /// file was found full, it does nothing.
-    pub(crate) fn fail(&mut self) {
+    pub(crate) fn fail(&mut self)
+        ensures words { self.new.words ≡ self.old.words }
+    {
         if self.keeper.is_broken || self.is_full {
             let mut steps = self.stripes.at(&mut self.pass);
             keeping::fail(&mut self.keeper, &mut steps);
@@ -151,7 +193,9 @@ impl<D: Disk> LockedKeeper<D> {
     /// A turn of the log. If no device call is due, it takes what the marked stripes have, or what
     /// all have, and stages a batch, ahead of which it may write zeros. Else it makes the call, and
     /// publishes what that committed.
-    pub(crate) fn flush(&mut self, sweeps_all: bool) -> Result<Turn, Refusal> {
+    pub(crate) fn flush(&mut self, sweeps_all: bool) -> Result<Turn, Refusal>
+        ensures words { self.new.words ≡ self.old.words }
+    {
         if self.is_resting() {
             self.gather(sweeps_all);
             let count = self.stage()?;
@@ -170,7 +214,9 @@ impl<D: Disk> LockedKeeper<D> {
 
     // Begins a checkpoint if the newest log has at least `bytes` bytes, and wakes the loop of the
     // log, which begins another log.
-    fn begin_checkpoint(&mut self, bytes: u64) -> Result<Turn, Refusal> {
+    fn begin_checkpoint(&mut self, bytes: u64) -> Result<Turn, Refusal>
+        ensures words { self.new.words ≡ self.old.words }
+    {
         let length = self.keeper.log.gate() as u64 + 1;
         if length < bytes {
             return Ok(Turn::Rested);
@@ -181,7 +227,9 @@ impl<D: Disk> LockedKeeper<D> {
     }
 
     // Gives the checkpoint the section of this stripe, which is the next.
-    fn capture(&mut self, stripe: usize) -> Result<Turn, Refusal> {
+    fn capture(&mut self, stripe: usize) -> Result<Turn, Refusal>
+        ensures words { self.new.words ≡ self.old.words }
+    {
         let mut steps = self.stripes.at(&mut self.pass);
         let captured = keeping::capture(&mut self.keeper, stripe, &mut steps);
         if matches!(captured, Err(Refusal::LogFull)) {
@@ -191,13 +239,17 @@ impl<D: Disk> LockedKeeper<D> {
         Ok(Turn::Worked)
     }
 
-    fn seal_checkpoint(&mut self) -> Result<Turn, Refusal> {
+    fn seal_checkpoint(&mut self) -> Result<Turn, Refusal>
+        ensures words { self.new.words ≡ self.old.words }
+    {
         keeping::seal(&mut self.keeper)?;
         Ok(Turn::Worked)
     }
 
     // Makes the device call that is due in the file of the checkpoint.
-    fn advance_checkpoint(&mut self) -> Result<Turn, Refusal> {
+    fn advance_checkpoint(&mut self) -> Result<Turn, Refusal>
+        ensures words { self.new.words ≡ self.old.words }
+    {
         let _phase = keeping::advance_checkpoint(&mut self.keeper)?;
         Ok(Turn::Worked)
     }
@@ -206,7 +258,9 @@ impl<D: Disk> LockedKeeper<D> {
     /// `bytes` bytes. Else it makes the device call that is due in its file, captures its next
     /// stripe, or seals it. While its log is begun it waits for the turns of the log. Refused with
     /// `Failed` once a device call has failed or a FAIL was made.
-    pub(crate) fn checkpoint(&mut self, bytes: u64) -> Result<Turn, Refusal> {
+    pub(crate) fn checkpoint(&mut self, bytes: u64) -> Result<Turn, Refusal>
+        ensures words { self.new.words ≡ self.old.words }
+    {
         if self.keeper.is_broken || self.keeper.has_failed {
             return Err(Refusal::Failed);
         }
@@ -228,7 +282,8 @@ impl<D: Disk> LockedKeeper<D> {
 
     /// From now on `count` zeros are written ahead of a batch at a time; with 0 none are.
     pub(crate) fn set_ahead(&mut self, count: usize) -> Result<(), Refusal>
-        ensures { IfErr result (λ refusal. refusal ≡ Refusal.NoMemory) }
+        ensures words { self.new.words ≡ self.old.words }
+        ensures err { IfErr result (λ refusal. refusal ≡ Refusal.NoMemory) }
     {
         keeping::set_ahead(&mut self.keeper, count)
     }

@@ -1,13 +1,17 @@
 //! The loops that commit, and that write checkpoints, each on a thread of its own.
 ghost use Rattle.std.specs.Prelude.{◌≡◌, ◌⊎◌, IsTrue, IfErr};
+ghost use Rattle.keyed_lock.specs.Locks.{IsLoanOf};
+ghost use Rattle.durable_map.specs.Maps.{name_of_words};
 
-use crate::locked_keeper::Turn;
+use crate::locked_keeper::{LockedKeeper, Turn};
 use crate::map::DurableMap;
 use crossbeam_utils::Backoff;
 use disk_model::Disk;
+use keyed_lock::Loan;
 use map_types::Refusal;
 use std::sync::Wait;
 use std::time::Duration;
+use stripe_locks::Stripes;
 
 /// For how many milliseconds a loop sleeps before it tries again what was refused some times.
 const SHORT_SLEEP: u64 = 1;
@@ -28,19 +32,49 @@ fn is_final(refusal: Refusal) -> bool
 }
 
 impl<D: Disk + Drop> DurableMap<D> {
+    /// Waits for its turn, and takes the keeper out. Its pass makes its steps on the map's own words.
+    pub(crate) fn take_keeper<'a, R: Wait>(
+        &'a self,
+        rt: &R,
+    ) -> (LockedKeeper<D>, Loan<'a, LockedKeeper<D>, Stripes>)
+        ensures own { result.0.words ≡ name_of_words self.now }
+        ensures loan { IsLoanOf self.now.locked result.1 }
+    {
+        self.locked.lock(rt)
+    }
+
+    /// Puts the keeper back, which made its steps on the map's own words.
+    pub(crate) fn give_keeper(
+        &self,
+        locked: LockedKeeper<D>,
+        loan: Loan<'_, LockedKeeper<D>, Stripes>,
+    )
+        requires own { locked.words ≡ name_of_words self.now }
+        requires loan { IsLoanOf self.now.locked loan }
+    {
+        self.locked.give_back(locked, loan);
+    }
+
     fn fail<R: Wait>(&self, rt: &R) {
-        self.locked.lock(rt).fail();
+        let (mut locked, loan) = self.take_keeper(rt);
+        locked.fail();
+        self.give_keeper(locked, loan);
     }
 
     // A turn of the log, with the count that is committed after it.
     pub(crate) fn flush<R: Wait>(&self, rt: &R, sweeps_all: bool) -> (Result<Turn, Refusal>, u64) {
-        let mut locked = self.locked.lock(rt);
+        let (mut locked, loan) = self.take_keeper(rt);
         let turn = locked.flush(sweeps_all);
-        (turn, locked.committed())
+        let committed = locked.committed();
+        self.give_keeper(locked, loan);
+        (turn, committed)
     }
 
     fn checkpoint<R: Wait>(&self, rt: &R, bytes: u64) -> Result<Turn, Refusal> {
-        self.locked.lock(rt).checkpoint(bytes)
+        let (mut locked, loan) = self.take_keeper(rt);
+        let turn = locked.checkpoint(bytes);
+        self.give_keeper(locked, loan);
+        turn
     }
 
     // Returns after a moment, which grows with the number of turns in which nothing was done.
@@ -71,10 +105,10 @@ impl<D: Disk + Drop> DurableMap<D> {
     }
 }
 
-/// Commits what the passes change, and publishes it, until `ends` says so. It holds the lock over
-/// one device call at most. If a device call has failed, or the log is full, it makes a FAIL and
-/// returns `Failed` or `LogFull`. Each later call is then refused with `Failed`. What it is refused
-/// for want of memory is tried again.
+/// Commits what the passes change, and publishes it, until `ends` says so. Each turn acts on the
+/// map's own words, and holds the lock over one device call at most. If a device call has failed, or
+/// the log is full, it makes a FAIL and returns `Failed` or `LogFull`. Each later call is then
+/// refused with `Failed`. What it is refused for want of memory is tried again.
 pub fn flush_loop<D: Disk + Drop, E: Ends, R: Wait>(
     rt: &R,
     map: &DurableMap<D>,
@@ -103,11 +137,12 @@ pub fn flush_loop<D: Disk + Drop, E: Ends, R: Wait>(
     unreachable!()
 }
 
-/// Writes a checkpoint whenever the newest log has at least `bytes` bytes, until `ends` says so. It
-/// holds the lock over one device call at most, so that batches are committed between its calls. It
-/// needs `flush_loop` on another thread. If a device call has failed, or a stripe has too many
-/// entries for a checkpoint, it makes a FAIL and returns `Failed` or `LogFull`. What it is refused
-/// for want of memory, because a stripe is held, or because it comes too early, is tried again.
+/// Writes a checkpoint whenever the newest log has at least `bytes` bytes, until `ends` says so.
+/// Each turn acts on the map's own words, and holds the lock over one device call at most, so that
+/// batches are committed between its calls. It needs `flush_loop` on another thread. If a device
+/// call has failed, or a stripe has too many entries for a checkpoint, it makes a FAIL and returns
+/// `Failed` or `LogFull`. What it is refused for want of memory, because a stripe is held, or
+/// because it comes too early, is tried again.
 pub fn checkpoint_loop<D: Disk + Drop, E: Ends, R: Wait>(
     rt: &R,
     map: &DurableMap<D>,

@@ -38,6 +38,21 @@ impl Ends for Flag {
     }
 }
 
+// The map of a disk that was formatted.
+pub(crate) fn map_over(
+    alloc: Global,
+    disk: MemDisk,
+    count: StripeCount,
+) -> Result<DurableMap<MemDisk>, Refusal> {
+    let Ok((keeper, parts, first, limit)) = open_parts(alloc, disk, count) else {
+        return Err(Refusal::Failed);
+    };
+    match DurableMap::new(alloc, keeper, parts, first, limit) {
+        Ok(map) => Ok(map),
+        Err((_disk, refusal)) => Err(refusal),
+    }
+}
+
 pub(crate) fn open<R: Abort>(
     rt: &R,
     alloc: Global,
@@ -46,13 +61,7 @@ pub(crate) fn open<R: Abort>(
     let count = StripeCount::new(16).expect(rt, "16 is a count of stripes");
     let mut disk = disk;
     format(alloc, &mut disk, count)?;
-    let Ok((keeper, parts, first, limit)) = open_parts(alloc, disk, count) else {
-        return Err(Refusal::Failed);
-    };
-    match DurableMap::new(alloc, keeper, parts, first, limit) {
-        Ok(map) => Ok(map),
-        Err((_disk, refusal)) => Err(refusal),
-    }
+    map_over(alloc, disk, count)
 }
 
 pub(crate) fn key(alloc: Global, text: &str) -> Result<Key, Refusal> {

@@ -7,3 +7,5 @@ mod begun;
 mod calls;
 #[cfg(test)]
 mod directory;
+#[cfg(test)]
+mod limits;
