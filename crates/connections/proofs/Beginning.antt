@@ -1,17 +1,18 @@
 -- A row whose messages take their places.
-use Rattle.std.proofs.Common.{◌≡◌, ◌≢◌, ◌⊎◌, ◌<◌, ◌≤◌, ◌+◌, suc, Bool, true, false, List, [], ◌∷◌, ◌++◌, length, Result, Err, refl, sym, ap, subst, ◌∙◌, append_assoc, arith, inl, inr}
+use Rattle.std.proofs.Common.{◌≡◌, ◌≢◌, ◌⊎◌, ◌<◌, ◌≤◌, ◌+◌, suc, ℕ, Bool, true, false, List, [], ◌∷◌, ◌++◌, length, Result, Err, refl, sym, ap, subst, ◌∙◌, append_assoc, arith, inl, inr}
 use Rattle.std.specs.List.{AllByRecursion}
+use Rattle.std.specs.Int.{w16, to_be_bytes}
 use Rattle.std.proofs.lemmas.List.{append-nil, map-append, length-append}
 use Rattle.map_types.specs.declared.refusals.Refusal.{Refusal}
 use Rattle.map_types.specs.declared.refusals.Refusal.TheVariants.{BadFrame}
 use Rattle.wire_frames.specs.declared.requests.Request.{Request}
-use Rattle.wire_frames.specs.Messages.{Message, AsksWholeMap, Begins, FirstMessages, IsPartial}
+use Rattle.wire_frames.specs.Messages.{Message, AsksWholeMap, Begins, FirstMessages, IsPartial, frame}
 use Rattle.wire_frames.specs.Feed.{BeginsBulk, Takes}
 use Rattle.wire_frames.specs.Held.{Feed}
 use Rattle.connections.specs.declared.row.Place.{Place}
 use Rattle.connections.specs.Dialogue.{Answer}
 use Rattle.connections.specs.Moves.{Move, Starts, IsRow, Stops, Makes, Leads}
-use Rattle.connections.specs.Progress.{BeginsNext, BeginsRow, Gives, begin_moves, messages_in, places_in}
+use Rattle.connections.specs.Progress.{BeginsNext, BeginsRow, Gives, work, begin_moves, messages_in, places_in}
 use Rattle.connections.proofs.Streams.{begins_none, begins_one, begins_then, first_then}
 use Rattle.connections.proofs.MoveLists.{leads_then}
 
@@ -27,10 +28,6 @@ none_whole_more : (messages : List Message) (message : Message) → NoneWhole me
 none_whole_more [] message all one = (one, tt)
 none_whole_more (m ∷ messages) message all one = (all.0, none_whole_more messages message all.1 one)
 
-some_messages : (messages : List Message) (message : Message) → messages ++ message ∷ [] ≡ [] → ⊥
-some_messages [] message e = cc
-some_messages (m ∷ messages) message e = cc
-
 none_bad_more : (messages : List Message) (message : Message) → NoneBad messages → message ≢ Err BadFrame → NoneBad (messages ++ message ∷ [])
 none_bad_more [] message all one = (one, tt)
 none_bad_more (m ∷ messages) message all one = (all.0, none_bad_more messages message all.1 one)
@@ -43,6 +40,24 @@ open_takes old new message (on, inr t) good = (t.3, begins_one old.left new.left
 takes_first : (old new : Feed) (message : Message) → Takes old new message → FirstMessages old.left (message ∷ [])
 takes_first old new message (on, inl t) = inr ([], old.left, begins_none old.left, t.0, ap (λ (x : Message). x ∷ []) t.1)
 takes_first old new message (on, inr t) = inl (new.left, begins_one old.left new.left t.0 message t.1 t.2 t.4)
+
+frame_size : (body : List ℕ) → length (frame body) ≡ 2 + length body
+frame_size body = length-append (to_be_bytes w16 (length body)) body
+
+-- each message takes some of what a feeder may still give
+takes_fewer : (old new : Feed) (message : Message) → Takes old new message → work new < work old
+takes_fewer old new message (on, inl t) = rw (on, t.2) (omega arith)
+takes_fewer old new message (on, inr t) =
+    let size = ap (λ (x : List ℕ). length x) t.2 in
+    let all = length-append (frame t.0) new.left in
+    let one = frame_size t.0 in
+    rw (on, t.3) (omega arith)
+
+-- a feeder that gave a message was open before, and less is left in it
+still_fewer : {X : Type 0} (old mid new : Feed) (message : Message) → (X × (mid ≡ old)) ⊎ ((old.ended ≡ false) × (mid.ended ≡ false) × (work mid < work old)) → Takes mid new message → (old.ended ≡ false) × (work new < work old)
+still_fewer old mid new message (inl q) t =
+    let fewer = takes_fewer mid new message t in (subst (λ (feed : Feed). feed.ended ≡ false) q.1 t.0, subst (λ (feed : Feed). work new < work feed) q.1 fewer)
+still_fewer old mid new message (inr q) t = let fewer = takes_fewer mid new message t in (q.0, omega (arith, q.2))
 
 -- whether another message may follow, as the frame says
 pub ends_so : (message : Message) (is_bulk : Bool) (feed : Feed) → (is_bulk ≡ true → BeginsBulk feed) → (message ≡ Err BadFrame) ⊎ ((message ≢ Err BadFrame) × (is_bulk ≡ true)) → (message ≡ Err BadFrame) ⊎ ((message ≢ Err BadFrame) × BeginsBulk feed)
@@ -80,10 +95,6 @@ module _ {H : Type 0} where
       let rest = begins_row_more (before ++ one.1 ∷ []) begun last (omega arith) none.1 (λ asks. append_assoc before (one.1 ∷ []) (places_in begun) ∙ alone asks) in
       (omega arith, λ asks. absurd (none.0 asks), subst (λ (x : List (Place H)). IsRow (before ++ one.1 ∷ []) (begin_moves (begun ++ last ∷ [])) x) (append_assoc before (one.1 ∷ []) (places_in (begun ++ last ∷ []))) rest)
 
-  none_taken : (begun : List (Message × Place H)) → messages_in begun ≡ [] → places_in begun ≡ []
-  none_taken [] e = refl
-  none_taken (one ∷ begun) e = let no : one.0 ∷ messages_in begun ≡ [] = e in cc
-
 module _ {S H : Type 0} (began : S → Request → Result H Refusal → S → Type 0) (finished : S → H → Answer → S → Type 0) (gave_up : S → H → S → Type 0) where
   -- these messages took their places, and more may
   pub record Beginning (s0 s1 : S) (old new : Feed) (row : List (Place H)) (begun : List (Message × Place H)) : Type 0 where
@@ -93,10 +104,10 @@ module _ {S H : Type 0} (began : S → Request → Result H Refusal → S → Ty
     pub good : NoneBad (messages_in begun)
     pub single : NoneWhole (messages_in begun)
     pub taken : Begins old.left (messages_in begun) new.left
-    pub opened : new.ended ≡ false
+    pub opened : ((begun ≡ []) × (new ≡ old)) ⊎ ((old.ended ≡ false) × (new.ended ≡ false) × (work new < work old))
 
-  pub beginning_none : (s : S) (feed : Feed) (row : List (Place H)) → row ≡ [] → feed.ended ≡ false → Beginning s s feed feed row []
-  beginning_none s feed row e on = record { places = e; few = rw e (omega arith); leads = refl; good = tt; single = tt; taken = begins_none feed.left; opened = on }
+  pub beginning_none : (s : S) (feed : Feed) (row : List (Place H)) → row ≡ [] → Beginning s s feed feed row []
+  beginning_none s feed row e = record { places = e; few = rw e (omega arith); leads = refl; good = tt; single = tt; taken = begins_none feed.left; opened = inl (refl, refl) }
 
   in_row_of : (s0 s1 : S) (old new : Feed) (row : List (Place H)) (begun : List (Message × Place H)) → Beginning s0 s1 old new row begun → IsRow [] (begin_moves begun) row
   in_row_of s0 s1 old new row begun p =
@@ -108,7 +119,14 @@ module _ {S H : Type 0} (began : S → Request → Result H Refusal → S → Ty
   -- the row is full
   pub begins_full : (s0 s1 : S) (old new : Feed) (row : List (Place H)) (begun : List (Message × Place H)) → 64 ≤ length row → Beginning s0 s1 old new row begun → BeginsRow began finished gave_up s0 s1 old new row
   begins_full s0 s1 old new row begun full p =
-      (begun, p.places, in_row_of s0 s1 old new row begun p, p.leads, stops_good begun p.good, inl (p.opened, p.taken, λ h. let none = ap (λ (x : List (Place H)). length x) (p.places ∙ none_taken begun h) in absurd (omega arith)))
+      (begun, p.places, in_row_of s0 s1 old new row begun p, p.leads, stops_good begun p.good, gives p.opened)
+    where
+      gives : ((begun ≡ []) × (new ≡ old)) ⊎ ((old.ended ≡ false) × (new.ended ≡ false) × (work new < work old)) → Gives old new (messages_in begun)
+      gives (inl q) =
+          let none = ap (λ (x : List (Place H)). length x) p.places in
+          let count = ap (λ (x : List (Message × Place H)). length (places_in x)) q.0 in
+          absurd (omega arith)
+      gives (inr q) = inr (q.0, q.2, inl (q.1, p.taken))
 
   module _ (s0 s1 s2 : S) (old mid new : Feed) (row after : List (Place H)) (begun : List (Message × Place H)) (p : Beginning s0 s1 old mid row begun) where
     begun_more : (message : Message) (place : Place H) → Makes began finished gave_up s1 (Starts message place) s2 → after ≡ row ++ place ∷ [] → Leads began finished gave_up s0 (begin_moves (begun ++ (message, place) ∷ [])) s2 × (after ≡ places_in (begun ++ (message, place) ∷ []))
@@ -126,6 +144,7 @@ module _ {S H : Type 0} (began : S → Request → Result H Refusal → S → Ty
         let place = q.1 in
         let good = (q.7 e).0 in
         let takes = open_takes mid new message q.2 good in
+        let fewer = still_fewer old mid new message p.opened q.2 in
         let both = begun_more message place q.3 q.4 in
         let one : List (Message × Place H) = (message, place) ∷ [] in
         let messages : messages_in (begun ++ one) ≡ messages_in begun ++ message ∷ [] = map-append _ begun one in
@@ -139,18 +158,20 @@ module _ {S H : Type 0} (began : S → Request → Result H Refusal → S → Ty
             good = subst (λ (x : List Message). NoneBad x) (sym messages) (none_bad_more (messages_in begun) message p.good good);
             single = subst (λ (x : List Message). NoneWhole x) (sym messages) (none_whole_more (messages_in begun) message p.single (q.7 e).1);
             taken = subst (λ (x : List Message). Begins old.left x new.left) (sym messages) (begins_then old.left mid.left new.left (messages_in begun) (message ∷ []) p.taken takes.1);
-            opened = takes.0;
+            opened = inr (fewer.0, takes.0, fewer.1);
           },
         )
 
     -- no more is to take its place
     pub begins_last : length row < 64 → (is_last : Bool) → is_last ≡ true → BeginsNext began finished gave_up s1 s2 mid new row after is_last → BeginsRow began finished gave_up s0 s2 old new after
     begins_last room is_last e (inl q) =
-        (begun, q.3 ∙ p.places, rw q.3 (in_row_of s0 s1 old mid row begun p), rw q.4 p.leads, stops_good begun p.good, inl (rw q.1 p.opened, rw q.1 p.taken, λ h. partial (p.places ∙ none_taken begun h) q.2))
+        (begun, q.3 ∙ p.places, rw q.3 (in_row_of s0 s1 old mid row begun p), rw q.4 p.leads, stops_good begun p.good, rw q.1 (gives p.opened q.2))
       where
-        partial : row ≡ [] → IsPartial new.left ⊎ ((row ≢ []) × BeginsBulk mid) → IsPartial new.left
-        partial none (inl is) = is
-        partial none (inr some) = absurd (some.0 none)
+        gives : ((begun ≡ []) × (mid ≡ old)) ⊎ ((old.ended ≡ false) × (mid.ended ≡ false) × (work mid < work old)) → ((mid.ended ≡ true) ⊎ IsPartial mid.left) ⊎ ((row ≢ []) × BeginsBulk mid) → Gives old mid (messages_in begun)
+        gives (inr o) more = inr (o.0, o.2, inl (o.1, p.taken))
+        gives (inl o) (inl more) =
+            inl (ap (λ (x : List (Message × Place H)). messages_in x) o.0, o.1, subst (λ (feed : Feed). (feed.ended ≡ true) ⊎ IsPartial feed.left) o.1 more)
+        gives (inl o) (inr more) = absurd (more.0 (p.places ∙ ap (λ (x : List (Message × Place H)). places_in x) o.0))
     begins_last room is_last e (inr q) =
         let message = q.0 in
         let place = q.1 in
@@ -165,7 +186,9 @@ module _ {S H : Type 0} (began : S → Request → Result H Refusal → S → Ty
         -- a bad frame is the last message; behind one of the whole map the feeder goes on
         ended : messages_in (begun ++ (q.0, q.1) ∷ []) ≡ messages_in begun ++ q.0 ∷ [] → (q.0 ≡ Err BadFrame) ⊎ ((q.0 ≢ Err BadFrame) × BeginsBulk mid) → Gives old new (messages_in (begun ++ (q.0, q.1) ∷ []))
         ended messages (inl bad) =
-            inr (subst (λ (x : List Message). FirstMessages old.left x) (sym messages) (first_then old.left mid.left (messages_in begun) (q.0 ∷ []) p.taken (takes_first mid new q.0 q.2)), (messages_in begun, messages ∙ ap (λ (x : Message). messages_in begun ++ x ∷ []) bad))
+            let fewer = still_fewer old mid new q.0 p.opened q.2 in
+            inr (fewer.0, fewer.1, inr (subst (λ (x : List Message). FirstMessages old.left x) (sym messages) (first_then old.left mid.left (messages_in begun) (q.0 ∷ []) p.taken (takes_first mid new q.0 q.2)), (messages_in begun, messages ∙ ap (λ (x : Message). messages_in begun ++ x ∷ []) bad)))
         ended messages (inr bulk) =
             let takes = open_takes mid new q.0 q.2 bulk.0 in
-            inl (takes.0, subst (λ (x : List Message). Begins old.left x new.left) (sym messages) (begins_then old.left mid.left new.left (messages_in begun) (q.0 ∷ []) p.taken takes.1), λ h. absurd (some_messages (messages_in begun) q.0 (sym messages ∙ h)))
+            let fewer = still_fewer old mid new q.0 p.opened q.2 in
+            inr (fewer.0, fewer.1, inl (takes.0, subst (λ (x : List Message). Begins old.left x new.left) (sym messages) (begins_then old.left mid.left new.left (messages_in begun) (q.0 ∷ []) p.taken takes.1)))

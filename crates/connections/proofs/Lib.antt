@@ -1,11 +1,12 @@
-pub mod Answering
 pub mod Beginning
-pub mod Connections
+pub mod Driven
+pub mod Gathering
+pub mod Giving
 pub mod MoveLists
 pub mod Owning
-pub mod Parts
+pub mod Pasts
 pub mod Queues
 pub mod Rows
+pub mod Steps
 pub mod Streams
-pub mod Turning
 pub mod Turns

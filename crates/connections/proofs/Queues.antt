@@ -1,5 +1,5 @@
--- A queue with no elements.
-use Rattle.std.proofs.Common.{◌≡◌, ℕ, true, false, List, [], ◌∷◌, length, refl, sym, ap, ◌∙◌, arith}
+-- A queue with no elements, and one with fewer.
+use Rattle.std.proofs.Common.{◌≡◌, ◌⊎◌, ◌<◌, ℕ, true, false, List, [], ◌∷◌, length, refl, sym, ap, subst, ◌∙◌, arith, inl, inr}
 use Rattle.std.specs.Prelude.{◌==◌}
 use Rattle.std.proofs.lemmas.Bool.{eq-eqb}
 
@@ -16,3 +16,8 @@ not_empty {X} items len count some none =
     let zero : len ≡ 0 = omega arith in
     let no : true ≡ false = sym (eq-eqb len 0 zero) ∙ some in
     cc
+
+-- fewer than in the middle is fewer than at first
+pub fewer_than : {X : Type 0} (first now after : X) (size : X → ℕ) → (now ≡ first) ⊎ (size now < size first) → size after < size now → size after < size first
+fewer_than {X} first now after size (inl e) less = subst (λ (x : X). size after < size x) e less
+fewer_than first now after size (inr h) less = omega (arith, h, less)

@@ -1,20 +1,24 @@
 //! A connection.
 
-ghost use Rattle.std.specs.Prelude.{◌≡◌, ◌≤◌, [], false, length, vec_len, IfOk, OnOk};
+ghost use Rattle.std.specs.Prelude.{◌≡◌, ◌≢◌, ◌≤◌, [], length, vec_len, IfOk, OnOk};
 ghost use Rattle.std.specs.VecDeque.{deque_capacity};
+ghost use Rattle.wire_frames.specs.Replies.{Writes};
 ghost use Rattle.connections.specs.declared.connection.ConnectionError.TheVariants.{NoMemory};
-ghost use Rattle.connections.specs.Progress.{Gave, Turned};
-ghost use Rattle.connections.specs.Connection.{Connection};
+ghost use Rattle.connections.specs.declared.exchange.Stage.TheVariants.{GivenUp};
+ghost use Rattle.connections.specs.Progress.{Gave};
+ghost use Rattle.connections.specs.Past.{standing, with_late, late_of};
+ghost use Rattle.connections.specs.Driving.{AnswersAll, TakesTurns};
+ghost use Rattle.connections.specs.Owning.{OwnsRow};
+ghost use Rattle.connections.specs.Connection as whole;
 
 use crate::calls::Calls;
-use crate::outgoing::ROOM;
-use crate::row::{MOST_HELD, Place, answer_row, begin_row};
+use crate::exchange::{Answered, Connection};
+use crate::row::MOST_HELD;
 use std::alloc::{AllocError, Global};
-use std::collections::VecDeque;
 use std::io;
 use std::io::{Read, Write};
 use thiserror::Error;
-use wire_frames::Feeder;
+use wire_frames::{write_reply, write_whole};
 
 /// The most bytes that one read takes.
 const PIECE: usize = 65536;
@@ -38,48 +42,87 @@ impl From<AllocError> for ConnectionError {
     }
 }
 
-/// How a turn ended.
-enum Turn {
-    /// No whole message is left.
-    Partial,
-    /// The last reply ends the connection.
-    Ended,
+/// Writes what is unsent, and a reply that no memory was found for.
+fn write_unsent<W: Write, H>(
+    writer: &mut W,
+    connection: &Connection<H>,
+    answered: &Answered,
+) -> io::Result<()>
+    ensures { Writes (W.contents writer.old) (W.contents writer.new) result
+        (with_late (standing connection.now) (late_of answered.now)).unsent }
+{
+    write_whole(writer, connection.unsent())?;
+    match answered {
+        Answered::Late(answer) => write_reply(writer, answer),
+        Answered::All | Answered::Paused => Ok(()),
+    }
+}
+
+/// Answers what is held, and writes the replies: before a call that may wait, once the longest
+/// reply has no room beside them, and at the end.
+fn answer_all<W: Write, C: Calls>(
+    connection: &mut Connection<C::Held>,
+    writer: &mut W,
+    calls: &mut C,
+) -> io::Result<()>
+    // Nothing is unsent, and what is held is of these calls.
+    requires unsent { connection.old.out ≡ [] }
+    requires owned { OwnsRow C.owns calls.old connection.old.row.items }
+
+    // All is answered and written, or the writer failed and the rest was given up.
+    ensures answered { AnswersAll C.began C.finished C.gave_up
+        (W.contents writer.old) (W.contents writer.new) calls.old calls.new
+        (standing connection.old) (standing connection.new) result }
+
+    // Nothing is received or begun.
+    ensures feeder { OnOk result (connection.new.feeder ≡ connection.old.feeder) }
+    ensures stage { connection.old.stage ≢ GivenUp
+        → OnOk result (connection.new.stage ≢ GivenUp) }
+    ensures capacity { OnOk result
+        (deque_capacity connection.new.row ≡ deque_capacity connection.old.row) }
+{
+    'answers: loop {
+        let answered = connection.answer(calls, true);
+        match write_unsent(writer, connection, &answered) {
+            Ok(()) => connection.sent_all(),
+            Err(error) => {
+                connection.give_up(calls);
+                return Err(error);
+            }
+        }
+        let is_all = answered.is_all();
+        drop(answered);
+        if is_all {
+            return Ok(());
+        }
+    }
 }
 
 /// Answers each whole message in hand, a row of up to 64 at a time.
-fn reply_all<W: Write, C: Calls>(
-    feeder: &mut Feeder,
+fn take_turns<W: Write, C: Calls>(
+    connection: &mut Connection<C::Held>,
     writer: &mut W,
     calls: &mut C,
-    row: &mut VecDeque<Place<C::Held>>,
-    out: &mut Vec<u8>,
-) -> Result<Turn, ConnectionError>
-    // No refused length was met, nothing is held or left to be written, and the row has its room.
-    requires opened { feeder.old.ended ≡ false }
-    requires row_is_empty { row.old.items ≡ [] }
-    requires out_is_empty { out.old.items ≡ [] }
-    requires room { MOST_HELD ≤ deque_capacity row.old }
+) -> io::Result<()>
+    // Nothing is held or unsent, and the row has its room.
+    requires idle { connection.old.row.items ≡ [] }
+    requires unsent { connection.old.out ≡ [] }
+    requires stage { connection.old.stage ≢ GivenUp }
+    requires room { MOST_HELD ≤ deque_capacity connection.old.row }
 
-    // What became of the messages in hand.
-    ensures turned { Turned C.began C.finished C.gave_up
+    // No whole message is left in hand, or a reply ended the connection, or the writer failed.
+    ensures turned { TakesTurns C.began C.finished C.gave_up
         (W.contents writer.old) (W.contents writer.new) calls.old calls.new
-        feeder.old feeder.new result }
-
-    // Again nothing is held or left to be written, and the row keeps its room.
-    ensures row_is_empty { row.new.items ≡ [] }
-    ensures out_is_empty { OnOk result (out.new.items ≡ []) }
-    ensures capacity { deque_capacity row.new ≡ deque_capacity row.old }
+        (standing connection.old) (standing connection.new) result }
+    ensures capacity { OnOk result
+        (deque_capacity connection.new.row ≡ deque_capacity connection.old.row) }
 {
-    'rows: loop {
-        begin_row(feeder, calls, row);
-        if row.is_empty() {
-            return Ok(Turn::Partial);
+    'turns: loop {
+        connection.begin(calls);
+        if connection.is_idle() {
+            return Ok(());
         }
-        match answer_row(writer, calls, row, out) {
-            Ok(false) => {}
-            Ok(true) => return Ok(Turn::Ended),
-            Err(error) => return Err(ConnectionError::Writer(error)),
-        }
+        answer_all(connection, writer, calls)?;
     }
 }
 
@@ -127,25 +170,27 @@ pub fn serve_connection<R: Read, W: Write, C: Calls>(
     writer: &mut W,
     calls: &mut C,
 ) -> Result<(), ConnectionError>
-    ensures { Connection C.began C.finished C.gave_up
+    ensures { whole.Connection C.began C.finished C.gave_up
         (R.remaining reader.old) (R.remaining reader.new)
         (W.contents writer.old) (W.contents writer.new)
         calls.old calls.new result }
 {
     let mut room = room_of(alloc, PIECE)?;
-    let mut row = VecDeque::with_capacity(alloc, MOST_HELD)?;
-    let mut out = Vec::with_capacity(alloc, ROOM)?;
-    let mut feeder = Feeder::new(alloc);
+    let mut connection: Connection<C::Held> = Connection::new(alloc);
+    connection.make_room()?;
     'reads: for _ in 0..u64::MAX {
         let len = read_piece(reader, &mut room)?;
         if len == 0 {
             return Ok(());
         }
         let (piece, _) = room.split_at(len);
-        feeder.feed(piece)?;
-        match reply_all(&mut feeder, writer, calls, &mut row, &mut out)? {
-            Turn::Partial => {}
-            Turn::Ended => return Ok(()),
+        connection.receive(piece)?;
+        match take_turns(&mut connection, writer, calls) {
+            Ok(()) => {}
+            Err(error) => return Err(ConnectionError::Writer(error)),
+        }
+        if connection.has_ended() {
+            return Ok(());
         }
     }
     let error = io::Error::from(io::ErrorKind::TimedOut);

@@ -3,8 +3,10 @@
 
 pub mod calls;
 pub mod connection;
+pub mod exchange;
 mod outgoing;
 mod row;
 
 pub use calls::Calls;
 pub use connection::{ConnectionError, serve_connection};
+pub use exchange::{Answered, Connection, Stage};

@@ -1,13 +1,12 @@
-//! Replies that are gathered, and written together.
+//! Replies that are gathered, to be written together.
 
-ghost use Rattle.std.specs.Prelude.{◌≡◌, ◌≤◌, ◌++◌, [], true, false, vec_len, OnOk};
-ghost use Rattle.wire_frames.specs.Replies.{Writes, reply_frame};
-ghost use Rattle.connections.specs.Progress.{Sends};
+ghost use Rattle.std.specs.Prelude.{◌≡◌, ◌≤◌, ◌++◌, [], true, false, drop, length};
+ghost use Rattle.wire_frames.specs.Replies.{reply_frame};
 
 use map_types::{Refusal, Reply, Text};
-use std::io;
-use std::io::Write;
-use wire_frames::{write_reply, write_whole};
+use std::alloc::{AllocError, Global};
+use std::marker::Model;
+use wire_frames::write_reply;
 
 /// The longest reply: its length, its status, and a text with its kind and length.
 const LONGEST_REPLY: usize = 2 + 1 + 1 + 2 + Text::MOST_BYTES;
@@ -18,22 +17,90 @@ pub(crate) const ROOM: usize = 65536;
 /// The most bytes beside which the longest reply has room.
 pub(crate) const MOST_LEFT: usize = ROOM - LONGEST_REPLY;
 
-/// Writes what was gathered, by one write if the writer takes all of it.
-pub(crate) fn write_out<W: Write>(writer: &mut W, out: &mut Vec<u8>) -> io::Result<()>
-    ensures written { Writes (W.contents writer.old) (W.contents writer.new)
-        result out.old.items }
-    ensures empty { out.new.items ≡ [] }
-{
-    let written = if out.is_empty() {
-        Ok(())
-    } else {
-        write_whole(writer, out)
-    };
-    out.clear();
-    written
+/// Replies that were made and are not written yet.
+#[derive(Drop)]
+pub(crate) struct Outgoing {
+    bytes: Vec<u8>,
+    start: usize,
 }
 
-/// Gathers a reply. If no memory is found for it, what was gathered stays, and it returns `false`.
+impl Model for Outgoing {
+    ghost use Rattle.std.specs.Prelude.{ℕ, List, ◌≤◌, drop, vec_len};
+
+    ghost Value = { List ℕ };
+
+    ghost view = { λ o. drop o.start o.bytes.items };
+
+    ghost invariant = { λ o. o.start ≤ vec_len o.bytes };
+}
+
+impl Outgoing {
+    pub(crate) fn new(alloc: Global) -> Outgoing
+        ensures { result ≡ [] }
+    {
+        Outgoing {
+            bytes: Vec::new(alloc),
+            start: 0,
+        }
+    }
+
+    /// Gets room for this many more bytes.
+    pub(crate) fn reserve(&mut self, room: usize) -> Result<(), AllocError>
+        ensures { self.new ≡ self.old }
+    {
+        self.bytes.reserve(room)
+    }
+
+    pub(crate) fn len(&self) -> usize
+        ensures { result ≡ length self.now }
+    {
+        self.bytes.len() - self.start
+    }
+
+    pub(crate) fn is_empty(&self) -> bool
+        ensures empty { self.now ≡ [] → result ≡ true }
+        ensures none { result ≡ true → length self.now ≡ 0 }
+    {
+        self.len() == 0
+    }
+
+    pub(crate) fn bytes(&self) -> &[u8]
+        ensures { result.now ≡ self.now }
+    {
+        &self.bytes[self.start..]
+    }
+
+    /// Puts a reply behind the others. If no memory is found for it, nothing changes, and it
+    /// returns `false`.
+    pub(crate) fn gather(&mut self, answer: &Result<Reply, Refusal>) -> bool
+        ensures gathered { result ≡ true → self.new ≡ self.old ++ reply_frame answer.now }
+        ensures refused { result ≡ false → self.new ≡ self.old }
+    {
+        gather(&mut self.bytes, answer)
+    }
+
+    /// Lets go of all bytes, which were written.
+    pub(crate) fn clear(&mut self)
+        ensures { self.new ≡ [] }
+    {
+        self.bytes.clear();
+        self.start = 0;
+    }
+
+    /// Lets go of the first bytes, which were written.
+    pub(crate) fn sent(&mut self, count: usize)
+        requires { count ≤ length self.old }
+        ensures { self.new ≡ drop count self.old }
+    {
+        self.start += count;
+        if self.start == self.bytes.len() {
+            self.bytes.clear();
+            self.start = 0;
+        }
+    }
+}
+
+/// Puts a reply behind the bytes. If no memory is found for it, they stay, and it returns `false`.
 fn gather(out: &mut Vec<u8>, answer: &Result<Reply, Refusal>) -> bool
     ensures gathered { result ≡ true → out.new.items ≡ out.old.items ++ reply_frame answer.now }
     ensures refused { result ≡ false → out.new.items ≡ out.old.items }
@@ -46,33 +113,4 @@ fn gather(out: &mut Vec<u8>, answer: &Result<Reply, Refusal>) -> bool
             false
         }
     }
-}
-
-/// Gathers a reply. If no memory is found for it, what was gathered is written, and then the reply.
-pub(crate) fn put_reply<W: Write>(
-    writer: &mut W,
-    out: &mut Vec<u8>,
-    answer: &Result<Reply, Refusal>,
-) -> io::Result<()>
-    ensures { Sends (W.contents writer.old) (W.contents writer.new)
-        (out.old.items ++ reply_frame answer.now) out.new.items result }
-{
-    if gather(out, answer) {
-        return Ok(());
-    }
-    write_out(writer, out)?;
-    write_reply(writer, answer)
-}
-
-/// Writes what was gathered, if the longest reply has no room beside it.
-#[tactic(auto, using(crate::proofs::Answering::sends_none, crate::proofs::Answering::sends_all))]
-pub(crate) fn make_room<W: Write>(writer: &mut W, out: &mut Vec<u8>) -> io::Result<()>
-    ensures sent { Sends (W.contents writer.old) (W.contents writer.new)
-        out.old.items out.new.items result }
-    ensures room { OnOk result (vec_len out.new ≤ MOST_LEFT) }
-{
-    if out.len() <= MOST_LEFT {
-        return Ok(());
-    }
-    write_out(writer, out)
 }

@@ -1,18 +1,15 @@
 //! A row of calls that are begun, and then answered in order.
 
-ghost use Rattle.std.specs.Prelude.{◌≡◌, ◌≢◌, ◌⊎◌, ◌<◌, ◌≤◌, ◌↔◌, [], map, vec_len, IsTrue, OnOk, true, false};
+ghost use Rattle.std.specs.Prelude.{◌≡◌, ◌≢◌, ◌⊎◌, ◌<◌, ◌≤◌, ◌↔◌, [], map, IsTrue, true, false};
 ghost use Rattle.std.specs.VecDeque.{deque_len, deque_capacity};
 ghost use Rattle.connections.specs.Dialogue.{ends};
-ghost use Rattle.connections.specs.Moves.{Starts, GivesUp, Makes, Leads};
+ghost use Rattle.connections.specs.Moves.{Starts, Answers, GivesUp, Makes, Leads};
 ghost use Rattle.connections.specs.Owning.{OwnsPlace, OwnsRow, StillOwns};
-ghost use Rattle.connections.specs.Progress.{BeginsNext, BeginsRow, Finishes, Replied, FinishesRow, AnswersRow};
+ghost use Rattle.connections.specs.Progress.{BeginsNext, BeginsRow};
 
 use crate::calls::Calls;
-use crate::outgoing::{MOST_LEFT, make_room, put_reply, write_out};
 use map_types::{Refusal, Reply};
 use std::collections::VecDeque;
-use std::io;
-use std::io::Write;
 use wire_frames::{Feeder, Request, whole_map_begins_bulk};
 
 /// The most places of a row.
@@ -28,7 +25,7 @@ pub(crate) enum Place<H> {
 }
 
 /// Whether the connection ends after this answer.
-fn ends(answer: &Result<Reply, Refusal>) -> bool
+pub(crate) fn ends(answer: &Result<Reply, Refusal>) -> bool
     ensures { result ≡ ends answer.now }
 {
     matches!(answer, Err(Refusal::BadFrame | Refusal::Failed))
@@ -83,8 +80,7 @@ fn begin_next<C: Calls>(
     calls: &mut C,
     row: &mut VecDeque<Place<C::Held>>,
 ) -> bool
-    // No refused length was met, and the row has room for one more.
-    requires opened { feeder.old.ended ≡ false }
+    // The row has room for one more, and what it holds is of these calls.
     requires room { deque_len row.old < deque_capacity row.old }
     requires owned { OwnsRow C.owns calls.old row.old.items }
 
@@ -92,6 +88,7 @@ fn begin_next<C: Calls>(
     ensures begun { BeginsNext C.began C.finished C.gave_up calls.old calls.new
         feeder.old feeder.new row.old.items row.new.items result }
     ensures owned { OwnsRow C.owns calls.new row.new.items }
+    ensures others { StillOwns C.owns calls.old calls.new }
     ensures capacity { deque_capacity row.new ≡ deque_capacity row.old }
 {
     whole_map_begins_bulk();
@@ -116,8 +113,7 @@ pub(crate) fn begin_row<C: Calls>(
     calls: &mut C,
     row: &mut VecDeque<Place<C::Held>>,
 )
-    // No refused length was met, and the row is empty and has its room.
-    requires opened { feeder.old.ended ≡ false }
+    // The row is empty and has its room.
     requires empty { row.old.items ≡ [] }
     requires room { MOST_HELD ≤ deque_capacity row.old }
 
@@ -125,6 +121,7 @@ pub(crate) fn begin_row<C: Calls>(
     ensures begun { BeginsRow C.began C.finished C.gave_up calls.old calls.new
         feeder.old feeder.new row.new.items }
     ensures owned { OwnsRow C.owns calls.new row.new.items }
+    ensures others { StillOwns C.owns calls.old calls.new }
     ensures capacity { deque_capacity row.new ≡ deque_capacity row.old }
 {
     'messages: while row.len() < MOST_HELD {
@@ -134,76 +131,24 @@ pub(crate) fn begin_row<C: Calls>(
     }
 }
 
-/// Answers what is in a place. If that may wait, it first writes what is to be written.
-fn finish<W: Write, C: Calls>(
-    writer: &mut W,
-    calls: &mut C,
-    out: &mut Vec<u8>,
-    place: Place<C::Held>,
-) -> io::Result<Result<Reply, Refusal>>
+/// Whether the answer of the first place will likely be had without a wait.
+pub(crate) fn may_finish_first<C: Calls>(calls: &C, row: &VecDeque<Place<C::Held>>) -> bool {
+    match row.front() {
+        Some(Place::Held(held)) => calls.may_finish(held),
+        _ => true,
+    }
+}
+
+/// Answers what is in a place.
+pub(crate) fn answer_of<C: Calls>(calls: &mut C, place: Place<C::Held>) -> Result<Reply, Refusal>
     requires owned { OwnsPlace C.owns calls.old place }
-    ensures finished { Finishes C.began C.finished C.gave_up
-        (W.contents writer.old) (W.contents writer.new)
-        calls.old calls.new place out.old.items out.new.items result }
+    ensures made { Makes C.began C.finished C.gave_up calls.old (Answers place result) calls.new }
     ensures others { StillOwns C.owns calls.old calls.new }
 {
     match place {
-        Place::Refused(refusal) => Ok(Err(refusal)),
-        Place::Held(held) => {
-            if !calls.may_finish(&held) {
-                if let Err(error) = write_out(writer, out) {
-                    calls.give_up(held);
-                    return Err(error);
-                }
-            }
-            Ok(calls.finish(held))
-        }
+        Place::Held(held) => calls.finish(held),
+        Place::Refused(refusal) => Err(refusal),
     }
-}
-
-/// Answers what is in a place, and says whether the reply ends the connection. The longest reply
-/// has room beside what is to be written then.
-fn reply<W: Write, C: Calls>(
-    writer: &mut W,
-    calls: &mut C,
-    out: &mut Vec<u8>,
-    place: Place<C::Held>,
-) -> io::Result<bool>
-    requires owned { OwnsPlace C.owns calls.old place }
-    ensures replied { Replied C.began C.finished C.gave_up
-        (W.contents writer.old) (W.contents writer.new)
-        calls.old calls.new place out.old.items out.new.items result }
-    ensures room { OnOk result (vec_len out.new ≤ MOST_LEFT) }
-    ensures others { StillOwns C.owns calls.old calls.new }
-{
-    let answer = finish(writer, calls, out, place)?;
-    put_reply(writer, out, &answer)?;
-    make_room(writer, out)?;
-    Ok(ends(&answer))
-}
-
-/// Answers the row in order, up to a reply that ends the connection.
-fn finish_row<W: Write, C: Calls>(
-    writer: &mut W,
-    calls: &mut C,
-    row: &mut VecDeque<Place<C::Held>>,
-    out: &mut Vec<u8>,
-) -> io::Result<bool>
-    requires owned { OwnsRow C.owns calls.old row.old.items }
-
-    // The first places are answered, and the others are left in the row.
-    ensures finished { FinishesRow C.began C.finished C.gave_up
-        (W.contents writer.old) (W.contents writer.new) calls.old calls.new
-        row.old.items row.new.items out.old.items out.new.items result }
-    ensures owned { OwnsRow C.owns calls.new row.new.items }
-    ensures capacity { deque_capacity row.new ≡ deque_capacity row.old }
-{
-    'answers: while let Some(place) = row.pop_front() {
-        if reply(writer, calls, out, place)? {
-            return Ok(true);
-        }
-    }
-    Ok(false)
 }
 
 /// Gives up what is in a place.
@@ -219,8 +164,9 @@ fn give_up<C: Calls>(calls: &mut C, place: Place<C::Held>)
 }
 
 /// Gives up what is left of the row, in order.
-fn give_up_row<C: Calls>(calls: &mut C, row: &mut VecDeque<Place<C::Held>>)
+pub(crate) fn give_up_row<C: Calls>(calls: &mut C, row: &mut VecDeque<Place<C::Held>>)
     requires owned { OwnsRow C.owns calls.old row.old.items }
+    ensures others { StillOwns C.owns calls.old calls.new }
 
     // Each place is given up, and the row is empty and keeps its room.
     ensures given { Leads C.began C.finished C.gave_up
@@ -231,32 +177,4 @@ fn give_up_row<C: Calls>(calls: &mut C, row: &mut VecDeque<Place<C::Held>>)
     'places: while let Some(place) = row.pop_front() {
         give_up(calls, place);
     }
-}
-
-/// Answers the row and writes the replies, up to a reply that ends the connection. The rest is
-/// given up.
-pub(crate) fn answer_row<W: Write, C: Calls>(
-    writer: &mut W,
-    calls: &mut C,
-    row: &mut VecDeque<Place<C::Held>>,
-    out: &mut Vec<u8>,
-) -> io::Result<bool>
-    // Nothing is left to be written, and what the row holds is of these calls.
-    requires out_is_empty { out.old.items ≡ [] }
-    requires owned { OwnsRow C.owns calls.old row.old.items }
-
-    // The first places are answered and written, and the others are given up.
-    ensures answered { AnswersRow C.began C.finished C.gave_up
-        (W.contents writer.old) (W.contents writer.new) calls.old calls.new row.old.items result }
-
-    // Nothing is held, nothing is left to be written, and the row keeps its room.
-    ensures row_is_empty { row.new.items ≡ [] }
-    ensures out_is_empty { OnOk result (out.new.items ≡ []) }
-    ensures capacity { deque_capacity row.new ≡ deque_capacity row.old }
-{
-    let finished = finish_row(writer, calls, row, out);
-    give_up_row(calls, row);
-    let is_last = finished?;
-    write_out(writer, out)?;
-    Ok(is_last)
 }

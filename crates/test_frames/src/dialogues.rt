@@ -149,6 +149,11 @@ impl Write for Room {
     }
 }
 
+/// A put of `a`, of 15 bytes, and its reply.
+const PUT: &[u8] = b"\x00\x0D\x10\x00\x01a\x01\x00\x00\x00\x00\x00\x00\x00\x05";
+
+const PUT_REPLY: &[u8] = b"\x00\x02\x00\x00";
+
 /// A put of `a` and a get of it, and their replies.
 const PUT_GET: &[u8] =
     b"\x00\x0D\x10\x00\x01a\x01\x00\x00\x00\x00\x00\x00\x00\x05\x00\x04\x01\x00\x01a";
@@ -175,11 +180,16 @@ const WHOLE_MAP: &[u8] =
 const WHOLE_MAP_REPLIES: &[u8] =
     b"\x00\x02\x00\x00\x00\x0A\x01\x01\x00\x00\x00\x00\x00\x00\x00\x01\x00\x0A\x01\x01\x00\x00\x00\x00\x00\x00\x00\x05\x00\x02\x85\x00\x00\x02\x89\x00";
 
-const DIALOGUES: [(&[u8], &[u8]); 5] = [
+/// The reply to a refused length, and to a request whose bytes are missing.
+const BAD_FRAME_REPLY: &[u8] = b"\x00\x02\x86\x00";
+
+const DIALOGUES: [(&[u8], &[u8]); 7] = [
     (PUT_GET, PUT_GET_REPLIES),
     (WHOLE_MAP, WHOLE_MAP_REPLIES),
     (REFUSED, REFUSED_REPLIES),
     (FAILED, FAILED_REPLIES),
+    (b"\x40\x01", BAD_FRAME_REPLY),
+    (b"\x00\x01\x10", BAD_FRAME_REPLY),
     (b"", b""),
 ];
 
@@ -191,7 +201,7 @@ fn is_answered<R: Read>(alloc: Global, reader: &mut R, replies: &[u8]) -> bool {
     served.is_ok() && writer.as_slice() == replies && calls.held == 0
 }
 
-// The same if they come in pieces of at most `most` bytes.
+// The same if they come in pieces of at most `most` bytes each.
 fn is_answered_in_pieces(alloc: Global, requests: &[u8], replies: &[u8], most: usize) -> bool {
     let mut reader = Pieces {
         left: requests,
@@ -202,7 +212,7 @@ fn is_answered_in_pieces(alloc: Global, requests: &[u8], replies: &[u8], most: u
     is_answered(alloc, &mut reader, replies)
 }
 
-fn is_answered_in_every_cutting(alloc: Global, requests: &[u8], replies: &[u8]) -> bool {
+fn is_answered_in_equal_pieces(alloc: Global, requests: &[u8], replies: &[u8]) -> bool {
     for most in 1..=requests.len() {
         if !is_answered_in_pieces(alloc, requests, replies, most) {
             return false;
@@ -216,13 +226,70 @@ fn is_answered_whole(alloc: Global, requests: &[u8], replies: &[u8]) -> bool {
     is_answered(alloc, &mut reader, replies)
 }
 
+/// A reader that ends a piece behind each byte whose bit in `cuts` is 1, the first byte's lowest.
+#[derive(Drop)]
+struct Cut<'a> {
+    left: &'a [u8],
+    cuts: u64,
+}
+
+impl Read for Cut<'_> {
+    fn read(&mut self, buf: &mut [u8]) -> io::Result<usize> {
+        let most = (self.cuts.trailing_zeros() as usize).saturating_add(1);
+        let len = self.left.len().min(most).min(buf.len());
+        let (front, rest) = self.left.split_at(len);
+        buf[..len].copy_from_slice(front);
+        self.left = rest;
+        self.cuts = self.cuts.checked_shr(len as u32).unwrap_or(0);
+        Ok(len)
+    }
+}
+
+fn is_answered_if_cut(alloc: Global, requests: &[u8], replies: &[u8], cuts: u64) -> bool {
+    let mut reader = Cut {
+        left: requests,
+        cuts,
+    };
+    is_answered(alloc, &mut reader, replies)
+}
+
+// The same for each second place of a cut.
+fn is_answered_if_cut_again(alloc: Global, requests: &[u8], replies: &[u8], first: u64) -> bool {
+    for second in 0..64u32 {
+        if !is_answered_if_cut(alloc, requests, replies, first | 1 << second) {
+            return false;
+        }
+    }
+    true
+}
+
+// The same for each pair of places among the first 64 bytes.
+fn is_answered_in_three_pieces(alloc: Global, requests: &[u8], replies: &[u8]) -> bool {
+    for first in 0..64u32 {
+        if !is_answered_if_cut_again(alloc, requests, replies, 1 << first) {
+            return false;
+        }
+    }
+    true
+}
+
 #[test]
-fn dialogues_in_every_cutting(rt: HostRuntime) {
+fn dialogues_in_pieces(rt: HostRuntime) {
     let alloc = rt.alloc();
     for (requests, replies) in DIALOGUES {
         let is_answered = is_answered_whole(alloc, requests, replies)
-            && is_answered_in_every_cutting(alloc, requests, replies);
+            && is_answered_in_equal_pieces(alloc, requests, replies)
+            && is_answered_in_three_pieces(alloc, requests, replies);
         assert!(rt; is_answered, "{requests:?}");
+    }
+}
+
+#[test]
+fn a_put_in_every_cutting(rt: HostRuntime) {
+    let alloc = rt.alloc();
+    for cuts in 0..1u64 << 14 {
+        let is_answered = is_answered_if_cut(alloc, PUT, PUT_REPLY, cuts);
+        assert!(rt; is_answered, "{cuts:b}");
     }
 }
 

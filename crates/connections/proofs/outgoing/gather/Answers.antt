@@ -1,5 +1,5 @@
 use Rattle.std.proofs.Common.{◌∙◌}
-use Rattle.connections.proofs.Answering.{gathered_stays}
+use Rattle.connections.proofs.Gathering.{gathered_stays}
 use Rattle.connections.proofs.outgoing.gather.Goals as goal
 
 pub returns-in-Err-clause-refused : goal.returns-in-Err-clause-refused
