@@ -3,6 +3,7 @@ ghost use Rattle.std.specs.Prelude.{◌≡◌, ◌-◌, ◌^◌, ◌⊎◌, min,
 ghost use Rattle.std.specs.FinMap as finite;
 ghost use Rattle.disk_model.specs.Calls.{Looks};
 ghost use Rattle.gate_log.specs.Scan.{failed_in};
+ghost use Rattle.store_layout.specs.Failures.{AreFilesRefused};
 ghost use Rattle.store_layout.specs.Opening.{Opened, Holds};
 ghost use Rattle.recovery.specs.LogReading.{contents_of};
 ghost use Rattle.recovery.specs.Opening.{IsNotOpened};
@@ -103,6 +104,7 @@ fn stripes_of<D: Disk>(alloc: Global, disk: &mut D, generation: u64) -> Result<u
     ensures err { D.honest disk.new → (found : Opened) → found.checkpoint.generation ≡ generation
         → Holds (contents_of D.states disk.old) found
         → IfErr result (λ refusal. (refusal ≡ Refusal.Failed) ⊎ (refusal ≡ Refusal.NoMemory)) }
+    ensures listed { IfErr result AreFilesRefused }
 {
     let file = (generation % 2) as usize;
     match load(alloc, disk, file)? {

@@ -125,14 +125,12 @@ impl<R: Clock + Log> Arrivals for Acceptor<'_, R> {
     }
 }
 
-// Says that the server listens: the line on `output`, and how many commands it begins with in the log.
-fn announce<W: Write, L: Log>(rt: &L, line: &str, first: u64, output: &mut W) -> io::Result<()>
+// Says by the line on `output` that the server listens.
+fn announce<W: Write>(line: &str, output: &mut W) -> io::Result<()>
     ensures { PrintsAtMost line.now (W.contents output.old) (W.contents output.new) }
 {
     write_whole(output, line.as_bytes())?;
-    output.flush()?;
-    info!(rt; "prefix {first}");
-    Ok(())
+    output.flush()
 }
 
 /// Binds the port, says so, and serves the map.
@@ -141,7 +139,7 @@ fn host<
     W: Write,
     E: Write,
     R: Net<Listener = TcpListener, Stream = TcpStream> + Clock + Log + Threads + Wait + Sync,
->(rt: &R, service: &Service<'_, D>, port: u16, first: u64, output: &mut W, error: &mut E) -> u8
+>(rt: &R, service: &Service<'_, D>, port: u16, output: &mut W, error: &mut E) -> u8
     ensures { Announces port (W.contents output.old) (W.contents output.new) result }
 {
     let alloc = service.alloc;
@@ -155,7 +153,7 @@ fn host<
             return break_off(error);
         }
     };
-    if let Err(cause) = announce(rt, line.as_str(), first, output) {
+    if let Err(cause) = announce(line.as_str(), output) {
         error!(rt; "standard output failed: {cause}");
         return break_off(error);
     }
@@ -169,8 +167,8 @@ fn host<
     }
 }
 
-/// Opens the disk, and serves its map, whose log is written ahead as the settings say. `first_error`
-/// tells of the disk.
+/// Opens the disk, says in a record with how many commands its map begins, and serves the map, whose
+/// log is written ahead as the settings say. `first_error` tells of the disk.
 pub(crate) fn serve_disk<
     D: Disk + Drop + Send,
     W: Write,
@@ -190,6 +188,7 @@ pub(crate) fn serve_disk<
 {
     match open_map(rt, alloc, disk, settings.stripes) {
         Ok((map, first)) => {
+            info!(rt; "prefix {first}");
             if let Err(refusal) = map.set_log_ahead(rt, settings.ahead as usize) {
                 return refuse(alloc, refusal, error);
             }
@@ -201,7 +200,7 @@ pub(crate) fn serve_disk<
                 workers: settings.workers,
                 idle: settings.idle,
             };
-            host(rt, &service, settings.port, first, output, error)
+            host(rt, &service, settings.port, output, error)
         }
         Err((_disk, refusal)) => {
             if let Some(cause) = first_error.get() {
@@ -220,9 +219,9 @@ pub(crate) fn serve_disk<
 /// The status is 2 with a text on `error` if the words aren't allowed. It is 1 with `unreadable` on
 /// `error` if the directory's lock or files, the port or `output` fail. It is 1 with `refused` and
 /// the refusal if the directory can't be opened or no memory is found. An Error record has the
-/// cause of what the system refused. Once it listens it prints `listening` and the port, and writes
-/// a record of how many commands the map begins with. An upgrade has a record too. If the store fails
-/// later, one Error record says why.
+/// cause of what the system refused. An upgrade has a record. Once the directory is open an Info
+/// record says how many commands the map begins with. Once it listens it prints `listening` and the
+/// port. If the store fails later, one Error record says why.
 pub fn serve<
     R: Net<Listener = TcpListener, Stream = TcpStream> + Clock + Log + Threads + Wait + Sync,
     M: Directories,

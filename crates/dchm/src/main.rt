@@ -1,14 +1,25 @@
 //! The program `dchm`.
 #![tactic(auto)]
 
+use cmd_text::{MISUSED, say};
 use map_server::dchm;
+use std::io::ErrorKind;
 use std::net::{TcpListener, TcpStream};
 use std::process::ExitCode;
 use std::{env, io};
 
 fn main(rt: HostRuntime) -> io::Result<ExitCode> {
+    let mut error = rt.stderr();
+    let given = match env::args(&rt) {
+        Ok(given) => given,
+        Err(cause) if cause.kind() == ErrorKind::InvalidData => {
+            say(&mut error, "the words have to be UTF-8\n");
+            return Ok(ExitCode::from(MISUSED));
+        }
+        Err(cause) => return Err(cause),
+    };
     let mut words = Vec::new(rt.alloc());
-    for word in env::args(&rt)? {
+    for word in given {
         words.push(word)?;
     }
     // The check of `main` covers only types that it names, and the runtime's sockets are among them.
@@ -16,7 +27,6 @@ fn main(rt: HostRuntime) -> io::Result<ExitCode> {
     let _stream: Option<TcpStream> = None;
     let mut input = rt.reader();
     let mut output = io::writer(&rt);
-    let mut error = rt.stderr();
     let status = dchm(
         &rt,
         &rt,

@@ -6,6 +6,6 @@ mod order;
 pub mod program;
 
 pub use cmd_serve::{Arrivals, Gate, NoGate, workers};
-pub use connections::{Calls, serve_connection};
+pub use connections::{Calls, ConnectionError, serve_connection};
 pub use host::Host;
 pub use program::dchm;

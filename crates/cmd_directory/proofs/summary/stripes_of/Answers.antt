@@ -1,6 +1,7 @@
-use Rattle.std.proofs.Common.{inl, inr, ◌∙◌}
+use Rattle.std.proofs.Common.{inl, inr, ◌%◌, ◌∙◌, arith}
 use Rattle.std.proofs.lemmas.Result.{err_from_is_err_and}
 use Rattle.checkpoint_file.specs.Loads.{checkpoint_of}
+use Rattle.store_layout.proofs.Refused.{of_files}
 use Rattle.recovery.specs.LogReading.{contents_of}
 use Rattle.cmd_directory.proofs.Summaries.{is_loadable, is_there, same_stripes}
 use Rattle.cmd_directory.proofs.summary.stripes_of.Goals as goal
@@ -24,3 +25,8 @@ returns-in-None-clause-err g c = λ honest found same holds.
     let none = rw c.in-None.is at (c.in_ok-loaded.ensures.none honest) in
     let there = is_there (contents_of g.D.Disk.states c.args.disk.now) found c.args.generation same holds in
     absurd (cc)
+
+pub returns-in_err-loaded-clause-listed : goal.returns-in_err-loaded-clause-listed
+returns-in_err-loaded-clause-listed g c =
+    let q = err_from_is_err_and c.from_residual.result c.from_residual.ensures.1 in
+    rw (q.1, q.2) (of_files (c.args.generation % 2) c.in_err-loaded.field-0.0 (omega arith) c.in_err-loaded.ensures.listed)

@@ -32,6 +32,7 @@ returns-in-Err-clause-err g c =
     let same = same_after g.D.Disk.states g.D.Disk.failures g.D.Disk.honest c.args.disk c.in_ok-disk.disk counted.looks in
     record {
       stopped = inr (looks_further g.D.Disk.states g.D.Disk.failures g.D.Disk.honest (failed_in {X = ℕ} (Err c.in-Err.refusal)) c.args.disk c.in_ok-disk.disk c.stripes_of.new.disk counted.looks c.in-Err.ensures.looks);
+      listed = c.in-Err.ensures.listed;
       reason = λ honest.
           let before = counted.counted (c.in-Err.ensures.looks.was_honest honest) in
           let found = before.1.0 in

@@ -14,7 +14,7 @@ use Rattle.cmd_serve.proofs.opening.open_map.Goals as goal
 pub returns-in_err-keeper-clause-err : goal.returns-in_err-keeper-clause-err
 returns-in_err-keeper-clause-err g c =
     let q = err_from_is_err_and c.from_residual.result c.from_residual.ensures.1 in
-    rw (q.1, q.2) (inr (not_opened c.args.disk (inl refl) (record { stopped = c.in_err-keeper.ensures.stopped; reason = c.in_err-keeper.ensures.err })))
+    rw (q.1, q.2) (inr (not_opened c.args.disk (inl refl) (record { stopped = c.in_err-keeper.ensures.stopped; listed = c.in_err-keeper.ensures.listed; reason = c.in_err-keeper.ensures.err })))
 
 pub returns-in_err-map-clause-err : goal.returns-in_err-map-clause-err
 returns-in_err-map-clause-err g c =
@@ -95,7 +95,7 @@ returns-in_err-keeper-2-clause-err g c =
     let up = upgrades states failures honest disk d u.upgraded is_earlier u.ensures.ok u.ensures.unfailing u.ensures.reads in
     let q = err_from_is_err_and c.from_residual-in_err-keeper-2.result c.from_residual-in_err-keeper-2.ensures.1 in
     let e = c.in_err-keeper-2.ensures in
-    rw (q.1, q.2) (inr (not_opened u.upgraded (inr up) (record { stopped = e.stopped; reason = e.err })))
+    rw (q.1, q.2) (inr (not_opened u.upgraded (inr up) (record { stopped = e.stopped; listed = e.listed; reason = e.err })))
 
 pub returns-in_err-map-2-clause-err : goal.returns-in_err-map-2-clause-err
 returns-in_err-map-2-clause-err g c =
