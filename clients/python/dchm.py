@@ -1,0 +1,535 @@
+"""A client of `dchm serve`, of Python's standard library alone.
+
+    import dchm
+    with dchm.connect(7411) as server:             # a port of this machine, or the path of a Unix socket
+        server.put("stock", 5)
+        left = server.merge("stock", dchm.SUM, -2)
+        with server.pipeline() as calls:           # sent together
+            calls.put("a", 1)
+            calls.get("a")
+        print(calls.replies)                       # [None, 1]; a call that failed stands there as its exception
+
+A key is a str of at most 4,095 bytes of UTF-8. A value is an int of 64 bits or a str of at most 4,096 bytes. Anything
+else is a TypeError, a ValueError or an OverflowError, and nothing is sent. What a call raises besides:
+
+    NotMade       nothing was sent, or the call changes nothing; it may be made again
+    Refused       the server refused; nothing changed. `number` says why, and 7 (NoMemory) alone may be tried again
+    Fault         the function faulted; nothing changed: WrongKind, TooLong, Overflow
+    OutcomeOpen   a change was sent and got no reply, or the store failed. It was made, may be made yet, or never is
+
+No change is ever sent twice.
+"""
+from __future__ import annotations
+
+import contextlib
+import os
+import socket
+import threading
+import time
+from collections.abc import Callable, Iterator, Sequence
+from typing import Any, Union
+
+Value = Union[int, str]
+Address = Union[int, str, "os.PathLike[str]"]
+
+CONST, DROP, KEEP, SUM, MAX, MIN, CONCAT, SUM_NONZERO, SUM_EXACT = range(1, 10)
+GET, GET_OR_DEFAULT, CONTAINS_KEY = 1, 2, 3
+PUT, PUT_IF_ABSENT, REMOVE, REMOVE_IF, REPLACE, REPLACE_IF = 16, 17, 18, 19, 20, 21
+COMPUTE, COMPUTE_IF_ABSENT, COMPUTE_IF_PRESENT, MERGE = 22, 23, 24, 25
+COUNT, REDUCE, SEARCH = 32, 33, 34
+
+KEY_LIMIT, TEXT_LIMIT = 4095, 4096
+REPLY_LIMIT = 4 + TEXT_LIMIT
+_HOST = "127.0.0.1"
+# How much is sent without a read: so much fits into both sockets, and neither side waits for the other.
+_MOST_AHEAD, _MOST_BYTES_AHEAD = 64, 32_768
+_REFUSED, _FAILED = 0x80, 0x89
+_BUFFER_BYTES = 65_536
+
+
+class DchmError(Exception):
+    """A call that has no result."""
+
+
+class NotMade(DchmError):
+    """Nothing was sent, or the call changes nothing. It may be made again."""
+
+
+class OutcomeOpen(DchmError):
+    """A change was sent and got no reply, or the store failed: it was made, may be made yet, or never is."""
+
+
+class Refused(DchmError):
+    """The server refused the call, and nothing changed. `number` says why; 7 alone may be tried again."""
+    number = 0
+
+
+class NullValue(Refused):
+    """Absent, where a value is needed."""
+    number = 1
+
+
+class KeyTooLong(Refused):
+    """A key above 4,095 bytes."""
+    number = 2
+
+
+class ValueTooLong(Refused):
+    """A text above 4,096 bytes."""
+    number = 3
+
+
+class UnknownMethod(Refused):
+    """The server doesn't know the method."""
+    number = 4
+
+
+class UnknownFunction(Refused):
+    """The server doesn't know the function, or not in this call."""
+    number = 5
+
+
+class BadFrame(Refused):
+    """The request is none; the server ends the connection."""
+    number = 6
+
+
+class NoMemory(Refused):
+    """The server found no memory. The call may be made again."""
+    number = 7
+
+
+class TicketsSpent(Refused):
+    """The store has made all the changes that it can; reads are still answered."""
+    number = 10
+
+
+class NotText(Refused):
+    """A key or a text that isn't UTF-8."""
+    number = 18
+
+
+class Fault(DchmError):
+    """The function faulted, and nothing changed."""
+
+
+class WrongKind(Fault, TypeError):
+    """The function doesn't take these values."""
+
+
+class TooLong(Fault, ValueError):
+    """The text would have more than 4,096 bytes."""
+
+
+class Overflow(Fault, OverflowError):
+    """The sum has more than 64 bits."""
+
+
+_FAULTS = {1: WrongKind, 2: TooLong, 3: Overflow}
+_REFUSALS = {kind.number: kind for kind in (NullValue, KeyTooLong, ValueTooLong, UnknownMethod, UnknownFunction, BadFrame,
+                                            NoMemory, TicketsSpent, NotText)}
+
+
+# ---- requests and replies
+
+
+def _text_bytes(text: str, limit: int) -> bytes:
+    data = text.encode()  # a lone surrogate is a UnicodeEncodeError, which is a ValueError
+    if len(data) > limit:
+        raise ValueError(f"{len(data)} bytes of UTF-8, and at most {limit} are allowed")
+    return len(data).to_bytes(2, "big") + data
+
+
+def _key_bytes(key: str) -> bytes:
+    if not isinstance(key, str):
+        raise TypeError(f"a key is a str, not {type(key).__name__}")
+    return _text_bytes(key, KEY_LIMIT)
+
+
+def _value_bytes(value: Value | None) -> bytes:
+    if value is None:
+        return b"\0"
+    if isinstance(value, int) and not isinstance(value, bool):
+        return b"\1" + value.to_bytes(8, "big", signed=True)
+    if not isinstance(value, str):
+        raise TypeError(f"a value is an int or a str, not {type(value).__name__}")
+    return b"\2" + _text_bytes(value, TEXT_LIMIT)
+
+
+def _needed(value: Value) -> bytes:
+    if value is None:
+        raise TypeError("a value is an int or a str, not None")
+    return _value_bytes(value)
+
+
+def _frame(*parts: bytes) -> bytes:
+    body = b"".join(parts)
+    return len(body).to_bytes(2, "big") + body
+
+
+def request(method: int, key: str, *values: Value | None, function: int | None = None) -> bytes:
+    """The frame of a request of a key. A value of None is sent as absent."""
+    named = b"" if function is None else bytes([function])
+    return _frame(bytes([method]), _key_bytes(key), named, *map(_value_bytes, values))
+
+
+def count_request() -> bytes:
+    """The frame of a request for the count of the whole map."""
+    return _frame(bytes([COUNT]))
+
+
+def reduce_request(function: int, threshold: int) -> bytes:
+    """The frame of a request to fold the whole map."""
+    return _frame(bytes([REDUCE, function]), threshold.to_bytes(8, "big"))
+
+
+def search_request(value: Value, threshold: int) -> bytes:
+    """The frame of a request for a key of the whole map."""
+    return _frame(bytes([SEARCH]), threshold.to_bytes(8, "big"), _needed(value))
+
+
+def _change(method: int, key: str, *values: Value, function: int | None = None) -> bytes:
+    """The frame of a request that needs its values."""
+    for value in values:
+        _needed(value)
+    return request(method, key, *values, function=function)
+
+
+def may_change(frame: bytes) -> bool:
+    """Whether the request may change the map, so that its outcome can be open."""
+    return PUT <= frame[2] <= MERGE
+
+
+def lost(frame: bytes, why: str) -> DchmError:
+    """What a request that was sent and got no reply comes to."""
+    return OutcomeOpen(why) if may_change(frame) else NotMade(why)
+
+
+def _value_of(body: bytes) -> Value | None:
+    kind = body[1]
+    if kind == 0 and len(body) == 2:
+        return None
+    if kind == 1 and len(body) == 10:
+        return int.from_bytes(body[2:], "big", signed=True)
+    if kind == 2 and len(body) >= 4 and len(body) == 4 + int.from_bytes(body[2:4], "big"):
+        return body[4:].decode()
+    raise ConnectionError("bytes that are no reply")
+
+
+def result(frame: bytes, body: bytes) -> Any:
+    """What the body of a reply says of its request: a value, a bool or an exception, which isn't raised.
+
+    A ConnectionError is raised if the body is none of a reply.
+    """
+    try:
+        status, value = body[0], _value_of(body)
+    except UnicodeDecodeError as error:
+        raise ConnectionError("bytes that are no reply") from error
+    if status < 2:
+        return value
+    if status == 2 and value in (0, 1):
+        return value == 1
+    if status == 3 and value in _FAULTS:
+        return _FAULTS[value](f"fault {value}")
+    if status == _FAILED and value is None:
+        return lost(frame, "refused 9 Failed: the store has failed; the server has to be restarted")
+    if status <= _REFUSED or value is not None:
+        raise ConnectionError("bytes that are no reply")
+    number = status - _REFUSED
+    refused = _REFUSALS.get(number, Refused)(f"refused {number} {_REFUSALS.get(number, Refused).__name__}")
+    refused.number = number
+    return refused
+
+
+# ---- the methods
+
+
+class Calls:
+    """The methods of the map. A change returns once it is durable."""
+
+    def _call(self, frame: bytes) -> Any:
+        raise NotImplementedError
+
+    def get(self, key: str) -> Value | None:
+        """The value of a key, or None."""
+        return self._call(request(GET, key))
+
+    def get_or_default(self, key: str, value: Value) -> Value:
+        """The value of a key, or this one."""
+        return self._call(_change(GET_OR_DEFAULT, key, value))
+
+    def contains(self, key: str) -> bool:
+        """Whether a key has a value."""
+        return self._call(request(CONTAINS_KEY, key))
+
+    def put(self, key: str, value: Value) -> Value | None:
+        """Maps a key to a value; returns the value before."""
+        return self._call(_change(PUT, key, value))
+
+    def put_if_absent(self, key: str, value: Value) -> Value | None:
+        """Maps a key to a value if it has none; returns the value before, so None if it was done.
+
+        If nobody else uses the value, it may be repeated after an open outcome.
+        """
+        return self._call(_change(PUT_IF_ABSENT, key, value))
+
+    def remove(self, key: str) -> Value | None:
+        """Unmaps a key; returns the value before."""
+        return self._call(request(REMOVE, key))
+
+    def remove_if(self, key: str, value: Value) -> bool:
+        """Unmaps a key if it has this value; returns whether it was done."""
+        return self._call(_change(REMOVE_IF, key, value))
+
+    def replace(self, key: str, value: Value) -> Value | None:
+        """Maps a key to another value if it has one; returns the value before."""
+        return self._call(_change(REPLACE, key, value))
+
+    def replace_if(self, key: str, old: Value, new: Value) -> bool:
+        """Maps a key to another value if it has the old one; returns whether it was done.
+
+        If the old value never comes back, it may be repeated after an open outcome.
+        """
+        return self._call(_change(REPLACE_IF, key, old, new))
+
+    def compute(self, key: str, function: int, argument: Value | None = None) -> Value | None:
+        """Maps a key to what the function gives of the old value and the argument; returns the new value."""
+        return self._call(request(COMPUTE, key, argument, function=function))
+
+    def compute_if_absent(self, key: str, function: int, argument: Value | None = None) -> Value | None:
+        """As compute, if the key has no value; returns the value that it has now."""
+        return self._call(request(COMPUTE_IF_ABSENT, key, argument, function=function))
+
+    def compute_if_present(self, key: str, function: int, argument: Value | None = None) -> Value | None:
+        """As compute, if the key has a value; returns the value that it has now."""
+        return self._call(request(COMPUTE_IF_PRESENT, key, argument, function=function))
+
+    def merge(self, key: str, function: int, value: Value) -> Value | None:
+        """Maps a key to the function of the old value and this one, or to this one; returns the new value."""
+        return self._call(_change(MERGE, key, value, function=function))
+
+    def count(self) -> int:
+        """How many keys have a value. The server copies its whole map for it."""
+        return self._call(count_request())
+
+    def reduce(self, function: int, threshold: int = 0) -> int | None:
+        """All values folded by SUM, MAX or MIN, or None of an empty map. It costs as much as count."""
+        return self._call(reduce_request(function, threshold))
+
+    def search(self, value: Value, threshold: int = 0) -> str | None:
+        """The least key, by its bytes, with this value, or None. It costs as much as count."""
+        return self._call(search_request(value, threshold))
+
+
+class Pipeline(Calls):
+    """Calls that are sent together. Each returns None; `replies` has their results once the block is left."""
+
+    def __init__(self) -> None:
+        self.frames: list[bytes] = []
+        self.replies: list[Any] = []
+
+    def _call(self, frame: bytes) -> None:
+        self.frames.append(frame)
+
+
+def _rows(frames: Sequence[bytes]) -> Iterator[list[bytes]]:
+    """The frames in rows, each of which may be sent without a read."""
+    row: list[bytes] = []
+    size = 0
+    for frame in frames:
+        if row and (len(row) == _MOST_AHEAD or size + len(frame) > _MOST_BYTES_AHEAD):
+            yield row
+            row, size = [], 0
+        row.append(frame)
+        size += len(frame)
+    if row:
+        yield row
+
+
+class Client(Calls):
+    """One connection. Threads may share it, and make one call at a time.
+
+    A connection that wasn't used for `idle` seconds is ended, and the next call opens another; so it is less than
+    --idle-seconds of the server. A read whose connection breaks is sent once more; a change never is.
+    """
+
+    def __init__(self, address: Address, timeout: float = 30, connect_timeout: float = 5, idle: float = 30) -> None:
+        self.address, self.timeout, self.connect_timeout, self.idle = address, timeout, connect_timeout, idle
+        self._lock = threading.Lock()
+        self._ended = threading.Condition(self._lock)
+        self._last_use = 0.0
+        self._socket: socket.socket | None = None
+        self._unread = b""
+        with self._lock:
+            self._connect()
+
+    # -- connecting
+
+    def _opened(self) -> socket.socket:
+        is_port = isinstance(self.address, int)
+        opened = socket.socket(socket.AF_INET if is_port else socket.AF_UNIX)
+        try:
+            opened.settimeout(self.connect_timeout)
+            opened.connect((_HOST, self.address) if is_port else os.fspath(self.address))
+            if is_port:
+                opened.setsockopt(socket.IPPROTO_TCP, socket.TCP_NODELAY, 1)
+        except BaseException:
+            opened.close()
+            raise
+        return opened
+
+    def _connect(self) -> None:
+        """Connects, and makes a Get of the empty key: its reply shows that the server serves this connection."""
+        probe = request(GET, "")
+        try:
+            self._socket = self._opened()
+            self._unread = b""
+            self._socket.sendall(probe)
+            told = result(probe, self._reply())
+            self._socket.settimeout(self.timeout)
+        except TimeoutError as error:
+            self._end()
+            raise NotMade(f"the server at {self.address} didn't serve the connection within {self.connect_timeout} s; "
+                          "all workers may be in use (--workers)") from error
+        except OSError as error:
+            self._end()
+            raise NotMade(f"no server at {self.address}: {error}") from error
+        except BaseException:
+            self._end()
+            raise
+        if isinstance(told, DchmError):
+            self._end()
+            raise NotMade(f"the server at {self.address} isn't ready: {told}") from told
+        self._last_use = time.monotonic()
+        if self.idle:
+            threading.Thread(target=self._end_if_idle, args=(self._socket,), daemon=True).start()
+
+    def _end_if_idle(self, mine: socket.socket) -> None:
+        with self._lock:
+            while self._socket is mine:
+                left = self._last_use + self.idle - time.monotonic()
+                if left <= 0:
+                    self._end()
+                else:
+                    self._ended.wait(left)
+
+    def _end(self) -> None:
+        if self._socket:
+            self._socket.close()
+        self._socket = None
+        self._ended.notify_all()
+
+    # -- calls
+
+    def _reply(self) -> bytes:
+        """The body of the next reply."""
+        assert self._socket
+        while True:
+            end = 2 + int.from_bytes(self._unread[:2], "big")
+            if len(self._unread) >= 2 and not 4 <= end <= 2 + REPLY_LIMIT:
+                raise ConnectionError("bytes that are no reply")
+            if 2 < end <= len(self._unread):
+                body, self._unread = self._unread[2:end], self._unread[end:]
+                return body
+            more = self._socket.recv(_BUFFER_BYTES)
+            if not more:
+                raise ConnectionError("the server ended the connection")
+            self._unread += more
+
+    def _has_ended(self) -> bool:
+        """Whether the server has ended the connection, or sent what nobody asked for."""
+        assert self._socket
+        if self._unread:
+            return True
+        self._socket.setblocking(False)
+        try:
+            self._socket.recv(1, socket.MSG_PEEK)
+            return True
+        except BlockingIOError:
+            return False
+        except OSError:
+            return True
+        finally:
+            self._socket.settimeout(self.timeout)
+
+    def _exchange(self, frames: list[bytes]) -> list[Any]:
+        """Sends frames of one row; returns their results, exceptions among them."""
+        if self._socket and self._has_ended():
+            self._end()
+        if not self._socket:
+            self._connect()
+        results: list[Any] = []
+        try:
+            self._last_use = time.monotonic()
+            self._socket.sendall(b"".join(frames))
+            for frame in frames:
+                results.append(result(frame, self._reply()))
+            self._last_use = time.monotonic()
+        except OSError as error:
+            self._end()
+            results += [lost(frame, f"it was sent, and no reply came: {error}") for frame in frames[len(results):]]
+        except BaseException:
+            # Such as KeyboardInterrupt: the next call must not take the replies of this one.
+            self._end()
+            raise
+        return results
+
+    def _call(self, frame: bytes) -> Any:
+        with self._lock:
+            found = self._exchange([frame])[0]
+            if isinstance(found, NotMade) and not self._socket:
+                found = self._exchange([frame])[0]
+        if isinstance(found, DchmError):
+            raise found
+        return found
+
+    @contextlib.contextmanager
+    def pipeline(self) -> Iterator[Pipeline]:
+        """Calls that are sent together when the block is left, 64 at a time. They aren't one change.
+
+        If no connection can be opened on the way, the calls from there on are NotMade.
+        """
+        calls = Pipeline()
+        yield calls
+        for row in _rows(calls.frames):
+            try:
+                with self._lock:
+                    calls.replies += self._exchange(row)
+            except NotMade as error:
+                calls.replies += [error] * len(row)
+
+    def update(self, key: str, function: Callable[[Value | None], Value | None]) -> Value | None:
+        """Maps a key to function(value or None); None unmaps it. Returns the new value.
+
+        A Get and a conditional change, again and again until no other change comes between: the function may be called
+        more than once. It ends with OutcomeOpen if one of its changes does.
+        """
+        while True:
+            old = self.get(key)
+            new = function(old)
+            if old is None:
+                is_done = new is None or self.put_if_absent(key, new) is None
+            else:
+                is_done = self.remove_if(key, old) if new is None else self.replace_if(key, old, new)
+            if is_done:
+                return new
+
+    def close(self) -> None:
+        """Ends the connection. A later call opens another."""
+        with self._lock:
+            self._end()
+
+    def __enter__(self) -> Client:
+        return self
+
+    def __exit__(self, *_: object) -> None:
+        self.close()
+
+
+def connect(address: Address, timeout: float = 30, connect_timeout: float = 5, idle: float = 30) -> Client:
+    """A client of the server at a port of this machine, or at the path of a Unix socket.
+
+    NotMade is raised if there is no server, its store has failed, or no worker of it is free within connect_timeout
+    seconds.
+    """
+    return Client(address, timeout, connect_timeout, idle)

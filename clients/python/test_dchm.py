@@ -1,0 +1,502 @@
+#!/usr/bin/env python3
+"""Tests of the clients for Python, against the real server and against tools/stand_in.py.
+
+Nothing is timed: a call that is to succeed has all the time it needs. The last line is `N passed, M failed`.
+"""
+import asyncio
+import contextlib
+import logging
+import os
+import re
+import sys
+import threading
+import time
+import unittest
+
+sys.dont_write_bytecode = True
+HERE = os.path.dirname(os.path.abspath(__file__))
+TOP = os.path.join(HERE, "..", "..")
+TOOLS = os.path.join(TOP, "tools")
+sys.path[:0] = [HERE, TOOLS]
+import dchm  # noqa: E402
+import dchm_async  # noqa: E402
+import plain  # noqa: E402
+import servers  # noqa: E402
+
+STAND_IN = os.path.join(TOOLS, "stand_in.py")
+PAGE = os.path.join(TOP, "docs", "PROTOCOL.md")
+# Seconds of which no slow machine comes near, and seconds for what never comes.
+LONG, SHORT = 120, 1
+PATIENT = {"timeout": LONG, "connect_timeout": LONG, "idle": LONG}
+MOST_TURNS, TURN_SECONDS = 1200, 0.05
+ROW = re.compile(r"\| `([0-9A-F]{4}[0-9A-F ]*)` \| `([0-9A-F]{4}[0-9A-F ]*)` \|")
+SMILE, HALF = "\U0001F600", "\ud83d"
+MADE = ("drop", "reset", "failed", "garbled", *(f"cut {count}" for count in range(12)))
+
+
+def comes(holds):
+    """Whether it holds within a bounded number of looks."""
+    for _ in range(MOST_TURNS):
+        if holds():
+            return True
+        time.sleep(TURN_SECONDS)
+    return False
+
+
+@contextlib.contextmanager
+def real(workers=16):
+    """The real server over an empty map: its port."""
+    with servers.temporary_directory() as room:
+        directory = os.path.join(room, "map")
+        servers.init(servers.PROGRAM, directory)
+        with servers.dchm(servers.PROGRAM, directory, workers) as (_, port):
+            yield port
+
+
+class StandIn:
+    """The stand-in: its address, and what it got."""
+
+    def __init__(self, room, address):
+        self.room, self.address = room, address
+
+    def frames(self, kind):
+        with open(os.path.join(self.room, "journal"), encoding="ascii") as journal:
+            return [words[2] for words in map(str.split, journal) if words[0] == kind]
+
+    def received(self, frame):
+        return self.frames("got").count(frame.hex().upper())
+
+
+@contextlib.contextmanager
+def stand_in(*rules, unix=False):
+    with servers.temporary_directory() as room:
+        socket = os.path.join(room, "socket")
+        words = [sys.executable, STAND_IN, "--journal", os.path.join(room, "journal"), *(["--unix", socket] if unix else [])]
+        with servers.process([*words, *rules], os.path.join(room, "errors")) as child:
+            said = servers.first_line(child).decode()
+            if not said.startswith("listening "):
+                raise RuntimeError(f"the stand-in said {said!r}")
+            yield StandIn(room, socket if unix else int(said.split()[1]))
+
+
+def sum_frame(key):
+    return dchm.request(dchm.MERGE, key, 1, function=dchm.SUM)
+
+
+def rows():
+    """The requests and replies in hexadecimal that the page of the protocol shows."""
+    with open(PAGE, encoding="utf-8") as page:
+        return [tuple(bytes.fromhex(cell) for cell in found.groups()) for found in map(ROW.search, page) if found]
+
+
+def told(reply):
+    """What a reply says, by the plain reading: a value, a bool, or the class of an exception."""
+    read = plain.Bytes(reply, 2)
+    status, value = read.number(1), read.value(may_be_absent=True)
+    if status < 3:
+        return value == 1 if status == 2 else value
+    return {1: TypeError, 2: ValueError, 3: OverflowError}[value] if status == 3 else dchm.Refused
+
+
+def call_of(server, body):
+    """What the public methods make of a request."""
+    method, key, arguments = plain.request_of(body)
+    calls = {1: server.get, 2: server.get_or_default, 3: server.contains, 16: server.put, 17: server.put_if_absent,
+             18: server.remove, 19: server.remove_if, 20: server.replace, 21: server.replace_if, 22: server.compute,
+             23: server.compute_if_absent, 24: server.compute_if_present, 25: server.merge}
+    if key is not None:
+        return calls[method](key, *arguments)
+    if method == dchm.COUNT:
+        return server.count()
+    return server.reduce(*arguments) if method == dchm.REDUCE else server.search(arguments[1], arguments[0])
+
+
+class Page(unittest.TestCase):
+    """Each row of docs/PROTOCOL.md that shows bytes: the client sends these, and says what the reply says."""
+
+    def test_each_row(self):
+        played = {"key": 0, "whole map": 0, "wrong": 0}
+        whole = sum(reply[2] < 0x80 and request[2] >= dchm.COUNT for request, reply in rows())
+        with stand_in() as there, dchm.connect(there.address, **PATIENT) as server:
+            for request, reply in rows():
+                kind = "wrong" if reply[2] >= 0x80 else "whole map" if request[2] >= dchm.COUNT else "key"
+                if kind == "whole map" and played[kind] == 0:
+                    self.renew(server, {"a": 5, "b": 7})
+                if kind == "whole map" and played[kind] == whole - 2:
+                    self.renew(server, {"a": 5, "c": "x"})
+                self.play(there, server, kind, request, reply)
+                played[kind] += 1
+        self.assertEqual(sum(played.values()), len(rows()))
+        self.assertTrue(played["key"] >= 18 and played["whole map"] >= 7 and played["wrong"] >= 11, played)
+
+    def renew(self, server, entries):
+        for key in ("a", "b", "c", "m", "n"):
+            server.remove(key)
+        for key, value in entries.items():
+            server.put(key, value)
+
+    def play(self, there, server, kind, request, reply):
+        if request == b"\0\0":
+            # No request of a client, so its reply alone is one of the page's.
+            self.assertIsInstance(dchm.result(b"\0\1\x20", reply[2:]), dchm.BadFrame)
+            return
+        try:
+            found = server._call(request) if kind == "wrong" else call_of(server, request[2:])
+        except dchm.DchmError as error:
+            found = error
+        wanted = told(reply)
+        if isinstance(wanted, type):
+            self.assertIsInstance(found, wanted, request.hex())
+        else:
+            self.assertEqual((type(found), found), (type(wanted), wanted), request.hex())
+        if kind == "wrong":
+            self.assertEqual(found.number, reply[2] - 0x80)
+        self.assertEqual((there.frames("got")[-1], there.frames("sent")[-1]), (request.hex().upper(), reply.hex().upper()))
+
+    def test_each_refusal_has_its_name(self):
+        with open(PAGE, encoding="utf-8") as page:
+            names = re.findall(r"^\| `([0-9A-F]{2})` (\w+) \|.*\| (\w+)[^|]*\|$", page.read(), re.MULTILINE)
+        self.assertGreaterEqual(len(names), 9)
+        change = dchm.request(dchm.REMOVE, "a")
+        for status, name, _ in names:
+            found = dchm.result(change, bytes([int(status, 16), 0]))
+            self.assertEqual(type(found).__name__, "OutcomeOpen" if name == "Failed" else name)
+
+    def test_bytes_that_are_no_reply(self):
+        for body in ("00", "0003", "000100", "0002000261", "0000000000", "02010000000000000002", "02020001FF",
+                     "03010000000000000004", "0400", "870000", "8701", "01020002616263", "01020001FF"):
+            with self.assertRaises(ConnectionError, msg=body):
+                dchm.result(dchm.request(dchm.GET, "a"), bytes.fromhex(body).ljust(2, b"\7"))
+
+
+class Methods(unittest.TestCase):
+    """What the methods do, against the real server."""
+
+    def setUp(self):
+        port = real()
+        self.port = port.__enter__()
+        self.addCleanup(port.__exit__, None, None, None)
+        self.server = dchm.connect(self.port, **PATIENT)
+        self.addCleanup(self.server.close)
+
+    def test_the_methods_are_those_of_the_map(self):
+        s = self.server
+        self.assertIsNone(s.put("a", 5))
+        self.assertEqual(s.get("a"), 5)
+        self.assertEqual(s.get_or_default("b", "x"), "x")
+        self.assertIs(s.contains("b"), False)
+        self.assertEqual(s.put_if_absent("a", 7), 5)
+        self.assertEqual(s.replace("a", -2**63), 5)
+        self.assertIs(s.replace_if("a", 5, 6), False)
+        self.assertIs(s.replace_if("a", -2**63, SMILE), True)
+        self.assertIs(s.remove_if("a", "x"), False)
+        self.assertEqual(s.remove("a"), SMILE)
+        self.assertEqual(s.merge("m", dchm.SUM, 1), 1)
+        self.assertEqual(s.merge("m", dchm.SUM, 1), 2)
+        self.assertEqual(s.compute("m", dchm.MAX, 9), 9)
+        self.assertEqual(s.compute_if_absent("n", dchm.CONST, "x"), "x")
+        self.assertIsNone(s.compute_if_present("n", dchm.DROP))
+        self.assertEqual((s.count(), s.reduce(dchm.SUM), s.search(9), s.search(8)), (1, 9, "m", None))
+        self.assertEqual(s.update("m", lambda number: number * 2), 18)
+        self.assertIsNone(s.update("m", lambda number: None))
+        self.assertEqual(s.update("m", lambda number: (number or 0) + 1), 1)
+        self.assertIsNone(s.put("k" * 4095, "x" * 4096))
+        self.assertEqual(s.count(), 2)
+
+    def test_what_no_server_can_hold_is_refused_before_it_is_sent(self):
+        s = self.server
+        for value, kind in ((2**63, OverflowError), (-2**63 - 1, OverflowError), (1.5, TypeError), (True, TypeError),
+                            (None, TypeError), (b"x", TypeError), ("x" * 4097, ValueError), ("\u00e9" * 2049, ValueError),
+                            (HALF, ValueError), ("a" + HALF, ValueError)):
+            for call in (lambda: s.put("a", value), lambda: s.put_if_absent("a", value), lambda: s.replace_if("a", value, 1),
+                         lambda: s.merge("a", dchm.CONST, value), lambda: s.search(value)):
+                self.assertRaises(kind, call)
+        for key, kind in (("k" * 4096, ValueError), ("\u00e9" * 2048, ValueError), (HALF, ValueError), (5, TypeError),
+                          (None, TypeError), (b"a", TypeError)):
+            self.assertRaises(kind, s.put, key, 1)
+            self.assertRaises(kind, s.get, key)
+        self.assertEqual(s.count(), 0)
+
+    def test_refusals_and_faults_are_exceptions(self):
+        s = self.server
+        self.assertRaises(dchm.UnknownFunction, s.reduce, dchm.CONCAT)
+        s.put("t", "x" * 4096)
+        s.put("n", 2**63 - 1)
+        self.assertRaises(dchm.WrongKind, s.merge, "t", dchm.SUM, 1)
+        self.assertRaises(dchm.TooLong, s.merge, "t", dchm.CONCAT, "y")
+        self.assertRaises(OverflowError, s.merge, "n", dchm.SUM_EXACT, 1)
+        self.assertEqual((s.get("t"), s.get("n")), ("x" * 4096, 2**63 - 1))
+
+    def test_a_pipeline_answers_in_order_and_never_stalls(self):
+        with self.server.pipeline() as calls:
+            for _ in range(1000):
+                calls.merge("a", dchm.SUM, 1)
+            calls.put("t", "x" * 4096)
+            calls.merge("t", dchm.SUM, 1)
+            for _ in range(1000):
+                calls.get("t")
+        self.assertEqual(calls.replies[:1000], list(range(1, 1001)))
+        self.assertIsInstance(calls.replies[1001], dchm.WrongKind)
+        self.assertEqual(calls.replies[1002:], ["x" * 4096] * 1000)
+
+    def test_updates_of_many_clients_and_threads_count_exactly(self):
+        def work(server):
+            for _ in range(25):
+                server.update("a", lambda number: (number or 0) + 1)
+                self.server.merge("b", dchm.SUM, 1)
+
+        with contextlib.ExitStack() as stack:
+            threads = [threading.Thread(target=work, args=(stack.enter_context(dchm.connect(self.port, **PATIENT)),))
+                       for _ in range(8)]
+            for thread in threads:
+                thread.start()
+            for thread in threads:
+                thread.join()
+        self.assertEqual((self.server.get("a"), self.server.get("b")), (200, 200))
+
+    def test_an_interrupted_call_leaves_no_reply_for_the_next(self):
+        self.server.put("a", 5)
+        reply = self.server._reply
+        self.server._reply = lambda: (_ for _ in ()).throw(KeyboardInterrupt)
+        self.assertRaises(KeyboardInterrupt, self.server.get, "a")
+        self.server._reply = reply
+        self.assertIs(self.server.contains("a"), True)
+
+    def test_a_closed_client_connects_again(self):
+        self.server.close()
+        self.assertIsNone(self.server.get("a"))
+
+
+class Outcomes(unittest.TestCase):
+    """What a client says of a server that stalls, breaks off and lies, and that it sends no change twice."""
+
+    def test_a_change_without_a_whole_reply_is_open_and_sent_once(self):
+        rules = {rule.replace(" ", ""): rule for rule in (*MADE, "unmade")}
+        with stand_in(*(f"merge {key} {rule}" for key, rule in rules.items())) as there:
+            with dchm.connect(there.address, **PATIENT) as server:
+                for key, rule in rules.items():
+                    with self.assertRaises(dchm.OutcomeOpen, msg=rule):
+                        server.merge(key, dchm.SUM, 1)
+                    self.assertEqual(server.get(key), None if rule == "unmade" else 1, rule)
+                    self.assertEqual(there.received(sum_frame(key)), 1, rule)
+
+    def test_a_change_that_stalls_is_open_and_sent_once(self):
+        with stand_in("merge a stall", "merge b late") as there, dchm.connect(there.address, **PATIENT) as server:
+            for key in "ab":
+                with dchm.connect(there.address, timeout=SHORT, connect_timeout=LONG) as hasty:
+                    self.assertRaises(dchm.OutcomeOpen, hasty.merge, key, dchm.SUM, 1)
+                self.assertTrue(comes(lambda: server.get(key) is not None), key)
+                self.assertEqual((server.get(key), there.received(sum_frame(key))), (1, 1))
+
+    def test_a_reply_that_comes_late_or_in_pieces_is_a_reply(self):
+        with stand_in("merge a held", "merge b bytewise") as there, dchm.connect(there.address, **PATIENT) as server:
+            with dchm.connect(there.address, **PATIENT) as other:
+                def let_go():
+                    return comes(lambda: there.received(sum_frame("a"))) and other.get("release")
+                release = threading.Thread(target=let_go)
+                release.start()
+                self.assertEqual(server.merge("a", dchm.SUM, 1), 1)
+                release.join()
+            self.assertEqual(server.merge("b", dchm.SUM, 1), 1)
+
+    def test_a_reply_to_no_request_ends_the_connection(self):
+        with stand_in("merge a twice") as there, dchm.connect(there.address, **PATIENT) as server:
+            self.assertEqual(server.merge("a", dchm.SUM, 1), 1)
+            self.assertTrue(comes(server._has_ended))
+            self.assertEqual(server.merge("a", dchm.SUM, 1), 2)
+
+    def test_a_refusal_for_want_of_memory_changes_nothing_and_may_be_tried_again(self):
+        with stand_in("merge a full") as there, dchm.connect(there.address, **PATIENT) as server:
+            self.assertRaises(dchm.NoMemory, server.merge, "a", dchm.SUM, 1)
+            self.assertEqual(there.received(sum_frame("a")), 1)
+            self.assertEqual(server.merge("a", dchm.SUM, 1), 1)
+
+    def test_a_read_without_a_reply_is_sent_once_more(self):
+        rules = {rule.replace(" ", ""): rule for rule in ("drop", "reset", "unmade", "cut 5", "garbled")}
+        with stand_in(*(f"get {key} {rule}" for key, rule in rules.items()), "get f failed") as there:
+            with dchm.connect(there.address, **PATIENT) as server:
+                for key, rule in rules.items():
+                    server.put(key, 1)
+                    self.assertEqual(server.get(key), 1, rule)
+                    self.assertEqual(there.received(dchm.request(dchm.GET, key)), 2, rule)
+                self.assertRaises(dchm.NotMade, server.get, "f")
+                self.assertEqual(there.received(dchm.request(dchm.GET, "f")), 1)
+
+    def test_an_update_is_not_tried_again_once_a_change_is_open(self):
+        with stand_in("replaceIf a drop") as there, dchm.connect(there.address, **PATIENT) as server:
+            server.put("a", 1)
+            self.assertRaises(dchm.OutcomeOpen, server.update, "a", lambda number: number + 1)
+            self.assertEqual(server.get("a"), 2)
+
+    def test_a_pipeline_that_breaks_tells_each_call(self):
+        with stand_in("put p5 drop") as there, dchm.connect(there.address, **PATIENT) as server:
+            with server.pipeline() as calls:
+                for number in range(100):
+                    calls.put(f"p{number}", number)
+                    calls.get(f"p{number}")
+            # The replies of the first calls may have come, and a row of 64 calls breaks; the others are made anew.
+            kinds = [type(reply) for reply in calls.replies]
+            self.assertEqual(len(kinds), 200)
+            self.assertEqual(kinds[10], dchm.OutcomeOpen)
+            self.assertEqual(kinds[11:64], [dchm.NotMade, dchm.OutcomeOpen] * 26 + [dchm.NotMade])
+            self.assertEqual(calls.replies[64:], [None if at % 2 == 0 else at // 2 for at in range(64, 200)])
+            for number in range(100):
+                self.assertLessEqual(there.received(dchm.request(dchm.PUT, f"p{number}", number)), 1)
+
+    def test_connecting_tells_why_it_failed(self):
+        with stand_in("get '' failed") as there:
+            with self.assertRaises(dchm.NotMade) as caught:
+                dchm.connect(there.address, **PATIENT)
+            self.assertIn("refused 9 Failed", str(caught.exception))
+            port = there.address
+            dchm.connect(port, **PATIENT).close()
+        self.assertRaises(dchm.NotMade, dchm.connect, port)
+        self.assertRaises(dchm.NotMade, dchm.connect, "/no/such/socket")
+
+    def test_a_server_that_serves_no_more_connections_is_told(self):
+        with real(workers=1) as port, dchm.connect(port, **PATIENT):
+            with self.assertRaises(dchm.NotMade) as caught:
+                dchm.connect(port, connect_timeout=SHORT)
+            self.assertIn("--workers", str(caught.exception))
+
+    def test_an_idle_client_frees_its_worker_and_comes_back(self):
+        with real(workers=1) as port, dchm.connect(port, timeout=LONG, connect_timeout=LONG, idle=SHORT) as first:
+            with dchm.connect(port, **PATIENT) as second:
+                self.assertIsNone(second.put("a", 1))
+            self.assertEqual(first.merge("a", dchm.SUM, 1), 2)
+
+    def test_the_end_of_an_idle_connection_by_the_server_is_no_error(self):
+        with stand_in("put a quit") as there, dchm.connect(there.address, **PATIENT) as server:
+            server.put("a", 1)
+            self.assertTrue(comes(server._has_ended))
+            self.assertEqual(server.merge("a", dchm.SUM, 1), 2)
+
+    def test_a_unix_socket_is_as_good_as_a_port(self):
+        with stand_in("merge b drop", "get c drop", unix=True) as there, dchm.connect(there.address, **PATIENT) as server:
+            self.assertEqual((server.put("a", 1), server.merge("a", dchm.SUM, 2), server.count()), (None, 3, 1))
+            self.assertRaises(dchm.OutcomeOpen, server.merge, "b", dchm.SUM, 1)
+            self.assertIsNone(server.get("c"))
+
+
+class Async(unittest.IsolatedAsyncioTestCase):
+    """The client for asyncio."""
+
+    async def test_tasks_share_a_connection(self):
+        with real() as port:
+            async with await dchm_async.connect(port, **PATIENT) as s:
+                replies = await asyncio.gather(*(s.merge("a", dchm.SUM, 1) for _ in range(1000)))
+                self.assertEqual(replies, list(range(1, 1001)))
+                with self.assertRaises(dchm.WrongKind):
+                    await s.merge("a", dchm.CONCAT, "x")
+                await asyncio.gather(*(s.put(f"t{number}", "x" * 4096) for number in range(300)))
+                self.assertEqual(await s.count(), 301)
+                with self.assertRaises(TypeError):
+                    await s.put("a", True)
+
+    async def test_the_rows_of_the_page_are_sent(self):
+        with stand_in() as there:
+            async with await dchm_async.connect(there.address, **PATIENT) as s:
+                for request, reply in rows():
+                    if reply[2] < 0x80 and request[2] < dchm.COUNT:
+                        await self.play(there, s, request, reply)
+                self.assertEqual((await s.count(), await s.search("x"), await s.search(1)), (2, "n", None))
+                await s.remove("n")
+                self.assertEqual(await s.reduce(dchm.SUM), 2**63 - 2)
+
+    async def play(self, there, s, request, reply):
+        method, key, arguments = plain.request_of(request[2:])
+        names = {1: "get", 2: "get_or_default", 3: "contains", 16: "put", 17: "put_if_absent", 18: "remove", 19: "remove_if",
+                 20: "replace", 21: "replace_if", 22: "compute", 23: "compute_if_absent", 24: "compute_if_present", 25: "merge"}
+        try:
+            found = await getattr(s, names[method])(key, *arguments)
+        except dchm.DchmError as error:
+            found = error
+        wanted = told(reply)
+        self.assertTrue(isinstance(found, wanted) if isinstance(wanted, type) else found == wanted, request.hex())
+        self.assertEqual((there.frames("got")[-1], there.frames("sent")[-1]), (request.hex().upper(), reply.hex().upper()))
+
+    async def test_what_is_under_way_is_told_when_a_connection_breaks(self):
+        with stand_in("merge a unmade") as there:
+            async with await dchm_async.connect(there.address, **PATIENT) as s:
+                got = await asyncio.gather(s.merge("a", dchm.SUM, 1), s.put("c", 1), s.get("c"), return_exceptions=True)
+                self.assertEqual([type(each) for each in got], [dchm.OutcomeOpen, dchm.OutcomeOpen, dchm.NotMade])
+                self.assertIsNone(await s.get("a"))
+                self.assertEqual(there.received(sum_frame("a")), 1)
+
+    async def test_a_change_that_stalls_is_open(self):
+        with stand_in("merge a stall") as there:
+            async with await dchm_async.connect(there.address, timeout=SHORT, connect_timeout=LONG) as s:
+                with self.assertRaises(dchm.OutcomeOpen):
+                    await s.merge("a", dchm.SUM, 1)
+                self.assertTrue(await self.answers(s))
+            self.assertTrue(comes(lambda: there.received(sum_frame("a"))))
+            self.assertEqual(there.received(sum_frame("a")), 1)
+
+    async def test_a_failed_store_and_garbled_replies(self):
+        with stand_in("merge a failed", "merge b garbled", "merge c full", "merge d cut 3") as there:
+            async with await dchm_async.connect(there.address, **PATIENT) as s:
+                for key, kind in (("a", dchm.OutcomeOpen), ("b", dchm.OutcomeOpen), ("c", dchm.NoMemory), ("d", dchm.OutcomeOpen)):
+                    with self.assertRaises(kind, msg=key):
+                        await s.merge(key, dchm.SUM, 1)
+                    # The connection of a failed store ends by itself.
+                    self.assertTrue(await self.answers(s), key)
+                    self.assertEqual(there.received(sum_frame(key)), 1)
+
+    async def answers(self, s):
+        for _ in range(MOST_TURNS):
+            with contextlib.suppress(dchm.NotMade):
+                await s.get("a")
+                return True
+        return False
+
+    async def test_a_cancelled_call_takes_no_reply_of_another(self):
+        with stand_in("get a held") as there:
+            async with await dchm_async.connect(there.address, **PATIENT) as s, \
+                    await dchm_async.connect(there.address, **PATIENT) as other:
+                await s.put("b", 7)
+                task = asyncio.create_task(s.get("a"))
+                while not there.received(dchm.request(dchm.GET, "a")):
+                    await asyncio.sleep(TURN_SECONDS)
+                task.cancel()
+                with self.assertRaises(asyncio.CancelledError):
+                    await task
+                behind = asyncio.create_task(s.get("b"))
+                await other.get("release")
+                self.assertEqual(await behind, 7)
+
+    async def test_an_idle_client_frees_its_worker_and_comes_back(self):
+        with real(workers=1) as port:
+            async with await dchm_async.connect(port, timeout=LONG, connect_timeout=LONG, idle=SHORT) as first:
+                async with await dchm_async.connect(port, **PATIENT) as second:
+                    self.assertIsNone(await second.put("a", 1))
+                self.assertEqual(await first.merge("a", dchm.SUM, 1), 2)
+
+    async def test_connecting_tells_why_it_failed(self):
+        with real(workers=1) as port:
+            async with await dchm_async.connect(port, **PATIENT):
+                with self.assertRaises(dchm.NotMade) as caught:
+                    await dchm_async.connect(port, connect_timeout=SHORT)
+                self.assertIn("--workers", str(caught.exception))
+        with self.assertRaises(dchm.NotMade):
+            await dchm_async.connect(port)
+
+    async def test_a_unix_socket_is_as_good_as_a_port(self):
+        with stand_in(unix=True) as there:
+            async with await dchm_async.connect(there.address, **PATIENT) as s:
+                self.assertEqual(await asyncio.gather(*(s.merge("a", dchm.SUM, 1) for _ in range(100))), list(range(1, 101)))
+
+
+def main():
+    if len(sys.argv) > 1:
+        servers.PROGRAM = os.path.abspath(sys.argv[1])
+    servers.end_by_signal()
+    logging.getLogger("asyncio").setLevel(logging.ERROR)
+    tests = unittest.defaultTestLoader.loadTestsFromModule(sys.modules["__main__"])
+    result = unittest.TextTestRunner(sys.stdout, verbosity=2).run(tests)
+    failed = len(result.failures) + len(result.errors)
+    print(f"{result.testsRun - failed} passed, {failed} failed")
+    return 1 if failed else 0
+
+
+if __name__ == "__main__":
+    sys.exit(main())
