@@ -1,5 +1,5 @@
 -- A connection that a blocking reader and writer drive.
-use Rattle.std.proofs.Common.{◌≡◌, ◌≢◌, ◌≤◌, ℕ, Bool, true, false, List, [], ◌∷◌, ◌++◌, length, map, take, Option, Some, None, Result, Ok, Err, refl, sym, ap, subst, ◌∙◌, append_assoc, arith, inl, inr}
+use Rattle.std.proofs.Common.{◌≡◌, ◌≢◌, ◌≤◌, ℕ, false, List, [], ◌∷◌, ◌++◌, length, map, take, Option, Some, None, Result, Err, refl, sym, ap, subst, ◌∙◌, append_assoc, arith, inl, inr}
 use Rattle.std.specs.List.{flat_map}
 use Rattle.std.specs.Io.KnownBytes.{Appends, Consumes}
 use Rattle.std.proofs.lemmas.List.{append-nil}
@@ -8,13 +8,13 @@ use Rattle.map_types.specs.declared.refusals.Refusal.{Refusal}
 use Rattle.wire_frames.specs.declared.requests.Request.{Request}
 use Rattle.wire_frames.specs.Messages.{FirstMessages, IsPartial}
 use Rattle.wire_frames.specs.Replies.{IsCut, reply_frame}
-use Rattle.wire_frames.specs.Held.{Feed, fed}
+use Rattle.wire_frames.specs.Held.{fed}
 use Rattle.wire_frames.proofs.Sent.{Appends-nil, Appends-then}
 use Rattle.wire_frames.proofs.Received.{Consumes-then}
 use Rattle.connections.specs.declared.row.Place.{Place}
 use Rattle.connections.specs.declared.exchange.Stage.{Stage}
 use Rattle.connections.specs.declared.exchange.Stage.TheVariants.{Open, Ended, GivenUp}
-use Rattle.connections.specs.Dialogue.{Answer, Dialogue, IsEnded, row, replies}
+use Rattle.connections.specs.Dialogue.{Answer, Dialogue, IsEnded, replies}
 use Rattle.connections.specs.declared.connection.ConnectionError.{ConnectionError}
 use Rattle.connections.specs.declared.connection.ConnectionError.TheVariants.{Reader, Writer, NoMemory}
 use Rattle.connections.specs.Connection.{EndedByReply, AllAnswered, CutOff, Connection}

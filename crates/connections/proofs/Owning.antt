@@ -1,8 +1,9 @@
 -- What is held in a row, as calls are begun and answered.
 use Rattle.std.proofs.Common.{◌≡◌, List, [], ◌∷◌, ◌++◌, subst, sym}
 use Rattle.connections.specs.declared.row.Place.{Place}
+use Rattle.connections.specs.declared.exchange.Connection.{Connection}
 use Rattle.connections.specs.declared.row.Place.TheVariants.{Held, Refused}
-use Rattle.connections.specs.Owning.{OwnsPlace, OwnsRow, StillOwns}
+use Rattle.connections.specs.Owning.{OwnsPlace, OwnsRow, OwnsEach, StillOwns}
 
 module _ {S H : Type 0} (owns : S → H → Type 0) where
   still_owns_place : (before after : S) (place : Place H) → StillOwns owns before after → OwnsPlace owns before place → OwnsPlace owns after place
@@ -29,3 +30,9 @@ module _ {S H : Type 0} (owns : S → H → Type 0) where
 
   pub owns_none : (state : S) (row : List (Place H)) → row ≡ [] → OwnsRow owns state row
   owns_none state row e = subst (λ (x : List (Place H)). OwnsRow owns state x) (sym e) tt
+
+  -- what is held of each connection stays owned while others are served
+  pub still_owns_each : (before after : S) (connections : List (Connection H)) → StillOwns owns before after → OwnsEach owns before connections → OwnsEach owns after connections
+  still_owns_each before after [] still p = tt
+  still_owns_each before after (connection ∷ connections) still p =
+      (still_owns_row before after connection.row.items still p.0, still_owns_each before after connections still p.1)

@@ -1,26 +1,24 @@
 -- What comes of a connection, step by step.
-use Rattle.std.proofs.Common.{◌≡◌, ◌≢◌, ◌⊎◌, ℕ, Bool, true, false, List, [], ◌∷◌, ◌++◌, map, take, drop, Option, Some, None, Result, Ok, Err, refl, sym, ap, subst, ◌∙◌, append_assoc, inl, inr}
+use Rattle.std.proofs.Common.{◌≡◌, ◌≢◌, ℕ, Bool, true, false, List, [], ◌∷◌, ◌++◌, map, Option, Some, Ok, Err, refl, sym, ap, subst, ◌∙◌, append_assoc, inl, inr}
 use Rattle.std.specs.List.{AllByRecursion, flat_map}
-use Rattle.std.proofs.lemmas.List.{append-nil, take-append-drop}
-use Rattle.std.proofs.lemmas.List.Concat.{flat_map-append}
+use Rattle.std.proofs.lemmas.List.{append-nil}
 use Rattle.map_types.specs.declared.refusals.Refusal.{Refusal}
 use Rattle.map_types.specs.declared.refusals.Refusal.TheVariants.{BadFrame}
-use Rattle.wire_frames.specs.declared.requests.Request.{Request}
-use Rattle.wire_frames.specs.Messages.{Message, Begins, FirstMessages, IsPartial, IsRefusedLength}
+use Rattle.wire_frames.specs.Messages.{Message, Begins, FirstMessages, IsRefusedLength}
 use Rattle.wire_frames.specs.Replies.{reply_frame}
 use Rattle.wire_frames.specs.Held.{Feed, fed, bytes_then}
 use Rattle.connections.specs.declared.row.Place.{Place}
 use Rattle.connections.specs.declared.row.Place.TheVariants.{Held, Refused}
 use Rattle.connections.specs.declared.exchange.Stage.{Stage}
 use Rattle.connections.specs.declared.exchange.Stage.TheVariants.{Open, Ended, GivenUp}
-use Rattle.connections.specs.Dialogue.{Answer, Call, Dialogue, IsEnded, ends, row, replies}
+use Rattle.connections.specs.Dialogue.{Answer, Call, Dialogue, IsEnded, ends, row}
 use Rattle.connections.specs.Connection.{GoesOn}
-use Rattle.connections.specs.Moves.{Move, Starts, Answers, GivesUp, StartsNone, IsRow, Stops, AllGiveUp, messages_of, outcomes, left_answer, calls_of, Makes, Leads}
-use Rattle.connections.specs.Past.{Past, Standing, IsPast, IsOpen, IsAnswered, KeepsRefusal, LastEnds, StandsAt, Taken, Grew, answers_of, no_past, with_moves, closed}
-use Rattle.connections.specs.Progress.{BeginsRow, EndsAt, Gives, IsFull, IsSteady, begin_moves, give_up_moves, messages_in, places_in}
-use Rattle.connections.proofs.MoveLists.{leads_then, messages-append, row_then, stops_then}
-use Rattle.connections.proofs.Rows.{full_dialogue, full_goes_on}
-use Rattle.connections.proofs.Streams.{begins_none, begins_then, begins_feed, first_then}
+use Rattle.connections.specs.Moves.{Move, Starts, Answers, GivesUp, StartsNone, IsRow, Stops, AllGiveUp, messages_of, outcomes, left_answer, calls_of}
+use Rattle.connections.specs.Past.{Past, Standing, IsPast, IsOpen, IsAnswered, KeepsRefusal, LastEnds, StandsAt, Taken, answers_of}
+use Rattle.connections.specs.Progress.{EndsAt, IsFull, IsSteady, begin_moves, give_up_moves, messages_in}
+use Rattle.connections.proofs.MoveLists.{messages-append}
+use Rattle.connections.proofs.Rows.{full_dialogue}
+use Rattle.connections.proofs.Streams.{begins_feed}
 use Rattle.connections.proofs.Turns.{Fits, row_goes, row_last, row_full, last_is_ended, full_of, front_of, none_bad}
 
 not_bad : (front : List Message) → AllByRecursion (λ (m : Message). m ≢ Err BadFrame) (front ++ Err BadFrame ∷ []) → ⊥

@@ -1,14 +1,15 @@
 -- What comes of a connection, step by step.
-use Rattle.std.proofs.Common.{◌≡◌, ◌⊎◌, ◌<◌, ℕ, suc, Bool, true, false, List, [], ◌∷◌, ◌++◌, length, take, drop, Result, Ok, Err, refl, sym, ap, subst, ◌∙◌, append_assoc, arith, inl, inr}
+use Rattle.std.proofs.Common.{◌≡◌, ◌⊎◌, ◌<◌, ℕ, suc, true, false, List, [], ◌∷◌, ◌++◌, length, take, drop, Result, Ok, Err, refl, sym, ap, subst, ◌∙◌, append_assoc, arith, inl, inr}
 use Rattle.std.specs.List.{AllByRecursion, AllZip, flat_map}
 use Rattle.std.proofs.lemmas.List.{append-nil, take-append-drop}
 use Rattle.std.proofs.lemmas.List.Concat.{flat_map-append}
 use Rattle.map_types.specs.declared.refusals.Refusal.{Refusal}
 use Rattle.map_types.specs.declared.refusals.Refusal.TheVariants.{BadFrame}
 use Rattle.wire_frames.specs.declared.requests.Request.{Request}
-use Rattle.wire_frames.specs.Messages.{Message, Begins, FirstMessages, IsPartial, Says, frame}
+use Rattle.wire_frames.specs.Messages.{Message, Begins, IsPartial, Says, frame}
 use Rattle.wire_frames.specs.Replies.{reply_frame}
 use Rattle.wire_frames.specs.Held.{Feed, fed}
+use Rattle.wire_frames.specs.Feed.{HasMessage}
 use Rattle.connections.specs.declared.row.Place.{Place}
 use Rattle.connections.specs.declared.row.Place.TheVariants.{Held, Refused}
 use Rattle.connections.specs.declared.exchange.Stage.{Stage}
@@ -189,6 +190,20 @@ module _ {S H : Type 0} (began : S → Request → Result H Refusal → S → Ty
           still (inr h) = h
       by [] e (inr (on, fewer, inl g)) = absurd (no_fewer old new g.1 on g.0 fewer)
       by [] e (inr (on, fewer, inr g)) = absurd (no_front g.1.0 g.1.1)
+
+  -- of an open feeder that has a message in hand, some is begun
+  pub message_begins : (s0 s1 : S) (old new : Feed) (places : List (Place H)) → BeginsRow began finished gave_up s0 s1 old new places → HasMessage old → places ≡ [] → ⊥
+  message_begins s0 s1 old new places (begun, same, in_row, leads, stops, gives) has none = by begun (sym none ∙ same) gives
+    where
+      by : (begun : List (Message × Place H)) → [] ≡ places_in begun → Gives old new (messages_in begun) → ⊥
+      by (one ∷ begun) e g = let no : [] ≡ one.1 ∷ places_in begun = e in cc
+      by [] e (inl g) = still g.2
+        where
+          still : (old.ended ≡ true) ⊎ IsPartial old.left → ⊥
+          still (inl h) = let no : true ≡ false = sym h ∙ has.0 in cc
+          still (inr h) = has.1 h
+      by [] e (inr (on, fewer, inl g)) = no_fewer old new g.1 on g.0 fewer
+      by [] e (inr (on, fewer, inr g)) = no_front g.1.0 g.1.1
 
   -- ---- growth
 

@@ -7,6 +7,7 @@ use Rattle.wire_frames.specs.declared.requests.Request.{Request}
 use Rattle.wire_frames.specs.Messages.{Message, Begins, FirstMessages}
 use Rattle.wire_frames.specs.Replies.{reply_frame}
 use Rattle.wire_frames.specs.Held.{Feed}
+use Rattle.wire_frames.specs.Feed.{HasMessage}
 use Rattle.connections.specs.declared.row.Place.{Place}
 use Rattle.connections.specs.declared.row.Place.TheVariants.{Held, Refused}
 use Rattle.connections.specs.declared.exchange.Stage.{Stage}
@@ -14,7 +15,7 @@ use Rattle.connections.specs.declared.exchange.Stage.TheVariants.{Open, Ended, G
 use Rattle.connections.specs.declared.exchange.Answered.{Answered}
 use Rattle.connections.specs.declared.exchange.Answered.TheVariants.{All, Paused, Late}
 use Rattle.connections.specs.declared.exchange.Connection.{Connection}
-use Rattle.connections.specs.Dialogue.{Answer, Call, Dialogue, ends}
+use Rattle.connections.specs.Dialogue.{Answer, Dialogue, ends}
 use Rattle.connections.specs.Moves.{Move, Starts, Answers, GivesUp, IsRow, Stops, Leads, messages_of, outcomes, calls_of}
 
 -- what a connection has received, what was done with its messages, and what of its replies is written
@@ -71,6 +72,10 @@ module _ {H : Type 0} where
   -- a connection that has received nothing
   abbrev pub fresh : Standing H
   fresh = record { feed = record { left = []; ended = false }; places = []; stage = Open; unsent = [] }
+
+  -- it is open, none of its calls is held, and a message is in hand: some is begun, if it has a row
+  abbrev pub MayBegin : Standing H → Type 0
+  MayBegin left = (left.stage ≡ Open) × (left.places ≡ []) × HasMessage left.feed
 
   -- ---- the moves
 

@@ -39,6 +39,11 @@ pub trait Calls {
         false
     }
 
+    /// The number that `finish` waits for, if it is known. It is a hint, and no clause speaks of it.
+    fn awaits(&self, _held: &Self::Held) -> Option<u64> {
+        None
+    }
+
     /// Answers a call that was begun.
     fn finish(&mut self, held: Self::Held) -> Result<Reply, Refusal>
         requires owned { owns self.old held }

@@ -7,7 +7,7 @@ ghost use Rattle.wire_frames.specs.Held.{fed};
 ghost use Rattle.wire_frames.specs.Replies.{reply_frame};
 ghost use Rattle.connections.specs.Moves.{GivesUp, Leads};
 ghost use Rattle.connections.specs.Owning.{OwnsRow, StillOwns};
-ghost use Rattle.connections.specs.Past.{Past, Standing, IsPast, Grew, IsAnswered, closed, fresh, no_past, standing, with_late, late_of};
+ghost use Rattle.connections.specs.Past.{Past, Standing, IsPast, Grew, IsAnswered, MayBegin, closed, fresh, no_past, standing, with_late, late_of};
 ghost use Rattle.connections.specs.Progress.{work};
 
 use crate::calls::Calls;
@@ -67,10 +67,11 @@ impl Answered {
 /// Whoever serves it may serve others with the same calls between any two of its methods.
 #[derive(Drop)]
 pub struct Connection<H> {
-    feeder: Feeder,
-    row: VecDeque<Place<H>>,
-    out: Outgoing,
-    stage: Stage,
+    pub(crate) alloc: Global,
+    pub(crate) feeder: Feeder,
+    pub(crate) row: VecDeque<Place<H>>,
+    pub(crate) out: Outgoing,
+    pub(crate) stage: Stage,
 }
 
 impl<H> Connection<H> {
@@ -80,6 +81,7 @@ impl<H> Connection<H> {
         ensures past { IsPast no_past (standing result) }
     {
         Connection {
+            alloc,
             feeder: Feeder::new(alloc),
             row: VecDeque::new(alloc),
             out: Outgoing::new(alloc),
@@ -143,14 +145,18 @@ impl<H> Connection<H> {
             (standing self.old) (standing self.new) }
 
         // Of an open connection that has room some message is begun, if a whole one is in hand.
+        ensures begins { MayBegin (standing self.old) → MOST_HELD ≤ deque_capacity self.old.row
+            → self.new.row.items ≢ [] }
         ensures partial { self.old.stage ≡ Stage.Open → self.old.row.items ≡ []
             → MOST_HELD ≤ deque_capacity self.old.row → self.new.row.items ≡ []
             → self.old.feeder.ended ≡ false → IsPartial self.new.feeder.left }
         ensures fewer { self.old.row.items ≡ [] → self.new.row.items ≢ []
             → work self.new.feeder < work self.old.feeder }
 
-        // While a call is held, nothing is done.
+        // While a call is held, or without room, nothing is done.
         ensures one_turn { self.old.row.items ≢ []
+            → (self.new ≡ self.old) × (calls.new ≡ calls.old) }
+        ensures no_room { deque_capacity self.old.row < MOST_HELD
             → (self.new ≡ self.old) × (calls.new ≡ calls.old) }
 
         // Nothing is answered, and it needs no memory.

@@ -1,6 +1,6 @@
 //! Replies that are gathered, to be written together.
 
-ghost use Rattle.std.specs.Prelude.{◌≡◌, ◌≤◌, ◌++◌, [], true, false, drop, length};
+ghost use Rattle.std.specs.Prelude.{◌≡◌, ◌≤◌, ◌++◌, [], true, false, drop, length, IfOk};
 ghost use Rattle.wire_frames.specs.Replies.{reply_frame};
 
 use map_types::{Refusal, Reply, Text};
@@ -62,6 +62,19 @@ impl Outgoing {
         ensures none { result ≡ true → length self.now ≡ 0 }
     {
         self.len() == 0
+    }
+
+    /// Whether it has the room of a buffer.
+    pub(crate) fn is_wide(&self) -> bool {
+        self.bytes.capacity() >= ROOM
+    }
+
+    /// The same bytes, in no more room than they need.
+    pub(crate) fn narrow(&self, alloc: Global) -> Result<Outgoing, AllocError>
+        ensures { IfOk result (λ narrow. narrow ≡ self.now) }
+    {
+        let bytes = Vec::from_slice(alloc, self.bytes())?;
+        Ok(Outgoing { bytes, start: 0 })
     }
 
     pub(crate) fn bytes(&self) -> &[u8]

@@ -139,6 +139,14 @@ pub(crate) fn may_finish_first<C: Calls>(calls: &C, row: &VecDeque<Place<C::Held
     }
 }
 
+/// The number that the answer of the first place waits for, if it is known.
+pub(crate) fn first_awaits<C: Calls>(calls: &C, row: &VecDeque<Place<C::Held>>) -> Option<u64> {
+    match row.front() {
+        Some(Place::Held(held)) => calls.awaits(held),
+        _ => None,
+    }
+}
+
 /// Answers what is in a place.
 pub(crate) fn answer_of<C: Calls>(calls: &mut C, place: Place<C::Held>) -> Result<Reply, Refusal>
     requires owned { OwnsPlace C.owns calls.old place }

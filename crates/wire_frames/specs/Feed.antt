@@ -13,6 +13,10 @@ IsFirst bytes Partial = IsPartial bytes
 IsFirst bytes Refused = IsRefusedLength bytes
 IsFirst bytes (Whole body rest) = IsBody body.now × (bytes ≡ frame body.now ++ rest.now)
 
+-- a whole frame or a refused length is in hand, and no message was its last
+abbrev pub HasMessage : Feed → Type 0
+HasMessage feed = (feed.ended ≡ false) × (IsPartial feed.left → ⊥)
+
 -- the message stands at the front of what was left: a frame, which is taken, or a refused length, after which nothing more comes
 abbrev pub Takes : Feed → Feed → Message → Type 0
 Takes old new message =

@@ -3,7 +3,7 @@
 ghost use Rattle.std.specs.Prelude.{◌≡◌, ◌⊎◌, ◌↔◌, true, false, [], IfNone, IfSome, IsTrue, OnOk, OnErr};
 ghost use Rattle.wire_frames.specs.Messages.{IsPartial, OneDivision, EveryDivision};
 ghost use Rattle.wire_frames.specs.Held.{fed};
-ghost use Rattle.wire_frames.specs.Feed.{BeginsBulk, IsFirst, Takes, WholeMapBeginsBulk};
+ghost use Rattle.wire_frames.specs.Feed.{BeginsBulk, HasMessage, IsFirst, Takes, WholeMapBeginsBulk};
 
 use crate::requests::{Request, has_bulk_method, read_request};
 use map_types::Refusal;
@@ -11,6 +11,7 @@ use std::alloc::{AllocError, Global};
 use std::marker::Model;
 
 /// What stands at the front of a stream.
+#[derive(Drop)]
 enum First<'a> {
     Partial,
     Refused,
@@ -93,6 +94,40 @@ impl Feeder {
         }
         self.compact();
         self.held.extend_from_slice(piece)
+    }
+
+    /// Whether a message is in hand, so that `next` gives one. It takes nothing.
+    pub fn has_message(&self) -> bool
+        ensures some { result ≡ true → HasMessage self.now }
+        ensures none { result ≡ false → (self.now.ended ≡ true) ⊎ IsPartial self.now.left }
+    {
+        if self.ended {
+            return false;
+        }
+        match first_of(&self.held[self.start..]) {
+            First::Partial => false,
+            First::Refused | First::Whole(..) => true,
+        }
+    }
+
+    /// Gives back room that what is left doesn't need; with nothing left it holds no memory. If no
+    /// memory is found to hold less, it keeps what it has.
+    pub fn trim(&mut self)
+        ensures { self.new ≡ self.old }
+    {
+        let left = self.held.len() - self.start;
+        if left == 0 {
+            self.held = Vec::new(self.alloc);
+            self.start = 0;
+            return;
+        }
+        if self.held.capacity() / 2 <= left {
+            return;
+        }
+        if let Ok(kept) = Vec::from_slice(self.alloc, &self.held[self.start..]) {
+            self.held = kept;
+            self.start = 0;
+        }
     }
 
     /// Whether the next whole frame begins with the method of a request of the whole map. It takes
