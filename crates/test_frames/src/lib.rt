@@ -9,3 +9,5 @@ mod complaints;
 mod dialogues;
 #[cfg(test)]
 mod rows;
+#[cfg(test)]
+mod turns;
