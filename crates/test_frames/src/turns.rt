@@ -1,5 +1,5 @@
 //! Turns of connections that share their calls, as an event loop takes them.
-use connections::{Answered, Buffer, Calls, Connection, Resting, Row};
+use connections::{Buffer, Calls, Connection, Resting, Row};
 use map_types::{Change, Refusal, Reply, Value};
 use std::alloc::Global;
 use std::test::Fail;
