@@ -1,5 +1,6 @@
 pub mod WholeMap
 pub mod Opening
+pub mod Reading
 pub mod Responding
 pub mod Serving
 pub mod Settings

@@ -1,14 +1,20 @@
-//! The server: the map of a directory is served on a port, by workers on threads of their own.
+//! The server: the map of a directory is served on a port, by workers that serve many connections each.
 #![tactic(auto)]
 
 pub mod begun;
+pub mod bells;
 pub mod bulk;
-mod idle;
+mod client;
+pub mod errands;
+pub mod event_loop;
 pub mod laws;
 mod opening;
 pub mod pool;
+pub mod seats;
 pub mod server;
 pub mod service;
+mod spares;
+mod turns;
 pub mod worker;
 
 pub use begun::Begun;

@@ -3,23 +3,22 @@ ghost use Rattle.std.specs.Prelude.{◌≡◌, IfErr};
 ghost use Rattle.cmd_serve.specs.Responding.{RespondsRightly};
 ghost use Rattle.cmd_serve.specs.WholeMap.{AnswersOf};
 
+use crate::bells::Bell;
 use crate::bulk::{Responds, Task, answer_of, respond_by};
-use crate::idle::{Patience, Sent, Taken};
+use crate::errands::{Office, run_errands};
+use crate::event_loop::{Desk, Seat, room_for_events};
+use crate::seats::{Doors, Furniture};
+use crate::service::Service;
 use crate::worker::{Gate, Worker};
-use crossbeam_channel::{Receiver, Sender, bounded};
 use disk_model::Disk;
-use durable_map::DurableMap;
+use log::{Log, warn};
 use map_types::{Refusal, Reply};
-use std::alloc::Global;
 use std::net::TcpStream;
 use std::sync::Wait;
-use std::sync::atomic::AtomicU64;
+use std::sync::atomic::{AtomicU64, AtomicUsize, Ordering};
 use std::thread;
 use std::thread::Threads;
-use std::time::{Clock, Duration};
-
-/// How many connections wait for a worker at most.
-const MOST_WAITING: usize = 64;
+use std::time::Clock;
 
 /// Where connections come from.
 pub trait Arrivals {
@@ -30,126 +29,178 @@ pub trait Arrivals {
 /// What the workers share.
 #[derive(Drop)]
 struct Pool<'a, D: Disk + Drop, G: Gate> {
-    alloc: Global,
-    map: &'a DurableMap<D>,
+    service: &'a Service<'a, D>,
     gate: &'a G,
     taken_up: AtomicU64,
-    // for how many seconds a client may be idle; 0 is for ever
-    idle: u32,
-    streams: Receiver<TcpStream, Global>,
+    // how many clients are served
+    open: AtomicUsize,
+    bells: &'a [Bell],
 }
 
-// Serves a connection to its end, or until its client was idle for too long.
-fn attend<D: Disk + Drop, G: Gate, R: Clock + Wait, A: Responds>(
+/// What a thread of the pool does.
+#[derive(Drop)]
+enum Job {
+    /// It serves clients.
+    Serve(Seat),
+    /// It answers the requests of the whole map.
+    Answer(Office),
+}
+
+// Serves the clients of a seat until no more come.
+fn serve_at<D: Disk + Drop, G: Gate, R: Clock + Wait, A: Responds>(
     rt: &R,
     pool: &Pool<'_, D, G>,
-    worker: &mut Worker<'_, D, G, R, A>,
-    stream: &TcpStream,
+    seat: Seat,
+    worker: Worker<'_, D, G, R, A>,
 ) {
-    let _ = stream.set_nodelay(true);
-    if pool.idle == 0 {
-        let _ = worker.serve(pool.alloc, &mut { stream }, &mut { stream });
+    let service = pool.service;
+    let alloc = service.alloc;
+    let Some(bell) = pool.bells.get(seat.place) else {
         return;
-    }
-    let limit = Duration::from_secs(u64::from(pool.idle));
-    if let Ok(patience) = Patience::new(rt, stream, limit) {
-        let mut sent = Sent {
-            patience: &patience,
-        };
-        let mut taken = Taken {
-            patience: &patience,
-        };
-        let _ = worker.serve(pool.alloc, &mut sent, &mut taken);
+    };
+    let (open, idle) = (&pool.open, service.idle);
+    let Ok(mut desk) = Desk::new(rt, alloc, service.map, seat, bell, open, worker, idle) else {
+        return;
+    };
+    if let Ok(mut events) = room_for_events(alloc) {
+        desk.serve(&mut events);
     }
 }
 
-// Serves connections until no more come. What befalls a connection ends that one alone.
-fn serve_each<D: Disk + Drop, G: Gate, R: Clock + Wait, A: Responds>(
+// Does a job, with a pass of its own.
+fn do_job<D: Disk + Drop, G: Gate, R: Clock + Wait, A: Responds>(
     rt: &R,
     pool: &Pool<'_, D, G>,
+    job: Job,
     responds: A,
 )
     requires { RespondsRightly A.is_ready A.replies responds }
 {
+    let service = pool.service;
     let made = Worker::new(
         rt,
-        pool.alloc,
+        service.alloc,
         responds,
-        pool.map,
+        service.map,
         pool.gate,
         &pool.taken_up,
     );
     let Ok(mut worker) = made else {
         return;
     };
-    for _ in rt.forever() {
-        let Ok(stream) = pool.streams.recv(rt) else {
-            return;
-        };
-        attend(rt, pool, &mut worker, &stream);
+    match job {
+        Job::Serve(seat) => serve_at(rt, pool, seat, worker),
+        Job::Answer(office) => run_errands(rt, service.alloc, &mut worker, &office, pool.bells),
     }
-    unreachable!()
 }
 
 // The same, with what finds the replies to requests of the whole map.
-fn serve_each_by<
+fn do_job_by<
     D: Disk + Drop,
     G: Gate,
     R: Clock + Wait,
     F: Fn(Task) -> Result<Reply, Refusal> + Drop,
->(rt: &R, pool: &Pool<'_, D, G>, by: F)
+>(rt: &R, pool: &Pool<'_, D, G>, job: Job, by: F)
     requires callable { F.IsAlwaysCallable by }
     requires right { (task : _) (answer : _) → F.post by task answer
         → AnswersOf task.view.map task.bulk answer }
 {
-    serve_each(rt, pool, respond_by(by));
+    do_job(rt, pool, job, respond_by(by));
 }
 
-// A worker's thread.
-fn work<D: Disk + Drop, G: Gate, R: Clock + Threads + Wait + Sync>(rt: &R, pool: &Pool<'_, D, G>) {
-    let alloc = pool.alloc;
-    serve_each_by(
+// A thread of the pool.
+fn work<D: Disk + Drop, G: Gate, R: Clock + Threads + Wait + Sync>(
+    rt: &R,
+    pool: &Pool<'_, D, G>,
+    job: Job,
+) {
+    let alloc = pool.service.alloc;
+    do_job_by(
         rt,
         pool,
+        job,
         move |task: Task| -> Result<Reply, Refusal>
             ensures { AnswersOf task.view.map task.bulk result }
         { answer_of(rt, alloc, &task) },
     );
 }
 
-// Hands each connection to the workers.
-fn hand_out<C: Arrivals, R: Wait>(rt: &R, accepted: &Sender<TcpStream, Global>, arrivals: &mut C) {
+/// Whether one more client may be served. The log has one record for as long as none may.
+fn has_room<D: Disk + Drop, G: Gate, L: Log>(
+    rt: &L,
+    pool: &Pool<'_, D, G>,
+    has_said: &mut bool,
+) -> bool {
+    let most = pool.service.connections;
+    if pool.open.load(Ordering::SeqCst) < most {
+        *has_said = false;
+        return true;
+    }
+    if !*has_said {
+        warn!(rt; "{most} connections are served, and no more are taken up");
+        *has_said = true;
+    }
+    false
+}
+
+// Hands each connection to the workers in turn. One above the limit is closed at once.
+fn hand_out<D: Disk + Drop, G: Gate, C: Arrivals, R: Log + Wait>(
+    rt: &R,
+    pool: &Pool<'_, D, G>,
+    doors: &mut Doors,
+    arrivals: &mut C,
+) {
+    let mut has_said = false;
     for _ in rt.forever() {
         let Some(stream) = arrivals.next() else {
             return;
         };
-        if accepted.send(rt, stream).is_err() {
-            return;
+        if has_room(rt, pool, &mut has_said) {
+            let _ = pool.open.fetch_add(1, Ordering::SeqCst);
+            if !doors.hand_in(rt, pool.bells, stream) {
+                return;
+            }
         }
     }
     unreachable!()
 }
 
-// Starts the workers, and hands the connections out. The workers end once the sender is dropped.
-fn employ<D: Disk + Drop + Send, G: Gate + Sync, C: Arrivals, R: Clock + Threads + Wait + Sync>(
+// Starts the threads, and hands the connections out. The threads end once the doors are closed.
+fn employ<
+    D: Disk + Drop + Send,
+    G: Gate + Sync,
+    C: Arrivals,
+    R: Clock + Log + Threads + Wait + Sync,
+>(
     rt: &R,
     pool: &Pool<'_, D, G>,
-    accepted: Sender<TcpStream, Global>,
+    furniture: Furniture,
     arrivals: &mut C,
-    count: usize,
 ) -> Result<(), Refusal>
     ensures { IfErr result (λ refusal. refusal ≡ Refusal.NoMemory) }
 {
+    let Furniture {
+        seats,
+        office,
+        doors,
+    } = furniture;
+    let mut doors = doors;
     let has_started = thread::scope(thread::scope_env(), rt, |scope| {
-        for _ in 0..count {
-            if scope.spawn(move || work(rt, pool)).is_err() {
-                drop(accepted);
-                return false;
+        let mut has_started = scope
+            .spawn(move || work(rt, pool, Job::Answer(office)))
+            .is_ok();
+        for seat in seats {
+            if has_started {
+                has_started = scope
+                    .spawn(move || work(rt, pool, Job::Serve(seat)))
+                    .is_ok();
             }
         }
-        hand_out(rt, &accepted, arrivals);
-        drop(accepted);
-        true
+        if has_started {
+            hand_out(rt, pool, &mut doors, arrivals);
+        }
+        doors.close(pool.bells);
+        has_started
     });
     if has_started {
         Ok(())
@@ -158,37 +209,33 @@ fn employ<D: Disk + Drop + Send, G: Gate + Sync, C: Arrivals, R: Clock + Threads
     }
 }
 
-/// Serves the connections with `count` workers, and returns once no more come and each that came has
-/// ended. Each worker takes one pass as it starts, and serves one connection after another with it; at
-/// most 64 more wait for a worker. A connection ends if its client is idle for `idle` seconds, that is,
-/// sends no whole request and takes no reply; 0 is for ever. Refused with `NoMemory` if a thread can't be
-/// started.
+/// Serves the connections with a worker at each seat, and returns once no more come and each that came
+/// has ended. Each worker takes one pass as it starts, and serves all its connections with it; one
+/// thread more, with a pass of its own, answers the requests of the whole map. A connection ends if its
+/// client is idle for as long as the service says, that is, sends no whole request and takes no reply.
+/// One that comes while as many are served as the service allows is closed at once. Refused with
+/// `NoMemory` if a thread can't be started.
 pub fn workers<
     D: Disk + Drop + Send,
     G: Gate + Sync,
     C: Arrivals,
-    R: Clock + Threads + Wait + Sync,
+    R: Clock + Log + Threads + Wait + Sync,
 >(
     rt: &R,
-    alloc: Global,
-    map: &DurableMap<D>,
+    service: &Service<'_, D>,
     gate: &G,
+    furniture: Furniture,
+    bells: &[Bell],
     arrivals: &mut C,
-    count: usize,
-    idle: u32,
 ) -> Result<(), Refusal>
     ensures { IfErr result (λ refusal. refusal ≡ Refusal.NoMemory) }
 {
-    let Ok((accepted, streams)) = bounded(alloc, MOST_WAITING) else {
-        return Err(Refusal::NoMemory);
-    };
     let pool = Pool {
-        alloc,
-        map,
+        service,
         gate,
         taken_up: AtomicU64::new(0),
-        idle,
-        streams,
+        open: AtomicUsize::new(0),
+        bells,
     };
-    employ(rt, &pool, accepted, arrivals, count)
+    employ(rt, &pool, furniture, arrivals)
 }

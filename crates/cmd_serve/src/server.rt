@@ -3,7 +3,7 @@ ghost use Rattle.std.specs.Prelude.{◌≡◌, IfOk, IfErr};
 ghost use Rattle.cmd_text.specs.Naming.{IsNamed};
 ghost use Rattle.cmd_text.specs.Printing.{PrintsAtMost};
 ghost use Rattle.cmd_serve.specs.Serving.{Announces, Hosts, ServesOn};
-ghost use Rattle.cmd_serve.specs.Settings.{AreNamed, IsWorkerCount};
+ghost use Rattle.cmd_serve.specs.Settings.{AreNamed, IsConnectionCount, IsWorkerCount};
 
 use crate::opening::open_map;
 use crate::pool::Arrivals;
@@ -35,6 +35,7 @@ pub struct ServerWords<'a> {
     pub port: &'a str,
     pub stripes: &'a str,
     pub workers: &'a str,
+    pub connections: &'a str,
     pub bytes: &'a str,
     pub idle: &'a str,
     pub ahead: &'a str,
@@ -46,8 +47,10 @@ pub(crate) struct Settings {
     pub port: u16,
     /// How many stripes the map is divided into.
     pub stripes: StripeCount,
-    /// How many connections are served at a time.
+    /// How many threads serve connections.
     pub workers: usize,
+    /// How many connections are served at a time.
+    pub connections: u32,
     /// The length of the log that begins a checkpoint.
     pub bytes: u64,
     /// For how many seconds a client may be idle; 0 is for ever.
@@ -61,6 +64,15 @@ fn workers_named(word: &str) -> Option<usize>
 {
     match word.parse::<usize>() {
         Ok(count) if count > 0 && count <= 64 => Some(count),
+        _ => None,
+    }
+}
+
+fn connections_named(word: &str) -> Option<u32>
+    ensures { IsNamed IsConnectionCount word.now result }
+{
+    match word.parse::<u32>() {
+        Ok(count) if count > 0 => Some(count),
         _ => None,
     }
 }
@@ -79,6 +91,9 @@ fn settings_named(words: &ServerWords<'_>) -> Result<Settings, &'static str>
     let Some(workers) = workers_named(words.workers) else {
         return Err("W is a number from 1 to 64\n");
     };
+    let Some(connections) = connections_named(words.connections) else {
+        return Err("C is a number from 1 to 4294967295\n");
+    };
     let Ok(bytes) = words.bytes.parse::<u64>() else {
         return Err("B is a number from 0 to 18446744073709551615\n");
     };
@@ -92,6 +107,7 @@ fn settings_named(words: &ServerWords<'_>) -> Result<Settings, &'static str>
         port,
         stripes,
         workers,
+        connections,
         bytes,
         idle,
         ahead,
@@ -103,19 +119,26 @@ fn settings_named(words: &ServerWords<'_>) -> Result<Settings, &'static str>
 struct Acceptor<'a, R: Clock + Log> {
     rt: &'a R,
     listener: &'a TcpListener,
+    // the log has a record that none can be accepted, since one last was at once
+    has_said: bool,
 }
 
 impl<R: Clock + Log> Arrivals for Acceptor<'_, R> {
-    // If none can be accepted, it tries again after a pause, and the log has one record of it.
+    // If none can be accepted, it tries again after a pause, and the log has one record of it for as
+    // long as it lasts.
     fn next(&mut self) -> Option<TcpStream> {
-        let mut has_said = false;
+        let mut has_waited = false;
         for stream in self.listener.incoming() {
             match stream {
-                Ok(stream) => return Some(stream),
+                Ok(stream) => {
+                    self.has_said = self.has_said && has_waited;
+                    return Some(stream);
+                }
                 Err(error) => {
-                    if !has_said {
+                    has_waited = true;
+                    if !self.has_said {
                         warn!(self.rt; "no connection can be accepted: {error}");
-                        has_said = true;
+                        self.has_said = true;
                     }
                     thread::sleep(self.rt, Duration::from_millis(ACCEPT_PAUSE));
                 }
@@ -160,6 +183,7 @@ fn host<
     let mut acceptor = Acceptor {
         rt,
         listener: &listener,
+        has_said: false,
     };
     match serve_map(rt, service, &NoGate, &mut acceptor) {
         Ok(()) => break_off(error),
@@ -198,6 +222,7 @@ pub(crate) fn serve_disk<
                 first_error: &first_error,
                 bytes: settings.bytes,
                 workers: settings.workers,
+                connections: settings.connections as usize,
                 idle: settings.idle,
             };
             host(rt, &service, settings.port, output, error)

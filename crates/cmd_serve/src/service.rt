@@ -1,13 +1,16 @@
 //! The loops of a map and the workers that serve it, each on a thread of its own.
 ghost use Rattle.std.specs.Prelude.{◌≡◌, IfErr};
 
+use crate::bells::Bell;
 use crate::pool::{Arrivals, workers};
+use crate::seats::furnish;
 use crate::worker::Gate;
 use disk_model::{Disk, FirstError};
 use durable_map::{DurableMap, Ends, checkpoint_loop, flush_loop};
 use log::{Log, error};
 use map_types::Refusal;
 use std::alloc::Global;
+use std::net::Net;
 use std::sync::Wait;
 use std::sync::atomic::{AtomicBool, Ordering};
 use std::thread;
@@ -27,28 +30,38 @@ pub struct Service<'a, D: Disk + Drop> {
     pub first_error: &'a FirstError,
     /// The length of the log that begins a checkpoint.
     pub bytes: u64,
-    /// How many connections are served at a time.
+    /// How many threads serve connections.
     pub workers: usize,
+    /// How many connections are served at a time.
+    pub connections: usize,
     /// For how many seconds a client may be idle; 0 is for ever.
     pub idle: u32,
 }
 
 /// What the threads of the two loops share beside their map.
 #[derive(Drop)]
-struct Ending {
+struct Ending<'a, D: Disk + Drop> {
+    map: &'a DurableMap<D>,
+    bells: &'a [Bell],
     has_ended: AtomicBool,
     has_told: AtomicBool,
 }
 
-impl Ends for Ending {
+impl<D: Disk + Drop> Ends for Ending<'_, D> {
     fn has_ended(&self) -> bool {
         self.has_ended.load(Ordering::SeqCst)
     }
+
+    fn turn_ended(&self) {
+        self.ring();
+    }
 }
 
-impl Ending {
-    fn new() -> Ending {
+impl<'a, D: Disk + Drop> Ending<'a, D> {
+    fn new(map: &'a DurableMap<D>, bells: &'a [Bell]) -> Ending<'a, D> {
         Ending {
+            map,
+            bells,
             has_ended: AtomicBool::new(false),
             has_told: AtomicBool::new(false),
         }
@@ -59,8 +72,17 @@ impl Ending {
         self.has_ended.store(true, Ordering::SeqCst);
     }
 
-    // Writes a record of why a loop ended, if it is the first that says that the store has failed.
+    // Wakes the workers that wait for what is durable by now.
+    fn ring(&self) {
+        for bell in self.bells {
+            bell.ring_for(self.map);
+        }
+    }
+
+    // Wakes the workers, and writes a record of why a loop ended, if it is the first that says that the
+    // store has failed.
     fn tell<L: Log>(&self, rt: &L, first_error: &FirstError, ended: Result<(), Refusal>) {
+        self.ring();
         let Err(refusal) = ended else {
             return;
         };
@@ -81,11 +103,15 @@ pub fn serve_map<
     D: Disk + Drop + Send,
     G: Gate + Sync,
     C: Arrivals,
-    R: Clock + Log + Threads + Wait + Sync,
+    R: Clock + Log + Net + Threads + Wait + Sync,
 >(rt: &R, service: &Service<'_, D>, gate: &G, arrivals: &mut C) -> Result<(), Refusal>
     ensures { IfErr result (λ refusal. refusal ≡ Refusal.NoMemory) }
 {
-    let ending = &Ending::new();
+    let Ok((furniture, bells)) = furnish(rt, service.alloc, service.workers) else {
+        return Err(Refusal::NoMemory);
+    };
+    let bells = bells.as_slice();
+    let ending = &Ending::new(service.map, bells);
     let has_started = thread::scope(thread::scope_env(), rt, |scope| {
         let flusher = scope.spawn(move || {
             let ended = flush_loop(rt, service.map, ending);
@@ -97,16 +123,7 @@ pub fn serve_map<
         });
         let has_started = flusher.is_ok()
             && keeper.is_ok()
-            && workers(
-                rt,
-                service.alloc,
-                service.map,
-                gate,
-                arrivals,
-                service.workers,
-                service.idle,
-            )
-            .is_ok();
+            && workers(rt, service, gate, furniture, bells, arrivals).is_ok();
         ending.end();
         has_started
     });

@@ -4,7 +4,6 @@ ghost use Rattle.stripe_locks.specs.Holding.{IsHeldAt};
 ghost use Rattle.stripe_locks.specs.Plays.{joining};
 ghost use Rattle.durable_map.specs.Durable.{Finishes};
 ghost use Rattle.durable_map.specs.Maps.{name_of_words, opening_of, stripe_count};
-ghost use Rattle.connections.specs.Connection.{Connection};
 ghost use Rattle.cmd_serve.specs.Serving.{Began, Finished, GaveUp, IsSameWorker, Owns};
 ghost use Rattle.cmd_serve.specs.Responding.{RespondsRightly};
 ghost use Rattle.cmd_serve.specs.WholeMap.{CompletesBulk};
@@ -12,12 +11,11 @@ ghost use Rattle.cmd_serve.specs.WholeMap.{CompletesBulk};
 use crate::begun::Begun;
 use crate::bulk::{Responds, Task};
 use bulk_tasks::view;
-use connections::{Calls, ConnectionError, serve_connection};
+use connections::Calls;
 use disk_model::Disk;
 use durable_map::DurableMap;
 use map_types::{Refusal, Reply};
 use std::alloc::Global;
-use std::io::{Read, Write};
 use std::marker::Model;
 use std::sync::Wait;
 use std::sync::atomic::{AtomicU64, Ordering};
@@ -182,21 +180,6 @@ impl<'a, D: Disk + Drop, G: Gate, R: Wait, A: Responds> Worker<'a, D, G, R, A> {
         let view = view(self.rt, self.alloc, self.map, &mut self.pass)?;
         self.responds.respond(Task { view, bulk })
     }
-
-    /// Serves a connection until it ends or breaks off.
-    pub fn serve<I: Read, O: Write>(
-        &mut self,
-        alloc: Global,
-        reader: &mut I,
-        writer: &mut O,
-    ) -> Result<(), ConnectionError>
-        ensures { Connection Began Finished GaveUp
-            (I.remaining reader.old) (I.remaining reader.new)
-            (O.contents writer.old) (O.contents writer.new)
-            self.old self.new result }
-    {
-        serve_connection(alloc, reader, writer, self)
-    }
 }
 
 impl<D: Disk + Drop, G: Gate, R: Wait, A: Responds> Calls for Worker<'_, D, G, R, A> {
@@ -225,6 +208,13 @@ impl<D: Disk + Drop, G: Gate, R: Wait, A: Responds> Calls for Worker<'_, D, G, R
         match begun {
             Begun::Call(_, held) => self.map.may_finish(held),
             Begun::View(..) => false,
+        }
+    }
+
+    fn awaits(&self, begun: &Begun) -> Option<u64> {
+        match begun {
+            Begun::Call(_, held) => Some(held.position().number()),
+            Begun::View(..) => None,
         }
     }
 

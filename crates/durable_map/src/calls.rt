@@ -11,6 +11,7 @@ use disk_model::Disk;
 use map_types::{Command, Read, Refusal, Reply};
 use std::sync::Wait;
 use stripe_locks::{Held, Pass, Released};
+use ticket_order::Position;
 
 impl<D: Disk + Drop> DurableMap<D> {
     /// Makes a change, whose reply is held until `finish` gives it out. It waits for the stripe of its
@@ -62,6 +63,11 @@ impl<D: Disk + Drop> DurableMap<D> {
     /// Whether `finish` will likely return without a wait. It is a hint, and makes no step.
     pub fn may_finish(&self, held: &Held) -> bool {
         self.stripes.may_release(held.position())
+    }
+
+    /// The same of a call whose position is this one.
+    pub fn may_finish_at(&self, position: Position) -> bool {
+        self.stripes.may_release(position)
     }
 
     /// Waits until the position of a call that was begun is durable, and gives its reply out. Any pass

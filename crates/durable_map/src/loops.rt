@@ -22,6 +22,10 @@ const LONG_SLEEP: u64 = 100;
 /// Says when a loop is to end.
 pub trait Ends {
     fn has_ended(&self) -> bool;
+
+    /// Is told after each turn of the log in which something was done: more may be durable. Left out it
+    /// does nothing.
+    fn turn_ended(&self) {}
 }
 
 // Whether the store can't go on after this refusal: a device call failed, or a file is full.
@@ -123,7 +127,10 @@ pub fn flush_loop<D: Disk + Drop, E: Ends, R: Wait>(
         }
         let has_waited = backoff.is_completed();
         match map.flush(rt, has_waited) {
-            (Ok(Turn::Worked), _) => backoff.reset(),
+            (Ok(Turn::Worked), _) => {
+                ends.turn_ended();
+                backoff.reset();
+            }
             (Ok(Turn::Rested | Turn::Awaited), committed) => map.rest(rt, &backoff, committed),
             (Err(refusal), committed) => {
                 if is_final(refusal) {

@@ -41,6 +41,9 @@ const STRIPES: &str = "16";
 /// The number of workers if no other is asked for.
 const WORKERS: &str = "4";
 
+/// How many connections are served at a time if no other number is asked for.
+const CONNECTIONS: &str = "10000";
+
 /// The length of the log that begins a checkpoint if no other is asked for.
 const BYTES: &str = "67108864";
 
@@ -167,7 +170,13 @@ fn serve_line<'a>(alloc: Global) -> Result<Command<'a>, AllocError>
         alloc,
         "workers",
         "W",
-        "How many connections are served at a time: from 1 to 64, 4 if left out",
+        "How many threads serve connections: from 1 to 64, 4 if left out",
+    );
+    let connections = option(
+        alloc,
+        "connections",
+        "C",
+        "How many connections are served at a time: 10000 if left out",
     );
     let bytes = option(
         alloc,
@@ -193,6 +202,7 @@ fn serve_line<'a>(alloc: Global) -> Result<Command<'a>, AllocError>
         .arg(port(alloc))?
         .arg(stripes(alloc))?
         .arg(workers)?
+        .arg(connections)?
         .arg(bytes)?
         .arg(idle)?
         .arg(ahead)
@@ -272,6 +282,7 @@ fn server_in<'a>(matches: &ArgMatches<'a>) -> ServerWords<'a>
         port: word_or(matches, "port", ""),
         stripes: word_or(matches, "stripes", STRIPES),
         workers: word_or(matches, "workers", WORKERS),
+        connections: word_or(matches, "connections", CONNECTIONS),
         bytes: word_or(matches, "checkpoint-bytes", BYTES),
         idle: word_or(matches, "idle-seconds", IDLE),
         ahead: word_or(matches, "log-ahead", AHEAD),

@@ -1,0 +1,61 @@
+//! What wakes the workers.
+
+use crate::begun::Begun;
+use crate::errands::Errand;
+use crossbeam_channel::Sender;
+use disk_model::Disk;
+use durable_map::DurableMap;
+use mio::{Registry, Token, Waker};
+use std::alloc::Global;
+use std::io;
+use std::sync::atomic::{AtomicU64, Ordering};
+use ticket_order::Position;
+
+/// The token of what wakes a worker.
+pub(crate) const WAKE: Token = Token(usize::MAX);
+
+/// What wakes a worker: for connections that come, and once the least position that it awaits is
+/// durable.
+#[derive(Drop)]
+pub struct Bell {
+    waker: Waker,
+    // the number of that position; 0 is for none
+    awaited: AtomicU64,
+}
+
+impl Bell {
+    /// The bell of the worker that waits with this registry.
+    pub(crate) fn new(registry: &Registry) -> io::Result<Bell> {
+        Ok(Bell {
+            waker: Waker::new(registry, WAKE)?,
+            awaited: AtomicU64::new(0),
+        })
+    }
+
+    /// Wakes the worker. If it can't be woken, it looks by itself after a while.
+    pub(crate) fn ring(&self) {
+        let _ = self.waker.wake();
+    }
+
+    /// The worker is to be woken once the position with this number is durable.
+    pub(crate) fn listen(&self, number: u64) {
+        self.awaited.store(number, Ordering::SeqCst);
+    }
+
+    /// The worker is awake.
+    pub(crate) fn rest(&self) {
+        self.awaited.store(0, Ordering::SeqCst);
+    }
+
+    /// Wakes the worker, if it waits for a position that is durable, or if the store has failed.
+    /// Nothing is asked of the system for one that waits for none.
+    pub(crate) fn ring_for<D: Disk + Drop>(&self, map: &DurableMap<D>) {
+        let number = self.awaited.load(Ordering::SeqCst);
+        if number == 0 || !map.may_finish_at(Position::new(number)) {
+            return;
+        }
+        if self.awaited.swap(0, Ordering::SeqCst) != 0 {
+            self.ring();
+        }
+    }
+}

@@ -1,0 +1,136 @@
+//! The seats of the workers, and the doors by which connections come to them.
+
+use crate::bells::Bell;
+use crate::errands::{Errand, Office};
+use crate::event_loop::Seat;
+use crossbeam_channel::{Sender, bounded};
+use log::{Log, warn};
+use mio::Poll;
+use std::alloc::{AllocError, Global};
+use std::io;
+use std::net::{Net, TcpStream};
+use std::sync::Wait;
+
+/// How many connections wait for a worker at most.
+const MOST_WAITING: usize = 64;
+
+/// Where connections are handed to the workers.
+#[derive(Drop)]
+pub struct Doors {
+    senders: Vec<Sender<TcpStream, Global>>,
+    // the worker whose turn it is
+    turn: usize,
+}
+
+impl Doors {
+    // The place of the worker whose turn it is. The turn of the next one comes next.
+    fn take_turn(&mut self) -> usize {
+        if self.turn >= self.senders.len() {
+            self.turn = 0;
+        }
+        let place = self.turn;
+        self.turn = place + 1;
+        place
+    }
+
+    /// Hands a connection to the next worker. One that could not start is passed over. It says whether
+    /// some worker took it.
+    pub(crate) fn hand_in<R: Wait>(&mut self, rt: &R, bells: &[Bell], stream: TcpStream) -> bool {
+        let mut offered = stream;
+        for _ in 0..self.senders.len() {
+            let place = self.take_turn();
+            if let (Some(sender), Some(bell)) = (self.senders.get(place), bells.get(place)) {
+                match sender.send(rt, offered) {
+                    Ok(()) => {
+                        bell.ring();
+                        return true;
+                    }
+                    Err(back) => offered = back.into_inner(),
+                }
+            }
+        }
+        false
+    }
+
+    /// No more connections come. Each worker is told.
+    pub(crate) fn close(self, bells: &[Bell]) {
+        drop(self);
+        for bell in bells {
+            bell.ring();
+        }
+    }
+}
+
+/// What the threads of the workers are handed as they start.
+#[derive(Drop)]
+pub struct Furniture {
+    pub(crate) seats: Vec<Seat>,
+    pub(crate) office: Office,
+    pub(crate) doors: Doors,
+}
+
+impl Furniture {
+    /// Adds a seat with what it waits with. The errands of its worker come by this sender.
+    fn add(
+        &mut self,
+        alloc: Global,
+        poll: Poll,
+        errands: &Sender<Errand, Global>,
+    ) -> Result<(), AllocError> {
+        let (door, streams) = bounded(alloc, MOST_WAITING)?;
+        let (way_back, back) = bounded(alloc, 1)?;
+        let seat = Seat {
+            place: self.seats.len(),
+            poll,
+            streams,
+            errands: errands.clone()?,
+            back,
+        };
+        self.seats.push(seat)?;
+        self.doors.senders.push(door)?;
+        self.office.ways_back.push(way_back)?;
+        Ok(())
+    }
+}
+
+/// What a worker waits with, and what wakes it.
+fn poll_and_bell<R: Net>(rt: &R) -> io::Result<(Poll, Bell)> {
+    let poll = Poll::new(rt)?;
+    let bell = Bell::new(poll.registry())?;
+    Ok((poll, bell))
+}
+
+/// Seats for so many workers, and their bells. If the system refuses what one waits with, there are no
+/// more, and the log has a record of it.
+pub(crate) fn furnish<R: Log + Net>(
+    rt: &R,
+    alloc: Global,
+    count: usize,
+) -> Result<(Furniture, Vec<Bell>), AllocError> {
+    let (sender, errands) = bounded(alloc, count)?;
+    let mut furniture = Furniture {
+        seats: Vec::new(alloc),
+        office: Office {
+            errands,
+            ways_back: Vec::new(alloc),
+        },
+        doors: Doors {
+            senders: Vec::new(alloc),
+            turn: 0,
+        },
+    };
+    let mut bells = Vec::new(alloc);
+    for made in 0..count {
+        match poll_and_bell(rt) {
+            Ok((poll, bell)) => {
+                furniture.add(alloc, poll, &sender)?;
+                bells.push(bell)?;
+            }
+            Err(cause) => {
+                warn!(rt; "no more than {made} workers can be had: {cause}");
+                break;
+            }
+        }
+    }
+    Ok((furniture, bells))
+}
