@@ -2,3 +2,4 @@ mod Between
 mod Crosses
 mod Opened
 mod Owning
+mod Queueing

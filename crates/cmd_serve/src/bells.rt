@@ -49,7 +49,7 @@ impl Bell {
 
     /// Wakes the worker, if it waits for a position that is durable, or if the store has failed.
     /// Nothing is asked of the system for one that waits for none.
-    pub(crate) fn ring_for<D: Disk + Drop>(&self, map: &DurableMap<D>) {
+    pub fn ring_for<D: Disk + Drop>(&self, map: &DurableMap<D>) {
         let number = self.awaited.load(Ordering::SeqCst);
         if number == 0 || !map.may_finish_at(Position::new(number)) {
             return;

@@ -2,10 +2,13 @@
 
 use crate::begun::Begun;
 use crate::bells::Bell;
+use crate::desk::Desk;
 use connections::{Calls, Resting, Row};
 use crossbeam_channel::{Receiver, Sender};
+use disk_model::Disk;
 use std::alloc::Global;
 use std::sync::Wait;
+use std::time::Clock;
 
 /// A connection whose next message asks something of the whole map, on its way to the thread that
 /// answers it, or back.
@@ -77,4 +80,76 @@ pub(crate) fn run_errands<C: Calls<Held = Begun>, R: Wait>(
         }
     }
     unreachable!()
+}
+
+impl<'a, D: Disk + Drop, R: Clock + Wait, C: Calls<Held = Begun> + Drop> Desk<'a, D, R, C> {
+    // ---- requests of the whole map
+
+    /// Sends a connection on an errand, or has it wait until the one before is back.
+    pub(crate) fn send_errand(&mut self, key: usize, resting: Resting<Begun>) {
+        if self.has_errand {
+            let Some(client) = self.clients.get_mut(key) else {
+                return;
+            };
+            client.resting = Some(resting);
+            client.is_queued = true;
+            if self.bulks.push_back(key).is_err() {
+                self.lose(key);
+            }
+            return;
+        }
+        let errand = Errand {
+            worker: self.seat.place,
+            key,
+            resting: Some(resting),
+        };
+        match self.seat.errands.send(self.rt, errand) {
+            Ok(()) => self.has_errand = true,
+            Err(_) => self.remove(key),
+        }
+    }
+
+    // Sends the next connection on its errand.
+    fn send_next_errand(&mut self) {
+        for _ in 0..self.bulks.len() {
+            let Some(key) = self.bulks.pop_front() else {
+                return;
+            };
+            let Some(client) = self.clients.get_mut(key) else {
+                continue;
+            };
+            client.is_queued = false;
+            match client.resting.take() {
+                Some(resting) if resting.connection().asks_whole_map() => {
+                    self.send_errand(key, resting);
+                    return;
+                }
+                resting => client.resting = resting,
+            }
+            self.queue_up(key);
+        }
+    }
+
+    /// Takes up a connection that is back from its errand, and sends the next one.
+    pub(crate) fn welcome_back(&mut self) {
+        let Ok(errand) = self.seat.back.try_recv(self.rt) else {
+            return;
+        };
+        let Errand {
+            worker: _,
+            key,
+            resting,
+        } = errand;
+        self.has_errand = false;
+        let Some(client) = self.clients.get_mut(key) else {
+            return;
+        };
+        if client.is_lost || resting.is_none() {
+            self.remove(key);
+        } else {
+            client.resting = resting;
+            self.resume(key, self.now());
+        }
+        self.send_next_errand();
+    }
 }

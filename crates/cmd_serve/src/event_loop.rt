@@ -1,23 +1,14 @@
 //! The rounds of a worker, which serves many clients at once.
 
 use crate::begun::Begun;
-use crate::bells::{Bell, WAKE};
-use crate::client::{Client, Line};
-use crate::errands::Errand;
-use crate::turns::{Turned, Turns};
-use connections::{Calls, Connection, Resting};
-use crossbeam_channel::{Receiver, Sender, TryRecvError};
+use crate::bells::WAKE;
+use crate::desk::Desk;
+use connections::Calls;
 use disk_model::Disk;
-use durable_map::DurableMap;
 use mio::event::Event;
-use mio::net::TcpStream as Socket;
-use mio::{Events, Interest, Poll, Token};
-use slab::Slab;
+use mio::{Events, Token};
 use std::alloc::{AllocError, Global};
-use std::collections::VecDeque;
-use std::net::TcpStream;
 use std::sync::Wait;
-use std::sync::atomic::{AtomicUsize, Ordering};
 use std::time::{Clock, Duration, Instant};
 use ticket_order::Position;
 
@@ -27,192 +18,8 @@ const MOST_EVENTS: usize = 1024;
 /// For how many milliseconds a worker sleeps at most that has calls to be answered.
 const LONGEST_SLEEP: u64 = 100;
 
-/// What a worker is handed as it starts.
-#[derive(Drop)]
-pub struct Seat {
-    /// Its place among the workers.
-    pub(crate) place: usize,
-    pub(crate) poll: Poll,
-    /// The connections that it is to serve.
-    pub(crate) streams: Receiver<TcpStream, Global>,
-    /// Where it leaves its errands, and where they come back.
-    pub(crate) errands: Sender<Errand, Global>,
-    pub(crate) back: Receiver<Errand, Global>,
-}
-
-/// A worker at its seat, with its clients.
-#[derive(Drop)]
-pub(crate) struct Desk<'a, D: Disk + Drop, R: Clock + Wait, C: Calls<Held = Begun> + Drop> {
-    rt: &'a R,
-    alloc: Global,
-    map: &'a DurableMap<D>,
-    seat: Seat,
-    bell: &'a Bell,
-    // how many clients there are at all workers
-    open: &'a AtomicUsize,
-    turns: Turns<C>,
-    clients: Slab<Client>,
-    // the clients that are to have their turn
-    queue: VecDeque<usize>,
-    // the clients whose requests of the whole map are to be sent on an errand, and whether one is
-    bulks: VecDeque<usize>,
-    has_errand: bool,
-    // no more connections come
-    has_ended: bool,
-    // each connection that waits is to be looked at
-    must_look: bool,
-    // for how long a client may be idle, and when it is to be looked who was
-    limit: Option<Duration>,
-    next_sweep: Option<Instant>,
-}
-
 impl<'a, D: Disk + Drop, R: Clock + Wait, C: Calls<Held = Begun> + Drop> Desk<'a, D, R, C> {
-    /// A worker without clients. They may be idle for so many seconds; 0 is for ever.
-    pub(crate) fn new(
-        rt: &'a R,
-        alloc: Global,
-        map: &'a DurableMap<D>,
-        seat: Seat,
-        bell: &'a Bell,
-        open: &'a AtomicUsize,
-        calls: C,
-        idle: u32,
-    ) -> Result<Desk<'a, D, R, C>, AllocError> {
-        let limit = if idle == 0 {
-            None
-        } else {
-            Some(Duration::from_secs(u64::from(idle)))
-        };
-        Ok(Desk {
-            rt,
-            alloc,
-            map,
-            seat,
-            bell,
-            open,
-            turns: Turns::new(alloc, calls)?,
-            clients: Slab::new(alloc),
-            queue: VecDeque::new(alloc),
-            bulks: VecDeque::new(alloc),
-            has_errand: false,
-            has_ended: false,
-            must_look: false,
-            limit,
-            next_sweep: None,
-        })
-    }
-
-    // The time, if it is of interest.
-    fn now(&self) -> Option<Instant> {
-        match self.limit {
-            Some(_) => Instant::now(self.rt).ok(),
-            None => None,
-        }
-    }
-
-    // ---- clients that come and go
-
-    // Takes a connection up. It says whether it could.
-    fn welcome(&mut self, stream: TcpStream, now: Option<Instant>) -> bool {
-        let _ = stream.set_nodelay(true);
-        if stream.set_nonblocking(true).is_err() {
-            return false;
-        }
-        let mut socket = Socket::from_std(stream);
-        let token = Token(self.clients.vacant_key());
-        let interests = Interest::READABLE | Interest::WRITABLE;
-        let registry = self.seat.poll.registry();
-        if registry.register(&mut socket, token, interests).is_err() {
-            return false;
-        }
-        let Ok(resting) = Resting::of(Connection::new(self.alloc)) else {
-            return false;
-        };
-        let client = Client::new(Line::new(socket, now), resting);
-        if self.clients.insert(client).is_err() {
-            return false;
-        }
-        if self.next_sweep.is_none() {
-            self.next_sweep = self.deadline(now);
-        }
-        true
-    }
-
-    // Takes up the connections that have come.
-    fn welcome_all(&mut self) {
-        let now = self.now();
-        for _ in self.rt.forever() {
-            match self.seat.streams.try_recv(self.rt) {
-                Ok(stream) => {
-                    if !self.welcome(stream, now) {
-                        let _ = self.open.fetch_sub(1, Ordering::SeqCst);
-                    }
-                }
-                Err(TryRecvError::Empty) => return,
-                Err(TryRecvError::Disconnected) => {
-                    self.has_ended = true;
-                    return;
-                }
-            }
-        }
-    }
-
-    // Lets go of a client, whose connection is gone.
-    fn remove(&mut self, key: usize) {
-        if self.clients.try_remove(key).is_some() {
-            let _ = self.open.fetch_sub(1, Ordering::SeqCst);
-        }
-    }
-
-    // Lets go of a client, or does so once its connection is back.
-    fn lose(&mut self, key: usize) {
-        let Some(client) = self.clients.get_mut(key) else {
-            return;
-        };
-        if client.resting.is_none() {
-            client.is_lost = true;
-            self.must_look = true;
-            return;
-        }
-        self.remove(key);
-    }
-
     // ---- turns
-
-    // Puts a client among those that are to have their turn, if there is something to do and it isn't
-    // there.
-    fn queue_up(&mut self, key: usize) {
-        let Some(client) = self.clients.get_mut(key) else {
-            return;
-        };
-        if client.is_queued || !client.is_due() {
-            return;
-        }
-        client.is_queued = true;
-        if self.queue.push_back(key).is_err() {
-            self.lose(key);
-        }
-    }
-
-    // What is done with a client after a turn of its connection.
-    fn follow(&mut self, key: usize, turned: Turned) {
-        match turned {
-            Turned::Waits => {}
-            Turned::Ends => self.remove(key),
-            Turned::AsksWholeMap(resting) => self.send_errand(key, resting),
-            Turned::Rests(resting) => {
-                let Some(client) = self.clients.get_mut(key) else {
-                    return;
-                };
-                client.resting = Some(resting);
-                if client.is_over() {
-                    self.remove(key);
-                } else {
-                    self.queue_up(key);
-                }
-            }
-        }
-    }
 
     // Gives a client its turn.
     fn take_turn(&mut self, key: usize, now: Option<Instant>) {
@@ -230,8 +37,8 @@ impl<'a, D: Disk + Drop, R: Clock + Wait, C: Calls<Held = Begun> + Drop> Desk<'a
         self.follow(key, turned);
     }
 
-    // Goes on with a client whose connection rests, with replies that were not taken.
-    fn resume(&mut self, key: usize, now: Option<Instant>) {
+    /// Goes on with a client whose connection rests, with replies that were not taken.
+    pub(crate) fn resume(&mut self, key: usize, now: Option<Instant>) {
         let Some(client) = self.clients.get_mut(key) else {
             return;
         };
@@ -288,73 +95,6 @@ impl<'a, D: Disk + Drop, R: Clock + Wait, C: Calls<Held = Begun> + Drop> Desk<'a
         for _ in 0..self.turns.len() {
             self.resume_front(now);
         }
-    }
-
-    // ---- requests of the whole map
-
-    // Sends a connection on an errand, or has it wait until the one before is back.
-    fn send_errand(&mut self, key: usize, resting: Resting<Begun>) {
-        if self.has_errand {
-            let Some(client) = self.clients.get_mut(key) else {
-                return;
-            };
-            client.resting = Some(resting);
-            client.is_queued = true;
-            if self.bulks.push_back(key).is_err() {
-                self.lose(key);
-            }
-            return;
-        }
-        let errand = Errand {
-            worker: self.seat.place,
-            key,
-            resting: Some(resting),
-        };
-        match self.seat.errands.send(self.rt, errand) {
-            Ok(()) => self.has_errand = true,
-            Err(_) => self.remove(key),
-        }
-    }
-
-    // Sends the next connection on its errand.
-    fn send_next_errand(&mut self) {
-        'keys: while let Some(key) = self.bulks.pop_front() {
-            let Some(client) = self.clients.get_mut(key) else {
-                continue;
-            };
-            client.is_queued = false;
-            match client.resting.take() {
-                Some(resting) if resting.connection().asks_whole_map() => {
-                    self.send_errand(key, resting);
-                    return;
-                }
-                resting => client.resting = resting,
-            }
-            self.queue_up(key);
-        }
-    }
-
-    // Takes up a connection that is back from its errand, and sends the next one.
-    fn welcome_back(&mut self) {
-        let Ok(errand) = self.seat.back.try_recv(self.rt) else {
-            return;
-        };
-        let Errand {
-            worker: _,
-            key,
-            resting,
-        } = errand;
-        self.has_errand = false;
-        let Some(client) = self.clients.get_mut(key) else {
-            return;
-        };
-        if client.is_lost || resting.is_none() {
-            self.remove(key);
-        } else {
-            client.resting = resting;
-            self.resume(key, self.now());
-        }
-        self.send_next_errand();
     }
 
     // ---- rounds
@@ -423,50 +163,6 @@ impl<'a, D: Disk + Drop, R: Clock + Wait, C: Calls<Held = Begun> + Drop> Desk<'a
                 self.note(key, event, now);
             }
         }
-    }
-
-    // When the client's time is up that was idle since then.
-    fn deadline(&self, since: Option<Instant>) -> Option<Instant> {
-        match (self.limit, since) {
-            (Some(limit), Some(since)) => since.checked_add(limit),
-            _ => None,
-        }
-    }
-
-    // Lets go of a client that was idle for too long. Else it returns when its time is up.
-    fn sweep_one(&mut self, key: usize, now: Instant) -> Option<Instant> {
-        let client = self.clients.get_mut(key)?;
-        if client.resting.is_none() && !client.line.is_blocked {
-            client.line.since = Some(now);
-        }
-        let since = client.line.since.unwrap_or(now);
-        client.line.since = Some(since);
-        let deadline = self.deadline(Some(since))?;
-        if now < deadline {
-            return Some(deadline);
-        }
-        self.lose(key);
-        None
-    }
-
-    // Lets go of the clients that were idle for too long, if it is time to look.
-    fn sweep(&mut self) {
-        let (Some(next), Some(now)) = (self.next_sweep, self.now()) else {
-            return;
-        };
-        if now < next {
-            return;
-        }
-        let mut first: Option<Instant> = None;
-        for key in 0..self.clients.capacity() {
-            if let Some(deadline) = self.sweep_one(key, now) {
-                first = match first {
-                    Some(other) if other <= deadline => Some(other),
-                    _ => Some(deadline),
-                };
-            }
-        }
-        self.next_sweep = first;
     }
 
     // Whether no more connections come and each that came has ended.

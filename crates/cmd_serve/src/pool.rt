@@ -5,8 +5,9 @@ ghost use Rattle.cmd_serve.specs.WholeMap.{AnswersOf};
 
 use crate::bells::Bell;
 use crate::bulk::{Responds, Task, answer_of, respond_by};
+use crate::desk::{Desk, Seat};
 use crate::errands::{Office, run_errands};
-use crate::event_loop::{Desk, Seat, room_for_events};
+use crate::event_loop::room_for_events;
 use crate::seats::{Doors, Furniture};
 use crate::service::Service;
 use crate::worker::{Gate, Worker};
@@ -53,16 +54,13 @@ fn serve_at<D: Disk + Drop, G: Gate, R: Clock + Wait, A: Responds>(
     seat: Seat,
     worker: Worker<'_, D, G, R, A>,
 ) {
-    let service = pool.service;
-    let alloc = service.alloc;
     let Some(bell) = pool.bells.get(seat.place) else {
         return;
     };
-    let (open, idle) = (&pool.open, service.idle);
-    let Ok(mut desk) = Desk::new(rt, alloc, service.map, seat, bell, open, worker, idle) else {
+    let Ok(mut desk) = Desk::new(rt, pool.service, seat, bell, &pool.open, worker) else {
         return;
     };
-    if let Ok(mut events) = room_for_events(alloc) {
+    if let Ok(mut events) = room_for_events(pool.service.alloc) {
         desk.serve(&mut events);
     }
 }
@@ -171,12 +169,7 @@ fn employ<
     G: Gate + Sync,
     C: Arrivals,
     R: Clock + Log + Threads + Wait + Sync,
->(
-    rt: &R,
-    pool: &Pool<'_, D, G>,
-    furniture: Furniture,
-    arrivals: &mut C,
-) -> Result<(), Refusal>
+>(rt: &R, pool: &Pool<'_, D, G>, furniture: Furniture, arrivals: &mut C) -> Result<(), Refusal>
     ensures { IfErr result (λ refusal. refusal ≡ Refusal.NoMemory) }
 {
     let Furniture {

@@ -1,8 +1,8 @@
 //! The seats of the workers, and the doors by which connections come to them.
 
 use crate::bells::Bell;
+use crate::desk::Seat;
 use crate::errands::{Errand, Office};
-use crate::event_loop::Seat;
 use crossbeam_channel::{Sender, bounded};
 use log::{Log, warn};
 use mio::Poll;
@@ -102,7 +102,7 @@ fn poll_and_bell<R: Net>(rt: &R) -> io::Result<(Poll, Bell)> {
 
 /// Seats for so many workers, and their bells. If the system refuses what one waits with, there are no
 /// more, and the log has a record of it.
-pub(crate) fn furnish<R: Log + Net>(
+pub fn furnish<R: Log + Net>(
     rt: &R,
     alloc: Global,
     count: usize,

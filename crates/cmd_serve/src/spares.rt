@@ -3,7 +3,7 @@ ghost use Rattle.std.specs.Prelude.{◌≡◌};
 
 use crate::begun::Begun;
 use crate::client::{Line, Piece};
-use connections::{Buffer, Connection, Row};
+use connections::{Buffer, Connection, Resting, Row};
 use std::alloc::{AllocError, Global};
 
 /// The most bytes that one read takes.
@@ -31,18 +31,14 @@ impl Spares {
         })
     }
 
-    /// Reads a piece of what the client of a connection sends. It is the end too if no memory is found
-    /// for it.
-    pub(crate) fn read(&mut self, connection: &mut Connection<Begun>, line: &mut Line) -> Piece
-        ensures { connection.new.row ≡ connection.old.row }
-    {
-        let piece = line.read(&mut self.room);
-        if let Piece::Bytes(len) = piece {
-            if connection.receive(&self.room[..len]).is_err() {
-                return Piece::End;
-            }
+    /// Reads a piece of what the client of a connection sends, if there is one. It says whether more may
+    /// come: it is the end too if no memory is found for the piece.
+    pub(crate) fn read(&mut self, resting: &mut Resting<Begun>, line: &mut Line) -> bool {
+        match line.read(&mut self.room) {
+            Piece::Bytes(len) => resting.receive(&self.room[..len]).is_ok(),
+            Piece::Nothing => true,
+            Piece::End => false,
         }
-        piece
     }
 
     /// Lends a row to a connection. It says whether memory was found for one.

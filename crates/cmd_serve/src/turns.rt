@@ -3,7 +3,7 @@ ghost use Rattle.std.specs.Prelude.{[], ◌≡◌};
 ghost use Rattle.connections.specs.Owning.{OwnsRow, StillOwns};
 
 use crate::begun::Begun;
-use crate::client::{Line, Piece};
+use crate::client::Line;
 use crate::spares::Spares;
 use connections::{Answered, Calls, Connection, Resting};
 use std::alloc::{AllocError, Global};
@@ -41,8 +41,22 @@ pub(crate) struct Turns<C: Calls<Held = Begun> + Drop> {
     first: Option<u64>,
 }
 
+impl<C: Calls<Held = Begun> + Drop> Model for Turns<C> {
+    ghost use Rattle.std.specs.Prelude.{map};
+    ghost use Rattle.connections.specs.Owning.{OwnsEach};
+
+    ghost Value = { C };
+
+    ghost view = { λ turns. turns.calls };
+
+    ghost invariant = { λ turns.
+        OwnsEach C.owns turns.calls (map (λ w. w.connection) turns.waiting.items) };
+}
+
 /// Writes what is unsent, as far as the client takes it. It says whether the client is still there.
-fn send(connection: &mut Connection<Begun>, line: &mut Line, now: Option<Instant>) -> bool {
+fn send(connection: &mut Connection<Begun>, line: &mut Line, now: Option<Instant>) -> bool
+    ensures { connection.new.row ≡ connection.old.row }
+{
     if connection.unsent().is_empty() {
         return true;
     }
@@ -70,18 +84,38 @@ fn exchange<C: Calls<Held = Begun>>(
     if !send(connection, line, now) {
         return false;
     }
-    'answers: while !connection.is_idle() {
+    'answers: loop {
         if !connection.unsent().is_empty() || !connection.may_answer(calls) {
             return true;
         }
-        if let Answered::Late(_) = connection.answer(calls, true) {
+        let answered = connection.answer(calls, true);
+        let is_late = matches!(answered, Answered::Late(_));
+        let is_all = answered.is_all();
+        drop(answered);
+        if is_late || !send(connection, line, now) {
             return false;
         }
-        if !send(connection, line, now) {
-            return false;
+        if is_all {
+            return true;
         }
     }
-    true
+}
+
+/// The least number that is awaited once this connection waits too. One whose client takes no replies
+/// waits for none.
+fn first_with<C: Calls<Held = Begun>>(
+    first: Option<u64>,
+    connection: &Connection<Begun>,
+    calls: &C,
+) -> Option<u64> {
+    if !connection.unsent().is_empty() {
+        return first;
+    }
+    let number = connection.awaits(calls).unwrap_or(0);
+    match first {
+        Some(first) if first <= number => Some(first),
+        _ => Some(number),
+    }
 }
 
 impl<C: Calls<Held = Begun> + Drop> Turns<C> {
@@ -117,26 +151,6 @@ impl<C: Calls<Held = Begun> + Drop> Turns<C> {
         }
     }
 
-    // Keeps a connection whose calls wait. One whose client takes no replies waits for no number.
-    fn keep(&mut self, key: usize, connection: Connection<Begun>) -> Turned
-        requires { OwnsRow C.owns self.old connection.row.items }
-    {
-        let mut connection = connection;
-        if self.waiting.reserve(1).is_err() {
-            connection.give_up(&mut self.calls);
-            return Turned::Ends;
-        }
-        if connection.unsent().is_empty() {
-            let number = connection.awaits(&self.calls).unwrap_or(0);
-            self.first = match self.first {
-                Some(first) if first <= number => Some(first),
-                _ => Some(number),
-            };
-        }
-        self.waiting.push_back_reserved(Waiting { key, connection });
-        Turned::Waits
-    }
-
     // Gives up what a connection holds, whose client is gone.
     fn give_up(&mut self, connection: Connection<Begun>) -> Turned
         requires { OwnsRow C.owns self.old connection.row.items }
@@ -145,6 +159,18 @@ impl<C: Calls<Held = Begun> + Drop> Turns<C> {
         connection.give_up(&mut self.calls);
         self.spares.take_back(&mut connection);
         Turned::Ends
+    }
+
+    // Keeps a connection whose calls wait.
+    fn keep(&mut self, key: usize, connection: Connection<Begun>) -> Turned
+        requires { OwnsRow C.owns self.old connection.row.items }
+    {
+        if self.waiting.reserve(1).is_err() {
+            return self.give_up(connection);
+        }
+        self.first = first_with(self.first, &connection, &self.calls);
+        self.waiting.push_back_reserved(Waiting { key, connection });
+        Turned::Waits
     }
 
     // Answers what need not wait, and writes it.
@@ -169,6 +195,22 @@ impl<C: Calls<Held = Begun> + Drop> Turns<C> {
         }
     }
 
+    // Begins what is whole, and goes on.
+    fn begin(
+        &mut self,
+        key: usize,
+        resting: Resting<Begun>,
+        line: &mut Line,
+        now: Option<Instant>,
+    ) -> Turned {
+        let mut connection = resting.wake();
+        if !self.spares.lend_row(&mut connection) {
+            return Turned::Ends;
+        }
+        connection.begin(&mut self.calls);
+        self.go_on(key, connection, line, now)
+    }
+
     /// Gives a connection its turn: it reads a piece unless a message is in hand, begins what is whole,
     /// answers what need not wait, and writes the replies.
     pub(crate) fn take_turn(
@@ -178,25 +220,19 @@ impl<C: Calls<Held = Begun> + Drop> Turns<C> {
         line: &mut Line,
         now: Option<Instant>,
     ) -> Turned {
-        let mut connection = resting.wake();
-        if !connection.has_message() {
-            match self.spares.read(&mut connection, line) {
-                Piece::End => return Turned::Ends,
-                Piece::Bytes(_) | Piece::Nothing => {}
-            }
-        }
-        if connection.asks_whole_map() {
-            connection.trim();
-            return match Resting::of(connection) {
-                Ok(resting) => Turned::AsksWholeMap(resting),
-                Err(_) => Turned::Ends,
-            };
-        }
-        if !self.spares.lend_row(&mut connection) {
+        let mut resting = resting;
+        if !resting.connection().has_message() && !self.spares.read(&mut resting, line) {
             return Turned::Ends;
         }
-        connection.begin(&mut self.calls);
-        self.go_on(key, connection, line, now)
+        if !resting.connection().has_message() {
+            resting.trim();
+            return Turned::Rests(resting);
+        }
+        if resting.connection().asks_whole_map() {
+            resting.trim();
+            return Turned::AsksWholeMap(resting);
+        }
+        self.begin(key, resting, line, now)
     }
 
     /// Goes on with a connection whose replies were not all taken.

@@ -1,0 +1,203 @@
+//! A worker at its seat, and its clients.
+
+use crate::begun::Begun;
+use crate::bells::Bell;
+use crate::client::{Client, Line};
+use crate::errands::Errand;
+use crate::service::Service;
+use crate::turns::{Turned, Turns};
+use connections::{Calls, Resting};
+use crossbeam_channel::{Receiver, Sender, TryRecvError};
+use disk_model::Disk;
+use durable_map::DurableMap;
+use mio::net::TcpStream as Socket;
+use mio::{Interest, Poll, Token};
+use slab::Slab;
+use std::alloc::{AllocError, Global};
+use std::collections::VecDeque;
+use std::net::TcpStream;
+use std::sync::Wait;
+use std::sync::atomic::{AtomicUsize, Ordering};
+use std::time::{Clock, Duration, Instant};
+
+/// What a worker is handed as it starts.
+#[derive(Drop)]
+pub struct Seat {
+    /// Its place among the workers.
+    pub(crate) place: usize,
+    pub(crate) poll: Poll,
+    /// The connections that it is to serve.
+    pub(crate) streams: Receiver<TcpStream, Global>,
+    /// Where it leaves its errands, and where they come back.
+    pub(crate) errands: Sender<Errand, Global>,
+    pub(crate) back: Receiver<Errand, Global>,
+}
+
+/// A worker at its seat, with its clients.
+#[derive(Drop)]
+pub(crate) struct Desk<'a, D: Disk + Drop, R: Clock + Wait, C: Calls<Held = Begun> + Drop> {
+    pub(crate) rt: &'a R,
+    pub(crate) alloc: Global,
+    pub(crate) map: &'a DurableMap<D>,
+    pub(crate) seat: Seat,
+    pub(crate) bell: &'a Bell,
+    /// How many clients there are at all workers.
+    pub(crate) open: &'a AtomicUsize,
+    pub(crate) turns: Turns<C>,
+    pub(crate) clients: Slab<Client>,
+    /// The clients that are to have their turn.
+    pub(crate) queue: VecDeque<usize>,
+    /// The clients whose requests of the whole map are to be sent on an errand, and whether one is.
+    pub(crate) bulks: VecDeque<usize>,
+    pub(crate) has_errand: bool,
+    /// No more connections come.
+    pub(crate) has_ended: bool,
+    /// Each connection that waits is to be looked at.
+    pub(crate) must_look: bool,
+    /// For how long a client may be idle, and when it is to be looked who was.
+    pub(crate) limit: Option<Duration>,
+    pub(crate) next_sweep: Option<Instant>,
+}
+
+impl<'a, D: Disk + Drop, R: Clock + Wait, C: Calls<Held = Begun> + Drop> Desk<'a, D, R, C> {
+    /// A worker without clients, at a seat of a service. The clients of all workers are counted in
+    /// `open`.
+    pub(crate) fn new(
+        rt: &'a R,
+        service: &'a Service<'a, D>,
+        seat: Seat,
+        bell: &'a Bell,
+        open: &'a AtomicUsize,
+        calls: C,
+    ) -> Result<Desk<'a, D, R, C>, AllocError> {
+        let alloc = service.alloc;
+        let limit = match service.idle {
+            0 => None,
+            seconds => Some(Duration::from_secs(u64::from(seconds))),
+        };
+        Ok(Desk {
+            rt,
+            alloc,
+            map: service.map,
+            seat,
+            bell,
+            open,
+            turns: Turns::new(alloc, calls)?,
+            clients: Slab::new(alloc),
+            queue: VecDeque::new(alloc),
+            bulks: VecDeque::new(alloc),
+            has_errand: false,
+            has_ended: false,
+            must_look: false,
+            limit,
+            next_sweep: None,
+        })
+    }
+
+    /// The time, if it is of interest.
+    pub(crate) fn now(&self) -> Option<Instant> {
+        match self.limit {
+            Some(_) => Instant::now(self.rt).ok(),
+            None => None,
+        }
+    }
+
+    // ---- clients that come and go
+
+    // Takes a connection up. It says whether it could.
+    fn welcome(&mut self, stream: TcpStream, now: Option<Instant>) -> bool {
+        let _ = stream.set_nodelay(true);
+        if stream.set_nonblocking(true).is_err() {
+            return false;
+        }
+        let mut socket = Socket::from_std(stream);
+        let token = Token(self.clients.vacant_key());
+        let interests = Interest::READABLE | Interest::WRITABLE;
+        let registry = self.seat.poll.registry();
+        if registry.register(&mut socket, token, interests).is_err() {
+            return false;
+        }
+        let client = Client::new(Line::new(socket, now), Resting::new(self.alloc));
+        if self.clients.insert(client).is_err() {
+            return false;
+        }
+        if self.next_sweep.is_none() {
+            self.next_sweep = self.deadline(now);
+        }
+        true
+    }
+
+    /// Takes up the connections that have come.
+    pub(crate) fn welcome_all(&mut self) {
+        let now = self.now();
+        for _ in self.rt.forever() {
+            match self.seat.streams.try_recv(self.rt) {
+                Ok(stream) => {
+                    if !self.welcome(stream, now) {
+                        let _ = self.open.fetch_sub(1, Ordering::SeqCst);
+                    }
+                }
+                Err(TryRecvError::Empty) => return,
+                Err(TryRecvError::Disconnected) => {
+                    self.has_ended = true;
+                    return;
+                }
+            }
+        }
+    }
+
+    /// Lets go of a client, whose connection is gone.
+    pub(crate) fn remove(&mut self, key: usize) {
+        if self.clients.try_remove(key).is_some() {
+            let _ = self.open.fetch_sub(1, Ordering::SeqCst);
+        }
+    }
+
+    /// Lets go of a client, or does so once its connection is back.
+    pub(crate) fn lose(&mut self, key: usize) {
+        let Some(client) = self.clients.get_mut(key) else {
+            return;
+        };
+        if client.resting.is_none() {
+            client.is_lost = true;
+            self.must_look = true;
+            return;
+        }
+        self.remove(key);
+    }
+
+    /// Puts a client among those that are to have their turn, if there is something to do and it isn't
+    /// there.
+    pub(crate) fn queue_up(&mut self, key: usize) {
+        let Some(client) = self.clients.get_mut(key) else {
+            return;
+        };
+        if client.is_queued || !client.is_due() {
+            return;
+        }
+        client.is_queued = true;
+        if self.queue.push_back(key).is_err() {
+            self.lose(key);
+        }
+    }
+
+    /// What is done with a client after a turn of its connection.
+    pub(crate) fn follow(&mut self, key: usize, turned: Turned) {
+        match turned {
+            Turned::Waits => {}
+            Turned::Ends => self.remove(key),
+            Turned::AsksWholeMap(resting) => self.send_errand(key, resting),
+            Turned::Rests(resting) => {
+                let Some(client) = self.clients.get_mut(key) else {
+                    return;
+                };
+                client.resting = Some(resting);
+                if client.is_over() {
+                    self.remove(key);
+                } else {
+                    self.queue_up(key);
+                }
+            }
+        }
+    }
+}
