@@ -1,12 +1,10 @@
 -- What is printed of what came of lines.
-use Rattle.std.proofs.Common.{◌≡◌, ℕ, Result, Ok, Err, true, false, zero, suc, arith, List, [], ◌∷◌, ◌++◌, refl, sym, ap, subst, ◌∙◌, append_assoc}
+use Rattle.std.proofs.Common.{◌≡◌, ℕ, zero, suc, arith, List, [], ◌∷◌, ◌++◌, refl, sym, ap, subst, ◌∙◌, append_assoc}
 use Rattle.std.specs.List.{flat_map}
 use Rattle.std.specs.Io.KnownBytes.{Appends}
-use Rattle.std.specs.Result.{is_err}
-use Rattle.std.proofs.lemmas.Bool.{false≢true, true≢false}
 use Rattle.std.proofs.lemmas.List.{append-nil}
 use Rattle.std.proofs.lemmas.Grind.{flat_map-append}
-use Rattle.wire_frames.specs.Replies.{IsCut, Writes}
+use Rattle.wire_frames.specs.Replies.{IsCut}
 use Rattle.wire_frames.specs.declared.receiving.ReplyError.{ReplyError}
 use Rattle.cmd_call.specs.Client.{Known}
 use Rattle.cmd_call.specs.Lines.{Answers, Asked, BreaksOff, Ends, IsLineOf, Tells, asked_frames, first_of, status_of, status_of_all}
@@ -46,16 +44,6 @@ tells_then outcomes others text more p q = record {
       ap (λ (t : List ℕ). t ++ more) p.is ∙ ap (λ (t : List ℕ). flat_map (λ (line : List ℕ). line) p.lines ++ t) q.is
       ∙ sym (flat_map-append (λ (line : List ℕ). line) p.lines q.lines);
 }
-
--- ---- what a writer took
-
-pub written : {X E : Type 0} (r : Result X E) (a b : Known) (bytes : List ℕ) → is_err r ≡ false → Writes a b r bytes → Appends a b bytes
-written (Ok x) a b bytes is w = w
-written (Err e) a b bytes is w = absurd (true≢false is)
-
-pub cut : {X E : Type 0} (r : Result X E) (a b : Known) (bytes : List ℕ) → is_err r ≡ true → Writes a b r bytes → (front : List ℕ) × IsCut front bytes × Appends a b front
-cut (Ok x) a b bytes is w = absurd (false≢true is)
-cut (Err e) a b bytes is w = w
 
 -- ---- rounds
 

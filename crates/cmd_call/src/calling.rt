@@ -6,10 +6,22 @@ use crate::client::{NO_PORT, call};
 use crate::input::answer_input;
 use crate::rounds::Stop;
 use crate::servers::Servers;
-use cmd_text::{MISUSED, break_off, port_named, refuse, say};
+use cmd_text::{MISUSED, port_named, refuse, say, stream_failed};
+use log::Log;
 use map_types::Refusal;
 use std::alloc::Global;
 use std::io::{Read, Write};
+
+/// Says on `error` why lines weren't read on. If a stream failed, a record has the cause.
+fn stop<L: Log, E: Write>(rt: &L, alloc: Global, why: Stop, error: &mut E) -> u8
+    ensures { result ≡ 1 }
+{
+    match why {
+        Stop::NoMemory => refuse(alloc, Refusal::NoMemory, error),
+        Stop::Input(cause) => stream_failed(rt, "standard input", &cause, error),
+        Stop::Output(cause) => stream_failed(rt, "standard output", &cause, error),
+    }
+}
 
 /// Makes a call of the server at the port of this machine for each line of the input, and prints a
 /// line for each on `output`, in the same order: the reply; `refused` and the refusal; `misuse` and
@@ -17,8 +29,10 @@ use std::io::{Read, Write};
 /// together, over one connection. Once that is lost, each further call has no reply.
 ///
 /// The status is that of the first line that isn't a reply: 2 for misuse, and else 1. It is 0 if all
-/// are replies. If memory, the input or the output fails, it is 1, and `error` says which.
-pub fn call_lines<M: Servers, I: Read, W: Write, E: Write>(
+/// are replies. If memory, the input or the output fails, it is 1, and `error` says which; a record
+/// has the cause.
+pub fn call_lines<L: Log, M: Servers, I: Read, W: Write, E: Write>(
+    rt: &L,
     machine: &M,
     alloc: Global,
     port: &str,
@@ -37,8 +51,7 @@ pub fn call_lines<M: Servers, I: Read, W: Write, E: Write>(
     let mut server = machine.connect_to(port).ok();
     match answer_input(alloc, &mut server, input, output) {
         Ok(status) => status,
-        Err(Stop::NoMemory) => refuse(alloc, Refusal::NoMemory, error),
-        Err(Stop::Broken) => break_off(error),
+        Err(why) => stop(rt, alloc, why, error),
     }
 }
 
@@ -53,7 +66,8 @@ fn asks_lines(words: &[&str]) -> bool
 }
 
 /// Makes the call of these words; with `-` alone, those of the lines of the input.
-pub fn make_calls<M: Servers, I: Read, W: Write, E: Write>(
+pub fn make_calls<L: Log, M: Servers, I: Read, W: Write, E: Write>(
+    rt: &L,
     machine: &M,
     alloc: Global,
     port: &str,
@@ -68,8 +82,8 @@ pub fn make_calls<M: Servers, I: Read, W: Write, E: Write>(
         (W.contents output.old) (W.contents output.new) result }
 {
     if asks_lines(words) {
-        call_lines(machine, alloc, port, input, output, error)
+        call_lines(rt, machine, alloc, port, input, output, error)
     } else {
-        call(machine, alloc, port, words, output, error)
+        call(rt, machine, alloc, port, words, output, error)
     }
 }

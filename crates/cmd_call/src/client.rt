@@ -6,6 +6,7 @@ ghost use Rattle.cmd_call.specs.Client.{AsksServer, CallsAtPort, CallsServer, Ex
 use crate::servers::Servers;
 use call_text::{Asked, BadWord, CallError, Called, parse_words, reply_text};
 use cmd_text::{MISUSED, REFUSED, port_named, print, refuse, say};
+use log::Log;
 use map_types::{Refusal, Reply};
 use std::alloc::{AllocError, Global};
 use std::io::{Read, Write};
@@ -56,11 +57,17 @@ fn line_of(alloc: Global, reply: &Reply) -> Result<String, AllocError>
 }
 
 /// Prints a reply.
-fn show<W: Write, E: Write>(alloc: Global, reply: &Reply, output: &mut W, error: &mut E) -> u8
+fn show<L: Log, W: Write, E: Write>(
+    rt: &L,
+    alloc: Global,
+    reply: &Reply,
+    output: &mut W,
+    error: &mut E,
+) -> u8
     ensures { PrintsReply reply.now (W.contents output.old) (W.contents output.new) result }
 {
     match line_of(alloc, reply) {
-        Ok(line) => print(line.as_str(), output, error),
+        Ok(line) => print(rt, line.as_str(), output, error),
         Err(_) => refuse(alloc, Refusal::NoMemory, error),
     }
 }
@@ -78,8 +85,9 @@ fn give_up<E: Write>(alloc: Global, failure: Unanswered, error: &mut E) -> u8
     }
 }
 
-/// Sends the request to a server, and prints its reply.
-pub fn ask<R: Read, W: Write, O: Write, E: Write>(
+/// Sends the request to a server, and prints its reply. If the output fails, a record has the cause.
+pub fn ask<L: Log, R: Read, W: Write, O: Write, E: Write>(
+    rt: &L,
     alloc: Global,
     reader: &mut R,
     writer: &mut W,
@@ -91,7 +99,7 @@ pub fn ask<R: Read, W: Write, O: Write, E: Write>(
         (W.contents writer.new) (O.contents output.old) (O.contents output.new) request.now result }
 {
     match exchange(alloc, reader, writer, request) {
-        Ok(Ok(reply)) => show(alloc, &reply, output, error),
+        Ok(Ok(reply)) => show(rt, alloc, &reply, output, error),
         Ok(Err(refusal)) => refuse(alloc, refusal, error),
         Err(failure) => give_up(alloc, failure, error),
     }
@@ -131,7 +139,8 @@ fn misuse<E: Write>(alloc: Global, word: BadWord, error: &mut E) -> u8
 }
 
 /// Sends the request to the server at the port of this machine, and prints its reply.
-fn ask_at<M: Servers, W: Write, E: Write>(
+fn ask_at<L: Log, M: Servers, W: Write, E: Write>(
+    rt: &L,
     machine: &M,
     alloc: Global,
     port: u16,
@@ -144,14 +153,15 @@ fn ask_at<M: Servers, W: Write, E: Write>(
 {
     match machine.connect_to(port) {
         Ok((mut reader, mut writer)) => {
-            ask(alloc, &mut reader, &mut writer, request, output, error)
+            ask(rt, alloc, &mut reader, &mut writer, request, output, error)
         }
         Err(_) => give_up(alloc, Unanswered::NoReply, error),
     }
 }
 
 /// Sends what the words ask for to the server at the port of this machine, and prints its reply.
-pub fn call<M: Servers, W: Write, E: Write>(
+pub fn call<L: Log, M: Servers, W: Write, E: Write>(
+    rt: &L,
     machine: &M,
     alloc: Global,
     port: &str,
@@ -176,7 +186,7 @@ pub fn call<M: Servers, W: Write, E: Write>(
     let Some(request) = request else {
         return refuse(alloc, Refusal::NoMemory, error);
     };
-    let status = ask_at(machine, alloc, port, &request, output, error);
+    let status = ask_at(rt, machine, alloc, port, &request, output, error);
     drop(request);
     status
 }

@@ -206,10 +206,10 @@ fn read_piece<I: Read>(input: &mut I, room: &mut [u8]) -> Result<usize, Stop>
         match input.read(room) {
             Ok(len) => return Ok(len),
             Err(error) if error.kind() == io::ErrorKind::Interrupted => {}
-            Err(_) => return Err(Stop::Broken),
+            Err(error) => return Err(Stop::Input(error)),
         }
     }
-    Err(Stop::Broken)
+    Err(Stop::Input(io::Error::from(io::ErrorKind::TimedOut)))
 }
 
 /// Asks what the lines of an input ask, and prints a line for each: the status of the first that
@@ -239,5 +239,5 @@ pub(crate) fn answer_input<I: Read, R: Replies + Drop, W: Write + Drop, O: Write
         let (piece, _) = room.split_at(len);
         take_piece(alloc, server, &mut lines, output, piece)?;
     }
-    Err(Stop::Broken)
+    Err(Stop::Input(io::Error::from(io::ErrorKind::TimedOut)))
 }

@@ -9,6 +9,7 @@ use crate::lines::{BadLine, asked_in};
 use crate::outcomes::{Outcome, first_of, put_line, status_of};
 use crate::servers::Replies;
 use std::alloc::{AllocError, AllocFailed, Global};
+use std::io;
 use std::io::Write;
 use wire_frames::{ReplyError, Request, request_frame, write_whole};
 
@@ -20,8 +21,10 @@ pub(crate) const MOST_ASKED: usize = 64;
 pub enum Stop {
     /// No memory was found.
     NoMemory,
-    /// The input or the output failed.
-    Broken,
+    /// The input failed.
+    Input(io::Error),
+    /// The output failed.
+    Output(io::Error),
 }
 
 impl From<AllocError> for Stop {
@@ -175,8 +178,8 @@ pub(crate) fn answer_round<R: Replies + Drop, W: Write + Drop, O: Write>(
     send(server, &round.frames);
     let mut text = String::new(alloc);
     tell_round(alloc, server, &round.asked, &mut text, status)?;
-    if write_whole(output, text.as_bytes()).is_err() {
-        return Err(Stop::Broken);
+    if let Err(cause) = write_whole(output, text.as_bytes()) {
+        return Err(Stop::Output(cause));
     }
     round.asked.clear();
     round.frames.clear();

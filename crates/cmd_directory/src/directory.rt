@@ -4,17 +4,53 @@ ghost use Rattle.cmd_directory.specs.Directory.{Checks, Formats, Inits, Inspects
 use crate::opening::Directories;
 use crate::summary::summarize;
 use cmd_text::{MISUSED, cannot_open, print, refuse, say, stripes_named};
-use disk_model::Disk;
+use disk_model::{Disk, FirstError};
 use java_hash::StripeCount;
+use log::{Log, error};
 use map_types::Refusal;
 use recovery::format;
 use std::alloc::Global;
+use std::io;
 use std::io::Write;
 
-/// Formats the disk, and prints the number of stripes. The line's memory is taken first.
-pub fn init_disk<D: Disk, W: Write, E: Write>(
+/// Says on `error` what was refused. If a call of the directory's files has failed, a record before it
+/// says which, and why.
+fn refuse_directory<L: Log, E: Write>(
+    rt: &L,
+    alloc: Global,
+    first_error: Option<&FirstError>,
+    refusal: Refusal,
+    error: &mut E,
+) -> u8
+    ensures { result ≡ 1 }
+{
+    if let Some(cause) = first_error.and_then(FirstError::get) {
+        error!(rt; "the directory has failed, {cause}");
+    }
+    refuse(alloc, refusal, error)
+}
+
+/// Says why a directory can't be opened. A record before it has the cause.
+fn cannot_open_directory<L: Log, E: Write>(
+    rt: &L,
+    alloc: Global,
+    directory: &str,
+    cause: &io::Error,
+    error: &mut E,
+) -> u8
+    ensures { result ≡ 1 }
+{
+    error!(rt; "the directory {directory} can't be opened: {cause}");
+    cannot_open(alloc, cause, error)
+}
+
+/// Formats the disk, of which `first_error` tells, and prints the number of stripes. The line's memory
+/// is taken first.
+pub fn init_disk<L: Log, D: Disk, W: Write, E: Write>(
+    rt: &L,
     alloc: Global,
     disk: &mut D,
+    first_error: Option<&FirstError>,
     stripes: StripeCount,
     output: &mut W,
     error: &mut E,
@@ -27,15 +63,18 @@ pub fn init_disk<D: Disk, W: Write, E: Write>(
         return refuse(alloc, Refusal::NoMemory, error);
     };
     match format(alloc, disk, stripes) {
-        Ok(()) => print(line.as_str(), output, error),
-        Err(refusal) => refuse(alloc, refusal, error),
+        Ok(()) => print(rt, line.as_str(), output, error),
+        Err(refusal) => refuse_directory(rt, alloc, first_error, refusal, error),
     }
 }
 
-/// Opens the disk, and then prints what it stands for. The disk is handed back.
-pub fn check_disk<D: Disk, W: Write, E: Write>(
+/// Opens the disk, of which `first_error` tells, and then prints what it stands for. The disk is handed
+/// back.
+pub fn check_disk<L: Log, D: Disk, W: Write, E: Write>(
+    rt: &L,
     alloc: Global,
     disk: D,
+    first_error: Option<&FirstError>,
     output: &mut W,
     error: &mut E,
 ) -> (D, u8)
@@ -44,15 +83,20 @@ pub fn check_disk<D: Disk, W: Write, E: Write>(
 {
     match summarize(alloc, disk) {
         Ok((disk, summary)) => match summary.text(alloc) {
-            Ok(text) => (disk, print(text.as_str(), output, error)),
+            Ok(text) => (disk, print(rt, text.as_str(), output, error)),
             Err(_) => (disk, refuse(alloc, Refusal::NoMemory, error)),
         },
-        Err((disk, refusal)) => (disk, refuse(alloc, refusal, error)),
+        Err((disk, refusal)) => (
+            disk,
+            refuse_directory(rt, alloc, first_error, refusal, error),
+        ),
     }
 }
 
-/// Makes the directory that of an empty map of `stripes` stripes.
-pub fn init<M: Directories, W: Write, E: Write>(
+/// Makes the directory that of an empty map of `stripes` stripes. If the system refuses a call, a record
+/// has the cause.
+pub fn init<L: Log, M: Directories, W: Write, E: Write>(
+    rt: &L,
     machine: &M,
     alloc: Global,
     directory: &str,
@@ -68,13 +112,18 @@ pub fn init<M: Directories, W: Write, E: Write>(
         return MISUSED;
     };
     match machine.create_files(alloc, directory) {
-        Ok(mut disk) => init_disk(alloc, &mut disk, stripes, output, error),
-        Err(failure) => cannot_open(alloc, &failure, error),
+        Ok(mut disk) => {
+            let first_error = M::first_error(&disk).ok();
+            let first_error = first_error.as_ref();
+            init_disk(rt, alloc, &mut disk, first_error, stripes, output, error)
+        }
+        Err(cause) => cannot_open_directory(rt, alloc, directory, &cause, error),
     }
 }
 
-/// Prints what the directory stands for.
-pub fn check<M: Directories, W: Write, E: Write>(
+/// Prints what the directory stands for. If the system refuses a call, a record has the cause.
+pub fn check<L: Log, M: Directories, W: Write, E: Write>(
+    rt: &L,
     machine: &M,
     alloc: Global,
     directory: &str,
@@ -86,9 +135,11 @@ pub fn check<M: Directories, W: Write, E: Write>(
 {
     match machine.open_files(alloc, directory) {
         Ok(disk) => {
-            let (_disk, status) = check_disk(alloc, disk, output, error);
+            let first_error = M::first_error(&disk).ok();
+            let first_error = first_error.as_ref();
+            let (_disk, status) = check_disk(rt, alloc, disk, first_error, output, error);
             status
         }
-        Err(failure) => cannot_open(alloc, &failure, error),
+        Err(cause) => cannot_open_directory(rt, alloc, directory, &cause, error),
     }
 }

@@ -5,6 +5,7 @@ ghost use Rattle.sim_script.specs.Scripts.{script_of, Reads};
 ghost use Rattle.cmd_sim.specs.Simulation.{ComesOf, IsTold, Simulates, SimulatesText, TellsOrFails};
 
 use cmd_text::{MISUSED, cannot_open, print, refuse, say};
+use log::{Log, error};
 use map_types::Refusal;
 use schedule_sim::run;
 use sim_rules::Outcome;
@@ -53,11 +54,17 @@ fn misuse<E: Write>(alloc: Global, failure: &ScriptError, error: &mut E) -> u8
 }
 
 /// Plays the script that is written so, and prints what came of its lines.
-pub fn simulate<W: Write, E: Write>(alloc: Global, text: &str, output: &mut W, error: &mut E) -> u8
+pub fn simulate<L: Log, W: Write, E: Write>(
+    rt: &L,
+    alloc: Global,
+    text: &str,
+    output: &mut W,
+    error: &mut E,
+) -> u8
     ensures { SimulatesText text.now (W.contents output.old) (W.contents output.new) result }
 {
     match tell(alloc, text) {
-        Ok(told) => print(told.as_str(), output, error),
+        Ok(told) => print(rt, told.as_str(), output, error),
         Err(ScriptError::NoMemory) => refuse(alloc, Refusal::NoMemory, error),
         Err(failure) => misuse(alloc, &failure, error),
     }
@@ -70,8 +77,9 @@ fn read_file<F: Files<File = File>>(rt: &F, alloc: Global, path: &str) -> io::Re
     Ok(bytes)
 }
 
-/// Plays the script of the file, and prints what came of its lines.
-pub fn sim<F: Files<File = File>, W: Write, E: Write>(
+/// Plays the script of the file, and prints what came of its lines. If the system refuses a call, a
+/// record has the cause.
+pub fn sim<F: Files<File = File> + Log, W: Write, E: Write>(
     rt: &F,
     alloc: Global,
     path: &str,
@@ -82,10 +90,13 @@ pub fn sim<F: Files<File = File>, W: Write, E: Write>(
 {
     let bytes = match read_file(rt, alloc, path) {
         Ok(bytes) => bytes,
-        Err(failure) => return cannot_open(alloc, &failure, error),
+        Err(cause) => {
+            error!(rt; "the file {path} can't be read: {cause}");
+            return cannot_open(alloc, &cause, error);
+        }
     };
     match str::from_utf8(bytes.as_slice()) {
-        Ok(text) => simulate(alloc, text, output, error),
+        Ok(text) => simulate(rt, alloc, text, output, error),
         Err(_) => {
             say(error, "the script isn't UTF-8\n");
             MISUSED

@@ -3,6 +3,7 @@ ghost use Rattle.std.specs.Prelude.{◌≡◌};
 ghost use Rattle.cmd_text.specs.Printing.{Prints, PrintsAtMost};
 
 use call_text::refusal_text;
+use log::{Log, error};
 use map_types::Refusal;
 use std::alloc::Global;
 use std::io;
@@ -45,6 +46,14 @@ pub fn break_off<E: Write>(error: &mut E) -> u8
     REFUSED
 }
 
+/// Says on `error` that a stream failed. A record before it has the cause.
+pub fn stream_failed<L: Log, E: Write>(rt: &L, stream: &str, cause: &io::Error, error: &mut E) -> u8
+    ensures { result ≡ 1 }
+{
+    error!(rt; "{stream} failed: {cause}");
+    break_off(error)
+}
+
 /// Says why a directory or a file can't be opened.
 pub fn cannot_open<E: Write>(alloc: Global, failure: &io::Error, error: &mut E) -> u8
     ensures { result ≡ 1 }
@@ -55,12 +64,12 @@ pub fn cannot_open<E: Write>(alloc: Global, failure: &io::Error, error: &mut E) 
     break_off(error)
 }
 
-/// Prints the text.
-pub fn print<W: Write, E: Write>(text: &str, output: &mut W, error: &mut E) -> u8
+/// Prints the text. If the output fails, a record has the cause.
+pub fn print<L: Log, W: Write, E: Write>(rt: &L, text: &str, output: &mut W, error: &mut E) -> u8
     ensures { Prints text.now (W.contents output.old) (W.contents output.new) result }
 {
     match write_whole(output, text.as_bytes()) {
         Ok(()) => DONE,
-        Err(_) => break_off(error),
+        Err(cause) => stream_failed(rt, "standard output", &cause, error),
     }
 }

@@ -4,5 +4,7 @@
 pub mod exits;
 pub mod named;
 
-pub use exits::{DONE, MISUSED, REFUSED, break_off, cannot_open, print, refuse, say};
+pub use exits::{
+    DONE, MISUSED, REFUSED, break_off, cannot_open, print, refuse, say, stream_failed,
+};
 pub use named::{port_named, stripes_named};

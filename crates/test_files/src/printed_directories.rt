@@ -12,10 +12,18 @@ fn a_disk_is_formatted_and_checked(rt: HostRuntime) -> Result<(), Fail> {
     let mut output = Vec::new(alloc);
     let mut error = Vec::new(alloc);
     assert_eq!(rt;
-        init_disk(alloc, &mut disk, stripes, &mut output, &mut error),
+        init_disk(
+            &rt,
+            alloc,
+            &mut disk,
+            None,
+            stripes,
+            &mut output,
+            &mut error
+        ),
         0
     );
-    let (_disk, status) = check_disk(alloc, disk, &mut output, &mut error);
+    let (_disk, status) = check_disk(&rt, alloc, disk, None, &mut output, &mut error);
     assert_eq!(rt; status, 0);
     assert_eq!(rt;
         output.as_slice(),
@@ -35,7 +43,15 @@ fn a_device_that_fails(rt: HostRuntime) -> Result<(), Fail> {
     let mut output = Vec::new(alloc);
     let mut error = Vec::new(alloc);
     assert_eq!(rt;
-        init_disk(alloc, &mut disk, stripes, &mut output, &mut error),
+        init_disk(
+            &rt,
+            alloc,
+            &mut disk,
+            None,
+            stripes,
+            &mut output,
+            &mut error
+        ),
         1
     );
     assert!(rt; output.is_empty());
@@ -52,7 +68,15 @@ fn an_output_that_fails(rt: HostRuntime) -> Result<(), Fail> {
     let mut output = room.as_mut_slice();
     let mut error = Vec::new(alloc);
     assert_eq!(rt;
-        init_disk(alloc, &mut disk, stripes, &mut output, &mut error),
+        init_disk(
+            &rt,
+            alloc,
+            &mut disk,
+            None,
+            stripes,
+            &mut output,
+            &mut error
+        ),
         1
     );
     assert_eq!(rt; room.as_slice(), b"forma".as_slice());

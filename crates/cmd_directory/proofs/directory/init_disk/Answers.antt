@@ -42,5 +42,5 @@ returns g c =
     record {
       was_honest = why.was_honest;
       moments = why.moments;
-      ends = inr (record { refusal = c.in-Err.refusal; reason = reason; untouched = λ other. inr (why.untouched other); prints = (refl, c.refuse-in-Err.ensures) });
+      ends = inr (record { refusal = c.in-Err.refusal; reason = reason; untouched = λ other. inr (why.untouched other); prints = (refl, c.refuse_directory.ensures) });
     }
