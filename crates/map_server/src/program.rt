@@ -106,12 +106,12 @@ pub fn dchm<T: Host, M: Directories + Servers, R: Read, W: Write, E: Write>(
     match order_of(alloc, words) {
         Ok(Order::Mem) => mem(rt, alloc, input, output, error),
         Ok(Order::Init { directory, stripes }) => {
-            init(machine, alloc, directory, stripes, output, error)
+            init(rt, machine, alloc, directory, stripes, output, error)
         }
-        Ok(Order::Check { directory }) => check(machine, alloc, directory, output, error),
+        Ok(Order::Check { directory }) => check(rt, machine, alloc, directory, output, error),
         Ok(Order::Serve(words)) => serve(rt, machine, alloc, &words, output, error),
         Ok(Order::Call { port, words }) => {
-            make_calls(machine, alloc, port, words.as_slice(), input, output, error)
+            make_calls(rt, machine, alloc, port, words.as_slice(), input, output, error)
         }
         Ok(Order::Sim { file }) => sim(rt, alloc, file, output, error),
         Err(advice) => advise(alloc, &advice, output, error),

@@ -1,5 +1,6 @@
 //! Calls of a server, and what is printed of their answers.
 use cmd_call::{Servers, ask, call};
+use log::Log;
 use map_types::{Key, Question, Read, Refusal};
 use std::alloc::Global;
 use wire_frames::Request;
@@ -26,12 +27,19 @@ fn get_a(alloc: Global) -> Result<Request, Refusal> {
 }
 
 // Whether `a` is asked for by this request, and this is printed if it's answered with these bytes.
-fn is_sent(alloc: Global, request: &Request, answer: &[u8], expected: Printed) -> bool {
+fn is_sent<L: Log>(
+    rt: &L,
+    alloc: Global,
+    request: &Request,
+    answer: &[u8],
+    expected: Printed,
+) -> bool {
     let mut reader = answer;
     let mut writer = Vec::new(alloc);
     let mut output = Vec::new(alloc);
     let mut error = Vec::new(alloc);
     let status = ask(
+        rt,
         alloc,
         &mut reader,
         &mut writer,
@@ -44,9 +52,14 @@ fn is_sent(alloc: Global, request: &Request, answer: &[u8], expected: Printed) -
 }
 
 // Whether this is printed of asking for `a`, which is answered with these bytes.
-fn is_asked(alloc: Global, answer: &[u8], expected: Printed) -> Result<bool, Refusal> {
+fn is_asked<L: Log>(
+    rt: &L,
+    alloc: Global,
+    answer: &[u8],
+    expected: Printed,
+) -> Result<bool, Refusal> {
     let request = get_a(alloc)?;
-    let is_asked = is_sent(alloc, &request, answer, expected);
+    let is_asked = is_sent(rt, alloc, &request, answer, expected);
     drop(request);
     Ok(is_asked)
 }
@@ -99,7 +112,7 @@ static ANSWERS: [(&[u8], Printed); 5] = [
 fn answers_as_they_are_printed(rt: HostRuntime) {
     for (answer, printed) in &ANSWERS {
         assert_eq!(rt;
-            is_asked(rt.alloc(), answer, *printed),
+            is_asked(&rt, rt.alloc(), answer, *printed),
             Ok(true),
             "{printed:?}"
         );
@@ -107,7 +120,7 @@ fn answers_as_they_are_printed(rt: HostRuntime) {
 }
 
 // Whether a call of these words at this port has no answer, and this is said of it.
-fn is_unanswered<M: Servers>(
+fn is_unanswered<M: Servers + Log>(
     machine: &M,
     alloc: Global,
     port: &str,
@@ -117,7 +130,15 @@ fn is_unanswered<M: Servers>(
 ) -> bool {
     let mut output = Vec::new(alloc);
     let mut error = Vec::new(alloc);
-    let printed = call(machine, alloc, port, words, &mut output, &mut error);
+    let printed = call(
+        machine,
+        machine,
+        alloc,
+        port,
+        words,
+        &mut output,
+        &mut error,
+    );
     printed == status && output.is_empty() && error.as_slice() == said
 }
 

@@ -1,13 +1,14 @@
 //! What is printed, and the numbers that words name.
 use cmd_text::{break_off, cannot_open, port_named, print, refuse, stripes_named};
+use log::Log;
 use map_types::Refusal;
 use std::alloc::Global;
 use std::io;
 use std::io::ErrorKind;
 
 // Whether a printed line is all that there is.
-fn is_printed_alone(output: &mut Vec<u8>, error: &mut Vec<u8>) -> bool {
-    let status = print("did yes\n", output, error);
+fn is_printed_alone<L: Log>(rt: &L, output: &mut Vec<u8>, error: &mut Vec<u8>) -> bool {
+    let status = print(rt, "did yes\n", output, error);
     status == 0 && output.as_slice() == b"did yes\n".as_slice() && error.is_empty()
 }
 
@@ -29,7 +30,7 @@ fn what_is_said(rt: HostRuntime) {
     let alloc = rt.alloc();
     let mut output = Vec::new(alloc);
     let mut error = Vec::new(alloc);
-    assert!(rt; is_printed_alone(&mut output, &mut error));
+    assert!(rt; is_printed_alone(&rt, &mut output, &mut error));
     drop(output);
     let are_exits = complaints(alloc, &mut error) == [1; 4];
     assert!(rt; are_exits && error.as_slice() == COMPLAINTS, "{error:?}");
@@ -37,17 +38,17 @@ fn what_is_said(rt: HostRuntime) {
 }
 
 // Whether a line that is too long for an output of five bytes is cut short, and this is said.
-fn is_cut_short(error: &mut Vec<u8>) -> bool {
+fn is_cut_short<L: Log>(rt: &L, error: &mut Vec<u8>) -> bool {
     let mut room = [0u8; 5];
     let mut output = room.as_mut_slice();
-    let status = print("formatted 16\n", &mut output, error);
+    let status = print(rt, "formatted 16\n", &mut output, error);
     status == 1 && room == *b"forma" && error.as_slice() == b"unreadable\n".as_slice()
 }
 
 #[test]
 fn an_output_that_fails(rt: HostRuntime) {
     let mut error = Vec::new(rt.alloc());
-    assert!(rt; is_cut_short(&mut error), "{error:?}");
+    assert!(rt; is_cut_short(&rt, &mut error), "{error:?}");
     drop(error);
 }
 
