@@ -57,9 +57,9 @@ call_line = with_rule (with_rule (new_app (codes "call")) port_rule) words_rule
 abbrev pub sim_line : App
 sim_line = with_rule (new_app (codes "sim")) file_rule
 
--- `dchm` with no subcommand, which it wants
+-- `dchm` with no subcommand, which it wants; it has a version
 abbrev pub bare_line : App
-bare_line = on_top (λ s. record s { subcommand_required = true }) (new_app (codes "dchm"))
+bare_line = on_top (λ s. record s { subcommand_required = true; has_version = true }) (new_app (codes "dchm"))
 
 -- `dchm`, which wants one of its subcommands
 abbrev pub command_line : App

@@ -6,6 +6,7 @@ ghost use Rattle.map_server.specs.CommandLine.{call_line, check_line, command_li
 
 use clap::{Arg, ArgAction, ArgMatches, Command, Error};
 use cmd_serve::ServerWords;
+use cmd_text::VERSION;
 use std::alloc::{AllocError, Global};
 
 /// What a command line asks for.
@@ -239,6 +240,7 @@ fn known_lines<'a>(alloc: Global) -> Result<Command<'a>, AllocError>
 {
     Command::new(alloc, "dchm")
         .about("A durable concurrent map from text keys to values")
+        .version(VERSION)
         .subcommand_required(true)
         .subcommand(mem_line(alloc))?
         .subcommand(init_line(alloc)?)?

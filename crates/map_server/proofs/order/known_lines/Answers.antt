@@ -9,7 +9,7 @@ use Rattle.map_server.proofs.order.known_lines.Goals as goal
 pub returns : goal.returns
 returns c =
     let bare : app_of c.subcommand_required.result ≡ bare_line =
-    rw (c.subcommand_required.ensures, c.about.ensures) (ap (on_top (λ (s : Shape). record s { subcommand_required = true })) c.new.ensures.app) in
+    rw (c.subcommand_required.ensures, c.version.ensures, c.about.ensures) (ap (on_top (λ (s : Shape). record s { subcommand_required = true; has_version = true })) c.new.ensures.app) in
     let one = with_line _ _ _ _ mem_line c.in_ok-subcommand.ensures c.mem_line.ensures.local c.mem_line.ensures.app bare in
     let two = with_line _ _ _ _ init_line c.in_ok-subcommand-2.ensures c.in_ok-init_line.ensures.local c.in_ok-init_line.ensures.app one in
     let three = with_line _ _ _ _ check_line c.in_ok-subcommand-3.ensures c.in_ok-check_line.ensures.local c.in_ok-check_line.ensures.app two in
