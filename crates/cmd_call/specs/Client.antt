@@ -1,5 +1,5 @@
 -- What a client asks of a server, and what it prints of the answer.
-use Rattle.std.specs.Prelude.{◌≡◌, ◌≢◌, ◌⊎◌, ℕ, List, ◌++◌, codes, Option, None, Some, Result, Ok, Err}
+use Rattle.std.specs.Prelude.{◌≡◌, ◌≢◌, ◌⊎◌, ℕ, List, ◌++◌, codes, Option, Result, Ok, Err}
 use Rattle.std.specs.Io.KnownBytes.{Appends}
 use Rattle.std.specs.declared.io.Error.{Error}
 use Rattle.map_types.specs.declared.commands.Reply.{Reply}
@@ -22,7 +22,9 @@ use Rattle.wire_frames.specs.Receiving.{ReadsReply}
 use Rattle.cmd_call.specs.declared.client.Unanswered.{Unanswered}
 use Rattle.cmd_call.specs.declared.client.Unanswered.TheVariants.{NoReply, NoMemory}
 use Rattle.cmd_text.specs.Printing.{Prints, PrintsNothing}
-use Rattle.cmd_text.specs.Naming.{IsNamed, IsPort}
+use Rattle.cmd_call.specs.declared.places.PlaceWords.{PlaceWords}
+use Rattle.cmd_call.specs.declared.servers.Place.{Place}
+use Rattle.cmd_call.specs.Places.{NamesNoPlace, NamesPlace}
 
 -- the bytes that a reader has left, or that a writer holds, if they are known
 abbrev pub Known : Type 0
@@ -87,35 +89,32 @@ request_of (called.Search threshold value) = request.Bulk (bulk.Search threshold
 abbrev pub PrintsMisuse : Known → Known → ℕ → Type 0
 PrintsMisuse o0 o1 status = (o1 ≡ o0) × (status ≡ 2)
 
-abbrev pub IsNoPort : List ℕ → Type 0
-IsNoPort text = IsNamed IsPort text None
-
--- IsConnected says of a reader and a writer that they are the ends of a new connection to a port. IsUnreachable says that a connection to a port was tried,
--- and there was none, for an error.
-module _ {R W : Type 0} (remaining : R → Known) (contents : W → Known) (IsConnected : ℕ → R → W → Type 0) (IsUnreachable : ℕ → Error → Type 0) where
-  -- a server was asked at the port, and its answer printed
-  pub record AsksAtPort (port : ℕ) (request : Request) (o0 o1 : Known) (status : ℕ) : Type 0 where
+-- IsConnected says of a reader and a writer that they are the ends of a new connection to a place. IsUnreachable says that a connection to a place was
+-- tried, and there was none, for an error.
+module _ {R W : Type 0} (remaining : R → Known) (contents : W → Known) (IsConnected : Place → R → W → Type 0) (IsUnreachable : Place → Error → Type 0) where
+  -- a server was asked at the place, and its answer printed
+  pub record AsksAt (place : Place) (request : Request) (o0 o1 : Known) (status : ℕ) : Type 0 where
     pub reader : R
     pub reader_after : R
     pub writer : W
     pub writer_after : W
-    pub connected : IsConnected port reader writer
+    pub connected : IsConnected place reader writer
     pub asks : AsksServer (remaining reader) (remaining reader_after) (contents writer) (contents writer_after) o0 o1 request status
 
-  -- no connection to the port could be had, and nothing was printed, with status 1
-  abbrev pub CannotConnect : ℕ → Known → Known → ℕ → Type 0
-  CannotConnect port o0 o1 status = (error : Error) × IsUnreachable port error × PrintsNothing o0 o1 status
+  -- no connection to the place could be had, and nothing was printed, with status 1
+  abbrev pub CannotConnect : Place → Known → Known → ℕ → Type 0
+  CannotConnect place o0 o1 status = (error : Error) × IsUnreachable place error × PrintsNothing o0 o1 status
 
-  -- a server was asked at the port, or no connection to it could be had
-  abbrev pub CallsAtPort : ℕ → Request → Known → Known → ℕ → Type 0
-  CallsAtPort port request o0 o1 status = AsksAtPort port request o0 o1 status ⊎ CannotConnect port o0 o1 status
+  -- a server was asked at the place, or no connection to it could be had
+  abbrev pub CallsAt : Place → Request → Known → Known → ℕ → Type 0
+  CallsAt place request o0 o1 status = AsksAt place request o0 o1 status ⊎ CannotConnect place o0 o1 status
 
-  -- For the words of a call: if `word` names no port, nothing is printed, with status 2; else a server is asked for what the words say, or can't be
+  -- For the words of a call: if `at` names no place, nothing is printed, with status 2; else a server is asked for what the words say, or can't be
   -- reached. If no memory was found to read the words, nothing is printed, with status 1. Words that are no call print nothing, with status 2; or 1 if no
   -- memory was found to read them.
-  abbrev pub CallsServer : List ℕ → Result Called BadWord → Known → Known → ℕ → Type 0
-  CallsServer word (Ok called) o0 o1 status =
-      (IsNoPort word × PrintsMisuse o0 o1 status)
-      ⊎ ((port : ℕ) × IsNamed IsPort word (Some port) × (CallsAtPort port (request_of called) o0 o1 status ⊎ PrintsNothing o0 o1 status))
-  CallsServer word (Err bad) o0 o1 status =
-      PrintsMisuse o0 o1 status ⊎ ((port : ℕ) × IsNamed IsPort word (Some port) × PrintsNothing o0 o1 status)
+  abbrev pub CallsServer : PlaceWords → Result Called BadWord → Known → Known → ℕ → Type 0
+  CallsServer at (Ok called) o0 o1 status =
+      (NamesNoPlace at × PrintsMisuse o0 o1 status)
+      ⊎ ((place : Place) × NamesPlace at place × (CallsAt place (request_of called) o0 o1 status ⊎ PrintsNothing o0 o1 status))
+  CallsServer at (Err bad) o0 o1 status =
+      PrintsMisuse o0 o1 status ⊎ ((place : Place) × NamesPlace at place × PrintsNothing o0 o1 status)

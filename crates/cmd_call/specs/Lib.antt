@@ -1,4 +1,5 @@
 pub mod Client
+pub mod Places
 pub mod Lines
 pub mod Rounds
 pub mod Inputs

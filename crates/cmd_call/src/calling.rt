@@ -2,11 +2,12 @@
 ghost use Rattle.std.specs.Prelude.{◌≡◌, map};
 ghost use Rattle.cmd_call.specs.Calling.{CallsLines, MakesCalls, asks_lines};
 
-use crate::client::{NO_PORT, call};
+use crate::client::call;
 use crate::input::answer_input;
+use crate::places::{PlaceWords, place_named};
 use crate::rounds::Stop;
 use crate::servers::Servers;
-use cmd_text::{MISUSED, port_named, refuse, say, stream_failed};
+use cmd_text::{MISUSED, refuse, say, stream_failed};
 use log::Log;
 use map_types::Refusal;
 use std::alloc::Global;
@@ -23,7 +24,7 @@ fn stop<L: Log, E: Write>(rt: &L, alloc: Global, why: Stop, error: &mut E) -> u8
     }
 }
 
-/// Makes a call of the server at the port of this machine for each line of the input, and prints a
+/// Makes a call of the server at the place that `at` names for each line of the input, and prints a
 /// line for each on `output`, in the same order: the reply; `refused` and the refusal; `misuse` and
 /// what is wrong with the line, which isn't sent; or `no reply`. Up to 64 lines in hand are asked
 /// together, over one connection. Once that is lost, each further call has no reply.
@@ -35,20 +36,23 @@ pub fn call_lines<L: Log, M: Servers, I: Read, W: Write, E: Write>(
     rt: &L,
     machine: &M,
     alloc: Global,
-    port: &str,
+    at: &PlaceWords<'_>,
     input: &mut I,
     output: &mut W,
     error: &mut E,
 ) -> u8
     ensures { CallsLines M.Reader.fails M.Reader.remaining M.Writer.contents M.is_connected
-        M.is_unreachable port.now (I.remaining input.old) (I.remaining input.new)
+        M.is_unreachable at.now (I.remaining input.old) (I.remaining input.new)
         (W.contents output.old) (W.contents output.new) result }
 {
-    let Some(port) = port_named(port) else {
-        say(error, NO_PORT);
-        return MISUSED;
+    let place = match place_named(at) {
+        Ok(place) => place,
+        Err(text) => {
+            say(error, text);
+            return MISUSED;
+        }
     };
-    let mut server = machine.connect_to(port).ok();
+    let mut server = machine.connect_to(place).ok();
     match answer_input(alloc, &mut server, input, output) {
         Ok(status) => status,
         Err(why) => stop(rt, alloc, why, error),
@@ -70,20 +74,20 @@ pub fn make_calls<L: Log, M: Servers, I: Read, W: Write, E: Write>(
     rt: &L,
     machine: &M,
     alloc: Global,
-    port: &str,
+    at: &PlaceWords<'_>,
     words: &[&str],
     input: &mut I,
     output: &mut W,
     error: &mut E,
 ) -> u8
     ensures { MakesCalls M.Reader.fails M.Reader.remaining M.Writer.contents M.is_connected
-        M.is_unreachable port.now (map (λ word. word.now) words.now)
+        M.is_unreachable at.now (map (λ word. word.now) words.now)
         (I.remaining input.old) (I.remaining input.new)
         (W.contents output.old) (W.contents output.new) result }
 {
     if asks_lines(words) {
-        call_lines(rt, machine, alloc, port, input, output, error)
+        call_lines(rt, machine, alloc, at, input, output, error)
     } else {
-        call(rt, machine, alloc, port, words, output, error)
+        call(rt, machine, alloc, at, words, output, error)
     }
 }

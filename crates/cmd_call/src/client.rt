@@ -1,19 +1,17 @@
 //! A call of a server: its request is sent, and its reply is printed.
 ghost use Rattle.std.specs.Prelude.{◌≡◌, IfNone, IfOk, IfSome, map, string_bytes};
 ghost use Rattle.call_text.specs.Whole.{parse_words};
-ghost use Rattle.cmd_call.specs.Client.{AsksServer, CallsAtPort, CallsServer, Exchanges, IsReplyLine, PrintsReply, keyed_request, request_of};
+ghost use Rattle.cmd_call.specs.Client.{AsksServer, CallsAt, CallsServer, Exchanges, IsReplyLine, PrintsReply, keyed_request, request_of};
 
-use crate::servers::Servers;
+use crate::places::{PlaceWords, place_named};
+use crate::servers::{Place, Servers};
 use call_text::{Asked, BadWord, CallError, Called, parse_words, reply_text};
-use cmd_text::{MISUSED, REFUSED, port_named, print, refuse, say};
+use cmd_text::{MISUSED, REFUSED, print, refuse, say};
 use log::Log;
 use map_types::{Refusal, Reply};
 use std::alloc::{AllocError, Global};
 use std::io::{Read, Write};
 use wire_frames::{Bulk, ReplyError, Request, read_reply, request_frame, write_whole};
-
-/// What is said of a word that names no port.
-pub(crate) const NO_PORT: &str = "a port is a number from 1 to 65535\n";
 
 /// Why a request has no answer.
 #[derive(Clone, Copy)]
@@ -138,20 +136,20 @@ fn misuse<E: Write>(alloc: Global, word: BadWord, error: &mut E) -> u8
     MISUSED
 }
 
-/// Sends the request to the server at the port of this machine, and prints its reply.
+/// Sends the request to the server at the place, and prints its reply.
 fn ask_at<L: Log, M: Servers, W: Write, E: Write>(
     rt: &L,
     machine: &M,
     alloc: Global,
-    port: u16,
+    place: Place<'_>,
     request: &Request,
     output: &mut W,
     error: &mut E,
 ) -> u8
-    ensures { CallsAtPort M.Reader.remaining M.Writer.contents M.is_connected M.is_unreachable port
+    ensures { CallsAt M.Reader.remaining M.Writer.contents M.is_connected M.is_unreachable place.entry
         request.now (W.contents output.old) (W.contents output.new) result }
 {
-    match machine.connect_to(port) {
+    match machine.connect_to(place) {
         Ok((mut reader, mut writer)) => {
             ask(rt, alloc, &mut reader, &mut writer, request, output, error)
         }
@@ -159,18 +157,18 @@ fn ask_at<L: Log, M: Servers, W: Write, E: Write>(
     }
 }
 
-/// Sends what the words ask for to the server at the port of this machine, and prints its reply.
+/// Sends what the words ask for to the server at the place that `at` names, and prints its reply.
 pub fn call<L: Log, M: Servers, W: Write, E: Write>(
     rt: &L,
     machine: &M,
     alloc: Global,
-    port: &str,
+    at: &PlaceWords<'_>,
     words: &[&str],
     output: &mut W,
     error: &mut E,
 ) -> u8
     ensures { CallsServer M.Reader.remaining M.Writer.contents M.is_connected M.is_unreachable
-        port.now (parse_words (map (λ word. word.now) words.now)) (W.contents output.old)
+        at.now (parse_words (map (λ word. word.now) words.now)) (W.contents output.old)
         (W.contents output.new) result }
 {
     let request = match parse_words(alloc, words) {
@@ -178,15 +176,18 @@ pub fn call<L: Log, M: Servers, W: Write, E: Write>(
         Err(CallError::Bad(word)) => return misuse(alloc, word, error),
         Err(CallError::NoMemory) => None,
     };
-    let Some(port) = port_named(port) else {
-        drop(request);
-        say(error, NO_PORT);
-        return MISUSED;
+    let place = match place_named(at) {
+        Ok(place) => place,
+        Err(text) => {
+            drop(request);
+            say(error, text);
+            return MISUSED;
+        }
     };
     let Some(request) = request else {
         return refuse(alloc, Refusal::NoMemory, error);
     };
-    let status = ask_at(rt, machine, alloc, port, &request, output, error);
+    let status = ask_at(rt, machine, alloc, place, &request, output, error);
     drop(request);
     status
 }

@@ -7,9 +7,11 @@ pub mod client;
 mod input;
 pub mod lines;
 pub mod outcomes;
+pub mod places;
 pub mod rounds;
 pub mod servers;
 
 pub use calling::{call_lines, make_calls};
 pub use client::{ask, call};
-pub use servers::{Replies, Servers};
+pub use places::{PlaceWords, place_named};
+pub use servers::{Place, Replies, ServerStream, Servers};

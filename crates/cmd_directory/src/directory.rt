@@ -1,4 +1,5 @@
 //! A directory is formatted, or looked at, and what came of it is printed.
+ghost use Rattle.std.specs.Prelude.{◌≡◌};
 ghost use Rattle.cmd_directory.specs.Directory.{Checks, Formats, Inits, Inspects};
 
 use crate::opening::Directories;
