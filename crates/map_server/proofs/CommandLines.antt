@@ -7,6 +7,7 @@ use Rattle.clap.specs.declared.error.kind.ErrorKind.TheVariants.{OutOfMemory}
 use Rattle.clap.proofs.OnLiterals.{clap_on_literals}
 use Rattle.disk_model.specs.Files.{Files}
 use Rattle.wire_frames.specs.declared.receiving.ReplyError.{ReplyError}
+use Rattle.cmd_call.specs.declared.servers.Place.{Place}
 use Rattle.map_server.specs.CommandLine.{faults, name_of, named_by, Advises, Asks, FindsNoMemory, Names}
 use Rattle.map_server.specs.Program.{Does, Ran, Serves}
 use Rattle.map_server.specs.declared.order.Order.{Order}
@@ -37,8 +38,8 @@ unfolding first_letter
 first_of_mem named letter text Given is mem = ap first_letter (sym (ap name_of is.1) ∙ mem)
 
 module _ {D R W : Type 0} (states : D → List Files) (failures : D → ℕ) (honest : D → Type 0) (IsOpened IsCreated : Text → D → Type 0)
-    (IsRefused : Text → Error → Type 0) (Fails : Option (List ℕ) → Option (List ℕ) → ReplyError → Type 0) (remaining : R → Option (List ℕ)) (contents : W → Option (List ℕ)) (IsConnected : ℕ → R → W → Type 0)
-    (IsUnreachable : ℕ → Error → Type 0) (words : List Text) where
+    (IsRefused : Text → Error → Type 0) (Fails : Option (List ℕ) → Option (List ℕ) → ReplyError → Type 0) (remaining : R → Option (List ℕ)) (contents : W → Option (List ℕ)) (IsConnected : Place → R → W → Type 0)
+    (IsUnreachable : Place → Error → Type 0) (words : List Text) where
   serves_mem : (order : Order) (r0 r1 w0 w1 : Option (List ℕ)) (status : ℕ) → Asks (named_by words) order
       → Does states failures honest IsOpened IsCreated IsRefused Fails remaining contents IsConnected IsUnreachable order r0 r1 w0 w1 status
       → name_of (named_by words) ≡ Some (codes "mem") → Serves r0 r1 w0 w1 status
@@ -46,7 +47,7 @@ module _ {D R W : Type 0} (states : D → List Files) (failures : D → ℕ) (ho
   serves_mem (Init directory stripes) r0 r1 w0 w1 status asked done is = let bad = first_of_mem (named_by words) 105 _ _ asked is in absurd (omega arith)
   serves_mem (Check directory) r0 r1 w0 w1 status asked done is = let bad = first_of_mem (named_by words) 99 _ _ asked is in absurd (omega arith)
   serves_mem (Serve server) r0 r1 w0 w1 status asked done is = let bad = first_of_mem (named_by words) 115 _ _ asked is in absurd (omega arith)
-  serves_mem (Call port call) r0 r1 w0 w1 status asked done is = let bad = first_of_mem (named_by words) 99 _ _ asked is in absurd (omega arith)
+  serves_mem (Call at call) r0 r1 w0 w1 status asked done is = let bad = first_of_mem (named_by words) 99 _ _ asked is in absurd (omega arith)
   serves_mem (Sim file) r0 r1 w0 w1 status asked done is = let bad = first_of_mem (named_by words) 115 _ _ asked is in absurd (omega arith)
 
   pub obeys : (order : Order) (r0 r1 w0 w1 : Option (List ℕ)) (status : ℕ) → faults words ≡ [] → Asks (named_by words) order

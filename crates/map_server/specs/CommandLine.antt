@@ -4,6 +4,8 @@ use Rattle.clap.specs.Words.{App, Row, Rule, Text, IsAmong, Kinds, all_of, fault
 use Rattle.clap.specs.Simple.{on_top}
 use Rattle.clap.specs.Lexer.{usize_max}
 use Rattle.clap.specs.declared.builder.action.ArgAction.TheVariants.{Set, Append}
+use Rattle.std.specs.Borrow.{Bor}
+use Rattle.cmd_call.specs.declared.places.PlaceWords.{PlaceWords}
 use Rattle.cmd_serve.specs.declared.server.ServerWords.{ServerWords}
 use Rattle.map_server.specs.declared.order.Order.{Order}
 use Rattle.map_server.specs.declared.order.Order.TheVariants.{Mem, Init, Check, Serve, Call, Sim}
@@ -52,7 +54,7 @@ serve_line =
     (option_rule (codes "idle-seconds"))) (option_rule (codes "log-ahead"))
 
 abbrev pub call_line : App
-call_line = with_rule (with_rule (new_app (codes "call")) port_rule) words_rule
+call_line = with_rule (with_rule (with_rule (new_app (codes "call")) (option_rule (codes "port"))) (option_rule (codes "socket"))) words_rule
 
 abbrev pub sim_line : App
 sim_line = with_rule (new_app (codes "sim")) file_rule
@@ -108,6 +110,14 @@ pub record GivesServer (rows : List Row) (words : ServerWords) : Type 0 where
   pub idle : words.idle.now ≡ word_or (codes "0") (codes "idle-seconds") rows
   pub ahead : words.ahead.now ≡ word_or (codes "1048576") (codes "log-ahead") rows
 
+abbrev pub word_of : Option (Bor Text) → Option Text
+word_of word = option_map (λ w. w.now) word
+
+-- where the server of a call is; each of the two may be left out
+pub record GivesPlace (rows : List Row) (at : PlaceWords) : Type 0 where
+  pub port : word_of at.port ≡ first_of (codes "port") rows
+  pub socket : word_of at.socket ≡ first_of (codes "socket") rows
+
 -- this subcommand is named, and its arguments are given so
 abbrev pub Names : Option (Text × List Row) → Text → (List Row → Type 0) → Type 0
 Names named name Given = (rows : List Row) × (named ≡ Some (name, rows)) × Given rows
@@ -121,8 +131,8 @@ Asks named (Init directory stripes) =
     Names named (codes "init") (λ rows. (directory.now ≡ directory_in rows) × (stripes.now ≡ stripes_in rows))
 Asks named (Check directory) = Names named (codes "check") (λ rows. directory.now ≡ directory_in rows)
 Asks named (Serve words) = Names named (codes "serve") (λ rows. GivesServer rows words)
-Asks named (Call port words) =
-    Names named (codes "call") (λ rows. (port.now ≡ port_in rows) × (map (λ word. word.now) words.items ≡ call_in rows))
+Asks named (Call at words) =
+    Names named (codes "call") (λ rows. GivesPlace rows at × (map (λ word. word.now) words.items ≡ call_in rows))
 Asks named (Sim file) = Names named (codes "sim") (λ rows. file.now ≡ word_or [] (codes "FILE") rows)
 
 -- ---- words that have a fault

@@ -2,9 +2,10 @@
 ghost use Rattle.std.specs.Prelude.{◌≡◌, false, codes, map, option_map, string_bytes, IfOk};
 ghost use Rattle.clap.specs.Words.{app_of, found_of, rows_of, rule_of, subcommand_rows_of, FailsBy};
 ghost use Rattle.clap.specs.declared.builder.command.Command.TheViews.{out-Command as fields_of};
-ghost use Rattle.map_server.specs.CommandLine.{call_line, check_line, command_line, directory_rule, faults, file_rule, init_line, mem_line, named_by, option_rule, port_rule, serve_line, sim_line, word_or, words_rule, call_in, Asks, GivesServer};
+ghost use Rattle.map_server.specs.CommandLine.{call_line, check_line, command_line, directory_rule, faults, file_rule, init_line, mem_line, named_by, option_rule, port_rule, serve_line, sim_line, word_or, words_rule, call_in, Asks, GivesPlace, GivesServer};
 
 use clap::{Arg, ArgAction, ArgMatches, Command, Error};
+use cmd_call::PlaceWords;
 use cmd_serve::ServerWords;
 use cmd_text::VERSION;
 use std::alloc::{AllocError, Global};
@@ -27,7 +28,7 @@ pub enum Order<'a> {
     Serve(ServerWords<'a>),
     /// Make the call of these words, or those of the input.
     Call {
-        port: &'a str,
+        at: PlaceWords<'a>,
         words: Vec<&'a str>,
     },
     /// Play the script of the file.
@@ -214,11 +215,24 @@ fn call_line<'a>(alloc: Global) -> Result<Command<'a>, AllocError>
     ensures app { IfOk result (λ command. app_of command ≡ call_line) }
     ensures local { IfOk result (λ command. (fields_of command).has_globals ≡ false) }
 {
+    let server_port = option(
+        alloc,
+        "port",
+        "P",
+        "The server's port on this machine, from 1 to 65535; or --socket",
+    );
+    let socket = option(
+        alloc,
+        "socket",
+        "PATH",
+        "The path of the server's Unix socket, in place of --port",
+    );
     Command::new(alloc, "call")
         .about(
             "Makes one call of a server, or one for each line of standard input, and prints the replies",
         )
-        .arg(port(alloc))?
+        .arg(server_port)?
+        .arg(socket)?
         .arg(call_words(alloc))
 }
 
@@ -275,6 +289,16 @@ fn words_in<'a>(alloc: Global, matches: &ArgMatches<'a>) -> Result<Vec<&'a str>,
     Ok(words)
 }
 
+/// The words that say where the server of a call is.
+fn place_in<'a>(matches: &ArgMatches<'a>) -> PlaceWords<'a>
+    ensures { GivesPlace (rows_of (found_of matches.now)) result }
+{
+    PlaceWords {
+        port: matches.get_str("port"),
+        socket: matches.get_str("socket"),
+    }
+}
+
 /// What the words of `dchm serve` ask for.
 fn server_in<'a>(matches: &ArgMatches<'a>) -> ServerWords<'a>
     ensures { GivesServer (rows_of (found_of matches.now)) result }
@@ -305,7 +329,7 @@ fn order_in<'a>(alloc: Global, matches: &ArgMatches<'a>) -> Result<Order<'a>, Al
         }),
         Some(("serve", found)) => Ok(Order::Serve(server_in(found))),
         Some(("call", found)) => Ok(Order::Call {
-            port: word_or(found, "port", ""),
+            at: place_in(found),
             words: words_in(alloc, found)?,
         }),
         Some(("sim", found)) => Ok(Order::Sim {

@@ -110,8 +110,17 @@ pub fn dchm<T: Host, M: Directories + Servers, R: Read, W: Write, E: Write>(
         }
         Ok(Order::Check { directory }) => check(rt, machine, alloc, directory, output, error),
         Ok(Order::Serve(words)) => serve(rt, machine, alloc, &words, output, error),
-        Ok(Order::Call { port, words }) => {
-            make_calls(rt, machine, alloc, port, words.as_slice(), input, output, error)
+        Ok(Order::Call { at, words }) => {
+            make_calls(
+                rt,
+                machine,
+                alloc,
+                &at,
+                words.as_slice(),
+                input,
+                output,
+                error,
+            )
         }
         Ok(Order::Sim { file }) => sim(rt, alloc, file, output, error),
         Err(advice) => advise(alloc, &advice, output, error),

@@ -1,5 +1,5 @@
 //! Calls of a server, and what is printed of their answers.
-use cmd_call::{Servers, ask, call};
+use cmd_call::{PlaceWords, Servers, ask, call};
 use log::Log;
 use map_types::{Key, Question, Read, Refusal};
 use std::alloc::Global;
@@ -119,26 +119,18 @@ fn answers_as_they_are_printed(rt: HostRuntime) {
     }
 }
 
-// Whether a call of these words at this port has no answer, and this is said of it.
+// Whether a call of these words at this place has no answer, and this is said of it.
 fn is_unanswered<M: Servers + Log>(
     machine: &M,
     alloc: Global,
-    port: &str,
+    at: &PlaceWords<'_>,
     words: &[&str],
     status: u8,
     said: &[u8],
 ) -> bool {
     let mut output = Vec::new(alloc);
     let mut error = Vec::new(alloc);
-    let printed = call(
-        machine,
-        machine,
-        alloc,
-        port,
-        words,
-        &mut output,
-        &mut error,
-    );
+    let printed = call(machine, machine, alloc, at, words, &mut output, &mut error);
     printed == status && output.is_empty() && error.as_slice() == said
 }
 
@@ -190,7 +182,47 @@ static CALLS: [(&str, &[&str], u8, &[u8]); 13] = [
 #[test]
 fn calls_without_an_answer(rt: HostRuntime) {
     for (port, words, status, error) in &CALLS {
-        let is_unanswered = is_unanswered(&rt, rt.alloc(), port, words, *status, error);
+        let at = PlaceWords {
+            port: Some(*port),
+            socket: None,
+        };
+        let is_unanswered = is_unanswered(&rt, rt.alloc(), &at, words, *status, error);
         assert!(rt; is_unanswered, "{port} {words:?}");
+    }
+}
+
+/// What is said of words that name a port and a path, or neither.
+const NOT_ONE: &[u8] = b"one of --port P and --socket PATH is wanted\n";
+
+/// What is said of a path that is too long, or empty.
+const NO_SOCKET: &[u8] = b"PATH has from 1 to 107 bytes\n";
+
+/// A path that is absent, of the most bytes.
+const LONGEST: &str =
+    "absent/absent/absent/absent/absent/absent/absent/absent/absent/absent/absent/absent/absent/absent/absent/ab";
+
+/// One byte more.
+const TOO_LONG: &str =
+    "absent/absent/absent/absent/absent/absent/absent/absent/absent/absent/absent/absent/absent/absent/absent/abs";
+
+/// A port and a path, and what is said.
+static PLACES: [(Option<&str>, Option<&str>, u8, &[u8]); 6] = [
+    (None, None, 2, NOT_ONE),
+    (Some("1"), Some("absent"), 2, NOT_ONE),
+    (None, Some(""), 2, NO_SOCKET),
+    (None, Some(TOO_LONG), 2, NO_SOCKET),
+    (None, Some(LONGEST), 1, b"no reply\n"),
+    (None, Some("absent"), 1, b"no reply\n"),
+];
+
+#[test]
+fn calls_of_a_socket(rt: HostRuntime) {
+    for (port, socket, status, error) in &PLACES {
+        let at = PlaceWords {
+            port: *port,
+            socket: *socket,
+        };
+        let is_unanswered = is_unanswered(&rt, rt.alloc(), &at, &["get", "a"], *status, error);
+        assert!(rt; is_unanswered, "{port:?} {socket:?}");
     }
 }

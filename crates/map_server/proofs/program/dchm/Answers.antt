@@ -21,7 +21,7 @@ returns-in-Ok-Serve g c =
 
 pub returns-in-Ok-Call : goal.returns-in-Ok-Call
 returns-in-Ok-Call g c =
-    obeys _ _ _ _ _ _ _ _ _ _ _ (map (λ s. string_bytes s) c.args.words.now) (Call c.in-Ok-Call.port c.in-Ok-Call.words) _ _ _ _ _ c.in-Ok-Call.ensures.known (rw c.in-Ok-Call.field-0-is at c.in-Ok-Call.ensures.asks) (rw c.as_slice.ensures.value at c.make_calls.ensures)
+    obeys _ _ _ _ _ _ _ _ _ _ _ (map (λ s. string_bytes s) c.args.words.now) (Call c.in-Ok-Call.at c.in-Ok-Call.words) _ _ _ _ _ c.in-Ok-Call.ensures.known (rw c.in-Ok-Call.field-0-is at c.in-Ok-Call.ensures.asks) (rw c.as_slice.ensures.value at c.make_calls.ensures)
 
 pub returns-in-Ok-Sim : goal.returns-in-Ok-Sim
 returns-in-Ok-Sim g c =
