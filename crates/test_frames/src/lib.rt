@@ -8,6 +8,10 @@ mod complaints;
 #[cfg(test)]
 mod dialogues;
 #[cfg(test)]
+mod lent;
+#[cfg(test)]
+mod numbered;
+#[cfg(test)]
 mod rows;
 #[cfg(test)]
 mod turns;
