@@ -1,6 +1,6 @@
 //! What a connection is lent and gives back, and what whoever serves many may ask of it.
 
-ghost use Rattle.std.specs.Prelude.{◌≡◌, ◌≢◌, ◌⊎◌, ◌<◌, ◌≤◌, ◌↔◌, [], true, false, IsTrue, IfNone, IfSome};
+ghost use Rattle.std.specs.Prelude.{◌≡◌, ◌≢◌, ◌⊎◌, ◌<◌, ◌≤◌, ◌↔◌, [], true, false, IsTrue, IsSome, IfNone, IfSome};
 ghost use Rattle.std.specs.VecDeque.{deque_capacity};
 ghost use Rattle.wire_frames.specs.Messages.{IsPartial};
 ghost use Rattle.wire_frames.specs.Feed.{BeginsBulk};
@@ -33,6 +33,8 @@ impl<H: Drop> Connection<H> {
     /// nothing.
     pub fn give_row(&mut self) -> Option<Row<H>>
         ensures same { standing self.new ≡ standing self.old }
+        ensures gives { self.old.row.items ≡ [] → MOST_HELD ≤ deque_capacity self.old.row
+            → IsSome result }
         ensures given { IfSome result (λ _. self.new.row.items ≡ []) }
         ensures kept { IfNone result (self.new ≡ self.old) }
     {

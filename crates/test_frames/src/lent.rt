@@ -30,6 +30,23 @@ fn rows_that_are_lent(rt: HostRuntime) -> Result<(), Fail> {
     Ok(())
 }
 
+// Takes note that so many bytes were taken, if as many are unsent.
+fn is_taken(connection: &mut Connection<Begun>, count: usize) -> bool {
+    if count > connection.unsent().len() {
+        return false;
+    }
+    connection.sent(count);
+    true
+}
+
+// Whether the bytes from this place on are unsent.
+fn is_unsent(connection: &Connection<Begun>, bytes: &[u8], start: usize) -> bool {
+    match bytes.get(start..) {
+        Some(rest) => connection.unsent() == rest,
+        None => false,
+    }
+}
+
 /// What is unsent stays when the buffer is given back, and no other takes its place.
 #[test]
 #[tactic(auto, using(crate::proofs::Owned::owns_all))]
@@ -43,18 +60,14 @@ fn buffers_that_are_lent(rt: HostRuntime) -> Result<(), Fail> {
     assert!(rt; connection.lend_buffer(Buffer::new(alloc)?).is_some());
     let answered = connection.answer(&mut calls, false);
     assert!(rt; answered.is_all());
-    connection.sent(5);
+    assert!(rt; is_taken(&mut connection, 5));
     assert!(rt; connection.give_buffer().is_some() && connection.give_buffer().is_none());
     let wanted = replies(alloc, 1, 2)?;
-    assert!(rt;
-        connection.unsent() == &wanted[5..],
-        "{:?}",
-        connection.unsent()
-    );
+    assert!(rt; is_unsent(&connection, &wanted, 5));
     assert!(rt; connection.lend_buffer(Buffer::new(alloc)?).is_some());
     connection.trim();
-    assert!(rt; connection.unsent() == &wanted[5..]);
-    connection.sent(19);
+    assert!(rt; is_unsent(&connection, &wanted, 5));
+    assert!(rt; is_taken(&mut connection, 19));
     connection.trim();
     assert!(rt; connection.unsent().is_empty());
     assert!(rt; connection.lend_buffer(Buffer::new(alloc)?).is_none());

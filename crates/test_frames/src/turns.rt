@@ -148,7 +148,7 @@ fn replied_if_cut(alloc: Global, requests: &[u8], cuts: u64) -> Result<Vec<u8>, 
         let is_cut = bits & 1 == 1;
         bits >>= 1;
         if is_cut || at == requests.len() - 1 {
-            resting.receive(&requests[start..=at])?;
+            resting.receive(requests.get(start..at + 1).unwrap_or(requests))?;
             resting.trim();
             resting = served(alloc, resting, &mut calls, &mut taken)?;
             start = at + 1;
