@@ -205,6 +205,13 @@ def lost(frame: bytes, why: str) -> DchmError:
     return OutcomeOpen(why) if may_change(frame) else NotMade(why)
 
 
+def not_served(address: Address, why: BaseException) -> NotMade:
+    """What is raised if a connection can't be had, or ended before its first reply."""
+    if isinstance(why, (ConnectionError, EOFError)) and not isinstance(why, ConnectionRefusedError):
+        return NotMade(f"the server at {address} ended the connection; it may serve no more of them (--connections): {why}")
+    return NotMade(f"no server at {address}: {why}")
+
+
 def _value_of(body: bytes) -> Value | None:
     kind = body[1]
     if kind == 0 and len(body) == 2:
@@ -389,11 +396,10 @@ class Client(Calls):
             self._socket.settimeout(self.timeout)
         except TimeoutError as error:
             self._end()
-            raise NotMade(f"the server at {self.address} didn't serve the connection within {self.connect_timeout} s; "
-                          "all workers may be in use (--workers)") from error
+            raise NotMade(f"the server at {self.address} didn't serve the connection within {self.connect_timeout} s") from error
         except OSError as error:
             self._end()
-            raise NotMade(f"no server at {self.address}: {error}") from error
+            raise not_served(self.address, error) from error
         except BaseException:
             self._end()
             raise

@@ -126,9 +126,13 @@ class AsyncClient:
         try:
             return await asyncio.wait_for(self._probed(), self.connect_timeout)
         except (TimeoutError, asyncio.TimeoutError) as error:
-            raise dchm.NotMade(f"the server at {self.address} didn't serve the connection within {self.connect_timeout} s; "
-                               "all workers may be in use (--workers)") from error
-        except (OSError, dchm.DchmError) as error:
+            raise dchm.NotMade(
+                f"the server at {self.address} didn't serve the connection within {self.connect_timeout} s") from error
+        except OSError as error:
+            raise dchm.not_served(self.address, error) from error
+        except dchm.NotMade as error:
+            raise dchm.not_served(self.address, EOFError(str(error))) from error
+        except dchm.DchmError as error:
             raise dchm.NotMade(f"no server at {self.address}: {error}") from error
 
     async def _current(self) -> _Connection:

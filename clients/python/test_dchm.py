@@ -29,6 +29,9 @@ PAGE = os.path.join(TOP, "docs", "PROTOCOL.md")
 LONG, SHORT = 120, 1
 PATIENT = {"timeout": LONG, "connect_timeout": LONG, "idle": LONG}
 MOST_TURNS, TURN_SECONDS = 1200, 0.05
+# How many threads the real server has, and the option with which it serves one connection at a time.
+WORKERS = 4
+ALONE = ("--connections", "1")
 ROW = re.compile(r"\| `([0-9A-F]{4}[0-9A-F ]*)` \| `([0-9A-F]{4}[0-9A-F ]*)` \|")
 SMILE, HALF = "\U0001F600", "\ud83d"
 MADE = ("drop", "reset", "failed", "garbled", *(f"cut {count}" for count in range(12)))
@@ -43,13 +46,31 @@ def comes(holds):
     return False
 
 
+def made(call):
+    """What a call gives once it is made: while the server has no place for the client, nothing of it is."""
+    for _ in range(MOST_TURNS):
+        with contextlib.suppress(dchm.NotMade):
+            return call()
+        time.sleep(TURN_SECONDS)
+    return call()
+
+
+async def made_soon(call):
+    """The same of a call that is awaited."""
+    for _ in range(MOST_TURNS):
+        with contextlib.suppress(dchm.NotMade):
+            return await call()
+        await asyncio.sleep(TURN_SECONDS)
+    return await call()
+
+
 @contextlib.contextmanager
-def real(workers=16):
-    """The real server over an empty map: its port."""
+def real(*words):
+    """The real server over an empty map, with these options: its port."""
     with servers.temporary_directory() as room:
         directory = os.path.join(room, "map")
         servers.init(servers.PROGRAM, directory)
-        with servers.dchm(servers.PROGRAM, directory, workers) as (_, port):
+        with servers.dchm(servers.PROGRAM, directory, WORKERS, words) as (_, port):
             yield port
 
 
@@ -354,16 +375,16 @@ class Outcomes(unittest.TestCase):
         self.assertRaises(dchm.NotMade, dchm.connect, "/no/such/socket")
 
     def test_a_server_that_serves_no_more_connections_is_told(self):
-        with real(workers=1) as port, dchm.connect(port, **PATIENT):
+        with real(*ALONE) as port, dchm.connect(port, **PATIENT):
             with self.assertRaises(dchm.NotMade) as caught:
-                dchm.connect(port, connect_timeout=SHORT)
-            self.assertIn("--workers", str(caught.exception))
+                dchm.connect(port, **PATIENT)
+            self.assertIn("--connections", str(caught.exception))
 
-    def test_an_idle_client_frees_its_worker_and_comes_back(self):
-        with real(workers=1) as port, dchm.connect(port, timeout=LONG, connect_timeout=LONG, idle=SHORT) as first:
-            with dchm.connect(port, **PATIENT) as second:
+    def test_an_idle_client_frees_its_place_and_comes_back(self):
+        with real(*ALONE) as port, dchm.connect(port, timeout=LONG, connect_timeout=LONG, idle=SHORT) as first:
+            with made(lambda: dchm.connect(port, **PATIENT)) as second:
                 self.assertIsNone(second.put("a", 1))
-            self.assertEqual(first.merge("a", dchm.SUM, 1), 2)
+            self.assertEqual(made(lambda: first.merge("a", dchm.SUM, 1)), 2)
 
     def test_the_end_of_an_idle_connection_by_the_server_is_no_error(self):
         with stand_in("put a quit") as there, dchm.connect(there.address, **PATIENT) as server:
@@ -464,19 +485,19 @@ class Async(unittest.IsolatedAsyncioTestCase):
                 await other.get("release")
                 self.assertEqual(await behind, 7)
 
-    async def test_an_idle_client_frees_its_worker_and_comes_back(self):
-        with real(workers=1) as port:
+    async def test_an_idle_client_frees_its_place_and_comes_back(self):
+        with real(*ALONE) as port:
             async with await dchm_async.connect(port, timeout=LONG, connect_timeout=LONG, idle=SHORT) as first:
-                async with await dchm_async.connect(port, **PATIENT) as second:
+                async with await made_soon(lambda: dchm_async.connect(port, **PATIENT)) as second:
                     self.assertIsNone(await second.put("a", 1))
-                self.assertEqual(await first.merge("a", dchm.SUM, 1), 2)
+                self.assertEqual(await made_soon(lambda: first.merge("a", dchm.SUM, 1)), 2)
 
     async def test_connecting_tells_why_it_failed(self):
-        with real(workers=1) as port:
+        with real(*ALONE) as port:
             async with await dchm_async.connect(port, **PATIENT):
                 with self.assertRaises(dchm.NotMade) as caught:
-                    await dchm_async.connect(port, connect_timeout=SHORT)
-                self.assertIn("--workers", str(caught.exception))
+                    await dchm_async.connect(port, **PATIENT)
+                self.assertIn("--connections", str(caught.exception))
         with self.assertRaises(dchm.NotMade):
             await dchm_async.connect(port)
 

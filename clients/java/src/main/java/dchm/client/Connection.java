@@ -136,22 +136,32 @@ final class Connection {
     private void probe(SocketAddress address, long mostNanos, long due) {
         Call probe = new Call(Wire.request(Wire.GET, new byte[0]), Math.max(1, due - System.nanoTime()), true);
         send(probe);
+        Wire.Reply reply;
         try {
-            Wire.Reply reply = probe.await();
-            if (reply.status() == Wire.NOW) {
-                return;
-            }
-            int number = reply.status() - Wire.REFUSED;
-            IOException why = new IOException("refused " + number + " " + Wire.refusalName(number));
-            fail(why);
-            throw new NotMadeException("the server at " + address + " isn't ready: " + why.getMessage(), why);
+            reply = probe.await();
         } catch (NotMadeException error) {
-            if (calls.broken() instanceof TimeoutException late) {
-                throw new NotMadeException("the server at " + address + " didn't serve the connection within "
-                    + TimeUnit.NANOSECONDS.toMillis(mostNanos) + " ms; all workers may be in use (--workers)", late);
-            }
-            throw error;
+            throw notServed(address, mostNanos, error);
         }
+        if (reply.status() == Wire.NOW) {
+            return;
+        }
+        int number = reply.status() - Wire.REFUSED;
+        IOException why = new IOException("refused " + number + " " + Wire.refusalName(number));
+        fail(why);
+        throw new NotMadeException("the server at " + address + " isn't ready: " + why.getMessage(), why);
+    }
+
+    private NotMadeException notServed(SocketAddress address, long mostNanos, NotMadeException error) {
+        Throwable why = calls.broken();
+        if (why instanceof TimeoutException) {
+            return new NotMadeException("the server at " + address + " didn't serve the connection within "
+                + TimeUnit.NANOSECONDS.toMillis(mostNanos) + " ms", why);
+        }
+        if (why instanceof IOException) {
+            return new NotMadeException("the server at " + address + " ended the connection; it may serve no more of them"
+                + " (--connections): " + why.getMessage(), why);
+        }
+        return error;
     }
 
     boolean isBroken() {

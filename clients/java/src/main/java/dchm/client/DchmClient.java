@@ -75,8 +75,7 @@ public final class DchmClient implements AutoCloseable {
         }
 
         /**
-         * How long to wait until the server serves a new connection; 5 seconds if left out. All its workers may be in
-         * use.
+         * How long to wait until the server serves a new connection; 5 seconds if left out.
          *
          * @param most the time, above 0
          * @return this builder

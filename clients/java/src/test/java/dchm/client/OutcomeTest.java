@@ -10,6 +10,7 @@ import java.nio.file.Path;
 import java.time.Duration;
 import java.util.ArrayList;
 import java.util.List;
+import java.util.concurrent.Callable;
 import java.util.concurrent.CompletableFuture;
 import java.util.concurrent.CompletionException;
 import org.junit.Test;
@@ -226,36 +227,40 @@ public final class OutcomeTest {
     }
 
     @Test
-    public void a_server_that_serves_no_more_connections_is_told_in_time() throws Exception {
-        try (Server server = Server.real("--workers", "1"); DchmClient first = server.client()) {
+    public void a_server_that_serves_no_more_connections_is_told() throws Exception {
+        try (Server server = Server.real("--connections", "1"); DchmClient first = server.client()) {
             first.longs().put("a", 1L);
-            NotMadeException error = assertThrows(NotMadeException.class,
-                () -> server.options().connectTimeout(Server.SHORT).connect());
-            assertTrue(error.getMessage(), error.getMessage().contains("--workers"));
+            NotMadeException error = assertThrows(NotMadeException.class, server::client);
+            assertTrue(error.getMessage(), error.getMessage().contains("--connections"));
             first.close();
-            try (DchmClient second = server.client()) {
+            try (DchmClient second = placed(server)) {
                 assertEquals(1L, (long) second.longs().get("a"));
             }
         }
     }
 
-    /** A client that gives a new connection little time, once it has its first one. */
-    private static DchmClient hasty(Server server) throws Exception {
-        DchmClient[] found = new DchmClient[1];
+    /** A client, once the server has a place for it. */
+    private static DchmClient placed(Server server) throws Exception {
+        return made(server::client);
+    }
+
+    /** What a call gives once it is made: while the server has no place for the client, nothing of it is. */
+    private static <T> T made(Callable<T> call) throws Exception {
+        List<T> found = new ArrayList<>();
         assertTrue("no connection", Server.comes(() -> {
             try {
-                found[0] = server.options().connectTimeout(Server.SHORT).connect();
+                found.add(call.call());
                 return true;
             } catch (NotMadeException error) {
                 return false;
             }
         }));
-        return found[0];
+        return found.get(0);
     }
 
     @Test
     public void a_call_of_the_whole_map_needs_a_connection_of_its_own() throws Exception {
-        try (Server server = Server.real("--workers", "1"); DchmClient client = hasty(server)) {
+        try (Server server = Server.real("--connections", "1"); DchmClient client = server.client()) {
             client.longs().put("a", 1L);
             assertThrows(NotMadeException.class, () -> client.longs().size());
             assertEquals(1L, (long) client.longs().get("a"));
@@ -263,13 +268,13 @@ public final class OutcomeTest {
     }
 
     @Test
-    public void an_idle_client_frees_its_worker_and_comes_back() throws Exception {
-        try (Server server = Server.real("--workers", "1");
+    public void an_idle_client_frees_its_place_and_comes_back() throws Exception {
+        try (Server server = Server.real("--connections", "1");
              DchmClient first = server.options().idle(Duration.ofMillis(100)).connect();
-             DchmClient second = server.client()) {
+             DchmClient second = placed(server)) {
             assertNull(second.longs().put("a", 1L));
             second.close();
-            assertEquals(1L, (long) first.longs().get("a"));
+            assertEquals(1L, (long) made(() -> first.longs().get("a")));
             assertEquals(2L, (long) first.longs().merge("a", 1L, Fn.SUM));
         }
     }

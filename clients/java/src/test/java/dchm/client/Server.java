@@ -38,7 +38,7 @@ final class Server implements AutoCloseable {
         this.port = port;
     }
 
-    /** The program, over an empty map, with enough workers or those of the options. */
+    /** The program, over an empty map, with these options. */
     static Server real(String... options) throws IOException, InterruptedException {
         Path room = Files.createTempDirectory("dchm-client-");
         String map = room.resolve("map").toString();
@@ -47,7 +47,7 @@ final class Server implements AutoCloseable {
         for (int turn = 0; turn < MOST_PORTS; turn++) {
             int port = ThreadLocalRandom.current().nextInt(FIRST_PORT, END_PORT);
             List<String> words = new ArrayList<>(List.of(PROGRAM, "serve", map, "--port", Integer.toString(port)));
-            words.addAll(options.length == 0 ? List.of("--workers", "16") : List.of(options));
+            words.addAll(List.of(options));
             Process process = started(words, room);
             if (("listening " + port).equals(firstLine(process))) {
                 return new Server(room, process, port);
