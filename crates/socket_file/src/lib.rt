@@ -1,0 +1,12 @@
+//! A Unix socket that listens at a path, with chosen rights from its first moment on.
+#![tactic(auto)]
+
+pub mod binding;
+pub mod calls;
+pub mod names;
+#[cfg(test)]
+mod tests;
+
+pub use binding::bind;
+pub use calls::{Found, SocketFiles};
+pub use names::{MOST_BYTES, is_listen_path, mode_named};

@@ -1,0 +1,145 @@
+//! Sockets in a directory of their own.
+use crate::binding::bind;
+use crate::calls::{Found, SocketFiles};
+use crate::names::{is_listen_path, mode_named};
+use std::fs;
+use std::fs::File;
+use std::io::{ErrorKind, Read, Write};
+use std::os::unix::fs::{MetadataExt, PermissionsExt};
+use std::os::unix::net::{UnixListener, UnixStream};
+use std::test::Fail;
+
+/// Makes an empty directory.
+fn make_directory(rt: &HostRuntime, directory: &str) -> Result<(), Fail> {
+    let _ = fs::remove_dir_all(rt, directory);
+    fs::create_dir(rt, directory)?;
+    Ok(())
+}
+
+/// The rights of the file at the path.
+fn mode_of(rt: &HostRuntime, path: &str) -> Result<u32, Fail> {
+    Ok(fs::symlink_metadata(rt, path)?.permissions().mode() & 0o777)
+}
+
+/// Whether a byte that a client sends comes to the listener.
+fn is_reached(rt: &HostRuntime, listener: &UnixListener, path: &str) -> Result<bool, Fail> {
+    let mut client = UnixStream::connect(rt, path)?;
+    let (mut server, _) = listener.accept()?;
+    client.write(b"a")?;
+    let mut room = [0u8; 2];
+    let len = server.read(&mut room)?;
+    Ok(len == 1 && room[0] == b'a')
+}
+
+#[test]
+fn a_socket_has_its_rights(rt: HostRuntime) -> Result<(), Fail> {
+    make_directory(&rt, "rights")?;
+    for mode in [0o600u32, 0o660, 0o666, 0o000] {
+        let listener = bind(&rt, rt.alloc(), "rights/socket", mode)?;
+        assert_eq!(rt; rt.look("rights/socket")?, Found::Socket);
+        assert_eq!(rt; mode_of(&rt, "rights/socket")?, mode);
+        assert_eq!(rt; rt.look("rights/socket.new")?, Found::Nothing);
+        drop(listener);
+    }
+    fs::remove_dir_all(&rt, "rights")?;
+    Ok(())
+}
+
+/// The file of a listener that was dropped is replaced; that of one that listens isn't.
+#[test]
+fn a_stale_file_is_replaced(rt: HostRuntime) -> Result<(), Fail> {
+    make_directory(&rt, "stale")?;
+    let first = bind(&rt, rt.alloc(), "stale/socket", 0o600)?;
+    assert!(rt; is_reached(&rt, &first, "stale/socket")?);
+    let refused = bind(&rt, rt.alloc(), "stale/socket", 0o600).map(drop);
+    assert_eq!(rt;
+        refused.map_err(|cause| cause.kind()),
+        Err(ErrorKind::AddrInUse)
+    );
+    drop(first);
+    let file = fs::symlink_metadata(&rt, "stale/socket")?.ino();
+    let second = bind(&rt, rt.alloc(), "stale/socket", 0o600)?;
+    assert!(rt; is_reached(&rt, &second, "stale/socket")?);
+    assert!(rt; fs::symlink_metadata(&rt, "stale/socket")?.ino() != file);
+    drop(second);
+    fs::remove_dir_all(&rt, "stale")?;
+    Ok(())
+}
+
+/// A file, a directory and a link to a socket stay.
+#[test]
+fn what_is_no_socket_stays(rt: HostRuntime) -> Result<(), Fail> {
+    make_directory(&rt, "others")?;
+    let mut file = File::create(&rt, "others/file")?;
+    file.write(b"kept")?;
+    drop(file);
+    fs::create_dir(&rt, "others/directory")?;
+    drop(bind(&rt, rt.alloc(), "others/socket", 0o600)?);
+    std::os::unix::fs::symlink(&rt, "socket", "others/link")?;
+    for path in ["others/file", "others/directory", "others/link"] {
+        let refused = bind(&rt, rt.alloc(), path, 0o600).map(drop);
+        assert_eq!(rt;
+            refused.map_err(|cause| cause.kind()),
+            Err(ErrorKind::AlreadyExists)
+        );
+        assert_eq!(rt; rt.look(path)?, Found::Other);
+    }
+    assert_eq!(rt; fs::symlink_metadata(&rt, "others/file")?.len(), 4);
+    fs::remove_dir_all(&rt, "others")?;
+    Ok(())
+}
+
+/// What a bind that was killed left beside the path is cleared; what isn't its own stays, and is an error.
+#[test]
+fn what_stands_beside_the_path(rt: HostRuntime) -> Result<(), Fail> {
+    make_directory(&rt, "beside")?;
+    fs::create_dir(&rt, "beside/socket.new")?;
+    drop(UnixListener::bind(&rt, "beside/socket.new/s")?);
+    drop(bind(&rt, rt.alloc(), "beside/socket", 0o600)?);
+    assert_eq!(rt; rt.look("beside/socket.new")?, Found::Nothing);
+    fs::create_dir(&rt, "beside/socket.new")?;
+    drop(File::create(&rt, "beside/socket.new/file")?);
+    let file = fs::symlink_metadata(&rt, "beside/socket")?.ino();
+    let refused = bind(&rt, rt.alloc(), "beside/socket", 0o600).map(drop);
+    assert_eq!(rt;
+        refused.map_err(|cause| cause.kind()),
+        Err(ErrorKind::AlreadyExists)
+    );
+    assert_eq!(rt; fs::symlink_metadata(&rt, "beside/socket")?.ino(), file);
+    assert_eq!(rt; rt.look("beside/socket.new/file")?, Found::Other);
+    fs::remove_dir_all(&rt, "beside")?;
+    Ok(())
+}
+
+#[test]
+fn an_absent_directory(rt: HostRuntime) {
+    let refused = bind(&rt, rt.alloc(), "absent/socket", 0o600).map(drop);
+    assert_eq!(rt;
+        refused.map_err(|cause| cause.kind()),
+        Err(ErrorKind::NotFound)
+    );
+}
+
+/// Words, and the rights that they name.
+static WORDS: [(&str, Option<u32>); 9] = [
+    ("600", Some(0o600)),
+    ("0660", Some(0o660)),
+    ("777", Some(0o777)),
+    ("0", Some(0)),
+    ("1000", None),
+    ("608", None),
+    ("rw", None),
+    ("", None),
+    ("-1", None),
+];
+
+#[test]
+fn words_and_paths(rt: HostRuntime) -> Result<(), Fail> {
+    for (word, mode) in &WORDS {
+        assert_eq!(rt; mode_named(word), *mode, "{word}");
+    }
+    let longest = "x".repeat(rt.alloc(), 101)?;
+    let longer = "x".repeat(rt.alloc(), 102)?;
+    assert!(rt; is_listen_path(&longest) && !is_listen_path(&longer) && !is_listen_path(""));
+    Ok(())
+}
