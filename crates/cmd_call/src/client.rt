@@ -146,8 +146,8 @@ fn ask_at<L: Log, M: Servers, W: Write, E: Write>(
     output: &mut W,
     error: &mut E,
 ) -> u8
-    ensures { CallsAt M.Reader.remaining M.Writer.contents M.is_connected M.is_unreachable place.entry
-        request.now (W.contents output.old) (W.contents output.new) result }
+    ensures { CallsAt M.Reader.remaining M.Writer.contents M.is_connected M.is_unreachable
+        place.entry request.now (W.contents output.old) (W.contents output.new) result }
 {
     match machine.connect_to(place) {
         Ok((mut reader, mut writer)) => {

@@ -61,7 +61,8 @@ pub trait SocketFiles {
     /// Makes a socket in such a directory, and listens at it. `path` is the directory that is made for it.
     fn listen(&self, room: &str, inner: &str) -> io::Result<Self::Listener>
         requires private { is_private room.now }
-        requires inside { (path : List ℕ) × (room.now ≡ room_of path) × (inner.now ≡ inner_of path) }
+        requires inside { (path : List ℕ) × (room.now ≡ room_of path)
+            × (inner.now ≡ inner_of path) }
         ensures { IfOk result (λ listener. is_bound inner.now listener) };
 
     /// Gives the listener's file these rights.
