@@ -4,8 +4,9 @@ use crate::begun::Begun;
 use crate::bells::Bell;
 use crate::client::{Client, Line};
 use crate::errands::Errand;
-use crate::service::Service;
+use crate::pool::Pool;
 use crate::turns::{Turned, Turns};
+use crate::worker::Gate;
 use connections::{Calls, Resting};
 use crossbeam_channel::{Receiver, Sender, TryRecvError};
 use disk_model::Disk;
@@ -60,28 +61,26 @@ pub(crate) struct Desk<'a, D: Disk + Drop, R: Clock + Wait, C: Calls<Held = Begu
 }
 
 impl<'a, D: Disk + Drop, R: Clock + Wait, C: Calls<Held = Begun> + Drop> Desk<'a, D, R, C> {
-    /// A worker without clients, at a seat of a service. The clients of all workers are counted in
-    /// `open`.
-    pub(crate) fn new(
+    /// A worker without clients, at a seat of the pool.
+    pub(crate) fn new<G: Gate>(
         rt: &'a R,
-        service: &'a Service<'a, D>,
-        seat: Seat,
+        pool: &'a Pool<'a, D, G>,
         bell: &'a Bell,
-        open: &'a AtomicUsize,
+        seat: Seat,
         calls: C,
     ) -> Result<Desk<'a, D, R, C>, AllocError> {
-        let alloc = service.alloc;
-        let limit = match service.idle {
+        let alloc = pool.alloc;
+        let limit = match pool.idle {
             0 => None,
             seconds => Some(Duration::from_secs(u64::from(seconds))),
         };
         Ok(Desk {
             rt,
             alloc,
-            map: service.map,
+            map: pool.map,
             seat,
             bell,
-            open,
+            open: &pool.open,
             turns: Turns::new(alloc, calls)?,
             clients: Slab::new(alloc),
             queue: VecDeque::new(alloc),

@@ -3,6 +3,7 @@ ghost use Rattle.std.specs.Prelude.{◌≡◌, IfErr};
 ghost use Rattle.cmd_serve.specs.Responding.{RespondsRightly};
 ghost use Rattle.cmd_serve.specs.WholeMap.{AnswersOf};
 
+use crate::begun::Begun;
 use crate::bells::Bell;
 use crate::bulk::{Responds, Task, answer_of, respond_by};
 use crate::desk::{Desk, Seat};
@@ -11,9 +12,12 @@ use crate::event_loop::room_for_events;
 use crate::seats::{Doors, Furniture};
 use crate::service::Service;
 use crate::worker::{Gate, Worker};
+use connections::Calls;
 use disk_model::Disk;
+use durable_map::DurableMap;
 use log::{Log, warn};
 use map_types::{Refusal, Reply};
+use std::alloc::Global;
 use std::net::TcpStream;
 use std::sync::Wait;
 use std::sync::atomic::{AtomicU64, AtomicUsize, Ordering};
@@ -27,14 +31,18 @@ pub trait Arrivals {
     fn next(&mut self) -> Option<TcpStream>;
 }
 
-/// What the workers share.
+/// What the threads of the workers share.
 #[derive(Drop)]
-struct Pool<'a, D: Disk + Drop, G: Gate> {
-    service: &'a Service<'a, D>,
+pub(crate) struct Pool<'a, D: Disk + Drop, G: Gate> {
+    pub(crate) alloc: Global,
+    pub(crate) map: &'a DurableMap<D>,
     gate: &'a G,
     taken_up: AtomicU64,
-    // how many clients are served
-    open: AtomicUsize,
+    /// How many clients are served, and how many may be.
+    pub(crate) open: AtomicUsize,
+    most: usize,
+    /// For how many seconds a client may be idle; 0 is for ever.
+    pub(crate) idle: u32,
     bells: &'a [Bell],
 }
 
@@ -48,20 +56,36 @@ enum Job {
 }
 
 // Serves the clients of a seat until no more come.
-fn serve_at<D: Disk + Drop, G: Gate, R: Clock + Wait, A: Responds>(
-    rt: &R,
-    pool: &Pool<'_, D, G>,
+fn serve_at<'a, D: Disk + Drop, G: Gate, R: Clock + Wait, C: Calls<Held = Begun> + Drop>(
+    rt: &'a R,
+    pool: &'a Pool<'a, D, G>,
     seat: Seat,
-    worker: Worker<'_, D, G, R, A>,
+    calls: C,
 ) {
     let Some(bell) = pool.bells.get(seat.place) else {
         return;
     };
-    let Ok(mut desk) = Desk::new(rt, pool.service, seat, bell, &pool.open, worker) else {
+    let Ok(mut desk) = Desk::new(rt, pool, bell, seat, calls) else {
         return;
     };
-    if let Ok(mut events) = room_for_events(pool.service.alloc) {
+    if let Ok(mut events) = room_for_events(pool.alloc) {
         desk.serve(&mut events);
+    }
+}
+
+// Does a job with these calls.
+fn do_job_with<'a, D: Disk + Drop, G: Gate, R: Clock + Wait, C: Calls<Held = Begun> + Drop>(
+    rt: &'a R,
+    pool: &'a Pool<'a, D, G>,
+    job: Job,
+    calls: C,
+) {
+    match job {
+        Job::Serve(seat) => serve_at(rt, pool, seat, calls),
+        Job::Answer(office) => {
+            let mut calls = calls;
+            run_errands(rt, pool.alloc, &mut calls, &office, pool.bells);
+        }
     }
 }
 
@@ -74,21 +98,16 @@ fn do_job<D: Disk + Drop, G: Gate, R: Clock + Wait, A: Responds>(
 )
     requires { RespondsRightly A.is_ready A.replies responds }
 {
-    let service = pool.service;
     let made = Worker::new(
         rt,
-        service.alloc,
+        pool.alloc,
         responds,
-        service.map,
+        pool.map,
         pool.gate,
         &pool.taken_up,
     );
-    let Ok(mut worker) = made else {
-        return;
-    };
-    match job {
-        Job::Serve(seat) => serve_at(rt, pool, seat, worker),
-        Job::Answer(office) => run_errands(rt, service.alloc, &mut worker, &office, pool.bells),
+    if let Ok(worker) = made {
+        do_job_with(rt, pool, job, worker);
     }
 }
 
@@ -103,7 +122,8 @@ fn do_job_by<
     requires right { (task : _) (answer : _) → F.post by task answer
         → AnswersOf task.view.map task.bulk answer }
 {
-    do_job(rt, pool, job, respond_by(by));
+    let responds = respond_by(by);
+    do_job(rt, pool, job, responds);
 }
 
 // A thread of the pool.
@@ -112,7 +132,7 @@ fn work<D: Disk + Drop, G: Gate, R: Clock + Threads + Wait + Sync>(
     pool: &Pool<'_, D, G>,
     job: Job,
 ) {
-    let alloc = pool.service.alloc;
+    let alloc = pool.alloc;
     do_job_by(
         rt,
         pool,
@@ -129,7 +149,7 @@ fn has_room<D: Disk + Drop, G: Gate, L: Log>(
     pool: &Pool<'_, D, G>,
     has_said: &mut bool,
 ) -> bool {
-    let most = pool.service.connections;
+    let most = pool.most;
     if pool.open.load(Ordering::SeqCst) < most {
         *has_said = false;
         return true;
@@ -224,10 +244,13 @@ pub fn workers<
     ensures { IfErr result (λ refusal. refusal ≡ Refusal.NoMemory) }
 {
     let pool = Pool {
-        service,
+        alloc: service.alloc,
+        map: service.map,
         gate,
         taken_up: AtomicU64::new(0),
         open: AtomicUsize::new(0),
+        most: service.connections,
+        idle: service.idle,
         bells,
     };
     employ(rt, &pool, furniture, arrivals)

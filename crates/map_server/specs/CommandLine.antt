@@ -49,9 +49,9 @@ check_line = with_rule (new_app (codes "check")) directory_rule
 
 abbrev pub serve_line : App
 serve_line =
-    with_rule (with_rule (with_rule (with_rule (with_rule (with_rule (with_rule (new_app (codes "serve")) directory_rule) port_rule)
-    (option_rule (codes "stripes"))) (option_rule (codes "workers"))) (option_rule (codes "checkpoint-bytes")))
-    (option_rule (codes "idle-seconds"))) (option_rule (codes "log-ahead"))
+    with_rule (with_rule (with_rule (with_rule (with_rule (with_rule (with_rule (with_rule (new_app (codes "serve")) directory_rule) port_rule)
+    (option_rule (codes "stripes"))) (option_rule (codes "workers"))) (option_rule (codes "connections")))
+    (option_rule (codes "checkpoint-bytes"))) (option_rule (codes "idle-seconds"))) (option_rule (codes "log-ahead"))
 
 abbrev pub call_line : App
 call_line = with_rule (with_rule (with_rule (new_app (codes "call")) (option_rule (codes "port"))) (option_rule (codes "socket"))) words_rule
@@ -100,12 +100,13 @@ stripes_in rows = word_or (codes "16") (codes "stripes") rows
 abbrev pub call_in : List Row → List Text
 call_in rows = unwrap_or (all_of (codes "METHOD") rows) []
 
--- what `serve` is given; 4 workers, 67108864 bytes, 0 seconds and 1048576 zeros if left out
+-- what `serve` is given; 4 workers, 10000 connections, 67108864 bytes, 0 seconds and 1048576 zeros if left out
 pub record GivesServer (rows : List Row) (words : ServerWords) : Type 0 where
   pub directory : words.directory.now ≡ directory_in rows
   pub port : words.port.now ≡ port_in rows
   pub stripes : words.stripes.now ≡ stripes_in rows
   pub workers : words.workers.now ≡ word_or (codes "4") (codes "workers") rows
+  pub connections : words.connections.now ≡ word_or (codes "10000") (codes "connections") rows
   pub bytes : words.bytes.now ≡ word_or (codes "67108864") (codes "checkpoint-bytes") rows
   pub idle : words.idle.now ≡ word_or (codes "0") (codes "idle-seconds") rows
   pub ahead : words.ahead.now ≡ word_or (codes "1048576") (codes "log-ahead") rows

@@ -16,6 +16,9 @@ use std::time::Clock;
 /// How many turns are waited at most, each of a millisecond.
 pub(crate) const MOST_TURNS: u32 = 10_000;
 
+/// No test has so many clients.
+const MOST_CLIENTS: usize = 64;
+
 /// No log of a test grows so long.
 const NO_CHECKPOINT: u64 = 1_000_000;
 
@@ -113,7 +116,7 @@ pub(crate) fn serve_listed<
     D: Disk + Drop + Send,
     G: Gate + Sync,
     C: Arrivals,
-    R: Clock + Log + Threads + Wait + Sync,
+    R: Clock + Log + Net + Threads + Wait + Sync,
 >(
     rt: &R,
     alloc: Global,
@@ -129,6 +132,7 @@ pub(crate) fn serve_listed<
         first_error: &first_error,
         bytes: NO_CHECKPOINT,
         workers,
+        connections: MOST_CLIENTS,
         idle: 0,
     };
     serve_map(rt, &service, gate, arrivals).map_err(|_| "threads start")?;

@@ -58,6 +58,7 @@ fn complaint<
         port,
         stripes: "16",
         workers: "4",
+        connections: "64",
         bytes: "1000000",
         idle: "0",
         ahead: "0",

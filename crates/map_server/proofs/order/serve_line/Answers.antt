@@ -13,9 +13,10 @@ returns-clause-app c =
     let two = with_argument _ _ _ _ port_rule c.in_ok-arg-2.ensures c.port.ensures.local c.port.ensures.rule one in
     let three = with_argument _ _ _ _ (option_rule (codes "stripes")) c.in_ok-arg-3.ensures c.stripes.ensures.local c.stripes.ensures.rule two in
     let four = with_argument _ _ _ _ (option_rule (codes "workers")) c.in_ok-arg-4.ensures c.option-workers.ensures.local c.option-workers.ensures.rule three in
-    let five = with_argument _ _ _ _ (option_rule (codes "checkpoint-bytes")) c.in_ok-arg-5.ensures c.option-bytes.ensures.local c.option-bytes.ensures.rule four in
-    let six = with_argument _ _ _ _ (option_rule (codes "idle-seconds")) c.in_ok-arg-6.ensures c.option-idle.ensures.local c.option-idle.ensures.rule five in
-    IfOk-weaker c.arg-7.result _ _ (λ command h. with_argument _ _ _ _ (option_rule (codes "log-ahead")) h c.option-ahead.ensures.local c.option-ahead.ensures.rule six) c.arg-7.ensures
+    let five = with_argument _ _ _ _ (option_rule (codes "connections")) c.in_ok-arg-5.ensures c.option-connections.ensures.local c.option-connections.ensures.rule four in
+    let six = with_argument _ _ _ _ (option_rule (codes "checkpoint-bytes")) c.in_ok-arg-6.ensures c.option-bytes.ensures.local c.option-bytes.ensures.rule five in
+    let seven = with_argument _ _ _ _ (option_rule (codes "idle-seconds")) c.in_ok-arg-7.ensures c.option-idle.ensures.local c.option-idle.ensures.rule six in
+    IfOk-weaker c.arg-8.result _ _ (λ command h. with_argument _ _ _ _ (option_rule (codes "log-ahead")) h c.option-ahead.ensures.local c.option-ahead.ensures.rule seven) c.arg-8.ensures
 
 pub returns-clause-local : goal.returns-clause-local
 returns-clause-local c =
@@ -24,6 +25,7 @@ returns-clause-local c =
     let two = stays_local _ _ _ c.in_ok-arg-2.ensures c.port.ensures.local one in
     let three = stays_local _ _ _ c.in_ok-arg-3.ensures c.stripes.ensures.local two in
     let four = stays_local _ _ _ c.in_ok-arg-4.ensures c.option-workers.ensures.local three in
-    let five = stays_local _ _ _ c.in_ok-arg-5.ensures c.option-bytes.ensures.local four in
-    let six = stays_local _ _ _ c.in_ok-arg-6.ensures c.option-idle.ensures.local five in
-    IfOk-weaker c.arg-7.result _ _ (λ command h. stays_local _ _ _ h c.option-ahead.ensures.local six) c.arg-7.ensures
+    let five = stays_local _ _ _ c.in_ok-arg-5.ensures c.option-connections.ensures.local four in
+    let six = stays_local _ _ _ c.in_ok-arg-6.ensures c.option-bytes.ensures.local five in
+    let seven = stays_local _ _ _ c.in_ok-arg-7.ensures c.option-idle.ensures.local six in
+    IfOk-weaker c.arg-8.result _ _ (λ command h. stays_local _ _ _ h c.option-ahead.ensures.local seven) c.arg-8.ensures

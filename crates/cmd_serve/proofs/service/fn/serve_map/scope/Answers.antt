@@ -7,3 +7,6 @@ spawn-flusher-requires-send-F g c κs h = search (service_sync, ending_sync, sen
 
 pub spawn-keeper-requires-send-F : goal.spawn-keeper-requires-send-F
 spawn-keeper-requires-send-F g c κs h = search (service_sync, ending_sync, sendable) depth 12
+
+pub workers-requires-send-D : goal.workers-requires-send-D
+workers-requires-send-D g c = search sendable
