@@ -29,7 +29,8 @@ pub struct Office {
     pub(crate) ways_back: Vec<Sender<Errand, Global>>,
 }
 
-/// Begins the next message of a connection, and answers it. Nothing if the memory for that isn't found.
+/// Begins the next message of a connection, and answers it. The connection is over, and nothing is
+/// returned, if no memory is found for its row or for the reply.
 fn answer_alone<C: Calls<Held = Begun>>(
     alloc: Global,
     calls: &mut C,

@@ -33,20 +33,75 @@ impl Doors {
         place
     }
 
-    /// Hands a connection to the next worker. One that could not start is passed over. It says whether
-    /// some worker took it.
-    pub(crate) fn hand_in<R: Wait>(&mut self, rt: &R, bells: &[Bell], stream: TcpStream) -> bool {
+    // Leaves a connection with the next worker, if it has a place. Else it is handed back.
+    fn offer<R: Wait>(
+        &mut self,
+        rt: &R,
+        bells: &[Bell],
+        stream: TcpStream,
+    ) -> Result<(), TcpStream> {
+        let place = self.take_turn();
+        let (Some(sender), Some(bell)) = (self.senders.get(place), bells.get(place)) else {
+            return Err(stream);
+        };
+        match sender.try_send(rt, stream) {
+            Ok(()) => {
+                bell.ring();
+                Ok(())
+            }
+            Err(back) => Err(back.into_inner()),
+        }
+    }
+
+    // The same, and it waits until that worker has a place. One that has ended hands it back.
+    fn wait_for_place<R: Wait>(
+        &mut self,
+        rt: &R,
+        bells: &[Bell],
+        stream: TcpStream,
+    ) -> Result<(), TcpStream> {
+        let place = self.take_turn();
+        let (Some(sender), Some(bell)) = (self.senders.get(place), bells.get(place)) else {
+            return Err(stream);
+        };
+        match sender.send(rt, stream) {
+            Ok(()) => {
+                bell.ring();
+                Ok(())
+            }
+            Err(back) => Err(back.into_inner()),
+        }
+    }
+
+    // Leaves a connection with the first worker from the next one on that has a place.
+    fn offer_all<R: Wait>(
+        &mut self,
+        rt: &R,
+        bells: &[Bell],
+        stream: TcpStream,
+    ) -> Result<(), TcpStream> {
         let mut offered = stream;
         for _ in 0..self.senders.len() {
-            let place = self.take_turn();
-            if let (Some(sender), Some(bell)) = (self.senders.get(place), bells.get(place)) {
-                match sender.send(rt, offered) {
-                    Ok(()) => {
-                        bell.ring();
-                        return true;
-                    }
-                    Err(back) => offered = back.into_inner(),
-                }
+            match self.offer(rt, bells, offered) {
+                Ok(()) => return Ok(()),
+                Err(back) => offered = back,
+            }
+        }
+        Err(offered)
+    }
+
+    /// Hands a connection to the next worker. One that has no place for it, since it is held up, or that
+    /// could not start, is passed over; if none has a place, it waits for one. It says whether some
+    /// worker took it.
+    pub(crate) fn hand_in<R: Wait>(&mut self, rt: &R, bells: &[Bell], stream: TcpStream) -> bool {
+        let mut offered = match self.offer_all(rt, bells, stream) {
+            Ok(()) => return true,
+            Err(back) => back,
+        };
+        for _ in 0..self.senders.len() {
+            match self.wait_for_place(rt, bells, offered) {
+                Ok(()) => return true,
+                Err(back) => offered = back,
             }
         }
         false
