@@ -32,6 +32,15 @@ fn is_reached(rt: &HostRuntime, listener: &UnixListener, path: &str) -> Result<b
 }
 
 #[test]
+fn a_directory_is_its_users_alone(rt: HostRuntime) -> Result<(), Fail> {
+    make_directory(&rt, "alone")?;
+    rt.make_private("alone/room")?;
+    assert_eq!(rt; mode_of(&rt, "alone/room")?, 0o700);
+    fs::remove_dir_all(&rt, "alone")?;
+    Ok(())
+}
+
+#[test]
 fn a_socket_has_its_rights(rt: HostRuntime) -> Result<(), Fail> {
     make_directory(&rt, "rights")?;
     for mode in [0o600u32, 0o660, 0o666, 0o000] {
