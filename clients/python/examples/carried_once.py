@@ -6,8 +6,7 @@ out, and `told N RESULT` when a worker knows its result.
 import sys
 import uuid
 
-import dchm
-from workers import run, say, until_answered
+from workers import connected, run, say, until_answered
 
 WORKERS = 4
 
@@ -31,7 +30,7 @@ def once(server, name, work):
 
 def main():
     def work(number, goes_on):
-        with dchm.connect(int(sys.argv[1])) as server:
+        with connected() as server:
             request = 0
             while goes_on():
                 def carry():

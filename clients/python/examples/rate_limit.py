@@ -7,7 +7,7 @@ import sys
 import threading
 
 import dchm
-from workers import run, say, until_answered
+from workers import connected, run, say, until_answered
 
 WORKERS = 4
 MOST = 5
@@ -47,7 +47,7 @@ def main():
     next_window = threading.Barrier(WORKERS)
 
     def work(number, goes_on):
-        with dchm.connect(int(sys.argv[1])) as server:
+        with connected() as server:
             limit = Limit(server, "ann")
             window = 0
             while not has_ended.is_set():

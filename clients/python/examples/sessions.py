@@ -9,8 +9,7 @@ no iteration. Versions only rise: no text comes back, and a conditional change m
 import sys
 import uuid
 
-import dchm
-from workers import run, say, until_answered
+from workers import connected, run, say, until_answered
 
 USERS = 4
 SIGHTS = 10
@@ -58,7 +57,7 @@ def log_out(server, user):
 
 def main():
     def work(number, goes_on):
-        with dchm.connect(int(sys.argv[1])) as server:
+        with connected() as server:
             while goes_on():
                 session = log_in(server, number)
                 for _ in range(SIGHTS):

@@ -31,6 +31,11 @@ def until_answered(call):
         time.sleep(PAUSE_SECONDS)
 
 
+def connected():
+    """A client of the server at the port that the program was told, once there is one."""
+    return until_answered(lambda: dchm.connect(int(sys.argv[1])))[0]
+
+
 def run(count, work):
     """Runs work(number, goes_on) in so many threads until the standard input ends; returns the exit status."""
     ended, failures = threading.Event(), []
