@@ -22,6 +22,7 @@
 #include <sys/epoll.h>
 #include <sys/resource.h>
 #include <sys/socket.h>
+#include <sys/un.h>
 #include <time.h>
 #include <unistd.h>
 
@@ -216,6 +217,25 @@ static void *run(void *given) {
     return NULL;
 }
 
+static int socket_at_port(void) {
+    struct sockaddr_in address = {.sin_family = AF_INET, .sin_port = htons((uint16_t)options.port)};
+    if (inet_pton(AF_INET, options.host, &address.sin_addr) != 1) fail("--host is an address");
+    int found = socket(AF_INET, SOCK_STREAM, 0), yes = 1;
+    if (found < 0 || connect(found, (struct sockaddr *)&address, sizeof address)
+        || setsockopt(found, IPPROTO_TCP, TCP_NODELAY, &yes, sizeof yes))
+        fail("can't connect: %s", strerror(errno));
+    return found;
+}
+
+static int socket_at_path(void) {
+    struct sockaddr_un address = {.sun_family = AF_UNIX};
+    if (strlen(options.path) >= sizeof address.sun_path) fail("--socket is too long");
+    strcpy(address.sun_path, options.path);
+    int found = socket(AF_UNIX, SOCK_STREAM, 0);
+    if (found < 0 || connect(found, (struct sockaddr *)&address, sizeof address)) fail("can't connect: %s", strerror(errno));
+    return found;
+}
+
 static struct connection *connect_to(struct load *load, unsigned index) {
     struct connection *connection = calloc(1, sizeof *connection);
     if (!connection) fail("no memory");
@@ -226,14 +246,8 @@ static struct connection *connect_to(struct load *load, unsigned index) {
     connection->out_room = options.flight * options.most_bytes;
     connection->out = malloc(connection->out_room);
     if (!connection->flight || !connection->out) fail("no memory");
-    struct sockaddr_in address = {.sin_family = AF_INET, .sin_port = htons((uint16_t)options.port)};
-    if (inet_pton(AF_INET, options.host, &address.sin_addr) != 1) fail("--host is an address");
-    connection->socket = socket(AF_INET, SOCK_STREAM, 0);
-    int yes = 1;
-    if (connection->socket < 0 || connect(connection->socket, (struct sockaddr *)&address, sizeof address)
-        || setsockopt(connection->socket, IPPROTO_TCP, TCP_NODELAY, &yes, sizeof yes)
-        || fcntl(connection->socket, F_SETFL, O_NONBLOCK))
-        fail("can't connect: %s", strerror(errno));
+    connection->socket = options.path ? socket_at_path() : socket_at_port();
+    if (fcntl(connection->socket, F_SETFL, O_NONBLOCK)) fail("can't connect: %s", strerror(errno));
     wait_for(connection, EPOLL_CTL_ADD, false);
     return connection;
 }

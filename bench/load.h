@@ -22,7 +22,7 @@ struct request {
 
 struct options {
     enum protocol protocol;
-    const char *host;
+    const char *host, *path; /* a path in place of a port */
     unsigned port, connections, flight, keys, size, threads, seed;
     enum kind kind;
     bool fills; /* each key is put once, and nothing else is asked */

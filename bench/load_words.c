@@ -8,7 +8,7 @@
 #include <getopt.h>
 
 static const char usage[] =
-    "load dchm|redis --port P [--host ADDRESS] [--connections C] [--flight F] [--kind put|merge|get|half|mixed|apart|fill]\n"
+    "load dchm|redis --port P|--socket PATH [--host ADDRESS] [--connections C] [--flight F] [--kind put|merge|get|half|mixed|apart|fill]\n"
     "     [--keys N] [--size BYTES, 0 for numbers] [--seconds S] [--warm S] [--threads T] [--seed N]\n";
 
 static unsigned number_of(const char *word, unsigned least, unsigned most) {
@@ -34,6 +34,7 @@ static void set_kind(struct options *options, const char *word) {
 static void set_option(struct options *options, int option) {
     switch (option) {
     case 'h': options->host = optarg; break;
+    case 'u': options->path = optarg; break;
     case 'p': options->port = number_of(optarg, 1, 65535); break;
     case 'c': options->connections = number_of(optarg, 1, 4096); break;
     case 'f': options->flight = number_of(optarg, 1, 4096); break;
@@ -52,10 +53,10 @@ void read_options(struct options *options, int count, char **words) {
     static const struct option known[] = {
         {"host", 1, 0, 'h'}, {"port", 1, 0, 'p'}, {"connections", 1, 0, 'c'}, {"flight", 1, 0, 'f'}, {"kind", 1, 0, 'k'},
         {"keys", 1, 0, 'n'}, {"size", 1, 0, 'z'}, {"seconds", 1, 0, 's'}, {"warm", 1, 0, 'w'}, {"threads", 1, 0, 't'},
-        {"seed", 1, 0, 'r'}, {0, 0, 0, 0}};
+        {"seed", 1, 0, 'r'}, {"socket", 1, 0, 'u'}, {0, 0, 0, 0}};
     int option;
     while ((option = getopt_long(count, words, "", known, NULL)) != -1) set_option(options, option);
-    if (optind + 1 != count || !options->port || options->seconds <= 0) { fputs(usage, stderr); exit(2); }
+    if (optind + 1 != count || !options->port == !options->path || options->seconds <= 0) { fputs(usage, stderr); exit(2); }
     if (strcmp(words[optind], "redis") == 0) options->protocol = REDIS;
     else if (strcmp(words[optind], "dchm")) fail("no protocol %s", words[optind]);
     if (options->size && options->kind == MERGE) fail("a merge is of numbers");

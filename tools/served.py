@@ -7,7 +7,7 @@ import sys
 import unittest
 
 import servers
-from servers import HOST, Dchm, dchm, end_by_signal, init, temporary_directory
+from servers import Dchm, connect_to, dchm, end_by_signal, init, temporary_directory
 
 PUT = Dchm.request("put", b"a", 5)
 # The replies to a put of a key that was absent, and to a frame whose length is refused.
@@ -28,12 +28,12 @@ class Served(unittest.TestCase):
         self.addCleanup(self.opened.close)
 
     def served(self, workers, *words, limits=()):
+        """A server, and its port."""
         return dchm(servers.PROGRAM, self.directory, workers, words, limits)
 
-    def connect(self, port):
-        """A connection that fails if nothing comes for long."""
-        client = self.opened.enter_context(socket.create_connection((HOST, port)))
-        client.setsockopt(socket.IPPROTO_TCP, socket.TCP_NODELAY, 1)
+    def connect(self, place):
+        """A connection that fails if nothing comes for long, to a port or to the path of a Unix socket."""
+        client = self.opened.enter_context(connect_to(place))
         client.setsockopt(socket.SOL_SOCKET, socket.SO_RCVTIMEO, struct.pack("ll", REPLY_SECONDS, 0))
         return client
 
@@ -51,9 +51,9 @@ class Served(unittest.TestCase):
         client.sendall(request)
         return self.reply(client)
 
-    def is_served(self, port):
+    def is_served(self, place):
         """Whether a put of a new connection is answered, whatever others do."""
-        client = self.connect(port)
+        client = self.connect(place)
         answered = self.ask(client)[2:3] == b"\x00"
         client.close()
         return answered

@@ -72,10 +72,9 @@ class Dchm:
 class Connection:
     """A blocking socket that has one request under way; a reply that takes too long raises BlockingIOError."""
 
-    def __init__(self, protocol, port):
+    def __init__(self, protocol, place):
         self.protocol = protocol
-        self.socket = socket.create_connection((HOST, port))
-        self.socket.setsockopt(socket.IPPROTO_TCP, socket.TCP_NODELAY, 1)
+        self.socket = connect_to(place)
         self.socket.setsockopt(socket.SOL_SOCKET, socket.SO_RCVTIMEO, struct.pack("ll", REPLY_SECONDS, 0))
 
     def exchange(self, request):
@@ -123,11 +122,11 @@ def temporary_directory():
 
 
 @contextlib.contextmanager
-def process(words, errors, limits=(), environment=None):
+def process(words, errors, limits=(), environment=None, directory=None):
     """A process that is stopped at the end; its standard error goes to a file, which is shown after an error.
 
     `limits` are pairs of a resource and its limit. SIGXFSZ stays ignored, so that a write past a limit fails.
-    `environment` is the script's own if left out.
+    `environment` and `directory`, where it runs, are the script's own if left out.
     """
     def limit():
         for kind, most in limits:
@@ -135,7 +134,7 @@ def process(words, errors, limits=(), environment=None):
 
     with open(errors, "ab") as file:
         child = subprocess.Popen(words, stdin=subprocess.DEVNULL, stdout=subprocess.PIPE, stderr=file,
-                                 preexec_fn=limit if limits else None, restore_signals=False, env=environment)
+                                 preexec_fn=limit if limits else None, restore_signals=False, env=environment, cwd=directory)
     try:
         yield child
     except BaseException:
@@ -183,24 +182,52 @@ def dchm(program, directory, workers, words=(), limits=(), environment=None):
 
 
 @contextlib.contextmanager
-def redis(program, directory):
-    """`redis-server`, each change synced, once it takes a connection: the process and its port."""
+def dchm_at_socket(program, directory, workers, path, words=()):
+    """`dchm serve` at a Unix socket, once it has said that it listens: the process and the path."""
+    line = [program, "serve", directory, "--socket", path, "--workers", str(workers), *words]
+    with process(line, directory + ".errors") as child:
+        said = first_line(child)
+        if said != b"listening %s\n" % path.encode():
+            raise RuntimeError(f"dchm serve said {said!r}")
+        yield child, path
+
+
+@contextlib.contextmanager
+def redis(program, directory, path=None):
+    """`redis-server`, each change synced, once it takes a connection: the process, and its port or the path of its socket."""
     os.mkdir(directory)
     port, errors = free_port(), directory + ".errors"
     line = [program, "--bind", HOST, "--port", str(port), "--dir", directory, "--daemonize", "no", "--loglevel",
             "warning", "--logfile", errors, "--appendonly", "yes", "--appendfsync", "always", "--save", ""]
+    if path:
+        line += ["--unixsocket", path, "--unixsocketperm", "600"]
     with process(line, errors) as child:
         end = time.monotonic() + START_SECONDS
-        while not takes_connections(port):
+        while not takes_connections(path or port):
             if child.poll() is not None or time.monotonic() > end:
                 raise RuntimeError("redis-server takes no connection")
             time.sleep(0.02)
-        yield child, port
+        yield child, path or port
 
 
-def takes_connections(port):
+def connect_to(place):
+    """A socket that is connected to a port of this machine, or to the Unix socket of a path."""
+    if isinstance(place, int):
+        client = socket.create_connection((HOST, place))
+        client.setsockopt(socket.IPPROTO_TCP, socket.TCP_NODELAY, 1)
+        return client
+    client = socket.socket(socket.AF_UNIX)
     try:
-        socket.create_connection((HOST, port), 1).close()
+        client.connect(place)
+    except OSError:
+        client.close()
+        raise
+    return client
+
+
+def takes_connections(place):
+    try:
+        connect_to(place).close()
         return True
     except OSError:
         return False

@@ -535,7 +535,7 @@ class Client(Calls):
 def connect(address: Address, timeout: float = 30, connect_timeout: float = 5, idle: float = 30) -> Client:
     """A client of the server at a port of this machine, or at the path of a Unix socket.
 
-    NotMade is raised if there is no server, its store has failed, or no worker of it is free within connect_timeout
-    seconds.
+    NotMade is raised if there is no server, its store has failed, or it has no place for the client within
+    connect_timeout seconds.
     """
     return Client(address, timeout, connect_timeout, idle)

@@ -249,8 +249,8 @@ async def connect(address: Address, timeout: float = 30, connect_timeout: float 
                   in_flight: int = 256) -> AsyncClient:
     """A client of the server at a port of this machine, or at the path of a Unix socket.
 
-    dchm.NotMade is raised if there is no server, its store has failed, or no worker of it is free within
-    connect_timeout seconds.
+    dchm.NotMade is raised if there is no server, its store has failed, or it has no place for the client
+    within connect_timeout seconds.
     """
     client = AsyncClient(address, timeout, connect_timeout, idle, in_flight)
     await client._current()

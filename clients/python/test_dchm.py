@@ -74,6 +74,16 @@ def real(*words):
             yield port
 
 
+@contextlib.contextmanager
+def real_at_socket():
+    """The real server over an empty map at a Unix socket: its path."""
+    with servers.temporary_directory() as room:
+        directory = os.path.join(room, "map")
+        servers.init(servers.PROGRAM, directory)
+        with servers.dchm_at_socket(servers.PROGRAM, directory, WORKERS, os.path.join(room, "socket")) as (_, path):
+            yield path
+
+
 class StandIn:
     """The stand-in: its address, and what it got."""
 
@@ -397,6 +407,8 @@ class Outcomes(unittest.TestCase):
             self.assertEqual((server.put("a", 1), server.merge("a", dchm.SUM, 2), server.count()), (None, 3, 1))
             self.assertRaises(dchm.OutcomeOpen, server.merge, "b", dchm.SUM, 1)
             self.assertIsNone(server.get("c"))
+        with real_at_socket() as path, dchm.connect(path, **PATIENT) as server:
+            self.assertEqual((server.put("a", 1), server.merge("a", dchm.SUM, 2), server.count()), (None, 3, 1))
 
 
 class Async(unittest.IsolatedAsyncioTestCase):
@@ -502,9 +514,11 @@ class Async(unittest.IsolatedAsyncioTestCase):
             await dchm_async.connect(port)
 
     async def test_a_unix_socket_is_as_good_as_a_port(self):
-        with stand_in(unix=True) as there:
-            async with await dchm_async.connect(there.address, **PATIENT) as s:
-                self.assertEqual(await asyncio.gather(*(s.merge("a", dchm.SUM, 1) for _ in range(100))), list(range(1, 101)))
+        with stand_in(unix=True) as there, real_at_socket() as path:
+            for address in (there.address, path):
+                async with await dchm_async.connect(address, **PATIENT) as s:
+                    replies = await asyncio.gather(*(s.merge("a", dchm.SUM, 1) for _ in range(100)))
+                    self.assertEqual(replies, list(range(1, 101)))
 
 
 def main():

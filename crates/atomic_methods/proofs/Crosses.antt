@@ -10,7 +10,7 @@ use Rattle.atomic_methods.specs.contracts.parts.Part as Part
 use Rattle.atomic_methods.specs.contracts.parts.Prepared as Prepared
 
 pub part_send : IsSend Part.the_row
-part_send = search (growing_send, sendable) depth 20
+part_send = search (growing_send, Box-send, crosses, sendable) depth 20
 
 action_send : IsSend (Action.the_field).row
 action_send = search (node_send, value.the_field_send, Box-send, sendable) depth 20

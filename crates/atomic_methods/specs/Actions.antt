@@ -21,7 +21,8 @@ is_in_place action = false
 abbrev pub Carries : List ℕ → Bool → Effect → Action → Type 0
 Carries key is_mapped effects.Keep action = change_of key action ≡ None
 Carries key is_mapped effects.Unmap action = change_of key action ≡ Some (key, None)
-Carries key is_mapped (effects.Store value) action = (change_of key action ≡ Some (key, Some value)) × (is_in_place action ≡ is_mapped)
+Carries key is_mapped (effects.Store value) action =
+    (change_of key action ≡ Some (key, Some value)) × (is_in_place action ≡ is_mapped)
 
 -- the spread is that of the hash of the action's key
 abbrev pub IsHashed : List ℕ → Action → ℕ → Type 0

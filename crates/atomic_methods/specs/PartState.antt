@@ -4,7 +4,8 @@ use Rattle.map_model.specs.Maps.{Map}
 use Rattle.bin_transfer.specs.GrowingState.{GrowingState}
 use Rattle.bin_transfer.specs.Due.{IsGrown, IsPutOff}
 
--- how the entries are laid out: the number of stripes of the whole map; the number of bins, not counting those of a growth; how many of them, from the first on, a growth that runs has moved
+-- how the entries are laid out: the number of stripes of the whole map; the number of bins, not counting those of a
+-- growth; how many of them, from the first on, a growth that runs has moved
 pub record Growth : Type 0 where
   pub stripes : ℕ
   pub bins : ℕ

@@ -1,6 +1,7 @@
 //! One stripe's map, and what a change and a read do on it.
 #![tactic(auto)]
 
+mod lending;
 mod parts;
 mod plans;
 mod ready;

@@ -23,7 +23,8 @@ use std::snapshot::Snapshot;
 /// need to know of its growth.
 #[derive(Drop)]
 pub struct Part {
-    table: Growing,
+    // In a box, since the content of a stripe moves with each TAKE and GIVE.
+    pub(crate) table: Box<Growing>,
 }
 
 impl Model for Part {
@@ -46,11 +47,11 @@ impl Model for Part {
         (λ _. refl) };
 
     ghost view = { λ part. record {
-      map = part.table.map;
+      map = part.table.value.map;
       growth = record {
-        stripes = part.table.stripes;
-        bins = part.table.bins;
-        moved = part.table.moved;
+        stripes = part.table.value.stripes;
+        bins = part.table.value.bins;
+        moved = part.table.value.moved;
       };
     } };
 }
@@ -62,7 +63,7 @@ impl Part {
         ensures stripes { IfOk result (λ part. part.growth.stripes ≡ stripes.count) }
     {
         Ok(Part {
-            table: Growing::new(alloc, stripes)?,
+            table: Box::new(alloc, Growing::new(alloc, stripes)?)?,
         })
     }
 
@@ -80,7 +81,7 @@ impl Part {
         ensures moved { IfOk result (λ part. part.growth.moved ≡ None) }
     {
         Ok(Part {
-            table: Growing::with_entries(alloc, stripes, entries)?,
+            table: Box::new(alloc, Growing::with_entries(alloc, stripes, entries)?)?,
         })
     }
 

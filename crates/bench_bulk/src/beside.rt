@@ -8,14 +8,13 @@ use crate::sections::sections;
 use crate::writers::{Writing, write};
 use bulk_tasks::View;
 use disk_model::MemDisk;
-use durable_map::{DurableMap, flush_loop};
+use durable_map::{Captured, DurableMap, flush_loop};
 use map_types::Refusal;
 use std::alloc::Global;
 use std::sync::Wait;
 use std::thread;
 use std::thread::Threads;
 use stripe_locks::Pass;
-use ticket_order::Captured;
 
 /// The values of the entries are few, so that a search has several keys to choose from.
 const VALUES: u32 = 64;

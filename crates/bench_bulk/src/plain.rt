@@ -1,10 +1,10 @@
 //! The bulk answers by plain loops over the sections of a view, and what a view says otherwise.
 
 use bulk_tasks::View;
+use durable_map::Captured;
 use map_types::{Func, Key, Refusal, Value};
 use std::alloc::Global;
 use std::thread::Threads;
-use ticket_order::Captured;
 
 /// All entries are few for the first, and none are for the last.
 const THRESHOLDS: [u64; 2] = [u64::MAX, 0];

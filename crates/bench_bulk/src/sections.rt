@@ -6,12 +6,11 @@ ghost use Rattle.bulk_tasks.specs.Parts.{AreParts};
 
 use crossbeam_utils::Backoff;
 use disk_model::MemDisk;
-use durable_map::{DurableMap, ViewWalk, Viewed};
+use durable_map::{Captured, DurableMap, ViewWalk, Viewed};
 use map_types::Refusal;
 use std::alloc::Global;
 use std::sync::Wait;
 use stripe_locks::Pass;
-use ticket_order::Captured;
 
 // Waits a moment if the step before found this stripe held, or the greatest mark not durable yet.
 fn pause<R: Wait>(

@@ -15,7 +15,7 @@ use Rattle.map_model.specs.Parts.{part_of, is_in_stripe}
 use Rattle.map_model.proofs.MapLaws.{get-part_of}
 use Rattle.bin_table.specs.Chains.{Entries, find_in, HasDistinctKeys}
 use Rattle.bin_table.proofs.SortLaws.{head_differs, none_behind}
-use Rattle.ticket_order.specs.declared.capture_walk.Captured.{Captured}
+use Rattle.view_walk.specs.declared.walk.Captured.{Captured}
 use Rattle.bulk_tasks.specs.Parts.{entries_of, AreParts, parts_from}
 
 first : (a b : Bool) → T (a && b) → T a

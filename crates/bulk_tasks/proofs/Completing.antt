@@ -6,7 +6,7 @@ use Rattle.map_types.specs.declared.refusals.Refusal.TheVariants as refusal
 use Rattle.map_model.specs.Maps.{Map}
 use Rattle.map_model.specs.Parts.{union_of}
 use Rattle.map_model.specs.Histories.{History, fold_to}
-use Rattle.ticket_order.specs.declared.capture_walk.Captured.{Captured}
+use Rattle.view_walk.specs.declared.walk.Captured.{Captured}
 use Rattle.ticket_order.specs.declared.record.Record.{Record}
 use Rattle.ticket_order.specs.declared.record.Section.{Section}
 use Rattle.ticket_order.specs.declared.record.StepMade.{StepMade}

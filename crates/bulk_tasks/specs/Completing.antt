@@ -36,8 +36,9 @@ AreInTurn i [] (x ∷ xs) = ⊥
 AreInTurn i (q ∷ marks) [] = ⊥
 AreInTurn i (q ∷ marks) (x ∷ xs) = (x.stripe ≡ i) × (x.mark ≡ q) × AreInTurn (i + 1) marks xs
 
--- The record gained a section of each of the first stripes, with these marks. Each is the part of its stripe after as many commands as its mark
--- says. The marks don't fall from stripe to stripe, are at least what the pass had seen before, and at most what it has seen now.
+-- The record gained a section of each of the first stripes, with these marks. Each is the part of its stripe after as
+-- many commands as its mark says. The marks don't fall from stripe to stripe, are at least what the pass had seen
+-- before, and at most what it has seen now.
 pub record Captures (n : ℕ) (v : Record) (marks : List ℕ) (w : Record) : Type 0 where
   pub sections : List Section
   pub grew : w.sections ≡ v.sections ++ sections

@@ -7,11 +7,11 @@ ghost use Rattle.bulk_tasks.specs.Parts.{AreParts, entries_of, marks_of, parts_f
 
 use crate::nearest::{copied, nearest_of_all};
 use crate::tally::{can_reduce, tally_of_all};
+use durable_map::Captured;
 use map_types::{Func, FuncError, Key, Refusal, Value};
 use std::alloc::Global;
 use std::marker::Model;
 use std::thread::Threads;
-use ticket_order::Captured;
 
 /// The content of a map, stripe by stripe, each at a mark of its own. A mark says how many changes of
 /// the one history the content of its stripe rests on.

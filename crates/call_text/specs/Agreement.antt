@@ -69,4 +69,5 @@ EachCallHasWords = (called : Called) → IsCalled called → (words : List Text)
 
 -- words that are a call of a key are that call among all calls
 abbrev pub KeyedIsCalled : Type 0
-KeyedIsCalled = (words : List Text) (asked : Asked) → parse_call words ≡ Ok asked → parse_words words ≡ Ok (called.Keyed asked)
+KeyedIsCalled =
+    (words : List Text) (asked : Asked) → parse_call words ≡ Ok asked → parse_words words ≡ Ok (called.Keyed asked)

@@ -34,7 +34,8 @@ fits_i64 (negsuc n) = nat_lt n (2 ^ 63)
 
 -- the number of a decimal that fits 64 bits
 unfoldable pub number_of : Text → Option ℤ
-number_of word = if is_decimal word && fits_i64 (signed_digits_value 10 word) then Some (signed_digits_value 10 word) else None
+number_of word =
+    if is_decimal word && fits_i64 (signed_digits_value 10 word) then Some (signed_digits_value 10 word) else None
 
 abbrev pub int_of : Text → Result Value BadWord
 int_of digits = ok_or (option_map value.Int (number_of digits)) NoValue

@@ -22,7 +22,8 @@ is_unsigned word = nat_lt 0 (length (without_leading_plus word)) && all_ascii_di
 -- the number of a decimal without a minus that fits 64 bits
 unfoldable pub unsigned_of : Text → Option ℕ
 unsigned_of word =
-    if is_unsigned word && nat_lt (digits_value 10 (without_leading_plus word)) (2 ^ 64) then Some (digits_value 10 (without_leading_plus word)) else None
+    if is_unsigned word && nat_lt (digits_value 10 (without_leading_plus word)) (2 ^ 64) then Some
+    (digits_value 10 (without_leading_plus word)) else None
 
 abbrev pub threshold_of : Text → Result ℕ BadWord
 threshold_of word = ok_or (unsigned_of word) bad.Threshold

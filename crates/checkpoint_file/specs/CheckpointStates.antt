@@ -75,20 +75,23 @@ AtPhase HeaderWritten w old sections file = (w.count ≡ w.stripes) × IsShut []
 AtPhase HeaderSynced w old sections file =
     (w.count ≡ w.stripes) × IsShut [] (written_of w sections) file × IsOpening [] (written_of w sections) file
 AtPhase Opened w old sections file =
-    (w.count ≡ w.stripes) × IsOpening [] (written_of w sections) file × ((rest : List ℕ) × (file.seen ≡ open_gate ∷ (written_of w sections ++ rest)))
+    (w.count ≡ w.stripes) × IsOpening [] (written_of w sections) file
+    × ((rest : List ℕ) × (file.seen ≡ open_gate ∷ (written_of w sections ++ rest)))
 AtPhase Sealed w old sections file = (w.count ≡ w.stripes) × IsSealed w sections file
 
--- A checkpoint that has not failed, of which these sections were given: its file stands so. Before it was begun the file had the old content.
+-- A checkpoint that has not failed, of which these sections were given: its file stands so. Before it was begun the
+-- file had the old content.
 pub record Stands (w : CheckpointState) (old : List ℕ) (sections : List Section) (file : File) : Type 0 where
   pub knows : HasGiven w sections
   pub stands : AtPhase w.phase w old sections file
 
 -- The content is sealed with this very checkpoint, or not at all.
 abbrev pub IsSealedOrNot : CheckpointState → List Section → List ℕ → Type 0
-IsSealedOrNot w sections content = (is_sealed content ≡ false) ⊎ IsCheckpoint new_layout (checkpoint_of w sections) content
+IsSealedOrNot w sections content =
+    (is_sealed content ≡ false) ⊎ IsCheckpoint new_layout (checkpoint_of w sections) content
 
--- What a stop may leave: the old content, until the closed gate is synced; nothing sealed, until the gate is opened; after the last sync the
--- sealed checkpoint.
+-- What a stop may leave: the old content, until the closed gate is synced; nothing sealed, until the gate is opened;
+-- after the last sync the sealed checkpoint.
 abbrev pub MayRead : CheckpointPhase → CheckpointState → List ℕ → List Section → List ℕ → Type 0
 MayRead Idle w old sections content = Unit {0}
 MayRead Gate w old sections content = (content ≡ old) ⊎ (is_sealed content ≡ false)
@@ -105,4 +108,5 @@ MayRead Sealed w old sections content = IsCheckpoint new_layout (checkpoint_of w
 -- The other files are as they were at the start, and a stop leaves what the phase allows.
 pub record IsKept (w : CheckpointState) (old : List ℕ) (sections : List Section) (start files : Files) : Type 0 where
   pub others : (n : ℕ) → n ≢ checkpoint_file w.generation → files n ≡ start n
-  pub reads : (content : List ℕ) → MayLeave (files (checkpoint_file w.generation)) content → MayRead w.phase w old sections content
+  pub reads : (content : List ℕ) → MayLeave (files (checkpoint_file w.generation)) content
+      → MayRead w.phase w old sections content

@@ -27,7 +27,8 @@ abbrev pub sections_of : List LoadedSection → List Section
 sections_of reads = map (λ read. section_of read) reads
 
 abbrev pub checkpoint_of : LoadedCheckpoint → Checkpoint
-checkpoint_of loaded = record { generation = loaded.generation; low = loaded.low; stripes = loaded.stripes.count; sections = sections_of loaded.sections.items }
+checkpoint_of loaded =
+    record { generation = loaded.generation; low = loaded.low; stripes = loaded.stripes.count; sections = sections_of loaded.sections.items }
 
 -- the entries are those of a map, each key once, in rising byte order
 abbrev pub IsRising : LoadedSection → Type 0
@@ -36,10 +37,12 @@ IsRising read = finite.entries (section_of read).map ≡ read.entries.items
 abbrev pub AreRising : List LoadedSection → Type 0
 AreRising reads = AllByRecursion IsRising reads
 
--- the refusals of a file that no checkpoint is read from; the sections have the layout of the version that the head names
+-- the refusals of a file that no checkpoint is read from; the sections have the layout of the version that the head
+-- names
 abbrev pub IsUnloadable : ℕ → List ℕ → Refusal → Type 0
 IsUnloadable file content refusal =
-    (head_fault file content ≡ Some refusal) ⊎ ((is_sealed content ≡ true) × (head_fault file content ≡ None) × IsBadCheckpointIn file content refusal)
+    (head_fault file content ≡ Some refusal) ⊎ ((is_sealed content ≡ true) × (head_fault file content ≡ None)
+    × IsBadCheckpointIn file content refusal)
 
 -- ---- where it stands
 
@@ -56,7 +59,8 @@ seen_in states disk file = (now (states disk) file).seen
 
 -- this holds of the bytes of the body that are not read yet
 abbrev pub ForRest : {D : Type 0} → (D → List Files) → D → Unread → (List ℕ → Type 0) → Type 0
-ForRest states disk unread P = (rest : List ℕ) → StandsAt (seen_in states disk unread.file) unread.at rest → length rest ≡ unread.left → P rest
+ForRest states disk unread P =
+    (rest : List ℕ) → StandsAt (seen_in states disk unread.file) unread.at rest → length rest ≡ unread.left → P rest
 
 -- a later place of the same body
 pub record IsBehind (old new : Unread) : Type 0 where
@@ -73,22 +77,26 @@ pub record GoesOn (content bytes rest : List ℕ) (new : Unread) : Type 0 where
 
 -- A device call failed, or memory was wanting, or the file is damaged at an offset, for which there is this reason.
 abbrev pub RefusesIn : ℕ → (ℕ → Type 0) → Refusal → Type 0
-RefusesIn file Reason refusal = (refusal ≡ Failed) ⊎ ((refusal ≡ NoMemory) ⊎ ((offset : ℕ) × (refusal ≡ Damaged file offset) × Reason offset))
+RefusesIn file Reason refusal =
+    (refusal ≡ Failed) ⊎ ((refusal ≡ NoMemory) ⊎ ((offset : ℕ) × (refusal ≡ Damaged file offset) × Reason offset))
 
 -- ---- entries
 
 -- the key is above that of the last entry, if there is one
 abbrev pub IsAbove : List (List ℕ × Value) → List ℕ → Type 0
-IsAbove entries key = (d : List ℕ × Value) → 0 < length entries → is_lt (slice_cmp nat_cmp (get_or entries (length entries - 1) d).0 key) ≡ true
+IsAbove entries key = (d : List ℕ × Value) → 0 < length entries
+    → is_lt (slice_cmp nat_cmp (get_or entries (length entries - 1) d).0 key) ≡ true
 
 -- no entry that may come next stands at the front
 abbrev pub HasNoNext : Layout → ℕ → ℕ → List (List ℕ × Value) → List ℕ → Type 0
 HasNoNext layout stripes stripe before rest =
-    (entry : List ℕ × Value) (others : List ℕ) → rest ≡ entry_bytes layout entry ++ others → AreEntries layout stripes stripe (before ++ entry ∷ []) → ⊥
+    (entry : List ℕ × Value) (others : List ℕ) → rest ≡ entry_bytes layout entry ++ others
+    → AreEntries layout stripes stripe (before ++ entry ∷ []) → ⊥
 
 -- if the entries before are those of a stripe, they are so with this one behind them
 abbrev pub MayFollow : Layout → ℕ → ℕ → List (List ℕ × Value) → List ℕ × Value → Type 0
-MayFollow layout stripes stripe before entry = AreEntries layout stripes stripe before → AreEntries layout stripes stripe (before ++ entry ∷ [])
+MayFollow layout stripes stripe before entry =
+    AreEntries layout stripes stripe before → AreEntries layout stripes stripe (before ++ entry ∷ [])
 
 -- the entry stands at the front, and takes `used` bytes
 pub record IsNext (layout : Layout) (entry : List ℕ × Value) (used : ℕ) (rest : List ℕ) : Type 0 where

@@ -76,11 +76,13 @@ TakesSeal w = (w.phase ≡ Ready) × (w.count ≡ w.stripes)
 
 -- the keys belong to the stripe `stripe`, of `stripes` stripes
 abbrev pub AreKeysOf : ℕ → ℕ → List (List ℕ × Value) → Type 0
-AreKeysOf stripes stripe entries = AllByRecursion (λ (entry : List ℕ × Value). stripe_of stripes entry.0 ≡ stripe) entries
+AreKeysOf stripes stripe entries =
+    AllByRecursion (λ (entry : List ℕ × Value). stripe_of stripes entry.0 ≡ stripe) entries
 
 -- the entries have spellings
 abbrev pub AreWellFormed : Layout → List (List ℕ × Value) → Type 0
-AreWellFormed layout entries = AllByRecursion (λ (entry : List ℕ × Value). IsText layout.key_limit entry.0 × IsValue entry.1) entries
+AreWellFormed layout entries =
+    AllByRecursion (λ (entry : List ℕ × Value). IsText layout.key_limit entry.0 × IsValue entry.1) entries
 
 -- a section is staged behind those before it
 abbrev pub with_section : ℕ → List (List ℕ × Value) → CheckpointState → CheckpointState

@@ -5,9 +5,10 @@ ghost use Rattle.store_layout.specs.Checkpoints.{checkpoint_header, entries_byte
 ghost use Rattle.store_layout.specs.Logs.{new_layout};
 ghost use Rattle.checkpoint_file.specs.States.{AreWellFormed};
 
+use bin_table::LentEntry;
 use java_hash::StripeCount;
 use log_records::{put_key, put_number, put_value};
-use map_types::{Key, Refusal, Value};
+use map_types::Refusal;
 use std::alloc::Global;
 use store_layout::{CHECKPOINT_HEADER_BYTES, NEW_VERSION};
 
@@ -32,17 +33,18 @@ pub fn header(
 }
 
 /// Puts the entries at the end, or some of them if no memory is found.
-fn append_entries(entries: &[(Key, Value)], out: &mut Vec<u8>) -> Result<(), Refusal>
+fn append_entries(entries: &[LentEntry<'_>], out: &mut Vec<u8>) -> Result<(), Refusal>
     ensures ok { OnOk result
         (out.new.items ≡ out.old.items ++ entries_bytes new_layout entries.now) }
     ensures fits { OnOk result (AreWellFormed new_layout entries.now) }
     ensures err { IfErr result (λ refusal. refusal ≡ Refusal.NoMemory) }
 {
-    for (key, value) in entries {
+    for entry in entries {
+        let key = entry.key();
         // Each key is within the limit of the new version.
         let _key = key.as_str();
         put_key(NEW_VERSION, key, out)?;
-        put_value(value, out)?;
+        put_value(entry.value(), out)?;
     }
     Ok(())
 }
@@ -51,7 +53,7 @@ fn append_entries(entries: &[(Key, Value)], out: &mut Vec<u8>) -> Result<(), Ref
 pub(crate) fn section_bytes(
     alloc: Global,
     mark: u64,
-    entries: &[(Key, Value)],
+    entries: &[LentEntry<'_>],
 ) -> Result<Vec<u8>, Refusal>
     requires { length entries.now < 2 ^ 32 }
     ensures ok { IfOk result (λ bytes. bytes.items ≡ marked_bytes new_layout mark entries.now) }

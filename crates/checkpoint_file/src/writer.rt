@@ -26,9 +26,10 @@ ghost use Rattle.checkpoint_file.specs.CheckpointStates.{Stands};
 ghost use Rattle.checkpoint_file.specs.CheckpointSteps.{Advances, MayAdvance};
 
 use crate::sections::{header, section_bytes};
+use bin_table::LentEntry;
 use disk_model::{DeviceError, Disk};
 use java_hash::StripeCount;
-use map_types::{Key, Refusal, Value};
+use map_types::Refusal;
 use std::alloc::Global;
 use std::marker::Model;
 use store_layout::{
@@ -181,8 +182,9 @@ impl CheckpointWriter {
         Ok(())
     }
 
-    /// Stages the section of the next stripe: what it held after the first `mark` commands.
-    pub fn section(&mut self, mark: u64, entries: &[(Key, Value)]) -> Result<(), Refusal>
+    /// Stages the section of the next stripe: what it held after the first `mark` commands. The entries
+    /// are encoded where they stand.
+    pub fn section(&mut self, mark: u64, entries: &[LentEntry<'_>]) -> Result<(), Refusal>
         // The section is staged behind those before it, and the file stays.
         ensures ok { OnOk result (self.new ≡ with_section mark entries.now self.old) }
         ensures staged { OnOk result

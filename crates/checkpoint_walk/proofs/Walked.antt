@@ -1,10 +1,11 @@
 -- What the three steps of a capture of one stripe leave.
-use Rattle.std.proofs.Common.{Option, is_some, Bool, true, false, ◌≡◌, ◌⊎◌, inl, inr, ℕ, ◌+◌, ◌<◌, ◌≤◌, List, [], ◌∷◌, ◌++◌, length, Some, None, append-nil, refl, sym, ◌∙◌, ap, subst, arith}
+use Rattle.std.proofs.Common.{Option, Result, Ok, Err, OnOk, is_some, Bool, true, false, ◌≡◌, ◌⊎◌, inl, inr, ℕ, ◌+◌, ◌<◌, ◌≤◌, List, [], ◌∷◌, ◌++◌, length, Some, None, append-nil, refl, sym, ◌∙◌, ap, subst, arith}
 use Rattle.std.proofs.lemmas.List.{append_assoc, length_push, same_from_push}
 use Rattle.map_types.specs.declared.refusals.Refusal.{Refusal}
 use Rattle.map_types.specs.declared.refusals.Refusal.TheVariants as refusal
 use Rattle.map_types.specs.declared.commands.Command.{Command}
 use Rattle.map_types.specs.declared.texts.Value.{Value}
+use Rattle.atomic_methods.specs.PartState.{PartState}
 use Rattle.ticket_order.specs.declared.capture_walk.Captured.{Captured}
 use Rattle.ticket_order.specs.declared.capture_walk.CaptureStage.TheVariants as capture
 use Rattle.ticket_order.specs.declared.walk.Stage.{Stage}
@@ -20,7 +21,7 @@ use Rattle.ticket_order.specs.declared.record.StepMade.TheVariants.{FoundHeld, G
 use Rattle.ticket_order.specs.declared.record.Record.{Record}
 use Rattle.ticket_order.specs.Records.{giving, looking, missing, stripe_held, taking}
 use Rattle.ticket_order.specs.Calls.{CapturesStripe, HasLookedAt, RefusesCapture}
-use Rattle.ticket_order.specs.Walks.{Fits, FitsStage, Give, HasContent, KeepsCaptured, KeepsRefusal, Look, Next, ToCapture, captured_of_stage, captured_of_walk, left_of_stage, next_of_stage, refusal_of_stage, refusal_of_walk, steps_left, IsUnderWay}
+use Rattle.ticket_order.specs.Walks.{Fits, FitsStage, Give, HasContent, KeepsCaptured, KeepsRefusal, Look, Next, ToCapture, captured_of_stage, captured_of_walk, entries_captured, part_of_stage, part_of_walk, left_of_stage, next_of_stage, refusal_of_stage, refusal_of_walk, steps_left, IsUnderWay}
 use Rattle.ticket_order.proofs.Left.{some_left}
 use Rattle.map_model.specs.Maps.{Map}
 use Rattle.flusher.specs.Fitting.{IsBeside}
@@ -108,8 +109,8 @@ taken_at n b i (stage.Change s) p k made = absurd (by_change n b i s p k)
 taken_at n b i (stage.Read s) p k made = absurd (by_read n b i s p k)
 taken_at n b i (stage.Release s) p k made = absurd (by_release n b i s p k)
 taken_at n b i (stage.Sweep s) p k made = absurd (by_sweep n b i s p k)
-taken_at n b i (stage.Capture (capture.Begins alloc j)) p k made = absurd (omega (arith, ap (λ (z : Record). length z.steps) k.0.is, made))
-taken_at n b i (stage.Capture (capture.HasTaken alloc t)) p k made = refl
+taken_at n b i (stage.Capture (capture.Begins j)) p k made = absurd (omega (arith, ap (λ (z : Record). length z.steps) k.0.is, made))
+taken_at n b i (stage.Capture (capture.HasTaken t)) p k made = refl
 taken_at n b i (stage.Capture (capture.HasLooked t z)) p k made = (
     let at = taking b t.stripe t.content.part.map t.content.outbox.items t.content.last k.1.taken in
     let q = at.opening.first + length (at.seen ++ k.1.looked) in
@@ -135,8 +136,8 @@ looked_at n b i (stage.Change s) p k made = absurd (by_change n b i s p k)
 looked_at n b i (stage.Read s) p k made = absurd (by_read n b i s p k)
 looked_at n b i (stage.Release s) p k made = absurd (by_release n b i s p k)
 looked_at n b i (stage.Sweep s) p k made = absurd (by_sweep n b i s p k)
-looked_at n b i (stage.Capture (capture.Begins alloc j)) p k made = absurd (omega (arith, ap (λ (z : Record). length z.steps) k.0.is, made))
-looked_at n b i (stage.Capture (capture.HasTaken alloc t)) p k made = (
+looked_at n b i (stage.Capture (capture.Begins j)) p k made = absurd (omega (arith, ap (λ (z : Record). length z.steps) k.0.is, made))
+looked_at n b i (stage.Capture (capture.HasTaken t)) p k made = (
     let long : length p.steps ≡ length (b.steps ++ Took t.stripe t.content.outbox.items t.content.last ∷ []) = ap (λ (x : Record). length x.steps) k.1.is in
     absurd (omega (arith, long, length_push b.steps (Took t.stripe t.content.outbox.items t.content.last), made))
     )
@@ -148,8 +149,8 @@ one_left n b i (stage.Change s) p k made = absurd (by_change n b i s p k)
 one_left n b i (stage.Read s) p k made = absurd (by_read n b i s p k)
 one_left n b i (stage.Release s) p k made = absurd (by_release n b i s p k)
 one_left n b i (stage.Sweep s) p k made = absurd (by_sweep n b i s p k)
-one_left n b i (stage.Capture (capture.Begins alloc j)) p k made = absurd (omega (arith, ap (λ (z : Record). length z.steps) k.0.is, made))
-one_left n b i (stage.Capture (capture.HasTaken alloc t)) p k made = (
+one_left n b i (stage.Capture (capture.Begins j)) p k made = absurd (omega (arith, ap (λ (z : Record). length z.steps) k.0.is, made))
+one_left n b i (stage.Capture (capture.HasTaken t)) p k made = (
     let long : length p.steps ≡ length (b.steps ++ Took t.stripe t.content.outbox.items t.content.last ∷ []) = ap (λ (x : Record). length x.steps) k.1.is in
     absurd (omega (arith, long, length_push b.steps (Took t.stripe t.content.outbox.items t.content.last), made))
     )
@@ -162,8 +163,8 @@ refused_at n b i (stage.Change s) p e k made kept refused = absurd (by_change n 
 refused_at n b i (stage.Read s) p e k made kept refused = absurd (by_read n b i s p k)
 refused_at n b i (stage.Release s) p e k made kept refused = absurd (by_release n b i s p k)
 refused_at n b i (stage.Sweep s) p e k made kept refused = absurd (by_sweep n b i s p k)
-refused_at n b i (stage.Capture (capture.Begins alloc j)) p e k made kept refused = absurd (omega (arith, ap (λ (z : Record). length z.steps) k.0.is, made))
-refused_at n b i (stage.Capture (capture.HasTaken alloc t)) p e k made kept refused = (
+refused_at n b i (stage.Capture (capture.Begins j)) p e k made kept refused = absurd (omega (arith, ap (λ (z : Record). length z.steps) k.0.is, made))
+refused_at n b i (stage.Capture (capture.HasTaken t)) p e k made kept refused = (
     let long : length p.steps ≡ length (b.steps ++ Took t.stripe t.content.outbox.items t.content.last ∷ []) = ap (λ (x : Record). length x.steps) k.1.is in
     absurd (omega (arith, long, length_push b.steps (Took t.stripe t.content.outbox.items t.content.last), made))
     )
@@ -184,7 +185,7 @@ missed n b i w (stepped.More x) next not_more made = absurd (not_more x refl)
 missed n b i w (stepped.Held h) next not_more made = absurd next
 missed n b i w (stepped.Released z) next not_more made = absurd next
 missed n b i w (stepped.Swept es) next not_more made = absurd next
-missed n b i w (stepped.Captured z) next not_more made = (let long = captured_long n b i z.mark z.entries.items w next in absurd (omega (arith, long, made)))
+missed n b i w (stepped.Captured z) next not_more made = (let long = captured_long n b i z.mark (entries_captured z) w next in absurd (omega (arith, long, made)))
 missed n b i w (stepped.Refused e) next not_more made = one_missed b i e w next made
 
 -- after its LOOK a walk goes on
@@ -193,7 +194,7 @@ goes_on n b i w (stepped.More x) next made = (x, refl)
 goes_on n b i w (stepped.Held h) next made = absurd next
 goes_on n b i w (stepped.Released z) next made = absurd next
 goes_on n b i w (stepped.Swept es) next made = absurd next
-goes_on n b i w (stepped.Captured z) next made = (let long = captured_long n b i z.mark z.entries.items w next in absurd (omega (arith, long, made)))
+goes_on n b i w (stepped.Captured z) next made = (let long = captured_long n b i z.mark (entries_captured z) w next in absurd (omega (arith, long, made)))
 goes_on n b i w (stepped.Refused e) next made = absurd (no_second b i e w next made)
 
 -- its GIVE is its last step
@@ -265,8 +266,8 @@ beside_stage n b i (stage.Change s) p k made = absurd (by_change n b i s p k)
 beside_stage n b i (stage.Read s) p k made = absurd (by_read n b i s p k)
 beside_stage n b i (stage.Release s) p k made = absurd (by_release n b i s p k)
 beside_stage n b i (stage.Sweep s) p k made = absurd (by_sweep n b i s p k)
-beside_stage n b i (stage.Capture (capture.Begins alloc j)) p k made = beside_at b b p (beside_begun b) k.0.is
-beside_stage n b i (stage.Capture (capture.HasTaken alloc t)) p k made = beside_at b _ p (beside_taken b t.stripe t.content.part.map t.content.outbox.items t.content.last k.1.taken) k.1.is
+beside_stage n b i (stage.Capture (capture.Begins j)) p k made = beside_at b b p (beside_begun b) k.0.is
+beside_stage n b i (stage.Capture (capture.HasTaken t)) p k made = beside_at b _ p (beside_taken b t.stripe t.content.part.map t.content.outbox.items t.content.last k.1.taken) k.1.is
 beside_stage n b i (stage.Capture (capture.HasLooked t z)) p k made = beside_at b _ p (beside_looked b t.stripe t.content.part.map t.content.outbox.items t.content.last k.1.taken k.1.looked) k.1.is
 beside_stage n b i (stage.GivingBack t e) p k made = elim (refused_by b i e (giving Nothing p) k.refused) [
   | inl is ↦ (let long = missed_long b i (giving Nothing p) is in absurd (made (omega (arith, long, length_push p.steps (Gave (stripe_held p.holding))))))
@@ -314,22 +315,56 @@ not_both (stage.Sweep s) z e c r = cc
 not_both (stage.Capture s) z e c r = cc
 not_both (stage.GivingBack t f) z e c r = cc
 
-staged_with : (old new : CheckpointState) (walk : Walk) (z : Captured) → captured_of_walk walk ≡ Some z → new ≡ with_section z.mark z.entries.items old → StandsWith old z.mark z.entries.items → IsStaged old new walk walk
+staged_with : (old new : CheckpointState) (walk : Walk) (z : Captured) → captured_of_walk walk ≡ Some z → new ≡ with_section z.mark (entries_captured z) old → StandsWith old z.mark (entries_captured z) → IsStaged old new walk walk
 staged_with old new walk z copied is stands = record {
   looked = λ n b i p k. k;
-  given = λ y e. subst (λ (x : Captured). (new ≡ with_section x.mark x.entries.items old) × StandsWith old x.mark x.entries.items) (some_same z y (sym copied ∙ e)) (is, stands);
+  given = λ y e. subst (λ (x : Captured). (new ≡ with_section x.mark (entries_captured x) old) × StandsWith old x.mark (entries_captured x)) (some_same z y (sym copied ∙ e)) (is, stands);
   same = λ e r. absurd (not_both walk.stage z e copied r);
   cause = λ e r. inr r;
 }
 
-pub staged_ok : (old new : CheckpointState) (walk : Walk) (z : Captured) (es : List (List ℕ × Value)) → captured_of_walk walk ≡ Some z → es ≡ z.entries.items → new ≡ with_section z.mark es old
-    → ((map : Map) (content : List ℕ) (sections : List Section) (file : File) → es ≡ finite.entries map → AreKeysOf old.stripes old.count es → old.low ≤ z.mark → Stands old content sections file
-    → Stands new content (sections ++ record { mark = z.mark; map = map } ∷ []) file) → IsStaged old new walk walk
-staged_ok old new walk z es copied same is stands =
-    let to : new ≡ with_section z.mark z.entries.items old = is ∙ ap (λ (l : List (List ℕ × Value)). with_section z.mark l old) same in
-    staged_with old new walk z copied to (λ map content sections file e keys low k.
-    subst (λ (v : CheckpointState). Stands v content (sections ++ record { mark = z.mark; map = map } ∷ []) file) to
-    (stands map content sections file (same ∙ e) (subst (λ (l : List (List ℕ × Value)). AreKeysOf old.stripes old.count l) (sym same) keys) low k))
+-- the section is given by these entries, which stand for others
+given_as : (old new : CheckpointState) (mark : ℕ) (es xs : List (List ℕ × Value)) → es ≡ xs → new ≡ with_section mark es old
+    → ((map : Map) (content : List ℕ) (sections : List Section) (file : File) → es ≡ finite.entries map → AreKeysOf old.stripes old.count es → old.low ≤ mark → Stands old content sections file
+    → Stands new content (sections ++ record { mark = mark; map = map } ∷ []) file) → (new ≡ with_section mark xs old) × StandsWith old mark xs
+given_as old new mark es xs same is stands =
+    let to : new ≡ with_section mark xs old = is ∙ ap (λ (l : List (List ℕ × Value)). with_section mark l old) same in (
+      to,
+      λ map content sections file e keys low k.
+          subst (λ (v : CheckpointState). Stands v content (sections ++ record { mark = mark; map = map } ∷ []) file) to
+          (stands map content sections file (same ∙ e) (subst (λ (l : List (List ℕ × Value)). AreKeysOf old.stripes old.count l) (sym same) keys) low k),
+    )
+
+-- the same, if the section was given
+pub given_if : {A E : Type 0} (r : Result A E) (old new : CheckpointState) (mark : ℕ) (es xs : List (List ℕ × Value)) → es ≡ xs → OnOk r (new ≡ with_section mark es old)
+    → OnOk r ((map : Map) (content : List ℕ) (sections : List Section) (file : File) → es ≡ finite.entries map → AreKeysOf old.stripes old.count es → old.low ≤ mark → Stands old content sections file
+    → Stands new content (sections ++ record { mark = mark; map = map } ∷ []) file) → OnOk r ((new ≡ with_section mark xs old) × StandsWith old mark xs)
+given_if (Ok a) old new mark es xs same is stands = given_as old new mark es xs same is stands
+given_if (Err e) old new mark es xs same is stands = tt
+
+some_part : (x y : PartState) → Some x ≡ Some y → x ≡ y
+some_part x y e = cc
+
+held_at : (n : ℕ) (b : Record) (i : ℕ) (s : Stage) (p : Record) (z : Captured) (part : PartState) → FitsStage n b (ToCapture i) s p → captured_of_stage s ≡ Some z → part_of_stage s ≡ Some part → z.part.value ≡ part
+held_at n b i (stage.Change s) p z part k captured held = absurd (by_change n b i s p k)
+held_at n b i (stage.Read s) p z part k captured held = absurd (by_read n b i s p k)
+held_at n b i (stage.Release s) p z part k captured held = absurd (by_release n b i s p k)
+held_at n b i (stage.Sweep s) p z part k captured held = absurd (by_sweep n b i s p k)
+held_at n b i (stage.Capture (capture.Begins j)) p z part k captured held = cc
+held_at n b i (stage.Capture (capture.HasTaken t)) p z part k captured held = cc
+held_at n b i (stage.Capture (capture.HasLooked t y)) p z part k captured held =
+    ap (λ (x : Captured). x.part.value) (sym (some_same y z captured)) ∙ k.1.part_is ∙ some_part t.content.part part held
+held_at n b i (stage.GivingBack t e) p z part k captured held = cc
+
+-- the part that a walk holds, which has looked, is the one that it captured
+pub held_part : (n : ℕ) (b : Record) (i : ℕ) (walk : Walk) (p : Record) (z : Captured) (part : PartState) → HasLooked n b i walk p → captured_of_walk walk ≡ Some z → part_of_walk walk ≡ Some part → z.part.value ≡ part
+held_part n b i walk p z part k captured held = held_at n b i walk.stage p z part k.fits captured held
+
+pub staged_ok : (old new : CheckpointState) (walk : Walk) (z : Captured) (part : PartState) → captured_of_walk walk ≡ Some z → z.part.value ≡ part
+    → (new ≡ with_section z.mark (finite.entries part.map) old) × StandsWith old z.mark (finite.entries part.map) → IsStaged old new walk walk
+staged_ok old new walk z part captured held given =
+    let same : finite.entries part.map ≡ entries_captured z = ap (λ (q : PartState). finite.entries q.map) (sym held) in
+    staged_with old new walk z captured (given.0 ∙ ap (λ (l : List (List ℕ × Value)). with_section z.mark l old) same) (subst (λ (l : List (List ℕ × Value)). StandsWith old z.mark l) same given.1)
 
 -- ---- which step comes next
 
@@ -338,8 +373,8 @@ copied_at n (stage.Change s) z look copied = cc
 copied_at n (stage.Read s) z look copied = cc
 copied_at n (stage.Release s) z look copied = cc
 copied_at n (stage.Sweep s) z look copied = cc
-copied_at n (stage.Capture (capture.Begins alloc i)) z look copied = cc
-copied_at n (stage.Capture (capture.HasTaken alloc t)) z look copied = cc
+copied_at n (stage.Capture (capture.Begins i)) z look copied = cc
+copied_at n (stage.Capture (capture.HasTaken t)) z look copied = cc
 copied_at n (stage.Capture (capture.HasLooked t y)) z look copied = cc
 copied_at n (stage.GivingBack t e) z look copied = cc
 

@@ -24,9 +24,11 @@ pub record MayBegin {D : Type 0} (keeper : Keeper D) : Type 0 where
   pub fits : keeper.sealed + 1 < 2 ^ 64
   pub rests : keeper.log.generation ≡ keeper.sealed → IsResting keeper.log
 
--- The checkpoint goes with a log that is begun behind the committed commands; or with the newest log, which is of its generation already.
+-- The checkpoint goes with a log that is begun behind the committed commands; or with the newest log, which is of its
+-- generation already.
 pub record Begins {D : Type 0} (old new : Keeper D) : Type 0 where
-  pub rotates : old.log.generation ≡ old.sealed → (new.next ≡ Some (log_states.begun (old.sealed + 1) old.log.committed))
+  pub rotates : old.log.generation ≡ old.sealed → (new.next
+      ≡ Some (log_states.begun (old.sealed + 1) old.log.committed))
       × (new.checkpoint ≡ Some (begun (old.sealed + 1) old.log.committed old.stripes.count old.must_close))
   pub goes_with : old.log.generation ≢ old.sealed → (new.next ≡ None)
       × (new.checkpoint ≡ Some (begun (old.sealed + 1) old.log.low old.stripes.count old.must_close))
@@ -41,7 +43,8 @@ IsNextStripe stripe next (Some w) = (next ≡ None) × TakesSection w × (w.coun
 -- these sections were given to the checkpoint that runs, whose file stands so
 abbrev pub HasGiven : Option CheckpointState → List Section → Files → Type 0
 HasGiven None sections files = ⊥
-HasGiven (Some w) sections files = (old : List ℕ) × checkpoint.Stands w old sections (files (checkpoint_file w.generation))
+HasGiven (Some w) sections files =
+    (old : List ℕ) × checkpoint.Stands w old sections (files (checkpoint_file w.generation))
 
 -- ---- its seal
 
@@ -87,16 +90,20 @@ abbrev pub kept_in : CheckpointPhase → CheckpointState → Checkpoints → Che
 kept_in Opened after before = record { sealed = after.generation; writer = None; must_close = true }
 kept_in phase after before = record before { writer = Some after }
 
-abbrev pub KeepsAfter : Result CheckpointPhase Refusal → CheckpointPhase → CheckpointState → Checkpoints → Checkpoints → Type 0
+abbrev pub KeepsAfter : Result CheckpointPhase Refusal → CheckpointPhase → CheckpointState → Checkpoints → Checkpoints
+    → Type 0
 KeepsAfter (Ok next) phase after old new = new ≡ kept_in phase after old
 KeepsAfter (Err refusal) phase after old new = new ≡ record old { writer = Some after }
 
 -- One step of a checkpoint in whose file a device call is due: it makes that call, and no other.
-pub record StepsCheckpoint {D : Type 0} (states : D → List Files) (failures : D → ℕ) (honest : D → Type 0) (call : Call) (w : CheckpointState) (old new : Keeper D) (result : Result CheckpointPhase Refusal) : Type 0 where
+pub record StepsCheckpoint {D : Type 0} (states : D → List Files) (failures : D → ℕ) (honest : D → Type 0) (call : Call)
+    (w : CheckpointState) (old new : Keeper D) (result : Result CheckpointPhase Refusal) : Type 0 where
   pub was_honest : honest new.disk → honest old.disk
   -- if it succeeds, the checkpoint goes on
-  pub ok : IfOk result (λ phase. (checkpoints_of new ≡ kept_in w.phase (state_after w.phase w) (checkpoints_of old)) × (phase ≡ (state_after w.phase w).phase)
+  pub ok : IfOk result (λ phase. (checkpoints_of new ≡ kept_in w.phase (state_after w.phase w) (checkpoints_of old))
+      × (phase ≡ (state_after w.phase w).phase)
       × Makes states failures (checkpoint_file w.generation) call old.disk new.disk)
   -- if it fails, nothing of it changes but that it has failed
-  pub err : IfErr result (λ refusal. (refusal ≡ Failed) × (checkpoints_of new ≡ record (checkpoints_of old) { writer = Some (record w { is_broken = true }) })
+  pub err : IfErr result (λ refusal. (refusal ≡ Failed)
+      × (checkpoints_of new ≡ record (checkpoints_of old) { writer = Some (record w { is_broken = true }) })
       × Fails states failures (checkpoint_file w.generation) call old.disk new.disk)

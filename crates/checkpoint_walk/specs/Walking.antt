@@ -21,9 +21,10 @@ use Rattle.flusher.specs.KeeperSteps.{is_walking}
 use Rattle.checkpoint_walk.specs.Capturing.{HasLooked, HasTaken, StandsWith}
 use Rattle.checkpoint_walk.specs.Checkpointing.{HasGiven, IsNextStripe}
 
--- The capture of stripe i, which is the next, began at the record `begun`, and its walk has come from there. The keeper stands as it did
--- there, and no sweep walks.
-pub record IsCapturing {D : Type 0} (states : D → List Files) (honest : D → Type 0) (n : ℕ) (done : List Command) (keeper : Keeper D) (walk : Walk) (p : Record) : Type 0 where
+-- The capture of stripe i, which is the next, began at the record `begun`, and its walk has come from there. The keeper
+-- stands as it did there, and no sweep walks.
+pub record IsCapturing {D : Type 0} (states : D → List Files) (honest : D → Type 0) (n : ℕ) (done : List Command)
+    (keeper : Keeper D) (walk : Walk) (p : Record) : Type 0 where
   pub begun : Record
   pub stripe : ℕ
   pub fits : Fits states honest n done keeper begun
@@ -32,7 +33,8 @@ pub record IsCapturing {D : Type 0} (states : D → List Files) (honest : D → 
   pub next : IsNextStripe stripe keeper.next keeper.checkpoint
   pub walked : HasTaken n begun stripe walk p ⊎ HasLooked n begun stripe walk p
 
-abbrev pub FitsBy : {D : Type 0} → Option Walk → (D → List Files) → (D → Type 0) → ℕ → List Command → Keeper D → Record → Type 0
+abbrev pub FitsBy : {D : Type 0} → Option Walk → (D → List Files) → (D → Type 0) → ℕ → List Command → Keeper D → Record
+    → Type 0
 FitsBy None states honest n done keeper p = Fits states honest n done keeper p
 FitsBy (Some walk) states honest n done keeper p = IsCapturing states honest n done keeper walk p
 
@@ -47,7 +49,8 @@ kind_next n stripe None = Take stripe
 kind_next n stripe (Some walk) = next_kind n walk
 
 -- GIVE: the section of the stripe is given to the checkpoint, with its mark
-pub record GivesSection {D : Type 0} (n : ℕ) (b : Record) (stripe mark : ℕ) (old new : Keeper D) (w : Record) : Type 0 where
+pub record GivesSection {D : Type 0} (n : ℕ) (b : Record) (stripe mark : ℕ) (old new : Keeper D)
+    (w : Record) : Type 0 where
   pub entries : List (List ℕ × Value)
   pub captures : CapturesStripe n b stripe mark entries w
   pub writer : CheckpointState
@@ -56,7 +59,8 @@ pub record GivesSection {D : Type 0} (n : ℕ) (b : Record) (stripe mark : ℕ) 
   pub stands : StandsWith writer mark entries
 
 -- GIVE: the stripe is put back as it was taken
-pub record PutsBack {D : Type 0} (b : Record) (stripe : ℕ) (refusal : Refusal) (old new : Keeper D) (w : Record) : Type 0 where
+pub record PutsBack {D : Type 0} (b : Record) (stripe : ℕ) (refusal : Refusal) (old new : Keeper D)
+    (w : Record) : Type 0 where
   pub no_other : (refusal ≡ NoMemory) ⊎ (refusal ≡ LogFull)
   pub back : RefusesCapture b stripe refusal w
   pub is : new ≡ record old { capture = None }
@@ -97,13 +101,17 @@ pub record LooksAt {D : Type 0} (n : ℕ) (walk : Walk) (old new : Keeper D) (p 
   pub is : new ≡ record old { capture = Some next }
 
 -- a step of a capture whose walk is under way
-abbrev pub AfterWalk : {D : Type 0} → ℕ → Walk → Keeper D → Keeper D → Record → Record → Result (Option ℕ) Refusal → Type 0
+abbrev pub AfterWalk : {D : Type 0} → ℕ → Walk → Keeper D → Keeper D → Record → Record → Result (Option ℕ) Refusal
+    → Type 0
 AfterWalk n walk old new p w (Ok None) = LooksAt n walk old new p w
-AfterWalk n walk old new p w (Ok (Some mark)) = (i : ℕ) × (next_kind n walk ≡ Give i) × ((b : Record) → HasLooked n b i walk p → GivesSection n b i mark old new w)
-AfterWalk n walk old new p w (Err refusal) = (i : ℕ) × (next_kind n walk ≡ Give i) × ((b : Record) → HasLooked n b i walk p → PutsBack b i refusal old new w)
+AfterWalk n walk old new p w (Ok (Some mark)) =
+    (i : ℕ) × (next_kind n walk ≡ Give i) × ((b : Record) → HasLooked n b i walk p → GivesSection n b i mark old new w)
+AfterWalk n walk old new p w (Err refusal) =
+    (i : ℕ) × (next_kind n walk ≡ Give i) × ((b : Record) → HasLooked n b i walk p → PutsBack b i refusal old new w)
 
 -- what one step of a capture leaves, by where it stood
-abbrev pub AfterStep : {D : Type 0} → ℕ → ℕ → Option Walk → Keeper D → Keeper D → Record → Record → Result (Option ℕ) Refusal → Type 0
+abbrev pub AfterStep : {D : Type 0} → ℕ → ℕ → Option Walk → Keeper D → Keeper D → Record → Record
+    → Result (Option ℕ) Refusal → Type 0
 AfterStep n stripe None old new p w result = AfterTake n stripe old new p w result
 AfterStep n stripe (Some walk) old new p w result = AfterWalk n walk old new p w result
 
@@ -120,13 +128,15 @@ pub record HasWaited (stripe : ℕ) (p b : Record) : Type 0 where
   pub is : b ≡ record p { steps = p.steps ++ replicate tries (FoundHeld stripe) }
 
 -- then a capture of it gave its section
-pub record GivesWaiting {D : Type 0} (n : ℕ) (p : Record) (stripe mark : ℕ) (old new : Keeper D) (w : Record) : Type 0 where
+pub record GivesWaiting {D : Type 0} (n : ℕ) (p : Record) (stripe mark : ℕ) (old new : Keeper D)
+    (w : Record) : Type 0 where
   pub begun : Record
   pub waited : HasWaited stripe p begun
   pub gives : GivesSection n begun stripe mark old new w
 
 -- or put it back
-pub record BackWaiting {D : Type 0} (p : Record) (stripe : ℕ) (refusal : Refusal) (old new : Keeper D) (w : Record) : Type 0 where
+pub record BackWaiting {D : Type 0} (p : Record) (stripe : ℕ) (refusal : Refusal) (old new : Keeper D)
+    (w : Record) : Type 0 where
   pub begun : Record
   pub waited : HasWaited stripe p begun
   pub back : PutsBack begun stripe refusal old new w
@@ -143,14 +153,16 @@ pub record MayCapture {D : Type 0} (stripe : ℕ) (keeper : Keeper D) : Type 0 w
   pub next : (IsNextStripe stripe keeper.next keeper.checkpoint → ⊥) → ⊥
 
 -- The section of this mark, given behind these, is the part of the next stripe after the first `mark` commands.
-pub record GivesPart {D : Type 0} (states : D → List Files) (n : ℕ) (h : History) (mark : ℕ) (sections : List Section) (new : Keeper D) : Type 0 where
+pub record GivesPart {D : Type 0} (states : D → List Files) (n : ℕ) (h : History) (mark : ℕ) (sections : List Section)
+    (new : Keeper D) : Type 0 where
   pub section : Section
   pub mark_is : section.mark ≡ mark
   pub map : section.map ≡ part_of n (length sections) (fold_to h mark)
   pub given : HasGiven new.checkpoint (sections ++ section ∷ []) (now (states new.disk))
 
 -- the same, once the capture is over
-abbrev pub GivesPartIn : {D : Type 0} → (D → List Files) → ℕ → History → Result (Option ℕ) Refusal → List Section → Keeper D → Type 0
+abbrev pub GivesPartIn : {D : Type 0} → (D → List Files) → ℕ → History → Result (Option ℕ) Refusal → List Section
+    → Keeper D → Type 0
 GivesPartIn states n h (Ok None) sections new = Unit {0}
 GivesPartIn states n h (Ok (Some mark)) sections new = GivesPart states n h mark sections new
 GivesPartIn states n h (Err refusal) sections new = Unit {0}

@@ -128,7 +128,7 @@ fn take<D: Disk, S: Steps>(
         Ok(()) => {}
         Err(refusal) => return Err(refusal),
     }
-    match hold(keeper.alloc, stripe, steps) {
+    match hold(stripe, steps) {
         Some(walk) => {
             go_under_way(keeper, walk);
             Ok(None)
@@ -161,8 +161,8 @@ fn go_on<D: Disk, S: Steps>(
     ensures place { S.place steps.new ≡ S.place steps.old }
     ensures stripes { S.stripe_count steps.new ≡ S.stripe_count steps.old }
 {
-    let has_copied = walk.captured().is_some();
-    if has_copied {
+    let has_looked = walk.captured().is_some();
+    if has_looked {
         return match give(keeper, walk, steps) {
             Ok(mark) => Ok(Some(mark)),
             Err(refusal) => Err(refusal),
@@ -230,7 +230,7 @@ pub fn try_capture<D: Disk, S: Steps>(
         Ok(()) => {}
         Err(refusal) => return Err(refusal),
     }
-    let Some(walk) = hold(keeper.alloc, stripe, steps) else {
+    let Some(walk) = hold(stripe, steps) else {
         return Err(Refusal::Busy { stripe });
     };
     let walk = look(walk, steps);

@@ -3,15 +3,14 @@ ghost use Rattle.std.specs.Prelude.{◌≡◌, ◌<◌, ℕ, Some, None, IfOk, I
 ghost use Rattle.ticket_order.specs.declared.record.Record.{Record};
 ghost use Rattle.ticket_order.specs.Records.{missing};
 ghost use Rattle.ticket_order.specs.Calls.{CapturesStripe, RefusesCapture};
-ghost use Rattle.ticket_order.specs.Walks.{Give, Look, MakesOne, Take, captured_of_walk, refusal_of_walk};
+ghost use Rattle.ticket_order.specs.Walks.{Give, Look, MakesOne, Take, captured_of_walk, entries_captured, refusal_of_walk};
 ghost use Rattle.checkpoint_walk.specs.Capturing.{HasLooked, HasTaken};
 
 use map_types::Refusal;
-use std::alloc::Global;
 use ticket_order::{Captured, Stepped, Steps, Walk};
 
 // TAKE of the stripe; `None` if another holds it.
-pub(crate) fn hold<S: Steps>(alloc: Global, stripe: usize, steps: &mut S) -> Option<Walk>
+pub(crate) fn hold<S: Steps>(stripe: usize, steps: &mut S) -> Option<Walk>
     // The pass holds no stripe, and there is this one.
     requires free { (S.recorded steps.old).holding ≡ None }
     requires within { stripe < S.stripe_count steps.old }
@@ -27,7 +26,7 @@ pub(crate) fn hold<S: Steps>(alloc: Global, stripe: usize, steps: &mut S) -> Opt
     ensures place { S.place steps.new ≡ S.place steps.old }
     ensures stripes { S.stripe_count steps.new ≡ S.stripe_count steps.old }
 {
-    match Walk::capture(alloc, stripe).step(steps) {
+    match Walk::capture(stripe).step(steps) {
         Stepped::More(walk) => Some(walk),
         other => {
             drop(other);
@@ -36,8 +35,8 @@ pub(crate) fn hold<S: Steps>(alloc: Global, stripe: usize, steps: &mut S) -> Opt
     }
 }
 
-// LOOK, and then the entries of the stripe are copied. The walk has then only its GIVE left, which
-// hands out what was copied, or puts the stripe back.
+// LOOK, and the stripe is held on. The walk has then only its GIVE left, which hands out its mark, or
+// puts the stripe back.
 pub(crate) fn look<S: Steps>(walk: Walk, steps: &mut S) -> Walk
     requires { (b : Record) × (i : ℕ)
         × HasTaken (S.stripe_count steps.old) b i walk (S.recorded steps.old) }
@@ -58,7 +57,7 @@ pub(crate) fn look<S: Steps>(walk: Walk, steps: &mut S) -> Walk
     }
 }
 
-// GIVE: what was copied, or the refusal for which the stripe is put back.
+// GIVE: what was captured, or the refusal for which the stripe is put back.
 pub(crate) fn hand_out<S: Steps>(walk: Walk, steps: &mut S) -> Result<Captured, Refusal>
     // The walk of a capture has looked, and has its GIVE left.
     requires { (b : Record) × (i : ℕ)
@@ -69,12 +68,12 @@ pub(crate) fn hand_out<S: Steps>(walk: Walk, steps: &mut S) -> Result<Captured, 
         → HasLooked (S.stripe_count steps.old) b i walk (S.recorded steps.old)
         → MakesOne S.recorded S.moves (Give i) steps.old steps.new }
 
-    // What the walk has copied is handed out, the stripe's part at its mark.
+    // What the walk has captured is handed out, the stripe's part at its mark.
     ensures captured { IfOk result (λ z. (captured_of_walk walk ≡ Some z)
         × (refusal_of_walk walk ≡ None)) }
     ensures ok { IfOk result (λ z. (b : Record) (i : ℕ)
         → HasLooked (S.stripe_count steps.old) b i walk (S.recorded steps.old)
-        → CapturesStripe (S.stripe_count steps.old) b i z.mark z.entries.items
+        → CapturesStripe (S.stripe_count steps.old) b i z.mark (entries_captured z)
         (S.recorded steps.new)) }
 
     // Or its refusal is, and the stripe is back as it was taken.

@@ -1,17 +1,20 @@
 //! The sections of a checkpoint, captured one after another.
-ghost use Rattle.std.specs.Prelude.{◌≡◌, ◌⊎◌, ◌↔◌, ℕ, None, true, false, IfErr, IfOk, OnOk};
+ghost use Rattle.std.specs.Prelude.{◌≡◌, ◌⊎◌, ◌↔◌, ℕ, None, true, false, IfErr, IfOk, OnErr, OnOk};
+ghost use Rattle.std.specs.FinMap as finite;
 ghost use Rattle.ticket_order.specs.declared.record.Record.{Record};
 ghost use Rattle.ticket_order.specs.Walks.{Give, MakesOne};
-ghost use Rattle.checkpoint_file.specs.States.{TakesSection};
-ghost use Rattle.checkpoint_walk.specs.Capturing.{HasLooked, IsCauseOf, IsStaged};
+ghost use Rattle.checkpoint_file.specs.States.{TakesSection, with_section};
+ghost use Rattle.checkpoint_walk.specs.Capturing.{HasLooked, IsCauseOf, IsStaged, StandsWith};
 ghost use Rattle.checkpoint_walk.specs.Checkpointing.{IsNextStripe};
 ghost use Rattle.checkpoint_walk.specs.Walking.{GivesSection, PutsBack};
 
 use crate::capturing::hand_out;
+use atomic_methods::Part;
 use checkpoint_file::{CheckpointPhase, CheckpointWriter};
 use disk_model::Disk;
 use flusher::Keeper;
 use map_types::Refusal;
+use std::alloc::Global;
 use ticket_order::{Steps, Walk};
 
 // Whether the section of this stripe is the next.
@@ -48,14 +51,33 @@ pub(crate) fn check<D: Disk>(keeper: &Keeper<D>, stripe: usize) -> Result<(), Re
     Ok(())
 }
 
-// Gives what was copied to the checkpoint. If no memory is found for its bytes, the walk puts the
-// stripe back.
-fn stage(writer: &mut CheckpointWriter, walk: Walk) -> Walk
+// Gives the part to the checkpoint as the section of the next stripe, with this mark. No key and no
+// value is copied but into the bytes of the section.
+fn stage_part(
+    alloc: Global,
+    writer: &mut CheckpointWriter,
+    mark: u64,
+    part: &Part,
+) -> Result<(), Refusal>
     requires { TakesSection writer.old }
+    ensures ok { OnOk result
+        ((writer.new ≡ with_section mark (finite.entries part.now.map) writer.old)
+        × StandsWith writer.old mark (finite.entries part.now.map)) }
+    ensures err { OnErr result (writer.new ≡ writer.old) }
+{
+    let entries = part.lent_sorted(alloc)?;
+    writer.section(mark, &entries)
+}
+
+// Gives the part that the walk holds to the checkpoint. If no memory is found for that, the walk puts
+// the stripe back.
+fn stage(alloc: Global, writer: &mut CheckpointWriter, walk: Walk) -> Walk
+    requires section { TakesSection writer.old }
+    requires looked { (n : ℕ) × (b : Record) × (i : ℕ) × (p : Record) × HasLooked n b i walk p }
     ensures { IsStaged writer.old writer.new walk result }
 {
     let staged = match walk.captured() {
-        Some(captured) => writer.section(captured.mark, &captured.entries),
+        Some((captured, part)) => stage_part(alloc, writer, captured.mark, part),
         None => return walk,
     };
     match staged {
@@ -64,7 +86,7 @@ fn stage(writer: &mut CheckpointWriter, walk: Walk) -> Walk
     }
 }
 
-// GIVE: what was copied is given to the checkpoint, or the stripe is put back.
+// The section of the stripe is given to the checkpoint, and then GIVE; or the stripe is put back.
 pub(crate) fn give<D: Disk, S: Steps>(
     keeper: &mut Keeper<D>,
     walk: Walk,
@@ -95,10 +117,11 @@ pub(crate) fn give<D: Disk, S: Steps>(
     ensures place { S.place steps.new ≡ S.place steps.old }
     ensures stripes { S.stripe_count steps.new ≡ S.stripe_count steps.old }
 {
+    let alloc = keeper.alloc;
     let Some(writer) = &mut keeper.checkpoint else {
         unreachable!()
     };
-    let walk = stage(writer, walk);
+    let walk = stage(alloc, writer, walk);
     match hand_out(walk, steps) {
         Ok(captured) => Ok(captured.mark),
         Err(refusal) => Err(refusal),

@@ -19,16 +19,20 @@ asks_lines [] = false
 asks_lines (word ∷ []) = bytes_eq word (codes "-")
 asks_lines (word ∷ next ∷ words) = false
 
--- IsConnected says of a reader and a writer that they are the ends of a new connection to a place. IsUnreachable says that a connection to a place was
--- tried, and there was none, for an error. Fails says that reading a reply ended with an error, of what the reader had left before and has left then.
-module _ {R W : Type 0} (Fails : Known → Known → ReplyError → Type 0) (remaining : R → Known) (contents : W → Known) (IsConnected : Place → R → W → Type 0)
+-- IsConnected says of a reader and a writer that they are the ends of a new connection to a place. IsUnreachable says
+-- that a connection to a place was tried, and there was none, for an error. Fails says that reading a reply ended with
+-- an error, of what the reader had left before and has left then.
+module _ {R W : Type 0} (Fails : Known → Known → ReplyError → Type 0) (remaining : R → Known) (contents : W → Known)
+    (IsConnected : Place → R → W → Type 0)
     (IsUnreachable : Place → Error → Type 0) where
   -- a new connection to the place; or none, as one was tried and couldn't be had, for an error
   abbrev pub Connects : Place → Ends → Type 0
   Connects place None = (error : Error) × IsUnreachable place error
-  Connects place (Some ends) = (reader : R) × (writer : W) × IsConnected place reader writer × (ends ≡ (remaining reader, contents writer))
+  Connects place (Some ends) =
+      (reader : R) × (writer : W) × IsConnected place reader writer × (ends ≡ (remaining reader, contents writer))
 
-  -- the lines of the input were answered over such a connection, or without one; if memory, the input or the output failed, the status is 1
+  -- the lines of the input were answered over such a connection, or without one; if memory, the input or the output
+  -- failed, the status is 1
   pub record AnswersAt (place : Place) (i0 i1 o0 o1 : Known) (status : ℕ) : Type 0 where
     pub ends : Ends
     pub result : Result ℕ Stop
@@ -45,4 +49,5 @@ module _ {R W : Type 0} (Fails : Known → Known → ReplyError → Type 0) (rem
   -- for one call nothing is read of the input
   pub record MakesCalls (at : PlaceWords) (words : List Text) (i0 i1 o0 o1 : Known) (status : ℕ) : Type 0 where
     pub lines : asks_lines words ≡ true → CallsLines at i0 i1 o0 o1 status
-    pub one : asks_lines words ≡ false → (i1 ≡ i0) × CallsServer remaining contents IsConnected IsUnreachable at (parse_words words) o0 o1 status
+    pub one : asks_lines words ≡ false → (i1 ≡ i0) × CallsServer remaining contents IsConnected IsUnreachable at
+        (parse_words words) o0 o1 status

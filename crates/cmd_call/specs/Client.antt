@@ -89,9 +89,10 @@ request_of (called.Search threshold value) = request.Bulk (bulk.Search threshold
 abbrev pub PrintsMisuse : Known → Known → ℕ → Type 0
 PrintsMisuse o0 o1 status = (o1 ≡ o0) × (status ≡ 2)
 
--- IsConnected says of a reader and a writer that they are the ends of a new connection to a place. IsUnreachable says that a connection to a place was
--- tried, and there was none, for an error.
-module _ {R W : Type 0} (remaining : R → Known) (contents : W → Known) (IsConnected : Place → R → W → Type 0) (IsUnreachable : Place → Error → Type 0) where
+-- IsConnected says of a reader and a writer that they are the ends of a new connection to a place. IsUnreachable says
+-- that a connection to a place was tried, and there was none, for an error.
+module _ {R W : Type 0} (remaining : R → Known) (contents : W → Known) (IsConnected : Place → R → W → Type 0)
+    (IsUnreachable : Place → Error → Type 0) where
   -- a server was asked at the place, and its answer printed
   pub record AsksAt (place : Place) (request : Request) (o0 o1 : Known) (status : ℕ) : Type 0 where
     pub reader : R
@@ -99,7 +100,8 @@ module _ {R W : Type 0} (remaining : R → Known) (contents : W → Known) (IsCo
     pub writer : W
     pub writer_after : W
     pub connected : IsConnected place reader writer
-    pub asks : AsksServer (remaining reader) (remaining reader_after) (contents writer) (contents writer_after) o0 o1 request status
+    pub asks : AsksServer (remaining reader) (remaining reader_after) (contents writer)
+        (contents writer_after) o0 o1 request status
 
   -- no connection to the place could be had, and nothing was printed, with status 1
   abbrev pub CannotConnect : Place → Known → Known → ℕ → Type 0
@@ -109,12 +111,13 @@ module _ {R W : Type 0} (remaining : R → Known) (contents : W → Known) (IsCo
   abbrev pub CallsAt : Place → Request → Known → Known → ℕ → Type 0
   CallsAt place request o0 o1 status = AsksAt place request o0 o1 status ⊎ CannotConnect place o0 o1 status
 
-  -- For the words of a call: if `at` names no place, nothing is printed, with status 2; else a server is asked for what the words say, or can't be
-  -- reached. If no memory was found to read the words, nothing is printed, with status 1. Words that are no call print nothing, with status 2; or 1 if no
-  -- memory was found to read them.
+  -- For the words of a call: if `at` names no place, nothing is printed, with status 2; else a server is asked for what
+  -- the words say, or can't be reached. If no memory was found to read the words, nothing is printed, with status 1.
+  -- Words that are no call print nothing, with status 2; or 1 if no memory was found to read them.
   abbrev pub CallsServer : PlaceWords → Result Called BadWord → Known → Known → ℕ → Type 0
   CallsServer at (Ok called) o0 o1 status =
       (NamesNoPlace at × PrintsMisuse o0 o1 status)
-      ⊎ ((place : Place) × NamesPlace at place × (CallsAt place (request_of called) o0 o1 status ⊎ PrintsNothing o0 o1 status))
+      ⊎ ((place : Place) × NamesPlace at place × (CallsAt place (request_of called) o0 o1 status
+      ⊎ PrintsNothing o0 o1 status))
   CallsServer at (Err bad) o0 o1 status =
       PrintsMisuse o0 o1 status ⊎ ((place : Place) × NamesPlace at place × PrintsNothing o0 o1 status)

@@ -20,7 +20,8 @@ module _ (Fails : Known → Known → ReplyError → Type 0) where
   -- ---- while it is read
 
   -- the first of these whole lines were answered, and the others are still to be asked
-  pub record Underway (e0 e1 : Ends) (o0 o1 : Known) (whole : List Text) (asked : List Asked) (status : ℕ) : Type 0 where
+  pub record Underway (e0 e1 : Ends) (o0 o1 : Known) (whole : List Text) (asked : List Asked)
+      (status : ℕ) : Type 0 where
     pub answered : List Text
     pub waiting : List Text
     pub are : whole ≡ answered ++ waiting
@@ -28,7 +29,8 @@ module _ (Fails : Known → Known → ReplyError → Type 0) where
     pub asked_are : asked ≡ map asked_in waiting
 
   -- the bytes are whole lines that are answered or still to be asked, and a part of a line
-  pub record Reads (bytes : List ℕ) (part : Text) (e0 e1 : Ends) (o0 o1 : Known) (asked : List Asked) (status : ℕ) : Type 0 where
+  pub record Reads (bytes : List ℕ) (part : Text) (e0 e1 : Ends) (o0 o1 : Known) (asked : List Asked)
+      (status : ℕ) : Type 0 where
     pub whole : List Text
     pub divides : Divides bytes whole part
     pub underway : Underway e0 e1 o0 o1 whole asked status
@@ -61,7 +63,8 @@ module _ (Fails : Known → Known → ReplyError → Type 0) where
     pub divides : Divides bytes whole part
     pub answers : Answers Fails e0 after o0 o1 (map asked_in (whole ++ last_line part)) 0 status
 
-  -- memory, the input or the output failed: for the first lines that were read a beginning of what came of them was printed
+  -- memory, the input or the output failed: for the first lines that were read a beginning of what came of them was
+  -- printed
   pub record AnswersSome (i0 i1 : Known) (e0 : Ends) (o0 o1 : Known) : Type 0 where
     pub bytes : List ℕ
     pub read : Consumes i0 i1 bytes

@@ -144,8 +144,8 @@ module _ (Fails : Known → Known → ReplyError → Type 0) where
     pub whole : IsBeginning (request_frame request) front
     pub loses : LosesReply reader
 
-  -- The connection was lost: the first lines have their replies, and none behind them has one. Of the requests of those a beginning was sent. It isn't the
-  -- whole, as the writer failed; or no whole reply came to the first of them.
+  -- The connection was lost: the first lines have their replies, and none behind them has one. Of the requests of those
+  -- a beginning was sent. It isn't the whole, as the writer failed; or no whole reply came to the first of them.
   pub record Loses (r0 w0 : Known) (asked : List Asked) (outcomes : List Outcome) : Type 0 where
     pub first : List Asked
     pub behind : List Asked

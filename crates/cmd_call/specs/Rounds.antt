@@ -28,7 +28,8 @@ module _ (Fails : Known → Known → ReplyError → Type 0) where
   Receives None (Some new) outcome = ⊥
   Receives (Some old) None outcome = (outcome ≡ NoReply) × LosesReply Fails old.0
   Receives (Some old) (Some new) outcome =
-      (answer : Answer) × (outcome ≡ Answered answer) × IsAnswered answer × Consumes old.0 new.0 (reply_frame answer) × (new.1 ≡ old.1)
+      (answer : Answer) × (outcome ≡ Answered answer) × IsAnswered answer × Consumes old.0 new.0 (reply_frame answer)
+      × (new.1 ≡ old.1)
 
   -- a request has what is received, and what is no call is told so
   abbrev pub Comes : Ends → Ends → Asked → Outcome → Type 0

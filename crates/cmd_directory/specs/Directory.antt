@@ -29,7 +29,8 @@ formatted_line stripes = codes "formatted " ++ (decimal stripes ++ codes "\n")
 -- a line for each number
 abbrev pub summary_text : Summary → List ℕ
 summary_text s =
-    codes "generation " ++ (decimal s.generation ++ (codes "\nstripes " ++ (decimal s.stripes ++ (codes "\nprefix " ++ (decimal s.prefix
+    codes "generation " ++ (decimal s.generation ++ (codes "\nstripes "
+    ++ (decimal s.stripes ++ (codes "\nprefix " ++ (decimal s.prefix
     ++ (codes "\nentries " ++ (decimal s.entries ++ codes "\n")))))))
 
 -- ---- formatting
@@ -40,9 +41,10 @@ CannotFormat states failures honest old new refusal =
     ((refusal ≡ Failed) × (failures new ≡ failures old + 1))
     ⊎ ((refusal ≡ NoMemory) ⊎ ((refusal ≡ AlreadyFormatted) × (honest new → IsFormatted (contents_of states old))))
 
--- The disk wasn't formatted before, and no device call failed. Whatever a read gives or a stop leaves now is a new store of `stripes` stripes, in files of
--- the newest version, and the line names that number.
-pub record IsMade {D : Type 0} (states : D → List Files) (failures : D → ℕ) (honest : D → Type 0) (stripes : ℕ) (old new : D) (w0 w1 : Option (List ℕ)) (status : ℕ) : Type 0 where
+-- The disk wasn't formatted before, and no device call failed. Whatever a read gives or a stop leaves now is a new
+-- store of `stripes` stripes, in files of the newest version, and the line names that number.
+pub record IsMade {D : Type 0} (states : D → List Files) (failures : D → ℕ) (honest : D → Type 0) (stripes : ℕ)
+    (old new : D) (w0 w1 : Option (List ℕ)) (status : ℕ) : Type 0 where
   pub unformatted : honest new → IsUnformatted (contents_of states old)
   pub unfailing : failures new ≡ failures old
   pub stands : honest new → AtStops (IsNew stripes) (now (states new))
@@ -52,22 +54,27 @@ pub record IsMade {D : Type 0} (states : D → List Files) (failures : D → ℕ
   pub prints : Prints (formatted_line stripes) w0 w1 status
 
 -- formatting was refused for a reason, and but for a device failure nothing was written
-pub record IsNotMade {D : Type 0} (states : D → List Files) (failures : D → ℕ) (honest : D → Type 0) (old new : D) (w0 w1 : Option (List ℕ)) (status : ℕ) : Type 0 where
+pub record IsNotMade {D : Type 0} (states : D → List Files) (failures : D → ℕ) (honest : D → Type 0) (old new : D)
+    (w0 w1 : Option (List ℕ)) (status : ℕ) : Type 0 where
   pub refusal : Refusal
   pub reason : CannotFormat states failures honest old new refusal
   pub untouched : refusal ≢ Failed → (new ≡ old) ⊎ SyncsAndLooks states failures honest 2 0 old new
   pub prints : PrintsNothing w0 w1 status
 
--- The disk was formatted for `stripes` stripes, or it was refused. If it was unformatted before, a stop at any moment leaves it unformatted, or a new store of
--- `stripes` stripes.
-pub record Formats {D : Type 0} (states : D → List Files) (failures : D → ℕ) (honest : D → Type 0) (stripes : ℕ) (old new : D) (w0 w1 : Option (List ℕ)) (status : ℕ) : Type 0 where
+-- The disk was formatted for `stripes` stripes, or it was refused. If it was unformatted before, a stop at any moment
+-- leaves it unformatted, or a new store of `stripes` stripes.
+pub record Formats {D : Type 0} (states : D → List Files) (failures : D → ℕ) (honest : D → Type 0) (stripes : ℕ)
+    (old new : D) (w0 w1 : Option (List ℕ)) (status : ℕ) : Type 0 where
   pub was_honest : honest new → honest old
-  pub moments : honest new → AtStops IsUnformatted (now (states old)) → AtEachMoment states old new (AtStops (IsNewOrUnformatted stripes))
-  pub ends : IsMade states failures honest stripes old new w0 w1 status ⊎ IsNotMade states failures honest old new w0 w1 status
+  pub moments : honest new → AtStops IsUnformatted (now (states old))
+      → AtEachMoment states old new (AtStops (IsNewOrUnformatted stripes))
+  pub ends : IsMade states failures honest stripes old new w0 w1 status
+      ⊎ IsNotMade states failures honest old new w0 w1 status
 
 -- ---- checking
 
--- how many entries the parts of the map have, which together are the map; the greatest number stands for all that are greater
+-- how many entries the parts of the map have, which together are the map; the greatest number stands for all that are
+-- greater
 abbrev pub entry_count : Map → ℕ
 entry_count m = min (sum_by (λ part. finite.len part) (parts_of 16 m)) (2 ^ 64 - 1)
 
@@ -88,25 +95,30 @@ pub record IsCountOf (contents : Contents) (counts : Counts) (found : Opened) : 
   pub entries : counts.entries ≡ entry_count (map_of found)
 
 -- the disk was opened and nothing was written to it, and this was counted
-pub record IsCounted {D : Type 0} (states : D → List Files) (failures : D → ℕ) (honest : D → Type 0) (old new : D) (counts : Counts) : Type 0 where
+pub record IsCounted {D : Type 0} (states : D → List Files) (failures : D → ℕ) (honest : D → Type 0) (old new : D)
+    (counts : Counts) : Type 0 where
   pub looks : SyncsAndLooks states failures honest 4 0 old new
   pub counted : honest new → honest old × ((found : Opened) × IsCountOf (contents_of states old) counts found)
 
 -- the disk was opened and nothing was written to it, and these are its numbers
-pub record IsSummed {D : Type 0} (states : D → List Files) (failures : D → ℕ) (honest : D → Type 0) (old new : D) (summary : Summary) : Type 0 where
+pub record IsSummed {D : Type 0} (states : D → List Files) (failures : D → ℕ) (honest : D → Type 0) (old new : D)
+    (summary : Summary) : Type 0 where
   pub looks : SyncsAndLooks states failures honest 4 0 old new
   pub sums : honest new → honest old × Summarizes (contents_of states old) summary
 
 -- The numbers of the disk were printed, or opening it was refused and nothing was printed.
-abbrev pub Checks : {D : Type 0} → (D → List Files) → (D → ℕ) → (D → Type 0) → D → D → Option (List ℕ) → Option (List ℕ) → ℕ → Type 0
+abbrev pub Checks : {D : Type 0} → (D → List Files) → (D → ℕ) → (D → Type 0) → D → D → Option (List ℕ) → Option (List ℕ)
+    → ℕ → Type 0
 Checks states failures honest old new w0 w1 status =
     ((summary : Summary) × IsSummed states failures honest old new summary × Prints (summary_text summary) w0 w1 status)
     ⊎ ((refusal : Refusal) × IsNotOpened states failures honest old new refusal × PrintsNothing w0 w1 status)
 
 -- ---- a directory that was opened
 
--- IsOpened says that a disk has the files of a directory, as they were when it was opened. IsRefused says that a directory couldn't be opened, for an error.
-module _ {D : Type 0} (states : D → List Files) (failures : D → ℕ) (honest : D → Type 0) (IsOpened : List ℕ → D → Type 0) (IsRefused : List ℕ → Error → Type 0)
+-- IsOpened says that a disk has the files of a directory, as they were when it was opened. IsRefused says that a
+-- directory couldn't be opened, for an error.
+module _ {D : Type 0} (states : D → List Files) (failures : D → ℕ) (honest : D → Type 0)
+    (IsOpened : List ℕ → D → Type 0) (IsRefused : List ℕ → Error → Type 0)
     (directory : List ℕ) where
   -- the directory couldn't be opened, and nothing was printed
   abbrev pub CannotOpen : Option (List ℕ) → Option (List ℕ) → ℕ → Type 0
@@ -119,11 +131,12 @@ module _ {D : Type 0} (states : D → List Files) (failures : D → ℕ) (honest
     pub opened : IsOpened directory old
     pub formats : Formats states failures honest stripes old new w0 w1 status
 
-  -- The word names an allowed number of stripes, and the directory was formatted for it, or couldn't be opened. Or the word names none, and nothing was
-  -- printed, with status 2.
+  -- The word names an allowed number of stripes, and the directory was formatted for it, or couldn't be opened. Or the
+  -- word names none, and nothing was printed, with status 2.
   abbrev pub Inits : List ℕ → Option (List ℕ) → Option (List ℕ) → ℕ → Type 0
   Inits word w0 w1 status =
-      ((stripes : ℕ) × IsNamed IsStripeCount word (Some stripes) × (FormatsDirectory stripes w0 w1 status ⊎ CannotOpen w0 w1 status))
+      ((stripes : ℕ) × IsNamed IsStripeCount word (Some stripes)
+      × (FormatsDirectory stripes w0 w1 status ⊎ CannotOpen w0 w1 status))
       ⊎ (IsNamed IsStripeCount word None × (w1 ≡ w0) × (status ≡ 2))
 
   -- a disk of the directory was checked

@@ -38,20 +38,25 @@ pub record IsEmpty (map : MapState) : Type 0 where
   pub committed : map.log.committed ≡ 0
   pub unfailed : map.has_failed ≡ false
 
--- Why a disk was not made that of an empty map and opened, and how it was left: a device call has failed; or none has, and a checkpoint is
--- sealed there, or no memory was found.
-pub data CannotOpen {D : Type 0} (states : D → List Files) (failures : D → ℕ) (disk : D) (refusal : Refusal) (left : D) : Type 0 where
-  failed : refusal ≡ refusal_type.Failed → failures left ≡ failures disk + 1 → CannotOpen states failures disk refusal left
-  formatted : refusal ≡ refusal_type.AlreadyFormatted → IsFormatted (contents_of states disk) → failures left ≡ failures disk → CannotOpen states failures disk refusal left
-  forgotten : refusal ≡ refusal_type.NoMemory → failures left ≡ failures disk → CannotOpen states failures disk refusal left
+-- Why a disk was not made that of an empty map and opened, and how it was left: a device call has failed; or none has,
+-- and a checkpoint is sealed there, or no memory was found.
+pub data CannotOpen {D : Type 0} (states : D → List Files) (failures : D
+    → ℕ) (disk : D) (refusal : Refusal) (left : D) : Type 0 where
+  failed : refusal ≡ refusal_type.Failed → failures left ≡ failures disk + 1
+      → CannotOpen states failures disk refusal left
+  formatted : refusal ≡ refusal_type.AlreadyFormatted → IsFormatted (contents_of states disk)
+      → failures left ≡ failures disk → CannotOpen states failures disk refusal left
+  forgotten : refusal ≡ refusal_type.NoMemory → failures left ≡ failures disk
+      → CannotOpen states failures disk refusal left
 
 -- why no map was begun over it: for such a reason, or there was no keeper's pass
 abbrev pub CannotBegin : {D : Type 0} → (D → List Files) → (D → ℕ) → D → Refusal → D → Type 0
 CannotBegin states failures disk refusal left =
-    CannotOpen states failures disk refusal left ⊎ ((refusal ≡ refusal_type.SeatsSpent) × (failures left ≡ failures disk))
+    CannotOpen states failures disk refusal left ⊎ ((refusal ≡ refusal_type.SeatsSpent)
+    × (failures left ≡ failures disk))
 
--- A keeper of the map's log had this disk: whatever a stop leaves of its files stands for a front of the map's history, with the committed
--- commands and no more than the staged ones besides.
+-- A keeper of the map's log had this disk: whatever a stop leaves of its files stands for a front of the map's history,
+-- with the committed commands and no more than the staged ones besides.
 pub record Leaves {D : Type 0} (states : D → List Files) (map : MapState) (disk : D) : Type 0 where
   pub keeper : Keeper D
   pub own : keeper.disk ≡ disk

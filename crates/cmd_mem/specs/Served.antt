@@ -1,4 +1,5 @@
--- What a call that is begun and then finished leaves of the record of the keeper's pass, which also makes the calls, and of the log.
+-- What a call that is begun and then finished leaves of the record of the keeper's pass, which also makes the calls,
+-- and of the log.
 use Rattle.std.specs.Prelude.{◌≡◌, ◌⊎◌, ℕ, ◌+◌, ◌<◌, ◌≤◌, Bool, true, false, None, Result, Ok, Err, List, length}
 use Rattle.std.specs.List.{Contains}
 use Rattle.disk_model.specs.Files.{Files}
@@ -43,7 +44,8 @@ Refuses n v (Change command) refusal w = TurnsDown n v command refusal w
 Refuses n v (Read read) refusal w = RefusesRead v (stripe_of n read.key) refusal w
 Refuses n v (Bulk bulk) refusal w = (refusal ≡ refusal_type.UnknownMethod) × (w ≡ v)
 
--- the call was made, with this reply: the record grew by it alone, behind all that the pass had seen, and it is legal there; none of the whole map is
+-- the call was made, with this reply: the record grew by it alone, behind all that the pass had seen, and it is legal
+-- there; none of the whole map is
 abbrev pub Makes : ℕ → Record → Request → ℕ → Reply → Record → Type 0
 Makes n v (Change command) position reply w = MakesCall n v command position reply w
 Makes n v (Read read) position reply w = MakesRead n v read position reply w
@@ -69,10 +71,11 @@ pub record IsSwept (p w : Record) : Type 0 where
 
 -- the sweeps of the pass took each entry of the history that is below the count
 abbrev pub AreTaken : ℕ → Record → Record → Type 0
-AreTaken count made w = (e : Entry) → Contains (entries_from made.opening.first made.seen) e → e.ticket < count → Contains w.taken e
+AreTaken count made w =
+    (e : Entry) → Contains (entries_from made.opening.first made.seen) e → e.ticket < count → Contains w.taken e
 
--- Sweeps were made, and then what is committed was published. It reaches this position, and is the front of the history; the sweeps took each
--- entry of it.
+-- Sweeps were made, and then what is committed was published. It reaches this position, and is the front of the
+-- history; the sweeps took each entry of it.
 pub record IsCommitted (position : ℕ) (made w : Record) (log : LogState) : Type 0 where
   pub after : Record
   pub swept : IsSwept made after
@@ -113,7 +116,8 @@ pub record IsWithheld (made w : Record) (log : LogState) : Type 0 where
   pub cannot : CannotCommit log after
   pub fails : w ≡ failing after
 
--- a call that was begun was finished so: the reply that was held was given out at its position; or it is withheld, and its outcome is open
+-- a call that was begun was finished so: the reply that was held was given out at its position; or it is withheld, and
+-- its outcome is open
 abbrev pub Ends : Record → Held → Answer → Record → LogState → Type 0
 Ends v held (Ok reply) w log = (reply ≡ held.reply) × IsGivenOut held.position v w log
 Ends v held (Err refusal) w log = (refusal ≡ refusal_type.Failed) × IsWithheld v w log
@@ -130,7 +134,8 @@ pub record GoesOn (v w : Record) : Type 0 where
   pub opening : w.opening ≡ v.opening
   pub seen : HasSeenMore v w
 
--- The call was made, and others were begun or finished behind it. Its reply was given out at its position, where its own entry is committed.
+-- The call was made, and others were begun or finished behind it. Its reply was given out at its position, where its
+-- own entry is committed.
 pub record Serves (n : ℕ) (v : Record) (request : Request) (reply : Reply) (w : Record) (log : LogState) : Type 0 where
   pub position : ℕ
   pub made : Record
@@ -143,12 +148,16 @@ pub record Serves (n : ℕ) (v : Record) (request : Request) (reply : Reply) (w 
 -- a call that was begun, and then finished with a reply, was served
 abbrev pub BegunIsServed : Type 0
 BegunIsServed =
-    (n : ℕ) (v : Record) (request : Request) (held : Held) (made before : Record) (reply : Reply) (w : Record) (log : LogState)
-    → Begins n v request (Ok held) made → GoesOn made before → Ends before held (Ok reply) w log → Serves n v request reply w log
+    (n : ℕ) (v : Record) (request : Request) (held : Held) (made before : Record) (reply : Reply) (w : Record)
+    (log : LogState)
+    → Begins n v request (Ok held) made → GoesOn made before → Ends before held (Ok reply) w log
+    → Serves n v request reply w log
 
 -- the pass goes on whatever is begun, finished or given up, one behind the other
 pub record PassGoesOn : Type 0 where
-  pub begun : (n : ℕ) (v : Record) (request : Request) (result : Result Held Refusal) (w : Record) → Begins n v request result w → GoesOn v w
-  pub ended : (v : Record) (held : Held) (answer : Answer) (w : Record) (log : LogState) → Ends v held answer w log → GoesOn v w
+  pub begun : (n : ℕ) (v : Record) (request : Request) (result : Result Held Refusal) (w : Record)
+      → Begins n v request result w → GoesOn v w
+  pub ended : (v : Record) (held : Held) (answer : Answer) (w : Record) (log : LogState) → Ends v held answer w log
+      → GoesOn v w
   pub same : (v : Record) → GoesOn v v
   pub then : (v between w : Record) → GoesOn v between → GoesOn between w → GoesOn v w

@@ -1,5 +1,6 @@
 mod Between
 mod Crosses
+mod Lines
 mod Opened
 mod Owning
 mod Queueing

@@ -3,4 +3,5 @@ pub mod Opening
 pub mod Reading
 pub mod Responding
 pub mod Serving
+pub mod Listening
 pub mod Settings

@@ -1,5 +1,5 @@
 -- What a worker's calls leave of the record of its pass, and what serving a directory prints.
-use Rattle.std.specs.Prelude.{◌≡◌, ◌⊎◌, ℕ, List, [], ◌∷◌, ◌++◌, Option, Result, Ok, Err, codes, decimal}
+use Rattle.std.specs.Prelude.{◌≡◌, ◌⊎◌, ℕ, List, [], ◌∷◌, Option, Result, Ok, Err}
 use Rattle.map_types.specs.declared.refusals.Refusal.{Refusal}
 use Rattle.disk_model.specs.Files.{Files}
 use Rattle.ticket_order.specs.declared.record.Record.{Record}
@@ -14,10 +14,12 @@ use Rattle.wire_frames.specs.declared.requests.Request.TheVariants as request
 use Rattle.connections.specs.Dialogue.{Answer}
 use Rattle.cmd_text.specs.Printing.{PrintsAtMost, PrintsNothing}
 use Rattle.cmd_serve.specs.Opening.{IsNotOpenedNewest, IsOpenedNewest}
+use Rattle.cmd_serve.specs.Listening.{HaveListener, listening_lines}
 use Rattle.cmd_serve.specs.Settings.{AreNamed}
 use Rattle.cmd_serve.specs.WholeMap.{CompletesBulk}
 use Rattle.cmd_serve.specs.declared.begun.Begun.{Begun}
 use Rattle.cmd_serve.specs.declared.begun.Begun.TheVariants as begun
+use Rattle.cmd_serve.specs.declared.listening.Places.{Places}
 use Rattle.cmd_serve.specs.declared.server.ServerWords.{ServerWords}
 use Rattle.cmd_serve.specs.declared.server.Settings.{Settings}
 
@@ -59,13 +61,15 @@ BeginsRequest n v (request.Read read) result w = BeginsCall n v (Reading read) r
 BeginsRequest n v (request.Bulk bulk) result w = HoldsBulk v bulk result w
 
 -- a request was begun so, or refused, and led from one state of the worker to another
-pub record Began (before : WorkerState) (request : Request) (result : Result Begun Refusal) (after : WorkerState) : Type 0 where
+pub record Began (before : WorkerState) (request : Request) (result : Result Begun Refusal)
+    (after : WorkerState) : Type 0 where
   pub same : IsSameWorker before after
   pub begins : BeginsRequest before.stripes before.pass request result after.pass
 
 -- ---- a request that was begun
 
--- What is held was answered so over n stripes: a reply is given out as the durable map says, and a view is taken for a request of the whole map.
+-- What is held was answered so over n stripes: a reply is given out as the durable map says, and a view is taken for a
+-- request of the whole map.
 abbrev pub FinishesRequest : ℕ → Record → Begun → Answer → Record → Type 0
 FinishesRequest n v (begun.Call number held) answer w = Finishes v held answer w
 FinishesRequest n v (begun.View number bulk) answer w = CompletesBulk n v bulk answer w
@@ -87,42 +91,46 @@ AsksFor (request.Change command) asked = asked ≡ Changing command
 AsksFor (request.Read read) asked = asked ≡ Reading read
 AsksFor (request.Bulk bulk) asked = ⊥
 
--- one call of the worker led from one state to the other: a request was begun or refused, or one that was begun was finished or given up
+-- one call of the worker led from one state to the other: a request was begun or refused, or one that was begun was
+-- finished or given up
 abbrev pub Calls : WorkerState → WorkerState → Type 0
 Calls before after =
     ((request : Request) × (result : Result Begun Refusal) × Began before request result after)
-    ⊎ (((held : Begun) × (answer : Answer) × Finished before held answer after) ⊎ ((held : Begun) × GaveUp before held after))
+    ⊎ (((held : Begun) × (answer : Answer) × Finished before held answer after)
+    ⊎ ((held : Begun) × GaveUp before held after))
 
 -- calls of the worker, one behind the other, led through these states
 abbrev pub CallsThrough : WorkerState → List WorkerState → WorkerState → Type 0
 CallsThrough before [] after = after ≡ before
 CallsThrough before (next ∷ states) after = Calls before next × CallsThrough next states after
 
--- A change or a read that a worker begins, and answers after any other calls, is completed: its call was made, and the reply is legal at its position
--- in all that the pass has seen. It was given out once the position was found durable.
+-- A change or a read that a worker begins, and answers after any other calls, is completed: its call was made, and the
+-- reply is legal at its position in all that the pass has seen. It was given out once the position was found durable.
 abbrev pub BegunRequestsComplete : Type 0
 BegunRequestsComplete =
-    (request : Request) (asked : Asked) (number : Option ℕ) (held : Held) (states : List WorkerState) (answer : Answer) (a b c d : WorkerState)
+    (request : Request) (asked : Asked) (number : Option ℕ) (held : Held) (states : List WorkerState) (answer : Answer)
+    (a b c d : WorkerState)
     → AsksFor request asked → Began a request (Ok (begun.Call number held)) b → CallsThrough b states c
     → Finished c (begun.Call number held) answer d → CompletesAmong a.stripes a.pass asked answer d.pass
 
 -- ---- what a server prints
 
--- the line of a server that listens
-abbrev pub listening_line : ℕ → List ℕ
-listening_line port = codes "listening " ++ (decimal port ++ codes "\n")
+-- IsListener says that a listener was bound at a path, and its file has these rights.
+module _ {L : Type 0} (IsListener : List ℕ → ℕ → L → Type 0) where
+  -- A server ended, before or after it listened at these places, with these rights of a socket. It printed nothing, or
+  -- its lines at most once it had bound its socket.
+  pub record Announces (places : Places) (mode : ℕ) (w0 w1 : Option (List ℕ)) (status : ℕ) : Type 0 where
+    pub status_is : status ≡ 1
+    pub prints : (w1 ≡ w0) ⊎ (HaveListener IsListener places mode × PrintsAtMost (listening_lines places) w0 w1)
 
--- a server ended, before or after it listened
-pub record Announces (port : ℕ) (w0 w1 : Option (List ℕ)) (status : ℕ) : Type 0 where
-  pub status_is : status ≡ 1
-  pub prints : PrintsAtMost (listening_line port) w0 w1
-
--- If a server over the disk, of this many stripes, ends, the status is 1. It prints its line at most, and nothing if opening the disk was refused. `new` is how opening left
--- the disk.
-pub record Hosts {D : Type 0} (states : D → List Files) (failures : D → ℕ) (honest : D → Type 0) (stripes port : ℕ) (old : D) (w0 w1 : Option (List ℕ)) (status : ℕ) : Type 0 where
-  pub new : D
-  pub ends : (IsOpenedNewest states failures honest old new × Announces port w0 w1 status)
-      ⊎ ((refusal : Refusal) × IsNotOpenedNewest states failures honest stripes old new refusal × PrintsNothing w0 w1 status)
+  -- If a server over the disk, of this many stripes, ends, the status is 1. It prints its lines at most, and nothing if
+  -- opening the disk was refused. `new` is how opening left the disk.
+  pub record Hosts {D : Type 0} (states : D → List Files) (failures : D → ℕ) (honest : D → Type 0) (settings : Settings)
+      (old : D) (w0 w1 : Option (List ℕ)) (status : ℕ) : Type 0 where
+    pub new : D
+    pub ends : (IsOpenedNewest states failures honest old new × Announces settings.places settings.mode w0 w1 status)
+        ⊎ ((refusal : Refusal) × IsNotOpenedNewest states failures honest settings.stripes.count old new refusal
+        × PrintsNothing w0 w1 status)
 
 -- ---- a directory that was opened
 
@@ -132,19 +140,23 @@ pub record AreMisused (words : ServerWords) (w0 w1 : Option (List ℕ)) (status 
   pub nothing : w1 ≡ w0
   pub status_is : status ≡ 2
 
--- IsOpened says that a disk has the files of a directory, as they were when it was opened.
-module _ {D : Type 0} (states : D → List Files) (failures : D → ℕ) (honest : D → Type 0) (IsOpened : List ℕ → D → Type 0) where
+-- IsOpened says that a disk has the files of a directory, as they were when it was opened. IsListener says that a
+-- listener was bound at a path, and its file has these rights.
+module _ {D L : Type 0} (states : D → List Files) (failures : D → ℕ) (honest : D → Type 0)
+    (IsOpened : List ℕ → D → Type 0) (IsListener : List ℕ → ℕ → L → Type 0) where
   -- a server over a disk of the directory ended
-  pub record HostsDirectory (directory : List ℕ) (stripes port : ℕ) (w0 w1 : Option (List ℕ)) (status : ℕ) : Type 0 where
+  pub record HostsDirectory (directory : List ℕ) (settings : Settings) (w0 w1 : Option (List ℕ))
+      (status : ℕ) : Type 0 where
     pub disk : D
     pub opened : IsOpened directory disk
-    pub hosts : Hosts states failures honest stripes port disk w0 w1 status
+    pub hosts : Hosts IsListener states failures honest settings disk w0 w1 status
 
-  -- The words name these settings, which are allowed; and a server over the directory ended, or it couldn't be opened, and nothing was printed.
+  -- The words name these settings, which are allowed; and a server over the directory ended, or it couldn't be opened,
+  -- and nothing was printed.
   pub record ServesAs (words : ServerWords) (w0 w1 : Option (List ℕ)) (status : ℕ) : Type 0 where
     pub settings : Settings
     pub named : AreNamed words settings
-    pub ends : HostsDirectory words.directory.now settings.stripes.count settings.port w0 w1 status ⊎ PrintsNothing w0 w1 status
+    pub ends : HostsDirectory words.directory.now settings w0 w1 status ⊎ PrintsNothing w0 w1 status
 
   -- a directory was served by these words, if they are allowed
   abbrev pub ServesOn : ServerWords → Option (List ℕ) → Option (List ℕ) → ℕ → Type 0

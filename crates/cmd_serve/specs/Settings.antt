@@ -1,8 +1,12 @@
 -- What the words of a server's command line name.
-use Rattle.std.specs.Prelude.{ℕ, ◌<◌, ◌≤◌, ◌^◌}
-use Rattle.cmd_text.specs.Naming.{Spells, IsPort}
+use Rattle.std.specs.Prelude.{◌≡◌, ℕ, ◌<◌, ◌≤◌, ◌^◌, List, Option, None, Some}
+use Rattle.std.specs.Borrow.{Bor}
+use Rattle.socket_file.specs.Names.{SpellsOctal, IsMode, IsSocketPath}
+use Rattle.cmd_text.specs.Naming.{Spells, IsNamed, IsPort}
 use Rattle.cmd_serve.specs.declared.server.ServerWords.{ServerWords}
 use Rattle.cmd_serve.specs.declared.server.Settings.{Settings}
+use Rattle.cmd_serve.specs.declared.listening.Places.{Places}
+use Rattle.cmd_serve.specs.declared.listening.Places.TheVariants.{Port, Socket, Both}
 
 -- there can be `number` workers
 abbrev pub IsWorkerCount : ℕ → Type 0
@@ -12,10 +16,21 @@ IsWorkerCount number = (1 ≤ number) × (number ≤ 64)
 abbrev pub IsConnectionCount : ℕ → Type 0
 IsConnectionCount number = (1 ≤ number) × (number < 2 ^ 32)
 
+-- The word for a port, the word for the path of a socket, or both name these places. There can be no socket at a path
+-- that is too long.
+abbrev pub ArePlacesOf : Option (Bor (List ℕ)) → Option (Bor (List ℕ)) → Places → Type 0
+ArePlacesOf (Some word) None (Port port) = IsNamed IsPort word.now (Some port)
+ArePlacesOf None (Some path) (Socket named) = (named.now ≡ path.now) × IsSocketPath named.now
+ArePlacesOf (Some word) (Some path) (Both port named) =
+    IsNamed IsPort word.now (Some port) × ((named.now ≡ path.now) × IsSocketPath named.now)
+ArePlacesOf port socket places = ⊥
+
 -- the words name these settings, which are allowed
 pub record AreNamed (words : ServerWords) (settings : Settings) : Type 0 where
-  pub port : Spells words.port.now settings.port
-  pub port_allowed : IsPort settings.port
+  pub stands_by : settings.stands_by ≡ words.standby
+  pub places : ArePlacesOf words.port words.socket settings.places
+  pub mode : SpellsOctal words.mode.now settings.mode
+  pub mode_allowed : IsMode settings.mode
   pub stripes : Spells words.stripes.now settings.stripes.count
   pub workers : Spells words.workers.now settings.workers
   pub workers_allowed : IsWorkerCount settings.workers

@@ -22,7 +22,8 @@ abbrev pub reduced : Result (Option Value) FuncError → Reply
 reduced (Ok value) = Now value
 reduced (Err fault) = Fault fault
 
--- The answer to a request of the whole map, if this is the map. A threshold changes nothing. Memory is taken for a key that was found alone.
+-- The answer to a request of the whole map, if this is the map. A threshold changes nothing. Memory is taken for a key
+-- that was found alone.
 abbrev pub AnswersOf : Map → Bulk → Answer → Type 0
 AnswersOf m Count answer = answer ≡ Ok (Now (Some (Int (pos (count_of m)))))
 AnswersOf m (Reduce func threshold) (Ok reply) = IsReducing func × (reply ≡ reduced (reduction_of func m))

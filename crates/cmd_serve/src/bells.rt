@@ -4,7 +4,7 @@ use crate::begun::Begun;
 use crate::errands::Errand;
 use crossbeam_channel::Sender;
 use disk_model::Disk;
-use durable_map::DurableMap;
+use durable_map::{DurableMap, Ends};
 use mio::{Registry, Token, Waker};
 use std::alloc::Global;
 use std::io;
@@ -13,6 +13,25 @@ use ticket_order::Position;
 
 /// The token of what wakes a worker.
 pub(crate) const WAKE: Token = Token(usize::MAX);
+
+/// The bells of all workers, which are rung after each turn of the log.
+#[derive(Drop)]
+pub(crate) struct Chime<'a, D: Disk + Drop> {
+    pub(crate) map: &'a DurableMap<D>,
+    pub(crate) bells: &'a [Bell],
+}
+
+impl<D: Disk + Drop> Ends for Chime<'_, D> {
+    fn has_ended(&self) -> bool {
+        false
+    }
+
+    fn turn_ended(&self) {
+        for bell in self.bells {
+            bell.ring_for(self.map);
+        }
+    }
+}
 
 /// What wakes a worker: for connections that come, and once the least position that it awaits is
 /// durable.

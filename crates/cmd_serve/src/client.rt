@@ -3,8 +3,8 @@ ghost use Rattle.std.specs.Prelude.{◌≤◌, length, IfOk};
 ghost use Rattle.cmd_serve.specs.Reading.{Fits};
 
 use crate::begun::Begun;
+use crate::streams::Stream;
 use connections::Resting;
-use mio::net::TcpStream;
 use std::io;
 use std::io::{ErrorKind, Read, Write};
 use std::time::Instant;
@@ -23,7 +23,7 @@ pub(crate) enum Piece {
 /// The socket of a client, and what is known of it.
 #[derive(Drop)]
 pub(crate) struct Line {
-    pub(crate) socket: TcpStream,
+    pub(crate) socket: Stream,
     /// When the client last took a reply, or when it came, if that is of interest.
     pub(crate) since: Option<Instant>,
     /// There may be bytes to be read.
@@ -35,7 +35,7 @@ pub(crate) struct Line {
 }
 
 impl Line {
-    pub(crate) fn new(socket: TcpStream, since: Option<Instant>) -> Line {
+    pub(crate) fn new(socket: Stream, since: Option<Instant>) -> Line {
         Line {
             socket,
             since,

@@ -5,18 +5,17 @@ use crate::bells::Bell;
 use crate::client::{Client, Line};
 use crate::errands::Errand;
 use crate::pool::Pool;
+use crate::streams::Stream;
 use crate::turns::{Turned, Turns};
 use crate::worker::Gate;
 use connections::{Calls, Resting};
 use crossbeam_channel::{Receiver, Sender, TryRecvError};
 use disk_model::Disk;
 use durable_map::DurableMap;
-use mio::net::TcpStream as Socket;
 use mio::{Interest, Poll, Token};
 use slab::Slab;
 use std::alloc::{AllocError, Global};
 use std::collections::VecDeque;
-use std::net::TcpStream;
 use std::sync::Wait;
 use std::sync::atomic::{AtomicUsize, Ordering};
 use std::time::{Clock, Duration, Instant};
@@ -28,7 +27,7 @@ pub struct Seat {
     pub(crate) place: usize,
     pub(crate) poll: Poll,
     /// The connections that it is to serve.
-    pub(crate) streams: Receiver<TcpStream, Global>,
+    pub(crate) streams: Receiver<Stream, Global>,
     /// Where it leaves its errands, and where they come back.
     pub(crate) errands: Sender<Errand, Global>,
     pub(crate) back: Receiver<Errand, Global>,
@@ -42,6 +41,8 @@ pub(crate) struct Desk<'a, D: Disk + Drop, R: Clock + Wait, C: Calls<Held = Begu
     pub(crate) map: &'a DurableMap<D>,
     pub(crate) seat: Seat,
     pub(crate) bell: &'a Bell,
+    /// The bells of all workers.
+    pub(crate) bells: &'a [Bell],
     /// How many clients there are at all workers.
     pub(crate) open: &'a AtomicUsize,
     pub(crate) turns: Turns<C>,
@@ -80,6 +81,7 @@ impl<'a, D: Disk + Drop, R: Clock + Wait, C: Calls<Held = Begun> + Drop> Desk<'a
             map: pool.map,
             seat,
             bell,
+            bells: pool.bells,
             open: &pool.open,
             turns: Turns::new(alloc, calls)?,
             clients: Slab::new(alloc),
@@ -104,12 +106,8 @@ impl<'a, D: Disk + Drop, R: Clock + Wait, C: Calls<Held = Begun> + Drop> Desk<'a
     // ---- clients that come and go
 
     // Takes a connection up. It says whether it could.
-    fn welcome(&mut self, stream: TcpStream, now: Option<Instant>) -> bool {
-        let _ = stream.set_nodelay(true);
-        if stream.set_nonblocking(true).is_err() {
-            return false;
-        }
-        let mut socket = Socket::from_std(stream);
+    fn welcome(&mut self, stream: Stream, now: Option<Instant>) -> bool {
+        let mut socket = stream;
         let token = Token(self.clients.vacant_key());
         let interests = Interest::READABLE | Interest::WRITABLE;
         let registry = self.seat.poll.registry();

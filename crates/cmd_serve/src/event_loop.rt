@@ -1,7 +1,7 @@
 //! The rounds of a worker, which serves many clients at once.
 
 use crate::begun::Begun;
-use crate::bells::WAKE;
+use crate::bells::{Chime, WAKE};
 use crate::desk::Desk;
 use connections::Calls;
 use disk_model::Disk;
@@ -99,9 +99,10 @@ impl<'a, D: Disk + Drop, R: Clock + Wait, C: Calls<Held = Begun> + Drop> Desk<'a
 
     // ---- rounds
 
-    // What was seen at the socket of a client. One that was reset is gone.
+    // What was seen at the socket of a client. One that was reset is gone. One that was closed may have
+    // sent something before: of a Unix socket the system says then that it is closed both ways.
     fn note(&mut self, key: usize, event: &Event, now: Option<Instant>) {
-        if event.is_error() || event.is_write_closed() {
+        if event.is_error() {
             self.lose(key);
             return;
         }
@@ -165,6 +166,32 @@ impl<'a, D: Disk + Drop, R: Clock + Wait, C: Calls<Held = Begun> + Drop> Desk<'a
         }
     }
 
+    // Whether each client waits, so that nothing else can be done.
+    fn must_wait(&self) -> bool {
+        !self.must_look && self.queue.is_empty() && self.turns.len() == self.clients.len()
+    }
+
+    // Has what is awaited committed: by itself if each client waits, else by the thread of the log.
+    fn commit(&mut self) {
+        let Some(first) = self.turns.first() else {
+            return;
+        };
+        if self.may_answer() {
+            return;
+        }
+        if self.must_wait() {
+            let chime = Chime {
+                map: self.map,
+                bells: self.bells,
+            };
+            if !matches!(self.map.try_flush(Position::new(first), &chime), Ok(false)) {
+                self.answer_all();
+                return;
+            }
+        }
+        self.map.wake_log();
+    }
+
     // Whether no more connections come and each that came has ended.
     fn is_done(&self) -> bool {
         self.has_ended && self.clients.is_empty()
@@ -180,6 +207,7 @@ impl<'a, D: Disk + Drop, R: Clock + Wait, C: Calls<Held = Begun> + Drop> Desk<'a
             self.wait(events);
             self.begin_all();
             self.answer_all();
+            self.commit();
             self.sweep();
         }
         unreachable!()

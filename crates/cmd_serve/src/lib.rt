@@ -1,6 +1,8 @@
-//! The server: the map of a directory is served on a port, by workers that serve many connections each.
+//! The server: the map of a directory is served at a port or a Unix socket, by workers that serve many
+//! connections each.
 #![tactic(auto)]
 
+mod accepting;
 pub mod begun;
 pub mod bells;
 pub mod bulk;
@@ -10,12 +12,14 @@ pub mod errands;
 mod event_loop;
 mod idle;
 pub mod laws;
+mod listening;
 mod opening;
 pub mod pool;
 pub mod seats;
 pub mod server;
 pub mod service;
 mod spares;
+pub mod streams;
 mod turns;
 pub mod worker;
 
@@ -26,4 +30,5 @@ pub use pool::{Arrivals, workers};
 pub use seats::{Furniture, furnish};
 pub use server::{ServerWords, serve};
 pub use service::{Service, serve_map};
+pub use streams::Stream;
 pub use worker::{Gate, NoGate, Worker};

@@ -1,10 +1,12 @@
-//! The map of a directory is opened, in the newest version of the files.
-ghost use Rattle.std.specs.Prelude.{◌≡◌, ◌⊎◌, IfOk, IfErr};
+//! A directory is opened, and then its map, in the newest version of the files.
+ghost use Rattle.std.specs.Prelude.{◌≡◌, ◌≢◌, ◌⊎◌, true, IfOk, IfErr};
+ghost use Rattle.std.specs.IoError.{error_kind};
 ghost use Rattle.durable_map.specs.Maps.{opening_of, stripe_count};
 ghost use Rattle.recovery.specs.LogReading.{contents_of};
 ghost use Rattle.recovery.specs.Opening.{OpensWith};
 ghost use Rattle.cmd_serve.specs.Opening.{IsNotOpenedNewest, IsOpenedNewest};
 
+use cmd_directory::Directories;
 use disk_model::Disk;
 use durable_map::DurableMap;
 use java_hash::StripeCount;
@@ -13,7 +15,47 @@ use map_model::laws::laws_of_parts;
 use map_types::Refusal;
 use recovery::{open_parts, upgrade};
 use std::alloc::Global;
+use std::io::ErrorKind;
+use std::sync::Wait;
+use std::time::{Clock, Duration};
+use std::{io, thread};
 use store_layout::NEW_VERSION;
+
+/// How long a server that stands by waits before it tries the locks of its directory again, in
+/// milliseconds.
+const LOCK_PAUSE: u64 = 250;
+
+/// Opens the directory, whose absent files are made. A server that stands by tries again as long as
+/// another holds one of its locks, and one record says that it waits.
+pub(crate) fn open_directory<M: Directories, R: Clock + Log + Wait>(
+    rt: &R,
+    machine: &M,
+    alloc: Global,
+    directory: &str,
+    stands_by: bool,
+) -> io::Result<M::Opened>
+    ensures opened { IfOk result (λ disk. M.is_created directory.now disk) }
+    ensures refused { IfErr result (λ cause. M.is_refused directory.now cause) }
+    ensures waits { stands_by ≡ true
+        → IfErr result (λ cause. error_kind cause ≢ ErrorKind.WouldBlock) }
+{
+    let mut has_said = false;
+    for _turn in rt.forever() {
+        let cause = match machine.create_files(alloc, directory) {
+            Ok(disk) => return Ok(disk),
+            Err(cause) => cause,
+        };
+        if !stands_by || cause.kind() != ErrorKind::WouldBlock {
+            return Err(cause);
+        }
+        if !has_said {
+            info!(rt; "waiting for the lock of {directory}");
+            has_said = true;
+        }
+        thread::sleep(rt, Duration::from_millis(LOCK_PAUSE));
+    }
+    unreachable!()
+}
 
 /// The map of the directory, and how many commands it begins with. If the newest log is of an earlier
 /// version, the directory is upgraded, the log has a record of it, and the directory is opened again.

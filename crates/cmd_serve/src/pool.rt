@@ -11,6 +11,7 @@ use crate::errands::{Office, run_errands};
 use crate::event_loop::room_for_events;
 use crate::seats::{Doors, Furniture};
 use crate::service::Service;
+use crate::streams::Stream;
 use crate::worker::{Gate, Worker};
 use connections::Calls;
 use disk_model::Disk;
@@ -18,7 +19,6 @@ use durable_map::DurableMap;
 use log::{Log, warn};
 use map_types::{Refusal, Reply};
 use std::alloc::Global;
-use std::net::TcpStream;
 use std::sync::Wait;
 use std::sync::atomic::{AtomicU64, AtomicUsize, Ordering};
 use std::thread;
@@ -28,7 +28,7 @@ use std::time::Clock;
 /// Where connections come from.
 pub trait Arrivals {
     /// The next connection, or nothing if no more come.
-    fn next(&mut self) -> Option<TcpStream>;
+    fn next(&mut self) -> Option<Stream>;
 }
 
 /// What the threads of the workers share.
@@ -43,7 +43,7 @@ pub(crate) struct Pool<'a, D: Disk + Drop, G: Gate> {
     most: usize,
     /// For how many seconds a client may be idle; 0 is for ever.
     pub(crate) idle: u32,
-    bells: &'a [Bell],
+    pub(crate) bells: &'a [Bell],
 }
 
 /// What a thread of the pool does.

@@ -3,12 +3,13 @@
 use crate::bells::Bell;
 use crate::desk::Seat;
 use crate::errands::{Errand, Office};
+use crate::streams::Stream;
 use crossbeam_channel::{Sender, bounded};
 use log::{Log, warn};
 use mio::Poll;
 use std::alloc::{AllocError, Global};
 use std::io;
-use std::net::{Net, TcpStream};
+use std::net::Net;
 use std::sync::Wait;
 
 /// How many connections wait for a worker at most.
@@ -17,7 +18,7 @@ const MOST_WAITING: usize = 64;
 /// Where connections are handed to the workers.
 #[derive(Drop)]
 pub struct Doors {
-    senders: Vec<Sender<TcpStream, Global>>,
+    senders: Vec<Sender<Stream, Global>>,
     // the worker whose turn it is
     turn: usize,
 }
@@ -34,12 +35,7 @@ impl Doors {
     }
 
     // Leaves a connection with the next worker, if it has a place. Else it is handed back.
-    fn offer<R: Wait>(
-        &mut self,
-        rt: &R,
-        bells: &[Bell],
-        stream: TcpStream,
-    ) -> Result<(), TcpStream> {
+    fn offer<R: Wait>(&mut self, rt: &R, bells: &[Bell], stream: Stream) -> Result<(), Stream> {
         let place = self.take_turn();
         let (Some(sender), Some(bell)) = (self.senders.get(place), bells.get(place)) else {
             return Err(stream);
@@ -58,8 +54,8 @@ impl Doors {
         &mut self,
         rt: &R,
         bells: &[Bell],
-        stream: TcpStream,
-    ) -> Result<(), TcpStream> {
+        stream: Stream,
+    ) -> Result<(), Stream> {
         let place = self.take_turn();
         let (Some(sender), Some(bell)) = (self.senders.get(place), bells.get(place)) else {
             return Err(stream);
@@ -74,12 +70,7 @@ impl Doors {
     }
 
     // Leaves a connection with the first worker from the next one on that has a place.
-    fn offer_all<R: Wait>(
-        &mut self,
-        rt: &R,
-        bells: &[Bell],
-        stream: TcpStream,
-    ) -> Result<(), TcpStream> {
+    fn offer_all<R: Wait>(&mut self, rt: &R, bells: &[Bell], stream: Stream) -> Result<(), Stream> {
         let mut offered = stream;
         for _ in 0..self.senders.len() {
             match self.offer(rt, bells, offered) {
@@ -93,7 +84,7 @@ impl Doors {
     /// Hands a connection to the next worker. One that has no place for it, since it is held up, or that
     /// could not start, is passed over; if none has a place, it waits for one. It says whether some
     /// worker took it.
-    pub(crate) fn hand_in<R: Wait>(&mut self, rt: &R, bells: &[Bell], stream: TcpStream) -> bool {
+    pub(crate) fn hand_in<R: Wait>(&mut self, rt: &R, bells: &[Bell], stream: Stream) -> bool {
         let mut offered = match self.offer_all(rt, bells, stream) {
             Ok(()) => return true,
             Err(back) => back,

@@ -1,38 +1,46 @@
-//! The server: the map of a directory is served on a port of this machine.
+//! The server: the map of a directory is served at a port of this machine, at a Unix socket, or at both.
 ghost use Rattle.std.specs.Prelude.{◌≡◌, IfOk, IfErr};
 ghost use Rattle.cmd_text.specs.Naming.{IsNamed};
 ghost use Rattle.cmd_text.specs.Printing.{PrintsAtMost};
 ghost use Rattle.cmd_serve.specs.Serving.{Announces, Hosts, ServesOn};
-ghost use Rattle.cmd_serve.specs.Settings.{AreNamed, IsConnectionCount, IsWorkerCount};
+ghost use Rattle.cmd_serve.specs.Settings.{AreNamed, ArePlacesOf, IsConnectionCount, IsWorkerCount};
+ghost use Rattle.cmd_serve.specs.Listening.{HaveSocketPath};
+ghost use Rattle.cmd_serve.specs.declared.listening.Places.{Places};
+ghost use Rattle.socket_file.specs.Binding.{Binds};
+ghost use Rattle.socket_file.specs.Names.{IsMode};
 
-use crate::opening::open_map;
-use crate::pool::Arrivals;
+use crate::accepting::Acceptor;
+use crate::listening::{Places, lines_of, listen};
+use crate::opening::{open_directory, open_map};
 use crate::service::{Service, serve_map};
 use crate::worker::NoGate;
 use cmd_directory::Directories;
 use cmd_text::{MISUSED, break_off, cannot_open, port_named, refuse, say, stripes_named};
 use disk_model::{Disk, FirstError};
 use java_hash::StripeCount;
-use log::{Log, error, info, warn};
+use log::{Log, error, info};
 use map_types::Refusal;
+use socket_file::{SocketFiles, is_socket_path, mode_named};
 use std::alloc::Global;
+use std::io;
 use std::io::Write;
 use std::net::{Net, TcpListener, TcpStream};
+use std::os::unix::net::UnixListener;
 use std::sync::Wait;
 use std::thread::Threads;
-use std::time::{Clock, Duration};
-use std::{io, thread};
+use std::time::Clock;
 use wire_frames::write_whole;
-
-/// How long a server waits before it tries again to accept a connection, in milliseconds: what fails
-/// (as for want of descriptors) fails again at once.
-const ACCEPT_PAUSE: u64 = 20;
 
 /// The words of a server's command line.
 #[derive(Clone, Copy)]
 pub struct ServerWords<'a> {
     pub directory: &'a str,
-    pub port: &'a str,
+    pub standby: bool,
+    /// At least one of the port and the path of a Unix socket is wanted.
+    pub port: Option<&'a str>,
+    pub socket: Option<&'a str>,
+    /// The rights of the socket's file.
+    pub mode: &'a str,
     pub stripes: &'a str,
     pub workers: &'a str,
     pub connections: &'a str,
@@ -43,8 +51,12 @@ pub struct ServerWords<'a> {
 
 /// What a server is to do.
 #[derive(Clone, Copy)]
-pub(crate) struct Settings {
-    pub port: u16,
+pub(crate) struct Settings<'a> {
+    /// It waits for a directory that another holds.
+    pub stands_by: bool,
+    pub places: Places<'a>,
+    /// The rights of the socket's file.
+    pub mode: u32,
     /// How many stripes the map is divided into.
     pub stripes: StripeCount,
     /// How many threads serve connections.
@@ -77,13 +89,41 @@ fn connections_named(word: &str) -> Option<u32>
     }
 }
 
+/// What is said of a word that names no port.
+const NO_PORT: &str = "P is a number from 1 to 65535\n";
+
+/// What is said of a path for which the address of a Unix socket has no room.
+const NO_SOCKET: &str = "PATH has from 1 to 107 bytes\n";
+
+/// The places that the words name; else a text that says what is wrong with them.
+fn places_named<'a>(words: &ServerWords<'a>) -> Result<Places<'a>, &'static str>
+    ensures ok { IfOk result (λ places. ArePlacesOf words.now.port words.now.socket places) }
+    ensures err { IfErr result (λ _. (places : Places)
+        → ArePlacesOf words.now.port words.now.socket places → ⊥) }
+{
+    match (words.port, words.socket) {
+        (Some(word), None) => match port_named(word) {
+            Some(port) => Ok(Places::Port(port)),
+            None => Err(NO_PORT),
+        },
+        (None, Some(path)) if is_socket_path(path) => Ok(Places::Socket(path)),
+        (Some(word), Some(path)) if is_socket_path(path) => match port_named(word) {
+            Some(port) => Ok(Places::Both(port, path)),
+            None => Err(NO_PORT),
+        },
+        (_, Some(_)) => Err(NO_SOCKET),
+        (None, None) => Err("--port P or --socket PATH is wanted, or both\n"),
+    }
+}
+
 /// The settings that the words name; else a text that says what is wrong with them.
-fn settings_named(words: &ServerWords<'_>) -> Result<Settings, &'static str>
+fn settings_named<'a>(words: &ServerWords<'a>) -> Result<Settings<'a>, &'static str>
     ensures ok { IfOk result (λ settings. AreNamed words.now settings) }
     ensures err { IfErr result (λ _. (settings : Settings) → AreNamed words.now settings → ⊥) }
 {
-    let Some(port) = port_named(words.port) else {
-        return Err("P is a number from 1 to 65535\n");
+    let places = places_named(words)?;
+    let Some(mode) = mode_named(words.mode) else {
+        return Err("a socket's mode is an octal number from 0 to 777\n");
     };
     let Some(stripes) = stripes_named(words.stripes) else {
         return Err("S is a power of two from 1 to 256\n");
@@ -104,7 +144,9 @@ fn settings_named(words: &ServerWords<'_>) -> Result<Settings, &'static str>
         return Err("A is a number from 0 to 4294967295\n");
     };
     Ok(Settings {
-        port,
+        stands_by: words.standby,
+        places,
+        mode,
         stripes,
         workers,
         connections,
@@ -114,77 +156,54 @@ fn settings_named(words: &ServerWords<'_>) -> Result<Settings, &'static str>
     })
 }
 
-/// The connections that a listener accepts.
-#[derive(Drop)]
-struct Acceptor<'a, R: Clock + Log> {
-    rt: &'a R,
-    listener: &'a TcpListener,
-    // the log has a record that none can be accepted, since one last was at once
-    has_said: bool,
-}
-
-impl<R: Clock + Log> Arrivals for Acceptor<'_, R> {
-    // If none can be accepted, it tries again after a pause, and the log has one record of it for as
-    // long as it lasts.
-    fn next(&mut self) -> Option<TcpStream> {
-        let mut has_waited = false;
-        for stream in self.listener.incoming() {
-            match stream {
-                Ok(stream) => {
-                    self.has_said = self.has_said && has_waited;
-                    return Some(stream);
-                }
-                Err(error) => {
-                    has_waited = true;
-                    if !self.has_said {
-                        warn!(self.rt; "no connection can be accepted: {error}");
-                        self.has_said = true;
-                    }
-                    thread::sleep(self.rt, Duration::from_millis(ACCEPT_PAUSE));
-                }
-            }
-        }
-        None
-    }
-}
-
-// Says by the line on `output` that the server listens.
-fn announce<W: Write>(line: &str, output: &mut W) -> io::Result<()>
-    ensures { PrintsAtMost line.now (W.contents output.old) (W.contents output.new) }
+// Says by the lines on `output` that the server listens.
+fn announce<W: Write>(lines: &str, output: &mut W) -> io::Result<()>
+    ensures { PrintsAtMost lines.now (W.contents output.old) (W.contents output.new) }
 {
-    write_whole(output, line.as_bytes())?;
+    write_whole(output, lines.as_bytes())?;
     output.flush()
 }
 
-/// Binds the port, says so, and serves the map.
+/// Listens at these places, says so, and serves the map.
 fn host<
     D: Disk + Drop + Send,
+    M: SocketFiles<Listener = UnixListener>,
     W: Write,
     E: Write,
     R: Net<Listener = TcpListener, Stream = TcpStream> + Clock + Log + Threads + Wait + Sync,
->(rt: &R, service: &Service<'_, D>, port: u16, output: &mut W, error: &mut E) -> u8
-    ensures { Announces port (W.contents output.old) (W.contents output.new) result }
+>(
+    rt: &R,
+    machine: &M,
+    service: &Service<'_, D>,
+    places: Places<'_>,
+    mode: u32,
+    output: &mut W,
+    error: &mut E,
+) -> u8
+    requires path { HaveSocketPath places }
+    requires mode { IsMode mode }
+    ensures { Announces (Binds M.was_free M.is_private M.is_bound M.has_mode M.is_renamed)
+        places.entry mode (W.contents output.old) (W.contents output.new) result }
 {
     let alloc = service.alloc;
-    let Ok(line) = format!(in alloc; "listening {port}\n") else {
+    let Ok(lines) = lines_of(alloc, places) else {
         return refuse(alloc, Refusal::NoMemory, error);
     };
-    let listener = match TcpListener::bind(rt, ("127.0.0.1", port)) {
-        Ok(listener) => listener,
+    let listeners = match listen(rt, machine, alloc, places, mode) {
+        Ok(listeners) => listeners,
+        Err(cause) => return cannot_open(alloc, &cause, error),
+    };
+    let mut acceptor = match Acceptor::new(rt, alloc, listeners) {
+        Ok(acceptor) => acceptor,
         Err(cause) => {
-            error!(rt; "port {port} can't be listened on: {cause}");
-            return break_off(error);
+            error!(rt; "connections can't be waited for: {cause}");
+            return cannot_open(alloc, &cause, error);
         }
     };
-    if let Err(cause) = announce(line.as_str(), output) {
+    if let Err(cause) = announce(lines.as_str(), output) {
         error!(rt; "standard output failed: {cause}");
         return break_off(error);
     }
-    let mut acceptor = Acceptor {
-        rt,
-        listener: &listener,
-        has_said: false,
-    };
     match serve_map(rt, service, &NoGate, &mut acceptor) {
         Ok(()) => break_off(error),
         Err(refusal) => refuse(alloc, refusal, error),
@@ -195,20 +214,25 @@ fn host<
 /// log is written ahead as the settings say. `first_error` tells of the disk.
 pub(crate) fn serve_disk<
     D: Disk + Drop + Send,
+    M: SocketFiles<Listener = UnixListener>,
     W: Write,
     E: Write,
     R: Net<Listener = TcpListener, Stream = TcpStream> + Clock + Log + Threads + Wait + Sync,
 >(
     rt: &R,
+    machine: &M,
     alloc: Global,
     disk: D,
     first_error: FirstError,
-    settings: &Settings,
+    settings: &Settings<'_>,
     output: &mut W,
     error: &mut E,
 ) -> u8
-    ensures { Hosts D.states D.failures D.honest settings.now.stripes.count settings.now.port
-        disk (W.contents output.old) (W.contents output.new) result }
+    requires path { HaveSocketPath settings.now.places }
+    requires mode { IsMode settings.now.mode }
+    ensures { Hosts (Binds M.was_free M.is_private M.is_bound M.has_mode M.is_renamed) D.states
+        D.failures D.honest settings.now disk (W.contents output.old) (W.contents output.new)
+        result }
 {
     match open_map(rt, alloc, disk, settings.stripes) {
         Ok((map, first)) => {
@@ -225,7 +249,15 @@ pub(crate) fn serve_disk<
                 connections: settings.connections as usize,
                 idle: settings.idle,
             };
-            host(rt, &service, settings.port, output, error)
+            host(
+                rt,
+                machine,
+                &service,
+                settings.places,
+                settings.mode,
+                output,
+                error,
+            )
         }
         Err((_disk, refusal)) => {
             if let Some(cause) = first_error.get() {
@@ -236,24 +268,27 @@ pub(crate) fn serve_disk<
     }
 }
 
-/// Serves the map of a directory on a port of this machine, with the words of its command line. It ends
-/// only by being ended. Of its four files those that are absent are made: an empty one may have been left
+/// Serves the map of a directory at a port of this machine, at a Unix socket, or at both, with the words
+/// of its command line. It ends only by being ended. Of its four files those that are absent are made: an empty one may have been left
 /// out of a copy. A directory whose newest log is of an earlier version is brought to the newest one
-/// first.
+/// first. A server that stands by waits as long as another holds a lock of the directory, and one Info
+/// record says so.
 ///
 /// The status is 2 with a text on `error` if the words aren't allowed. It is 1 with `unreadable` on
-/// `error` if the directory's lock or files, the port or `output` fail. It is 1 with `refused` and
+/// `error` if the directory's lock or files, the port, the socket or `output` fail. It is 1 with `refused` and
 /// the refusal if the directory can't be opened or no memory is found. An Error record has the
 /// cause of what the system refused. An upgrade has a record. Once the directory is open an Info
-/// record says how many commands the map begins with. Once it listens it prints `listening` and the
-/// port. If the store fails later, one Error record says why.
+/// record says how many commands the map begins with. Only then, with the directory's lock, is the
+/// socket made, and the file of a server that has ended replaced. Once it listens it prints
+/// `listening` and the port, and the same with the path. If the store fails later, one Error record says why.
 pub fn serve<
     R: Net<Listener = TcpListener, Stream = TcpStream> + Clock + Log + Threads + Wait + Sync,
-    M: Directories,
+    M: Directories + SocketFiles<Listener = UnixListener>,
     W: Write,
     E: Write,
 >(rt: &R, machine: &M, alloc: Global, words: &ServerWords<'_>, output: &mut W, error: &mut E) -> u8
-    ensures { ServesOn M.Opened.states M.Opened.failures M.Opened.honest M.is_created words.now
+    ensures { ServesOn M.Opened.states M.Opened.failures M.Opened.honest M.is_created
+        (Binds M.was_free M.is_private M.is_bound M.has_mode M.is_renamed) words.now
         (W.contents output.old) (W.contents output.new) result }
 {
     let settings = match settings_named(words) {
@@ -263,9 +298,18 @@ pub fn serve<
             return MISUSED;
         }
     };
-    match machine.create_files(alloc, words.directory) {
+    match open_directory(rt, machine, alloc, words.directory, settings.stands_by) {
         Ok(disk) => match M::first_error(&disk) {
-            Ok(first_error) => serve_disk(rt, alloc, disk, first_error, &settings, output, error),
+            Ok(first_error) => serve_disk(
+                rt,
+                machine,
+                alloc,
+                disk,
+                first_error,
+                &settings,
+                output,
+                error,
+            ),
             Err(_) => refuse(alloc, Refusal::NoMemory, error),
         },
         Err(cause) => {

@@ -16,17 +16,21 @@ use Rattle.cmd_text.specs.Printing.{Prints, PrintsNothing}
 abbrev pub Text : Type 0
 Text = List ℕ
 
--- The outcomes of these events, in which no steps stand behind a release that doesn't fit. They are those of a run of the events that shows no such
--- steps. If a run shows some, those of the first such release are taken back, and the outcomes are those of the events that this leaves.
+-- The outcomes of these events, in which no steps stand behind a release that doesn't fit. They are those of a run of
+-- the events that shows no such steps. If a run shows some, those of the first such release are taken back, and the
+-- outcomes are those of the events that this leaves.
 pub data ComesOf (spans : List Span) (outcomes : List Outcome) : List Event → Type 0 where
-  Played : (events : List Event) → IsRun events outcomes → stray_steps 0 spans outcomes ≡ None → ComesOf spans outcomes events
-  PlayedAgain : (events : List Event) (shown : List Outcome) (left : List Event) → IsRun events shown → TakesBack (stray_steps 0 spans shown) events left true
+  Played : (events : List Event) → IsRun events outcomes → stray_steps 0 spans outcomes ≡ None
+      → ComesOf spans outcomes events
+  PlayedAgain : (events : List Event) (shown : List Outcome) (left : List Event) → IsRun events shown
+      → TakesBack (stray_steps 0 spans shown) events left true
       → ComesOf spans outcomes left → ComesOf spans outcomes events
 
 -- The lines' events are played, and the text tells what came of each line.
 pub record IsTold (lines : List Line) (text : Text) : Type 0 where
   pub outcomes : List Outcome
-  pub played : ComesOf (map (span_of (most_stripes lines)) lines) outcomes (flat_map (events_of (most_stripes lines)) lines)
+  pub played : ComesOf (map (span_of (most_stripes lines)) lines) outcomes
+      (flat_map (events_of (most_stripes lines)) lines)
   pub told : IsScriptText 1 (map (span_of (most_stripes lines)) lines) outcomes text
 
 abbrev pub TellsScript : Result (List Line) Fault → Text → Type 0
@@ -39,7 +43,8 @@ TellsOrFails text view (Ok told) = TellsScript (script_of text) (view told)
 TellsOrFails text view (Err NoMemory) = Unit {0}
 TellsOrFails text view (Err (Bad line fault)) = script_of text ≡ Err (line, fault)
 
--- What came of a script's lines is printed. A script with a bad line prints nothing, with status 2; and so does one for which no memory is found, with status 1.
+-- What came of a script's lines is printed. A script with a bad line prints nothing, with status 2; and so does one for
+-- which no memory is found, with status 1.
 abbrev pub SimulatesText : Text → Option (List ℕ) → Option (List ℕ) → ℕ → Type 0
 SimulatesText text w0 w1 status =
     ((told : Text) × TellsScript (script_of text) told × Prints told w0 w1 status)

@@ -1,5 +1,5 @@
 -- What a word of a command line names.
-use Rattle.std.specs.Prelude.{◌≡◌, ℕ, ◌≤◌, true, List, length, Option, None, Some}
+use Rattle.std.specs.Prelude.{◌≡◌, ℕ, ◌≤◌, true, List, Option, None, Some}
 use Rattle.std.specs.Str.Parse.{IsNumeral, digits_value, without_leading_plus}
 use Rattle.java_hash.specs.Stripes.{is_stripe_count}
 
@@ -19,10 +19,6 @@ IsNamed Allowed word None = (number : ℕ) → Spells word number → Allowed nu
 -- a port can be asked for
 abbrev pub IsPort : ℕ → Type 0
 IsPort number = (1 ≤ number) × (number ≤ 65535)
-
--- the address of a Unix socket has room for the path
-abbrev pub IsSocketPath : Text → Type 0
-IsSocketPath path = (1 ≤ length path) × (length path ≤ 107)
 
 -- there can be `number` stripes
 abbrev pub IsStripeCount : ℕ → Type 0

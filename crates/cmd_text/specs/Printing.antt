@@ -7,10 +7,12 @@ use Rattle.wire_frames.specs.Replies.{IsCut}
 abbrev pub PrintsAtMost : List ℕ → Option (List ℕ) → Option (List ℕ) → Type 0
 PrintsAtMost text w0 w1 = (w1 ≡ w0) ⊎ (Appends w0 w1 text ⊎ ((front : List ℕ) × IsCut front text × Appends w0 w1 front))
 
--- The text was written, with status 0. Or the status is 1: nothing was written if no memory was found for it, or a part of it if the writer failed.
+-- The text was written, with status 0. Or the status is 1: nothing was written if no memory was found for it, or a part
+-- of it if the writer failed.
 abbrev pub Prints : List ℕ → Option (List ℕ) → Option (List ℕ) → ℕ → Type 0
 Prints text w0 w1 status =
-    ((status ≡ 0) × Appends w0 w1 text) ⊎ ((status ≡ 1) × ((w1 ≡ w0) ⊎ ((front : List ℕ) × IsCut front text × Appends w0 w1 front)))
+    ((status ≡ 0) × Appends w0 w1 text) ⊎ ((status ≡ 1)
+    × ((w1 ≡ w0) ⊎ ((front : List ℕ) × IsCut front text × Appends w0 w1 front)))
 
 -- nothing was written, with status 1
 abbrev pub PrintsNothing : Option (List ℕ) → Option (List ℕ) → ℕ → Type 0

@@ -9,5 +9,5 @@ pub mod version;
 pub use exits::{
     DONE, MISUSED, REFUSED, break_off, cannot_open, print, refuse, say, stream_failed,
 };
-pub use named::{MOST_SOCKET_BYTES, is_socket_path, port_named, stripes_named};
+pub use named::{port_named, stripes_named};
 pub use version::VERSION;

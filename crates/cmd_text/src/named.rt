@@ -1,6 +1,6 @@
 //! The numbers that words of the command line name.
-ghost use Rattle.std.specs.Prelude.{◌↔◌, IsTrue, option_map};
-ghost use Rattle.cmd_text.specs.Naming.{IsNamed, IsPort, IsSocketPath, IsStripeCount};
+ghost use Rattle.std.specs.Prelude.{option_map};
+ghost use Rattle.cmd_text.specs.Naming.{IsNamed, IsPort, IsStripeCount};
 
 use java_hash::StripeCount;
 
@@ -22,14 +22,4 @@ pub fn port_named(word: &str) -> Option<u16>
         Ok(port) if port > 0 => Some(port),
         _ => None,
     }
-}
-
-/// The most bytes of a path for which the address of a Unix socket has room.
-pub const MOST_SOCKET_BYTES: usize = 107;
-
-/// Whether the address of a Unix socket has room for the path.
-pub fn is_socket_path(path: &str) -> bool
-    ensures { IsTrue result ↔ IsSocketPath path.now }
-{
-    !path.is_empty() && path.len() <= MOST_SOCKET_BYTES
 }

@@ -17,10 +17,11 @@ use Rattle.connections.specs.Moves.{Runs}
 abbrev pub GoesOn : List Answer → Type 0
 GoesOn answers = AllByRecursion (λ answer. ends answer ≡ false) answers
 
-module _ {S H : Type 0} (began : S → Request → Result H Refusal → S → Type 0) (finished : S → H → Answer → S → Type 0) (gave_up : S → H → S → Type 0)
+module _ {S H : Type 0} (began : S → Request → Result H Refusal → S → Type 0) (finished : S → H → Answer → S → Type 0)
+    (gave_up : S → H → S → Type 0)
     (r0 r1 w0 w1 : Option (List ℕ)) (s0 s1 : S) where
-  -- a reply of status 86 or 89 ended the connection: the whole dialogue of the messages, which ends with it, was written,
-  -- and what was held of calls behind it was given up
+  -- a reply of status 86 or 89 ended the connection: the whole dialogue of the messages, which ends with it, was
+  -- written, and what was held of calls behind it was given up
   pub record EndedByReply : Type 0 where
     pub input : List ℕ
     pub messages : List Message
@@ -33,8 +34,8 @@ module _ {S H : Type 0} (began : S → Request → Result H Refusal → S → Ty
     pub ended : IsEnded (row messages made)
     pub wrote : Appends w0 w1 bytes
 
-  -- Each whole message of what was read was answered, and the answer was written. None of these answers ends the connection. Behind
-  -- the messages at most `most` bytes were read that no memory was found for.
+  -- Each whole message of what was read was answered, and the answer was written. None of these answers ends the
+  -- connection. Behind the messages at most `most` bytes were read that no memory was found for.
   pub record AllAnswered (most : ℕ) : Type 0 where
     pub input : List ℕ
     pub lost : List ℕ

@@ -31,14 +31,17 @@ module _ {H : Type 0} where
   abbrev pub IsAlone : List (Place H) → Message → List (Move H) → Type 0
   IsAlone before message moves = AsksWholeMap message → (before ≡ []) × StartsNone moves
 
-  -- The places before and after the moves, the first begun first. A message takes its place at the end, and only if fewer than 64 are
-  -- taken. A request of the whole map is alone in the row. Only the first place is answered or given up, and then it is left.
+  -- The places before and after the moves, the first begun first. A message takes its place at the end, and only if
+  -- fewer than 64 are taken. A request of the whole map is alone in the row. Only the first place is answered or given
+  -- up, and then it is left.
   abbrev pub IsRow : List (Place H) → List (Move H) → List (Place H) → Type 0
   IsRow before [] after = after ≡ before
   IsRow before (Starts message place ∷ moves) after =
       (length before < 64) × IsAlone before message moves × IsRow (before ++ place ∷ []) moves after
-  IsRow before (Answers place answer ∷ moves) after = (others : List (Place H)) × (before ≡ place ∷ others) × IsRow others moves after
-  IsRow before (GivesUp place ∷ moves) after = (others : List (Place H)) × (before ≡ place ∷ others) × IsRow others moves after
+  IsRow before (Answers place answer ∷ moves) after =
+      (others : List (Place H)) × (before ≡ place ∷ others) × IsRow others moves after
+  IsRow before (GivesUp place ∷ moves) after =
+      (others : List (Place H)) × (before ≡ place ∷ others) × IsRow others moves after
 
   -- ---- the ends
 
@@ -56,8 +59,8 @@ module _ {H : Type 0} where
   messages_of (Answers place answer ∷ moves) = messages_of moves
   messages_of (GivesUp place ∷ moves) = messages_of moves
 
-  -- behind a message refused with `BadFrame` no other takes its place; behind an answer that ends the connection, and behind one
-  -- that gives up, each move gives up
+  -- behind a message refused with `BadFrame` no other takes its place; behind an answer that ends the connection, and
+  -- behind one that gives up, each move gives up
   abbrev pub Stops : List (Move H) → Type 0
   Stops [] = Unit {0}
   Stops (Starts message place ∷ moves) = (message ≡ Err BadFrame → messages_of moves ≡ []) × Stops moves
@@ -83,9 +86,11 @@ abbrev pub calls_of : List Message → List (Option Answer) → List Call
 calls_of [] came = []
 calls_of (message ∷ messages) [] = []
 calls_of (Err refusal ∷ messages) (outcome ∷ came) = calls_of messages came
-calls_of (Ok request ∷ messages) (outcome ∷ came) = record { request = request; answer = outcome } ∷ calls_of messages came
+calls_of (Ok request ∷ messages) (outcome ∷ came) =
+    record { request = request; answer = outcome } ∷ calls_of messages came
 
-module _ {S H : Type 0} (began : S → Request → Result H Refusal → S → Type 0) (finished : S → H → Answer → S → Type 0) (gave_up : S → H → S → Type 0) where
+module _ {S H : Type 0} (began : S → Request → Result H Refusal → S → Type 0) (finished : S → H → Answer → S → Type 0)
+    (gave_up : S → H → S → Type 0) where
   -- the move leads from one state to the other, as `Calls` says of it; a refusal makes no call
   abbrev pub Makes : S → Move H → S → Type 0
   Makes before (Starts (Ok request) (Held held)) after = began before request (Ok held) after
@@ -102,9 +107,9 @@ module _ {S H : Type 0} (began : S → Request → Result H Refusal → S → Ty
   Leads before [] after = after ≡ before
   Leads before (move ∷ moves) after = (between : S) × Makes before move between × Leads between moves after
 
-  -- The messages took their places in order, and the calls made are theirs, each begun once. What was held of each was finished or
-  -- given up once, in the order in which they were begun. At most 64 were held at any moment, and none is held at the end. While a
-  -- request of the whole map was held, no other call was.
+  -- The messages took their places in order, and the calls made are theirs, each begun once. What was held of each was
+  -- finished or given up once, in the order in which they were begun. At most 64 were held at any moment, and none is
+  -- held at the end. While a request of the whole map was held, no other call was.
   pub record Runs (before : S) (messages : List Message) (made : List Call) (after : S) : Type 0 where
     pub moves : List (Move H)
     pub leads : Leads before moves after

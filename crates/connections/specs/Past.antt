@@ -24,7 +24,8 @@ pub record Past (H : Type 0) : Type 0 where
   pub moves : List (Move H)
   pub written : List ℕ
 
--- what a connection is left with: what no message was taken of, what is held, how it stands, and the replies that aren't written
+-- what a connection is left with: what no message was taken of, what is held, how it stands, and the replies that
+-- aren't written
 pub record Standing (H : Type 0) : Type 0 where
   pub feed : Feed
   pub places : List (Place H)
@@ -42,7 +43,8 @@ closed Open = GivenUp
 closed Ended = Ended
 closed GivenUp = GivenUp
 
--- the messages are the first of what was received, and the rest is in hand; or the last of them is refused with `BadFrame`
+-- the messages are the first of what was received, and the rest is in hand; or the last of them is refused with
+-- `BadFrame`
 abbrev pub Taken : List ℕ → List Message → Feed → Type 0
 Taken received messages feed =
     ((feed.ended ≡ false) × Begins received messages feed.left)
@@ -109,8 +111,9 @@ module _ {H : Type 0} where
 
   -- ---- the past
 
-  -- This came of the connection that is left so. Its messages are those of what was received. Its moves keep the rules of a row, of
-  -- which these places are held. What is written and what isn't are the replies, each in its place, and nothing else.
+  -- This came of the connection that is left so. Its messages are those of what was received. Its moves keep the rules
+  -- of a row, of which these places are held. What is written and what isn't are the replies, each in its place, and
+  -- nothing else.
   pub record IsPast (past : Past H) (left : Standing H) : Type 0 where
     pub taken : Taken past.received (messages_of past.moves) left.feed
     pub in_row : IsRow [] past.moves left.places
@@ -127,9 +130,11 @@ module _ {H : Type 0} where
   abbrev pub IsAnswered : Past H → Standing H → Type 0
   IsAnswered past left =
       let messages = messages_of past.moves in
-      (left.places ≡ []) → (left.stage ≢ GivenUp) → Dialogue messages (calls_of messages (outcomes past.moves)) (past.written ++ left.unsent)
+      (left.places ≡ []) → (left.stage ≢ GivenUp) → Dialogue messages (calls_of messages (outcomes past.moves))
+      (past.written ++ left.unsent)
 
-module _ {S H : Type 0} (began : S → Request → Result H Refusal → S → Type 0) (finished : S → H → Answer → S → Type 0) (gave_up : S → H → S → Type 0) where
+module _ {S H : Type 0} (began : S → Request → Result H Refusal → S → Type 0) (finished : S → H → Answer → S → Type 0)
+    (gave_up : S → H → S → Type 0) where
   -- these moves were made with the calls, and no others; whatever came of the connection before, they stand behind it
   abbrev pub Grew : S → S → Standing H → Standing H → Type 0
   Grew s0 s1 old new =

@@ -31,7 +31,8 @@ IsFull [] (call ∷ made) = ⊥
 IsFull (Err refusal ∷ messages) made = (ends (Err refusal) ≡ false) × IsFull messages made
 IsFull (Ok request ∷ messages) [] = ⊥
 IsFull (Ok request ∷ messages) (call ∷ made) =
-    (answer : Answer) × (call ≡ record { request = request; answer = Some answer }) × (ends answer ≡ false) × IsFull messages made
+    (answer : Answer) × (call ≡ record { request = request; answer = Some answer }) × (ends answer ≡ false)
+    × IsFull messages made
 
 -- the moves neither give up nor end the connection, and no message is refused with `BadFrame`
 abbrev pub IsSteady : {H : Type 0} → List (Move H) → Type 0
@@ -49,7 +50,8 @@ EndsAt true answers = LastEnds answers
 abbrev pub work : Feed → ℕ
 work feed = cond feed.ended 0 (suc (length feed.left))
 
--- what the feeder gave: nothing, as no whole message was left; or these messages, of which the last may be refused with `BadFrame`
+-- what the feeder gave: nothing, as no whole message was left; or these messages, of which the last may be refused with
+-- `BadFrame`
 abbrev pub Gives : Feed → Feed → List Message → Type 0
 Gives old new messages =
     ((messages ≡ []) × (new ≡ old) × ((old.ended ≡ true) ⊎ IsPartial old.left))
@@ -85,9 +87,10 @@ module _ {H : Type 0} where
   abbrev pub answers_in : List (Place H × Answer) → List Answer
   answers_in answered = map (λ one. one.1) answered
 
-module _ {S H : Type 0} (began : S → Request → Result H Refusal → S → Type 0) (finished : S → H → Answer → S → Type 0) (gave_up : S → H → S → Type 0) where
-  -- no whole message was left, or the next is to be alone in the row; or it took a place. No other is to follow one that is refused
-  -- with `BadFrame`, or that came out of a frame of the whole map
+module _ {S H : Type 0} (began : S → Request → Result H Refusal → S → Type 0) (finished : S → H → Answer → S → Type 0)
+    (gave_up : S → H → S → Type 0) where
+  -- no whole message was left, or the next is to be alone in the row; or it took a place. No other is to follow one
+  -- that is refused with `BadFrame`, or that came out of a frame of the whole map
   abbrev pub BeginsNext : S → S → Feed → Feed → List (Place H) → List (Place H) → Bool → Type 0
   BeginsNext s0 s1 old new before after is_last =
       ((is_last ≡ true)

@@ -62,12 +62,14 @@ states_of events = states_from empty_files (λ _. New) events
 abbrev pub Agrees : Event → Files → Type 0
 Agrees (measured file len) files = len ≡ length (files file).seen
 Agrees (gave file at room bytes) files =
-    (length bytes ≡ min room (length (files file).seen - at)) × (bytes ≡ take (length bytes) (drop at (files file).seen))
+    (length bytes ≡ min room (length (files file).seen - at))
+    × (bytes ≡ take (length bytes) (drop at (files file).seen))
 Agrees event files = Unit {0}
 
 abbrev pub AllAgree : Files → (ℕ → Fill) → List Event → Type 0
 AllAgree start unknown [] = Unit {0}
-AllAgree start unknown (event ∷ events) = Agrees event (now (states_from start unknown events)) × AllAgree start unknown events
+AllAgree start unknown (event ∷ events) =
+    Agrees event (now (states_from start unknown events)) × AllAgree start unknown events
 
 abbrev pub failures_in : Event → ℕ
 failures_in failed = 1

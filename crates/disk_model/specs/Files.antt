@@ -61,7 +61,8 @@ pub record MayLeave (file : File) (content : List ℕ) : Type 0 where
 abbrev pub Leaves : Files → Contents → Type 0
 Leaves files contents = (n : ℕ) → n < 4 → MayLeave (files n) (contents n)
 
--- What every file of a disk keeps: what is not pending reads as at the last successful sync. So what is read is among what a stop may leave.
+-- What every file of a disk keeps: what is not pending reads as at the last successful sync. So what is read is among
+-- what a stop may leave.
 pub record IsCoherent (file : File) : Type 0 where
   pub no_shorter : length file.base ≤ length file.seen
   pub no_longer : length file.seen ≤ file.greatest
@@ -124,7 +125,8 @@ abbrev pub AllCoherent : List Files → Type 0
 AllCoherent states = AllByRecursion AreCoherent states
 
 pub empty_coherent : AreCoherent empty_files
-empty_coherent n low = record { no_shorter = omega arith; no_longer = omega arith; same = λ i h. refl; bytes = λ i. omega arith; base_bytes = λ i. omega arith }
+empty_coherent n low =
+    record { no_shorter = omega arith; no_longer = omega arith; same = λ i h. refl; bytes = λ i. omega arith; base_bytes = λ i. omega arith }
 
 pub AllCoherent-prop : (states : List Files) → IsProp (AllCoherent states)
 AllCoherent-prop states = AllByRecursion-prop AreCoherent (λ files. hlevel (le_prop, ℕ_set)) states

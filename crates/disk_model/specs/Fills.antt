@@ -41,12 +41,14 @@ abbrev pub byte_left : Fill → ℕ → File → ℕ → ℕ
 byte_left Old count file i = byte_at i file.base
 byte_left New count file i = byte_at i file.seen
 byte_left (Byte byte) count file i = if is_pending file i then byte else byte_at i file.seen
-byte_left (Chosen bytes lens) count file i = if is_pending file i then slice_index_or bytes.items count (byte_at i file.seen) else byte_at i file.seen
+byte_left (Chosen bytes lens) count file i =
+    if is_pending file i then slice_index_or bytes.items count (byte_at i file.seen) else byte_at i file.seen
 
 -- the contents that the fill picks; chosen bytes go to pending bytes in order of file and place
 abbrev pub left_by : Fill → Files → Contents
 left_by fill files = λ number.
-    bytes_by (length_left fill number (files number)) (λ i. byte_left fill (pending_before files number + pending_below (files number) i) (files number) i)
+    bytes_by (length_left fill number (files number))
+    (λ i. byte_left fill (pending_before files number + pending_below (files number) i) (files number) i)
 
 -- the life after a stop begins with those contents, and nothing is pending
 abbrev pub after_stop : Fill → Files → Files
@@ -58,11 +60,13 @@ abbrev pub length_torn : Fill → ℕ → ℕ → List ℕ → File → ℕ
 length_torn Old number at bytes file = length file.seen
 length_torn New number at bytes file = max (length file.seen) (at + length bytes)
 length_torn (Byte byte) number at bytes file = max (length file.seen) (at + length bytes)
-length_torn (Chosen chosen lens) number at bytes file = within (length file.seen) (max (length file.seen) (at + length bytes)) (slice_index_or lens number 0)
+length_torn (Chosen chosen lens) number at bytes file =
+    within (length file.seen) (max (length file.seen) (at + length bytes)) (slice_index_or lens number 0)
 
 -- the byte of the range that stands i places behind its beginning
 abbrev pub byte_torn : Fill → ℕ → List ℕ → File → ℕ → ℕ
-byte_torn Old at bytes file i = if nat_lt (at + i) (length file.base) then byte_at (at + i) file.base else byte_at (at + i) file.seen
+byte_torn Old at bytes file i =
+    if nat_lt (at + i) (length file.base) then byte_at (at + i) file.base else byte_at (at + i) file.seen
 byte_torn New at bytes file i = byte_at i bytes
 byte_torn (Byte byte) at bytes file i = byte
 byte_torn (Chosen chosen lens) at bytes file i = slice_index_or chosen.items i (byte_at i bytes)
@@ -71,7 +75,8 @@ abbrev pub bytes_torn : Fill → ℕ → List ℕ → File → List ℕ
 bytes_torn fill at bytes file = bytes_by (length bytes) (byte_torn fill at bytes file)
 
 abbrev pub seen_torn : Fill → ℕ → ℕ → List ℕ → File → List ℕ
-seen_torn fill number at bytes file = take (length_torn fill number at bytes file) (overwritten at (bytes_torn fill at bytes file) file.seen)
+seen_torn fill number at bytes file =
+    take (length_torn fill number at bytes file) (overwritten at (bytes_torn fill at bytes file) file.seen)
 
 abbrev pub torn : Fill → ℕ → ℕ → List ℕ → File → File
 torn fill number at bytes file = reached at bytes (seen_torn fill number at bytes file) file

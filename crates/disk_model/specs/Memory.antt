@@ -32,4 +32,6 @@ pub record IsByPlan (old new : MemDisk) (is_ok : Bool) : Type 0 where
 -- A write of these bytes found no memory: a read gives what it gave, and the range is pending.
 pub record LosesWrite (file at : ℕ) (bytes : List ℕ) (old new : MemDisk) : Type 0 where
   pub short : is_short new ≡ true
-  pub state : memory_states new ≡ with_file file (reached at bytes (now (memory_states old) file).seen (now (memory_states old) file)) (now (memory_states old)) ∷ memory_states old
+  pub state : memory_states new ≡ with_file file
+      (reached at bytes (now (memory_states old) file).seen (now (memory_states old) file))
+      (now (memory_states old)) ∷ memory_states old

@@ -46,8 +46,8 @@ impl Start for Unknown {
 
 /// The files `ckpt-a`, `ckpt-b`, `log-a` and `log-b` of a directory, in this order. One that is
 /// absent has length 0. A sync is the system's `fdatasync`, which covers the file's length. What the
-/// files hold is the premise `honest`. As long as the value lives it holds the system's exclusive lock
-/// on the directory's file `lock`.
+/// files hold is the premise `honest`. As long as the value lives it holds the system's exclusive locks
+/// on the directory's file `lock`, and on each of the four that is there.
 #[derive(Drop)]
 pub struct DirDisk<S: Start> {
     _lock: File,
@@ -61,8 +61,9 @@ pub struct DirDisk<S: Start> {
 impl<S: Start> DirDisk<S> {
     /// Opens the files that are there. A write to one that is absent fails. `S` stands for what the
     /// files hold; its value is used up, so that code over any `S` opens one directory. The
-    /// directory is locked first. If it is missing, or another value or program holds its lock,
-    /// this is an error, and none of the four files was touched.
+    /// directory is locked first, and then each file. If the directory is missing, or another value or
+    /// program holds one of the locks, this is an error, and nothing of the four files was read or
+    /// written.
     pub fn open<R: FileSystem<File = File>>(
         rt: &R,
         alloc: Global,
@@ -105,7 +106,7 @@ fn open_files<R: FileSystem<File = File>, S: Start>(
 ) -> io::Result<DirDisk<S>>
     ensures { IfOk result (λ disk. disk.past.events ≡ []) }
 {
-    let lock = lock_file(rt, format!(in alloc; "{directory}/lock")?)?;
+    let lock = lock_directory(rt, format!(in alloc; "{directory}/lock")?)?;
     let files = open_four(rt, alloc, directory, how)?;
     // The names too are to be there after a stop.
     File::open(rt, directory)?.sync_all()?;
@@ -118,7 +119,7 @@ fn open_files<R: FileSystem<File = File>, S: Start>(
     })
 }
 
-// The four files, of which some may be absent.
+// The four files, each locked, of which some may be absent.
 fn open_four<R: FileSystem<File = File>>(
     rt: &R,
     alloc: Global,
@@ -132,10 +133,19 @@ fn open_four<R: FileSystem<File = File>>(
     Ok(files)
 }
 
-// Opens the file, or makes it, and locks it. The lock lasts until the file is closed.
-fn lock_file<R: FileSystem<File = File>>(rt: &R, path: String) -> io::Result<File> {
+// The file that stands for the directory, which is made if it is absent.
+fn lock_directory<R: FileSystem<File = File>>(rt: &R, path: String) -> io::Result<File> {
     let mut how = OpenOptions::new();
     how.read(true).write(true).create(true);
+    open_locked(rt, &how, path)
+}
+
+// Opens the file, and locks it. The lock lasts until the file is closed.
+fn open_locked<R: FileSystem<File = File>>(
+    rt: &R,
+    how: &OpenOptions,
+    path: String,
+) -> io::Result<File> {
     let file = how.open(rt, path.as_str())?;
     file.try_lock()?;
     Ok(file)
@@ -146,7 +156,7 @@ fn open_one<R: FileSystem<File = File>>(
     how: &OpenOptions,
     path: String,
 ) -> io::Result<Option<File>> {
-    match how.open(rt, path.as_str()) {
+    match open_locked(rt, how, path) {
         Ok(file) => Ok(Some(file)),
         Err(error) if error.kind() == io::ErrorKind::NotFound => Ok(None),
         Err(error) => Err(error),

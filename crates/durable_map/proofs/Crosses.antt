@@ -16,6 +16,7 @@ use Rattle.durable_map.specs.contracts.locked_keeper.LockedKeeper as LockedKeepe
 use Rattle.durable_map.specs.contracts.locked_keeper.LockedKeeper.TheInside as Inside
 use Rattle.durable_map.specs.contracts.locked_keeper.LockedKeeperKeyedStripes.TheImpl as fitting
 use Rattle.durable_map.specs.contracts.map.DurableMap as DurableMap
+use Rattle.durable_map.proofs.gathering.Gathering.TheSendSync as gathering
 use Rattle.atomic_methods.proofs.Crosses.{prepared_send}
 use Rattle.map_types.proofs.commands.Reply.TheSendSync as reply
 use Rattle.map_types.proofs.commands.Read.TheSendSync as read
@@ -28,6 +29,7 @@ use Rattle.ticket_order.specs.contracts.walk.Taken as Taken
 use Rattle.ticket_order.specs.contracts.change_walk.ChangeStage as ChangeStage
 use Rattle.ticket_order.specs.contracts.read_walk.ReadStage as ReadStage
 use Rattle.ticket_order.specs.contracts.sweep_walk.SweepStage as SweepStage
+use Rattle.ticket_order.specs.contracts.capture_walk.Captured as Captured
 use Rattle.ticket_order.specs.contracts.capture_walk.CaptureStage as CaptureStage
 use Rattle.ticket_order.proofs.stripe.Entry.TheSendSync as entry
 use Rattle.flusher.specs.contracts.sweeper.Sweeper as Sweeper
@@ -41,11 +43,10 @@ use Rattle.gate_log.proofs.zeros.Zeros.TheSendSync as zeros
 use Rattle.checkpoint_file.proofs.writer.CheckpointWriter.TheSendSync as writer
 use Rattle.java_hash.proofs.stripe_count.StripeCount.TheSendSync as count
 use Rattle.ticket_order.proofs.held.Held.TheSendSync as held
-use Rattle.ticket_order.proofs.capture_walk.Captured.TheSendSync as captured
 use Rattle.ticket_order.proofs.change_walk.NewChange.TheSendSync as new_change
 use Rattle.ticket_order.proofs.release_walk.ReleaseStage.TheSendSync as release
 
-ruleset leaves = (reply.the_send, reply.the_field_send, read.the_send, read.the_field_send, key.the_send, value.the_send, value.the_field_send, refusal.the_send, refusal.the_field_send, entry.the_send, entry.the_field_send, held.the_send, held.the_field_send, captured.the_send, captured.the_field_send, new_change.the_send, new_change.the_field_send, release.the_send, release.the_field_send, heap.send, Vec-send, Box-send)
+ruleset leaves = (reply.the_send, reply.the_field_send, read.the_send, read.the_field_send, key.the_send, value.the_send, value.the_field_send, refusal.the_send, refusal.the_field_send, entry.the_send, entry.the_field_send, held.the_send, held.the_field_send, new_change.the_send, new_change.the_field_send, release.the_send, release.the_field_send, heap.send, Vec-send, Box-send)
 
 taken : IsSend (Taken.the_field).row
 taken = search (stripe_send, sendable) depth 20
@@ -59,8 +60,11 @@ reads = search (taken, leaves, sendable) depth 20
 sweeps : IsSend (SweepStage.the_field).row
 sweeps = search (taken, leaves, sendable) depth 20
 
+captured : IsSend (Captured.the_field).row
+captured = search (crosses, sendable) depth 20
+
 captures : IsSend (CaptureStage.the_field).row
-captures = search (taken, leaves, sendable) depth 20
+captures = search (taken, captured, leaves, sendable) depth 20
 
 stage : IsSend (Stage.the_field).row
 stage = search (change, reads, sweeps, captures, taken, leaves, sendable) depth 20
@@ -95,10 +99,10 @@ module _ (D : RattleType) where
     locked s = search (inside s, view_send)
 
     map_fields_send : IsSend D → AllSend (shape (DurableMap.the_type D g)).fields
-    map_fields_send s = (heap.Arc-send Stripes.the_row stripes_send stripes_sync, (keyed.the_field_send (LockedKeeper.the_row D g) Stripes.the_row (fitting.ghosts D g fitting.no_dict) (locked s), tt))
+    map_fields_send s = (heap.Arc-send Stripes.the_row stripes_send stripes_sync, (keyed.the_field_send (LockedKeeper.the_row D g) Stripes.the_row (fitting.ghosts D g fitting.no_dict) (locked s), (search (crosses, sendable), (gathering.the_field_send, tt))))
 
     map_fields_sync : IsSend D → AllSync (shape (DurableMap.the_type D g)).fields
-    map_fields_sync s = (heap.Arc-sync Stripes.the_row stripes_send stripes_sync, (keyed.the_field_sync (LockedKeeper.the_row D g) Stripes.the_row (fitting.ghosts D g fitting.no_dict) (locked s), tt))
+    map_fields_sync s = (heap.Arc-sync Stripes.the_row stripes_send stripes_sync, (keyed.the_field_sync (LockedKeeper.the_row D g) Stripes.the_row (fitting.ghosts D g fitting.no_dict) (locked s), (search (crosses, sendable), (gathering.the_field_sync, tt))))
 
     pub map_send : IsSend D → IsSend (DurableMap.the_row D g)
     map_send s = recorded_send _ _ _ (DurableMap.the_type D g).to_one (struct_send (shape (DurableMap.the_type D g)) (map_fields_send s))

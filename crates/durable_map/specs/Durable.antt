@@ -82,7 +82,8 @@ pub record EndsFailed (v : Record) (position : ℕ) (w : Record) : Type 0 where
 abbrev pub GrewByCall : Record → ℕ → Asked → Reply → Record → Type 0
 GrewByCall v position asked reply w = w.calls ≡ v.calls ++ call position asked reply ∷ []
 
--- The steps of a call of n stripes, and no others: it waited for its stripe, TAKE, ALIVE that said yes, LOOK and TICKET if it is a change, GIVE.
+-- The steps of a call of n stripes, and no others: it waited for its stripe, TAKE, ALIVE that said yes, LOOK and TICKET
+-- if it is a change, GIVE.
 abbrev pub MakesInTime : ℕ → Record → Asked → ℕ → Reply → Record → Type 0
 MakesInTime n v (Changing command) position reply w = MakesCallInTime n v command position reply w
 MakesInTime n v (Reading read) position reply w = MakesReadInTime n v read position reply w
@@ -94,9 +95,9 @@ pub record IsMadeFirst (n : ℕ) (v : Record) (asked : Asked) (position : ℕ) (
   pub after : List StepMade
   pub steps : GrewBy at after w
 
--- The record grew by this call alone, which was made by its steps. Those behind them are SEE and ALIVE alone. A change's
--- position is past all that the pass had seen, and a read's is no less. The reply is legal there, and the position was
--- durable when the call returned.
+-- The record grew by this call alone, which was made by its steps. Those behind them are SEE and ALIVE alone. A
+-- change's position is past all that the pass had seen, and a read's is no less. The reply is legal there, and the
+-- position was durable when the call returned.
 pub record AnswersCall (n : ℕ) (v : Record) (asked : Asked) (reply : Reply) (w : Record) : Type 0 where
   pub position : ℕ
   pub grew : GrewByCall v position asked reply w
@@ -106,8 +107,8 @@ pub record AnswersCall (n : ℕ) (v : Record) (asked : Asked) (reply : Reply) (w
   pub legal : IsLegal (history_of w) position asked reply
   pub durable : EndsDurable v position w
 
--- The record grew by this call alone, which was made by its steps. Those behind them are SEE and ALIVE alone. The store has
--- failed before its position became durable.
+-- The record grew by this call alone, which was made by its steps. Those behind them are SEE and ALIVE alone. The store
+-- has failed before its position became durable.
 pub record LosesCall (n : ℕ) (v : Record) (asked : Asked) (w : Record) : Type 0 where
   pub position : ℕ
   pub reply : Reply
@@ -116,8 +117,8 @@ pub record LosesCall (n : ℕ) (v : Record) (asked : Asked) (w : Record) : Type 
   pub awaited : Awaits made.at made.after w
   pub failed : EndsFailed v position w
 
--- The steps of a call of n stripes that was refused before it was made, and no others: it waited for its stripe, which was
--- never the cause. A change with a key above the limit makes none.
+-- The steps of a call of n stripes that was refused before it was made, and no others: it waited for its stripe, which
+-- was never the cause. A change with a key above the limit makes none.
 abbrev pub RefusesInTime : ℕ → Record → Asked → Refusal → Record → Type 0
 RefusesInTime n v (Changing command) refusal w = TurnsDownInTime n v command refusal w
 RefusesInTime n v (Reading read) refusal w = RefusesReadInTime v (stripe_of n read.key) refusal w
@@ -170,7 +171,8 @@ pub record GoesOnWith (v : Record) (others : List Call) (w : Record) : Type 0 wh
 
 -- A call was begun, and finished with other calls of its pass between. It was made by its steps, its reply is legal at
 -- its position in all that the pass has seen, and it ended with this answer.
-pub record CompletesAmong (n : ℕ) (v : Record) (asked : Asked) (answer : Result Reply Refusal) (w : Record) : Type 0 where
+pub record CompletesAmong (n : ℕ) (v : Record) (asked : Asked) (answer : Result Reply Refusal)
+    (w : Record) : Type 0 where
   pub position : ℕ
   pub reply : Reply
   pub others : List Call
@@ -187,15 +189,16 @@ abbrev pub Adds : ℕ → Record → Asked → Result Reply Refusal → Record �
 Adds n v asked (Ok reply) w = AnswersCall n v asked reply w
 Adds n v asked (Err refusal) w = RefusesCall n v asked refusal w
 
--- What a call over n stripes leaves. Whatever it returns, the pass goes on from what it was, so that calls of one pass are calls of
--- one history.
+-- What a call over n stripes leaves. Whatever it returns, the pass goes on from what it was, so that calls of one pass
+-- are calls of one history.
 pub record Completes (n : ℕ) (v : Record) (asked : Asked) (result : Result Reply Refusal) (w : Record) : Type 0 where
   pub goes_on : GoesOnByCalls v w
   pub adds : Adds n v asked result w
 
 -- Two calls of a pass, one after the other. Both are legal in the history that it has seen at last, and the second
 -- stands behind the first.
-pub record FollowEachOther (v : Record) (first : Asked) (one : Reply) (second : Asked) (other : Reply) (w : Record) : Type 0 where
+pub record FollowEachOther (v : Record) (first : Asked) (one : Reply) (second : Asked) (other : Reply)
+    (w : Record) : Type 0 where
   pub position : ℕ
   pub next : ℕ
   pub grew : w.calls ≡ (v.calls ++ call position first one ∷ []) ++ call next second other ∷ []
@@ -205,7 +208,9 @@ pub record FollowEachOther (v : Record) (first : Asked) (one : Reply) (second : 
 
 -- what a try of a call leaves, by its answer
 abbrev pub Tries : {D : Type 0} → DurableMap D → Record → Asked → Result Held Refusal → Record → Type 0
-Tries map v (Changing command) (Ok held) w = IsHeldOf map held × MakesCall (stripe_count map) v command (position_of held) (reply_of held) w
+Tries map v (Changing command) (Ok held) w =
+    IsHeldOf map held × MakesCall (stripe_count map) v command (position_of held) (reply_of held) w
 Tries map v (Changing command) (Err refusal) w = TurnsDown (stripe_count map) v command refusal w
-Tries map v (Reading read) (Ok held) w = IsHeldOf map held × MakesRead (stripe_count map) v read (position_of held) (reply_of held) w
+Tries map v (Reading read) (Ok held) w =
+    IsHeldOf map held × MakesRead (stripe_count map) v read (position_of held) (reply_of held) w
 Tries map v (Reading read) (Err refusal) w = RefusesRead v (stripe_of (stripe_count map) read.key) refusal w

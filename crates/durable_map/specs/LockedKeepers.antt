@@ -15,8 +15,8 @@ use Rattle.flusher.specs.Fitting.{Fits, IsTakenFront, StopsFit}
 use Rattle.flusher.specs.KeeperSteps.{is_walking}
 use Rattle.checkpoint_walk.specs.Checkpointing.{HasGiven}
 
--- The sections that a checkpoint of n stripes was given are the parts of the first stripes in order, each after as many commands of the
--- history as its mark says.
+-- The sections that a checkpoint of n stripes was given are the parts of the first stripes in order, each after as many
+-- commands of the history as its mark says.
 pub record HasCaptured (n : ℕ) (h : History) (w : CheckpointState) (files : Files) : Type 0 where
   pub sections : List Section
   pub given : HasGiven (Some w) sections files
@@ -36,14 +36,16 @@ pub record IsSealedWithin (generation committed : ℕ) (files : Files) : Type 0 
 
 -- the keeper's sealed checkpoint is whole in its file, and its marks are committed
 abbrev pub KeepsSealed : {D : Type 0} → (D → List Files) → (D → Type 0) → Keeper D → Type 0
-KeepsSealed states honest keeper = honest keeper.disk → IsSealedWithin keeper.sealed keeper.log.committed (now (states keeper.disk))
+KeepsSealed states honest keeper =
+    honest keeper.disk → IsSealedWithin keeper.sealed keeper.log.committed (now (states keeper.disk))
 
 -- If the keeper has made a FAIL, a device call has failed, or a file was found full.
 pub record HasCause {D : Type 0} (is_full : Bool) (keeper : Keeper D) : Type 0 where
   pub cause : keeper.has_failed ≡ true → (keeper.is_broken ≡ true) ⊎ (is_full ≡ true)
 
 -- The keeper over n stripes, and the record of its pass. Neither a sweep nor a capture walks.
-pub record Keeps {D : Type 0} (states : D → List Files) (honest : D → Type 0) (n : ℕ) (keeper : Keeper D) (p : Record) : Type 0 where
+pub record Keeps {D : Type 0} (states : D → List Files) (honest : D → Type 0) (n : ℕ) (keeper : Keeper D)
+    (p : Record) : Type 0 where
   pub done : List Command
   pub fits : Fits states honest n done keeper p
   pub still : is_walking keeper.sweeper.walking ≡ false
@@ -52,12 +54,14 @@ pub record Keeps {D : Type 0} (states : D → List Files) (honest : D → Type 0
   pub taken : IsTakenFront done keeper.log.committed p
   -- no more was published than is committed
   pub published : p.published ≤ keeper.log.committed
-  -- whatever a stop leaves now stands for a front of the history, with what is committed and no more than what is staged besides
+  -- whatever a stop leaves now stands for a front of the history, with what is committed and no more than what is
+  -- staged besides
   pub stops : honest keeper.disk → StopsFit (history_of p) keeper (now (states keeper.disk))
   -- each section that was captured is the part of its stripe after as many commands of the history as its mark says
   pub captured : AllLegalSections n p p.sections
   -- until a device call fails, so are those that the file of the checkpoint under way was given
-  pub given : keeper.is_broken ≡ false → honest keeper.disk → CapturesStand n (history_of p) keeper.checkpoint (now (states keeper.disk))
+  pub given : keeper.is_broken ≡ false → honest keeper.disk
+      → CapturesStand n (history_of p) keeper.checkpoint (now (states keeper.disk))
   -- the sealed checkpoint's marks are committed
   pub sealed : KeepsSealed states honest keeper
 

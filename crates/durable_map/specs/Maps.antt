@@ -31,7 +31,8 @@ pub record IsReady {D : Type 0} (map : DurableMap D) (pass : Pass) : Type 0 wher
   pub own : IsPassOf map pass
   pub free : (recorded pass).holding ≡ None
 
--- The pass of a view comes from this map. It is ready once the view has ended, and between two steps if the view holds no stripe.
+-- The pass of a view comes from this map. It is ready once the view has ended, and between two steps if the view holds
+-- no stripe.
 abbrev pub LeavesReady : {D : Type 0} → DurableMap D → Result Viewed Refusal → Pass → Type 0
 LeavesReady map (Ok (More walk)) pass = IsPassOf map pass × (HoldsNone (next_kind walk) → IsReady map pass)
 LeavesReady map (Ok (Done captured)) pass = IsReady map pass

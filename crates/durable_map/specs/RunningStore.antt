@@ -34,7 +34,8 @@ pub record IsReleased (b : Book) (q : ℕ) (asked : Asked) (reply : Reply) : Typ
 
 -- The files stand for the first `count` commands of the one history. The position q is among them, and the reply is one
 -- thread's at q in these commands.
-pub record HoldsReply (o : Opening) (commands : List Command) (q : ℕ) (asked : Asked) (reply : Reply) (contents : Contents) : Type 0 where
+pub record HoldsReply (o : Opening) (commands : List Command) (q : ℕ) (asked : Asked) (reply : Reply)
+    (contents : Contents) : Type 0 where
   pub count : ℕ
   pub stands : StandsFor contents count (fold_to (history_from o commands) count)
   pub from_first : o.first ≤ count
@@ -44,12 +45,13 @@ pub record HoldsReply (o : Opening) (commands : List Command) (q : ℕ) (asked :
 
 -- a stop that finds these files leaves each reply that was released
 abbrev pub StopsHold : Book → Files → Type 0
-StopsHold b files = (q : ℕ) (asked : Asked) (reply : Reply) → IsReleased b q asked reply → (contents : Contents) → Leaves files contents
+StopsHold b files = (q : ℕ) (asked : Asked) (reply : Reply) → IsReleased b q asked reply → (contents : Contents)
+    → Leaves files contents
     → HoldsReply b.opening b.history q asked reply contents
 
--- There is one history of all passes, and the pass under the lock is its keeper's. Then it is so of the files of an honest
--- disk whenever the lock is got. And it is so at each moment within a call of the keeper that was under the lock, which
--- by its contract leaves files whose stops fit.
+-- There is one history of all passes, and the pass under the lock is its keeper's. Then it is so of the files of an
+-- honest disk whenever the lock is got. And it is so at each moment within a call of the keeper that was under the
+-- lock, which by its contract leaves files whose stops fit.
 abbrev pub ReleasedOutliveStops : {D : Type 0} → (D → List Files) → (D → Type 0) → Type 0
 ReleasedOutliveStops {D} states honest = (n : ℕ) (keeper : Keeper D) (b : Book) → IsOneHistory b
     → Keeps states honest n keeper (record_of b.effects.keeper b)
@@ -62,10 +64,10 @@ AnsweredAreReleased = (b : Book) (j n : ℕ) (v w : Record) (asked : Asked) (rep
     → j < length b.passes → (answers : AnswersCall n v asked reply w) → GoesOnWith w others (record_of j b)
     → IsReleased b answers.position asked reply
 
--- Of two seats of passes on the same words one alone may be the keeper's. So while the pass under the lock is it, no other
--- pass that the words give out is.
+-- Of two seats of passes on the same words one alone may be the keeper's. So while the pass under the lock is it, no
+-- other pass that the words give out is.
 abbrev pub OneIsTheKeepers : Type 0
 OneIsTheKeepers = (o : Opening) (s : _) → (k : Kept o s) → (id other : ℕ) (v w : _)
-    → (one : IsSeated k.seats k.book (slice_index s.words 3) id v)
-    → (two : IsSeated k.seats k.book (slice_index s.words 3) other w)
+    → (one : IsSeated k.seats k.book (slice_index s.words 24) id v)
+    → (two : IsSeated k.seats k.book (slice_index s.words 24) other w)
     → (record_of one.place k.book).keeper ≡ true → (record_of two.place k.book).keeper ≡ true → id ≡ other

@@ -16,7 +16,8 @@ use ticket_order::Position;
 impl<D: Disk + Drop> DurableMap<D> {
     /// Makes a change, whose reply is held until `finish` gives it out. It waits for the stripe of its
     /// key, and not until the change is durable: a pass may begin other calls before it finishes this
-    /// one.
+    /// one. No thread is woken for it before `finish`, `wake_log` or `release` asks for its reply; without
+    /// them it is committed after a tenth of a second at most.
     ///
     /// `KeyTooLong` if the key is above the limit, `Failed` if the store has failed, `TicketsSpent` if
     /// 2^62 changes were made, and `NoMemory`: then nothing was changed.
@@ -34,10 +35,7 @@ impl<D: Disk + Drop> DurableMap<D> {
         ensures same { IsSamePass pass.old pass.new }
     {
         match self.stripes.call(rt, pass, command) {
-            Ok(held) => {
-                self.stripes.wake_keeper();
-                Ok(held)
-            }
+            Ok(held) => Ok(held),
             Err(refusal) => Err(refusal),
         }
     }
@@ -88,6 +86,7 @@ impl<D: Disk + Drop> DurableMap<D> {
             match self.stripes.release(pass, waiting) {
                 Released::Reply(_, reply) => return Ok(reply),
                 Released::NotYet(held) => {
+                    self.wake_log();
                     self.stripes.sleep_until_durable(rt, position);
                     waiting = held;
                 }

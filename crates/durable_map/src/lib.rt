@@ -3,8 +3,10 @@
 
 mod calls;
 mod changes;
+mod gathering;
 mod keeping;
 pub mod laws;
+mod leading;
 mod locked_keeper;
 mod loops;
 mod map;
@@ -15,4 +17,4 @@ mod views;
 
 pub use loops::{Ends, checkpoint_loop, flush_loop};
 pub use map::DurableMap;
-pub use view_walk::{ViewWalk, Viewed};
+pub use view_walk::{Captured, ViewWalk, Viewed};

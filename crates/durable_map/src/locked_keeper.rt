@@ -197,6 +197,9 @@ impl<D: Disk> LockedKeeper<D> {
         ensures words { self.new.words ≡ self.old.words }
     {
         if self.is_resting() {
+            if self.is_full {
+                return Err(Refusal::LogFull);
+            }
             self.gather(sweeps_all);
             let count = self.stage()?;
             if count == 0 {

@@ -1,5 +1,5 @@
 //! The loops that commit, and that write checkpoints, each on a thread of its own.
-ghost use Rattle.std.specs.Prelude.{◌≡◌, ◌⊎◌, IsTrue, IfErr};
+ghost use Rattle.std.specs.Prelude.{◌≡◌, ◌⊎◌, IsTrue, IfErr, IfSome};
 ghost use Rattle.keyed_lock.specs.Locks.{IsLoanOf};
 ghost use Rattle.durable_map.specs.Maps.{name_of_words};
 
@@ -10,7 +10,7 @@ use disk_model::Disk;
 use keyed_lock::Loan;
 use map_types::Refusal;
 use std::sync::Wait;
-use std::time::Duration;
+use std::time::{Clock, Duration, Instant};
 use stripe_locks::Stripes;
 
 /// For how many milliseconds a loop sleeps before it tries again what was refused some times.
@@ -18,6 +18,13 @@ const SHORT_SLEEP: u64 = 1;
 
 /// For how many milliseconds the loop of checkpoints sleeps if there is nothing to do.
 const LONG_SLEEP: u64 = 100;
+
+/// For how many times as long as its turn held the lock the loop of checkpoints rests behind it, if
+/// changes are still to be committed.
+const REST: u32 = 9;
+
+/// For how many milliseconds it rests then at most.
+const LONGEST_REST: u64 = 1_000;
 
 /// Says when a loop is to end.
 pub trait Ends {
@@ -29,7 +36,7 @@ pub trait Ends {
 }
 
 // Whether the store can't go on after this refusal: a device call failed, or a file is full.
-fn is_final(refusal: Refusal) -> bool
+pub(crate) fn is_final(refusal: Refusal) -> bool
     ensures { IsTrue result → (refusal ≡ Refusal.Failed) ⊎ (refusal ≡ Refusal.LogFull) }
 {
     matches!(refusal, Refusal::Failed | Refusal::LogFull)
@@ -45,6 +52,16 @@ impl<D: Disk + Drop> DurableMap<D> {
         ensures loan { IsLoanOf self.now.locked result.1 }
     {
         self.locked.lock(rt)
+    }
+
+    /// The same, unless another thread has it. It doesn't wait.
+    pub(crate) fn try_take_keeper<'a>(
+        &'a self,
+    ) -> Option<(LockedKeeper<D>, Loan<'a, LockedKeeper<D>, Stripes>)>
+        ensures own { IfSome result (λ taken. taken.0.words ≡ name_of_words self.now) }
+        ensures loan { IfSome result (λ taken. IsLoanOf self.now.locked taken.1) }
+    {
+        self.locked.try_lock()
     }
 
     /// Puts the keeper back, which made its steps on the map's own words.
@@ -68,17 +85,46 @@ impl<D: Disk + Drop> DurableMap<D> {
     // A turn of the log, with the count that is committed after it.
     pub(crate) fn flush<R: Wait>(&self, rt: &R, sweeps_all: bool) -> (Result<Turn, Refusal>, u64) {
         let (mut locked, loan) = self.take_keeper(rt);
+        let before = locked.committed();
         let turn = locked.flush(sweeps_all);
         let committed = locked.committed();
         self.give_keeper(locked, loan);
+        self.gathering.batch_ended(&self.stripes, before, committed);
         (turn, committed)
     }
 
-    fn checkpoint<R: Wait>(&self, rt: &R, bytes: u64) -> Result<Turn, Refusal> {
+    // A turn of the checkpoints, with the count that is committed after it, and for how long it held the
+    // lock.
+    fn checkpoint<R: Clock + Wait>(
+        &self,
+        rt: &R,
+        bytes: u64,
+    ) -> (Result<Turn, Refusal>, u64, Option<Duration>) {
         let (mut locked, loan) = self.take_keeper(rt);
+        let start = Instant::now(rt).ok();
         let turn = locked.checkpoint(bytes);
+        let committed = locked.committed();
+        let spent = start.and_then(|start| start.elapsed(rt).ok());
         self.give_keeper(locked, loan);
-        turn
+        (turn, committed, spent)
+    }
+
+    // Lets the loop of the log have the lock, if a change is still to be committed, for some times as
+    // long as the turn held it. The lock by itself serves nobody in turn.
+    fn rest_behind<R: Wait>(&self, rt: &R, committed: u64, spent: Option<Duration>) {
+        if self.stripes.has_changed(committed) {
+            let spent = spent.unwrap_or(Duration::from_millis(SHORT_SLEEP));
+            let longest = Duration::from_millis(LONGEST_REST);
+            self.stripes
+                .sleep_until_failed(rt, spent.saturating_mul(REST).min(longest));
+        }
+    }
+
+    // Waits a moment for those that are expected, if others have come since so many were committed.
+    fn gather(&self, committed: u64) {
+        if self.stripes.has_changed(committed) {
+            self.gathering.gather(&self.stripes);
+        }
     }
 
     // Returns after a moment, which grows with the number of turns in which nothing was done.
@@ -121,18 +167,22 @@ pub fn flush_loop<D: Disk + Drop, E: Ends, R: Wait>(
     ensures { IfErr result (λ refusal. (refusal ≡ Refusal.Failed) ⊎ (refusal ≡ Refusal.LogFull)) }
 {
     let backoff = Backoff::new();
+    let mut last = 0;
     for _turn in rt.forever() {
         if ends.has_ended() {
             return Ok(());
         }
+        map.gather(last);
         let has_waited = backoff.is_completed();
-        match map.flush(rt, has_waited) {
-            (Ok(Turn::Worked), _) => {
+        let (turn, committed) = map.flush(rt, has_waited);
+        last = committed;
+        match turn {
+            Ok(Turn::Worked) => {
                 ends.turn_ended();
                 backoff.reset();
             }
-            (Ok(Turn::Rested | Turn::Awaited), committed) => map.rest(rt, &backoff, committed),
-            (Err(refusal), committed) => {
+            Ok(Turn::Rested | Turn::Awaited) => map.rest(rt, &backoff, committed),
+            Err(refusal) => {
                 if is_final(refusal) {
                     map.fail(rt);
                     return Err(refusal);
@@ -145,12 +195,13 @@ pub fn flush_loop<D: Disk + Drop, E: Ends, R: Wait>(
 }
 
 /// Writes a checkpoint whenever the newest log has at least `bytes` bytes, until `ends` says so.
-/// Each turn acts on the map's own words, and holds the lock over one device call at most, so that
-/// batches are committed between its calls. It needs `flush_loop` on another thread. If a device
+/// Each turn acts on the map's own words, and holds the lock over one device call at most. Behind it
+/// the loop rests while changes are still to be committed, so that batches are committed between its
+/// calls. It needs `flush_loop` on another thread. If a device
 /// call has failed, or a stripe has too many entries for a checkpoint, it makes a FAIL and returns
 /// `Failed` or `LogFull`. What it is refused for want of memory, because a stripe is held, or
 /// because it comes too early, is tried again.
-pub fn checkpoint_loop<D: Disk + Drop, E: Ends, R: Wait>(
+pub fn checkpoint_loop<D: Disk + Drop, E: Ends, R: Clock + Wait>(
     rt: &R,
     map: &DurableMap<D>,
     bytes: u64,
@@ -164,10 +215,13 @@ pub fn checkpoint_loop<D: Disk + Drop, E: Ends, R: Wait>(
             return Ok(());
         }
         match map.checkpoint(rt, bytes) {
-            Ok(Turn::Worked) => backoff.reset(),
-            Ok(Turn::Rested) => map.rest_long(rt),
-            Ok(Turn::Awaited) => map.wait_a_moment(rt, &backoff),
-            Err(refusal) => {
+            (Ok(Turn::Worked), committed, spent) => {
+                map.rest_behind(rt, committed, spent);
+                backoff.reset();
+            }
+            (Ok(Turn::Rested), _, _) => map.rest_long(rt),
+            (Ok(Turn::Awaited), _, _) => map.wait_a_moment(rt, &backoff),
+            (Err(refusal), _, _) => {
                 if is_final(refusal) {
                     map.fail(rt);
                     return Err(refusal);

@@ -13,6 +13,7 @@ ghost use Rattle.recovery.specs.Opening.{IsAtStart};
 ghost use Rattle.recovery.specs.Dividing.{ArePartsOf};
 ghost use Rattle.durable_map.specs.Maps.{IsHeldOf, IsPassOf, IsReady, opening_of, stripe_count, StaysHeldOf};
 
+use crate::gathering::Gathering;
 use crate::keeping::what_is_kept;
 use crate::locked_keeper::LockedKeeper;
 use crate::map::DurableMap;
@@ -22,6 +23,7 @@ use flusher::Keeper;
 use keyed_lock::KeyedLock;
 use map_types::Refusal;
 use std::alloc::Global;
+use std::sync::atomic::AtomicBool;
 use std::sync::{Arc, Wait};
 use stripe_locks::{Held, Pass, Released, Stripes};
 use ticket_order::Position;
@@ -70,7 +72,12 @@ impl<D: Disk + Drop> DurableMap<D> {
         what_is_kept(&keeper);
         let locked = LockedKeeper::new(shared, keeper, pass);
         match KeyedLock::new(alloc, locked, &*stripes) {
-            Ok(locked) => Ok(DurableMap { stripes, locked }),
+            Ok(locked) => Ok(DurableMap {
+                stripes,
+                locked,
+                is_led: AtomicBool::new(false),
+                gathering: Gathering::new(),
+            }),
             Err(locked) => Err((locked.into_disk(), Refusal::NoMemory)),
         }
     }
@@ -127,7 +134,11 @@ impl<D: Disk + Drop> DurableMap<D> {
         ensures held { StaysHeldOf self.now result }
         ensures same { IsSamePass pass.old pass.new }
     {
-        self.stripes.release(pass, held)
+        let released = self.stripes.release(pass, held);
+        if matches!(released, Released::NotYet(_)) {
+            self.wake_log();
+        }
+        released
     }
 
     /// From now on `count` zeros are written ahead of a batch at a time, once a log has 65,536

@@ -43,7 +43,10 @@ impl<D: Disk + Drop> DurableMap<D> {
     /// mark that it awaits durable. A thread that waits for a mark, or long, sleeps. It makes no step.
     pub fn wait_for_view<R: Wait>(&self, rt: &R, backoff: &Backoff, walk: &ViewWalk) {
         match walk.position_awaited() {
-            Some(position) => self.stripes.sleep_until_durable(rt, position),
+            Some(position) => {
+                self.wake_log();
+                self.stripes.sleep_until_durable(rt, position);
+            }
             None => self.wait_a_moment(rt, backoff),
         }
     }

@@ -12,6 +12,7 @@ use std::sync::Wait;
 use std::sync::atomic::{AtomicBool, Ordering};
 use std::thread;
 use std::thread::Threads;
+use std::time::Clock;
 
 /// The length of the log that begins a checkpoint.
 const LOG_BYTES: u64 = 67_108_864;
@@ -68,7 +69,7 @@ fn sell<D: Disk + Drop, R: Wait>(
 }
 
 /// Runs both loops on threads of their own while the calls are made.
-pub fn run<D: Disk + Drop + Send, R: Threads + Wait + Sync>(
+pub fn run<D: Disk + Drop + Send, R: Clock + Threads + Wait + Sync>(
     rt: &R,
     alloc: Global,
     map: &DurableMap<D>,

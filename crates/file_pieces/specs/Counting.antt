@@ -13,8 +13,10 @@ MadeAtMost states most old new = length (states new) ≤ length (states old) + m
 
 -- one device call was made for each piece that was read since the reader stood so
 abbrev pub ReadsPieces : {D : Type 0} → (D → List Files) → D → D → ReaderState → ReaderState → Type 0
-ReadsPieces states old new before after = length (states new) + pieces_in (end_of before) ≡ length (states old) + pieces_in (end_of after)
+ReadsPieces states old new before after =
+    length (states new) + pieces_in (end_of before) ≡ length (states old) + pieces_in (end_of after)
 
 -- not more of them than for reading on as far as this place
 abbrev pub ReadsAtMost : {D : Type 0} → (D → List Files) → D → D → ReaderState → ℕ → Type 0
-ReadsAtMost states old new before end = length (states new) + pieces_in (end_of before) ≤ length (states old) + pieces_in end
+ReadsAtMost states old new before end =
+    length (states new) + pieces_in (end_of before) ≤ length (states old) + pieces_in end

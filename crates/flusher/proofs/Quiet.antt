@@ -100,8 +100,8 @@ by_release n b i (release.HasMissed h) p k = not_release i h.position h.reply k.
 by_release n b i (release.FoundFailure h) p k = not_release i h.position h.reply k.0
 
 pub by_capture : (n : ℕ) (b : Record) (i : ℕ) (s : CaptureStage) (p : Record) → FitsStage n b (ToSweep i) (stage.Capture s) p → ⊥
-by_capture n b i (capture.Begins alloc j) p k = not_capture i j k.0.task_is
-by_capture n b i (capture.HasTaken alloc t) p k = not_capture i t.stripe k.0
+by_capture n b i (capture.Begins j) p k = not_capture i j k.0.task_is
+by_capture n b i (capture.HasTaken t) p k = not_capture i t.stripe k.0
 by_capture n b i (capture.HasLooked t z) p k = not_capture i t.stripe k.0
 
 by_sweep : (n : ℕ) (b : Record) (i : ℕ) (s : SweepStage) (p : Record) → FitsStage n b (ToSweep i) (stage.Sweep s) p → IsQuiet b p

@@ -39,7 +39,8 @@ pub record IsUnbroken (store : StoreState) : Type 0 where
   pub writer : IfSome store.writer (λ w. w.is_broken ≡ false)
 
 -- The files hold a front of the history, with these entries staged as a batch, as the one knows who writes the store.
-pub record HoldsFront (h : History) (state : StoreState) (staged : List Entry) (must_close : Bool) (files : Files) : Type 0 where
+pub record HoldsFront (h : History) (state : StoreState) (staged : List Entry) (must_close : Bool)
+    (files : Files) : Type 0 where
   pub held : Held
   pub stands : store.Stands h state held files
   pub staged_is : held.staged ≡ batches_of state.log.committed staged
@@ -48,9 +49,11 @@ pub record HoldsFront (h : History) (state : StoreState) (staged : List Entry) (
 abbrev pub HoldsFor : {D : Type 0} → History → Keeper D → Files → Type 0
 HoldsFor h keeper files = HoldsFront h (store_of keeper) keeper.staged.items keeper.must_close files
 
--- Whatever a stop leaves of these files stands for a front of the history, with the committed commands and no more than the staged ones besides.
+-- Whatever a stop leaves of these files stands for a front of the history, with the committed commands and no more than
+-- the staged ones besides.
 abbrev pub StopsFit : {D : Type 0} → History → Keeper D → Files → Type 0
-StopsFit h keeper files = store.StopsStand h keeper.log.committed (keeper.log.committed + length keeper.staged.items) files
+StopsFit h keeper files =
+    store.StopsStand h keeper.log.committed (keeper.log.committed + length keeper.staged.items) files
 
 -- in these phases nothing is staged
 abbrev pub IsEmptyIn : Phase → List Entry → Type 0
@@ -83,7 +86,8 @@ pub record HasStripes {D : Type 0} (n : ℕ) (keeper : Keeper D) : Type 0 where
   pub writer : IfSome keeper.checkpoint (λ w. w.stripes ≡ n)
 
 -- What the disk holds, if it gives what was written.
-pub record Stores {D : Type 0} (states : D → List Files) (honest : D → Type 0) (keeper : Keeper D) (p : Record) : Type 0 where
+pub record Stores {D : Type 0} (states : D → List Files) (honest : D → Type 0) (keeper : Keeper D)
+    (p : Record) : Type 0 where
   pub unbroken : keeper.is_broken ≡ false → IsUnbroken (store_of keeper)
   pub works : keeper.is_broken ≡ false → honest keeper.disk → HoldsFor (history_of p) keeper (now (states keeper.disk))
   pub stopped : keeper.is_broken ≡ true → honest keeper.disk → StopsFit (history_of p) keeper (now (states keeper.disk))
@@ -92,8 +96,10 @@ pub record Stores {D : Type 0} (states : D → List Files) (honest : D → Type 
 abbrev pub AllowsKeys : LogState → Record → Type 0
 AllowsKeys log p = p.opening.key_limit ≤ (layout_of log.version).key_limit
 
--- The keeper over n stripes, and the record of its pass; the commands of `done` were committed since the pass's opening.
-pub record Fits {D : Type 0} (states : D → List Files) (honest : D → Type 0) (n : ℕ) (done : List Command) (keeper : Keeper D) (p : Record) : Type 0 where
+-- The keeper over n stripes, and the record of its pass; the commands of `done` were committed since the pass's
+-- opening.
+pub record Fits {D : Type 0} (states : D → List Files) (honest : D → Type 0) (n : ℕ) (done : List Command)
+    (keeper : Keeper D) (p : Record) : Type 0 where
   pub stands : Stands n keeper.sweeper (done ++ commands_of keeper.staged.items) p
   pub counts : Counts done keeper p
   pub tells : Tells keeper p
@@ -165,7 +171,8 @@ pub record GoesOnByCalls (p w : Record) : Type 0 where
 abbrev pub WereTaken : ℕ → List Command → Record → Type 0
 WereTaken first commands p = (e : Entry) → Contains (entries_from first commands) e → Contains p.taken e
 
--- What is committed is the front of the one history from the pass's opening on, and the pass's sweeps took each of its entries.
+-- What is committed is the front of the one history from the pass's opening on, and the pass's sweeps took each of its
+-- entries.
 pub record IsTakenFront (done : List Command) (count : ℕ) (p : Record) : Type 0 where
   pub rest : List Command
   pub front : p.seen ≡ done ++ rest

@@ -10,9 +10,10 @@ use Rattle.ticket_order.specs.Records.{IsWithin, entry, reach}
 use Rattle.ticket_order.specs.Legality.{entries_from}
 use Rattle.store_layout.specs.Hands.{Hand, Holds}
 
--- The entries in `taken` are exactly those of `gone`, which are no longer in hand, and those in hand. All of them are entries of `seen`. Both
--- lists of commands begin at the ticket `first`.
-pub record Accounts (hand : Hand) (gone : List Command) (first : ℕ) (taken : List Entry) (seen : List Command) : Type 0 where
+-- The entries in `taken` are exactly those of `gone`, which are no longer in hand, and those in hand. All of them are
+-- entries of `seen`. Both lists of commands begin at the ticket `first`.
+pub record Accounts (hand : Hand) (gone : List Command) (first : ℕ) (taken : List Entry)
+    (seen : List Command) : Type 0 where
   pub low : first ≤ hand.next
   pub reached : hand.next ≤ first + length gone
   pub each : (e : Entry) → Contains taken e → Contains (entries_from first gone) e ⊎ Holds hand e.ticket e.command
@@ -24,8 +25,9 @@ pub record Accounts (hand : Hand) (gone : List Command) (first : ℕ) (taken : L
 abbrev pub AreWithin : ℕ → List Entry → Type 0
 AreWithin limit entries = (e : Entry) → Contains entries e → IsWithin limit e.command
 
--- The sweeps of the keeper's pass took exactly the entries of `gone`, from the opening on, which are no longer in hand, and the entries in
--- hand. All of them are entries of the one history, and their keys are within the limit of this life.
+-- The sweeps of the keeper's pass took exactly the entries of `gone`, from the opening on, which are no longer in hand,
+-- and the entries in hand. All of them are entries of the one history, and their keys are within the limit of this
+-- life.
 pub record Gathers (hand : Hand) (gone : List Command) (p : Record) : Type 0 where
   pub keeper : p.keeper ≡ true
   pub accounts : Accounts hand gone p.opening.first p.taken p.seen
@@ -33,7 +35,8 @@ pub record Gathers (hand : Hand) (gone : List Command) (p : Record) : Type 0 whe
 
 -- all entries of `seen` that are below the count, and of the stripes before this one, of n, were taken
 abbrev pub AreTaken : ℕ → ℕ → ℕ → ℕ → List Entry → List Command → Type 0
-AreTaken n count stripe first taken seen = (e : Entry) → Contains (entries_from first seen) e → e.ticket < count → stripe_of n e.command.key < stripe → Contains taken e
+AreTaken n count stripe first taken seen = (e : Entry) → Contains (entries_from first seen) e → e.ticket < count
+    → stripe_of n e.command.key < stripe → Contains taken e
 
 -- A sweep, whose LOOK found this count, has taken all entries below the count of the stripes before this one, of n.
 pub record HasSweptBelow (n count stripe : ℕ) (p : Record) : Type 0 where

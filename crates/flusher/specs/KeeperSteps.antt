@@ -30,20 +30,29 @@ is_walking (SweepGives walk) = true
 abbrev pub passed : ℕ → Hand → Hand
 passed count hand = record { next = hand.next + count; slots = drop count hand.slots }
 
--- what a step of the logs leaves of the entries in hand: after the last sync of a batch its entries are no longer in hand
+-- what a step of the logs leaves of the entries in hand: after the last sync of a batch its entries are no longer in
+-- hand
 abbrev pub IsPast : Option LogState → Phase → Sweeper → List Entry → Sweeper → List Entry → Type 0
-IsPast None Opened old staged new left = (new ≡ record old { in_hand = passed (length staged) old.in_hand }) × (left ≡ [])
+IsPast None Opened old staged new left =
+    (new ≡ record old { in_hand = passed (length staged) old.in_hand }) × (left ≡ [])
 IsPast next phase old staged new left = (new ≡ old) × (left ≡ staged)
 
--- how many commands a step of the logs commits: with the last sync of a batch those of the batch, and none with an end frame's
+-- how many commands a step of the logs commits: with the last sync of a batch those of the batch, and none with an end
+-- frame's
 abbrev pub committed_by : Result Phase Refusal → Phase → List Entry → ℕ
 committed_by (Ok next) Opened staged = length staged
 committed_by result phase staged = 0
 
 -- these commands were staged as one batch, and taken out of their places
-pub record Stages (commands : List Command) (old : LogState) (hand : Hand) (new : LogState) (left : Hand) (staged : List Entry) : Type 0 where
+pub record Stages (commands : List Command) (old : LogState) (hand : Hand) (new : LogState) (left : Hand)
+    (staged : List Entry) : Type 0 where
   pub entries : staged ≡ entries_from hand.next commands
-  pub log : new ≡ record old { phase = Staged; count = length staged; frame = frame (layout_of old.version) (batch_of old.committed staged) ++ 0 ∷ [] }
+  pub log : new ≡ record old {
+    phase = Staged;
+    count = length staged;
+    frame = frame (layout_of old.version)
+        (batch_of old.committed staged) ++ 0 ∷ [];
+  }
   pub hand_is : left ≡ record hand { slots = replicate (length commands) None ++ drop (length commands) hand.slots }
 
 -- a batch may be staged: the log rests, and none is to follow it
@@ -52,7 +61,8 @@ MayStage log next = IsResting log × (next ≡ None)
 
 -- a batch of these commands would carry the log past its greatest length
 abbrev pub is_too_long : LogState → List Command → Type 0
-is_too_long log commands = most_log_bytes < log.gate + 1 + length (frame (layout_of log.version) (record { first = log.committed; commands = commands })) + 1
+is_too_long log commands = most_log_bytes < log.gate + 1 + length
+    (frame (layout_of log.version) (record { first = log.committed; commands = commands })) + 1
 
 -- there is something to stage, and it would
 pub record IsFull (most : ℕ) (log : LogState) (hand : Hand) : Type 0 where
@@ -67,7 +77,8 @@ pub record StaysAt (n : ℕ) (sweeper : Sweeper) (p : Record) : Type 0 where
   pub sweep_is : sweeper.sweep ≡ Some sweep
   pub below : HasSweptBelow n sweep.count sweep.stripe p
 
--- It stays at a stripe that it had taken: the last of the steps that the pass's record gained is the GIVE of that stripe.
+-- It stays at a stripe that it had taken: the last of the steps that the pass's record gained is the GIVE of that
+-- stripe.
 pub record HasGivenBack (sweeper : Sweeper) (p w : Record) : Type 0 where
   pub sweep : Sweep
   pub sweep_is : sweeper.sweep ≡ Some sweep

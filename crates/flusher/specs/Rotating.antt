@@ -48,7 +48,12 @@ ended_in phase newest next = record { newest = log_after phase newest; next = So
 -- once the header of the log that follows is on the disk, the end frame of the newest one is staged
 abbrev pub rotated_in : Phase → LogState → LogState → Logs
 rotated_in Header newest next = record { newest = newest; next = Some (log_after Header next) }
-rotated_in HeaderWritten newest next = record { newest = record newest { phase = Staged; ending = Some next.generation }; next = Some (log_after HeaderWritten next) }
+rotated_in HeaderWritten newest next =
+    record {
+      newest = record newest { phase = Staged; ending = Some next.generation };
+      next = Some
+          (log_after HeaderWritten next);
+    }
 rotated_in phase newest next = ended_in newest.phase newest next
 
 abbrev pub stepped_by : LogState → Option LogState → Logs
@@ -73,26 +78,31 @@ abbrev pub broken : Logs → Logs
 broken logs = broken_by logs.newest logs.next
 
 -- One step of the logs, in one of which a device call is due: it makes that call, and no other.
-pub record StepsLogs {D : Type 0} (states : D → List Files) (failures : D → ℕ) (honest : D → Type 0) (old new : Logs) (disk_old disk_new : D) (result : Result Phase Refusal) : Type 0 where
+pub record StepsLogs {D : Type 0} (states : D → List Files) (failures : D → ℕ) (honest : D → Type 0) (old new : Logs)
+    (disk_old disk_new : D) (result : Result Phase Refusal) : Type 0 where
   pub call : Call
   pub due : call_in (due_of old).phase (due_of old) ≡ Some call
   pub was_honest : honest disk_new → honest disk_old
   -- if it succeeds, the logs go on, and the phase is that of the log whose call comes next
-  pub ok : IfOk result (λ phase. (new ≡ stepped old) × (phase ≡ (due_of new).phase) × Makes states failures (log_file (due_of old).generation) call disk_old disk_new)
+  pub ok : IfOk result (λ phase. (new ≡ stepped old) × (phase ≡ (due_of new).phase)
+      × Makes states failures (log_file (due_of old).generation) call disk_old disk_new)
   -- if it fails, nothing of the logs changes but that one has failed
-  pub err : IfErr result (λ refusal. (refusal ≡ Failed) × (new ≡ broken old) × Fails states failures (log_file (due_of old).generation) call disk_old disk_new)
+  pub err : IfErr result (λ refusal. (refusal ≡ Failed) × (new ≡ broken old)
+      × Fails states failures (log_file (due_of old).generation) call disk_old disk_new)
 
 -- once its header is on the disk the newest log is told to end with this generation
 abbrev pub IsTold : Result Phase Refusal → ℕ → LogState → LogState → Result Phase Refusal → Type 0
-IsTold (Ok Idle) generation old new result = (result ≡ Ok Staged) × (new ≡ record old { phase = Staged; ending = Some generation })
+IsTold (Ok Idle) generation old new result =
+    (result ≡ Ok Staged) × (new ≡ record old { phase = Staged; ending = Some generation })
 IsTold stepped generation old new result = (result ≡ stepped) × (new ≡ old)
 
 -- ---- between the calls
 
--- The log that follows is begun behind the committed commands, and has its header alone. While that is written the newest log rests; then the
--- newest one ends. No batch is staged.
+-- The log that follows is begun behind the committed commands, and has its header alone. While that is written the
+-- newest log rests; then the newest one ends. No batch is staged.
 pub record Rotates (next newest : LogState) (staged : List Entry) : Type 0 where
-  pub is : next ≡ record (begun (newest.generation + 1) newest.committed) { phase = next.phase; is_broken = next.is_broken }
+  pub is : next ≡ record
+      (begun (newest.generation + 1) newest.committed) { phase = next.phase; is_broken = next.is_broken }
   pub turn : IsTurn next.phase newest
   pub ready : IsReady newest.phase
   pub none_staged : staged ≡ []

@@ -42,7 +42,8 @@ pub record IsSwept (n : ℕ) (begun : Record) (i : ℕ) (walk : Walk) (p : Recor
   pub one_made : length p.steps ≡ length begun.steps + 1
 
 -- the stripe is held, since its TAKE
-pub record IsHolding (n : ℕ) (sweep : Sweep) (walk : Walk) (hand : Hand) (gone : List Command) (p : Record) : Type 0 where
+pub record IsHolding (n : ℕ) (sweep : Sweep) (walk : Walk) (hand : Hand) (gone : List Command)
+    (p : Record) : Type 0 where
   pub begun : Record
   pub between : IsBetween n sweep hand gone begun
   pub taken : IsSwept n begun sweep.stripe walk p
@@ -97,7 +98,8 @@ AfterTake n sweep old new p w (Err refusal) = ⊥
 
 -- a GIVE kept the outbox, whose entries are in hand
 pub record DrainsStripe (n : ℕ) (sweep : Sweep) (walk : Walk) (old : Hand) (new : Sweeper) (p w : Record) : Type 0 where
-  pub swept : (begun : Record) → IsSwept n begun sweep.stripe walk p → SweepsStripe n begun sweep.stripe (entries_of_walk walk) w
+  pub swept : (begun : Record) → IsSwept n begun sweep.stripe walk p
+      → SweepsStripe n begun sweep.stripe (entries_of_walk walk) w
   -- they are the outbox that was held
   pub outbox : (begun : Record) → IsSwept n begun sweep.stripe walk p → entries_of_walk walk ≡ outbox_held p.holding
   pub collects : Collects old (entries_of_walk walk) new.in_hand
@@ -110,7 +112,8 @@ pub record GoesOn (n : ℕ) (sweep : Sweep) (walk : Walk) (old : Hand) (new : Sw
   pub walking : new.walking ≡ SweepTakes
 
 -- and the sweep is over
-pub record Ends (n : ℕ) (sweep : Sweep) (walk : Walk) (count : ℕ) (old : Hand) (new : Sweeper) (p w : Record) : Type 0 where
+pub record Ends (n : ℕ) (sweep : Sweep) (walk : Walk) (count : ℕ) (old : Hand) (new : Sweeper)
+    (p w : Record) : Type 0 where
   pub drains : DrainsStripe n sweep walk old new p w
   pub last : sweep.stripe + 1 ≡ n
   pub count_is : count ≡ sweep.count
@@ -118,7 +121,8 @@ pub record Ends (n : ℕ) (sweep : Sweep) (walk : Walk) (count : ℕ) (old : Han
   pub walking : new.walking ≡ Rests
 
 -- a GIVE put the stripe back as it was taken, for want of memory
-pub record PutsBack (n : ℕ) (sweep : Sweep) (walk : Walk) (refusal : Refusal) (old : Hand) (new : Sweeper) (p w : Record) : Type 0 where
+pub record PutsBack (n : ℕ) (sweep : Sweep) (walk : Walk) (refusal : Refusal) (old : Hand) (new : Sweeper)
+    (p w : Record) : Type 0 where
   pub refused : refusal ≡ NoMemory
   pub swept : (begun : Record) → IsSwept n begun sweep.stripe walk p → RefusesSweep begun sweep.stripe NoMemory w
   pub collects : Collects old [] new.in_hand
@@ -152,5 +156,6 @@ IsDone new gone w (Done count) = HasGathered new gone count w
 pub record IsReady (old new : Hand) (before walk : Walk) : Type 0 where
   pub swept : (n : ℕ) (begun : Record) (i : ℕ) (p : Record) → IsSwept n begun i before p → IsSwept n begun i walk p
   pub entries : refusal_of_walk walk ≡ None → entries_of_walk walk ≡ entries_of_walk before
-  pub room : refusal_of_walk walk ≡ None → (hand : Hand) → Gains new (entries_of_walk before) hand → Collects old (entries_of_walk before) hand
+  pub room : refusal_of_walk walk ≡ None → (hand : Hand) → Gains new (entries_of_walk before) hand
+      → Collects old (entries_of_walk before) hand
   pub same : Collects old [] new

@@ -25,14 +25,18 @@ pub record IsAheadDue (count : ℕ) (log : LogState) : Type 0 where
   pub within : log.gate + 1 + count ≤ most_log_bytes
 
 -- One write of `count` zeros behind the closed gate, and no other call. The log stands as it stood.
-pub record WritesAhead {D : Type 0} (states : D → List Files) (failures : D → ℕ) (honest : D → Type 0) (count : ℕ) (old new : LogState) (disk_old disk_new : D) (result : Result (Unit {0}) Refusal) : Type 0 where
+pub record WritesAhead {D : Type 0} (states : D → List Files) (failures : D → ℕ) (honest : D → Type 0) (count : ℕ)
+    (old new : LogState) (disk_old disk_new : D) (result : Result (Unit {0}) Refusal) : Type 0 where
   pub due : IsAheadDue count old
   pub was_honest : honest disk_new → honest disk_old
-  pub ok : OnOk result ((new ≡ old) × Makes states failures (log_file old.generation) (writes (old.gate + 1) (replicate count 0)) disk_old disk_new)
+  pub ok : OnOk result ((new ≡ old) × Makes states failures (log_file old.generation)
+      (writes (old.gate + 1) (replicate count 0)) disk_old disk_new)
   -- if it fails, nothing of the log changes but that it has failed
   pub err : IfErr result (λ refusal. (refusal ≡ Failed) × (new ≡ record old { is_broken = true })
       × Fails states failures (log_file old.generation) (writes (old.gate + 1) (replicate count 0)) disk_old disk_new)
-  pub stands : OnOk result ((batches staged : List Batch) → Stands old batches staged (now (states disk_old) (log_file old.generation))
+  pub stands : OnOk result ((batches staged : List Batch)
+      → Stands old batches staged (now (states disk_old) (log_file old.generation))
       → Stands new batches staged (now (states disk_new) (log_file old.generation)))
-  pub any_moment : (batches staged : List Batch) → Stands old batches staged (now (states disk_old) (log_file old.generation))
+  pub any_moment : (batches staged : List Batch) → Stands old batches staged
+      (now (states disk_old) (log_file old.generation))
       → AtEachMoment states disk_old disk_new (IsKept old batches staged (now (states disk_old)))

@@ -44,10 +44,12 @@ AtRest (Some next) log batches file = IsOpen (front_of log batches) (end_frame n
 abbrev pub AtPhase : Phase → LogState → List Batch → List Batch → File → Type 0
 AtPhase Header log batches staged file = (batches ≡ []) × HasNone log staged × (log.ending ≡ None)
 AtPhase HeaderWritten log batches staged file =
-    (batches ≡ []) × HasNone log staged × (log.ending ≡ None) × ((rest : List ℕ) × (file.seen ≡ header (layout_of log.version) log.generation log.low ++ 0 ∷ rest))
+    (batches ≡ []) × HasNone log staged × (log.ending ≡ None)
+    × ((rest : List ℕ) × (file.seen ≡ header (layout_of log.version) log.generation log.low ++ 0 ∷ rest))
 AtPhase Idle log batches staged file = HasNone log staged × AtRest log.ending log batches file
 AtPhase Staged log batches staged file = HasNext log.ending log staged × IsShut (front_of log batches) [] file
-AtPhase Written log batches staged file = HasNext log.ending log staged × IsShut (front_of log batches) (bytes_staged log.ending log.frame) file
+AtPhase Written log batches staged file =
+    HasNext log.ending log staged × IsShut (front_of log batches) (bytes_staged log.ending log.frame) file
 AtPhase Synced log batches staged file =
     HasNext log.ending log staged × IsShut (front_of log batches) (bytes_staged log.ending log.frame) file
     × IsOpening (front_of log batches) (bytes_staged log.ending log.frame) file
@@ -72,21 +74,26 @@ IsReady Opened = Unit {0}
 
 -- what was staged is committed in this content
 abbrev pub IsDone : Option ℕ → LogState → List Batch → List Batch → List ℕ → Type 0
-IsDone None log batches staged content = IsClosed (layout_of log.version) log.generation log.low (batches ++ staged) content
-IsDone (Some next) log batches staged content = IsEnded (layout_of log.version) log.generation log.low batches next content
+IsDone None log batches staged content =
+    IsClosed (layout_of log.version) log.generation log.low (batches ++ staged) content
+IsDone (Some next) log batches staged content =
+    IsEnded (layout_of log.version) log.generation log.low batches next content
 
 -- The content has the committed batches, or what is staged too.
 abbrev pub IsBeforeOrAfter : LogState → List Batch → List Batch → List ℕ → Type 0
 IsBeforeOrAfter log batches staged content =
-    IsClosed (layout_of log.version) log.generation log.low batches content ⊎ IsDone log.ending log batches staged content
+    IsClosed (layout_of log.version) log.generation log.low batches content
+    ⊎ IsDone log.ending log batches staged content
 
 -- the same, but a log that has ended reads as ended
 abbrev pub MayRead : Phase → Option ℕ → LogState → List Batch → List Batch → List ℕ → Type 0
-MayRead Idle (Some next) log batches staged content = IsEnded (layout_of log.version) log.generation log.low batches next content
+MayRead Idle (Some next) log batches staged content =
+    IsEnded (layout_of log.version) log.generation log.low batches next content
 MayRead phase ending log batches staged content = IsBeforeOrAfter log batches staged content
 
--- The other files are as they were at the start. Once the header is on the disk, a stop leaves a log with the committed batches, or with
--- what is staged too.
+-- The other files are as they were at the start. Once the header is on the disk, a stop leaves a log with the committed
+-- batches, or with what is staged too.
 pub record IsKept (log : LogState) (batches staged : List Batch) (start files : Files) : Type 0 where
   pub others : (n : ℕ) → n ≢ log_file log.generation → files n ≡ start n
-  pub reads : IsReady log.phase → (content : List ℕ) → MayLeave (files (log_file log.generation)) content → MayRead log.phase log.ending log batches staged content
+  pub reads : IsReady log.phase → (content : List ℕ) → MayLeave (files (log_file log.generation)) content
+      → MayRead log.phase log.ending log batches staged content

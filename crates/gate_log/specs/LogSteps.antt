@@ -25,18 +25,25 @@ staged_after phase staged = staged
 -- the log has failed, or its file stands as it is known to
 abbrev pub MayAdvance : {D : Type 0} → (D → List Files) → (D → Type 0) → LogState → D → Type 0
 MayAdvance states honest log disk =
-    log.is_broken ≡ false → honest disk → (batches : List Batch) × (staged : List Batch) × Stands log batches staged (now (states disk) (log_file log.generation))
+    log.is_broken ≡ false → honest disk → (batches : List Batch) × (staged : List Batch)
+    × Stands log batches staged (now (states disk) (log_file log.generation))
 
 -- One step of a log that has not failed, and in which a device call is due: it makes that call, and no other.
-pub record Advances {D : Type 0} (states : D → List Files) (failures : D → ℕ) (honest : D → Type 0) (old new : LogState) (disk_old disk_new : D) (result : Result Phase Refusal) : Type 0 where
+pub record Advances {D : Type 0} (states : D → List Files) (failures : D → ℕ) (honest : D → Type 0) (old new : LogState)
+    (disk_old disk_new : D) (result : Result Phase Refusal) : Type 0 where
   pub call : Call
   pub due : call_in old.phase old ≡ Some call
   pub was_honest : honest disk_new → honest disk_old
   -- if it succeeds, the log goes on
-  pub ok : IfOk result (λ phase. (new ≡ log_after old.phase old) × (phase ≡ new.phase) × Makes states failures (log_file old.generation) call disk_old disk_new)
+  pub ok : IfOk result (λ phase. (new ≡ log_after old.phase old) × (phase ≡ new.phase)
+      × Makes states failures (log_file old.generation) call disk_old disk_new)
   -- if it fails, nothing of the log changes but that it has failed
-  pub err : IfErr result (λ refusal. (refusal ≡ Failed) × (new ≡ record old { is_broken = true }) × Fails states failures (log_file old.generation) call disk_old disk_new)
-  pub stands : OnOk result ((batches staged : List Batch) → Stands old batches staged (now (states disk_old) (log_file old.generation))
-      → Stands new (committed_after old.phase batches staged) (staged_after old.phase staged) (now (states disk_new) (log_file old.generation)))
-  pub any_moment : (batches staged : List Batch) → Stands old batches staged (now (states disk_old) (log_file old.generation))
+  pub err : IfErr result (λ refusal. (refusal ≡ Failed) × (new ≡ record old { is_broken = true })
+      × Fails states failures (log_file old.generation) call disk_old disk_new)
+  pub stands : OnOk result ((batches staged : List Batch)
+      → Stands old batches staged (now (states disk_old) (log_file old.generation))
+      → Stands new (committed_after old.phase batches staged) (staged_after old.phase staged)
+      (now (states disk_new) (log_file old.generation)))
+  pub any_moment : (batches staged : List Batch) → Stands old batches staged
+      (now (states disk_old) (log_file old.generation))
       → AtEachMoment states disk_old disk_new (IsKept old batches staged (now (states disk_old)))

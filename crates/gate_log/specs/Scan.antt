@@ -1,4 +1,5 @@
--- What a scan of a log file finds. The relations speak of the file's content, and of the batches before the gate that the scan is at.
+-- What a scan of a log file finds. The relations speak of the file's content, and of the batches before the gate that
+-- the scan is at.
 use Rattle.std.specs.Prelude.{◌≡◌, ◌≢◌, ◌⊎◌, ◌≤◌, ℕ, ◌+◌, List, [], ◌∷◌, ◌++◌, length}
 use Rattle.disk_model.specs.Files.{Files, now}
 use Rattle.disk_model.specs.Gates.{open_gate}
@@ -27,8 +28,10 @@ pub record ScanState : Type 0 where
   -- what it has read of the file
   pub reader : ReaderState
 
--- The scan has read the header and these batches, and behind them the content has a gate. It holds bytes of this content.
-pub record HasRead (layout : Layout) (low : ℕ) (batches : List Batch) (scan : ScanState) (content : List ℕ) : Type 0 where
+-- The scan has read the header and these batches, and behind them the content has a gate. It holds bytes of this
+-- content.
+pub record HasRead (layout : Layout) (low : ℕ) (batches : List Batch) (scan : ScanState)
+    (content : List ℕ) : Type 0 where
   pub byte : ℕ
   pub rest : List ℕ
   pub bytes : content ≡ log_front layout scan.generation low batches ++ byte ∷ rest
@@ -40,20 +43,25 @@ pub record HasRead (layout : Layout) (low : ℕ) (batches : List Batch) (scan : 
 -- At a gate `size` bytes are read. A closed gate is read alone, and an open one with the frame and the gate behind it.
 pub data ReadsAtGate (layout : Layout) (tail : List ℕ) (size : ℕ) : Type 0 where
   shut : (byte : ℕ) (rest : List ℕ) → byte ≢ open_gate → tail ≡ byte ∷ rest → size ≡ 1 → ReadsAtGate layout tail size
-  whole_batch : (batch : Batch) (after : ℕ) (behind : List ℕ) → IsBatch layout batch → tail ≡ open_gate ∷ (frame layout batch ++ after ∷ behind) → size ≡ 2 + length (frame layout batch)
+  whole_batch : (batch : Batch) (after : ℕ) (behind : List ℕ) → IsBatch layout batch
+      → tail ≡ open_gate ∷ (frame layout batch ++ after ∷ behind) → size ≡ 2 + length (frame layout batch)
       → ReadsAtGate layout tail size
-  whole_end : (next after : ℕ) (behind : List ℕ) → tail ≡ open_gate ∷ (end_frame next ++ after ∷ behind) → size ≡ 2 + length (end_frame next) → ReadsAtGate layout tail size
+  whole_end : (next after : ℕ) (behind : List ℕ) → tail ≡ open_gate ∷ (end_frame next ++ after ∷ behind)
+      → size ≡ 2 + length (end_frame next) → ReadsAtGate layout tail size
 
 -- The entries are the next batch, and the scan goes on behind it.
-pub record IsNextBatch (layout : Layout) (low : ℕ) (batches : List Batch) (entries : List Entry) (old new : ScanState) (content : List ℕ) : Type 0 where
+pub record IsNextBatch (layout : Layout) (low : ℕ) (batches : List Batch) (entries : List Entry) (old new : ScanState)
+    (content : List ℕ) : Type 0 where
   pub tickets : AreFrom old.expected entries
   pub fits : IsBatch layout (batch_of old.expected entries)
   pub read : HasRead layout low (batches ++ batch_of old.expected entries ∷ []) new content
 
 -- what stands behind these batches
 abbrev pub IsFound : Layout → ℕ → List Batch → ScanState → ScanState → List ℕ → Found → Type 0
-IsFound layout low batches old new content (found_batch entries) = IsNextBatch layout low batches entries.items old new content
-IsFound layout low batches old new content Ended = IsEnded layout old.generation low batches (old.generation + 1) content
+IsFound layout low batches old new content (found_batch entries) =
+    IsNextBatch layout low batches entries.items old new content
+IsFound layout low batches old new content Ended =
+    IsEnded layout old.generation low batches (old.generation + 1) content
 IsFound layout low batches old new content Closed = IsClosed layout old.generation low batches content
 
 -- the scan is at the gate that it was at
@@ -72,13 +80,16 @@ last_gate old new Closed = old.gate
 -- how the scan goes on
 abbrev pub GoesOn : ScanState → ScanState → Found → Type 0
 GoesOn old new (found_batch entries) =
-    (new.generation ≡ old.generation) × (new.expected ≡ old.expected + length entries.items) × (old.gate ≤ new.gate) × (new.version ≡ old.version)
+    (new.generation ≡ old.generation) × (new.expected ≡ old.expected + length entries.items) × (old.gate ≤ new.gate)
+    × (new.version ≡ old.version)
 GoesOn old new Ended = IsStill old new
 GoesOn old new Closed = IsStill old new
 
--- A device call failed, or memory was wanting, or the log of this generation is damaged at this gate, for which there is this reason.
+-- A device call failed, or memory was wanting, or the log of this generation is damaged at this gate, for which there
+-- is this reason.
 abbrev pub RefusesAt : ℕ → ℕ → Type 0 → Refusal → Type 0
-RefusesAt generation gate Reason refusal = (refusal ≡ Failed) ⊎ ((refusal ≡ NoMemory) ⊎ ((refusal ≡ Damaged (log_file generation) gate) × Reason))
+RefusesAt generation gate Reason refusal =
+    (refusal ≡ Failed) ⊎ ((refusal ≡ NoMemory) ⊎ ((refusal ≡ Damaged (log_file generation) gate) × Reason))
 
 -- the same of the gate that the scan is at
 abbrev pub RefusesFor : ScanState → Type 0 → Refusal → Type 0

@@ -31,6 +31,14 @@ impl StripeCount {
     {
         usize::from(self.count)
     }
+
+    // By how many bits a number is shifted in place of a division by the number of stripes.
+    fn shift(self) -> u32
+        ensures power { 2 ^ result ≡ self.count }
+        ensures within { result < 64 }
+    {
+        self.count.trailing_zeros()
+    }
 }
 
 /// The stripe of the key `text`.
@@ -57,5 +65,5 @@ pub fn bin_of(spread: u32, stripes: StripeCount, bins: usize) -> usize
     ensures value { result ≡ bin_of stripes.count bins spread }
     ensures within { result < bins }
 {
-    (spread as usize / stripes.get()) & (bins - 1)
+    (spread as usize >> stripes.shift()) & (bins - 1)
 }

@@ -64,6 +64,18 @@ impl<T: Keyed<K> + Drop, K> KeyedLock<T, K> {
         unreachable!()
     }
 
+    /// Takes the value out, if no other thread has its turn. It doesn't wait.
+    pub fn try_lock<'a>(&'a self) -> Option<(T, Loan<'a, T, K>)>
+        ensures fits { IfSome result (λ taken. T.fits (key_of self.now) taken.0) }
+        ensures loan { IfSome result (λ taken. IsLoanOf self.now taken.1) }
+    {
+        let turn = self.turns.try_lock()?;
+        match self.take() {
+            Some((value, seat)) => Some((value, Loan { turn, seat })),
+            None => None,
+        }
+    }
+
     /// Puts a value back, and lets the next thread have its turn.
     pub fn give_back(&self, value: T, loan: Loan<'_, T, K>)
         requires fits { T.fits (key_of self.now) value }

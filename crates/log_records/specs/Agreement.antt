@@ -13,10 +13,13 @@ pub record Takes (bytes text rest : List ℕ) : Type 0 where
   pub rest_fits : IsBytes rest
 
 -- What is read was spelled so, and what is spelled so is read again, whatever follows it.
-pub record Agrees {A : Type 0} (read : List ℕ → Result (A × List ℕ) Refusal) (bytes_of : A → List ℕ) (Fits : A → Type 0) : Type 0 where
-  pub takes : (bytes : List ℕ) (x : A) (rest : List ℕ) → IsBytes bytes → read bytes ≡ Ok (x, rest) → Takes bytes (bytes_of x) rest × Fits x
+pub record Agrees {A : Type 0} (read : List ℕ → Result (A × List ℕ) Refusal) (bytes_of : A → List ℕ)
+    (Fits : A → Type 0) : Type 0 where
+  pub takes : (bytes : List ℕ) (x : A) (rest : List ℕ) → IsBytes bytes → read bytes ≡ Ok (x, rest)
+      → Takes bytes (bytes_of x) rest × Fits x
   pub again : (x : A) (rest : List ℕ) → Fits x → read (bytes_of x ++ rest) ≡ Ok (x, rest)
 
 -- If bytes are missing at the end, reading refuses just that.
 abbrev pub RefusesCuts : {A : Type 0} → (List ℕ → Result (A × List ℕ) Refusal) → (A → List ℕ) → (A → Type 0) → Type 0
-RefusesCuts {A = A} read bytes_of Fits = (x : A) (n : ℕ) → Fits x → n < length (bytes_of x) → read (take n (bytes_of x)) ≡ Err BadFrame
+RefusesCuts {A = A} read bytes_of Fits =
+    (x : A) (n : ℕ) → Fits x → n < length (bytes_of x) → read (take n (bytes_of x)) ≡ Err BadFrame

@@ -1,4 +1,5 @@
--- Reading from left to right, with the first refusal that is met. Each reader gives what it read and the bytes behind it.
+-- Reading from left to right, with the first refusal that is met. Each reader gives what it read and the bytes behind
+-- it.
 use Rattle.std.specs.Prelude.{◌≡◌, ◌⊎◌, ◌<◌, ◌+◌, ◌^◌, ℕ, ℤ, zero, suc, List, [], ◌∷◌, length, take, drop, Option, Some, None, Result, Ok, Err, nat_lt, ◌==◌, if◌then◌else◌}
 use Rattle.std.specs.Int.{w64, cast_signed}
 use Rattle.std.specs.Str.{is_utf8}
@@ -39,7 +40,8 @@ made make read = do
   Ok (make x.0, x.1)
 
 -- one field, and then another
-abbrev pub both_at : {A B : Type 0} → (List ℕ → Result (A × List ℕ) Refusal) → (List ℕ → Result (B × List ℕ) Refusal) → List ℕ → Result ((A × B) × List ℕ) Refusal
+abbrev pub both_at : {A B : Type 0} → (List ℕ → Result (A × List ℕ) Refusal) → (List ℕ → Result (B × List ℕ) Refusal)
+    → List ℕ → Result ((A × B) × List ℕ) Refusal
 both_at first_at second_at bytes = do
   x ← first_at bytes
   y ← second_at x.1
@@ -48,7 +50,8 @@ both_at first_at second_at bytes = do
 -- the one of these that has the number
 unfoldable pub numbered : {A : Type 0} → (A → ℕ) → Refusal → List A → ℕ → Result A Refusal
 numbered number_of unknown [] number = Err unknown
-numbered number_of unknown (x ∷ rest) number = if number_of x == number then Ok x else numbered number_of unknown rest number
+numbered number_of unknown (x ∷ rest) number =
+    if number_of x == number then Ok x else numbered number_of unknown rest number
 
 -- a number of `width` bytes
 unfoldable pub number_at : ℕ → List ℕ → Result (ℕ × List ℕ) Refusal
@@ -116,7 +119,8 @@ change_at PutIfAbsent bytes = made (λ value. change.PutIfAbsent value) (some_va
 change_at Remove bytes = Ok (change.Remove, bytes)
 change_at RemoveIf bytes = made (λ value. change.RemoveIf value) (some_value_at bytes)
 change_at Replace bytes = made (λ value. change.Replace value) (some_value_at bytes)
-change_at ReplaceIf bytes = made (λ values. change.ReplaceIf values.0 values.1) (both_at some_value_at some_value_at bytes)
+change_at ReplaceIf bytes =
+    made (λ values. change.ReplaceIf values.0 values.1) (both_at some_value_at some_value_at bytes)
 change_at Compute bytes = made (λ call. change.Compute call.0 call.1) (both_at func_at value_at bytes)
 change_at ComputeIfAbsent bytes = made (λ call. change.ComputeIfAbsent call.0 call.1) (both_at func_at value_at bytes)
 change_at ComputeIfPresent bytes = made (λ call. change.ComputeIfPresent call.0 call.1) (both_at func_at value_at bytes)

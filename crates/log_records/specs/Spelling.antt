@@ -39,7 +39,8 @@ argument_bytes (ComputeIfPresent func argument) = func_number func ∷ value_byt
 argument_bytes (Merge func value) = func_number func ∷ value_bytes (Some value)
 
 abbrev pub record_bytes : Layout → Command → List ℕ
-record_bytes layout command = method_number (method_of command.change) ∷ (key_bytes layout command.key ++ argument_bytes command.change)
+record_bytes layout command =
+    method_number (method_of command.change) ∷ (key_bytes layout command.key ++ argument_bytes command.change)
 
 -- each has a spelling
 abbrev pub Any : {A : Type 0} → A → Type 0

@@ -6,7 +6,8 @@ use Rattle.map_types.specs.declared.commands.Reply.{Reply}
 use Rattle.map_model.specs.Maps.{Map}
 use Rattle.map_model.specs.Steps.{step, answer, map_after}
 
--- A history whose first `first` commands are known by the map after them alone. The command with ticket t, from `first` on, is number t - first of `commands`.
+-- A history whose first `first` commands are known by the map after them alone. The command with ticket t, from `first`
+-- on, is number t - first of `commands`.
 pub record History : Type 0 where
   pub first : ℕ
   pub opening : Map

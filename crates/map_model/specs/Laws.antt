@@ -14,16 +14,19 @@ PartsMakeTheMap = (n : ℕ) (m : Map) → 0 < n → union_of (parts_of n m) ≡ 
 -- a step on a key of the stripe is the same step on the part, and leaves the parts of the other stripes
 abbrev pub StepsStayInTheirPart : Type 0
 StepsStayInTheirPart = (n s : ℕ) (m : Map) (c : Command) →
-    (is_in_stripe n s c.key ≡ true → step (part_of n s m) c ≡ record { map = part_of n s (step m c).map; reply = (step m c).reply })
+    (is_in_stripe n s c.key ≡ true → step (part_of n s m) c
+    ≡ record { map = part_of n s (step m c).map; reply = (step m c).reply })
     × (is_in_stripe n s c.key ≡ false → part_of n s (step m c).map ≡ part_of n s m)
 
 -- a read of a key of the stripe returns on the part what it returns on the map
 abbrev pub AnswersStayInTheirPart : Type 0
-AnswersStayInTheirPart = (n s : ℕ) (m : Map) (r : Read) → is_in_stripe n s r.key ≡ true → answer (part_of n s m) r ≡ answer m r
+AnswersStayInTheirPart =
+    (n s : ℕ) (m : Map) (r : Read) → is_in_stripe n s r.key ≡ true → answer (part_of n s m) r ≡ answer m r
 
 -- the part of the map after commands is the part after the commands on its keys
 abbrev pub PartsFoldAlone : Type 0
-PartsFoldAlone = (n s : ℕ) (m : Map) (cs : List Command) → part_of n s (map_after m cs) ≡ map_after (part_of n s m) (commands_of n s cs)
+PartsFoldAlone = (n s : ℕ) (m : Map) (cs : List Command)
+    → part_of n s (map_after m cs) ≡ map_after (part_of n s m) (commands_of n s cs)
 
 -- a change is legal at each place where it stands in the history, with the reply on the map before it
 abbrev pub ChangesAreLegalInPlace : Type 0

@@ -32,11 +32,15 @@ outcome old (PutIfAbsent v) = record { value = (if is_some old then old else Som
 outcome old Remove = record { value = None; reply = Was old }
 outcome old (RemoveIf v) = record { value = (if is_value old v then None else old); reply = Did (is_value old v) }
 outcome old (Replace v) = record { value = (if is_some old then Some v else None); reply = Was old }
-outcome old (ReplaceIf expected new) = record { value = (if is_value old expected then Some new else old); reply = Did (is_value old expected) }
+outcome old (ReplaceIf expected new) =
+    record { value = (if is_value old expected then Some new else old); reply = Did (is_value old expected) }
 outcome old (Compute f arg) = computed old (apply f old arg)
-outcome old (ComputeIfAbsent f arg) = if is_some old then record { value = old; reply = Now old } else computed old (apply f None arg)
-outcome old (ComputeIfPresent f arg) = if is_some old then computed old (apply f old arg) else record { value = None; reply = Now None }
-outcome old (Merge f v) = if is_some old then computed old (apply f old (Some v)) else record { value = Some v; reply = Now (Some v) }
+outcome old (ComputeIfAbsent f arg) =
+    if is_some old then record { value = old; reply = Now old } else computed old (apply f None arg)
+outcome old (ComputeIfPresent f arg) =
+    if is_some old then computed old (apply f old arg) else record { value = None; reply = Now None }
+outcome old (Merge f v) =
+    if is_some old then computed old (apply f old (Some v)) else record { value = Some v; reply = Now (Some v) }
 
 pub record Stepped : Type 0 where
   pub map : Map
@@ -44,7 +48,8 @@ pub record Stepped : Type 0 where
 
 -- the map and the reply after one change
 abbrev pub step : Map → Command → Stepped
-step m c = let after = outcome (finite.get m c.key) c.change in record { map = assign m c.key after.value; reply = after.reply }
+step m c = let after = outcome (finite.get m c.key) c.change in
+    record { map = assign m c.key after.value; reply = after.reply }
 
 -- the reply to one read
 abbrev pub answer_at : Option Value → Question → Reply

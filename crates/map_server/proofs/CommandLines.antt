@@ -37,11 +37,11 @@ first_of_mem : (named : Option (Text × List Row)) (letter : ℕ) (text : Text) 
 unfolding first_letter
 first_of_mem named letter text Given is mem = ap first_letter (sym (ap name_of is.1) ∙ mem)
 
-module _ {D R W : Type 0} (states : D → List Files) (failures : D → ℕ) (honest : D → Type 0) (IsOpened IsCreated : Text → D → Type 0)
+module _ {D R W L : Type 0} (states : D → List Files) (failures : D → ℕ) (honest : D → Type 0) (IsOpened IsCreated : Text → D → Type 0)
     (IsRefused : Text → Error → Type 0) (Fails : Option (List ℕ) → Option (List ℕ) → ReplyError → Type 0) (remaining : R → Option (List ℕ)) (contents : W → Option (List ℕ)) (IsConnected : Place → R → W → Type 0)
-    (IsUnreachable : Place → Error → Type 0) (words : List Text) where
+    (IsUnreachable : Place → Error → Type 0) (IsListener : Text → ℕ → L → Type 0) (words : List Text) where
   serves_mem : (order : Order) (r0 r1 w0 w1 : Option (List ℕ)) (status : ℕ) → Asks (named_by words) order
-      → Does states failures honest IsOpened IsCreated IsRefused Fails remaining contents IsConnected IsUnreachable order r0 r1 w0 w1 status
+      → Does states failures honest IsOpened IsCreated IsRefused Fails remaining contents IsConnected IsUnreachable IsListener order r0 r1 w0 w1 status
       → name_of (named_by words) ≡ Some (codes "mem") → Serves r0 r1 w0 w1 status
   serves_mem Mem r0 r1 w0 w1 status asked done is = done
   serves_mem (Init directory stripes) r0 r1 w0 w1 status asked done is = let bad = first_of_mem (named_by words) 105 _ _ asked is in absurd (omega arith)
@@ -51,8 +51,8 @@ module _ {D R W : Type 0} (states : D → List Files) (failures : D → ℕ) (ho
   serves_mem (Sim file) r0 r1 w0 w1 status asked done is = let bad = first_of_mem (named_by words) 115 _ _ asked is in absurd (omega arith)
 
   pub obeys : (order : Order) (r0 r1 w0 w1 : Option (List ℕ)) (status : ℕ) → faults words ≡ [] → Asks (named_by words) order
-      → Does states failures honest IsOpened IsCreated IsRefused Fails remaining contents IsConnected IsUnreachable order r0 r1 w0 w1 status
-      → Ran states failures honest IsOpened IsCreated IsRefused Fails remaining contents IsConnected IsUnreachable words r0 r1 w0 w1 status
+      → Does states failures honest IsOpened IsCreated IsRefused Fails remaining contents IsConnected IsUnreachable IsListener order r0 r1 w0 w1 status
+      → Ran states failures honest IsOpened IsCreated IsRefused Fails remaining contents IsConnected IsUnreachable IsListener words r0 r1 w0 w1 status
   obeys order r0 r1 w0 w1 status none asked done = record {
     mem = λ name e. serves_mem order r0 r1 w0 w1 status asked done (ap (λ (ws : List Text). name_of (named_by ws)) e ∙ mem_is_named name);
     known = λ e. inl (record { order = order; asked = asked; done = done });
@@ -60,7 +60,7 @@ module _ {D R W : Type 0} (states : D → List Files) (failures : D → ℕ) (ho
   }
 
   pub advised : (r w0 w1 : Option (List ℕ)) (status : ℕ) (fault : ErrorKind) → (fault ≡ OutOfMemory) ⊎ IsAmong fault (faults words) → Advises fault w0 w1 status
-      → Ran states failures honest IsOpened IsCreated IsRefused Fails remaining contents IsConnected IsUnreachable words r r w0 w1 status
+      → Ran states failures honest IsOpened IsCreated IsRefused Fails remaining contents IsConnected IsUnreachable IsListener words r r w0 w1 status
   advised r w0 w1 status fault is a =
       let wanting : faults words ≡ [] → FindsNoMemory w0 w1 status = λ e. no_memory (faults words) fault w0 w1 status is a e in
       record {

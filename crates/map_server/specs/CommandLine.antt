@@ -1,9 +1,9 @@
 -- The command lines that are known, as the library that reads them sees them.
-use Rattle.std.specs.Prelude.{◌≡◌, ◌≢◌, ◌⊎◌, ℕ, true, List, [], map, Option, Some, codes, option_map, unwrap_or}
-use Rattle.clap.specs.Words.{App, Row, Rule, Text, IsAmong, Kinds, all_of, fault_of, first_of, new_app, new_rule, subcommand_of, with_rule, with_subcommand}
+use Rattle.std.specs.Prelude.{◌≡◌, ◌≢◌, ◌⊎◌, ℕ, Bool, true, false, List, [], map, Option, None, Some, codes, option_map, unwrap_or}
+use Rattle.clap.specs.Words.{App, Row, Rule, Text, IsAmong, Kinds, all_of, fault_of, first_of, new_app, new_rule, one_of, subcommand_of, with_rule, with_subcommand}
 use Rattle.clap.specs.Simple.{on_top}
 use Rattle.clap.specs.Lexer.{usize_max}
-use Rattle.clap.specs.declared.builder.action.ArgAction.TheVariants.{Set, Append}
+use Rattle.clap.specs.declared.builder.action.ArgAction.TheVariants.{Set, Append, SetTrue}
 use Rattle.std.specs.Borrow.{Bor}
 use Rattle.cmd_call.specs.declared.places.PlaceWords.{PlaceWords}
 use Rattle.cmd_serve.specs.declared.server.ServerWords.{ServerWords}
@@ -20,11 +20,12 @@ directory_rule = record (new_rule (codes "DIR")) { required = true; action = Som
 abbrev pub option_rule : Text → Rule
 option_rule name = record (new_rule name) { long = Some name; action = Some Set; value_names = 1 }
 
--- `--port P`, which is wanted
-abbrev pub port_rule : Rule
-port_rule = record (option_rule (codes "port")) { required = true }
+-- an option of this name that takes no value
+abbrev pub flag_rule : Text → Rule
+flag_rule name = record (new_rule name) { long = Some name; action = Some SetTrue }
 
--- the words of a call, at least one: with the first of them they begin, and each behind it is one, whatever it looks like
+-- the words of a call, at least one: with the first of them they begin, and each behind it is one, whatever it looks
+-- like
 abbrev pub words_rule : Rule
 words_rule = record (new_rule (codes "METHOD")) {
   required = true;
@@ -49,12 +50,17 @@ check_line = with_rule (new_app (codes "check")) directory_rule
 
 abbrev pub serve_line : App
 serve_line =
-    with_rule (with_rule (with_rule (with_rule (with_rule (with_rule (with_rule (with_rule (new_app (codes "serve")) directory_rule) port_rule)
+    with_rule (with_rule (with_rule (with_rule
+    (with_rule (with_rule (with_rule (with_rule
+    (with_rule (with_rule (with_rule (new_app (codes "serve")) directory_rule)
+    (option_rule (codes "port"))) (option_rule (codes "socket"))) (option_rule (codes "socket-mode")))
     (option_rule (codes "stripes"))) (option_rule (codes "workers"))) (option_rule (codes "connections")))
-    (option_rule (codes "checkpoint-bytes"))) (option_rule (codes "idle-seconds"))) (option_rule (codes "log-ahead"))
+    (option_rule (codes "checkpoint-bytes"))) (option_rule (codes "idle-seconds"))) (option_rule (codes "log-ahead")))
+    (flag_rule (codes "standby"))
 
 abbrev pub call_line : App
-call_line = with_rule (with_rule (with_rule (new_app (codes "call")) (option_rule (codes "port"))) (option_rule (codes "socket"))) words_rule
+call_line = with_rule (with_rule (with_rule (new_app (codes "call")) (option_rule (codes "port")))
+    (option_rule (codes "socket"))) words_rule
 
 abbrev pub sim_line : App
 sim_line = with_rule (new_app (codes "sim")) file_rule
@@ -66,7 +72,9 @@ bare_line = on_top (λ s. record s { subcommand_required = true; has_version = t
 -- `dchm`, which wants one of its subcommands
 abbrev pub command_line : App
 command_line =
-    with_subcommand (with_subcommand (with_subcommand (with_subcommand (with_subcommand (with_subcommand bare_line mem_line.top) init_line.top) check_line.top) serve_line.top)
+    with_subcommand (with_subcommand (with_subcommand
+    (with_subcommand
+    (with_subcommand (with_subcommand bare_line mem_line.top) init_line.top) check_line.top) serve_line.top)
     call_line.top) sim_line.top
 
 -- what is wrong with the words, the program's name first, or help if they ask for it; nothing if they are known
@@ -89,9 +97,6 @@ word_or other id rows = unwrap_or (first_of id rows) other
 abbrev pub directory_in : List Row → Text
 directory_in rows = word_or [] (codes "DIR") rows
 
-abbrev pub port_in : List Row → Text
-port_in rows = word_or [] (codes "port") rows
-
 -- `--stripes S`, which is 16 if left out
 abbrev pub stripes_in : List Row → Text
 stripes_in rows = word_or (codes "16") (codes "stripes") rows
@@ -100,19 +105,29 @@ stripes_in rows = word_or (codes "16") (codes "stripes") rows
 abbrev pub call_in : List Row → List Text
 call_in rows = unwrap_or (all_of (codes "METHOD") rows) []
 
--- what `serve` is given; 4 workers, 10000 connections, 67108864 bytes, 0 seconds and 1048576 zeros if left out
+abbrev pub word_of : Option (Bor Text) → Option Text
+word_of word = option_map (λ w. w.now) word
+
+-- the option that takes no value is given, or it isn't
+pub record GivesFlag (id : Text) (rows : List Row) (is_given : Bool) : Type 0 where
+  pub absent : one_of id rows ≡ None → is_given ≡ false
+  pub default : one_of id rows ≡ Some (codes "false") → is_given ≡ false
+  pub given : one_of id rows ≡ Some (codes "true") → is_given ≡ true
+
+-- What `serve` is given. The port and the path may be left out; then 600, 4 workers, 10000 connections, 67108864 bytes,
+-- 0 seconds and 1048576 zeros, each if it is left out.
 pub record GivesServer (rows : List Row) (words : ServerWords) : Type 0 where
   pub directory : words.directory.now ≡ directory_in rows
-  pub port : words.port.now ≡ port_in rows
+  pub standby : GivesFlag (codes "standby") rows words.standby
+  pub port : word_of words.port ≡ first_of (codes "port") rows
+  pub socket : word_of words.socket ≡ first_of (codes "socket") rows
+  pub mode : words.mode.now ≡ word_or (codes "600") (codes "socket-mode") rows
   pub stripes : words.stripes.now ≡ stripes_in rows
   pub workers : words.workers.now ≡ word_or (codes "4") (codes "workers") rows
   pub connections : words.connections.now ≡ word_or (codes "10000") (codes "connections") rows
   pub bytes : words.bytes.now ≡ word_or (codes "67108864") (codes "checkpoint-bytes") rows
   pub idle : words.idle.now ≡ word_or (codes "0") (codes "idle-seconds") rows
   pub ahead : words.ahead.now ≡ word_or (codes "1048576") (codes "log-ahead") rows
-
-abbrev pub word_of : Option (Bor Text) → Option Text
-word_of word = option_map (λ w. w.now) word
 
 -- where the server of a call is; each of the two may be left out
 pub record GivesPlace (rows : List Row) (at : PlaceWords) : Type 0 where
@@ -126,7 +141,8 @@ Names named name Given = (rows : List Row) × (named ≡ Some (name, rows)) × G
 -- the subcommand that is named, with what it is given, asks for this
 abbrev pub Asks : Option (Text × List Row) → Order → Type 0
 Asks named Mem =
-    (name_of named ≢ Some (codes "init")) × (name_of named ≢ Some (codes "check")) × (name_of named ≢ Some (codes "serve"))
+    (name_of named ≢ Some (codes "init")) × (name_of named ≢ Some (codes "check"))
+    × (name_of named ≢ Some (codes "serve"))
     × (name_of named ≢ Some (codes "call")) × (name_of named ≢ Some (codes "sim"))
 Asks named (Init directory stripes) =
     Names named (codes "init") (λ rows. (directory.now ≡ directory_in rows) × (stripes.now ≡ stripes_in rows))
@@ -142,7 +158,8 @@ Asks named (Sim file) = Names named (codes "sim") (λ rows. file.now ≡ word_or
 abbrev pub FindsNoMemory : Option (List ℕ) → Option (List ℕ) → ℕ → Type 0
 FindsNoMemory w0 w1 status = (status ≡ 1) × (w1 ≡ w0)
 
--- What the program does with words of this fault: it writes help to the output, with status 0; for another fault it writes nothing there, and the status is 2.
+-- What the program does with words of this fault: it writes help to the output, with status 0; for another fault it
+-- writes nothing there, and the status is 2.
 abbrev pub Advises : ErrorKind → Option (List ℕ) → Option (List ℕ) → ℕ → Type 0
 Advises DisplayHelp w0 w1 status = (status ≡ 0) ⊎ FindsNoMemory w0 w1 status
 Advises DisplayVersion w0 w1 status = (status ≡ 0) ⊎ FindsNoMemory w0 w1 status

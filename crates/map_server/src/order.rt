@@ -2,7 +2,7 @@
 ghost use Rattle.std.specs.Prelude.{◌≡◌, false, codes, map, option_map, string_bytes, IfOk};
 ghost use Rattle.clap.specs.Words.{app_of, found_of, rows_of, rule_of, subcommand_rows_of, FailsBy};
 ghost use Rattle.clap.specs.declared.builder.command.Command.TheViews.{out-Command as fields_of};
-ghost use Rattle.map_server.specs.CommandLine.{call_line, check_line, command_line, directory_rule, faults, file_rule, init_line, mem_line, named_by, option_rule, port_rule, serve_line, sim_line, word_or, words_rule, call_in, Asks, GivesPlace, GivesServer};
+ghost use Rattle.map_server.specs.CommandLine.{call_line, check_line, command_line, directory_rule, faults, file_rule, flag_rule, init_line, mem_line, named_by, option_rule, serve_line, sim_line, word_or, words_rule, call_in, Asks, GivesFlag, GivesPlace, GivesServer};
 
 use clap::{Arg, ArgAction, ArgMatches, Command, Error};
 use cmd_call::PlaceWords;
@@ -49,6 +49,9 @@ const CONNECTIONS: &str = "10000";
 /// The length of the log that begins a checkpoint if no other is asked for.
 const BYTES: &str = "67108864";
 
+/// The rights of the file of a server's Unix socket if no others are asked for: its user's alone.
+const MODE: &str = "600";
+
 /// For how many seconds a client may be idle if no other number is asked for: for ever.
 const IDLE: &str = "0";
 
@@ -89,6 +92,17 @@ fn option<'a>(alloc: Global, name: &'a str, value: &'a str, help: &'a str) -> Ar
         .help(help)
 }
 
+/// An option that takes no value.
+fn flag<'a>(alloc: Global, name: &'a str, help: &'a str) -> Arg<'a>
+    ensures rule { rule_of result ≡ flag_rule name.now }
+    ensures local { result.global ≡ false }
+{
+    Arg::new(alloc, name)
+        .long(name)
+        .action(ArgAction::SetTrue)
+        .help(help)
+}
+
 /// The option that says how many stripes a map is divided into.
 fn stripes<'a>(alloc: Global) -> Arg<'a>
     ensures rule { rule_of result ≡ option_rule (codes "stripes") }
@@ -100,20 +114,6 @@ fn stripes<'a>(alloc: Global) -> Arg<'a>
         "S",
         "How many stripes the map is divided into: a power of two from 1 to 256, 16 if left out",
     )
-}
-
-/// The option that names a server's port.
-fn port<'a>(alloc: Global) -> Arg<'a>
-    ensures rule { rule_of result ≡ port_rule }
-    ensures local { result.global ≡ false }
-{
-    option(
-        alloc,
-        "port",
-        "P",
-        "The server's port on this machine, from 1 to 65535",
-    )
-    .required(true)
 }
 
 /// The argument that has the words of a call.
@@ -168,6 +168,29 @@ fn serve_line<'a>(alloc: Global) -> Result<Command<'a>, AllocError>
     ensures app { IfOk result (λ command. app_of command ≡ serve_line) }
     ensures local { IfOk result (λ command. (fields_of command).has_globals ≡ false) }
 {
+    let port = option(
+        alloc,
+        "port",
+        "P",
+        "A port on 127.0.0.1, from 1 to 65535, for each user of this machine; or --socket, or both",
+    );
+    let socket = option(
+        alloc,
+        "socket",
+        "PATH",
+        "The path of a Unix socket, for the users that its file's rights allow",
+    );
+    let mode = option(
+        alloc,
+        "socket-mode",
+        "OCTAL",
+        "The rights of the socket's file: 600, its user's alone, if left out",
+    );
+    let standby = flag(
+        alloc,
+        "standby",
+        "Waits while another process has a lock of the directory, in place of ending",
+    );
     let workers = option(
         alloc,
         "workers",
@@ -201,13 +224,16 @@ fn serve_line<'a>(alloc: Global) -> Result<Command<'a>, AllocError>
     Command::new(alloc, "serve")
         .about("Opens a directory, and serves its map to this machine until it is ended")
         .arg(directory(alloc))?
-        .arg(port(alloc))?
+        .arg(port)?
+        .arg(socket)?
+        .arg(mode)?
         .arg(stripes(alloc))?
         .arg(workers)?
         .arg(connections)?
         .arg(bytes)?
         .arg(idle)?
-        .arg(ahead)
+        .arg(ahead)?
+        .arg(standby)
 }
 
 /// The command that makes one call of a server.
@@ -279,6 +305,13 @@ fn word_or<'a>(matches: &ArgMatches<'a>, id: &str, other: &'a str) -> &'a str
     matches.get_str(id).unwrap_or(other)
 }
 
+/// Whether an option that takes no value is given.
+fn is_given<'a>(matches: &ArgMatches<'a>, id: &str) -> bool
+    ensures { GivesFlag id.now (rows_of (found_of matches.now)) result }
+{
+    matches.get_flag(id)
+}
+
 /// The words of a call.
 fn words_in<'a>(alloc: Global, matches: &ArgMatches<'a>) -> Result<Vec<&'a str>, AllocError>
     ensures { IfOk result (λ words.
@@ -289,7 +322,7 @@ fn words_in<'a>(alloc: Global, matches: &ArgMatches<'a>) -> Result<Vec<&'a str>,
     Ok(words)
 }
 
-/// The words that say where the server of a call is.
+/// The words that say where a server is.
 fn place_in<'a>(matches: &ArgMatches<'a>) -> PlaceWords<'a>
     ensures { GivesPlace (rows_of (found_of matches.now)) result }
 {
@@ -303,9 +336,13 @@ fn place_in<'a>(matches: &ArgMatches<'a>) -> PlaceWords<'a>
 fn server_in<'a>(matches: &ArgMatches<'a>) -> ServerWords<'a>
     ensures { GivesServer (rows_of (found_of matches.now)) result }
 {
+    let at = place_in(matches);
     ServerWords {
         directory: word_or(matches, "DIR", ""),
-        port: word_or(matches, "port", ""),
+        standby: is_given(matches, "standby"),
+        port: at.port,
+        socket: at.socket,
+        mode: word_or(matches, "socket-mode", MODE),
         stripes: word_or(matches, "stripes", STRIPES),
         workers: word_or(matches, "workers", WORKERS),
         connections: word_or(matches, "connections", CONNECTIONS),

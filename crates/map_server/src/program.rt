@@ -3,6 +3,7 @@ ghost use Rattle.std.specs.Prelude.{◌≡◌, map, string_bytes};
 ghost use Rattle.clap.specs.Values.{kind_of};
 ghost use Rattle.map_server.specs.CommandLine.{Advises};
 ghost use Rattle.map_server.specs.Program.{Ran, Serves};
+ghost use Rattle.socket_file.specs.Binding.{Binds};
 
 use crate::host::Host;
 use crate::order::{Order, order_of};
@@ -17,8 +18,10 @@ use cmd_text::{DONE, MISUSED, break_off, refuse, say};
 use connections::{ConnectionError, serve_connection};
 use disk_model::MemDisk;
 use map_types::Refusal;
+use socket_file::SocketFiles;
 use std::alloc::Global;
 use std::io::{Read, Write};
+use std::os::unix::net::UnixListener;
 use std::sync::Wait;
 
 /// Says on `error` why a connection broke off.
@@ -78,8 +81,8 @@ fn mem<T: Wait, R: Read, W: Write, E: Write>(
 /// refusal on `error` if the map can't be begun or no memory is found to read. It is 2 with a text
 /// on how to call the program on `error` for words that aren't known.
 ///
-/// `serve` serves the map of a directory on a port of this machine, and ends only by being ended.
-/// Once it listens it prints `listening` and the port on `output`. The status is 2 with a text on
+/// `serve` serves the map of a directory at a port of this machine, at a Unix socket, or at both, and ends
+/// only by being ended. Once it listens it prints `listening` and the port, or the path, on `output`. The status is 2 with a text on
 /// `error` if one of its words isn't allowed, and 1 if it can't open the directory, listen, or
 /// start its threads.
 ///
@@ -89,7 +92,13 @@ fn mem<T: Wait, R: Read, W: Write, E: Write>(
 /// `sim` plays the script of a file, and prints on `output` a line for each of its lines. The
 /// status is 1 with `unreadable` on `error` if the file can't be read. It is 2 with what is wrong
 /// on `error` if the file isn't UTF-8 or has a bad line; then nothing is played.
-pub fn dchm<T: Host, M: Directories + Servers, R: Read, W: Write, E: Write>(
+pub fn dchm<
+    T: Host,
+    M: Directories + Servers + SocketFiles<Listener = UnixListener>,
+    R: Read,
+    W: Write,
+    E: Write,
+>(
     rt: &T,
     machine: &M,
     alloc: Global,
@@ -100,7 +109,7 @@ pub fn dchm<T: Host, M: Directories + Servers, R: Read, W: Write, E: Write>(
 ) -> u8
     ensures { Ran M.Opened.states M.Opened.failures M.Opened.honest M.is_opened M.is_created
         M.is_refused M.Reader.fails M.Reader.remaining M.Writer.contents M.is_connected
-        M.is_unreachable (map string_bytes words.now) (R.remaining input.old)
+        M.is_unreachable (Binds M.was_free M.is_private M.is_bound M.has_mode M.is_renamed) (map string_bytes words.now) (R.remaining input.old)
         (R.remaining input.new) (W.contents output.old) (W.contents output.new) result }
 {
     match order_of(alloc, words) {

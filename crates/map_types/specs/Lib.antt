@@ -1,3 +1,4 @@
+pub mod Keys
 pub mod Limits
 pub mod Numbers
 pub mod Reducing

@@ -8,6 +8,7 @@ ghost use Rattle.std.proofs.Common.{rules};
 ghost use Rattle.map_types.specs.Limits.{most_key_bytes};
 
 use crate::refusals::Refusal;
+use crate::short_texts::ShortText;
 use std::alloc::Global;
 use std::cmp::Ordering;
 use std::marker::Model;
@@ -15,19 +16,26 @@ use std::marker::Model;
 /// A key of the map, which contracts see as its UTF-8 bytes. Keys are in the order of their bytes.
 #[derive(Clone, Debug, Drop)]
 pub struct Key {
-    text: String,
+    text: KeyText,
+}
+
+// A short text lies in the key itself, so that a key of few bytes takes no memory of its own.
+#[derive(Clone, Debug, Drop)]
+enum KeyText {
+    Short(ShortText),
+    Long(Box<String>),
 }
 
 impl Model for Key {
     ghost use Rattle.std.specs.Prelude.{List, ℕ, ◌≤◌, length};
-    ghost use Rattle.std.specs.String.{string_bytes};
+    ghost use Rattle.map_types.specs.Keys.{key_bytes};
     ghost use Rattle.map_types.specs.Limits.{most_key_bytes};
 
     ghost Value = { List ℕ };
 
-    ghost view = { λ key. string_bytes key.text };
+    ghost view = { λ key. key_bytes key.text };
 
-    ghost invariant = { λ key. length (string_bytes key.text) ≤ most_key_bytes };
+    ghost invariant = { λ key. length (key_bytes key.text) ≤ most_key_bytes };
 }
 
 impl Key {
@@ -46,8 +54,14 @@ impl Key {
         if text.len() > Key::MOST_BYTES {
             return Err(Refusal::KeyTooLong);
         }
+        if text.len() <= ShortText::MOST_BYTES {
+            return Ok(Key {
+                text: KeyText::Short(ShortText::new(text)),
+            });
+        }
+        let text = String::from_str(alloc, text)?;
         Ok(Key {
-            text: String::from_str(alloc, text)?,
+            text: KeyText::Long(Box::new(alloc, text)?),
         })
     }
 
@@ -56,14 +70,17 @@ impl Key {
         ensures above { result ≡ true → limit < length self.now }
         ensures within { result ≡ false → length self.now ≤ limit }
     {
-        self.text.len() > usize::from(limit)
+        self.as_str().len() > usize::from(limit)
     }
 
     pub fn as_str(&self) -> &str
         ensures text { result.now ≡ self.now }
         ensures bound { length self.now ≤ most_key_bytes }
     {
-        self.text.as_str()
+        match &self.text {
+            KeyText::Short(text) => text.as_str(),
+            KeyText::Long(text) => text.as_str(),
+        }
     }
 }
 
@@ -73,7 +90,7 @@ impl PartialEq for Key {
     ghost laws = { Prim.search (comparing, rules, nat_list_cmp_total) };
 
     fn eq(&self, other: &Key) -> bool {
-        self.cmp(other) == Ordering::Equal
+        self.as_str() == other.as_str()
     }
 }
 
@@ -102,6 +119,6 @@ impl Ord for Key {
     ghost matches_eq = { Prim.search (comparing, rules) };
 
     fn cmp(&self, other: &Key) -> Ordering {
-        self.text.as_str().cmp(other.text.as_str())
+        self.as_str().cmp(other.as_str())
     }
 }

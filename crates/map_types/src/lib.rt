@@ -5,6 +5,7 @@
 pub mod commands;
 pub mod keys;
 pub mod refusals;
+mod short_texts;
 pub mod texts;
 
 pub use commands::{Change, Command, Func, FuncError, Question, Read, Reply};

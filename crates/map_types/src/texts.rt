@@ -12,7 +12,8 @@ use std::marker::Model;
 /// A text of a value, which contracts see as its UTF-8 bytes.
 #[derive(Clone, Debug, Drop)]
 pub struct Text {
-    text: String,
+    // In a box, so that a value is small where it is moved.
+    text: Box<String>,
 }
 
 impl Model for Text {
@@ -21,9 +22,9 @@ impl Model for Text {
 
     ghost Value = { List ℕ };
 
-    ghost view = { λ text. string_bytes text.text };
+    ghost view = { λ text. string_bytes text.text.value };
 
-    ghost invariant = { λ text. length (string_bytes text.text) ≤ 4096 };
+    ghost invariant = { λ text. length (string_bytes text.text.value) ≤ 4096 };
 }
 
 impl Text {
@@ -42,8 +43,9 @@ impl Text {
         if text.len() > Text::MOST_BYTES {
             return Err(Refusal::ValueTooLong);
         }
+        let text = String::from_str(alloc, text)?;
         Ok(Text {
-            text: String::from_str(alloc, text)?,
+            text: Box::new(alloc, text)?,
         })
     }
 
@@ -55,7 +57,9 @@ impl Text {
     {
         let mut text = String::from_str(alloc, self.as_str())?;
         text.push_str(tail.as_str())?;
-        Ok(Text { text })
+        Ok(Text {
+            text: Box::new(alloc, text)?,
+        })
     }
 
     pub fn as_str(&self) -> &str

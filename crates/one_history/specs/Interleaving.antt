@@ -49,8 +49,8 @@ pub record IsAnother (j : ℕ) (holder : Option ℕ) : Type 0 where
   pub is : holder ≡ Some other
   pub apart : other ≢ j
 
--- What the step of the pass j finds in the words: a TAKE whether the stripe is free, its `last`, and an outbox that ends
--- there, if it has entries; the others what their word holds.
+-- What the step of the pass j finds in the words: a TAKE whether the stripe is free, its `last`, and an outbox that
+-- ends there, if it has entries; the others what their word holds.
 abbrev pub Finds : ℕ → StepMade → Words → Type 0
 Finds j (Took i outbox last) w = (w.holders i ≡ None) × (last ≡ w.lasts i) × EndsAt outbox last
 Finds j (FoundHeld i) w = IsAnother j (w.holders i)

@@ -56,14 +56,16 @@ WordsMove j (FoundHeld i) b b' = SameWords b b' × IsHeldByAnother j i b
 WordsMove j (Gave i) b b' = SameHistory b b' × GainsTaken j b b'
 WordsMove j (Drew t) b b' = GainsOne j t b b'
 WordsMove j (Looked q) b b' = SameWords b b' × (q ≡ b.opening.first + length b.history)
-WordsMove j (Published x) b b' = SameHistory b b' × (b'.effects ≡ record b.effects { durable = max b.effects.durable x })
+WordsMove j (Published x) b b' =
+    SameHistory b b' × (b'.effects ≡ record b.effects { durable = max b.effects.durable x })
 WordsMove j (Saw d) b b' = SameWords b b' × (d ≡ b.effects.durable)
 WordsMove j Failed b b' = SameHistory b b' × (b'.effects ≡ record b.effects { failed = true })
 WordsMove j (FoundAlive is_alive) b b' = SameWords b b' × (is_alive ≡ not b.effects.failed)
 
 -- the entries of the stripe's changes that no sweep took
 abbrev pub IsOutbox : Book → ℕ → List Entry → Type 0
-IsOutbox b i es = entries_of b.stripes i (entries_from b.opening.first b.history) ≡ entries_of b.stripes i b.effects.taken ++ es
+IsOutbox b i es =
+    entries_of b.stripes i (entries_from b.opening.first b.history) ≡ entries_of b.stripes i b.effects.taken ++ es
 
 -- one past the greatest ticket of the stripe's changes
 abbrev pub IsLastOf : Book → ℕ → ℕ → Type 0
@@ -81,14 +83,15 @@ pub record SeesRead (v : Record) (n : ℕ) (w : Record) : Type 0 where
   pub rises : Rises v n w
 
 -- How a step of the pass j raises the greatest position that it has seen. A TAKE raises it to one past the greatest
--- ticket in the outbox, and finds the stripe's `last`. A LOOK and a SEE raise it to what they found, and a TICKET to one past its ticket. A GIVE that
--- makes a read raises it to one past the last ticket of its stripe.
+-- ticket in the outbox, and finds the stripe's `last`. A LOOK and a SEE raise it to what they found, and a TICKET to
+-- one past its ticket. A GIVE that makes a read raises it to one past the last ticket of its stripe.
 abbrev pub Raises : ℕ → StepMade → Book → Book → Type 0
 Raises j (Took i es last) b b' = Rises (record_of j b) (past es) (record_of j b') × IsOutbox b i es × IsLastOf b i last
 Raises j (Drew t) b b' = reach (record_of j b') ≡ t + 1
 Raises j (Looked q) b b' = reach (record_of j b') ≡ q
 Raises j (Saw d) b b' = Rises (record_of j b) d (record_of j b')
-Raises j (Gave i) b b' = SeesNoMore (record_of j b) (record_of j b') ⊎ SeesRead (record_of j b) (last_of b.stripes i b.opening.first b.history) (record_of j b')
+Raises j (Gave i) b b' = SeesNoMore (record_of j b) (record_of j b')
+    ⊎ SeesRead (record_of j b) (last_of b.stripes i b.opening.first b.history) (record_of j b')
 Raises j step b b' = reach (record_of j b') ≡ reach (record_of j b)
 
 -- One step of the pass j. It stands last in the one order, behind all that were made before it.

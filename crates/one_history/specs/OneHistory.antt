@@ -30,7 +30,8 @@ pub record IsFront (seen h : List Command) : Type 0 where
 unfoldable pub changes_by : ℕ → ℕ → List ℕ → List Command → List (ℕ × Command)
 changes_by j q [] h = []
 changes_by j q (a ∷ authors) [] = []
-changes_by j q (a ∷ authors) (c ∷ h) = if a == j then (q, c) ∷ changes_by j (q + 1) authors h else changes_by j (q + 1) authors h
+changes_by j q (a ∷ authors) (c ∷ h) =
+    if a == j then (q, c) ∷ changes_by j (q + 1) authors h else changes_by j (q + 1) authors h
 
 abbrev pub if_change : Asked → ℕ → List (ℕ × Command) → List (ℕ × Command)
 if_change (Changing c) position rest = (position, c) ∷ rest
@@ -63,12 +64,13 @@ HasDone o k v true = (v.taken ≡ k.taken) × (v.published ≡ k.durable) × (v.
 HasDone o k v false = (v.taken ≡ []) × (v.published ≡ o.first) × (v.failed ≡ false)
 
 module _ (o : Opening) (n : ℕ) (h : List Command) (authors : List ℕ) (k : KeeperEffects) where
-  -- A stripe that is held has the content that its holder's record says. If a LOOK under it found q changes, its part is
-  -- that after them.
+  -- A stripe that is held has the content that its holder's record says. If a LOOK under it found q changes, its part
+  -- is that after them.
   pub record Holds (v : Record) (d : Holding) : Type 0 where
     pub within : d.stripe < n
     pub content : IsContent o n h k.taken d.stripe d.part d.outbox d.last
-    pub looked : (q : ℕ) → d.looked ≡ Some q → IsLegalSection n (history_of v) (record { stripe = d.stripe; mark = q; part = d.part })
+    pub looked : (q : ℕ) → d.looked ≡ Some q → IsLegalSection n (history_of v)
+        (record { stripe = d.stripe; mark = q; part = d.part })
 
   -- the record v of the pass j
   pub record Knows (j : ℕ) (v : Record) : Type 0 where
@@ -91,8 +93,9 @@ pub record AreOf (b : Book) (w : Words) : Type 0 where
   pub failed : w.failed ≡ b.effects.failed
   pub lasts : (i : ℕ) → i < b.stripes → w.lasts i ≡ last_of b.stripes i b.opening.first b.history
 
--- Each change of the history is a pass's and has a key within the limit, and the records of all passes agree with it. The steps that they recorded are those of one interleaving, in
--- which each step finds what the steps before it left in the words.
+-- Each change of the history is a pass's and has a key within the limit, and the records of all passes agree with it.
+-- The steps that they recorded are those of one interleaving, in which each step finds what the steps before it left in
+-- the words.
 pub record IsOneHistory (b : Book) : Type 0 where
   pub authors : length b.authors ≡ length b.history
   pub by_passes : All (λ j. j < length b.passes) b.authors

@@ -17,7 +17,8 @@ slot_of i slots = slice_index_or slots i (HeldBy 0)
 
 -- a free stripe has its part of the map and its entries that no sweep took, and a held one has a holder
 abbrev pub Lies : Book → ℕ → Slot → Type 0
-Lies b i (Home content) = IsContent b.opening b.stripes b.history b.effects.taken i content.part.map content.outbox.items content.last
+Lies b i (Home content) =
+    IsContent b.opening b.stripes b.history b.effects.taken i content.part.map content.outbox.items content.last
 Lies b i (HeldBy j) = HoldsStripe b j i
 
 -- the pass that holds the stripe of this place
@@ -31,7 +32,8 @@ draws_left v = if v.fresh then 1 else 0
 
 -- each pass draws at most once after it saw the count of tickets below its limit, so the count stays near the limit
 abbrev pub HasRoom : Book → Type 0
-HasRoom b = (length b.history + sum_by draws_left b.passes ≡ 0) ⊎ (b.opening.first + length b.history + sum_by draws_left b.passes ≤ ticket_limit + length b.passes)
+HasRoom b = (length b.history + sum_by draws_left b.passes ≡ 0)
+    ⊎ (b.opening.first + length b.history + sum_by draws_left b.passes ≤ ticket_limit + length b.passes)
 
 pub record IsKept (n tickets durable : ℕ) (failed : Bool) (slots : List Slot) (b : Book) : Type 0 where
   pub stripes_are : b.stripes ≡ n

@@ -43,26 +43,36 @@ unseen_to n v h = unseen v (take (n - v.opening.first) h)
 abbrev pub took : ℕ → ℕ → Stripe → Book → Book
 took j i content b =
     let v : Record = record_of j b in
-    with_step_by j (made.Took i content.outbox.items content.last) (taking v i content.part.map content.outbox.items content.last (unseen_to (past content.outbox.items) v b.history)) b
+    with_step_by j (made.Took i content.outbox.items content.last)
+    (taking v i content.part.map content.outbox.items content.last
+    (unseen_to (past content.outbox.items) v b.history)) b
 
 -- TAKE of a stripe that another holds
 abbrev pub found_held : ℕ → ℕ → Book → Book
 found_held j i b = with_step_by j (made.FoundHeld i) (missing (record_of j b) i) b
 
--- what a GIVE leaves of the record: if it makes a read, the pass has then seen the history up to the stripe's last ticket
+-- what a GIVE leaves of the record: if it makes a read, the pass has then seen the history up to the stripe's last
+-- ticket
 abbrev pub given : Purpose → Record → List Command → Record
 given (Answer r) v h = answering r v (unseen_to (last_held v.holding) v h)
 given p v h = giving p v
 
 -- GIVE
 abbrev pub gave : ℕ → Purpose → Book → Book
-gave j p b = record (with_step_by j (made.Gave (stripe_held (record_of j b).holding)) (given p (record_of j b) b.history) b) { effects = record b.effects { taken = b.effects.taken ++ swept_by p (record_of j b).holding } }
+gave j p b = record (with_step_by j (made.Gave (stripe_held (record_of j b).holding))
+    (given p (record_of j b) b.history) b) {
+      effects = record b.effects {
+        taken = b.effects.taken
+            ++ swept_by p (record_of j b).holding;
+      };
+    }
 
 -- TICKET: the change stands at the end of the history
 abbrev pub drew : ℕ → Command → Book → Book
 drew j c b =
     let v : Record = record_of j b in let between : List Command = unseen v b.history in
-    record (with_step_by j (made.Drew (v.opening.first + length (v.seen ++ between))) (drawing v between c) b) { history = b.history ++ c ∷ []; authors = b.authors ++ j ∷ [] }
+    record (with_step_by j (made.Drew (v.opening.first + length (v.seen ++ between)))
+    (drawing v between c) b) { history = b.history ++ c ∷ []; authors = b.authors ++ j ∷ [] }
 
 -- LOOK
 abbrev pub looked : ℕ → Book → Book
@@ -72,19 +82,23 @@ looked j b =
 
 -- DURABLE
 abbrev pub published : ℕ → ℕ → Book → Book
-published j n b = record (with_step_by j (made.Published n) (publishing (record_of j b) n) b) { effects = record b.effects { durable = max b.effects.durable n } }
+published j n b = record (with_step_by j (made.Published n)
+    (publishing (record_of j b) n) b) { effects = record b.effects { durable = max b.effects.durable n } }
 
 -- SEE
 abbrev pub saw : ℕ → Book → Book
-saw j b = with_step_by j (made.Saw b.effects.durable) (seeing (record_of j b) b.effects.durable (unseen_to b.effects.durable (record_of j b) b.history)) b
+saw j b = with_step_by j (made.Saw b.effects.durable)
+    (seeing (record_of j b) b.effects.durable (unseen_to b.effects.durable (record_of j b) b.history)) b
 
 -- FAIL
 abbrev pub failed : ℕ → Book → Book
-failed j b = record (with_step_by j made.Failed (failing (record_of j b)) b) { effects = record b.effects { failed = true } }
+failed j b =
+    record (with_step_by j made.Failed (failing (record_of j b)) b) { effects = record b.effects { failed = true } }
 
 -- ALIVE
 abbrev pub found_alive : ℕ → Book → Book
-found_alive j b = with_step_by j (made.FoundAlive (not b.effects.failed)) (living (record_of j b) (not b.effects.failed)) b
+found_alive j b =
+    with_step_by j (made.FoundAlive (not b.effects.failed)) (living (record_of j b) (not b.effects.failed)) b
 
 -- one more pass, which has made no step
 abbrev pub joined : Book → Book

@@ -23,5 +23,7 @@ greatest_of (mark ∷ marks) = max mark (greatest_of marks)
 abbrev pub counted_of : ℕ → List ℕ → List Entry → List Command
 counted_of stripes marks [] = []
 counted_of stripes marks (entry ∷ entries) =
-    if nat_le (slice_index_or marks (stripe_of stripes entry.command.key) 0) entry.ticket then entry.command ∷ counted_of stripes marks entries
+    if nat_le
+    (slice_index_or marks
+    (stripe_of stripes entry.command.key) 0) entry.ticket then entry.command ∷ counted_of stripes marks entries
     else counted_of stripes marks entries

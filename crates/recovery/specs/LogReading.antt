@@ -41,14 +41,16 @@ pub record EndsAt (layout : Layout) (generation low : ℕ) (content : List ℕ) 
   pub gate : last ≡ end_gate end (gate_behind layout generation low batches)
 
 -- at least `count` batches were read, and their changes were made
-pub record IsReading (layout : Layout) (low : ℕ) (content : List ℕ) (before : Restoring) (scan : ScanState) (count : ℕ) (after : Restoring) : Type 0 where
+pub record IsReading (layout : Layout) (low : ℕ) (content : List ℕ) (before : Restoring) (scan : ScanState) (count : ℕ)
+    (after : Restoring) : Type 0 where
   pub batches : List Batch
   pub read : HasRead layout low batches scan content
   pub many : count ≤ length batches
   pub applied : Applies low (commands_in batches) before after
 
 -- the log was read to its end, and its changes were made
-pub record IsReplayed (layout : Layout) (generation low : ℕ) (content : List ℕ) (before : Restoring) (end : End) (scan : ScanState) (after : Restoring) : Type 0 where
+pub record IsReplayed (layout : Layout) (generation low : ℕ) (content : List ℕ) (before : Restoring) (end : End)
+    (scan : ScanState) (after : Restoring) : Type 0 where
   pub batches : List Batch
   pub ends : IsEnd layout end generation low batches content
   pub gate : scan.gate ≡ gate_behind layout generation low batches
@@ -78,7 +80,8 @@ abbrev pub GoesOnIn : Contents → FoundLog → LogState → Type 0
 GoesOnIn contents found log = GoesOnFrom (contents (log_file found.generation)) found log
 
 -- one log was read, and its changes were made
-pub record IsLogRead (generation low : ℕ) (content : List ℕ) (before : Restoring) (end : End) (log : LogState) (after : Restoring) : Type 0 where
+pub record IsLogRead (generation low : ℕ) (content : List ℕ) (before : Restoring) (end : End) (log : LogState)
+    (after : Restoring) : Type 0 where
   pub batches : List Batch
   pub ends : IsEnd (log_layout content) end generation low batches content
   pub goes_on : GoesOnFrom content (record { generation = generation; low = low; batches = batches }) log
@@ -91,7 +94,8 @@ IsBadLog generation low content refusal =
 
 -- a checkpoint of this generation and low ticket
 abbrev pub checkpoint_with : ℕ → ℕ → ℕ → List Section → Checkpoint
-checkpoint_with generation low stripes sections = record { generation = generation; low = low; stripes = stripes; sections = sections }
+checkpoint_with generation low stripes sections =
+    record { generation = generation; low = low; stripes = stripes; sections = sections }
 
 -- the logs of the checkpoint were read, and their changes were made
 pub record AreReplayed (contents : Contents) (k : Checkpoint) (before after : Restoring) (log : LogState) : Type 0 where

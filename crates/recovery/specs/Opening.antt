@@ -21,7 +21,8 @@ use Rattle.recovery.specs.Syncing.{Stopped}
 -- the calls that read the heads of both checkpoints, the checkpoint that is used, and its logs
 abbrev pub files_calls : Contents → Opened → ℕ
 files_calls contents found =
-    2 + checkpoint_calls (body_bytes contents found.checkpoint) + logs_calls contents found.checkpoint found.first found.second
+    2 + checkpoint_calls
+    (body_bytes contents found.checkpoint) + logs_calls contents found.checkpoint found.first found.second
 
 -- the map of this checkpoint and its logs, divided for `stripes` stripes
 pub record IsRestored (contents : Contents) (k : Checkpoint) (stripes : ℕ) (found : Restored) : Type 0 where
@@ -47,7 +48,8 @@ pub record IsOpened (contents : Contents) (stripes : ℕ) (restored : Restored) 
 -- These are the parts of the map that the files stand for after the first `first` commands, one for each of `stripes`
 -- stripes. The keeper knows the checkpoint that is used, and goes on behind the last batch of the newest log. A key may
 -- have `limit` bytes, as many as in a record of that log.
-pub record IsOpenedAs {D : Type 0} (contents : Contents) (stripes : ℕ) (keeper : Keeper D) (parts : List PartState) (first limit : ℕ) : Type 0 where
+pub record IsOpenedAs {D : Type 0} (contents : Contents) (stripes : ℕ) (keeper : Keeper D) (parts : List PartState)
+    (first limit : ℕ) : Type 0 where
   pub found : Opened
   pub holds : Holds contents found
   pub sealed : keeper.sealed ≡ found.checkpoint.generation
@@ -83,7 +85,8 @@ pub record IsAtStart {D : Type 0} (stripes : StripeCount) (first : ℕ) (keeper 
   pub unfailed : keeper.has_failed ≡ false
 
 -- Opening the disk was refused, and nothing was written to it. On an honest disk the files give the reason.
-pub record IsNotOpened {D : Type 0} (states : D → List Files) (failures : D → ℕ) (honest : D → Type 0) (old new : D) (refusal : Refusal) : Type 0 where
+pub record IsNotOpened {D : Type 0} (states : D → List Files) (failures : D → ℕ) (honest : D → Type 0) (old new : D)
+    (refusal : Refusal) : Type 0 where
   pub stopped : Stopped states failures honest 4 old new refusal
   pub listed : AreFilesRefused refusal
   pub reason : honest new → honest old × RefusesFor (Refuses (contents_of states old) refusal) refusal

@@ -20,5 +20,6 @@ HasMap restoring m = IsDivided restoring.divided.stripes.count m restoring.divid
 
 -- the commands from this ticket on were made, but for those that are in a section
 abbrev pub Applies : ℕ → List Command → Restoring → Restoring → Type 0
-Applies low commands old new = (sections : List Section) (m : Map) → map (λ section. section.mark) sections ≡ old.marks.items → HasMap old m
+Applies low commands old new =
+    (sections : List Section) (m : Map) → map (λ section. section.mark) sections ≡ old.marks.items → HasMap old m
     → HasMap new (map_after m (counted old.of.count sections low commands))

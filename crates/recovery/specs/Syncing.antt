@@ -18,14 +18,16 @@ pub record AfterSyncs {D : Type 0} (states : D → List Files) (failures : D →
   pub counted : failures new ≡ failures old
 
 -- the sync of one of the first `most` files failed, and those before it were synced
-pub record StoppedSyncing {D : Type 0} (states : D → List Files) (failures : D → ℕ) (most : ℕ) (old new : D) : Type 0 where
+pub record StoppedSyncing {D : Type 0} (states : D → List Files) (failures : D → ℕ) (most : ℕ)
+    (old new : D) : Type 0 where
   pub count : ℕ
   pub few : count < most
   pub states_are : states new ≡ now (states_synced count (states old)) ∷ states_synced count (states old)
   pub counted : failures new ≡ failures old + 1
 
 -- the first `most` files were synced, and then the files were only looked at; `failed` of these calls failed
-pub record SyncsAndLooks {D : Type 0} (states : D → List Files) (failures : D → ℕ) (honest : D → Type 0) (most failed : ℕ) (old new : D) : Type 0 where
+pub record SyncsAndLooks {D : Type 0} (states : D → List Files) (failures : D → ℕ) (honest : D → Type 0)
+    (most failed : ℕ) (old new : D) : Type 0 where
   pub mid : D
   pub synced : AfterSyncs states failures most old mid
   pub looks : Looks states failures honest failed mid new
@@ -33,8 +35,10 @@ pub record SyncsAndLooks {D : Type 0} (states : D → List Files) (failures : D 
 -- a sync failed, or they were synced and looked at
 abbrev pub Stopped : {D : Type 0} → (D → List Files) → (D → ℕ) → (D → Type 0) → ℕ → D → D → Refusal → Type 0
 Stopped states failures honest most old new refusal =
-    ((refusal ≡ Failed) × StoppedSyncing states failures most old new) ⊎ SyncsAndLooks states failures honest most (failed_in {X = ℕ} (Err refusal)) old new
+    ((refusal ≡ Failed) × StoppedSyncing states failures most old new)
+    ⊎ SyncsAndLooks states failures honest most (failed_in {X = ℕ} (Err refusal)) old new
 
 -- whatever a stop may leave of these files is this content
 abbrev pub LeavesOnly : Files → Contents → Type 0
-LeavesOnly files only = (contents : Contents) → Leaves files contents → (number : ℕ) → number < 4 → contents number ≡ only number
+LeavesOnly files only =
+    (contents : Contents) → Leaves files contents → (number : ℕ) → number < 4 → contents number ≡ only number

@@ -65,7 +65,8 @@ pub record KeepsFound {D : Type 0} (states : D → List Files) (disk middle afte
   pub moments : AtEachMoment states middle after (StandsAt (prefix_of found) (map_of found))
 
 -- The directory was opened, which writes nothing; of an honest disk no stop after that loses what it stood for.
-pub record StaysStanding {D : Type 0} (states : D → List Files) (failures : D → ℕ) (honest : D → Type 0) (disk after : D) : Type 0 where
+pub record StaysStanding {D : Type 0} (states : D → List Files) (failures : D → ℕ) (honest : D → Type 0)
+    (disk after : D) : Type 0 where
   pub middle : D
   pub opened : SyncsAndLooks states failures honest 4 0 disk middle
   pub was_honest : honest after → honest disk
@@ -91,12 +92,13 @@ IsCheckpointRefused Failing n m refusal = ((refusal ≡ Failed) × Failing) ⊎ 
 abbrev pub IsLastGeneration : ℕ → Type 0
 IsLastGeneration generation = generation + 1 < 2 ^ 64 → ⊥
 
--- An upgrade of this map is refused behind its opening, which found a newest log of this generation and a sealed checkpoint
--- of that one. A device call has failed; or memory is wanting; or the checkpoint of the newest log had to be taken before,
--- and a stripe is too large; or no checkpoint may begin, for the reason `Last`.
+-- An upgrade of this map is refused behind its opening, which found a newest log of this generation and a sealed
+-- checkpoint of that one. A device call has failed; or memory is wanting; or the checkpoint of the newest log had to be
+-- taken before, and a stripe is too large; or no checkpoint may begin, for the reason `Last`.
 abbrev pub IsRefusedBehind : Type 0 → Type 0 → ℕ → Map → ℕ → ℕ → Refusal → Type 0
 IsRefusedBehind Failing Last n m generation sealed refusal =
-    ((refusal ≡ Failed) × Failing) ⊎ ((refusal ≡ NoMemory) ⊎ (((refusal ≡ LogFull) × (generation ≢ sealed) × HasLargeStripe n m)
+    ((refusal ≡ Failed) × Failing) ⊎ ((refusal ≡ NoMemory)
+    ⊎ (((refusal ≡ LogFull) × (generation ≢ sealed) × HasLargeStripe n m)
     ⊎ ((refusal ≡ WrongPhase) × Last)))
 
 -- The same, of what was found in these files, whose map is divided into n stripes. No checkpoint may begin only if no
@@ -104,19 +106,22 @@ IsRefusedBehind Failing Last n m generation sealed refusal =
 pub record RefusesBehind (Failing : Type 0) (n : ℕ) (contents : Contents) (refusal : Refusal) : Type 0 where
   pub found : FoundStore
   pub holds : Holds contents found
-  pub cause : IsRefusedBehind Failing (IsLastGeneration (newest_of found).generation) n (map_of found) (newest_of found).generation found.checkpoint.generation refusal
+  pub cause : IsRefusedBehind Failing (IsLastGeneration (newest_of found).generation) n (map_of found)
+      (newest_of found).generation found.checkpoint.generation refusal
 
 -- behind its opening an upgrade is refused as these alone, whatever the device gives
 abbrev pub IsListedBehind : Refusal → Type 0
 IsListedBehind refusal = (refusal ≡ Failed) ⊎ ((refusal ≡ NoMemory) ⊎ ((refusal ≡ LogFull) ⊎ (refusal ≡ WrongPhase)))
 
--- The upgrade over this many stripes was refused behind its opening. No stop loses what the directory stood for, and on an
--- honest disk there is a reason. One call failed if it is `Failed`, and else none.
-pub record IsUpgradeRefused {D : Type 0} (states : D → List Files) (failures : D → ℕ) (honest : D → Type 0) (stripes : ℕ) (old new : D) (refusal : Refusal) : Type 0 where
+-- The upgrade over this many stripes was refused behind its opening. No stop loses what the directory stood for, and on
+-- an honest disk there is a reason. One call failed if it is `Failed`, and else none.
+pub record IsUpgradeRefused {D : Type 0} (states : D → List Files) (failures : D → ℕ) (honest : D → Type 0)
+    (stripes : ℕ) (old new : D) (refusal : Refusal) : Type 0 where
   pub stays : StaysStanding states failures honest old new
   pub counted : failures new ≡ failures old + failed_in {X = ℕ} (Err refusal)
   pub listed : IsListedBehind refusal
-  pub reason : honest new → honest old × RefusesBehind (failures new ≡ failures old + 1) stripes (contents_of states old) refusal
+  pub reason : honest new → honest old × RefusesBehind (failures new
+      ≡ failures old + 1) stripes (contents_of states old) refusal
 
 -- ---- the keeper, between its calls
 
@@ -125,13 +130,15 @@ abbrev pub sealed_stripes : {D : Type 0} → (D → List Files) → Keeper D →
 sealed_stripes states keeper = stripes_in (contents_of states keeper.disk (checkpoint_file keeper.sealed))
 
 -- an honest disk was so before, and no stop between the two loses the map m after the first p commands
-pub record StandsThroughout {D : Type 0} (states : D → List Files) (honest : D → Type 0) (p : ℕ) (m : Map) (old new : D) : Type 0 where
+pub record StandsThroughout {D : Type 0} (states : D → List Files) (honest : D → Type 0) (p : ℕ) (m : Map)
+    (old new : D) : Type 0 where
   pub was_honest : honest new → honest old
   pub moments : honest new → AtEachMoment states old new (StandsAt p m)
 
--- The keeper, whose pass has this record and began with this opening, has committed and staged nothing. No walk is under
--- way, and nothing has failed.
-pub record IsUnmoved {D : Type 0} (states : D → List Files) (honest : D → Type 0) (n : ℕ) (o : Opening) (keeper : Keeper D) (p : Record) : Type 0 where
+-- The keeper, whose pass has this record and began with this opening, has committed and staged nothing. No walk is
+-- under way, and nothing has failed.
+pub record IsUnmoved {D : Type 0} (states : D → List Files) (honest : D → Type 0) (n : ℕ) (o : Opening)
+    (keeper : Keeper D) (p : Record) : Type 0 where
   pub fits : Fits states honest n [] keeper p
   pub opening : p.opening ≡ o
   pub staged : keeper.staged.items ≡ []
@@ -140,9 +147,10 @@ pub record IsUnmoved {D : Type 0} (states : D → List Files) (honest : D → Ty
   pub works : keeper.is_broken ≡ false
   pub published : keeper.published ≡ o.first
 
--- The same of a keeper whose pass has this number, with the words that have this book. It is the only pass, and no change
--- was made.
-pub record IsUnmovedWith {D : Type 0} (states : D → List Files) (honest : D → Type 0) (o : Opening) (keeper : Keeper D) (pass : ℕ) (book : Book) : Type 0 where
+-- The same of a keeper whose pass has this number, with the words that have this book. It is the only pass, and no
+-- change was made.
+pub record IsUnmovedWith {D : Type 0} (states : D → List Files) (honest : D → Type 0) (o : Opening) (keeper : Keeper D)
+    (pass : ℕ) (book : Book) : Type 0 where
   pub unmoved : IsUnmoved states honest book.stripes o keeper (record_of pass book)
   pub first : book.opening.first ≡ o.first
   pub one : length book.passes ≡ 1
@@ -160,10 +168,11 @@ advanced_by (Some w) before = kept_in w.phase (state_after w.phase w) before
 
 abbrev pub checkpoints_after : ℕ → Checkpoints → Checkpoints
 checkpoints_after zero before = before
-checkpoints_after (suc calls) before = advanced_by (checkpoints_after calls before).writer (checkpoints_after calls before)
+checkpoints_after (suc calls) before =
+    advanced_by (checkpoints_after calls before).writer (checkpoints_after calls before)
 
--- The checkpoint of this generation was given the sections of the first `count` stripes, whose marks are at most `most`,
--- and these are written.
+-- The checkpoint of this generation was given the sections of the first `count` stripes, whose marks are at most
+-- `most`, and these are written.
 pub record HasSections (generation count most : ℕ) (writer : Option CheckpointState) : Type 0 where
   pub state : CheckpointState
   pub is : writer ≡ Some state
@@ -181,7 +190,8 @@ pub record IsGivenAt (most : ℕ) (old new : Option CheckpointState) : Type 0 wh
   pub is : new ≡ Some (with_section mark entries state)
   pub low : mark ≤ most
 
--- The newest log was begun anew, in the newest version, and has no batch. None is to follow it, and a checkpoint is begun.
+-- The newest log was begun anew, in the newest version, and has no batch. None is to follow it, and a checkpoint is
+-- begun.
 pub record HasRotated {D : Type 0} (keeper : Keeper D) : Type 0 where
   pub log : keeper.log ≡ record (begun (keeper.sealed + 1) keeper.log.committed) { phase = Idle }
   pub next : keeper.next ≡ None

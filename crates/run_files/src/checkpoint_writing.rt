@@ -1,11 +1,12 @@
 //! Checkpoints as they are written, with failures and stops.
-ghost use Rattle.std.specs.Prelude.{◌≡◌, ◌<◌};
+ghost use Rattle.std.specs.Prelude.{◌≡◌, ◌<◌, ◌∷◌, []};
 ghost use Rattle.disk_model.specs.Memory.{memory_states};
 ghost use Rattle.checkpoint_file.specs.States.{idle};
 ghost use Rattle.checkpoint_file.specs.CheckpointSteps.{MayAdvance};
 
 use crate::disks::content;
 use crate::fills::{failure_of, stop};
+use bin_table::LentEntry;
 use call_text::refusal_text;
 use checkpoint_file::{CheckpointPhase, CheckpointWriter, must_close, read_head};
 use disk_model::{Disk, Failure, Fill, MemDisk};
@@ -91,8 +92,19 @@ fn write_one<D: Disk>(
     if mark < writer.low() || stripe != usize::from(writer.count()) {
         return Ok(());
     }
-    writer.section(mark, &[entry])?;
+    writer.section(mark, &[LentEntry::new(&entry.0, &entry.1)])?;
     advance_times(writer, disk, 1)
+}
+
+// Lends two entries.
+fn lent_two(entries: &((Key, Value), (Key, Value))) -> [LentEntry<'_>; 2]
+    ensures { result ≡ entries.now.0 ∷ entries.now.1 ∷ [] }
+{
+    let (one, other) = entries;
+    [
+        LentEntry::new(&one.0, &one.1),
+        LentEntry::new(&other.0, &other.1),
+    ]
 }
 
 // Gives a section with two entries of its stripe, and writes it.
@@ -100,22 +112,21 @@ fn write_two<D: Disk>(
     writer: &mut CheckpointWriter,
     disk: &mut D,
     mark: u64,
-    one: (Key, Value),
-    other: (Key, Value),
+    entries: ((Key, Value), (Key, Value)),
 ) -> Result<(), Refusal>
     requires { MayAdvance D.states D.honest writer.old disk.old }
     ensures { MayAdvance D.states D.honest writer.new disk.new }
 {
     let count = usize::from(writer.count());
-    let stripe = stripe_of(one.0.as_str(), writer.stripes());
-    let next = stripe_of(other.0.as_str(), writer.stripes());
+    let stripe = stripe_of(entries.0.0.as_str(), writer.stripes());
+    let next = stripe_of(entries.1.0.as_str(), writer.stripes());
     if mark < writer.low() || stripe != count || next != count {
         return Ok(());
     }
-    if one.0.cmp(&other.0) != Ordering::Less {
+    if entries.0.0.cmp(&entries.1.0) != Ordering::Less {
         return Ok(());
     }
-    writer.section(mark, &[one, other])?;
+    writer.section(mark, &lent_two(&entries))?;
     advance_times(writer, disk, 1)
 }
 
@@ -151,7 +162,7 @@ fn write_one_stripe<D: Disk>(
     let one = int_entry(alloc, "a", 5)?;
     let other = int_entry(alloc, "b", 6)?;
     clear(writer, disk, 1, 1, StripeCount { count: 1 })?;
-    write_two(writer, disk, 2, one, other)?;
+    write_two(writer, disk, 2, (one, other))?;
     finish(writer, disk)
 }
 

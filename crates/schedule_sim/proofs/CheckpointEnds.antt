@@ -142,5 +142,6 @@ checkpoint_fails w life new planned disk made failures fill call result is walks
     let is_lost : IsLost traced_states fill call planned made.disk = record { possible = left.possible; state = left.state } in
     ends_call w life new side.Checkpoint (ending.Fails fill) (outcome.CallFailed call) planned disk made a.done walks log checkpoint leaves may plan
     same (ap (λ k. k.capture) tries.same ∙ may.no_capture) (refits b.stripes a.done fit) tt
-    (λ l stands has. law b.stripes a.done (record life.keeper { disk = planned }) made (record_of 64 b) w l fill call err.0 fit tt stands may.works has
-    (subst (λ r. TriesCheckpoint traced_states failures traced_honest (record life.keeper { disk = planned }) made r) err.1 tries) is_lost named) e1 e2 e3 a
+    (λ l stands has. let x = law b.stripes a.done (record life.keeper { disk = planned }) made (record_of 64 b) w l fill call err.0 fit tt stands may.works
+    (subst (λ r. TriesCheckpoint traced_states failures traced_honest (record life.keeper { disk = planned }) made r) err.1 tries) is_lost named in
+    record { happens = (x.works, x.due has); stands = x.stands }) e1 e2 e3 a

@@ -80,5 +80,6 @@ log_fails w life new planned disk made failures fill call result fails walks log
     ends_call w life new side.Log (ending.Fails fill) (outcome.CallFailed call) planned disk made
     (done_after result life.keeper.log.phase a.done life.keeper.staged.items) walks log checkpoint leaves may plan same
     (ap (λ k. k.capture) tries.same ∙ may.no_capture) (refits b.stripes a.done fit) tt
-    (λ l stands has. law b.stripes a.done (record life.keeper { disk = planned }) made (record_of 64 b) w l fill call err.0 fit tt stands may.works has
-    (subst (λ r. TriesLog traced_states failures traced_honest (record life.keeper { disk = planned }) made r) err.1 tries) is_lost named) e1 e2 e3 a
+    (λ l stands has. let x = law b.stripes a.done (record life.keeper { disk = planned }) made (record_of 64 b) w l fill call err.0 fit tt stands may.works
+    (subst (λ r. TriesLog traced_states failures traced_honest (record life.keeper { disk = planned }) made r) err.1 tries) is_lost named in
+    record { happens = (x.works, x.due has); stands = x.stands }) e1 e2 e3 a

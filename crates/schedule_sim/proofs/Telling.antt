@@ -49,8 +49,8 @@ told_stage n (stage.Release (release.HasMissed h)) = tt
 told_stage n (stage.Release (release.FoundFailure h)) = tt
 told_stage n (stage.Sweep (sweep.Begins alloc i)) = tt
 told_stage n (stage.Sweep (sweep.HasTaken alloc t)) = tt
-told_stage n (stage.Capture (capture.Begins alloc i)) = tt
-told_stage n (stage.Capture (capture.HasTaken alloc t)) = tt
+told_stage n (stage.Capture (capture.Begins i)) = tt
+told_stage n (stage.Capture (capture.HasTaken t)) = tt
 told_stage n (stage.Capture (capture.HasLooked t z)) = tt
 told_stage n (stage.GivingBack t e) = tt
 

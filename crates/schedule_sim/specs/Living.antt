@@ -48,7 +48,8 @@ is_of_life (event.Stop within fill) = false
 is_of_life event.Leave = false
 is_of_life e = true
 
--- The outcome meets the case of the event, a reply that it releases is one thread's, and the life stands as the world then says.
+-- The outcome meets the case of the event, a reply that it releases is one thread's, and the life stands as the world
+-- then says.
 pub record Did (w : World) (e : Event) (x : Outcome) (life : Life) : Type 0 where
   pub meets : (found : Opened) → Meets w found e x
   pub answers : AnswersLegally w e x

@@ -19,6 +19,8 @@ disk_of (Open life) = life.keeper.disk
 
 -- An opening of this disk tells how many device calls it made.
 abbrev pub TellsCalls : Traced → Store × Outcome → Type 0
-TellsCalls old (store, outcome.Opened calls prefix entries) = length (traced_states old) + calls ≡ length (traced_states (disk_of store))
-TellsCalls old (store, outcome.NotOpened calls refusal) = length (traced_states old) + calls ≡ length (traced_states (disk_of store))
+TellsCalls old (store, outcome.Opened calls prefix entries) =
+    length (traced_states old) + calls ≡ length (traced_states (disk_of store))
+TellsCalls old (store, outcome.NotOpened calls refusal) =
+    length (traced_states old) + calls ≡ length (traced_states (disk_of store))
 TellsCalls old (store, x) = ⊥

@@ -65,7 +65,8 @@ pub record StandsNow (w : World) (least : ℕ) : Type 0 where
 
 -- if the machine stops within a device call, so does whatever it may leave then
 abbrev pub StopsWithin : World → ℕ → Event → Outcome → Type 0
-StopsWithin w least (event.Stop within fill) (outcome.Stopped (Some call)) = (contents : Contents) → Leaves (entered call w.files) contents → AreAbove w least contents
+StopsWithin w least (event.Stop within fill) (outcome.Stopped (Some call)) =
+    (contents : Contents) → Leaves (entered call w.files) contents → AreAbove w least contents
 StopsWithin w least e x = Unit {0}
 
 -- ---- an event
@@ -85,9 +86,10 @@ pub record DidStore (w : World) (least : ℕ) (e : Event) (x : Outcome) (store :
 
 -- ---- a life begins
 
--- The world has a life that was just begun, with what was found in these contents. The keeper was opened over its files,
--- and these are the parts of its map.
-pub record IsOpening (w : World) (stripes : ℕ) (contents : Contents) (found : Opened) (keeper : Keeper Traced) (parts : List PartState) : Type 0 where
+-- The world has a life that was just begun, with what was found in these contents. The keeper was opened over its
+-- files, and these are the parts of its map.
+pub record IsOpening (w : World) (stripes : ℕ) (contents : Contents) (found : Opened) (keeper : Keeper Traced)
+    (parts : List PartState) : Type 0 where
   pub life : w.life ≡ Some (begun_by stripes contents found)
   pub files : w.files ≡ now (traced_states keeper.disk)
   pub long : length w.history ≡ prefix_of found
@@ -110,4 +112,5 @@ pub record LiesOn (w : World) (least : ℕ) (disk : Traced) : Type 0 where
 pub record IsInterrupted (w : World) (s : Side) (call : DeviceCall) (disk : Traced) : Type 0 where
   pub due : (l : Life) → w.life ≡ Some l → IsDue w l s call
   pub state : now (traced_states disk) ≡ entered call w.files
-  pub stops : (l : Life) → w.life ≡ Some l → (contents : Contents) → Leaves (now (traced_states disk)) contents → AreAbove w l.durable contents
+  pub stops : (l : Life) → w.life ≡ Some l → (contents : Contents) → Leaves (now (traced_states disk)) contents
+      → AreAbove w l.durable contents

@@ -35,6 +35,7 @@ use Rattle.sim_keeper.specs.KeeperInWorld.{Answers, BeginsBoth, IsWritten, Keepe
 use Rattle.sim_keeper.proofs.StagedTold.{staged_told}
 use Rattle.sim_keeper.proofs.CheckpointDue.{checkpoint_due}
 use Rattle.sim_keeper.proofs.Deciding.{not_true, two_ways}
+use Rattle.sim_keeper.proofs.FilesTold.{files_are_told}
 use Rattle.sim_keeper.proofs.Moved.{same_history}
 use Rattle.sim_keeper.proofs.SameCall.{known_call, lost_call}
 use Rattle.sim_keeper.proofs.Sealing.{stripes_by}
@@ -270,20 +271,22 @@ module _ {D : Type 0} (states : D → List Files) (failures : D → ℕ) (honest
       }
 
 pub checkpoint_fails : {D : Type 0} (states : D → List Files) (failures : D → ℕ) (honest : D → Type 0) → CheckpointFails states failures honest
-checkpoint_fails {D} states failures honest n done old new p w l fill call e f h s works has t lost named =
-    let k = s.store works in
-    let b = both_true (not (is_rotating l.log)) (has_checkpoint_call l.checkpoint) has in
-    let alone : old.next ≡ None = not_rotating old.log old.next (length old.staged.items) (sym (ap is_rotating k.log) ∙ not_true (is_rotating l.log) b.0) in
-    let v = writer_of old.checkpoint l.checkpoint (now (states old.disk)) k.checkpoint b.1 in
+checkpoint_fails {D} states failures honest n done old new p w l fill call e f h s works t lost named =
     let m : Life = record l { is_broken = true } in
     let capture : new.capture ≡ old.capture = ap (λ (k : Keeper D). k.capture) t.same in
     let stripes : new.stripes ≡ old.stripes = ap (λ (k : Keeper D). k.stripes) t.same in
     let sweeper_is : new.sweeper ≡ old.sweeper = ap (λ (k : Keeper D). k.sweeper) t.same in
     record {
-      happens = (
-        s.is_broken ∙ works,
-        lost_is_due states failures honest n done old new p w l fill call e f s works alone b.1 t lost v.0 v.1 named,
-      );
+      works = s.is_broken ∙ works;
+      file = named ∙ (files_are_told states honest n done old p w l f h s works).1;
+      possible = subst (λ fs. IsPossible fs call) (sym s.files) lost.possible;
+      due = λ has.
+          let k = s.store works in
+          let b = both_true (not (is_rotating l.log)) (has_checkpoint_call l.checkpoint) has in
+          let alone : old.next ≡ None = not_rotating old.log old.next (length old.staged.items)
+          (sym (ap is_rotating k.log) ∙ not_true (is_rotating l.log) b.0) in
+          let v = writer_of old.checkpoint l.checkpoint (now (states old.disk)) k.checkpoint b.1 in
+          lost_is_due states failures honest n done old new p w l fill call e f s works alone b.1 t lost v.0 v.1 named;
       stands = record {
         life = refl;
         files = ap (failed fill call) s.files ∙ sym lost.state;

@@ -75,9 +75,9 @@ captured_stage n b i (stage.Change s) p k next = absurd (by_change n b i s p k)
 captured_stage n b i (stage.Read s) p k next = absurd (by_read n b i s p k)
 captured_stage n b i (stage.Release s) p k next = absurd (by_release n b i s p k)
 captured_stage n b i (stage.Sweep s) p k next = absurd (by_sweep n b i s p k)
-captured_stage n b i (stage.Capture (capture.Begins alloc j)) p k (inl next) = absurd cc
-captured_stage n b i (stage.Capture (capture.Begins alloc j)) p k (inr next) = absurd cc
-captured_stage n b i (stage.Capture (capture.HasTaken alloc t)) p k next =
+captured_stage n b i (stage.Capture (capture.Begins j)) p k (inl next) = absurd cc
+captured_stage n b i (stage.Capture (capture.Begins j)) p k (inr next) = absurd cc
+captured_stage n b i (stage.Capture (capture.HasTaken t)) p k next =
     subst (λ (x : Record). PassHolds x i) (sym k.1.is) (record { held = _; holding = refl; stripe_is = sym (same_stripe i t.stripe k.0) })
 captured_stage n b i (stage.Capture (capture.HasLooked t z)) p k next =
     subst (λ (x : Record). PassHolds x i) (sym k.1.is) (record { held = _; holding = refl; stripe_is = sym (same_stripe i t.stripe k.0) })

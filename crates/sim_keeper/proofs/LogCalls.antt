@@ -35,6 +35,7 @@ use Rattle.sim_keeper.specs.Promises.{IsLost, IsMade, TriesLog}
 use Rattle.sim_keeper.specs.Showing.{sweep_shown, walk_by, work_shown}
 use Rattle.sim_keeper.specs.KeeperInWorld.{Answers, BeginsBoth, IsWritten, KeeperStands, KnowsStore}
 use Rattle.sim_keeper.proofs.Deciding.{not_true, two_ways}
+use Rattle.sim_keeper.proofs.FilesTold.{files_are_told}
 use Rattle.sim_keeper.proofs.Known.{staged_gate}
 use Rattle.sim_keeper.proofs.LogDue.{log_due}
 use Rattle.sim_keeper.proofs.SameCall.{known_call, lost_call}
@@ -181,16 +182,17 @@ module _ {D : Type 0} (states : D → List Files) (failures : D → ℕ) (honest
       }
 
 pub log_fails : {D : Type 0} (states : D → List Files) (failures : D → ℕ) (honest : D → Type 0) → LogFails states failures honest
-log_fails {D} states failures honest n done old new p w l fill call e f h s works has t lost named =
+log_fails {D} states failures honest n done old new p w l fill call e f h s works t lost named =
     let m : Life = record l { is_broken = true } in
     let capture : new.capture ≡ old.capture = ap (λ (k : Keeper D). k.capture) t.same in
     let stripes : new.stripes ≡ old.stripes = ap (λ (k : Keeper D). k.stripes) t.same in
     let sweeper_is : new.sweeper ≡ old.sweeper = t.kept.0 in
     record {
-      happens = (
-        s.is_broken ∙ works,
-        lost_is_due states failures honest n done old new p w l fill call e f h s works (not_true (is_resting l.log) has) t lost named,
-      );
+      works = s.is_broken ∙ works;
+      file = named ∙ (files_are_told states honest n done old p w l f h s works).0;
+      possible = subst (λ fs. IsPossible fs call) (sym s.files) lost.possible;
+      due = λ has. lost_is_due states failures honest n done old new p w l fill call e f h s works
+          (not_true (is_resting l.log) has) t lost named;
       stands = record {
         life = refl;
         files = ap (failed fill call) s.files ∙ sym lost.state;

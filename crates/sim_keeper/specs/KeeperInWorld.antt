@@ -18,10 +18,18 @@ use Rattle.flusher.specs.declared.sweeper.Walking.TheVariants.{Rests}
 use Rattle.flusher.specs.Rotating.{logs_of}
 use Rattle.checkpoint_walk.specs.Checkpointing.{HasGiven}
 use Rattle.sim_rules.specs.World.{World, Life, InHand, Running, begun_by, place_of}
+use Rattle.disk_model.specs.declared.fill.Fill.{Fill}
+use Rattle.sim_rules.specs.declared.event.Ending.TheVariants as ending
 use Rattle.sim_rules.specs.declared.event.Event.{Event}
+use Rattle.sim_rules.specs.declared.event.Event.TheVariants as event
+use Rattle.sim_rules.specs.declared.event.Side.{Side}
+use Rattle.sim_rules.specs.declared.outcome.DeviceCall.{DeviceCall}
 use Rattle.sim_rules.specs.declared.outcome.Outcome.{Outcome}
-use Rattle.sim_rules.specs.After.{after_inside}
-use Rattle.sim_rules.specs.Cases.{HappensInside}
+use Rattle.sim_rules.specs.declared.outcome.Outcome.TheVariants as outcome
+use Rattle.sim_rules.specs.After.{after_inside, file_of}
+use Rattle.sim_rules.specs.Cases.{HappensInside, IsDue, IsPossible}
+use Rattle.sim_rules.specs.Due.{due_file}
+use Rattle.sim_rules.specs.Fitting.{has_call}
 use Rattle.sim_rules.specs.Runs.{staged_in}
 use Rattle.sim_keeper.specs.Showing.{running_shown, sweep_shown, walk_shown, work_shown}
 
@@ -36,7 +44,8 @@ pub record SeesHistory (p : Record) (w : World) (l : Life) : Type 0 where
 -- none is written; or one is, and was given the sections that the world has
 abbrev pub IsWritten : Option CheckpointState → Option Running → Files → Type 0
 IsWritten None running files = running ≡ None
-IsWritten (Some w) running files = (sections : List Section) × (running ≡ Some (running_shown w sections)) × HasGiven (Some w) sections files
+IsWritten (Some w) running files =
+    (sections : List Section) × (running ≡ Some (running_shown w sections)) × HasGiven (Some w) sections files
 
 -- while the log that follows is begun a checkpoint is begun too, in whose file no call was made
 abbrev pub BeginsBoth : Option LogState → Option CheckpointState → Bool → Type 0
@@ -54,9 +63,10 @@ pub record KnowsStore {D : Type 0} (states : D → List Files) (keeper : Keeper 
   pub checkpoint : IsWritten keeper.checkpoint l.checkpoint (now (states keeper.disk))
   pub both : BeginsBoth keeper.next keeper.checkpoint keeper.must_close
 
--- The keeper, whose pass has this record, is as the events and outcomes so far say. Of its files that is so until a device call fails; of how much is
--- staged also then.
-pub record KeeperStands {D : Type 0} (states : D → List Files) (keeper : Keeper D) (p : Record) (w : World) (l : Life) : Type 0 where
+-- The keeper, whose pass has this record, is as the events and outcomes so far say. Of its files that is so until a
+-- device call fails; of how much is staged also then.
+pub record KeeperStands {D : Type 0} (states : D → List Files) (keeper : Keeper D) (p : Record) (w : World)
+    (l : Life) : Type 0 where
   pub life : w.life ≡ Some l
   pub files : w.files ≡ now (states keeper.disk)
   pub history : SeesHistory p w l
@@ -73,11 +83,13 @@ pub record KeeperStands {D : Type 0} (states : D → List Files) (keeper : Keepe
 -- A ticket of this life is in hand, or was and is committed, exactly if a sweep of the pass took its entry.
 pub record TellsPlaces (p : Record) (l : Life) : Type 0 where
   pub taken : (e : Entry) → Contains p.taken e → place_of l e.ticket ≡ InHand
-  pub in_hand : (t : ℕ) → l.first ≤ t → t < l.first + length l.places → place_of l t ≡ InHand → (e : Entry) × Contains p.taken e × (e.ticket ≡ t)
+  pub in_hand : (t : ℕ) → l.first ≤ t → t < l.first + length l.places → place_of l t ≡ InHand
+      → (e : Entry) × Contains p.taken e × (e.ticket ≡ t)
 
 -- The keeper was opened, and has made no call; its pass has made no step. A life begins that was opened with what is
 -- found in these contents, and the newest log has the version that they name.
-pub record IsAtOpening {D : Type 0} (states : D → List Files) (keeper : Keeper D) (p : Record) (w : World) (stripes : ℕ) (contents : Contents) (found : Opened) : Type 0 where
+pub record IsAtOpening {D : Type 0} (states : D → List Files) (keeper : Keeper D) (p : Record) (w : World) (stripes : ℕ)
+    (contents : Contents) (found : Opened) : Type 0 where
   pub life : w.life ≡ Some (begun_by stripes contents found)
   pub files : w.files ≡ now (states keeper.disk)
   pub long : length w.history ≡ prefix_of found
@@ -109,6 +121,18 @@ abbrev pub HasKeeper : {D : Type 0} → (D → List Files) → Keeper D → Reco
 HasKeeper states keeper p w = StandsIn states keeper p w w.life
 
 -- The outcome meets the case of its event, and the keeper stands against the world after it.
-pub record Answers {D : Type 0} (states : D → List Files) (keeper : Keeper D) (p : Record) (w : World) (l : Life) (e : Event) (x : Outcome) : Type 0 where
+pub record Answers {D : Type 0} (states : D → List Files) (keeper : Keeper D) (p : Record) (w : World) (l : Life)
+    (e : Event) (x : Outcome) : Type 0 where
   pub happens : HappensInside w l e x
   pub stands : HasKeeper states keeper p (after_inside w l e x)
+
+-- A device call failed. It was possible, of the file that is due, and the very call that is due if one is. The keeper
+-- stands against the world after it.
+pub record FailsCall {D : Type 0} (states : D → List Files) (keeper : Keeper D) (p : Record) (w : World) (l : Life)
+    (s : Side) (fill : Fill) (call : DeviceCall) : Type 0 where
+  pub works : l.is_broken ≡ false
+  pub file : file_of call ≡ due_file l s
+  pub possible : IsPossible w.files call
+  pub due : has_call s l ≡ true → IsDue w l s call
+  pub stands : HasKeeper states keeper p
+      (after_inside w l (event.Device s (ending.Fails fill)) (outcome.CallFailed call))

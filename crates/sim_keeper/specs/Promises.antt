@@ -32,23 +32,28 @@ use Rattle.store_layout.specs.UsedCheckpoint.{UsesCheckpoint}
 use Rattle.checkpoint_walk.specs.Walking.{AfterStep, FitsWalking, GivesPartIn}
 
 -- a checkpoint was to be begun
-pub record TriesBegin {D : Type 0} (states : D → List Files) (honest : D → Type 0) (old new : Keeper D) (result : Result (Unit {0}) Refusal) : Type 0 where
+pub record TriesBegin {D : Type 0} (states : D → List Files) (honest : D → Type 0) (old new : Keeper D)
+    (result : Result (Unit {0}) Refusal) : Type 0 where
   pub failed : (result ≡ Err refusal.Failed) ↔ (old.is_broken ≡ true)
   pub wrong_phase : (result ≡ Err refusal.WrongPhase) ↔ ((old.is_broken ≡ false) × (MayBegin old → ⊥))
   pub no_other : IfErr result (λ e. (e ≡ refusal.Failed) ⊎ (e ≡ refusal.WrongPhase))
   pub ok : OnOk result (Begins old new)
-  pub given : OnOk result ((n : ℕ) (done : List Command) (p : Record) → Fits states honest n done old p → honest old.disk → HasGiven new.checkpoint [] (now (states new.disk)))
+  pub given : OnOk result ((n : ℕ) (done : List Command) (p : Record) → Fits states honest n done old p
+      → honest old.disk → HasGiven new.checkpoint [] (now (states new.disk)))
   pub err : OnErr result (new ≡ old)
   pub same : new ≡ record old { next = new.next; checkpoint = new.checkpoint }
 
 -- it was to be sealed
-pub record TriesSeal {D : Type 0} (states : D → List Files) (old new : Keeper D) (result : Result (Unit {0}) Refusal) : Type 0 where
+pub record TriesSeal {D : Type 0} (states : D → List Files) (old new : Keeper D)
+    (result : Result (Unit {0}) Refusal) : Type 0 where
   pub failed : (result ≡ Err refusal.Failed) ↔ (old.is_broken ≡ true)
   pub wrong_phase : (result ≡ Err refusal.WrongPhase) ↔ ((old.is_broken ≡ false) × (HasAllSections old.checkpoint → ⊥))
-  pub early : (result ≡ Err refusal.TooEarly) ↔ ((old.is_broken ≡ false) × HasAllSections old.checkpoint × IsMarkedAbove old.published old.checkpoint)
+  pub early : (result ≡ Err refusal.TooEarly) ↔ ((old.is_broken ≡ false) × HasAllSections old.checkpoint
+      × IsMarkedAbove old.published old.checkpoint)
   pub no_other : IfErr result (λ e. (e ≡ refusal.Failed) ⊎ (e ≡ refusal.WrongPhase) ⊎ (e ≡ refusal.TooEarly))
   pub ok : OnOk result (new ≡ record old { checkpoint = sealing old.checkpoint })
-  pub given : (sections : List Section) → HasGiven old.checkpoint sections (now (states old.disk)) → HasGiven new.checkpoint sections (now (states new.disk))
+  pub given : (sections : List Section) → HasGiven old.checkpoint sections (now (states old.disk))
+      → HasGiven new.checkpoint sections (now (states new.disk))
   pub err : OnErr result (new ≡ old)
 
 -- ---- device calls
@@ -64,25 +69,34 @@ pub record IsLost {D : Type 0} (states : D → List Files) (fill : Fill) (call :
   pub state : now (states new) ≡ failed fill call (now (states old))
 
 -- the logs were to go on
-pub record TriesLog {D : Type 0} (states : D → List Files) (failures : D → ℕ) (honest : D → Type 0) (old new : Keeper D) (result : Result Phase Refusal) : Type 0 where
-  pub steps : old.is_broken ≡ false → (due_of (logs_of old)).phase ≢ log_phase.Idle → StepsLogs states failures honest (logs_of old) (logs_of new) old.disk new.disk result
+pub record TriesLog {D : Type 0} (states : D → List Files) (failures : D → ℕ) (honest : D → Type 0) (old new : Keeper D)
+    (result : Result Phase Refusal) : Type 0 where
+  pub steps : old.is_broken ≡ false → (due_of (logs_of old)).phase ≢ log_phase.Idle
+      → StepsLogs states failures honest (logs_of old) (logs_of new) old.disk new.disk result
   pub committed : new.log.committed ≡ old.log.committed + committed_by result old.log.phase old.staged.items
   pub hand : OnOk result (IsPast old.next old.log.phase old.sweeper old.staged.items new.sweeper new.staged.items)
   pub works : OnOk result (new.is_broken ≡ false)
   pub kept : OnErr result ((new.sweeper ≡ old.sweeper) × (new.staged ≡ old.staged) × (new.is_broken ≡ true))
-  pub same : new ≡ record old { disk = new.disk; log = new.log; next = new.next; sweeper = new.sweeper; staged = new.staged; is_broken = new.is_broken }
+  pub same : new
+      ≡ record old { disk = new.disk; log = new.log; next = new.next; sweeper = new.sweeper; staged = new.staged; is_broken = new.is_broken }
 
 -- the checkpoint was to go on
-pub record TriesCheckpoint {D : Type 0} (states : D → List Files) (failures : D → ℕ) (honest : D → Type 0) (old new : Keeper D) (result : Result CheckpointPhase Refusal) : Type 0 where
-  pub steps : old.is_broken ≡ false → (call : Call) (w : CheckpointState) → call_due old.next old.checkpoint ≡ Some call → old.checkpoint ≡ Some w
+pub record TriesCheckpoint {D : Type 0} (states : D → List Files) (failures : D → ℕ) (honest : D → Type 0)
+    (old new : Keeper D) (result : Result CheckpointPhase Refusal) : Type 0 where
+  pub steps : old.is_broken ≡ false → (call : Call) (w : CheckpointState) → call_due old.next old.checkpoint ≡ Some call
+      → old.checkpoint ≡ Some w
       → StepsCheckpoint states failures honest call w old new result
   pub works : OnOk result (new.is_broken ≡ false)
   pub breaks : OnErr result (new.is_broken ≡ true)
-  pub given : (sections : List Section) (w : CheckpointState) → HasGiven old.checkpoint sections (now (states old.disk)) → new.checkpoint ≡ Some w
+  pub given : (sections : List Section) (w : CheckpointState) → HasGiven old.checkpoint sections (now (states old.disk))
+      → new.checkpoint ≡ Some w
       → OnOk result (HasGiven (Some w) sections (now (states new.disk)))
-  pub sealed : (n : ℕ) (done : List Command) (p : Record) (w : CheckpointState) (sections : List Section) → Fits states honest n done old p → honest new.disk → old.next ≡ None → old.checkpoint ≡ Some w
-      → w.phase ≡ checkpoint_phase.Opened → HasGiven old.checkpoint sections (now (states old.disk)) → OnOk result (UsesCheckpoint (checkpoint_of w sections) (now (states new.disk)))
-  pub same : new ≡ record old { disk = new.disk; sealed = new.sealed; checkpoint = new.checkpoint; must_close = new.must_close; is_broken = new.is_broken }
+  pub sealed : (n : ℕ) (done : List Command) (p : Record) (w : CheckpointState) (sections : List Section)
+      → Fits states honest n done old p → honest new.disk → old.next ≡ None → old.checkpoint ≡ Some w
+      → w.phase ≡ checkpoint_phase.Opened → HasGiven old.checkpoint sections (now (states old.disk))
+      → OnOk result (UsesCheckpoint (checkpoint_of w sections) (now (states new.disk)))
+  pub same : new
+      ≡ record old { disk = new.disk; sealed = new.sealed; checkpoint = new.checkpoint; must_close = new.must_close; is_broken = new.is_broken }
 
 -- ---- a batch
 
@@ -90,25 +104,36 @@ pub record TriesCheckpoint {D : Type 0} (states : D → List Files) (failures : 
 pub record TriesStage {D : Type 0} (most : ℕ) (old new : Keeper D) (result : Result ℕ Refusal) : Type 0 where
   pub failed : (result ≡ Err refusal.Failed) ↔ (old.is_broken ≡ true)
   pub wrong_phase : (result ≡ Err refusal.WrongPhase) ↔ ((old.is_broken ≡ false) × (MayStage old.log old.next → ⊥))
-  pub full : (result ≡ Err refusal.LogFull) ↔ ((old.is_broken ≡ false) × MayStage old.log old.next × IsFull most old.log old.sweeper.in_hand)
-  pub no_other : IfErr result (λ e. (e ≡ refusal.Failed) ⊎ (e ≡ refusal.WrongPhase) ⊎ (e ≡ refusal.LogFull) ⊎ (e ≡ refusal.NoMemory))
-  pub ok : IfOk result (λ count. (commands : List Command) × IsLongest (layout_of old.log.version) most old.sweeper.in_hand commands × (count ≡ length commands)
-      × (count ≡ 0 → new ≡ old) × (1 ≤ count → Stages commands old.log old.sweeper.in_hand new.log new.sweeper.in_hand new.staged.items))
-  pub err : OnErr result ((new.log ≡ old.log) × (new.staged ≡ old.staged) × SameEntries old.sweeper.in_hand new.sweeper.in_hand)
-  pub same : new ≡ record old { log = new.log; sweeper = record old.sweeper { in_hand = new.sweeper.in_hand }; staged = new.staged }
+  pub full : (result ≡ Err refusal.LogFull) ↔ ((old.is_broken ≡ false) × MayStage old.log old.next
+      × IsFull most old.log old.sweeper.in_hand)
+  pub no_other : IfErr result (λ e. (e ≡ refusal.Failed) ⊎ (e ≡ refusal.WrongPhase) ⊎ (e ≡ refusal.LogFull)
+      ⊎ (e ≡ refusal.NoMemory))
+  pub ok : IfOk result (λ count. (commands : List Command)
+      × IsLongest (layout_of old.log.version) most old.sweeper.in_hand commands × (count ≡ length commands)
+      × (count ≡ 0 → new ≡ old) ×
+      (1 ≤ count → Stages commands old.log old.sweeper.in_hand new.log new.sweeper.in_hand new.staged.items))
+  pub err : OnErr result ((new.log ≡ old.log) × (new.staged ≡ old.staged)
+      × SameEntries old.sweeper.in_hand new.sweeper.in_hand)
+  pub same : new
+      ≡ record old { log = new.log; sweeper = record old.sweeper { in_hand = new.sweeper.in_hand }; staged = new.staged }
 
 -- ---- a sweep
 
 -- a sweep made one step
-pub record StepsSweep {D : Type 0} (n : ℕ) (old new : Keeper D) (p q : Record) (result : Result Swept Refusal) : Type 0 where
+pub record StepsSweep {D : Type 0} (n : ℕ) (old new : Keeper D) (p q : Record)
+    (result : Result Swept Refusal) : Type 0 where
   pub steps_on : StepsOn n old.sweeper.sweep old.sweeper.walking old.sweeper.in_hand new.sweeper p q result
   pub same : new ≡ record old { sweeper = new.sweeper }
 
 -- ---- a capture
 
 -- a capture of this stripe, or the one that was under way, made one step, or was refused before its first
-pub record StepsCapture {D : Type 0} (states : D → List Files) (honest : D → Type 0) (n stripe : ℕ) (old new : Keeper D) (p q : Record) (result : Result (Option ℕ) Refusal) : Type 0 where
+pub record StepsCapture {D : Type 0} (states : D → List Files) (honest : D → Type 0) (n stripe : ℕ) (old new : Keeper D)
+    (p q : Record) (result : Result (Option ℕ) Refusal) : Type 0 where
   pub failed : (result ≡ Err refusal.Failed) ↔ ((old.capture ≡ None) × (old.is_broken ≡ true))
-  pub wrong_phase : (result ≡ Err refusal.WrongPhase) ↔ ((old.capture ≡ None) × (old.is_broken ≡ false) × (IsNextStripe stripe old.next old.checkpoint → ⊥))
+  pub wrong_phase : (result ≡ Err refusal.WrongPhase)
+      ↔ ((old.capture ≡ None) × (old.is_broken ≡ false) × (IsNextStripe stripe old.next old.checkpoint → ⊥))
   pub after : AfterStep n stripe old.capture old new p q result
-  pub given : (done : List Command) (sections : List Section) → FitsWalking states honest n done old p → honest old.disk → HasGiven old.checkpoint sections (now (states old.disk)) → GivesPartIn states n (history_of q) result sections new
+  pub given : (done : List Command) (sections : List Section) → FitsWalking states honest n done old p → honest old.disk
+      → HasGiven old.checkpoint sections (now (states old.disk))
+      → GivesPartIn states n (history_of q) result sections new

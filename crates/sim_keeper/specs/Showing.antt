@@ -29,7 +29,8 @@ walking_shown walking.Rests = Rests
 walking_shown walking.SweepTakes = SweepTakes
 walking_shown (walking.SweepGives walk) = SweepGives
 
--- A capture that has taken its stripe comes to its LOOK; one that has looked comes to its GIVE, with the count that it found.
+-- A capture that has taken its stripe comes to its LOOK; one that has looked comes to its GIVE, with the count that it
+-- found.
 abbrev pub capture_shown : Kind → ℕ → KeeperWalk
 capture_shown (Take i) mark = CaptureLooks
 capture_shown (Give i) mark = CaptureGives mark
@@ -123,7 +124,8 @@ seals_left checkpoint_phase.Sealed = 0
 
 -- in this phase, with the sections that the writer was given
 abbrev pub running_in : CheckpointPhase → CheckpointState → List Section → Running
-running_in phase w sections = record { generation = w.generation; clears = clears_left phase; sections = sections; is_waiting = is_waiting_in phase; seals = seals_left phase }
+running_in phase w sections =
+    record { generation = w.generation; clears = clears_left phase; sections = sections; is_waiting = is_waiting_in phase; seals = seals_left phase }
 
 -- the writer, with the sections that it was given
 abbrev pub running_shown : CheckpointState → List Section → Running

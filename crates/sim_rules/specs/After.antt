@@ -166,7 +166,12 @@ sweep_takes l end = record l { walk = Rests }
 -- if the GIVE ends with a refusal, the entries stay in the outbox, and the sweep stays at its stripe
 abbrev pub sweep_gives : World → Life → Sweep → End → Life
 sweep_gives w l sweep ends.Goes =
-    record l { places = places_swept w l sweep.stripe; sweep = Some (record sweep { stripe = sweep.stripe + 1 }); walk = SweepTakes }
+    record l {
+      places = places_swept w l sweep.stripe;
+      sweep = Some
+          (record sweep { stripe = sweep.stripe + 1 });
+      walk = SweepTakes;
+    }
 sweep_gives w l sweep (ends.Swept n) = record l { places = places_swept w l sweep.stripe; sweep = None; walk = Rests }
 sweep_gives w l sweep end = record l { walk = Rests }
 
@@ -185,11 +190,13 @@ capture_takes l end = l
 
 -- what the next section of the checkpoint is to hold: the part of its stripe after the first `mark` commands
 abbrev pub section_at : World → Life → ℕ → Running → Section
-section_at w l mark running = record { mark = mark; map = part_of l.stripes (length running.sections) (fold_of (take mark w.history)) }
+section_at w l mark running =
+    record { mark = mark; map = part_of l.stripes (length running.sections) (fold_of (take mark w.history)) }
 
 abbrev pub with_section : World → Life → ℕ → Option Running → Option Running
 with_section w l mark None = None
-with_section w l mark (Some running) = Some (record running { sections = running.sections ++ section_at w l mark running ∷ []; is_waiting = true })
+with_section w l mark (Some running) =
+    Some (record running { sections = running.sections ++ section_at w l mark running ∷ []; is_waiting = true })
 
 abbrev pub capture_gives : World → Life → ℕ → End → Life
 capture_gives w l mark (ends.Captured n) = record l { checkpoint = with_section w l mark l.checkpoint; walk = Rests }
@@ -243,7 +250,8 @@ log_called w l (Rotating left) =
     if left == 1 then record l { log = Resting; newest = l.newest + 1; layout = new_layout; gate = log_header_bytes }
     else record l { log = Rotating (left - 1) }
 
--- First the calls before the sections, then the write of the section that waits, then the calls of the seal, of which the last seals.
+-- First the calls before the sections, then the write of the section that waits, then the calls of the seal, of which
+-- the last seals.
 abbrev pub running_called : Life → Running → Life
 running_called l running =
     if nat_lt 0 running.clears then record l { checkpoint = Some (record running { clears = running.clears - 1 }) }
@@ -286,7 +294,8 @@ failed_or (ending.Fails fill) call files = failed fill call files
 
 abbrev pub called_or : Ending → Outcome → World → Life → World
 called_or e (outcome.Logged call phase) w l = with_files w (called call w.files) (log_called w l l.log)
-called_or e (outcome.Checkpointed call phase) w l = with_files w (called call w.files) (checkpoint_called l l.checkpoint)
+called_or e (outcome.Checkpointed call phase) w l =
+    with_files w (called call w.files) (checkpoint_called l l.checkpoint)
 called_or e (outcome.CallFailed call) w l = with_files w (failed_or e call w.files) (record l { is_broken = true })
 called_or e x w l = w
 
@@ -310,14 +319,21 @@ stopped_or fill x w = w
 -- An opening that succeeds leaves the commands that it found; one that is refused leaves no life.
 abbrev pub opened_or : ℕ → Opened → Outcome → World → World
 opened_or stripes found (outcome.Opened calls prefix entries) w =
-    record { files = synced_below 4 w.files; history = take prefix w.history; life = Some (begun_by stripes (seen_of w.files) found) }
-opened_or stripes found (outcome.NotOpened calls reason) w = without_life w (synced_below (syncs_made reason calls) w.files)
+    record {
+      files = synced_below 4 w.files;
+      history = take prefix w.history;
+      life = Some (begun_by stripes (seen_of w.files) found);
+    }
+opened_or stripes found (outcome.NotOpened calls reason) w =
+    without_life w (synced_below (syncs_made reason calls) w.files)
 opened_or stripes found x w = w
 
 abbrev pub after_inside : World → Life → Event → Outcome → World
-after_inside w l (event.Change worker c) x = started_or x w (with_life w (with_job worker (Walks (Changing c) Begins) l))
+after_inside w l (event.Change worker c) x =
+    started_or x w (with_life w (with_job worker (Walks (Changing c) Begins) l))
 after_inside w l (event.Read worker r) x = started_or x w (with_life w (with_job worker (Walks (Reading r) Begins) l))
-after_inside w l (event.Release worker) x = started_or x w (with_life w (with_job worker (job_releasing (job_of l worker)) l))
+after_inside w l (event.Release worker) x =
+    started_or x w (with_life w (with_job worker (job_releasing (job_of l worker)) l))
 after_inside w l (event.Step worker) x = stepped_or x w (worker_stepped w l worker (job_of l worker))
 after_inside w l event.Sweep x = stepped_or x w (λ m end. with_life w (sweep_begins l l.sweep m end))
 after_inside w l event.KeeperStep x = stepped_or x w (λ m end. with_life w (keeper_stepped w l l.walk m end))

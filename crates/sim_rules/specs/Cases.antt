@@ -48,7 +48,8 @@ TakesForSweep l stripe m end = ⊥
 -- memory is wanting, with refusal 7.
 abbrev pub GivesSwept : Life → Sweep → Made → End → Type 0
 GivesSwept l sweep (made.Gave i) ends.Goes = (i ≡ sweep.stripe) × (sweep.stripe + 1 < l.stripes)
-GivesSwept l sweep (made.Gave i) (ends.Swept n) = (i ≡ sweep.stripe) × (sweep.stripe + 1 ≡ l.stripes) × (n ≡ sweep.count)
+GivesSwept l sweep (made.Gave i) (ends.Swept n) =
+    (i ≡ sweep.stripe) × (sweep.stripe + 1 ≡ l.stripes) × (n ≡ sweep.count)
 GivesSwept l sweep (made.Gave i) (ends.Refused refusal.NoMemory) = i ≡ sweep.stripe
 GivesSwept l sweep m end = ⊥
 
@@ -67,8 +68,10 @@ section_size w l mark (Some running) = length (finite.entries (section_at w l ma
 -- A capture returns what its LOOK found. Refusal 14 comes only for a stripe with more than 2^32 - 1 entries, and
 -- refusal 7 if memory is wanting.
 abbrev pub GivesCaptured : World → Life → ℕ → Made → End → Type 0
-GivesCaptured w l n (made.Gave i) (ends.Captured mark) = (i ≡ next_section l.checkpoint) × (mark ≡ n) × (section_size w l n l.checkpoint ≤ 2 ^ 32 - 1)
-GivesCaptured w l n (made.Gave i) (ends.Refused refusal.LogFull) = (i ≡ next_section l.checkpoint) × (2 ^ 32 - 1 < section_size w l n l.checkpoint)
+GivesCaptured w l n (made.Gave i) (ends.Captured mark) =
+    (i ≡ next_section l.checkpoint) × (mark ≡ n) × (section_size w l n l.checkpoint ≤ 2 ^ 32 - 1)
+GivesCaptured w l n (made.Gave i) (ends.Refused refusal.LogFull) =
+    (i ≡ next_section l.checkpoint) × (2 ^ 32 - 1 < section_size w l n l.checkpoint)
 GivesCaptured w l n (made.Gave i) (ends.Refused refusal.NoMemory) = i ≡ next_section l.checkpoint
 GivesCaptured w l n m end = ⊥
 
@@ -99,7 +102,8 @@ IsPastFull w l n = (1 ≤ n) × (most_log_bytes < gate_after w l n + 1)
 -- Stage returns the length of the longest run. It is refused with 9 after a device failure of this life, else with 16
 -- exactly if the log isn't idle. It is refused with 14 if the batch wouldn't fit into the log.
 abbrev pub StagesRun : World → Life → ℕ → Outcome → Type 0
-StagesRun w l most (outcome.Staged n) = (l.is_broken ≡ false) × (is_resting l.log ≡ true) × IsLongestRun w l most n × (IsPastFull w l n → ⊥)
+StagesRun w l most (outcome.Staged n) =
+    (l.is_broken ≡ false) × (is_resting l.log ≡ true) × IsLongestRun w l most n × (IsPastFull w l n → ⊥)
 StagesRun w l most (outcome.Refused refusal.Failed) = l.is_broken ≡ true
 StagesRun w l most (outcome.Refused refusal.WrongPhase) = (l.is_broken ≡ false) × (is_resting l.log ≡ false)
 StagesRun w l most (outcome.Refused refusal.LogFull) =
@@ -115,7 +119,8 @@ pub record IsPossible (files : Files) (call : DeviceCall) : Type 0 where
   pub place : IsPlaced (call_of call) (files (file_of call))
   pub bytes : AreBytes (bytes_of call)
 
--- the call is the one that is due: of that file, at that place, with those bytes. The low ticket of a checkpoint is left open.
+-- the call is the one that is due: of that file, at that place, with those bytes. The low ticket of a checkpoint is
+-- left open.
 pub record IsDue (w : World) (l : Life) (s : Side) (call : DeviceCall) : Type 0 where
   pub file : file_of call ≡ due_file l s
   pub low : ℕ
@@ -173,20 +178,23 @@ phase_of_checkpoint (Some running) = phase_of_running running
 abbrev pub is_last_call : Running → Bool
 is_last_call running = running.clears == 0 && (not running.is_waiting && running.seals == 1)
 
--- The last call of a seal leaves files whose greatest sealed generation is the one that was begun, with the sections and marks of its captures.
+-- The last call of a seal leaves files whose greatest sealed generation is the one that was begun, with the sections
+-- and marks of its captures.
 abbrev pub UsesRunning : Files → Life → Option Running → Type 0
 UsesRunning files l None = ⊥
 UsesRunning files l (Some running) = is_last_call running ≡ true →
-    (low : ℕ) × UsesCheckpoint (record { generation = running.generation; low = low; stripes = l.stripes; sections = running.sections }) files
+    (low : ℕ) × UsesCheckpoint
+    (record { generation = running.generation; low = low; stripes = l.stripes; sections = running.sections }) files
 
--- The outcome names the call, which is the one that is due also if it fails, and the phase after one that succeeds. After
--- a device failure of this life it is refusal 9, and no call is made.
+-- The outcome names the call, which is the one that is due also if it fails, and the phase after one that succeeds.
+-- After a device failure of this life it is refusal 9, and no call is made.
 abbrev pub MakesCall : World → Life → Side → Ending → Outcome → Type 0
 MakesCall w l s e (outcome.Refused refusal.Failed) = l.is_broken ≡ true
 MakesCall w l side.Log ending.Done (outcome.Logged call phase) =
     (l.is_broken ≡ false) × IsDue w l side.Log call × (phase ≡ phase_of_log (log_called w l l.log).log)
 MakesCall w l side.Checkpoint ending.Done (outcome.Checkpointed call phase) =
-    (l.is_broken ≡ false) × IsDue w l side.Checkpoint call × (phase ≡ phase_of_checkpoint (checkpoint_called l l.checkpoint).checkpoint)
+    (l.is_broken ≡ false) × IsDue w l side.Checkpoint call
+    × (phase ≡ phase_of_checkpoint (checkpoint_called l l.checkpoint).checkpoint)
     × UsesRunning (called call w.files) l l.checkpoint
 MakesCall w l s (ending.Fails fill) (outcome.CallFailed call) = (l.is_broken ≡ false) × IsDue w l s call
 MakesCall w l s e x = ⊥
@@ -195,7 +203,8 @@ MakesCall w l s e x = ⊥
 
 -- no checkpoint runs, the generation that follows has a number, and the log is idle if a rotation is needed
 abbrev pub may_begin : Life → Bool
-may_begin l = not (is_some l.checkpoint) && (nat_lt (l.sealed + 1) (2 ^ 64) && (not (needs_rotation l) || is_resting l.log))
+may_begin l =
+    not (is_some l.checkpoint) && (nat_lt (l.sealed + 1) (2 ^ 64) && (not (needs_rotation l) || is_resting l.log))
 
 -- Begin is refused with 9 after a device failure of this life, else with 16 exactly if it may not be.
 abbrev pub BeginsCheckpoint : Life → Outcome → Type 0
@@ -207,14 +216,17 @@ BeginsCheckpoint l x = ⊥
 -- the stripe is the next of a running checkpoint, and no write before it is still to be made
 abbrev pub may_capture : Life → Option Running → ℕ → Bool
 may_capture l None stripe = false
-may_capture l (Some running) stripe = nat_lt stripe l.stripes && (stripe == length running.sections && (running.clears == 0 && not running.is_waiting))
+may_capture l (Some running) stripe =
+    nat_lt stripe l.stripes && (stripe == length running.sections && (running.clears == 0 && not running.is_waiting))
 
 -- Capture is refused with 9 after a device failure of this life, else with 16 exactly if it may not be. Else it makes
 -- its TAKE.
 abbrev pub BeginsCapture : Life → ℕ → Outcome → Type 0
 BeginsCapture l stripe (outcome.Refused refusal.Failed) = l.is_broken ≡ true
-BeginsCapture l stripe (outcome.Refused refusal.WrongPhase) = (l.is_broken ≡ false) × (may_capture l l.checkpoint stripe ≡ false)
-BeginsCapture l stripe (outcome.Stepped m end) = (l.is_broken ≡ false) × (may_capture l l.checkpoint stripe ≡ true) × TakesForCall l stripe m end
+BeginsCapture l stripe (outcome.Refused refusal.WrongPhase) =
+    (l.is_broken ≡ false) × (may_capture l l.checkpoint stripe ≡ false)
+BeginsCapture l stripe (outcome.Stepped m end) =
+    (l.is_broken ≡ false) × (may_capture l l.checkpoint stripe ≡ true) × TakesForCall l stripe m end
 BeginsCapture l stripe x = ⊥
 
 -- all sections of a running checkpoint are written, and no seal is under way
@@ -230,10 +242,12 @@ mark_of (Some running) = greatest_mark running.sections
 -- Seal is refused with 9 after a device failure of this life, else with 16 exactly if it may not be, else with 17
 -- exactly if the durable count is below the greatest mark.
 abbrev pub BeginsSeal : Life → Outcome → Type 0
-BeginsSeal l outcome.Sealing = (l.is_broken ≡ false) × (may_seal l l.checkpoint ≡ true) × (mark_of l.checkpoint ≤ l.durable)
+BeginsSeal l outcome.Sealing =
+    (l.is_broken ≡ false) × (may_seal l l.checkpoint ≡ true) × (mark_of l.checkpoint ≤ l.durable)
 BeginsSeal l (outcome.Refused refusal.Failed) = l.is_broken ≡ true
 BeginsSeal l (outcome.Refused refusal.WrongPhase) = (l.is_broken ≡ false) × (may_seal l l.checkpoint ≡ false)
-BeginsSeal l (outcome.Refused refusal.TooEarly) = (l.is_broken ≡ false) × (may_seal l l.checkpoint ≡ true) × (l.durable < mark_of l.checkpoint)
+BeginsSeal l (outcome.Refused refusal.TooEarly) =
+    (l.is_broken ≡ false) × (may_seal l l.checkpoint ≡ true) × (l.durable < mark_of l.checkpoint)
 BeginsSeal l x = ⊥
 
 -- ---- the counts

@@ -9,9 +9,12 @@ use Rattle.sim_rules.specs.World.{World, Life, LogWork, Resting, Committing, Rot
 
 -- ---- the log
 
--- the four calls that put a frame behind a gate, by how many are left: the frame and a closed gate, a sync, the gate opened, a sync
+-- the four calls that put a frame behind a gate, by how many are left: the frame and a closed gate, a sync, the gate
+-- opened, a sync
 abbrev pub frame_call : ℕ → List ℕ → ℕ → Call
-frame_call gate frame left = if left == 4 then writes (gate + 1) (frame ++ 0 ∷ []) else if left == 2 then writes gate (open_gate ∷ []) else syncs
+frame_call gate frame left =
+    if left == 4 then writes (gate + 1) (frame ++ 0 ∷ [])
+    else if left == 2 then writes gate (open_gate ∷ []) else syncs
 
 -- First come the header of the next log, of the new version, and its closed gate, and a sync; then the end frame, which
 -- names its generation.
@@ -36,17 +39,20 @@ log_number l (Rotating left) = if nat_lt 4 left then log_file (l.newest + 1) els
 
 -- before the sections: the gate closed, a sync, and zeros where the header will stand
 abbrev pub clearing_call : ℕ → Call
-clearing_call left = if left == 3 then writes 0 (0 ∷ []) else if left == 2 then syncs else writes 1 (replicate checkpoint_header_bytes 0)
+clearing_call left = if left == 3 then writes 0 (0 ∷ []) else if left == 2 then syncs else writes 1
+    (replicate checkpoint_header_bytes 0)
 
 -- the last section, behind those before it, in the layout of the new version
 abbrev pub section_call : List Section → Call
 section_call sections =
-    writes (body_offset + length (sections_bytes new_layout (take (length sections - 1) sections))) (sections_bytes new_layout (drop (length sections - 1) sections))
+    writes (body_offset + length (sections_bytes new_layout (take (length sections - 1) sections)))
+    (sections_bytes new_layout (drop (length sections - 1) sections))
 
 -- the seal: the header, a sync, the gate opened, a sync
 abbrev pub sealing_call : Life → ℕ → Running → ℕ → Call
 sealing_call l low running left =
-    if left == 4 then writes 1 (checkpoint_header new_layout running.generation low (greatest_mark running.sections) l.stripes (length (sections_bytes new_layout running.sections)))
+    if left == 4 then writes 1 (checkpoint_header new_layout running.generation low
+    (greatest_mark running.sections) l.stripes (length (sections_bytes new_layout running.sections)))
     else if left == 2 then writes 0 (open_gate ∷ [])
     else syncs
 

@@ -52,15 +52,21 @@ new_store = record { checkpoint = first_checkpoint 16; first = []; second = None
 
 -- the world after it, if it began with this one
 abbrev pub opened_from : World → World
-opened_from from = record { files = synced_below 4 from.files; history = []; life = Some (begun_by 16 (seen_of from.files) new_store) }
+opened_from from = record {
+  files = synced_below 4 from.files;
+  history = [];
+  life = Some
+      (begun_by 16 (seen_of from.files) new_store);
+}
 
 abbrev pub opened : World
 opened = opened_from start
 
--- It takes 12 device calls: four syncs, two heads and the head of the checkpoint that is used, the length and the bytes of its file and of its log,
--- and the gate of the other checkpoint's file.
+-- It takes 12 device calls: four syncs, two heads and the head of the checkpoint that is used, the length and the bytes
+-- of its file and of its log, and the gate of the other checkpoint's file.
 abbrev pub OpensFrom : World → Type 0
-OpensFrom from = (stripes : StripeCount) (entries : Vec MapEntry) (calls : ℕ) → stripes.count ≡ 16 → entries.items ≡ [] → calls ≡ 12 →
+OpensFrom from = (stripes : StripeCount) (entries : Vec MapEntry) (calls : ℕ) → stripes.count ≡ 16 → entries.items ≡ []
+    → calls ≡ 12 →
     Meets from new_store (event.Open stripes None) (outcome.Opened calls 0 entries)
     × (after from new_store (event.Open stripes None) (outcome.Opened calls 0 entries) ≡ opened_from from)
 
@@ -74,7 +80,8 @@ FailsAmongThem = (found : Opened) (stripes : StripeCount) (fails_at : Option ℕ
 
 -- This alone is a run.
 abbrev pub OpeningIsRun : Type 0
-OpeningIsRun = (stripes : StripeCount) (entries : Vec MapEntry) (calls : ℕ) → stripes.count ≡ 16 → entries.items ≡ [] → calls ≡ 12 →
+OpeningIsRun = (stripes : StripeCount) (entries : Vec MapEntry) (calls : ℕ) → stripes.count ≡ 16 → entries.items ≡ []
+    → calls ≡ 12 →
     IsRun (event.Open stripes None ∷ []) (outcome.Opened calls 0 entries ∷ [])
 
 -- ---- a becomes 5
@@ -104,7 +111,8 @@ OtherIsRefused = AllMeet new_store opened (
 -- A key above the limit of a new log is refused. Its worker may begin another change then, and one at the limit begins
 -- its walk.
 abbrev pub LongKeyIsRefused : Type 0
-LongKeyIsRefused = (long short : Command) → length long.key ≡ new_layout.key_limit + 1 → length short.key ≡ new_layout.key_limit → AllMeet new_store opened (
+LongKeyIsRefused = (long short : Command) → length long.key ≡ new_layout.key_limit + 1
+    → length short.key ≡ new_layout.key_limit → AllMeet new_store opened (
     (event.Change 0 long, outcome.Refused refusal.KeyTooLong)
     ∷ (event.Change 0 short, outcome.Started)
     ∷ [])
@@ -112,7 +120,8 @@ LongKeyIsRefused = (long short : Command) → length long.key ≡ new_layout.key
 -- ---- its entry is swept and staged
 
 abbrev pub stripe_rows : ℕ → End → List Row
-stripe_rows stripe end = (event.KeeperStep, outcome.Stepped (made.Took stripe) ends.Goes) ∷ (event.KeeperStep, outcome.Stepped (made.Gave stripe) end) ∷ []
+stripe_rows stripe end = (event.KeeperStep, outcome.Stepped (made.Took stripe) ends.Goes) ∷
+    (event.KeeperStep, outcome.Stepped (made.Gave stripe) end) ∷ []
 
 abbrev pub sweep_rows : List Row
 sweep_rows =
@@ -121,7 +130,8 @@ sweep_rows =
 
 -- before the sweep nothing can be staged, and while it walks a Stage doesn't fit
 abbrev pub unswept_rows : List Row
-unswept_rows = (event.Stage 10, outcome.Staged 0) ∷ (event.Sweep, outcome.Stepped (made.Looked 1) ends.Goes) ∷ (event.Stage 10, outcome.Skipped) ∷ []
+unswept_rows = (event.Stage 10, outcome.Staged 0) ∷ (event.Sweep, outcome.Stepped (made.Looked 1) ends.Goes) ∷
+    (event.Stage 10, outcome.Skipped) ∷ []
 
 abbrev pub NotYetInHand : Type 0
 NotYetInHand = AllMeet new_store opened (put_rows ++ unswept_rows)
@@ -172,18 +182,22 @@ ChangeIsReleased = (bytes gate : Vec ℕ) → bytes.items ≡ frame_bytes → ga
 -- All of it, from the opening on, is a run.
 abbrev pub schedule_rows : StripeCount → Vec MapEntry → Vec ℕ → Vec ℕ → List Row
 schedule_rows stripes entries bytes gate =
-    (event.Open stripes None, outcome.Opened 12 0 entries) ∷ (staged_rows ++ (written_rows bytes ++ (withheld_rows ++ released_rows gate)))
+    (event.Open stripes None, outcome.Opened 12 0 entries) ∷ (staged_rows
+    ++ (written_rows bytes ++ (withheld_rows ++ released_rows gate)))
 
 abbrev pub ScheduleIsRun : Type 0
-ScheduleIsRun = (stripes : StripeCount) (entries : Vec MapEntry) (bytes gate : Vec ℕ) → stripes.count ≡ 16 → entries.items ≡ [] → bytes.items ≡ frame_bytes
-    → gate.items ≡ 165 ∷ [] → IsRun (map (λ row. row.0) (schedule_rows stripes entries bytes gate)) (map (λ row. row.1) (schedule_rows stripes entries bytes gate))
+ScheduleIsRun = (stripes : StripeCount) (entries : Vec MapEntry) (bytes gate : Vec ℕ) → stripes.count ≡ 16
+    → entries.items ≡ [] → bytes.items ≡ frame_bytes
+    → gate.items ≡ 165 ∷ [] → IsRun (map (λ row. row.0) (schedule_rows stripes entries bytes gate))
+    (map (λ row. row.1) (schedule_rows stripes entries bytes gate))
 
 -- ---- or its first call fails
 
 -- That is the write of the frame and a closed gate, whatever it leaves.
 abbrev pub FailsAsDue : Type 0
 FailsAsDue = (fill : Fill) (call : DeviceCall) →
-    Meets (after_rows new_store opened staged_rows) new_store (event.Device side.Log (ending.Fails fill)) (outcome.CallFailed call)
+    Meets (after_rows new_store opened staged_rows) new_store (event.Device side.Log (ending.Fails fill))
+    (outcome.CallFailed call)
     → (file_of call ≡ 2) × (call_of call ≡ writes 18 frame_bytes)
 
 -- ---- or nothing is written
@@ -209,14 +223,16 @@ UnwrittenIsNoRun = (stripes : StripeCount) (calls : ℕ) (entries : Vec MapEntry
 -- ---- or the machine stops before the gate is open, or within the call that opens it
 
 abbrev pub stopped_with : Vec ℕ → Row → World
-stopped_with bytes row = after_rows new_store opened (staged_rows ++ (written_rows bytes ++ (withheld_rows ++ row ∷ [])))
+stopped_with bytes row =
+    after_rows new_store opened (staged_rows ++ (written_rows bytes ++ (withheld_rows ++ row ∷ [])))
 
 abbrev pub StoppedBefore : Type 0
 StoppedBefore = (bytes : Vec ℕ) → bytes.items ≡ frame_bytes →
     StandsFor (seen_of (stopped_with bytes (event.Stop None New, outcome.Stopped None)).files) 0 finite.empty
 
 abbrev pub stopped_within : Vec ℕ → Vec ℕ → Fill → World
-stopped_within bytes gate fill = stopped_with bytes (event.Stop (Some side.Log) fill, outcome.Stopped (Some (device.Write 2 17 gate)))
+stopped_within bytes gate fill =
+    stopped_with bytes (event.Stop (Some side.Log) fill, outcome.Stopped (Some (device.Write 2 17 gate)))
 
 -- if the gate is left open, the change stands
 abbrev pub StoppedOpen : Type 0
@@ -238,7 +254,8 @@ OldStoreOpens = OpensFrom old_start
 
 -- A key above the limit of version 01 is refused, whatever a new log takes; one at the limit begins its walk.
 abbrev pub OldKeyIsRefused : Type 0
-OldKeyIsRefused = (long short : Command) → length long.key ≡ first_layout.key_limit + 1 → length short.key ≡ first_layout.key_limit →
+OldKeyIsRefused =
+    (long short : Command) → length long.key ≡ first_layout.key_limit + 1 → length short.key ≡ first_layout.key_limit →
     AllMeet new_store (opened_from old_start) (
     (event.Change 0 long, outcome.Refused refusal.KeyTooLong)
     ∷ (event.Change 0 short, outcome.Started)
@@ -246,12 +263,14 @@ OldKeyIsRefused = (long short : Command) → length long.key ≡ first_layout.ke
 
 -- A run begins with an Old and an opening.
 abbrev pub OldBeginsRun : Type 0
-OldBeginsRun = (stripes : StripeCount) (entries : Vec MapEntry) (calls : ℕ) → stripes.count ≡ 16 → entries.items ≡ [] → calls ≡ 12 →
+OldBeginsRun = (stripes : StripeCount) (entries : Vec MapEntry) (calls : ℕ) → stripes.count ≡ 16 → entries.items ≡ []
+    → calls ≡ 12 →
     IsRun (event.Old ∷ event.Open stripes None ∷ []) (outcome.Old ∷ outcome.Opened calls 0 entries ∷ [])
 
 -- Behind the opening the Old is skipped.
 abbrev pub SecondOldIsSkipped : Type 0
-SecondOldIsSkipped = (stripes : StripeCount) (entries : Vec MapEntry) (calls : ℕ) → stripes.count ≡ 16 → entries.items ≡ [] → calls ≡ 12 →
+SecondOldIsSkipped = (stripes : StripeCount) (entries : Vec MapEntry) (calls : ℕ) → stripes.count ≡ 16
+    → entries.items ≡ [] → calls ≡ 12 →
     IsRun (event.Open stripes None ∷ event.Old ∷ []) (outcome.Opened calls 0 entries ∷ outcome.Skipped ∷ [])
 
 -- ---- phases
@@ -269,8 +288,8 @@ RotationGoesOn = (w : World) (l : Life) →
     map (λ left. phase_of_log (log_called w l (Rotating left)).log) (6 ∷ 5 ∷ 4 ∷ 3 ∷ 2 ∷ 1 ∷ [])
     ≡ log_phase.HeaderWritten ∷ log_phase.Staged ∷ log_phase.Written ∷ log_phase.Synced ∷ log_phase.Opened ∷ log_phase.Idle ∷ []
 
--- The newest log has its layout until the last call of a rotation; then it is one of the new version. The limit for keys
--- stays.
+-- The newest log has its layout until the last call of a rotation; then it is one of the new version. The limit for
+-- keys stays.
 abbrev pub RotationTakesNewVersion : Type 0
 RotationTakesNewVersion = (w : World) (l : Life) →
     (map (λ left. (log_called w l (Rotating left)).layout) (6 ∷ 5 ∷ 4 ∷ 3 ∷ 2 ∷ 1 ∷ [])

@@ -19,7 +19,8 @@ abbrev pub names_within : Option ℕ → ℕ → Bool
 names_within None calls = false
 names_within (Some n) calls = nat_lt 0 n && nat_le n calls
 
--- what the files hold is found; the outcome has the number of its commands, and all entries of its map in rising byte order of their keys
+-- what the files hold is found; the outcome has the number of its commands, and all entries of its map in rising byte
+-- order of their keys
 pub record Finds (w : World) (found : Opened) (prefix : ℕ) (entries : List MapEntry) : Type 0 where
   pub holds : Holds (seen_of w.files) found
   pub prefix_is : prefix ≡ prefix_of found
@@ -35,8 +36,11 @@ MayTake w calls = (found : Opened) → Holds (seen_of w.files) found → calls �
 -- files that hold something makes no more device calls than finding it takes.
 abbrev pub OpensFiles : World → Opened → Option ℕ → Outcome → Type 0
 OpensFiles w found fails_at (outcome.Opened calls prefix entries) =
-    (calls ≡ opening_calls (seen_of w.files) found) × (names_within fails_at calls ≡ false) × Finds w found prefix entries.items
-OpensFiles w found fails_at (outcome.NotOpened calls refusal.Failed) = (1 ≤ calls) × (fails_at ≡ Some calls) × MayTake w calls
+    (calls ≡ opening_calls (seen_of w.files) found) × (names_within fails_at calls ≡ false)
+    × Finds w found prefix entries.items
+OpensFiles w found fails_at (outcome.NotOpened calls refusal.Failed) =
+    (1 ≤ calls) × (fails_at ≡ Some calls) × MayTake w calls
 OpensFiles w found fails_at (outcome.NotOpened calls reason) =
-    (4 ≤ calls) × (names_within fails_at calls ≡ false) × ((reason ≡ refusal.NoMemory) ⊎ Refuses (seen_of w.files) reason) × MayTake w calls
+    (4 ≤ calls) × (names_within fails_at calls ≡ false)
+    × ((reason ≡ refusal.NoMemory) ⊎ Refuses (seen_of w.files) reason) × MayTake w calls
 OpensFiles w found fails_at x = ⊥

@@ -24,7 +24,8 @@ use Rattle.sim_rules.specs.Cases.{Meets, entry_of}
 
 -- ---- the move that an outcome is
 
--- A TICKET calls the command that the worker's event named. A reply that is released is that of the worker's call, at its position.
+-- A TICKET calls the command that the worker's event named. A reply that is released is that of the worker's call, at
+-- its position.
 abbrev pub move_of : Job → Made → End → Option Move
 move_of (Walks (Changing c) stage) (made.Drew ticket) end = Some (Calls c)
 move_of (Releasing asked position asking) m (ends.Replied q reply) = Some (Releases (call q asked reply))
@@ -49,7 +50,8 @@ abbrev pub IsMove : World → Event → Outcome → Option Move → Type 0
 IsMove w e (outcome.Stepped m end) move = move ≡ move_of_step w e m end
 IsMove w e (outcome.Stopped within) move = IsStop move
 IsMove w e outcome.Left move = IsStop move
-IsMove w e (outcome.Opened calls prefix entries) move = (m : Map) × (map entry_of entries.items ≡ finite.entries m) × (move ≡ Some (Opens prefix m))
+IsMove w e (outcome.Opened calls prefix entries) move =
+    (m : Map) × (map entry_of entries.items ≡ finite.entries m) × (move ≡ Some (Opens prefix m))
 IsMove w e x move = move ≡ None
 
 abbrev pub MayMove : Machine → Option Move → Type 0
@@ -129,7 +131,8 @@ LeadsTo from (row ∷ rows) w a =
 
 -- An opening is refused only for want of memory, or by the device call that its event names, which was its last.
 abbrev pub OpensWell : Row → Type 0
-OpensWell (event.Open stripes fails_at, outcome.NotOpened calls reason) = (reason ≡ refusal.NoMemory) ⊎ ((reason ≡ refusal.Failed) × (fails_at ≡ Some calls))
+OpensWell (event.Open stripes fails_at, outcome.NotOpened calls reason) =
+    (reason ≡ refusal.NoMemory) ⊎ ((reason ≡ refusal.Failed) × (fails_at ≡ Some calls))
 OpensWell row = Unit {0}
 
 unfoldable pub rows_onto : List Row → List Event → List Outcome → List Row

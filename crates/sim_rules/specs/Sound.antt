@@ -17,14 +17,16 @@ use Rattle.sim_rules.specs.Runs.{AtEachMoment, Row, LeadsTo, least_of, most_of, 
 -- The rows begin with the world `from`.
 
 -- In a life the machine has the whole history, and no reply was released above the durable count.
-pub record IsSoundInside (from : World) (rows : List Row) (w : World) (durable : ℕ) (released : List Call) : Type 0 where
+pub record IsSoundInside (from : World) (rows : List Row) (w : World) (durable : ℕ)
+    (released : List Call) : Type 0 where
   pub leads : LeadsTo from rows w (machine w.history released)
   pub within : AreReleasedTo durable released
 
 -- Between lives it may have kept each number of commands that no release forbids. No reply was released above this
 -- count, which the next opening reaches.
 pub record IsSoundOutside (from : World) (rows : List Row) (w : World) (least : ℕ) (released : List Call) : Type 0 where
-  pub leads : (p : ℕ) → MayStop p (machine w.history released) → LeadsTo from rows w (machine (take p w.history) released)
+  pub leads : (p : ℕ) → MayStop p (machine w.history released)
+      → LeadsTo from rows w (machine (take p w.history) released)
   pub within : AreReleasedTo least released
   pub reached : least ≤ length w.history
 

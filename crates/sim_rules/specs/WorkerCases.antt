@@ -27,7 +27,8 @@ BeginsChange l c x = ⊥
 -- TAKE finds the word held exactly if another has it; then the call is over, with refusal 8.
 abbrev pub TakesForCall : Life → ℕ → Made → End → Type 0
 TakesForCall l stripe (made.Took i) ends.Goes = (i ≡ stripe) × (is_held l stripe ≡ false)
-TakesForCall l stripe (made.FoundHeld i) (ends.Refused (refusal.Busy j)) = (i ≡ stripe) × (j ≡ stripe) × (is_held l stripe ≡ true)
+TakesForCall l stripe (made.FoundHeld i) (ends.Refused (refusal.Busy j)) =
+    (i ≡ stripe) × (j ≡ stripe) × (is_held l stripe ≡ true)
 TakesForCall l stripe m end = ⊥
 
 -- ALIVE says no exactly if a FAIL of this life came before.
@@ -61,7 +62,8 @@ GivesChange stripe ticket m end = ⊥
 -- A read has as its position the greater of what its pass had seen and of one past the last ticket that was drawn on
 -- its stripe; or memory is wanting, with refusal 7.
 abbrev pub GivesRead : World → Life → ℕ → ℕ → Made → End → Type 0
-GivesRead w l worker stripe (made.Gave i) (ends.Held position) = (i ≡ stripe) × (position ≡ max (seen_by l worker) (last_on w l stripe))
+GivesRead w l worker stripe (made.Gave i) (ends.Held position) =
+    (i ≡ stripe) × (position ≡ max (seen_by l worker) (last_on w l stripe))
 GivesRead w l worker stripe (made.Gave i) (ends.Refused refusal.NoMemory) = i ≡ stripe
 GivesRead w l worker stripe m end = ⊥
 

@@ -1,4 +1,5 @@
--- What the events and outcomes so far say of a store: its files, its history, and in a life its workers, its keeper and its counts.
+-- What the events and outcomes so far say of a store: its files, its history, and in a life its workers, its keeper and
+-- its counts.
 use Rattle.std.specs.Prelude.{ℕ, ◌+◌, ◌-◌, max, List, [], ◌∷◌, length, take, drop, replicate, slice_index_or, Option, Some, None, Bool, true, false}
 use Rattle.std.specs.Prelude.{◌&&◌, ◌||◌, ◌==◌, nat_lt, if◌then◌else◌}
 use Rattle.java_hash.specs.Stripes.{stripe_of}
@@ -43,7 +44,8 @@ pub data Job : Type 0 where
 
 -- ---- the keeper
 
--- Where the entry of a ticket of this life is: its change has still to give its stripe back; it lies in the stripe's outbox; a sweep took it.
+-- Where the entry of a ticket of this life is: its change has still to give its stripe back; it lies in the stripe's
+-- outbox; a sweep took it.
 pub data Place : Type 0 where
   WithWorker : Place
   InOutbox : Place
@@ -54,8 +56,8 @@ pub record Sweep : Type 0 where
   pub count : ℕ
   pub stripe : ℕ
 
--- What the keeper walks: nothing; a sweep that comes to its TAKE, or to its GIVE; a capture that comes to its LOOK, or with what that found to its
--- GIVE.
+-- What the keeper walks: nothing; a sweep that comes to its TAKE, or to its GIVE; a capture that comes to its LOOK, or
+-- with what that found to its GIVE.
 pub data KeeperWalk : Type 0 where
   Rests : KeeperWalk
   SweepTakes : KeeperWalk

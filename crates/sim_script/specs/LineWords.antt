@@ -23,7 +23,8 @@ Gives view (Err error) read = (error ≡ NoMemory) ⊎ ((fault : BadLine) × (er
 -- the number of a decimal that fits `bits` bits
 unfoldable pub number_of : ℕ → Text → Option ℕ
 number_of bits word =
-    if is_unsigned word && nat_lt (digits_value 10 (without_leading_plus word)) (2 ^ bits) then Some (digits_value 10 (without_leading_plus word)) else None
+    if is_unsigned word && nat_lt (digits_value 10 (without_leading_plus word)) (2 ^ bits) then Some
+    (digits_value 10 (without_leading_plus word)) else None
 
 abbrev pub number_word : ℕ → Text → Result ℕ BadLine
 number_word bits word = ok_or (number_of bits word) Number

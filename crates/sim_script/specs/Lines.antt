@@ -118,7 +118,8 @@ stop_of words = Err Unknown
 
 -- the side of a word
 abbrev pub side_of : Text → Result Side BadLine
-side_of word = if bytes_eq word (codes "log") then Ok side.Log else if bytes_eq word (codes "ckpt") then Ok side.Checkpoint else Err Unknown
+side_of word = if bytes_eq word (codes "log") then Ok side.Log else if bytes_eq word
+    (codes "ckpt") then Ok side.Checkpoint else Err Unknown
 
 unfoldable pub stop_in_of : List Text → Result Line BadLine
 stop_in_of (word ∷ fill ∷ []) = do

@@ -22,8 +22,8 @@ or_more most line = max most (stripes_in line.event)
 abbrev pub most_stripes : List Line → ℕ
 most_stripes lines = fold or_more 0 lines
 
--- How many events a line has behind its first: a call makes five steps at most, and a release three behind its event; a sweep makes a LOOK, and a TAKE and
--- a GIVE on each stripe; a capture makes three.
+-- How many events a line has behind its first: a call makes five steps at most, and a release three behind its event; a
+-- sweep makes a LOOK, and a TAKE and a GIVE on each stripe; a capture makes three.
 abbrev pub more_of : ℕ → Form → ℕ
 more_of stripes (Go worker) = 4
 more_of stripes (Release worker) = 3
@@ -84,10 +84,12 @@ stray_steps at (span ∷ spans) outcomes =
     if is_stray span.form (of_line span outcomes) then Some (at + 1, at + length (of_line span outcomes))
     else stray_steps (at + length (of_line span outcomes)) spans (behind_line span outcomes)
 
--- the events from the one place up to the other are now steps of a worker that there isn't, and the others are as they were
+-- the events from the one place up to the other are now steps of a worker that there isn't, and the others are as they
+-- were
 pub record IsTakenBack (first behind : ℕ) (old new : List Event) : Type 0 where
   pub count : length new ≡ length old
-  pub nobody : (place : ℕ) → first ≤ place → place < behind → place < length old → slice_get new place ≡ Some (event.Step 64)
+  pub nobody : (place : ℕ) → first ≤ place → place < behind → place < length old
+      → slice_get new place ≡ Some (event.Step 64)
   pub before : (place : ℕ) → place < first → slice_get new place ≡ slice_get old place
   pub after : (place : ℕ) → behind ≤ place → slice_get new place ≡ slice_get old place
 

@@ -41,7 +41,8 @@ made_text (made.FoundAlive false) = codes "ALIVE no"
 abbrev pub IsEndText : End → Text → Type 0
 IsEndText ends.Goes text = text ≡ codes "goes"
 IsEndText (ends.Held position) text = text ≡ codes "held " ++ decimal position
-IsEndText (ends.Replied position reply) text = (words : Text) × IsReplyText reply words × (text ≡ codes "reply " ++ (decimal position ++ (codes " " ++ words)))
+IsEndText (ends.Replied position reply) text =
+    (words : Text) × IsReplyText reply words × (text ≡ codes "reply " ++ (decimal position ++ (codes " " ++ words)))
 IsEndText ends.NotYet text = text ≡ codes "notyet"
 IsEndText ends.Failed text = text ≡ codes "failed"
 IsEndText (ends.Swept count) text = text ≡ codes "sweep " ++ decimal count
@@ -55,7 +56,8 @@ IsOutcomeText outcome.Old text = text ≡ codes "old"
 IsOutcomeText outcome.Skipped text = text ≡ codes "skipped"
 IsOutcomeText (outcome.Refused refusal) text = Unit {0}
 IsOutcomeText (outcome.NotOpened calls refusal) text = Unit {0}
-IsOutcomeText (outcome.Opened calls prefix entries) text = text ≡ codes "open " ++ (decimal prefix ++ (codes " " ++ decimal (length entries.items)))
+IsOutcomeText (outcome.Opened calls prefix entries) text =
+    text ≡ codes "open " ++ (decimal prefix ++ (codes " " ++ decimal (length entries.items)))
 IsOutcomeText outcome.Started text = text ≡ codes "start"
 IsOutcomeText (outcome.Stepped made end) text = IsEndText end text
 IsOutcomeText (outcome.Staged count) text = text ≡ codes "staged " ++ decimal count
@@ -103,5 +105,6 @@ IsToldText form None text = text ≡ codes "skipped"
 abbrev pub IsScriptText : ℕ → List Span → List Outcome → Text → Type 0
 IsScriptText number [] outcomes text = text ≡ []
 IsScriptText number (span ∷ spans) outcomes text =
-    (line : Text) × (rest : Text) × IsToldText span.form (told_by (of_line span outcomes)) line × IsScriptText (number + 1) spans (behind_line span outcomes) rest
+    (line : Text) × (rest : Text) × IsToldText span.form (told_by (of_line span outcomes)) line
+    × IsScriptText (number + 1) spans (behind_line span outcomes) rest
     × (text ≡ (decimal number ++ (codes " " ++ (line ++ codes "\n"))) ++ rest)

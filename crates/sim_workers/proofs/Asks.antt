@@ -123,8 +123,8 @@ module _ (n : ℕ) (b : Record) (position : ℕ) (reply : Reply) (p : Record) wh
   sweeping (sweep.HasTaken alloc t) fits = no_sweep t.stripe fits.task_is
 
   capturing : (s : CaptureStage) → FitsCapture n b (ToRelease position reply) s p → ⊥
-  capturing (capture.Begins alloc i) fits = no_capture i fits.0.task_is
-  capturing (capture.HasTaken alloc t) fits = no_capture t.stripe fits.0
+  capturing (capture.Begins i) fits = no_capture i fits.0.task_is
+  capturing (capture.HasTaken t) fits = no_capture t.stripe fits.0
   capturing (capture.HasLooked t z) fits = no_capture t.stripe fits.0
 
   -- The walk of a release that stands at the record p has come to it by such steps.

@@ -271,8 +271,8 @@ sweep_goes n b asked (sweep.Begins alloc i) p fits = absurd (no_sweep asked i fi
 sweep_goes n b asked (sweep.HasTaken alloc t) p fits = absurd (no_sweep asked t.stripe fits.task_is)
 
 capture_goes : (n : ℕ) (b : Record) (asked : Asked) (s : CaptureStage) (p : Record) → FitsCapture n b (task_of asked) s p → GoesBy n b asked p
-capture_goes n b asked (capture.Begins alloc i) p fits = absurd (no_capture asked i fits.0.task_is)
-capture_goes n b asked (capture.HasTaken alloc t) p fits = absurd (no_capture asked t.stripe fits.0)
+capture_goes n b asked (capture.Begins i) p fits = absurd (no_capture asked i fits.0.task_is)
+capture_goes n b asked (capture.HasTaken t) p fits = absurd (no_capture asked t.stripe fits.0)
 capture_goes n b asked (capture.HasLooked t z) p fits = absurd (no_capture asked t.stripe fits.0)
 
 -- The walk of a call that stands at the record p has come to it by such steps.

@@ -98,7 +98,8 @@ abbrev pub task_of : Asked → Task
 task_of (Changing c) = ToChange c
 task_of (Reading r) = ToRead r
 
--- The walk of this call stands at the record p. It began with no stripe held, and the steps that the pass made since then tell its stage.
+-- The walk of this call stands at the record p. It began with no stripe held, and the steps that the pass made since
+-- then tell its stage.
 pub record IsCalling (n : ℕ) (p : Record) (walk : Walk) (asked : Asked) (stage : Stage) : Type 0 where
   pub begun : Record
   pub free : begun.holding ≡ None
@@ -113,8 +114,10 @@ pub record IsKeeping (p : Record) (held : Held) (asked : Asked) (position : ℕ)
   pub position_is : held.position ≡ position
   pub call_is : Contains p.calls (call position asked held.reply)
 
--- The walk of the release of such a reply stands at the record p, as far as the steps tell that the pass made since the walk began.
-pub record IsReleasing (n : ℕ) (p : Record) (walk : Walk) (asked : Asked) (position : ℕ) (asking : Asking) : Type 0 where
+-- The walk of the release of such a reply stands at the record p, as far as the steps tell that the pass made since the
+-- walk began.
+pub record IsReleasing (n : ℕ) (p : Record) (walk : Walk) (asked : Asked) (position : ℕ)
+    (asking : Asking) : Type 0 where
   pub begun : Record
   pub reply : Reply
   pub free : begun.holding ≡ None

@@ -19,7 +19,8 @@ use Rattle.sim_rules.specs.Told.{told_of}
 use Rattle.sim_workers.specs.Doings.{Doing, JobStands}
 use Rattle.sim_workers.specs.WordsInWorld.{WordsStand, PlacesStand}
 
--- What each worker does is its job, in a life of this world. The workers have the passes 0 to 63, and the keeper has the one after them.
+-- What each worker does is its job, in a life of this world. The workers have the passes 0 to 63, and the keeper has
+-- the one after them.
 pub record WorkersStand (b : Book) (w : World) (l : Life) (doings : ℕ → Doing) : Type 0 where
   pub words : WordsStand b w l
   pub passes : length b.passes ≡ 65
@@ -79,7 +80,8 @@ abbrev pub DrawsNone : StepMade → Type 0
 DrawsNone (Drew ticket) = ⊥
 DrawsNone step = Unit {0}
 
--- The keeper's pass made a step, after which the world has the same workers, and the counts and the stripe that the record of that pass has.
+-- The keeper's pass made a step, after which the world has the same workers, and the counts and the stripe that the
+-- record of that pass has.
 pub record KeeperMoves (b b' : Book) (w w' : World) (l l' : Life) : Type 0 where
   pub step : StepMade
   pub undrawn : DrawsNone step

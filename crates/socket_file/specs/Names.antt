@@ -5,9 +5,9 @@ use Rattle.std.specs.Str.Parse.{IsNumeral, digits_value, without_leading_plus}
 abbrev pub Text : Type 0
 Text = List ℕ
 
--- a socket can listen at the path
-abbrev pub IsListenPath : Text → Type 0
-IsListenPath path = (1 ≤ length path) × (length path ≤ 101)
+-- the address of a Unix socket has room for the path
+abbrev pub IsSocketPath : Text → Type 0
+IsSocketPath path = (1 ≤ length path) × (length path ≤ 107)
 
 -- the directory in which its socket is made, and the path there
 abbrev pub room_of : Text → Text

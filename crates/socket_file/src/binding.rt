@@ -1,7 +1,7 @@
 //! A listening socket is made at a path.
 ghost use Rattle.std.specs.Prelude.{◌≡◌, ℕ, List, IfOk, OnOk};
 ghost use Rattle.socket_file.specs.Binding.{Binds};
-ghost use Rattle.socket_file.specs.Names.{IsListenPath, IsMode, inner_of, room_of};
+ghost use Rattle.socket_file.specs.Names.{IsMode, IsSocketPath, inner_of, room_of};
 
 use crate::calls::{Found, SocketFiles};
 use crate::names::{inner_of, room_of};
@@ -39,6 +39,7 @@ fn clear<S: SocketFiles>(files: &S, room: &str, inner: &str) {
 /// Makes a socket where nobody else reaches it, gives its file these rights, and renames it to the path.
 fn bind_inside<S: SocketFiles>(
     files: &S,
+    alloc: Global,
     room: &str,
     inner: &str,
     path: &str,
@@ -51,7 +52,7 @@ fn bind_inside<S: SocketFiles>(
         S.is_renamed path.now mode listener) }
 {
     files.make_private(room)?;
-    let listener = files.listen(room, inner)?;
+    let listener = files.listen(alloc, room, inner)?;
     files.set_mode(&listener, inner, mode)?;
     files.rename(inner, path, mode)?;
     Ok(listener)
@@ -71,7 +72,7 @@ pub fn bind<S: SocketFiles>(
     path: &str,
     mode: u32,
 ) -> io::Result<S::Listener>
-    requires path { IsListenPath path.now }
+    requires path { IsSocketPath path.now }
     requires mode { IsMode mode }
     ensures { IfOk result (λ listener. Binds S.was_free S.is_private S.is_bound S.has_mode
         S.is_renamed path.now mode listener) }
@@ -80,7 +81,7 @@ pub fn bind<S: SocketFiles>(
     let room = room_of(alloc, path)?;
     let inner = inner_of(alloc, path)?;
     clear(files, &room, &inner);
-    let bound = bind_inside(files, &room, &inner, path, mode);
+    let bound = bind_inside(files, alloc, &room, &inner, path, mode);
     clear(files, &room, &inner);
     bound
 }

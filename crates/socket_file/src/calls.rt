@@ -3,9 +3,12 @@ ghost use Rattle.std.specs.Prelude.{◌≡◌, ℕ, List, false, IfOk, OnOk};
 ghost use Rattle.socket_file.specs.Names.{room_of, inner_of};
 ghost use Rattle.socket_file.specs.declared.calls.Found.TheVariants.{Nothing, Socket};
 
-use std::fs::{DirBuilder, Permissions};
+use crate::names::is_socket_path;
+use std::alloc::Global;
+use std::fs::{DirBuilder, File, Permissions};
 use std::io::ErrorKind;
 use std::net::Net;
+use std::os::fd::AsRawFd;
 use std::os::unix::fs::{DirBuilderExt, FileTypeExt, PermissionsExt};
 use std::os::unix::net::{UnixListener, UnixStream};
 use std::rt::Files;
@@ -58,8 +61,8 @@ pub trait SocketFiles {
     fn make_private(&self, path: &str) -> io::Result<()>
         ensures { OnOk result (is_private path.now) };
 
-    /// Makes a socket in such a directory, and listens at it. `path` is the directory that is made for it.
-    fn listen(&self, room: &str, inner: &str) -> io::Result<Self::Listener>
+    /// Makes a socket in such a directory, and listens at it.
+    fn listen(&self, alloc: Global, room: &str, inner: &str) -> io::Result<Self::Listener>
         requires private { is_private room.now }
         requires inside { (path : List ℕ) × (room.now ≡ room_of path)
             × (inner.now ≡ inner_of path) }
@@ -88,7 +91,7 @@ pub trait SocketFiles {
 const ROOM_MODE: u32 = 0o700;
 
 /// The files and sockets of the system. What stands there, and what it does, no contract can tell.
-impl<R: Files + Net> SocketFiles for R {
+impl<R: Files<File = File> + Net> SocketFiles for R {
     type Listener = UnixListener;
 
     ghost was_socket = { λ path. Unit {0} };
@@ -124,8 +127,15 @@ impl<R: Files + Net> SocketFiles for R {
         DirBuilder::new().mode(ROOM_MODE).create(self, path)
     }
 
-    fn listen(&self, _room: &str, inner: &str) -> io::Result<UnixListener> {
-        UnixListener::bind(self, inner)
+    // The directory of a socket whose own path is too long for an address is named by its descriptor.
+    fn listen(&self, alloc: Global, room: &str, inner: &str) -> io::Result<UnixListener> {
+        if is_socket_path(inner) {
+            return UnixListener::bind(self, inner);
+        }
+        let room = File::open(self, room)?;
+        let number = room.as_raw_fd();
+        let short = format!(in alloc; "/proc/self/fd/{number}/s")?;
+        UnixListener::bind(self, short.as_str())
     }
 
     fn set_mode(&self, _listener: &UnixListener, path: &str, mode: u32) -> io::Result<()> {

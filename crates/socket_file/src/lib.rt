@@ -9,4 +9,4 @@ mod tests;
 
 pub use binding::bind;
 pub use calls::{Found, SocketFiles};
-pub use names::{MOST_BYTES, is_listen_path, mode_named};
+pub use names::{MOST_BYTES, is_socket_path, mode_named};

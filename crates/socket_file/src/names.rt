@@ -1,16 +1,15 @@
 //! The path and the rights of a socket's file, and where it is made.
-ghost use Rattle.std.specs.Prelude.{◌≡◌, ◌≤◌, ◌↔◌, IsTrue, IfOk, length, string_bytes};
-ghost use Rattle.socket_file.specs.Names.{IsListenPath, IsModeNamed, inner_of, room_of};
+ghost use Rattle.std.specs.Prelude.{◌≡◌, ◌↔◌, IsTrue, IfOk, string_bytes};
+ghost use Rattle.socket_file.specs.Names.{IsModeNamed, IsSocketPath, inner_of, room_of};
 
 use std::alloc::{AllocError, Global};
 
-/// The most bytes of a path at which a socket can listen. The socket is made at a path of six bytes
-/// more, and the address of a Unix socket has room for 107.
-pub const MOST_BYTES: usize = 101;
+/// The most bytes of a path for which the address of a Unix socket has room.
+pub const MOST_BYTES: usize = 107;
 
-/// Whether a socket can listen at the path.
-pub fn is_listen_path(path: &str) -> bool
-    ensures { IsTrue result ↔ IsListenPath path.now }
+/// Whether the address of a Unix socket has room for the path.
+pub fn is_socket_path(path: &str) -> bool
+    ensures { IsTrue result ↔ IsSocketPath path.now }
 {
     !path.is_empty() && path.len() <= MOST_BYTES
 }
@@ -32,11 +31,9 @@ pub(crate) fn room_of(alloc: Global, path: &str) -> Result<String, AllocError>
     format!(in alloc; "{path}.new")
 }
 
-/// The path at which the socket is made. The address of a Unix socket has room for it.
+/// The path at which the socket is made.
 pub(crate) fn inner_of(alloc: Global, path: &str) -> Result<String, AllocError>
-    requires { IsListenPath path.now }
-    ensures text { IfOk result (λ inner. string_bytes inner ≡ inner_of path.now) }
-    ensures fits { IfOk result (λ inner. length (string_bytes inner) ≤ 107) }
+    ensures { IfOk result (λ inner. string_bytes inner ≡ inner_of path.now) }
 {
     format!(in alloc; "{path}.new/s")
 }

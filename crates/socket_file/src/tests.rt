@@ -1,7 +1,7 @@
 //! Sockets in a directory of their own.
 use crate::binding::bind;
 use crate::calls::{Found, SocketFiles};
-use crate::names::{is_listen_path, mode_named};
+use crate::names::{is_socket_path, mode_named};
 use std::fs;
 use std::fs::File;
 use std::io::{ErrorKind, Read, Write};
@@ -51,6 +51,22 @@ fn a_socket_has_its_rights(rt: HostRuntime) -> Result<(), Fail> {
         drop(listener);
     }
     fs::remove_dir_all(&rt, "rights")?;
+    Ok(())
+}
+
+/// The path of the last is as long as an address can be, and that at which it is made is longer.
+#[test]
+fn long_paths(rt: HostRuntime) -> Result<(), Fail> {
+    make_directory(&rt, "long")?;
+    for count in [96usize, 97, 102] {
+        let name = "x".repeat(rt.alloc(), count)?;
+        let path = format!(in rt.alloc(); "long/{name}")?;
+        let listener = bind(&rt, rt.alloc(), &path, 0o600)?;
+        assert!(rt; is_reached(&rt, &listener, &path)?);
+        assert_eq!(rt; mode_of(&rt, &path)?, 0o600);
+        drop(listener);
+    }
+    fs::remove_dir_all(&rt, "long")?;
     Ok(())
 }
 
@@ -147,8 +163,8 @@ fn words_and_paths(rt: HostRuntime) -> Result<(), Fail> {
     for (word, mode) in &WORDS {
         assert_eq!(rt; mode_named(word), *mode, "{word}");
     }
-    let longest = "x".repeat(rt.alloc(), 101)?;
-    let longer = "x".repeat(rt.alloc(), 102)?;
-    assert!(rt; is_listen_path(&longest) && !is_listen_path(&longer) && !is_listen_path(""));
+    let longest = "x".repeat(rt.alloc(), 107)?;
+    let longer = "x".repeat(rt.alloc(), 108)?;
+    assert!(rt; is_socket_path(&longest) && !is_socket_path(&longer) && !is_socket_path(""));
     Ok(())
 }

@@ -33,14 +33,17 @@ pub record IsSealedIn (k : Checkpoint) (file : File) : Type 0 where
 
 -- whatever a stop may leave of the file is a log with these batches that has ended, and names the next generation
 abbrev pub HasEnded : ℕ → ℕ → List Batch → File → Type 0
-HasEnded generation low batches file = (content : List ℕ) → MayLeave file content → IsEndedIn generation low batches (generation + 1) content
+HasEnded generation low batches file =
+    (content : List ℕ) → MayLeave file content → IsEndedIn generation low batches (generation + 1) content
 
 -- The newest log is that of the checkpoint's generation; or that one has ended, and the newest is the next.
 abbrev pub LogsStand : Checkpoint → List Batch → Option (List Batch) → LogState → List Batch → Files → Type 0
 LogsStand k first None newest staged files =
-    (newest.generation ≡ k.generation) × (newest.low ≡ k.low) × log.Stands newest first staged (files (log_file k.generation))
+    (newest.generation ≡ k.generation) × (newest.low ≡ k.low)
+    × log.Stands newest first staged (files (log_file k.generation))
 LogsStand k first (Some second) newest staged files =
-    (newest.generation ≡ k.generation + 1) × (newest.low ≡ next_low k first) × log.Stands newest second staged (files (log_file (k.generation + 1)))
+    (newest.generation ≡ k.generation + 1) × (newest.low ≡ next_low k first)
+    × log.Stands newest second staged (files (log_file (k.generation + 1)))
     × HasEnded k.generation k.low first (files (log_file k.generation))
 
 -- while the header of the log that follows is written the newest one rests; then its end frame is committed
@@ -94,7 +97,8 @@ abbrev pub WriterStands : Option CheckpointState → StoreState → Held → Fil
 WriterStands None store held file = (file ≡ at_rest held.other) × (held.sections ≡ [])
 WriterStands (Some w) store held file = Writes w store held file
 
--- The files stand as the one who writes the store knows: they hold what is found, and what was given to be written is staged.
+-- The files stand as the one who writes the store knows: they hold what is found, and what was given to be written is
+-- staged.
 pub record HasFiles (store : StoreState) (held : Held) (files : Files) : Type 0 where
   pub sealed : held.found.checkpoint.generation ≡ store.sealed
   pub checkpoint : IsSealedIn held.found.checkpoint (files (checkpoint_file store.sealed))
@@ -132,7 +136,8 @@ NextLogIsOf h (Some next) second low = IsLogOf h low []
 
 -- The history's front is held, what is staged comes next in it, and the captured sections are its parts.
 pub record HasHistory (h : History) (store : StoreState) (held : Held) : Type 0 where
-  pub restores : Restores h held.found.checkpoint.stripes held.found.checkpoint.sections held.found.checkpoint.low (log_of held.found)
+  pub restores : Restores h held.found.checkpoint.stripes held.found.checkpoint.sections held.found.checkpoint.low
+      (log_of held.found)
   pub next : IsNextOf h store.log.committed (commands_in held.staged)
   pub next_log : NextLogIsOf h store.next held.found.second (low_after store.log store.next)
   pub capture : MayCapture h store.writer held.sections store.log.committed

@@ -28,10 +28,12 @@ logs_calls contents k first (Some second) =
 abbrev pub body_bytes : Contents → Checkpoint → ℕ
 body_bytes contents k = length (sections_bytes (checkpoint_layout (contents (checkpoint_file k.generation))) k.sections)
 
--- what is read: the heads of both checkpoints, the checkpoint that is used, its logs, and the gate of the other checkpoint's file
+-- what is read: the heads of both checkpoints, the checkpoint that is used, its logs, and the gate of the other
+-- checkpoint's file
 abbrev pub reading_calls : Contents → Opened → ℕ
 reading_calls contents found =
-    2 + checkpoint_calls (body_bytes contents found.checkpoint) + logs_calls contents found.checkpoint found.first found.second + 1
+    2 + checkpoint_calls
+    (body_bytes contents found.checkpoint) + logs_calls contents found.checkpoint found.first found.second + 1
 
 -- the four files are synced, and then they are read
 abbrev pub opening_calls : Contents → Opened → ℕ

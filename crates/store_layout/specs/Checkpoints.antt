@@ -65,16 +65,19 @@ greatest_mark (section ∷ sections) = max section.mark (greatest_mark sections)
 -- version, generation, low ticket, greatest mark, stripes, length of the body
 unfoldable pub checkpoint_header : Layout → ℕ → ℕ → ℕ → ℕ → ℕ → List ℕ
 checkpoint_header layout generation low greatest stripes body =
-    layout.version ∷ (big_bytes 8 generation ++ (big_bytes 8 low ++ (big_bytes 8 greatest ++ (big_bytes 2 stripes ++ big_bytes 8 body))))
+    layout.version ∷ (big_bytes 8 generation ++ (big_bytes 8 low
+    ++ (big_bytes 8 greatest ++ (big_bytes 2 stripes ++ big_bytes 8 body))))
 
 -- the header of this checkpoint, and its sections: what stands behind the gate
 abbrev pub checkpoint_bytes : Layout → Checkpoint → List ℕ
 checkpoint_bytes layout k =
-    checkpoint_header layout k.generation k.low (greatest_mark k.sections) k.stripes (length (sections_bytes layout k.sections)) ++ sections_bytes layout k.sections
+    checkpoint_header layout k.generation k.low (greatest_mark k.sections) k.stripes
+    (length (sections_bytes layout k.sections)) ++ sections_bytes layout k.sections
 
 -- a well-formed entry whose key belongs to the stripe, of `stripes` stripes
 abbrev pub IsEntryOf : Layout → ℕ → ℕ → List ℕ × Value → Type 0
-IsEntryOf layout stripes stripe entry = IsText layout.key_limit entry.0 × IsValue entry.1 × (stripe_of stripes entry.0 ≡ stripe)
+IsEntryOf layout stripes stripe entry =
+    IsText layout.key_limit entry.0 × IsValue entry.1 × (stripe_of stripes entry.0 ≡ stripe)
 
 -- a section of the stripe, of `stripes` stripes
 pub record IsSection (layout : Layout) (stripes stripe : ℕ) (section : Section) : Type 0 where
@@ -85,7 +88,8 @@ pub record IsSection (layout : Layout) (stripes stripe : ℕ) (section : Section
 -- the sections of the stripes from this one on
 abbrev pub AreSections : Layout → ℕ → ℕ → List Section → Type 0
 AreSections layout stripes stripe [] = Unit {0}
-AreSections layout stripes stripe (section ∷ sections) = IsSection layout stripes stripe section × AreSections layout stripes (stripe + 1) sections
+AreSections layout stripes stripe (section ∷ sections) =
+    IsSection layout stripes stripe section × AreSections layout stripes (stripe + 1) sections
 
 -- no mark is below the low ticket
 abbrev pub AreMarkedFrom : ℕ → List Section → Type 0

@@ -59,7 +59,8 @@ FirstChange = StandsFor (files new_checkpoint [] (log_with_five 165) []) 1 (fini
 
 -- the same change in a log of version 02, in which the key's length has two bytes
 abbrev pub second_log : List ℕ
-second_log = 2 ∷ (eight 0 ++ (eight 0 ++ 165 ∷ 1 ∷ (four 25 ++ (eight 0 ++ (four 1 ++ (16 ∷ 0 ∷ 1 ∷ 97 ∷ 1 ∷ (eight 5 ++ 0 ∷ [])))))))
+second_log = 2 ∷ (eight 0 ++ (eight 0 ++ 165 ∷ 1 ∷
+    (four 25 ++ (eight 0 ++ (four 1 ++ (16 ∷ 0 ∷ 1 ∷ 97 ∷ 1 ∷ (eight 5 ++ 0 ∷ [])))))))
 
 -- a checkpoint and its log may have different versions
 abbrev pub SecondVersion : Type 0
@@ -73,7 +74,8 @@ UncommittedChange = (gate : ℕ) → gate ≢ 165 → StandsFor (files new_check
 
 -- the checkpoint before it
 abbrev pub old_checkpoint : List ℕ
-old_checkpoint = 165 ∷ 1 ∷ (eight 0 ++ (eight 0 ++ (eight 0 ++ (0 ∷ 2 ∷ (eight 24 ++ (eight 0 ++ (four 0 ++ (eight 0 ++ four 0))))))))
+old_checkpoint = 165 ∷ 1 ∷ (eight 0 ++ (eight 0 ++
+    (eight 0 ++ (0 ∷ 2 ∷ (eight 24 ++ (eight 0 ++ (four 0 ++ (eight 0 ++ four 0))))))))
 
 -- the first log has ended
 abbrev pub ended_log : List ℕ
@@ -82,11 +84,13 @@ ended_log = 1 ∷ (eight 0 ++ (eight 0 ++ 165 ∷ 2 ∷ (four 8 ++ (eight 1 ++ 0
 -- b was 2 after two commands, and a was 4 after four
 abbrev pub next_checkpoint : List ℕ
 next_checkpoint =
-    165 ∷ 1 ∷ (eight 1 ++ (eight 0 ++ (eight 4 ++ (0 ∷ 2 ∷ (eight 46 ++ (eight 2 ++ (four 1 ++ (mapped 98 2 ++ (eight 4 ++ (four 1 ++ mapped 97 4))))))))))
+    165 ∷ 1 ∷ (eight 1 ++ (eight 0 ++ (eight 4 ++
+    (0 ∷ 2 ∷ (eight 46 ++ (eight 2 ++ (four 1 ++ (mapped 98 2 ++ (eight 4 ++ (four 1 ++ mapped 97 4))))))))))
 
 -- a becomes 1, b becomes 2, b becomes 3, a becomes 4
 abbrev pub four_puts : List ℕ
-four_puts = 1 ∷ (eight 1 ++ (eight 0 ++ 165 ∷ 1 ∷ (four 60 ++ (eight 0 ++ (four 4 ++ (put 97 1 ++ (put 98 2 ++ (put 98 3 ++ put 97 4))))))))
+four_puts = 1 ∷ (eight 1 ++ (eight 0 ++ 165 ∷ 1 ∷
+    (four 60 ++ (eight 0 ++ (four 4 ++ (put 97 1 ++ (put 98 2 ++ (put 98 3 ++ put 97 4))))))))
 
 abbrev pub next_log : List ℕ
 next_log = four_puts ++ 0 ∷ []
@@ -100,7 +104,8 @@ SealedWhileChanging = StandsFor (files old_checkpoint next_checkpoint ended_log 
 
 -- before it is sealed the same commands count all
 abbrev pub NotYetSealed : Type 0
-NotYetSealed = (gate : ℕ) → gate ≢ 165 → (rest : List ℕ) → StandsFor (files old_checkpoint (gate ∷ rest) ended_log next_log) 4 four_and_three
+NotYetSealed = (gate : ℕ) → gate ≢ 165 → (rest : List ℕ)
+    → StandsFor (files old_checkpoint (gate ∷ rest) ended_log next_log) 4 four_and_three
 
 -- ---- the checkpoint of the generation after that is half written, behind a closed gate
 
@@ -111,7 +116,8 @@ abbrev pub third_log : List ℕ
 third_log = 1 ∷ (eight 2 ++ (eight 4 ++ 0 ∷ []))
 
 abbrev pub HalfWritten : Type 0
-HalfWritten = (gate : ℕ) → gate ≢ 165 → (rest : List ℕ) → StandsFor (files (gate ∷ rest) next_checkpoint third_log next_ended_log) 4 four_and_three
+HalfWritten = (gate : ℕ) → gate ≢ 165 → (rest : List ℕ)
+    → StandsFor (files (gate ∷ rest) next_checkpoint third_log next_ended_log) 4 four_and_three
 
 -- ---- refusals
 
@@ -120,29 +126,37 @@ NoStore = Refuses (files [] [] [] []) NotFormatted
 
 -- 35 bytes behind an open gate make a sealed checkpoint, 34 don't
 abbrev pub TooFewBytes : Type 0
-TooFewBytes = Refuses (files (165 ∷ (eight 0 ++ (eight 0 ++ (eight 0 ++ (eight 0 ++ (0 ∷ 0 ∷ [])))))) [] new_log []) NotFormatted
+TooFewBytes =
+    Refuses (files (165 ∷ (eight 0 ++ (eight 0 ++ (eight 0 ++ (eight 0 ++ (0 ∷ 0 ∷ [])))))) [] new_log []) NotFormatted
 
 abbrev pub OtherVersion : Type 0
-OtherVersion = Refuses (files (165 ∷ 7 ∷ (eight 0 ++ (eight 0 ++ (eight 0 ++ (0 ∷ 1 ∷ (eight 12 ++ (eight 0 ++ four 0))))))) [] new_log []) WrongVersion
+OtherVersion = Refuses (files (165 ∷ 7 ∷
+    (eight 0 ++ (eight 0 ++ (eight 0 ++ (0 ∷ 1 ∷ (eight 12 ++ (eight 0 ++ four 0))))))) [] new_log []) WrongVersion
 
 abbrev pub OtherFile : Type 0
 OtherFile = Refuses (files new_checkpoint new_checkpoint new_log []) (Damaged 1 2)
 
 abbrev pub ThreeStripes : Type 0
-ThreeStripes = Refuses (files (165 ∷ 1 ∷ (eight 0 ++ (eight 0 ++ (eight 0 ++ (0 ∷ 3 ∷ (eight 12 ++ (eight 0 ++ four 0))))))) [] new_log []) (Damaged 0 26)
+ThreeStripes = Refuses (files (165 ∷ 1 ∷
+    (eight 0 ++ (eight 0 ++ (eight 0 ++ (0 ∷ 3 ∷ (eight 12 ++ (eight 0 ++ four 0))))))) [] new_log []) (Damaged 0 26)
 
 abbrev pub LongBody : Type 0
-LongBody = Refuses (files (165 ∷ 1 ∷ (eight 0 ++ (eight 0 ++ (eight 0 ++ (0 ∷ 1 ∷ (eight 13 ++ (eight 0 ++ four 0))))))) [] new_log []) (Damaged 0 28)
+LongBody = Refuses (files (165 ∷ 1 ∷ (eight 0 ++
+    (eight 0 ++ (eight 0 ++ (0 ∷ 1 ∷ (eight 13 ++ (eight 0 ++ four 0))))))) [] new_log []) (Damaged 0 28)
 
 -- one entry is announced, and none stands there
 abbrev pub MissingEntry : Type 0
-MissingEntry = Refuses (files (165 ∷ 1 ∷ (eight 0 ++ (eight 0 ++ (eight 0 ++ (0 ∷ 1 ∷ (eight 12 ++ (eight 0 ++ four 1))))))) [] new_log []) (Damaged 0 48)
+MissingEntry = Refuses (files (165 ∷ 1 ∷
+    (eight 0 ++ (eight 0 ++ (eight 0 ++ (0 ∷ 1 ∷ (eight 12 ++ (eight 0 ++ four 1))))))) [] new_log []) (Damaged 0 48)
 
 abbrev pub ByteLeftOver : Type 0
-ByteLeftOver = Refuses (files (165 ∷ 1 ∷ (eight 0 ++ (eight 0 ++ (eight 0 ++ (0 ∷ 1 ∷ (eight 13 ++ (eight 0 ++ (four 0 ++ 0 ∷ [])))))))) [] new_log []) (Damaged 0 48)
+ByteLeftOver = Refuses (files (165 ∷ 1 ∷
+    (eight 0 ++ (eight 0 ++ (eight 0 ++ (0 ∷ 1 ∷ (eight 13 ++ (eight 0 ++ (four 0 ++ 0 ∷ [])))))))) [] new_log [])
+    (Damaged 0 48)
 
 abbrev pub OtherGreatestMark : Type 0
-OtherGreatestMark = Refuses (files (165 ∷ 1 ∷ (eight 0 ++ (eight 0 ++ (eight 1 ++ (0 ∷ 1 ∷ (eight 12 ++ (eight 0 ++ four 0))))))) [] new_log []) (Damaged 0 18)
+OtherGreatestMark = Refuses (files (165 ∷ 1 ∷
+    (eight 0 ++ (eight 0 ++ (eight 1 ++ (0 ∷ 1 ∷ (eight 12 ++ (eight 0 ++ four 0))))))) [] new_log []) (Damaged 0 18)
 
 abbrev pub NoLog : Type 0
 NoLog = Refuses (files new_checkpoint [] [] []) (Damaged 2 0)
@@ -156,4 +170,5 @@ NoFrame = Refuses (files new_checkpoint [] (1 ∷ (eight 0 ++ (eight 0 ++ 165 �
 
 -- the log stops before the greatest mark
 abbrev pub BelowMark : Type 0
-BelowMark = Refuses (files old_checkpoint next_checkpoint ended_log (1 ∷ (eight 1 ++ (eight 0 ++ 0 ∷ [])))) (Damaged 3 17)
+BelowMark =
+    Refuses (files old_checkpoint next_checkpoint ended_log (1 ∷ (eight 1 ++ (eight 0 ++ 0 ∷ [])))) (Damaged 3 17)

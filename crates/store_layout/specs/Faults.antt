@@ -44,7 +44,8 @@ body_in content = take (body_length_in content) (drop body_offset content)
 
 -- the checkpoint that the fields name, with these sections
 abbrev pub checkpoint_in : List ℕ → List Section → Checkpoint
-checkpoint_in content sections = record { generation = generation_in content; low = low_in content; stripes = stripes_in content; sections = sections }
+checkpoint_in content sections =
+    record { generation = generation_in content; low = low_in content; stripes = stripes_in content; sections = sections }
 
 -- ---- fields that may not be
 
@@ -81,13 +82,15 @@ pub record HasBadEntry (layout : Layout) (stripes stripe : ℕ) (bytes : List �
   pub rest : List ℕ
   pub spelled : bytes ≡ big_bytes 8 mark ++ (big_bytes 4 count ++ (entries_bytes layout before ++ rest))
   pub fewer : length before < count
-  pub none_next : (entry : List ℕ × Value) (others : List ℕ) → rest ≡ entry_bytes layout entry ++ others → AreEntries layout stripes stripe (before ++ entry ∷ []) → ⊥
+  pub none_next : (entry : List ℕ × Value) (others : List ℕ) → rest ≡ entry_bytes layout entry ++ others
+      → AreEntries layout stripes stripe (before ++ entry ∷ []) → ⊥
   pub place : offset ≡ 12 + length (entries_bytes layout before)
 
 -- What is wrong where the section of this stripe is to stand, or the body is to end, and how far from there.
 pub data IsFault (layout : Layout) (stripes stripe : ℕ) (bytes : List ℕ) (offset : ℕ) : Type 0 where
   no_head : stripe < stripes → length bytes < 12 → offset ≡ 0 → IsFault layout stripes stripe bytes offset
-  bad_entry : stripe < stripes → HasBadEntry layout stripes stripe bytes offset → IsFault layout stripes stripe bytes offset
+  bad_entry : stripe < stripes → HasBadEntry layout stripes stripe bytes offset
+      → IsFault layout stripes stripe bytes offset
   left_over : stripe ≡ stripes → 0 < length bytes → offset ≡ 0 → IsFault layout stripes stripe bytes offset
 
 -- some whole sections, and then a fault
@@ -111,6 +114,8 @@ pub record HasBadMarks (layout : Layout) (content : List ℕ) : Type 0 where
 -- What is wrong with the file that is used, and its refusal.
 pub data IsBadCheckpoint (layout : Layout) (file : ℕ) (content : List ℕ) (refusal : Refusal) : Type 0 where
   bad_size : size_fault file content ≡ Some refusal → IsBadCheckpoint layout file content refusal
-  bad_section : (offset : ℕ) → size_fault file content ≡ None → HasFault layout (stripes_in content) (body_in content) offset
+  bad_section : (offset : ℕ) → size_fault file content ≡ None
+      → HasFault layout (stripes_in content) (body_in content) offset
       → refusal ≡ Damaged file (body_offset + offset) → IsBadCheckpoint layout file content refusal
-  bad_marks : size_fault file content ≡ None → HasBadMarks layout content → refusal ≡ Damaged file 18 → IsBadCheckpoint layout file content refusal
+  bad_marks : size_fault file content ≡ None → HasBadMarks layout content → refusal ≡ Damaged file 18
+      → IsBadCheckpoint layout file content refusal

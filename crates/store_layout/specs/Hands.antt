@@ -33,4 +33,5 @@ most_from first most = min (min most most_commands) (18446744073709551615 - firs
 pub record IsLongest (layout : Layout) (most : ℕ) (hand : Hand) (commands : List Command) : Type 0 where
   pub run : IsRun hand commands
   pub fits : FitsBatch layout most hand.next commands
-  pub longest : (others : List Command) → IsRun hand others → FitsBatch layout most hand.next others → length others ≤ length commands
+  pub longest : (others : List Command) → IsRun hand others → FitsBatch layout most hand.next others
+      → length others ≤ length commands

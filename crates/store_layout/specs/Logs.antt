@@ -97,7 +97,8 @@ pub record IsBatch (layout : Layout) (batch : Batch) : Type 0 where
 -- batches that may stand in a log whose low ticket this is: none is skipped
 abbrev pub IsRun : Layout → ℕ → List Batch → Type 0
 IsRun layout low [] = Unit {0}
-IsRun layout low (batch ∷ batches) = IsBatch layout batch × (batch.first ≡ low) × IsRun layout (low + length batch.commands) batches
+IsRun layout low (batch ∷ batches) =
+    IsBatch layout batch × (batch.first ≡ low) × IsRun layout (low + length batch.commands) batches
 
 -- the header's numbers fit 64 bits, and the batches may stand behind it
 pub record IsLog (layout : Layout) (generation low : ℕ) (batches : List Batch) : Type 0 where
@@ -113,9 +114,10 @@ pub record IsClosed (layout : Layout) (generation low : ℕ) (batches : List Bat
   pub closed : gate ≢ open_gate
   pub log : IsLog layout generation low batches
 
--- A log that has ended: its header, then open gate and frame any number of times, then an open gate and the end frame that names the next
--- generation, then any one byte, then anything.
-pub record IsEnded (layout : Layout) (generation low : ℕ) (batches : List Batch) (next : ℕ) (content : List ℕ) : Type 0 where
+-- A log that has ended: its header, then open gate and frame any number of times, then an open gate and the end frame
+-- that names the next generation, then any one byte, then anything.
+pub record IsEnded (layout : Layout) (generation low : ℕ) (batches : List Batch) (next : ℕ)
+    (content : List ℕ) : Type 0 where
   pub after : ℕ
   pub rest : List ℕ
   pub bytes : content ≡ log_front layout generation low batches ++ open_gate ∷ (end_frame next ++ after ∷ rest)

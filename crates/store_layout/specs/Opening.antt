@@ -99,9 +99,11 @@ history_of found = record { first = prefix_of found; opening = map_of found; com
 
 -- the file has no sealed checkpoint, or an older one
 abbrev pub IsOlder : ℕ → ℕ → List ℕ → Type 0
-IsOlder generation file content = (is_sealed content ≡ false) ⊎ ((head_fault file content ≡ None) × (generation_in content < generation))
+IsOlder generation file content =
+    (is_sealed content ≡ false) ⊎ ((head_fault file content ≡ None) × (generation_in content < generation))
 
--- The log of the checkpoint's generation goes on from its low ticket and is closed; or it has ended, and the next goes on and is closed.
+-- The log of the checkpoint's generation goes on from its low ticket and is closed; or it has ended, and the next goes
+-- on and is closed.
 abbrev pub AreLogs : Contents → Checkpoint → List Batch → Option (List Batch) → Type 0
 AreLogs contents k first None = IsClosedIn k.generation k.low first (contents (log_file k.generation))
 AreLogs contents k first (Some second) =
@@ -111,7 +113,8 @@ AreLogs contents k first (Some second) =
 -- the files hold what is found
 pub record Holds (contents : Contents) (found : Opened) : Type 0 where
   pub checkpoint : IsCheckpointIn found.checkpoint (contents (checkpoint_file found.checkpoint.generation))
-  pub other : IsOlder found.checkpoint.generation (checkpoint_file (found.checkpoint.generation + 1)) (contents (checkpoint_file (found.checkpoint.generation + 1)))
+  pub other : IsOlder found.checkpoint.generation (checkpoint_file (found.checkpoint.generation + 1))
+      (contents (checkpoint_file (found.checkpoint.generation + 1)))
   pub logs : AreLogs contents found.checkpoint found.first found.second
   pub reaches : greatest_mark found.checkpoint.sections ≤ prefix_of found
 
@@ -139,7 +142,13 @@ empty_section = record { mark = 0; map = finite.empty }
 
 -- the checkpoint that a store of `stripes` stripes begins with
 abbrev pub first_checkpoint : ℕ → Checkpoint
-first_checkpoint stripes = record { generation = 0; low = 0; stripes = stripes; sections = map (λ stripe. empty_section) (range_with_len 0 stripes) }
+first_checkpoint stripes = record {
+  generation = 0;
+  low = 0;
+  stripes = stripes;
+  sections = map (λ stripe. empty_section)
+      (range_with_len 0 stripes);
+}
 
 -- ---- refusals
 
@@ -174,23 +183,28 @@ pub data AreBadLogs (contents : Contents) (k : Checkpoint) (refusal : Refusal) :
   bad_frame : (first : List Batch) → ReadsIn k.generation k.low (contents (log_file k.generation)) (broken first)
       → refusal ≡ damage_behind contents (newest_by k first None) → AreBadLogs contents k refusal
   bad_next_header : (first : List Batch) → ReadsIn k.generation k.low (contents (log_file k.generation)) (ended first)
-      → IsBadHeader (k.generation + 1) (next_low k first) (contents (log_file (k.generation + 1))) refusal → AreBadLogs contents k refusal
-  bad_next_frame : (first second : List Batch) → ReadsIn k.generation k.low (contents (log_file k.generation)) (ended first)
+      → IsBadHeader (k.generation + 1) (next_low k first) (contents (log_file (k.generation + 1))) refusal
+      → AreBadLogs contents k refusal
+  bad_next_frame : (first second : List Batch) → ReadsIn k.generation k.low (contents (log_file k.generation))
+      (ended first)
       → ReadsIn (k.generation + 1) (next_low k first) (contents (log_file (k.generation + 1))) (broken second)
       → refusal ≡ damage_behind contents (newest_by k first (Some second)) → AreBadLogs contents k refusal
   second_end : (first second : List Batch) → ReadsIn k.generation k.low (contents (log_file k.generation)) (ended first)
       → ReadsIn (k.generation + 1) (next_low k first) (contents (log_file (k.generation + 1))) (ended second)
       → refusal ≡ damage_behind contents (newest_by k first (Some second)) → AreBadLogs contents k refusal
-  below_mark : (first : List Batch) (second : Option (List Batch)) → AreLogs contents k first second → k.low + length (logged_by first second) < greatest_mark k.sections
+  below_mark : (first : List Batch) (second : Option (List Batch)) → AreLogs contents k first second
+      → k.low + length (logged_by first second) < greatest_mark k.sections
       → refusal ≡ damage_behind contents (newest_by k first second) → AreBadLogs contents k refusal
 
 -- Opening the files is refused, and with this refusal. What is wrong is looked for in the heads of the sealed
 -- checkpoints, in the checkpoint that is used, and in its logs, in this order.
 pub data Refuses (contents : Contents) (refusal : Refusal) : Type 0 where
   bad_heads : heads_fault contents ≡ Some refusal → Refuses contents refusal
-  bad_checkpoint : heads_fault contents ≡ None → IsBadCheckpointIn (newest_file contents) (contents (newest_file contents)) refusal
+  bad_checkpoint : heads_fault contents ≡ None → IsBadCheckpointIn (newest_file contents)
+      (contents (newest_file contents)) refusal
       → Refuses contents refusal
-  bad_logs : (k : Checkpoint) → heads_fault contents ≡ None → IsCheckpointIn k (contents (newest_file contents)) → AreBadLogs contents k refusal
+  bad_logs : (k : Checkpoint) → heads_fault contents ≡ None → IsCheckpointIn k (contents (newest_file contents))
+      → AreBadLogs contents k refusal
       → Refuses contents refusal
 
 -- what opening the files gives

@@ -19,29 +19,38 @@ use Rattle.store_layout.specs.Opening.{Contents, IsCheckpointIn, IsClosedIn, Ope
 
 -- a content has one checkpoint, or one fault
 abbrev pub OneCheckpoint : Type 0
-OneCheckpoint = (layout : Layout) (k j : Checkpoint) (content : List ℕ) → IsLayout layout → IsCheckpoint layout k content → IsCheckpoint layout j content → k ≡ j
+OneCheckpoint = (layout : Layout) (k j : Checkpoint) (content : List ℕ) → IsLayout layout
+    → IsCheckpoint layout k content → IsCheckpoint layout j content → k ≡ j
 
 abbrev pub OneFault : Type 0
-OneFault = (layout : Layout) (file : ℕ) (content : List ℕ) (a b : Refusal) → IsLayout layout → IsBadCheckpoint layout file content a → IsBadCheckpoint layout file content b → a ≡ b
+OneFault = (layout : Layout) (file : ℕ) (content : List ℕ) (a b : Refusal) → IsLayout layout
+    → IsBadCheckpoint layout file content a → IsBadCheckpoint layout file content b → a ≡ b
 
 abbrev pub NoFault : Type 0
-NoFault = (layout : Layout) (file : ℕ) (k : Checkpoint) (content : List ℕ) (refusal : Refusal) → IsLayout layout → IsCheckpoint layout k content → IsBadCheckpoint layout file content refusal → ⊥
+NoFault = (layout : Layout) (file : ℕ) (k : Checkpoint) (content : List ℕ) (refusal : Refusal) → IsLayout layout
+    → IsCheckpoint layout k content → IsBadCheckpoint layout file content refusal → ⊥
 
 -- the head of a sealed checkpoint, if its version is read
 abbrev pub SealedHead : Type 0
-SealedHead = (layout : Layout) (k : Checkpoint) (content : List ℕ) → is_read layout.version ≡ true → IsCheckpoint layout k content →
-    (is_sealed content ≡ true) × (generation_in content ≡ k.generation) × (head_fault (checkpoint_file k.generation) content ≡ None)
+SealedHead = (layout : Layout) (k : Checkpoint) (content : List ℕ) → is_read layout.version ≡ true
+    → IsCheckpoint layout k content →
+    (is_sealed content ≡ true) × (generation_in content ≡ k.generation)
+    × (head_fault (checkpoint_file k.generation) content ≡ None)
 
 -- A file of the layout's version in which none of the faults is found holds the checkpoint that its fields name.
 abbrev pub FieldsMakeCheckpoint : Type 0
-FieldsMakeCheckpoint = (layout : Layout) (file : ℕ) (content : List ℕ) (sections : List Section) → IsBytes content → is_sealed content ≡ true →
+FieldsMakeCheckpoint = (layout : Layout) (file : ℕ) (content : List ℕ) (sections : List Section) → IsBytes content
+    → is_sealed content ≡ true →
     head_fault file content ≡ None → version_in content ≡ layout.version → size_fault file content ≡ None →
-    body_in content ≡ sections_bytes layout sections → length sections ≡ stripes_in content → AreSections layout (stripes_in content) 0 sections →
-    greatest_mark sections ≡ greatest_in content → AreMarkedFrom (low_in content) sections → IsCheckpoint layout (checkpoint_in content sections) content
+    body_in content ≡ sections_bytes layout sections → length sections ≡ stripes_in content
+    → AreSections layout (stripes_in content) 0 sections →
+    greatest_mark sections ≡ greatest_in content → AreMarkedFrom (low_in content) sections
+    → IsCheckpoint layout (checkpoint_in content sections) content
 
 -- a checkpoint whose version is read is older than any of a greater generation
 abbrev pub OlderCheckpoint : Type 0
-OlderCheckpoint = (layout : Layout) (k : Checkpoint) (generation : ℕ) (content : List ℕ) → is_read layout.version ≡ true → IsCheckpoint layout k content → k.generation < generation →
+OlderCheckpoint = (layout : Layout) (k : Checkpoint) (generation : ℕ) (content : List ℕ) → is_read layout.version ≡ true
+    → IsCheckpoint layout k content → k.generation < generation →
     IsOlder generation (checkpoint_file k.generation) content
 
 -- behind a closed gate nothing is sealed, nor in an empty file
@@ -60,8 +69,10 @@ HeldIsUsed = (contents : Contents) (found : Opened) → Holds contents found →
 
 -- if the heads have no fault, the checkpoint that is used and its logs are held
 abbrev pub UsedIsHeld : Type 0
-UsedIsHeld = (contents : Contents) (found : Opened) → heads_fault contents ≡ None → IsCheckpointIn found.checkpoint (contents (newest_file contents)) →
-    AreLogs contents found.checkpoint found.first found.second → greatest_mark found.checkpoint.sections ≤ prefix_of found → Holds contents found
+UsedIsHeld = (contents : Contents) (found : Opened) → heads_fault contents ≡ None
+    → IsCheckpointIn found.checkpoint (contents (newest_file contents)) →
+    AreLogs contents found.checkpoint found.first found.second
+    → greatest_mark found.checkpoint.sections ≤ prefix_of found → Holds contents found
 
 -- opening files gives one thing: what they hold, or a refusal
 abbrev pub OpensOneWay : Type 0
@@ -69,13 +80,16 @@ OpensOneWay = (contents : Contents) (a b : Result Opened Refusal) → Opens cont
 
 -- and it gives one
 abbrev pub OpensSomehow : Type 0
-OpensSomehow = (contents : Contents) → ((file : ℕ) → file < 4 → IsBytes (contents file)) → (x : Result Opened Refusal) × Opens contents x
+OpensSomehow = (contents : Contents) → ((file : ℕ) → file < 4 → IsBytes (contents file))
+    → (x : Result Opened Refusal) × Opens contents x
 
 abbrev pub OneStanding : Type 0
-OneStanding = (contents : Contents) (p q : ℕ) (m n : Map) → StandsFor contents p m → StandsFor contents q n → (p ≡ q) × (m ≡ n)
+OneStanding =
+    (contents : Contents) (p q : ℕ) (m n : Map) → StandsFor contents p m → StandsFor contents q n → (p ≡ q) × (m ≡ n)
 
 abbrev pub NeverBoth : Type 0
-NeverBoth = (contents : Contents) (p : ℕ) (m : Map) (refusal : Refusal) → StandsFor contents p m → Refuses contents refusal → ⊥
+NeverBoth =
+    (contents : Contents) (p : ℕ) (m : Map) (refusal : Refusal) → StandsFor contents p m → Refuses contents refusal → ⊥
 
 -- What is found restores its own map, of which it is the history.
 abbrev pub FoundRestores : Type 0
@@ -85,20 +99,24 @@ FoundRestores = (contents : Contents) (found : Opened) → Holds contents found 
 -- Files whose sections and logs restore a history stand for a front of it.
 abbrev pub RestoredStands : Type 0
 RestoredStands = (h : History) (contents : Contents) (found : Opened) → Holds contents found →
-    Restores h found.checkpoint.stripes found.checkpoint.sections found.checkpoint.low (log_of found) → StandsForFront h (prefix_of found) (prefix_of found) contents
+    Restores h found.checkpoint.stripes found.checkpoint.sections found.checkpoint.low (log_of found)
+    → StandsForFront h (prefix_of found) (prefix_of found) contents
 
 -- a front of a history stays one of the history that has grown
 abbrev pub FrontStays : Type 0
-FrontStays = (h : History) (least most : ℕ) (contents : Contents) (more : List Command) → StandsForFront h least most contents → StandsForFront (grown h more) least most contents
+FrontStays = (h : History) (least most : ℕ) (contents : Contents) (more : List Command)
+    → StandsForFront h least most contents → StandsForFront (grown h more) least most contents
 
 -- ---- a new store
 
 -- it may stand in a file, with 12 bytes for each stripe
 abbrev pub FirstIsWhole : Type 0
 FirstIsWhole = (layout : Layout) (stripes : ℕ) → is_stripe_count stripes ≡ true →
-    IsWhole layout (first_checkpoint stripes) × (length (checkpoint_bytes layout (first_checkpoint stripes)) ≡ checkpoint_header_bytes + 12 * stripes)
+    IsWhole layout (first_checkpoint stripes) × (length (checkpoint_bytes layout (first_checkpoint stripes))
+    ≡ checkpoint_header_bytes + 12 * stripes)
 
 -- A new store stands for no command and the empty map.
 abbrev pub FirstStands : Type 0
-FirstStands = (contents : Contents) (stripes : ℕ) → IsCheckpointIn (first_checkpoint stripes) (contents 0) → is_sealed (contents 1) ≡ false →
+FirstStands = (contents : Contents) (stripes : ℕ) → IsCheckpointIn (first_checkpoint stripes) (contents 0)
+    → is_sealed (contents 1) ≡ false →
     IsClosedIn 0 0 [] (contents 2) → StandsFor contents 0 finite.empty

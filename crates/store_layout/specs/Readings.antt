@@ -17,19 +17,25 @@ pub record HasHeader (version generation low : ℕ) (content : List ℕ) : Type 
   pub generation_fits : generation < 2 ^ 64
   pub low_fits : low < 2 ^ 64
 
--- What is wrong with the header of a log that is to have this generation and this low ticket: the first of these faults, and its refusal.
+-- What is wrong with the header of a log that is to have this generation and this low ticket: the first of these
+-- faults, and its refusal.
 pub data IsBadHeader (generation low : ℕ) (content : List ℕ) (refusal : Refusal) : Type 0 where
-  too_short : length content < log_header_bytes + 1 → refusal ≡ Damaged (log_file generation) 0 → IsBadHeader generation low content refusal
-  wrong_version : (v g l : ℕ) → HasHeader v g l content → is_read v ≡ false → refusal ≡ WrongVersion → IsBadHeader generation low content refusal
-  wrong_generation : (v g l : ℕ) → HasHeader v g l content → is_read v ≡ true → g ≢ generation → refusal ≡ Damaged (log_file generation) 1 → IsBadHeader generation low content refusal
-  wrong_low : (v l : ℕ) → HasHeader v generation l content → is_read v ≡ true → l ≢ low → refusal ≡ Damaged (log_file generation) 9 → IsBadHeader generation low content refusal
+  too_short : length content < log_header_bytes + 1 → refusal ≡ Damaged (log_file generation) 0
+      → IsBadHeader generation low content refusal
+  wrong_version : (v g l : ℕ) → HasHeader v g l content → is_read v ≡ false → refusal ≡ WrongVersion
+      → IsBadHeader generation low content refusal
+  wrong_generation : (v g l : ℕ) → HasHeader v g l content → is_read v ≡ true → g ≢ generation
+      → refusal ≡ Damaged (log_file generation) 1 → IsBadHeader generation low content refusal
+  wrong_low : (v l : ℕ) → HasHeader v generation l content → is_read v ≡ true → l ≢ low
+      → refusal ≡ Damaged (log_file generation) 9 → IsBadHeader generation low content refusal
 
 -- ---- frames
 
 -- What stands here is neither the frame of a batch that begins with the expected ticket nor the end frame that names
 -- the next generation, with a byte behind it.
 pub record HasNoFrame (layout : Layout) (expected next : ℕ) (rest : List ℕ) : Type 0 where
-  pub no_batch : (batch : Batch) (after : ℕ) (behind : List ℕ) → IsBatch layout batch → batch.first ≡ expected → rest ≡ frame layout batch ++ after ∷ behind → ⊥
+  pub no_batch : (batch : Batch) (after : ℕ) (behind : List ℕ) → IsBatch layout batch → batch.first ≡ expected
+      → rest ≡ frame layout batch ++ after ∷ behind → ⊥
   pub no_end : (after : ℕ) (behind : List ℕ) → next < 2 ^ 64 → rest ≡ end_frame next ++ after ∷ behind → ⊥
 
 -- Behind these batches the log goes on with an open gate, but not with a frame that may stand there.

@@ -27,7 +27,8 @@ counted stripes sections ticket (command ∷ commands) =
 
 -- the union of the sections, changed by the commands that count; the first of the commands has the ticket `low`
 abbrev pub restored : ℕ → List Section → ℕ → List Command → Map
-restored stripes sections low log = map_after (union_of (map (λ section. section.map) sections)) (counted stripes sections low log)
+restored stripes sections low log =
+    map_after (union_of (map (λ section. section.map) sections)) (counted stripes sections low log)
 
 -- ---- sections and commands of one history
 
@@ -42,7 +43,8 @@ grown h more = record { first = h.first; opening = h.opening; commands = h.comma
 -- each section, the first for the stripe `from`, is the part of its stripe at its mark
 abbrev pub AreParts : History → ℕ → ℕ → List Section → Type 0
 AreParts h stripes from [] = Unit {0}
-AreParts h stripes from (section ∷ sections) = (section.map ≡ part_of stripes from (fold_to h section.mark)) × AreParts h stripes (from + 1) sections
+AreParts h stripes from (section ∷ sections) =
+    (section.map ≡ part_of stripes from (fold_to h section.mark)) × AreParts h stripes (from + 1) sections
 
 -- each mark is between these
 abbrev pub AreMarks : ℕ → ℕ → List Section → Type 0
@@ -64,8 +66,8 @@ pub record IsNextOf (h : History) (ticket : ℕ) (new : List Command) : Type 0 w
   pub commands : h.commands ≡ front ++ (new ++ back)
   pub place : h.first + length front ≡ ticket
 
--- Sections, one for each stripe, and the commands from ticket `low` on give the map after the history's first `low + length log` commands. No
--- mark is below `low` or beyond the last command.
+-- Sections, one for each stripe, and the commands from ticket `low` on give the map after the history's first `low +
+-- length log` commands. No mark is below `low` or beyond the last command.
 pub record Restores (h : History) (stripes : ℕ) (sections : List Section) (low : ℕ) (log : List Command) : Type 0 where
   pub same : restored stripes sections low log ≡ fold_to h (low + length log)
   pub marks : AreMarks low (low + length log) sections

@@ -83,16 +83,16 @@ joins o id v other w is_pass is_pass' s k at apart at' =
       keeper = k.keeper;
       unjoined = k.unjoined;
       each_stripe = k.each_stripe;
-      each_seat = seats_set (λ l u. Sits k.seats k.book (get_or s.words 3 0) l u u.pass.enrolled) (set s.views id (both_fronts v w)) other no_front
+      each_seat = seats_set (λ l u. Sits k.seats k.book (get_or s.words 24 0) l u u.pass.enrolled) (set s.views id (both_fronts v w)) other no_front
           (record { few = omega arith; front = record { rest = k.book.history; is = refl }; other_front = record { rest = k.book.history; is = refl }; borne_out = All-nil _; goes_on = record { later = k.book.interleaving; is = refl } })
-          (λ l u ne e. seats_set (λ l u. Sits k.seats k.book (get_or s.words 3 0) l u u.pass.enrolled) s.views id (both_fronts v w)
+          (λ l u ne e. seats_set (λ l u. Sits k.seats k.book (get_or s.words 24 0) l u u.pass.enrolled) s.views id (both_fronts v w)
           (record { few = omega arith; front = front; other_front = subst (λ cs. IsFront cs k.book.history) (sym (commands_are 0 w.pass.seen)) front'; borne_out = borne_by; goes_on = later_goes_on v.order w.order k.book.interleaving q.goes_on q'.goes_on })
           (λ m z nm h. k.each_seat m z h) l u e);
     }
 
 pub allows_compare : (o : Opening) (n id : ℕ) (me : M) → me.0.pass.enrolled ≡ false → Allows (Kept o) n id me 0 (λ x. x) (compared (step n 0 0 0 none) me)
 allows_compare o n id me no_pass s k wide at range =
-    let u : IsUnseated k.book (get_or s.words 3 0) me.0 = subst (Sits k.seats k.book (get_or s.words 3 0) id me.0) no_pass (k.each_seat id me.0 at) in (
+    let u : IsUnseated k.book (get_or s.words 24 0) me.0 = subst (Sits k.seats k.book (get_or s.words 24 0) id me.0) no_pass (k.each_seat id me.0 at) in (
       me.0,
       keeps,
       tt,

@@ -1,6 +1,6 @@
 -- Laws: the steps that a pass records stand last in the one order, and find what the words hold when they are made.
 -- So none of them is put into the past.
-use Rattle.std.proofs.Common.{ℕ, ◌≡◌, ◌≢◌, ◌+◌, ◌-◌, ◌<◌, ◌≤◌, ◌^◌, ◌++◌, List, [], ◌∷◌, map, zero, suc, true, Bool, not, Option, None, Some, inl, inr, length, get_or, set, max, refl, arith, sym, ◌∙◌, ap, subst, append-nil}
+use Rattle.std.proofs.Common.{ℕ, ◌≡◌, ◌≢◌, ◌+◌, ◌*◌, ◌-◌, ◌<◌, ◌≤◌, ◌^◌, ◌++◌, List, [], ◌∷◌, map, zero, suc, true, Bool, not, Option, None, Some, inl, inr, length, get_or, set, max, refl, arith, sym, ◌∙◌, ap, subst, append-nil}
 use Rattle.std.proofs.lemmas.List.{get_or_past, get_or-set_other}
 use Rattle.std.proofs.lemmas.Bool.{cases_lt}
 use mathlib.Core.Option.{some, some-injective, some-ne-none}
@@ -32,9 +32,9 @@ there_is (y ∷ ys) zero x e = omega arith
 there_is (y ∷ ys) (suc i) x e = omega (arith, there_is ys i x e)
 
 -- no step is that of a pass that didn't join
-no_pass : (o : Opening) (s : St) (k : Kept o s) (l : ℕ) → get_or s.words 3 0 ≤ l → steps_by l k.book.interleaving ≡ []
+no_pass : (o : Opening) (s : St) (k : Kept o s) (l : ℕ) → get_or s.words 24 0 ≤ l → steps_by l k.book.interleaving ≡ []
 no_pass o s k l past =
-    let many : length k.book.passes ≡ max 1 (get_or s.words 3 0) = k.joined in
+    let many : length k.book.passes ≡ max 1 (get_or s.words 24 0) = k.joined in
     let unmade : (record_of l k.book).steps ≡ [] = elim (cases_lt l 1) [
       | inl first ↦
           let zero_is : l ≡ 0 = omega arith in
@@ -44,15 +44,15 @@ no_pass o s k l past =
     sym (k.kept.one.steps l) ∙ unmade
 
 -- the steps of a pass that sits are those of its record
-recorded_steps : (o : Opening) (s : St) (k : Kept o s) (id : ℕ) (v : SeatView) (q : IsSeated k.seats k.book (get_or s.words 3 0) id v) → steps_by q.place k.book.interleaving ≡ v.pass.steps
+recorded_steps : (o : Opening) (s : St) (k : Kept o s) (id : ℕ) (v : SeatView) (q : IsSeated k.seats k.book (get_or s.words 24 0) id v) → steps_by q.place k.book.interleaving ≡ v.pass.steps
 recorded_steps o s k id v q = sym (k.kept.one.steps q.place) ∙ ap (λ (r : Record). r.steps) q.view_is
 
 module _ (o : Opening) (s : St) (k : Kept o s) (all : AllSit s) (id : ℕ) (me : M) (at : get_elem? s.views id ≡ some me.0) (is_pass : me.0.pass.enrolled ≡ true)
-    (i x : ℕ) (w : SeatView) (a : Act (Option Stripe)) (kept : Kept o (stepped s i x id me.1 w a)) (still : w.pass.enrolled ≡ true) (number : w.pass.passes ≡ me.0.pass.passes) (joined : get_or (set s.words i x) 3 0 ≡ get_or s.words 3 0) where
-  abbrev before : IsSeated k.seats k.book (get_or s.words 3 0) id me.0
+    (i x : ℕ) (w : SeatView) (a : Act (Option Stripe)) (kept : Kept o (stepped s i x id me.1 w a)) (still : w.pass.enrolled ≡ true) (number : w.pass.passes ≡ me.0.pass.passes) (joined : get_or (set s.words i x) 24 0 ≡ get_or s.words 24 0) where
+  abbrev before : IsSeated k.seats k.book (get_or s.words 24 0) id me.0
   before = seated o s k id me.0 at is_pass
 
-  abbrev after : IsSeated kept.seats kept.book (get_or (set s.words i x) 3 0) id w
+  abbrev after : IsSeated kept.seats kept.book (get_or (set s.words i x) 24 0) id w
   after = seated o (stepped s i x id me.1 w a) kept id w (set_here s.views id w (there_is s.views id me.0 at)) still
 
   pub place_is : me.0.pass.passes - 1 ≡ before.place
@@ -63,15 +63,15 @@ module _ (o : Opening) (s : St) (k : Kept o s) (all : AllSit s) (id : ℕ) (me :
 
   -- the steps of each other pass stand alike in the one order before the step and after it
   fixed : (l : ℕ) → l ≢ before.place → IsFixed l k.book.interleaving kept.book.interleaving
-  fixed l ne = elim (cases_lt l (get_or s.words 3 0)) [
+  fixed l ne = elim (cases_lt l (get_or s.words 24 0)) [
     | inl lt ↦
         let t : HasSeat s.views l = all l lt in
         let apart : t.id ≢ id = λ e.
         ne (let same : t.view ≡ me.0 = some-injective t.view me.0 (sym t.at ∙ (ap (get_elem? s.views) e ∙ at)) in
         let n : t.view.pass.passes ≡ me.0.pass.passes = ap (λ (v : SeatView). v.pass.passes) same in
         let m : me.0.pass.passes ≡ before.place + 1 = before.number_is in let u : t.view.pass.passes ≡ l + 1 = t.number_is in omega arith) in
-        let r : IsSeated k.seats k.book (get_or s.words 3 0) t.id t.view = seated o s k t.id t.view t.at t.is_pass in
-        let r' : IsSeated kept.seats kept.book (get_or (set s.words i x) 3 0) t.id t.view = seated o (stepped s i x id me.1 w a) kept t.id t.view (set_else s.views id t.id w apart ∙ t.at) t.is_pass in
+        let r : IsSeated k.seats k.book (get_or s.words 24 0) t.id t.view = seated o s k t.id t.view t.at t.is_pass in
+        let r' : IsSeated kept.seats kept.book (get_or (set s.words i x) 24 0) t.id t.view = seated o (stepped s i x id me.1 w a) kept t.id t.view (set_else s.views id t.id w apart ∙ t.at) t.is_pass in
         let here : r.place ≡ l = (let n : t.view.pass.passes ≡ r.place + 1 = r.number_is in let u : t.view.pass.passes ≡ l + 1 = t.number_is in omega arith) in
         let there : r'.place ≡ l = (let n : t.view.pass.passes ≡ r'.place + 1 = r'.number_is in let u : t.view.pass.passes ≡ l + 1 = t.number_is in omega arith) in
         record {
@@ -82,7 +82,7 @@ module _ (o : Opening) (s : St) (k : Kept o s) (all : AllSit s) (id : ℕ) (me :
           all_other = subst (λ (p : ℕ). steps_by p t.view.order ≡ steps_by p kept.book.interleaving) there (r'.made ∙ sym (recorded_steps o (stepped s i x id me.1 w a) kept t.id t.view r'));
         }
     | inr past ↦
-        let past' : get_or (set s.words i x) 3 0 ≤ l = omega (arith, joined) in
+        let past' : get_or (set s.words i x) 24 0 ≤ l = omega (arith, joined) in
         fixed_none l k.book.interleaving kept.book.interleaving (no_pass o s k l past) (no_pass o (stepped s i x id me.1 w a) kept l past')
   ]
 
@@ -108,11 +108,11 @@ module _ (o : Opening) (s : St) (k : Kept o s) (all : AllSit s) (id : ℕ) (me :
 
 -- in two books of one table the steps of each pass stand alike
 fixed_alike : (o : Opening) (s : St) (one other : Kept o s) → AllSit s → (l : ℕ) → IsFixed l one.book.interleaving other.book.interleaving
-fixed_alike o s one other all l = elim (cases_lt l (get_or s.words 3 0)) [
+fixed_alike o s one other all l = elim (cases_lt l (get_or s.words 24 0)) [
   | inl lt ↦
       let t : HasSeat s.views l = all l lt in
-      let r : IsSeated one.seats one.book (get_or s.words 3 0) t.id t.view = seated o s one t.id t.view t.at t.is_pass in
-      let r' : IsSeated other.seats other.book (get_or s.words 3 0) t.id t.view = seated o s other t.id t.view t.at t.is_pass in
+      let r : IsSeated one.seats one.book (get_or s.words 24 0) t.id t.view = seated o s one t.id t.view t.at t.is_pass in
+      let r' : IsSeated other.seats other.book (get_or s.words 24 0) t.id t.view = seated o s other t.id t.view t.at t.is_pass in
       let here : r.place ≡ l = (let n : t.view.pass.passes ≡ r.place + 1 = r.number_is in let u : t.view.pass.passes ≡ l + 1 = t.number_is in omega arith) in
       let there : r'.place ≡ l = (let n : t.view.pass.passes ≡ r'.place + 1 = r'.number_is in let u : t.view.pass.passes ≡ l + 1 = t.number_is in omega arith) in
       record {
@@ -139,23 +139,23 @@ stand_last o s k all id me at is_pass i x w a kept still number joined new is =
     )
 
 -- what the book says of a stripe's holder and its last, as its word and its content say
-no_holder : (words : List ℕ) (homes : Homes) (i : ℕ) (slot : Slot) → Stands words homes i slot → get_or words (i + 4) 0 ≡ 0 → holder_in slot ≡ None
+no_holder : (words : List ℕ) (homes : Homes) (i : ℕ) (slot : Slot) → Stands words homes i slot → get_or words (i * 8 + 32) 0 ≡ 0 → holder_in slot ≡ None
 no_holder words homes i (Home content) z free = refl
 no_holder words homes i (HeldBy j) z free = absurd (let n : j + 1 ≡ 0 = sym z ∙ free in omega arith)
 
-some_holder : (words : List ℕ) (homes : Homes) (i : ℕ) (slot : Slot) → Stands words homes i slot → get_or words (i + 4) 0 ≢ 0 → holder_in slot ≡ None → ⊥
+some_holder : (words : List ℕ) (homes : Homes) (i : ℕ) (slot : Slot) → Stands words homes i slot → get_or words (i * 8 + 32) 0 ≢ 0 → holder_in slot ≡ None → ⊥
 some_holder words homes i (Home content) z held nobody = held z.0
 some_holder words homes i (HeldBy j) z held nobody = let no : Some j ≡ None = nobody in cc
 
 -- What no pass is allowed while all passes sit: a step of the past, whatever word but the count of passes the body works
 -- on, and however.
 module _ (o : Opening) (n id : ℕ) (me : M) (s : St) (k : Kept o s) (all : AllSit s) (wide : length s.homes ≡ n) (at : get_elem? s.views id ≡ some me.0) (is_pass : me.0.pass.enrolled ≡ true)
-    (i : ℕ) (f : ℕ → ℕ) (range : get_or s.words i 0 < 2 ^ 64) (other : i ≢ 3) where
-  joined_still : get_or (set s.words i (f (get_or s.words i 0))) 3 0 ≡ get_or s.words 3 0
-  joined_still = get_or-set_other s.words i 3 (f (get_or s.words i 0)) 0 (λ e. other (sym e))
+    (i : ℕ) (f : ℕ → ℕ) (range : get_or s.words i 0 < 2 ^ 64) (other : i ≢ 24) where
+  joined_still : get_or (set s.words i (f (get_or s.words i 0))) 24 0 ≡ get_or s.words 24 0
+  joined_still = get_or-set_other s.words i 24 (f (get_or s.words i 0)) 0 (λ e. other (sym e))
 
   -- a TAKE that finds a stripe held which is free
-  pub no_miss_of_the_past : (stripe : ℕ) → stripe < n → get_or s.words (stripe + 4) 0 ≡ 0 → Allows (Kept o) n id me i f (λ r m'. m'.0.pass ≡ missing me.0.pass stripe) → ⊥
+  pub no_miss_of_the_past : (stripe : ℕ) → stripe < n → get_or s.words (stripe * 8 + 32) 0 ≡ 0 → Allows (Kept o) n id me i f (λ r m'. m'.0.pass ≡ missing me.0.pass stripe) → ⊥
   no_miss_of_the_past stripe lt free allows =
       let did = allows s k wide at range in
       let told : did.0.pass ≡ missing me.0.pass stripe = did.4 in
@@ -167,7 +167,7 @@ module _ (o : Opening) (n id : ℕ) (me : M) (s : St) (k : Kept o s) (all : AllS
       cc
 
   -- a TAKE that finds a stripe free which is held
-  pub no_take_of_the_past : (stripe : ℕ) (content : Stripe) → stripe < n → get_or s.words (stripe + 4) 0 ≢ 0 → Allows (Kept o) n id me i f (λ r m'. TakesStripe n me.0.pass stripe content m'.0.pass) → ⊥
+  pub no_take_of_the_past : (stripe : ℕ) (content : Stripe) → stripe < n → get_or s.words (stripe * 8 + 32) 0 ≢ 0 → Allows (Kept o) n id me i f (λ r m'. TakesStripe n me.0.pass stripe content m'.0.pass) → ⊥
   no_take_of_the_past stripe content lt held allows =
       let did = allows s k wide at range in
       let told : TakesStripe n me.0.pass stripe content did.0.pass = did.4 in
@@ -197,7 +197,7 @@ module _ (o : Opening) (n id : ℕ) (me : M) (s : St) (k : Kept o s) (all : AllS
       old (found ∙ (k.kept.one.words.tickets ∙ sym k.kept.counted))
 
   -- a SEE of another durable count than the word's
-  pub no_see_of_the_past : (d : ℕ) → d ≢ get_or s.words 1 0 → Allows (Kept o) n id me i f (λ r m'. Sees me.0.pass d m'.0.pass) → ⊥
+  pub no_see_of_the_past : (d : ℕ) → d ≢ get_or s.words 8 0 → Allows (Kept o) n id me i f (λ r m'. Sees me.0.pass d m'.0.pass) → ⊥
   no_see_of_the_past d old allows =
       let did = allows s k wide at range in
       let told : Sees me.0.pass d did.0.pass = did.4 in

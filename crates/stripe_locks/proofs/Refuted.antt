@@ -61,7 +61,7 @@ made_by l x (y ∷ ys) (suc i) within is empty =
 
 -- what a step that changes no word leaves of the rule, and the place of its pass
 module _ (o : Opening) (s : St) (k : Kept o s) (id : ℕ) (me : M) (at : get_elem? s.views id ≡ some me.0) (i : ℕ) (w : SeatView) (a : Act (Option Stripe)) (kept : Kept o (stepped s i (get_or s.words i 0) id me.1 w a)) (is_pass : w.pass.enrolled ≡ true) where
-  place : IsSeated kept.seats kept.book (get_or (set s.words i (get_or s.words i 0)) 3 0) id w
+  place : IsSeated kept.seats kept.book (get_or (set s.words i (get_or s.words i 0)) 24 0) id w
   place = seated o (stepped s i (get_or s.words i 0) id me.1 w a) kept id w (set_here s.views id w (there_is s.views id me.0 at)) is_pass
 
   words_are : set s.words i (get_or s.words i 0) ≡ s.words
@@ -73,27 +73,27 @@ module _ (o : Opening) (s : St) (k : Kept o s) (id : ℕ) (me : M) (at : get_ele
       let all : All (StaysSo kept.book place.place) w.pass.steps = subst (λ (r : Record). All (StaysSo kept.book place.place) r.steps) place.view_is (steps_stay kept.book kept.kept.one place.place) in
       last_of (StaysSo kept.book place.place) before x (subst (All (StaysSo kept.book place.place)) is all)
 
-  pub sees_no_more : (before : List StepMade) (d : ℕ) → w.pass.steps ≡ before ++ made.Saw d ∷ [] → get_or s.words 1 0 < d → ⊥
+  pub sees_no_more : (before : List StepMade) (d : ℕ) → w.pass.steps ≡ before ++ made.Saw d ∷ [] → get_or s.words 8 0 < d → ⊥
   sees_no_more before d is low =
       let at_most : d ≤ kept.book.effects.durable = stays before (made.Saw d) is in
-      let durable : get_or s.words 1 0 ≡ kept.book.effects.durable = ap (λ (ws : List ℕ). get_or ws 1 0) (sym words_are) ∙ kept.kept.durable_is in
+      let durable : get_or s.words 8 0 ≡ kept.book.effects.durable = ap (λ (ws : List ℕ). get_or ws 8 0) (sym words_are) ∙ kept.kept.durable_is in
       omega arith
 
-  pub says_no_only_after_fail : (before : List StepMade) → w.pass.steps ≡ before ++ made.FoundAlive false ∷ [] → get_or s.words 2 0 ≡ 0 → ⊥
+  pub says_no_only_after_fail : (before : List StepMade) → w.pass.steps ≡ before ++ made.FoundAlive false ∷ [] → get_or s.words 16 0 ≡ 0 → ⊥
   says_no_only_after_fail before is unfailed =
       let failed : kept.book.effects.failed ≡ true = stays before (made.FoundAlive false) is refl in
-      let word : get_or s.words 2 0 ≡ bit kept.book.effects.failed = ap (λ (ws : List ℕ). get_or ws 2 0) (sym words_are) ∙ kept.failure in
-      let one : get_or s.words 2 0 ≡ 1 = word ∙ ap bit failed in
+      let word : get_or s.words 16 0 ≡ bit kept.book.effects.failed = ap (λ (ws : List ℕ). get_or ws 16 0) (sym words_are) ∙ kept.failure in
+      let one : get_or s.words 16 0 ≡ 1 = word ∙ ap bit failed in
       omega (arith, one, unfailed)
 
   -- the one pass that there is finds no stripe held
-  pub finds_none_held : (before : List StepMade) (stripe : ℕ) → w.pass.steps ≡ before ++ made.FoundHeld stripe ∷ [] → get_or s.words 3 0 ≡ 1 → ⊥
+  pub finds_none_held : (before : List StepMade) (stripe : ℕ) → w.pass.steps ≡ before ++ made.FoundHeld stripe ∷ [] → get_or s.words 24 0 ≡ 1 → ⊥
   finds_none_held before stripe is alone =
       let taken : IsTakenByAnother kept.book place.place stripe = stays before (made.FoundHeld stripe) is in
-      let three : get_or (set s.words i (get_or s.words i 0)) 3 0 ≡ 1 = ap (λ (ws : List ℕ). get_or ws 3 0) words_are ∙ alone in
-      let within : place.place < get_or (set s.words i (get_or s.words i 0)) 3 0 = place.within in
+      let three : get_or (set s.words i (get_or s.words i 0)) 24 0 ≡ 1 = ap (λ (ws : List ℕ). get_or ws 24 0) words_are ∙ alone in
+      let within : place.place < get_or (set s.words i (get_or s.words i 0)) 24 0 = place.within in
       let first : place.place ≡ 0 = omega arith in
-      let many : length kept.book.passes ≡ max 1 (get_or (set s.words i (get_or s.words i 0)) 3 0) = kept.joined in
+      let many : length kept.book.passes ≡ max 1 (get_or (set s.words i (get_or s.words i 0)) 24 0) = kept.joined in
       let beyond : length kept.book.passes ≤ taken.taker = (let apart : taken.taker ≢ place.place = taken.apart in omega (arith, apart)) in
       let nobody : record_of taken.taker kept.book ≡ newcomer kept.book.opening = get_or_past kept.book.passes taken.taker (newcomer kept.book.opening) beyond in
       let none_made : steps_by taken.taker kept.book.interleaving ≡ [] = sym (kept.kept.one.steps taken.taker) ∙ ap (λ (r : Record). r.steps) nobody in
@@ -101,25 +101,25 @@ module _ (o : Opening) (s : St) (k : Kept o s) (id : ℕ) (me : M) (at : get_ele
 
 -- No SEE of the ticket count is allowed, where a ticket isn't durable.
 pub no_see_of_the_ticket_count : (o : Opening) (n id : ℕ) (me : M) (s : St) → Kept o s → length s.homes ≡ n → get_elem? s.views id ≡ some me.0 → get_or s.words 0 0 < 2 ^ 64 → me.0.pass.enrolled ≡ true
-    → get_or s.words 1 0 < get_or s.words 0 0 → Allows (Kept o) n id me 0 (λ x. x) (saw (step n 0 0 0 none) me) → ⊥
+    → get_or s.words 8 0 < get_or s.words 0 0 → Allows (Kept o) n id me 0 (λ x. x) (saw (step n 0 0 0 none) me) → ⊥
 no_see_of_the_ticket_count o n id me s k wide at range is_pass low allows =
     let did = allows s k wide at range in
     let told : Sees me.0.pass (get_or s.words 0 0) did.0.pass = did.4.1 in
     sees_no_more o s k id me at 0 did.0 did.1 did.3 (ap (λ (r : Record). r.enrolled) told.is ∙ is_pass) me.0.pass.steps (get_or s.words 0 0) (ap (λ (r : Record). r.steps) told.is) low
 
 -- No ALIVE that looks at the count of passes, and so says no, is allowed before a FAIL.
-pub no_alive_of_the_pass_count : (o : Opening) (n id : ℕ) (me : M) (s : St) → Kept o s → length s.homes ≡ n → get_elem? s.views id ≡ some me.0 → get_or s.words 3 0 < 2 ^ 64 → me.0.pass.enrolled ≡ true
-    → get_or s.words 3 0 ≢ 0 → get_or s.words 2 0 ≡ 0 → Allows (Kept o) n id me 3 (λ x. x) (lived (step n 3 0 0 none) me) → ⊥
+pub no_alive_of_the_pass_count : (o : Opening) (n id : ℕ) (me : M) (s : St) → Kept o s → length s.homes ≡ n → get_elem? s.views id ≡ some me.0 → get_or s.words 24 0 < 2 ^ 64 → me.0.pass.enrolled ≡ true
+    → get_or s.words 24 0 ≢ 0 → get_or s.words 16 0 ≡ 0 → Allows (Kept o) n id me 24 (λ x. x) (lived (step n 24 0 0 none) me) → ⊥
 no_alive_of_the_pass_count o n id me s k wide at range is_pass counted unfailed allows =
     let did = allows s k wide at range in
-    let told : Lives me.0.pass (eqb (get_or s.words 3 0) 0) did.0.pass = did.4.1 in
-    let no : eqb (get_or s.words 3 0) 0 ≡ false = ne_eqb (get_or s.words 3 0) 0 counted in
-    says_no_only_after_fail o s k id me at 3 did.0 did.1 did.3 (ap (λ (r : Record). r.enrolled) told.is ∙ is_pass) me.0.pass.steps
+    let told : Lives me.0.pass (eqb (get_or s.words 24 0) 0) did.0.pass = did.4.1 in
+    let no : eqb (get_or s.words 24 0) 0 ≡ false = ne_eqb (get_or s.words 24 0) 0 counted in
+    says_no_only_after_fail o s k id me at 24 did.0 did.1 did.3 (ap (λ (r : Record). r.enrolled) told.is ∙ is_pass) me.0.pass.steps
     (ap (λ (r : Record). r.steps) told.is ∙ ap (λ (b : Bool). me.0.pass.steps ++ made.FoundAlive b ∷ []) no) unfailed
 
 -- No TAKE that looks at no stripe's word, and says that its stripe is held, is allowed to the only pass.
 pub no_take_without_a_look : (o : Opening) (n id : ℕ) (me : M) (s : St) (stripe : ℕ) → Kept o s → length s.homes ≡ n → get_elem? s.views id ≡ some me.0 → get_or s.words 0 0 < 2 ^ 64 → me.0.pass.enrolled ≡ true
-    → get_or s.words 3 0 ≡ 1 → Allows (Kept o) n id me 0 (λ x. x) (λ r m'. (m'.1 ≡ me.1) × (m'.0.pass ≡ missing me.0.pass stripe)) → ⊥
+    → get_or s.words 24 0 ≡ 1 → Allows (Kept o) n id me 0 (λ x. x) (λ r m'. (m'.1 ≡ me.1) × (m'.0.pass ≡ missing me.0.pass stripe)) → ⊥
 no_take_without_a_look o n id me s stripe k wide at range is_pass alone allows =
     let did = allows s k wide at range in
     let told : did.0.pass ≡ missing me.0.pass stripe = did.4.1 in

@@ -1,5 +1,5 @@
 -- A new seat, and a seat that becomes a pass's.
-use Rattle.std.proofs.Common.{ℕ, ◌≡◌, ◌≢◌, ◌+◌, ◌<◌, ◌≤◌, cond, eqb, eq-eqb, ne_eqb, List, [], Bool, true, false, length, max, get_or, set, refl, arith, sym, ◌∙◌, ap, subst, ⊎_elim, inl, inr, length-set}
+use Rattle.std.proofs.Common.{ℕ, ◌≡◌, ◌≢◌, ◌+◌, ◌*◌, ◌<◌, ◌≤◌, cond, eqb, eq-eqb, ne_eqb, List, [], Bool, true, false, length, max, get_or, set, refl, arith, sym, ◌∙◌, ap, subst, ⊎_elim, inl, inr, length-set}
 use Rattle.std.proofs.lemmas.List.{get_or-set_same, get_or-set_other, set-get_or}
 use Rattle.std.proofs.lemmas.List.Elements.{All-nil}
 use Rattle.std.proofs.lemmas.Bool.{cases_eq}
@@ -38,9 +38,9 @@ no_steps : (j : ℕ) → steps_by j [] ≡ []
 unfolding steps_by
 no_steps j = refl
 
-pub enters : (o : Opening) (n : ℕ) → Enters (Kept o) n 3 (λ x w. sat (step n 3 0 0 none) (stepless (newcomer o), []) x (w, []))
+pub enters : (o : Opening) (n : ℕ) → Enters (Kept o) n 24 (λ x w. sat (step n 24 0 0 none) (stepless (newcomer o), []) x (w, []))
 enters o n s k wide range =
-    let w : SeatView = stepless (meeting (newcomer o) (get_or s.words 3 0)) in (
+    let w : SeatView = stepless (meeting (newcomer o) (get_or s.words 24 0)) in (
       w,
       record {
         book = k.book;
@@ -55,40 +55,40 @@ enters o n s k wide range =
         keeper = k.keeper;
         unjoined = k.unjoined;
         each_stripe = k.each_stripe;
-        each_seat = λ l u e. ⊎_elim (k.each_seat l u) (λ new. subst (λ v. Sits k.seats k.book (get_or s.words 3 0) l v v.pass.enrolled) new (record { few = omega arith; front = record { rest = k.book.history; is = refl }; other_front = record { rest = k.book.history; is = refl }; borne_out = All-nil _; goes_on = record { later = k.book.interleaving; is = refl } })) (at_snoc s.views w u l e);
+        each_seat = λ l u e. ⊎_elim (k.each_seat l u) (λ new. subst (λ v. Sits k.seats k.book (get_or s.words 24 0) l v v.pass.enrolled) new (record { few = omega arith; front = record { rest = k.book.history; is = refl }; other_front = record { rest = k.book.history; is = refl }; borne_out = All-nil _; goes_on = record { later = k.book.interleaving; is = refl } })) (at_snoc s.views w u l e);
       },
       (refl, k.few),
     )
 
 module _ (o : Opening) (n id : ℕ) (me : M) (old number : ℕ) (few : old < 4096) (next : number ≡ old + 1) (blank : me.0 ≡ stepless (meeting (newcomer o) old)) (s : St) (k : Kept o s) (at : get_elem? s.views id ≡ some me.0) where
   abbrev told : ℕ → M → Type 0
-  told = enrolled (step n 3 old number none) me
+  told = enrolled (step n 24 old number none) me
 
   no_pass : me.0.pass.enrolled ≡ false
   no_pass = ap (λ (r : SeatView). r.pass.enrolled) blank
 
-  mine_before : IsUnseated k.book (get_or s.words 3 0) me.0
-  mine_before = subst (Sits k.seats k.book (get_or s.words 3 0) id me.0) no_pass (k.each_seat id me.0 at)
+  mine_before : IsUnseated k.book (get_or s.words 24 0) me.0
+  mine_before = subst (Sits k.seats k.book (get_or s.words 24 0) id me.0) no_pass (k.each_seat id me.0 at)
 
   -- the book b' has the pass at its end, at the place `old`
-  sits_down : (b' : Book) (w : SeatView) → get_or s.words 3 0 ≡ old → w ≡ stepless (joining o old) → b'.opening ≡ k.book.opening → b'.history ≡ k.book.history → b'.interleaving ≡ k.book.interleaving → b'.effects ≡ k.book.effects → length b'.passes ≡ old + 1 → record_of old b' ≡ w.pass
-      → ((l : ℕ) → l < old → record_of l b' ≡ record_of l k.book) → IsKept (length s.homes) (get_or s.words 0 0) (get_or s.words 1 0) k.book.effects.failed k.slots b' → Kept o (stepped s 3 number id me.1 w keeps)
+  sits_down : (b' : Book) (w : SeatView) → get_or s.words 24 0 ≡ old → w ≡ stepless (joining o old) → b'.opening ≡ k.book.opening → b'.history ≡ k.book.history → b'.interleaving ≡ k.book.interleaving → b'.effects ≡ k.book.effects → length b'.passes ≡ old + 1 → record_of old b' ≡ w.pass
+      → ((l : ℕ) → l < old → record_of l b' ≡ record_of l k.book) → IsKept (length s.homes) (get_or s.words 0 0) (get_or s.words 8 0) k.book.effects.failed k.slots b' → Kept o (stepped s 24 number id me.1 w keeps)
   sits_down b' w hit w_is opening history order effects count last before kept' =
-      let words' : List ℕ = set s.words 3 number in
+      let words' : List ℕ = set s.words 24 number in
       let seats' : ℕ → ℕ = put k.seats old id in
       let none_yet : steps_by old (stepless (joining o old)).order ≡ (joining o old).steps = no_steps old in
-      let n4 : length s.words ≡ length s.homes + 4 = k.wide in
-      let three : get_or words' 3 0 ≡ old + 1 = get_or-set_same s.words 3 number 0 (omega arith) ∙ next in
-      let zero_on : get_or words' 0 0 ≡ get_or s.words 0 0 = get_or-set_other s.words 3 0 number 0 (λ e. omega arith) in
-      let one_on : get_or words' 1 0 ≡ get_or s.words 1 0 = get_or-set_other s.words 3 1 number 0 (λ e. omega arith) in
-      let low : IsKept (length s.homes) (get_or words' 0 0) (get_or words' 1 0) k.book.effects.failed k.slots b' = rw (zero_on, one_on) kept' in
-      let other : (l : ℕ) (u : SeatView) (e : Bool) → l ≢ id → Sits k.seats k.book (get_or s.words 3 0) l u e → Sits seats' b' (get_or words' 3 0) l u e =
+      let n4 : length s.words ≡ length s.homes * 8 + 32 = k.wide in
+      let three : get_or words' 24 0 ≡ old + 1 = get_or-set_same s.words 24 number 0 (omega arith) ∙ next in
+      let zero_on : get_or words' 0 0 ≡ get_or s.words 0 0 = get_or-set_other s.words 24 0 number 0 (λ e. omega arith) in
+      let one_on : get_or words' 8 0 ≡ get_or s.words 8 0 = get_or-set_other s.words 24 8 number 0 (λ e. omega arith) in
+      let low : IsKept (length s.homes) (get_or words' 0 0) (get_or words' 8 0) k.book.effects.failed k.slots b' = rw (zero_on, one_on) kept' in
+      let other : (l : ℕ) (u : SeatView) (e : Bool) → l ≢ id → Sits k.seats k.book (get_or s.words 24 0) l u e → Sits seats' b' (get_or words' 24 0) l u e =
       λ l u. elim [
         | true ↦ λ ne x.
-            let lt : x.place < get_or s.words 3 0 = x.within in
+            let lt : x.place < get_or s.words 24 0 = x.within in
             record { place = x.place; number_is = x.number_is; within = omega arith; seat_is = put_else k.seats old id x.place (λ e. omega arith) ∙ x.seat_is; view_is = before x.place (omega arith) ∙ x.view_is; goes_on = record { later = x.goes_on.later; is = order ∙ x.goes_on.is }; made = x.made }
         | false ↦ λ ne x.
-            let le : u.pass.passes ≤ get_or s.words 3 0 = x.few in
+            let le : u.pass.passes ≤ get_or s.words 24 0 = x.few in
             record { few = omega arith; front = record { rest = x.front.rest; is = history ∙ x.front.is }; other_front = record { rest = x.other_front.rest; is = history ∙ x.other_front.is }; borne_out = x.borne_out; goes_on = record { later = x.goes_on.later; is = order ∙ x.goes_on.is } }
       ] in
       record {
@@ -96,23 +96,23 @@ module _ (o : Opening) (n id : ℕ) (me : M) (old number : ℕ) (few : old < 409
         slots = k.slots;
         seats = seats';
         opening = opening ∙ k.opening;
-        wide = length-set s.words 3 number ∙ k.wide;
-        kept = subst (λ x. IsKept (length s.homes) (get_or words' 0 0) (get_or words' 1 0) x k.slots b') (sym (ap (λ d. d.failed) effects)) low;
-        failure = get_or-set_other s.words 3 2 number 0 (λ e. omega arith) ∙ (k.failure ∙ ap (λ d. bit d.failed) (sym effects));
+        wide = length-set s.words 24 number ∙ k.wide;
+        kept = subst (λ x. IsKept (length s.homes) (get_or words' 0 0) (get_or words' 8 0) x k.slots b') (sym (ap (λ d. d.failed) effects)) low;
+        failure = get_or-set_other s.words 24 16 number 0 (λ e. omega arith) ∙ (k.failure ∙ ap (λ d. bit d.failed) (sym effects));
         few = omega arith;
         joined = omega arith;
         keeper = ap (λ d. d.keeper) effects ∙ k.keeper;
         unjoined = λ e. absurd (omega arith);
-        each_stripe = λ i lt. stands_on s.words s.homes 3 i number (omega arith) (slot_of i k.slots) (k.each_stripe i lt);
-        each_seat = seats_set (λ l u. Sits seats' b' (get_or words' 3 0) l u u.pass.enrolled) s.views id w
-            (subst (Sits seats' b' (get_or words' 3 0) id w) (sym (ap (λ (r : SeatView). r.pass.enrolled) w_is)) (record { place = old; number_is = ap (λ (r : SeatView). r.pass.passes) w_is; within = omega arith; seat_is = put_here k.seats old id; view_is = last; goes_on = subst (λ (r : SeatView). GoesOn r.order b'.interleaving) (sym w_is) (record { later = b'.interleaving; is = refl }); made = subst (λ (r : SeatView). steps_by old r.order ≡ r.pass.steps) (sym w_is) none_yet }))
+        each_stripe = λ i lt. stands_on s.words s.homes 24 i number (omega arith) (slot_of i k.slots) (k.each_stripe i lt);
+        each_seat = seats_set (λ l u. Sits seats' b' (get_or words' 24 0) l u u.pass.enrolled) s.views id w
+            (subst (Sits seats' b' (get_or words' 24 0) id w) (sym (ap (λ (r : SeatView). r.pass.enrolled) w_is)) (record { place = old; number_is = ap (λ (r : SeatView). r.pass.passes) w_is; within = omega arith; seat_is = put_here k.seats old id; view_is = last; goes_on = subst (λ (r : SeatView). GoesOn r.order b'.interleaving) (sym w_is) (record { later = b'.interleaving; is = refl }); made = subst (λ (r : SeatView). steps_by old r.order ≡ r.pass.steps) (sym w_is) none_yet }))
             (λ l u ne there. other l u u.pass.enrolled ne (k.each_seat l u there));
       }
 
-  found_it : get_or s.words 3 0 ≡ old → Goes o s 3 id me told number
+  found_it : get_or s.words 24 0 ≡ old → Goes o s 24 id me told number
   found_it hit =
       let opening_is : me.0.pass.opening ≡ o = ap (λ (r : SeatView). r.pass.opening) blank in
-      let count : length k.book.passes ≡ max 1 (get_or s.words 3 0) = k.joined in
+      let count : length k.book.passes ≡ max 1 (get_or s.words 24 0) = k.joined in
       elim (cases_eq old 0) [
         | inl z ↦
             let first : record_of old k.book ≡ joining o old = ap (λ l. record_of l k.book) z ∙ (k.unjoined (hit ∙ z) ∙ ap (joining o) (sym z)) in
@@ -129,15 +129,15 @@ module _ (o : Opening) (n id : ℕ) (me : M) (old number : ℕ) (few : old < 409
             )
       ]
 
-  found_more : get_or s.words 3 0 ≢ old → Goes o s 3 id me told (get_or s.words 3 0)
+  found_more : get_or s.words 24 0 ≢ old → Goes o s 24 id me told (get_or s.words 24 0)
   found_more miss =
-      let w : SeatView = stepless (meeting me.0.pass (get_or s.words 3 0)) in
-      let before : IsUnseated k.book (get_or s.words 3 0) me.0 = mine_before in
-      let was : me.0.pass.passes ≤ get_or s.words 3 0 = before.few in (
+      let w : SeatView = stepless (meeting me.0.pass (get_or s.words 24 0)) in
+      let before : IsUnseated k.book (get_or s.words 24 0) me.0 = mine_before in
+      let was : me.0.pass.passes ≤ get_or s.words 24 0 = before.few in (
         w,
         keeps,
         tt,
-        subst (λ (ws : List ℕ). Kept o record { words = ws; homes = s.homes; views = set s.views id w }) (sym (set-get_or s.words 3 0)) (record {
+        subst (λ (ws : List ℕ). Kept o record { words = ws; homes = s.homes; views = set s.views id w }) (sym (set-get_or s.words 24 0)) (record {
           book = k.book;
           slots = k.slots;
           seats = k.seats;
@@ -150,13 +150,13 @@ module _ (o : Opening) (n id : ℕ) (me : M) (old number : ℕ) (few : old < 409
           keeper = k.keeper;
           unjoined = k.unjoined;
           each_stripe = k.each_stripe;
-          each_seat = seats_set (λ l u. Sits k.seats k.book (get_or s.words 3 0) l u u.pass.enrolled) s.views id w
-              (subst (Sits k.seats k.book (get_or s.words 3 0) id w) (sym no_pass) (record { few = omega arith; front = before.front; other_front = before.other_front; borne_out = before.borne_out; goes_on = record { later = k.book.interleaving; is = refl } }))
+          each_seat = seats_set (λ l u. Sits k.seats k.book (get_or s.words 24 0) l u u.pass.enrolled) s.views id w
+              (subst (Sits k.seats k.book (get_or s.words 24 0) id w) (sym no_pass) (record { few = omega arith; front = before.front; other_front = before.other_front; borne_out = before.borne_out; goes_on = record { later = k.book.interleaving; is = refl } }))
               (λ l u ne there. k.each_seat l u there);
         }),
         (refl, (λ hit. absurd (miss hit)), λ ne. (refl, was, k.few)),
       )
 
-pub enrolls : (o : Opening) (n id : ℕ) (me : M) (old number : ℕ) → old < 4096 → number ≡ old + 1 → me.0 ≡ stepless (meeting (newcomer o) old) → Allows (Kept o) n id me 3 (λ x. either (eqb x old) number x) (enrolled (step n 3 old number none) me)
+pub enrolls : (o : Opening) (n id : ℕ) (me : M) (old number : ℕ) → old < 4096 → number ≡ old + 1 → me.0 ≡ stepless (meeting (newcomer o) old) → Allows (Kept o) n id me 24 (λ x. either (eqb x old) number x) (enrolled (step n 24 old number none) me)
 enrolls o n id me old number few next blank s k wide at range =
-    exchanged (get_or s.words 3 0) old number (Goes o s 3 id me (enrolled (step n 3 old number none) me)) (found_it o n id me old number few next blank s k at) (found_more o n id me old number few next blank s k at)
+    exchanged (get_or s.words 24 0) old number (Goes o s 24 id me (enrolled (step n 24 old number none) me)) (found_it o n id me old number few next blank s k at) (found_more o n id me old number few next blank s k at)

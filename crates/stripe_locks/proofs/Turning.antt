@@ -1,5 +1,5 @@
 -- One step of a pass keeps the rule.
-use Rattle.std.proofs.Common.{ℕ, ◌≡◌, ◌≢◌, ◌+◌, ◌<◌, ◌≤◌, Bool, true, false, List, length, get_or, set, max, Option, [], append-nil, refl, arith, sym, ◌∙◌, ap, subst, ⊎_elim}
+use Rattle.std.proofs.Common.{ℕ, ◌≡◌, ◌≢◌, ◌+◌, ◌*◌, ◌<◌, ◌≤◌, Bool, true, false, List, length, get_or, set, max, Option, [], append-nil, refl, arith, sym, ◌∙◌, ap, subst, ⊎_elim}
 use Rattle.std.proofs.lemmas.List.{set-get_or}
 use mathlib.Core.Option.{some}
 use mathlib.Core.Option as maybe
@@ -39,26 +39,26 @@ pub seats_set : (P : ℕ → SeatView → Type 0) (vs : List SeatView) (id : ℕ
 seats_set P vs id w mine others l u e = ⊎_elim (λ (x : (l ≡ id) × (w ≡ u)). subst (λ (y : ℕ × SeatView). P y.0 y.1) (λ i. (sym x.0 i, x.1 i)) mine) (λ (x : (l ≢ id) × (get_elem? vs l ≡ some u)). others l u x.0 x.1) (at_set vs id l w u e)
 
 module _ (o : Opening) (s : St) (k : Kept o s) (id : ℕ) (v : SeatView) (at : get_elem? s.views id ≡ some v) (is_pass : v.pass.enrolled ≡ true) where
-  pub seated : IsSeated k.seats k.book (get_or s.words 3 0) id v
-  seated = subst (Sits k.seats k.book (get_or s.words 3 0) id v) is_pass (k.each_seat id v at)
+  pub seated : IsSeated k.seats k.book (get_or s.words 24 0) id v
+  seated = subst (Sits k.seats k.book (get_or s.words 24 0) id v) is_pass (k.each_seat id v at)
 
   pub in_book : seated.place < length k.book.passes
-  in_book = (let lt : seated.place < get_or s.words 3 0 = seated.within in let n : length k.book.passes ≡ max 1 (get_or s.words 3 0) = k.joined in omega arith)
+  in_book = (let lt : seated.place < get_or s.words 24 0 = seated.within in let n : length k.book.passes ≡ max 1 (get_or s.words 24 0) = k.joined in omega arith)
 
   -- another seat stays as it is
-  other_sits : (made : StepMade) (b' : Book) (joined : ℕ) → BookMoves seated.place made k.book b' → IsFront k.book.history b'.history → joined ≡ get_or s.words 3 0
-      → (l : ℕ) (u : SeatView) (e : Bool) → l ≢ id → Sits k.seats k.book (get_or s.words 3 0) l u e → Sits k.seats b' joined l u e
+  other_sits : (made : StepMade) (b' : Book) (joined : ℕ) → BookMoves seated.place made k.book b' → IsFront k.book.history b'.history → joined ≡ get_or s.words 24 0
+      → (l : ℕ) (u : SeatView) (e : Bool) → l ≢ id → Sits k.seats k.book (get_or s.words 24 0) l u e → Sits k.seats b' joined l u e
   other_sits made b' joined moves grows same l u true ne x = record {
     place = x.place;
     number_is = x.number_is;
-    within = (let lt : x.place < get_or s.words 3 0 = x.within in omega arith);
+    within = (let lt : x.place < get_or s.words 24 0 = x.within in omega arith);
     seat_is = x.seat_is;
     view_is = moves.others x.place (λ e. ne (sym x.seat_is ∙ (ap k.seats e ∙ seated.seat_is))) ∙ x.view_is;
     goes_on = goes_on_by u.order k.book.interleaving b'.interleaving (pass_step seated.place made) moves.order x.goes_on;
     made = x.made;
   }
   other_sits made b' joined moves grows same l u false ne x = record {
-    few = (let le : u.pass.passes ≤ get_or s.words 3 0 = x.few in omega arith);
+    few = (let le : u.pass.passes ≤ get_or s.words 24 0 = x.few in omega arith);
     front = front_trans _ _ _ x.front grows;
     other_front = front_trans _ _ _ x.other_front grows;
     borne_out = x.borne_out;
@@ -66,7 +66,7 @@ module _ (o : Opening) (s : St) (k : Kept o s) (id : ℕ) (v : SeatView) (at : g
   }
 
   pub turned : (made : StepMade) (b' : Book) (slots' : List Slot) (words' : List ℕ) (homes' : Homes) → BookMoves seated.place made k.book b' → b'.effects.keeper ≡ k.book.effects.keeper → IsFront k.book.history b'.history → IsSameOne v.pass (record_of seated.place b')
-      → IsKept (length s.homes) (get_or words' 0 0) (get_or words' 1 0) b'.effects.failed slots' b' → length words' ≡ length s.words → length homes' ≡ length s.homes → get_or words' 2 0 ≡ bit b'.effects.failed → get_or words' 3 0 ≡ get_or s.words 3 0
+      → IsKept (length s.homes) (get_or words' 0 0) (get_or words' 8 0) b'.effects.failed slots' b' → length words' ≡ length s.words → length homes' ≡ length s.homes → get_or words' 16 0 ≡ bit b'.effects.failed → get_or words' 24 0 ≡ get_or s.words 24 0
       → ((i : ℕ) → i < length s.homes → Stands words' homes' i (slot_of i slots'))
       → Kept o record { words = words'; homes = homes'; views = set s.views id (view_of seated.place b') }
   turned made b' slots' words' homes' moves keeper grows same kept long as_long failure three stands = record {
@@ -74,30 +74,30 @@ module _ (o : Opening) (s : St) (k : Kept o s) (id : ℕ) (v : SeatView) (at : g
     slots = slots';
     seats = k.seats;
     opening = moves.opening ∙ k.opening;
-    wide = long ∙ (k.wide ∙ ap (λ (n : ℕ). n + 4) (sym as_long));
-    kept = subst (λ (n : ℕ). IsKept n (get_or words' 0 0) (get_or words' 1 0) b'.effects.failed slots' b') (sym as_long) kept;
+    wide = long ∙ (k.wide ∙ ap (λ (n : ℕ). n * 8 + 32) (sym as_long));
+    kept = subst (λ (n : ℕ). IsKept n (get_or words' 0 0) (get_or words' 8 0) b'.effects.failed slots' b') (sym as_long) kept;
     failure = failure;
-    few = (let le : get_or s.words 3 0 ≤ 4096 = k.few in omega arith);
+    few = (let le : get_or s.words 24 0 ≤ 4096 = k.few in omega arith);
     joined = moves.passes ∙ (k.joined ∙ ap (max 1) (sym three));
     keeper = keeper ∙ k.keeper;
-    unjoined = λ z. absurd (let lt : seated.place < get_or s.words 3 0 = seated.within in omega arith);
+    unjoined = λ z. absurd (let lt : seated.place < get_or s.words 24 0 = seated.within in omega arith);
     each_stripe = λ i lt. stands i (omega arith);
-    each_seat = seats_set (λ l u. Sits k.seats b' (get_or words' 3 0) l u u.pass.enrolled) s.views id (view_of seated.place b')
-        (subst (Sits k.seats b' (get_or words' 3 0) id (view_of seated.place b')) (sym (same.enrolled ∙ is_pass)) (record {
+    each_seat = seats_set (λ l u. Sits k.seats b' (get_or words' 24 0) l u u.pass.enrolled) s.views id (view_of seated.place b')
+        (subst (Sits k.seats b' (get_or words' 24 0) id (view_of seated.place b')) (sym (same.enrolled ∙ is_pass)) (record {
           place = seated.place;
           number_is = same.passes ∙ seated.number_is;
-          within = (let lt : seated.place < get_or s.words 3 0 = seated.within in omega arith);
+          within = (let lt : seated.place < get_or s.words 24 0 = seated.within in omega arith);
           seat_is = seated.seat_is;
           view_is = refl;
           goes_on = goes_on_itself b'.interleaving;
           made = sym (kept.one.steps seated.place);
         }))
-        (λ l u ne there. other_sits made b' (get_or words' 3 0) moves grows three l u u.pass.enrolled ne (k.each_seat l u there));
+        (λ l u ne there. other_sits made b' (get_or words' 24 0) moves grows three l u u.pass.enrolled ne (k.each_seat l u there));
   }
 
   -- a step that changes no word
   pub reread : (made : StepMade) (b' : Book) (i : ℕ) (cs : List (ℕ × Option Stripe)) → BookMoves seated.place made k.book b' → b'.effects ≡ k.book.effects → b'.history ≡ k.book.history → IsSameOne v.pass (record_of seated.place b')
-      → IsKept (length s.homes) (get_or s.words 0 0) (get_or s.words 1 0) b'.effects.failed k.slots b'
+      → IsKept (length s.homes) (get_or s.words 0 0) (get_or s.words 8 0) b'.effects.failed k.slots b'
       → Kept o (stepped s i (get_or s.words i 0) id cs (view_of seated.place b') keeps)
   reread made b' i cs moves effects history same kept = subst (λ (ws : List ℕ). Kept o record { words = ws; homes = s.homes; views = set s.views id (view_of seated.place b') }) (sym (set-get_or s.words i 0))
       (turned made b' k.slots s.words s.homes moves (ap (λ d. d.keeper) effects) (record { rest = []; is = history ∙ sym (append-nil k.book.history) }) same kept refl refl (k.failure ∙ ap (λ d. bit d.failed) (sym effects)) refl k.each_stripe)

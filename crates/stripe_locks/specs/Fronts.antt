@@ -43,7 +43,8 @@ abbrev pub no_front : SeatView
 no_front = stepless (newcomer (record { first = 0; map = finite.empty; key_limit = 0 }))
 
 abbrev pub compared : Step (Option Stripe) → Sat → ℕ → Sat → Type 0
-compared st m r m' = AreComparable m.0.pass.seen (commands_of m.0.pass.taken) × All (BearsOut m.0.pass.published m.0.pass.failed) m.0.pass.steps
+compared st m r m' = AreComparable m.0.pass.seen (commands_of m.0.pass.taken)
+    × All (BearsOut m.0.pass.published m.0.pass.failed) m.0.pass.steps
 
 -- There is one history of all passes on the words, and this is the record of one of them. What each of its steps found
 -- is what the words held then.

@@ -22,7 +22,7 @@ pub record HasSeat (views : List SeatView) (j : ℕ) : Type 0 where
 
 -- each pass that joined has its seat: no two were compared, which spends both
 abbrev pub AllSit : State (Option Stripe) SeatView → Type 0
-AllSit s = (j : ℕ) → j < slice_index s.words 3 → HasSeat s.views j
+AllSit s = (j : ℕ) → j < slice_index s.words 24 → HasSeat s.views j
 
 -- Whatever a pass records by one atomic step that keeps the rule, it stands last in the one order, and finds what the
 -- words hold then.
@@ -30,11 +30,13 @@ abbrev pub StandLast : Type 0
 StandLast = (o : Opening) (s : State (Option Stripe) SeatView) (before : Kept o s) → AllSit s
     → (id : ℕ) (me : Sat) → get_elem? s.views id ≡ some me.0 → me.0.pass.enrolled ≡ true
     → (i x : ℕ) (w : SeatView) (a : Act (Option Stripe)) (after : Kept o (stepped s i x id me.1 w a))
-    → w.pass.enrolled ≡ true → w.pass.passes ≡ me.0.pass.passes → slice_index (slice_set s.words i x) 3 ≡ slice_index s.words 3
+    → w.pass.enrolled ≡ true → w.pass.passes ≡ me.0.pass.passes
+    → slice_index (slice_set s.words i x) 24 ≡ slice_index s.words 24
     → (new : List StepMade) → w.pass.steps ≡ me.0.pass.steps ++ new
     → (after.book.interleaving ≡ before.book.interleaving ++ map (pass_step (me.0.pass.passes - 1)) new)
     × AreFound (words_of before.book) (map (pass_step (me.0.pass.passes - 1)) new)
 
 -- The order isn't chosen anew: what the seats of all passes know determines it.
 abbrev pub IsDetermined : Type 0
-IsDetermined = (o : Opening) (s : State (Option Stripe) SeatView) (one other : Kept o s) → AllSit s → other.book.interleaving ≡ one.book.interleaving
+IsDetermined = (o : Opening) (s : State (Option Stripe) SeatView) (one other : Kept o s) → AllSit s
+    → other.book.interleaving ≡ one.book.interleaving

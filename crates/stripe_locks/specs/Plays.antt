@@ -1,5 +1,6 @@
--- What each step on the words tells its pass: `m` is the pass's seat before it, `m'` after it, and `r` what was found in the word.
-use Rattle.std.specs.Prelude.{◌≡◌, ◌≢◌, ℕ, ◌+◌, ◌-◌, ◌≤◌, ◌==◌, List, [], ◌∷◌, Option, Some, None}
+-- What each step on the words tells its pass: `m` is the pass's seat before it, `m'` after it, and `r` what was found
+-- in the word.
+use Rattle.std.specs.Prelude.{◌≡◌, ◌≢◌, ℕ, ◌+◌, ◌-◌, ◌/◌, ◌≤◌, ◌==◌, List, [], ◌∷◌, Option, Some, None}
 use Rattle.atomic_table.specs.Table.{Me, Step, rest}
 use Rattle.map_types.specs.declared.commands.Command.{Command}
 use Rattle.ticket_order.specs.declared.stripe.Stripe.{Stripe}
@@ -38,7 +39,8 @@ abbrev pub sat : Step (Option Stripe) → Sat → ℕ → Sat → Type 0
 sat st m r m' = (m'.0 ≡ stepless (meeting m.0.pass r)) × (r ≤ 4096)
 
 abbrev pub enrolled : Step (Option Stripe) → Sat → ℕ → Sat → Type 0
-enrolled st m r m' = (m'.1 ≡ m.1) × (r ≡ st.first → m'.0 ≡ stepless (joining m.0.pass.opening r)) × (r ≢ st.first → (m'.0 ≡ stepless (meeting m.0.pass r)) × (m.0.pass.passes ≤ r) × (r ≤ 4096))
+enrolled st m r m' = (m'.1 ≡ m.1) × (r ≡ st.first → m'.0 ≡ stepless (joining m.0.pass.opening r))
+    × (r ≢ st.first → (m'.0 ≡ stepless (meeting m.0.pass r)) × (m.0.pass.passes ≤ r) × (r ≤ 4096))
 
 -- TAKE of a free stripe, whose content the seat then has
 pub record TakesHome (n i : ℕ) (m m' : Sat) : Type 0 where
@@ -47,8 +49,13 @@ pub record TakesHome (n i : ℕ) (m m' : Sat) : Type 0 where
   pub takes : TakesStripe n m.0.pass i content m'.0.pass
   pub same : IsSameOne m.0.pass m'.0.pass
 
+-- the stripe whose word stands there
+abbrev pub stripe_at : ℕ → ℕ
+stripe_at word = (word - 32) / 8
+
 abbrev pub took : Step (Option Stripe) → Sat → ℕ → Sat → Type 0
-took st m r m' = (r ≡ 0 → TakesHome st.slots (st.word - 4) m m') × (r ≢ 0 → (m'.1 ≡ m.1) × (m'.0.pass ≡ missing m.0.pass (st.word - 4)))
+took st m r m' = (r ≡ 0 → TakesHome st.slots (stripe_at st.word) m m')
+    × (r ≢ 0 → (m'.1 ≡ m.1) × (m'.0.pass ≡ missing m.0.pass (stripe_at st.word)))
 
 abbrev pub gave : Purpose → Step (Option Stripe) → Sat → ℕ → Sat → Type 0
 gave p st m r m' = (m'.1 ≡ rest m.1) × Gives st.slots p m.0.pass m'.0.pass

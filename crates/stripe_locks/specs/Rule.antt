@@ -1,6 +1,7 @@
--- The rule of the shared words: between any two steps of any threads there is one history, which the words and the slots match.
--- The words are the ticket count, the durable count, the failure word, the count of passes, and then one for each stripe.
-use Rattle.std.specs.Prelude.{◌≡◌, ℕ, ◌+◌, ◌<◌, ◌≤◌, max, List, length, map, Option, Some, Bool, true, false, slice_index}
+-- The rule of the shared words: between any two steps of any threads there is one history, which the words and the
+-- slots match. The words are the ticket count, the durable count, the failure word, the count of passes, and then one
+-- for each stripe. Each has a cache line of its own, of eight words.
+use Rattle.std.specs.Prelude.{◌≡◌, ℕ, ◌+◌, ◌*◌, ◌<◌, ◌≤◌, max, List, length, map, Option, Some, Bool, true, false, slice_index}
 use Rattle.std.specs.List.{All}
 use mathlib.Core.Option.{some}
 use mathlib.Core.Option as maybe
@@ -26,10 +27,12 @@ abbrev pub bit : Bool → ℕ
 bit true = 1
 bit false = 0
 
--- A stripe whose word is 0 has its content at home. Else the word is the number of the pass that holds it: passes are numbered from 1 on, in the order of the book.
+-- A stripe whose word is 0 has its content at home. Else the word is the number of the pass that holds it: passes are
+-- numbered from 1 on, in the order of the book.
 abbrev pub Stands : List ℕ → List (maybe.Option (Option Stripe)) → ℕ → Slot → Type 0
-Stands words homes i (Home content) = (slice_index words (i + 4) ≡ 0) × (get_elem? homes i ≡ some (some (Some content)))
-Stands words homes i (HeldBy j) = slice_index words (i + 4) ≡ j + 1
+Stands words homes i (Home content) =
+    (slice_index words (i * 8 + 32) ≡ 0) × (get_elem? homes i ≡ some (some (Some content)))
+Stands words homes i (HeldBy j) = slice_index words (i * 8 + 32) ≡ j + 1
 
 -- The seat is that of the pass at this place of the book, whose record it knows. The one order goes on from the order
 -- that it knows, in which all steps of the pass stand.
@@ -65,20 +68,21 @@ abbrev pub Sits : (ℕ → ℕ) → Book → ℕ → ℕ → SeatView → Bool �
 Sits seats b joined id v true = IsSeated seats b joined id v
 Sits seats b joined id v false = IsUnseated b joined v
 
--- `joined` passes have joined, at most 4,096. The keeper's is the first; until it joins, its record stands in the book as it will begin.
--- A step changes the view of its own pass alone. So the one order stays as it was up to the last step of each other
--- pass, and grows at its end.
+-- `joined` passes have joined, at most 4,096. The keeper's is the first; until it joins, its record stands in the book
+-- as it will begin. A step changes the view of its own pass alone. So the one order stays as it was up to the last step
+-- of each other pass, and grows at its end.
 pub record Kept (o : Opening) (s : State (Option Stripe) SeatView) : Type 0 where
   pub book : Book
   pub slots : List Slot
   pub seats : ℕ → ℕ
   pub opening : book.opening ≡ o
-  pub wide : length s.words ≡ length s.homes + 4
-  pub kept : IsKept (length s.homes) (slice_index s.words 0) (slice_index s.words 1) book.effects.failed slots book
-  pub failure : slice_index s.words 2 ≡ bit book.effects.failed
-  pub few : slice_index s.words 3 ≤ 4096
-  pub joined : length book.passes ≡ max 1 (slice_index s.words 3)
+  pub wide : length s.words ≡ length s.homes * 8 + 32
+  pub kept : IsKept (length s.homes) (slice_index s.words 0) (slice_index s.words 8) book.effects.failed slots book
+  pub failure : slice_index s.words 16 ≡ bit book.effects.failed
+  pub few : slice_index s.words 24 ≤ 4096
+  pub joined : length book.passes ≡ max 1 (slice_index s.words 24)
   pub keeper : book.effects.keeper ≡ 0
-  pub unjoined : slice_index s.words 3 ≡ 0 → record_of 0 book ≡ enrolling (keeper_at_start o) 1
+  pub unjoined : slice_index s.words 24 ≡ 0 → record_of 0 book ≡ enrolling (keeper_at_start o) 1
   pub each_stripe : (i : ℕ) → i < length s.homes → Stands s.words s.homes i (slot_of i slots)
-  pub each_seat : (id : ℕ) (v : SeatView) → get_elem? s.views id ≡ some v → Sits seats book (slice_index s.words 3) id v v.pass.enrolled
+  pub each_seat : (id : ℕ) (v : SeatView) → get_elem? s.views id ≡ some v
+      → Sits seats book (slice_index s.words 24) id v v.pass.enrolled

@@ -46,10 +46,11 @@ pub record RefusesChangeInTime (v : Record) (i : ℕ) (e : Refusal) (w : Record)
   pub refused : RefusesChange waited i e w
   pub not_busy : IsNotBusy e
 
--- what a refused call leaves that was to make this change on n stripes: its key is too long, or the change is refused on
--- its stripe, perhaps after a wait
+-- what a refused call leaves that was to make this change on n stripes: its key is too long, or the change is refused
+-- on its stripe, perhaps after a wait
 abbrev pub TurnsDownInTime : ℕ → Record → Command → Refusal → Record → Type 0
-TurnsDownInTime n v c e w = IsTooLong v c e w ⊎ (IsWithin v.opening.key_limit c × RefusesChangeInTime v (stripe_of n c.key) e w)
+TurnsDownInTime n v c e w =
+    IsTooLong v c e w ⊎ (IsWithin v.opening.key_limit c × RefusesChangeInTime v (stripe_of n c.key) e w)
 
 pub record RefusesReadInTime (v : Record) (i : ℕ) (e : Refusal) (w : Record) : Type 0 where
   pub waited : Record

@@ -75,6 +75,16 @@ impl Stripes {
         self.resting.store(0, Ordering::SeqCst);
     }
 
+    /// How many tickets were drawn. It is a hint, and makes no step.
+    pub fn ticket_count(&self) -> u64 {
+        self.table.shared.peek(TICKETS)
+    }
+
+    /// Whether the thread that sleeps until changes come does so now, and wasn't woken. It is a hint.
+    pub fn is_keeper_resting(&self) -> bool {
+        self.resting.load(Ordering::SeqCst) != 0
+    }
+
     /// Wakes the thread that sleeps until changes come. If it doesn't sleep, or was woken since it went
     /// to sleep, nothing is asked of the system.
     pub fn wake_keeper(&self) {

@@ -1,5 +1,5 @@
 //! How the shared stripes begin, and how passes join.
-ghost use Rattle.std.specs.Prelude.{◌≡◌, ◌+◌, length, IfOk, IfErr, replicate, slice_set};
+ghost use Rattle.std.specs.Prelude.{◌≡◌, ◌+◌, ◌*◌, length, IfOk, IfErr, replicate, slice_set};
 ghost use Rattle.std.specs.FinMap as finite;
 ghost use Rattle.map_types.specs.Limits.{most_key_bytes};
 ghost use Rattle.one_history.specs.Turns.{opening_of};
@@ -12,7 +12,7 @@ use crate::beginning::Beginning;
 use crate::marks::no_marks;
 use crate::plays::{Enroll, Sit};
 use crate::rule::Pass;
-use crate::stripes::{DURABLE, FIRST_STRIPE, PASSES, Stripes, TICKETS};
+use crate::stripes::{DURABLE, FIRST_STRIPE, PASSES, Stripes, TICKETS, WORDS_APART};
 use atomic_methods::Part;
 use atomic_table::Table;
 use java_hash::StripeCount;
@@ -39,10 +39,10 @@ fn store_all(alloc: Global, parts: Vec<Part>, first: u64) -> Result<Vec<Option<S
 
 fn first_words(alloc: Global, count: StripeCount, first: u64) -> Result<Vec<u64>, Refusal>
     ensures ok { IfOk result (λ words.
-        words.items ≡ slice_set (slice_set (replicate (count.count + 4) 0) 0 first) 1 first) }
+        words.items ≡ slice_set (slice_set (replicate (count.count * 8 + 32) 0) 0 first) 8 first) }
     ensures err { IfErr result (λ refusal. refusal ≡ Refusal.NoMemory) }
 {
-    let mut words = Vec::from_elem(alloc, 0u64, count.get() + FIRST_STRIPE)?;
+    let mut words = Vec::from_elem(alloc, 0u64, count.get() * WORDS_APART + FIRST_STRIPE)?;
     words[TICKETS] = first;
     words[DURABLE] = first;
     Ok(words)

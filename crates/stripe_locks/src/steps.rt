@@ -6,7 +6,7 @@ ghost use Rattle.stripe_locks.specs.Passes.{recorded, stripe_count, IsPassOf, Is
 use crate::plays;
 use crate::plays::{Alive, Asks, Draw, Fail, Give, Look, Publish, See, Take};
 use crate::rule::Pass;
-use crate::stripes::{DURABLE, FAILURE, FIRST_STRIPE, Stripes, TICKETS};
+use crate::stripes::{DURABLE, FAILURE, FIRST_STRIPE, Stripes, TICKETS, WORDS_APART};
 use map_types::Command;
 use std::marker::Brand;
 use std::sync::atomic::Ordering;
@@ -25,7 +25,7 @@ impl Stripes {
         let number = pass.number;
         let found = words.compare_exchange::<Take>(
             &mut pass.seat,
-            stripe + FIRST_STRIPE,
+            stripe * WORDS_APART + FIRST_STRIPE,
             0,
             number,
         );
@@ -63,7 +63,7 @@ impl Stripes {
             None => {}
             Some(_) => unreachable!(),
         }
-        words.store::<Give<G>>(&mut pass.seat, stripe + FIRST_STRIPE, 0);
+        words.store::<Give<G>>(&mut pass.seat, stripe * WORDS_APART + FIRST_STRIPE, 0);
         // A read goes up to the stripe's last change, which the pass has seen from then on.
         if matches!(purpose, Purpose::Answer(_)) {
             pass.seen = pass.seen.max(last);
@@ -84,7 +84,9 @@ impl Stripes {
             self.mark(stripe);
         }
         if self.sleepers.load(Ordering::SeqCst) != 0 {
-            self.table.shared.wake_all(stripe + FIRST_STRIPE);
+            self.table
+                .shared
+                .wake_all(stripe * WORDS_APART + FIRST_STRIPE);
         }
     }
 

@@ -9,7 +9,7 @@
 //!
 //! Passes make the steps: those of workers by `try_call`, `call` and `release`, and that of the
 //! keeper, which `flusher` and `checkpoint_walk` step. To sleep and to wake is no step (`parking`).
-ghost use Rattle.std.specs.Prelude.{◌≡◌, ◌+◌};
+ghost use Rattle.std.specs.Prelude.{◌≡◌, ◌+◌, ◌*◌};
 
 use crate::beginning::Beginning;
 use crate::marks::MARK_WORDS;
@@ -21,18 +21,22 @@ use std::alloc::Global;
 use std::sync::atomic::AtomicU64;
 use ticket_order::Stripe;
 
+// Each word that is used has a cache line of its own, of eight words: a thread that changes one
+// then takes no other from the rest. Those between them stay 0.
+pub(crate) const WORDS_APART: usize = 8;
+
 // The words: the ticket count, the durable count, the failure word, the count of passes, and then
 // one for each stripe. The word of a stripe is 0 if the stripe is free, else the number of its
 // holder.
 pub(crate) const TICKETS: usize = 0;
 
-pub(crate) const DURABLE: usize = 1;
+pub(crate) const DURABLE: usize = 8;
 
-pub(crate) const FAILURE: usize = 2;
+pub(crate) const FAILURE: usize = 16;
 
-pub(crate) const PASSES: usize = 3;
+pub(crate) const PASSES: usize = 24;
 
-pub(crate) const FIRST_STRIPE: usize = 4;
+pub(crate) const FIRST_STRIPE: usize = 32;
 
 /// The shared words and the stripes. Each step on them is one atomic action, and between any two
 /// steps of any threads there is one history.
@@ -52,7 +56,7 @@ pub struct Stripes {
     // A bit for each stripe: whether it has entries for the next sweep.
     pub(crate) marks: [AtomicU64; MARK_WORDS],
     pub(crate) alloc: Global,
-    ghost words: { table.shared.table_id.words ≡ count.count + 4 },
+    ghost words: { table.shared.table_id.words ≡ count.count * 8 + 32 },
     ghost slots: { table.shared.table_id.slots ≡ count.count },
     ghost begun: { table.shared.key.opening.first ≡ first },
     ghost limited: { table.shared.key.opening.key_limit ≡ key_limit },

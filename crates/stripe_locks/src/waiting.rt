@@ -13,7 +13,7 @@ ghost use Rattle.stripe_locks.specs.Waits.{TakesInTime, MakesCallInTime, MakesRe
 use crate::board::Board;
 use crate::held::Held;
 use crate::rule::Pass;
-use crate::stripes::{FIRST_STRIPE, Stripes};
+use crate::stripes::{FIRST_STRIPE, Stripes, WORDS_APART};
 use crossbeam_utils::Backoff;
 use java_hash::{spread_of, stripe_of_spread};
 use map_types::{Command, Read, Refusal};
@@ -33,7 +33,7 @@ impl Stripes {
         requires { stripe < stripe_count self.now }
     {
         let words = &self.table.shared;
-        let word = stripe + FIRST_STRIPE;
+        let word = stripe * WORDS_APART + FIRST_STRIPE;
         let backoff = Backoff::new();
         for _look in 0..MOST_LOOKS {
             if words.peek(word) == 0 {

@@ -2,8 +2,8 @@
 ghost use Rattle.std.specs.Prelude.{◌≡◌, ◌^◌, ◌<◌};
 ghost use Rattle.bin_table.specs.Tables.{IsBinCount};
 
-use crate::calls::{empty, has_all, node, number_of, put_all, spread_of, stripes};
-use bin_table::Bins;
+use crate::calls::{empty, has_all, node, number_of, put, put_all, spread_of, stripes};
+use bin_table::{Bins, LentEntry};
 use bin_transfer::Growing;
 use java_hash::stripe_of;
 use map_types::{Key, Refusal, Value};
@@ -117,6 +117,38 @@ fn sorted(alloc: Global) -> Result<bool, Refusal> {
 #[test]
 fn entries_in_byte_order(rt: HostRuntime) {
     assert_eq!(rt; sorted(rt.alloc()), Ok(true));
+}
+
+// The lent entry at the place has this key and this number.
+fn is_lent_at(entries: &[LentEntry<'_>], place: usize, text: &str, number: i64) -> bool {
+    match entries.get(place) {
+        Some(entry) => {
+            entry.key().as_str() == text && number_of(Some(entry.value())) == Some(number)
+        }
+        None => false,
+    }
+}
+
+fn lent(alloc: Global) -> Result<bool, Refusal> {
+    let mut growing = empty(alloc)?;
+    put(&mut growing, alloc, "sixteen bytes is b", 1)?;
+    put(&mut growing, alloc, "sixteen bytes is a", 2)?;
+    put(&mut growing, alloc, "sixteen bytes is", 3)?;
+    put(&mut growing, alloc, "", 4)?;
+    let all = growing.lent_sorted(alloc)?;
+    let entries = all.as_slice();
+    Ok(
+        entries.len() == 4
+            && is_lent_at(entries, 0, "", 4)
+            && is_lent_at(entries, 1, "sixteen bytes is", 3)
+            && is_lent_at(entries, 2, "sixteen bytes is a", 2)
+            && is_lent_at(entries, 3, "sixteen bytes is b", 1),
+    )
+}
+
+#[test]
+fn lent_entries_in_byte_order(rt: HostRuntime) {
+    assert_eq!(rt; lent(rt.alloc()), Ok(true));
 }
 
 fn made_again(alloc: Global, keys: u32) -> Result<Growing, Refusal> {

@@ -1,5 +1,5 @@
 //! Maps that are served, and clients of them.
-use cmd_serve::{Arrivals, Gate, Service, serve_map};
+use cmd_serve::{Arrivals, Gate, Service, Stream, serve_map};
 use disk_model::{Disk, Failure, FirstError, MemDisk};
 use durable_map::DurableMap;
 use java_hash::StripeCount;
@@ -73,7 +73,7 @@ pub(crate) fn connected<R: Net<Listener = TcpListener, Stream = TcpStream>>(
     for _ in 0..count {
         clients.push(TcpStream::connect(rt, address)?)?;
         let (stream, _) = listener.accept()?;
-        streams.push(stream)?;
+        streams.push(Stream::of_port(stream)?)?;
     }
     streams.reverse();
     Ok((clients, Listed { streams }))
@@ -82,11 +82,11 @@ pub(crate) fn connected<R: Net<Listener = TcpListener, Stream = TcpStream>>(
 /// Connections that were made beforehand; the last of the list comes first.
 #[derive(Drop)]
 pub(crate) struct Listed {
-    streams: Vec<TcpStream>,
+    pub(crate) streams: Vec<Stream>,
 }
 
 impl Arrivals for Listed {
-    fn next(&mut self) -> Option<TcpStream> {
+    fn next(&mut self) -> Option<Stream> {
         self.streams.pop()
     }
 }

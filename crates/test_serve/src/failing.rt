@@ -5,9 +5,11 @@ use cmd_serve::{NoGate, ServerWords, serve};
 use disk_model::{DirDisk, Failure, Fill, Unknown};
 use log::Log;
 use recovery::{format, open_parts};
+use socket_file::SocketFiles;
 use std::alloc::Global;
 use std::fs;
 use std::net::{Net, TcpListener, TcpStream};
+use std::os::unix::net::UnixListener;
 use std::sync::Wait;
 use std::test::Fail;
 use std::thread::Threads;
@@ -48,14 +50,24 @@ fn after_a_device_failure_each_call_fails(rt: HostRuntime) -> Result<(), Fail> {
     Ok(())
 }
 
-/// What a server of the directory at the port complains of, which prints nothing and ends with status 1.
+/// What a server of the directory complains of at the port or at the path, which prints nothing and ends with status 1.
 fn complaint<
     R: Net<Listener = TcpListener, Stream = TcpStream> + Clock + Log + Threads + Wait + Sync,
-    M: Directories,
->(rt: &R, machine: &M, alloc: Global, directory: &str, port: &str) -> Result<Vec<u8>, Fail> {
+    M: Directories + SocketFiles<Listener = UnixListener>,
+>(
+    rt: &R,
+    machine: &M,
+    alloc: Global,
+    directory: &str,
+    port: Option<&str>,
+    socket: Option<&str>,
+) -> Result<Vec<u8>, Fail> {
     let words = ServerWords {
         directory,
+        standby: false,
         port,
+        socket,
+        mode: "600",
         stripes: "16",
         workers: "4",
         connections: "64",
@@ -82,7 +94,7 @@ fn make_directory(rt: &HostRuntime, directory: &str) -> Result<(), Fail> {
 #[test]
 fn a_directory_that_is_not_formatted(rt: HostRuntime) -> Result<(), Fail> {
     make_directory(&rt, "empty")?;
-    let error = complaint(&rt, &rt, rt.alloc(), "empty", "1")?;
+    let error = complaint(&rt, &rt, rt.alloc(), "empty", Some("1"), None)?;
     fs::remove_dir_all(&rt, "empty")?;
     assert_eq!(rt; error.as_slice(), b"refused 11 NotFormatted\n".as_slice());
     Ok(())
@@ -102,8 +114,17 @@ fn a_port_that_is_taken(rt: HostRuntime) -> Result<(), Fail> {
     let listener = TcpListener::bind(&rt, ("127.0.0.1", 0u16))?;
     let port = listener.local_addr()?.port();
     let word = format!(in rt.alloc(); "{port}")?;
-    let error = complaint(&rt, &rt, rt.alloc(), "ready", word.as_str())?;
+    let error = complaint(&rt, &rt, rt.alloc(), "ready", Some(word.as_str()), None)?;
     fs::remove_dir_all(&rt, "ready")?;
+    assert_eq!(rt; error.as_slice(), b"unreadable\n".as_slice());
+    Ok(())
+}
+
+#[test]
+fn a_path_that_is_taken(rt: HostRuntime) -> Result<(), Fail> {
+    make_formatted(&rt, "taken")?;
+    let error = complaint(&rt, &rt, rt.alloc(), "taken", None, Some("taken/lock"))?;
+    fs::remove_dir_all(&rt, "taken")?;
     assert_eq!(rt; error.as_slice(), b"unreadable\n".as_slice());
     Ok(())
 }

@@ -10,4 +10,6 @@ mod pipeline;
 #[cfg(test)]
 mod sharing;
 #[cfg(test)]
+mod sockets;
+#[cfg(test)]
 mod stalling;

@@ -1,6 +1,6 @@
 //! Clients that neither read nor end.
 use crate::clients::{Listed, MOST_TURNS, PUT, WAS_ABSENT, connected, map_over, serve_listed};
-use cmd_serve::{Arrivals, NoGate};
+use cmd_serve::{Arrivals, NoGate, Stream};
 use log::Log;
 use std::alloc::Global;
 use std::io::{Read, Write};
@@ -21,7 +21,7 @@ struct Stalling {
 }
 
 impl Arrivals for Stalling {
-    fn next(&mut self) -> Option<TcpStream> {
+    fn next(&mut self) -> Option<Stream> {
         if let Some(stream) = self.listed.next() {
             return Some(stream);
         }

@@ -10,8 +10,8 @@ use std::alloc::Global;
 use std::sync::Wait;
 use stripe_locks::{Held, Pass};
 
-// Begins a put of `a`.
-fn begin_put<R: Wait>(
+/// Begins a put of `a`.
+pub(crate) fn begin_put<R: Wait>(
     rt: &R,
     map: &DurableMap<MemDisk>,
     pass: &mut Pass,

@@ -8,4 +8,6 @@ mod calls;
 #[cfg(test)]
 mod directory;
 #[cfg(test)]
+mod leading;
+#[cfg(test)]
 mod limits;

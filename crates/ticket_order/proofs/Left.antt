@@ -38,8 +38,8 @@ sweep_left (sweep.Begins spare i) = omega arith
 sweep_left (sweep.HasTaken spare t) = omega arith
 
 capture_left : (s : CaptureStage) → 1 ≤ left_of_capture s
-capture_left (capture.Begins alloc i) = omega arith
-capture_left (capture.HasTaken alloc t) = omega arith
+capture_left (capture.Begins i) = omega arith
+capture_left (capture.HasTaken t) = omega arith
 capture_left (capture.HasLooked t z) = omega arith
 
 stage_left : (s : Stage) → 1 ≤ left_of_stage s

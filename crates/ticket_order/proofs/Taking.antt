@@ -1,6 +1,7 @@
 -- How each step of a sweep and of a capture leads from one standing to the next.
-use Rattle.std.proofs.Common.{◌≡◌, ℕ, ◌+◌, ◌^◌, ◌≤◌, false, List, [], ◌∷◌, ◌++◌, Some, None, length, refl, sym, ap, ◌∙◌, subst}
+use Rattle.std.proofs.Common.{◌≡◌, ℕ, ◌+◌, ◌-◌, ◌^◌, ◌<◌, ◌≤◌, min, arith, false, List, [], ◌∷◌, ◌++◌, Some, None, length, refl, sym, ap, ◌∙◌, subst}
 use Rattle.std.specs.FinMap as finite
+use Rattle.atomic_methods.specs.PartState.{PartState}
 use Rattle.map_types.specs.declared.commands.Command.{Command}
 use Rattle.map_types.specs.declared.refusals.Refusal.{Refusal}
 use Rattle.map_types.specs.declared.refusals.Refusal.TheVariants as refusal
@@ -16,7 +17,7 @@ use Rattle.ticket_order.specs.Records.{past, reach, taking, looking, giving, sec
 use Rattle.ticket_order.specs.Legality.{history_of, IsLegalSection}
 use Rattle.ticket_order.specs.StepRules.{Collects, Looks, Gives, MayGive, AllLegalSections, Rises}
 use Rattle.ticket_order.specs.Calls.{CapturesStripe, HasLookedAt, HasTooMany, SweepsStripe}
-use Rattle.ticket_order.specs.Walks.{Task, ToCapture, Refuses, HasContent, TookContent, HasSwept, HasCopied, IsRefusing}
+use Rattle.ticket_order.specs.Walks.{Task, ToCapture, Refuses, HasContent, TookContent, HasSwept, HasMarked, IsRefusing, entries_captured}
 use Rattle.ticket_order.proofs.Apart.{not_full_by_memory}
 
 pub may_sweep : (n : ℕ) (b p : Record) (task : Task) (t : Taken) (x : Stripe) → HasSwept n b task t p → x.part.map ≡ t.content.part.map → x.outbox.items ≡ [] → x.last ≡ t.content.last → MayGive n p t.stripe x Sweep
@@ -106,7 +107,14 @@ capture_full n b p task t j k many = record {
   too_many = λ full i is. subst (λ z. HasTooMany b z p) (ap captured_stripe_of (sym j ∙ is)) (record { at = looked_at b p t k; many = many });
 }
 
-pub may_capture : (n : ℕ) (b p : Record) (t : Taken) (z : Captured) → HasCopied b t z p → MayGive n p t.stripe t.content Capture
+-- how many entries a part has, told by its number
+pub few_entries : (m : Map) (n : ℕ) → n ≡ min (finite.len m) (2 ^ 64 - 1) → n ≤ 2 ^ 32 - 1 → length (finite.entries m) < 2 ^ 32
+few_entries m n is few = (let same = finite.len-entries m in omega (arith, same, is, few))
+
+pub many_entries : (m : Map) (n : ℕ) → n ≡ min (finite.len m) (2 ^ 64 - 1) → 2 ^ 32 - 1 < n → 2 ^ 32 ≤ length (finite.entries m)
+many_entries m n is many = (let same = finite.len-entries m in omega (arith, same, is, many))
+
+pub may_capture : (n : ℕ) (b p : Record) (t : Taken) (z : Captured) → HasMarked b t z p → MayGive n p t.stripe t.content Capture
 may_capture n b p t z k =
     let q : ℕ = b.opening.first + length ((b.seen ++ k.taken) ++ k.looked) in
     record {
@@ -122,7 +130,7 @@ may_capture n b p t z k =
 unfoldable pub section_at : ℕ → ℕ → Map → Section
 section_at i q m = record { stripe = i; mark = q; part = m }
 
-pub captured_stripe : (n : ℕ) (b p w : Record) (t : Taken) (z : Captured) → HasCopied b t z p → Gives n Capture p w → CapturesStripe n b t.stripe z.mark z.entries.items w
+pub captured_stripe : (n : ℕ) (b p w : Record) (t : Taken) (z : Captured) → HasMarked b t z p → Gives n Capture p w → CapturesStripe n b t.stripe z.mark (entries_captured z) w
 unfolding section_at
 captured_stripe n b p w t z k g =
     let number : ℕ = b.opening.first + length ((b.seen ++ k.taken) ++ k.looked) in
@@ -137,7 +145,7 @@ captured_stripe n b p w t z k g =
       looked = k.looked;
       is = g.is ∙ ap (giving Capture) k.is;
       mark_is = k.mark_is ∙ sym (ap reach g.is);
-      entries_are = k.entries_are;
+      entries_are = ap (λ (part : PartState). finite.entries part.map) k.part_is;
       few = k.few;
       legal = subst (λ (y : Record). IsLegalSection n (history_of y) (section_at t.stripe z.mark t.content.part.map)) (sym g.is) there;
     }

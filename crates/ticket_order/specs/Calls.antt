@@ -26,8 +26,10 @@ use Rattle.ticket_order.specs.StepRules.{Rises, Collects, IsLast, Sees, Lives}
 abbrev pub walked : Record → ℕ → Map → List Entry → ℕ → List Command → List Command → Record
 walked v i m es last a b = looking (living (taking v i m es last a) true) b
 
--- TAKE, ALIVE, LOOK, TICKET, GIVE: the change is made, whose key is within the limit. The record grew by this call alone, its position is past all that the pass had seen, and it is legal there.
-pub record MakesCall (n : ℕ) (v : Record) (c : Command) (position : ℕ) (reply : reply_type.Reply) (w : Record) : Type 0 where
+-- TAKE, ALIVE, LOOK, TICKET, GIVE: the change is made, whose key is within the limit. The record grew by this call
+-- alone, its position is past all that the pass had seen, and it is legal there.
+pub record MakesCall (n : ℕ) (v : Record) (c : Command) (position : ℕ) (reply : reply_type.Reply)
+    (w : Record) : Type 0 where
   pub part : Map
   pub outbox : List Entry
   pub last : ℕ
@@ -43,9 +45,10 @@ pub record MakesCall (n : ℕ) (v : Record) (c : Command) (position : ℕ) (repl
   pub legal : IsLegalChange (history_of w) position c reply
 
 -- TAKE, ALIVE, GIVE: the read is made. Its position is the greater of what the pass had seen and of one past the last
--- ticket of its stripe, and the pass has seen it from then on. So no change of that stripe lies between its last one and
--- the position.
-pub record MakesRead (n : ℕ) (v : Record) (r : Read) (position : ℕ) (reply : reply_type.Reply) (w : Record) : Type 0 where
+-- ticket of its stripe, and the pass has seen it from then on. So no change of that stripe lies between its last one
+-- and the position.
+pub record MakesRead (n : ℕ) (v : Record) (r : Read) (position : ℕ) (reply : reply_type.Reply)
+    (w : Record) : Type 0 where
   pub part : Map
   pub outbox : List Entry
   pub last : ℕ
@@ -59,8 +62,8 @@ pub record MakesRead (n : ℕ) (v : Record) (r : Read) (position : ℕ) (reply :
   pub later : reach v ≤ position
   pub legal : IsLegalRead (history_of w) position r reply
 
--- TAKE, ALIVE, GIVE, of which it isn't told what the TAKE showed: the read is made and it is legal, at a position that the
--- pass has seen.
+-- TAKE, ALIVE, GIVE, of which it isn't told what the TAKE showed: the read is made and it is legal, at a position that
+-- the pass has seen.
 pub record ReadsAt (n : ℕ) (v : Record) (r : Read) (position : ℕ) (reply : reply_type.Reply) (w : Record) : Type 0 where
   pub part : Map
   pub outbox : List Entry
@@ -137,8 +140,8 @@ pub record IsTooLong (v : Record) (c : Command) (e : Refusal) (w : Record) : Typ
   pub refusal_is : e ≡ KeyTooLong
   pub is : w ≡ v
 
--- what a refused call leaves that was to make this change on n stripes: its key is too long, or the change is refused on
--- its stripe
+-- what a refused call leaves that was to make this change on n stripes: its key is too long, or the change is refused
+-- on its stripe
 abbrev pub TurnsDown : ℕ → Record → Command → Refusal → Record → Type 0
 TurnsDown n v c e w = IsTooLong v c e w ⊎ (IsWithin v.opening.key_limit c × RefusesChange v (stripe_of n c.key) e w)
 
@@ -210,7 +213,8 @@ RefusesSweep v i NoMemory w = GivesBack v (HasTaken v i) w
 RefusesSweep v i other w = ⊥
 
 -- TAKE, LOOK, GIVE: a capture of stripe i took its part at the mark
-pub record CapturesStripe (n : ℕ) (v : Record) (i : ℕ) (mark : ℕ) (entries : List (List ℕ × Value)) (w : Record) : Type 0 where
+pub record CapturesStripe (n : ℕ) (v : Record) (i : ℕ) (mark : ℕ) (entries : List (List ℕ × Value))
+    (w : Record) : Type 0 where
   pub part : Map
   pub outbox : List Entry
   pub last : ℕ

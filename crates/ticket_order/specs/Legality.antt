@@ -47,15 +47,16 @@ entries_from t (c ∷ cs) = entry t c ∷ entries_from (t + 1) cs
 abbrev pub entries_of : ℕ → ℕ → List Entry → List Entry
 entries_of n i es = filter (λ e. is_in_stripe n i e.command.key) es
 
--- One past the greatest ticket of the stripe i of n, if the first of these commands has the ticket `first`. It is `first`
--- if no key of them has that stripe.
+-- One past the greatest ticket of the stripe i of n, if the first of these commands has the ticket `first`. It is
+-- `first` if no key of them has that stripe.
 abbrev pub last_of : ℕ → ℕ → ℕ → List Command → ℕ
 last_of n i first commands = max first (past (entries_of n i (entries_from first commands)))
 
 -- The content of stripe i of n after the commands, of whose entries the sweeps took `taken`. The part is the stripe's
 -- part of the map. The outbox is exactly those of its entries that no sweep took, in the order of their tickets. `last`
 -- is one past the stripe's greatest ticket, if it has one.
-pub record IsContent (o : Opening) (n : ℕ) (commands : List Command) (taken : List Entry) (i : ℕ) (part : Map) (outbox : List Entry) (last : ℕ) : Type 0 where
+pub record IsContent (o : Opening) (n : ℕ) (commands : List Command) (taken : List Entry) (i : ℕ) (part : Map)
+    (outbox : List Entry) (last : ℕ) : Type 0 where
   pub part_is : part_of n i (map_after o.map commands) ≡ part
   pub outbox_is : entries_of n i (entries_from o.first commands) ≡ entries_of n i taken ++ outbox
   pub last_is : last ≡ last_of n i o.first commands

@@ -44,7 +44,8 @@ past (e ∷ es) = max (e.ticket + 1) (past es)
 
 -- a pass that has made no step
 abbrev pub newcomer : Opening → Record
-newcomer o = record { opening = o; steps = []; calls = []; sections = []; seen = []; holding = None; keeper = false; taken = []; published = o.first; failed = false; enrolled = false; fresh = false; passes = 0 }
+newcomer o =
+    record { opening = o; steps = []; calls = []; sections = []; seen = []; holding = None; keeper = false; taken = []; published = o.first; failed = false; enrolled = false; fresh = false; passes = 0 }
 
 -- the pass that sweeps, publishes and fails, at its start
 abbrev pub keeper_at_start : Opening → Record
@@ -59,7 +60,13 @@ missing v i = with_step (FoundHeld i) v
 
 -- TAKE of a free stripe with this content; `between` is what the pass sees of the history from now on besides
 abbrev pub taking : Record → ℕ → Map → List Entry → ℕ → List Command → Record
-taking v i m es last between = record v { steps = v.steps ++ Took i es last ∷ []; seen = v.seen ++ between; holding = Some record { stripe = i; part = m; outbox = es; last = last; has_drawn = false; looked = None } }
+taking v i m es last between = record v {
+  steps = v.steps ++ Took i es last ∷ [];
+  seen = v.seen
+      ++ between;
+  holding =
+      Some record { stripe = i; part = m; outbox = es; last = last; has_drawn = false; looked = None };
+}
 
 abbrev pub looking_at : ℕ → Option Holding → Option Holding
 looking_at q None = None
@@ -69,11 +76,24 @@ looking_at q (Some d) = Some record d { looked = (if d.has_drawn then None else 
 abbrev pub looking : Record → List Command → Record
 looking v between =
     let q : ℕ = v.opening.first + length (v.seen ++ between) in
-    record v { steps = v.steps ++ Looked q ∷ []; seen = v.seen ++ between; holding = looking_at q v.holding; fresh = nat_lt q ticket_limit }
+    record v {
+      steps = v.steps ++ Looked q ∷ [];
+      seen = v.seen
+          ++ between;
+      holding = looking_at q v.holding;
+      fresh = nat_lt q ticket_limit;
+    }
 
 abbrev pub drawing_at : ℕ → Command → Option Holding → Option Holding
 drawing_at t c None = None
-drawing_at t c (Some d) = Some record d { part = (step d.part c).map; outbox = d.outbox ++ entry t c ∷ []; last = t + 1; has_drawn = true; looked = None }
+drawing_at t c (Some d) = Some record d {
+  part = (step d.part c).map;
+  outbox = d.outbox
+      ++ entry t c ∷ [];
+  last = t + 1;
+  has_drawn = true;
+  looked = None;
+}
 
 -- the part that is held
 abbrev pub part_held : Option Holding → Map
@@ -84,7 +104,15 @@ part_held (Some d) = d.part
 abbrev pub drawing : Record → List Command → Command → Record
 drawing v between c =
     let t : ℕ = v.opening.first + length (v.seen ++ between) in
-    record v { steps = v.steps ++ Drew t ∷ []; seen = (v.seen ++ between) ++ c ∷ []; calls = v.calls ++ call (t + 1) (Changing c) (step (part_held v.holding) c).reply ∷ []; holding = drawing_at t c v.holding; fresh = false }
+    record v {
+      steps = v.steps ++ Drew t ∷ [];
+      seen = (v.seen ++ between) ++ c ∷ [];
+      calls = v.calls
+          ++ call (t + 1) (Changing c)
+          (step (part_held v.holding) c).reply ∷ [];
+      holding = drawing_at t c v.holding;
+      fresh = false;
+    }
 
 abbrev pub stripe_held : Option Holding → ℕ
 stripe_held None = 0
@@ -120,13 +148,25 @@ outbox_for purpose d = d.outbox
 
 -- GIVE that makes no read
 abbrev pub giving : Purpose → Record → Record
-giving p v = record v { steps = v.steps ++ Gave (stripe_held v.holding) ∷ []; holding = None; taken = v.taken ++ swept_by p v.holding; sections = v.sections ++ sections_for p v.holding }
+giving p v = record v {
+  steps = v.steps ++ Gave (stripe_held v.holding) ∷ [];
+  holding = None;
+  taken = v.taken
+      ++ swept_by p v.holding;
+  sections = v.sections ++ sections_for p v.holding;
+}
 
 -- GIVE that makes the read r: at the position that the pass has then seen, with the reply of the part that was held
 abbrev pub answering : Read → Record → List Command → Record
 answering r v between =
     let q : ℕ = v.opening.first + length (v.seen ++ between) in
-    record v { steps = v.steps ++ Gave (stripe_held v.holding) ∷ []; seen = v.seen ++ between; calls = v.calls ++ call q (Reading r) (answer (part_held v.holding) r) ∷ []; holding = None }
+    record v {
+      steps = v.steps ++ Gave (stripe_held v.holding) ∷ [];
+      seen = v.seen ++ between;
+      calls = v.calls
+          ++ call q (Reading r) (answer (part_held v.holding) r) ∷ [];
+      holding = None;
+    }
 
 -- DURABLE with the number n
 abbrev pub publishing : Record → ℕ → Record

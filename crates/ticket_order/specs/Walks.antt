@@ -1,12 +1,14 @@
 -- Where a walk stands: what the record of its pass has gained since the walk began, and what its next step leaves.
 use Rattle.std.specs.FinMap as finite
 use Rattle.std.specs.Prelude.{length, ◌≡◌, ℕ, ◌+◌, ◌^◌, ◌<◌, max, List, [], ◌∷◌, ◌++◌, Option, Some, None, Bool, true, false}
+use Rattle.atomic_methods.specs.PartState.{PartState}
 use Rattle.java_hash.specs.Stripes.{stripe_of}
 use Rattle.map_types.specs.declared.commands.Command.{Command}
 use Rattle.map_types.specs.declared.commands.Read as read_type
 use Rattle.map_types.specs.declared.commands.Reply.{Reply}
 use Rattle.map_types.specs.declared.refusals.Refusal.{Refusal}
 use Rattle.map_types.specs.declared.refusals.Refusal.TheVariants as refusal
+use Rattle.map_types.specs.declared.texts.Value.{Value}
 use Rattle.map_model.specs.Steps.{step, answer}
 use Rattle.ticket_order.specs.declared.stripe.Entry.{Entry}
 use Rattle.ticket_order.specs.declared.held.Held.{Held}
@@ -90,8 +92,8 @@ next_of_sweep (sweep.Begins spare i) = Take i
 next_of_sweep (sweep.HasTaken spare t) = Give t.stripe
 
 abbrev pub next_of_capture : CaptureStage → Kind
-next_of_capture (capture.Begins alloc i) = Take i
-next_of_capture (capture.HasTaken alloc t) = Look
+next_of_capture (capture.Begins i) = Take i
+next_of_capture (capture.HasTaken t) = Look
 next_of_capture (capture.HasLooked t z) = Give t.stripe
 
 abbrev pub next_of_stage : ℕ → Stage → Kind
@@ -128,8 +130,8 @@ left_of_sweep (sweep.Begins spare i) = 2
 left_of_sweep (sweep.HasTaken spare t) = 1
 
 abbrev pub left_of_capture : CaptureStage → ℕ
-left_of_capture (capture.Begins alloc i) = 3
-left_of_capture (capture.HasTaken alloc t) = 2
+left_of_capture (capture.Begins i) = 3
+left_of_capture (capture.HasTaken t) = 2
 left_of_capture (capture.HasLooked t z) = 1
 
 abbrev pub left_of_stage : Stage → ℕ
@@ -164,6 +166,22 @@ entries_of_walk w = entries_of_stage w.stage
 abbrev pub KeepsEntries : List Entry → Stepped → Type 0
 KeepsEntries es (stepped.Swept entries) = entries.items ≡ es
 KeepsEntries es end = Unit {0}
+
+-- the entries of what a capture took, in rising byte order of their keys
+abbrev pub entries_captured : Captured → List (List ℕ × Value)
+entries_captured z = finite.entries z.part.value.map
+
+-- the part of the stripe of a capture that has only its GIVE left
+abbrev pub part_of_capture : CaptureStage → Option PartState
+part_of_capture (capture.HasLooked t z) = Some t.content.part
+part_of_capture s = None
+
+abbrev pub part_of_stage : Stage → Option PartState
+part_of_stage (stage.Capture s) = part_of_capture s
+part_of_stage s = None
+
+abbrev pub part_of_walk : Walk → Option PartState
+part_of_walk w = part_of_stage w.stage
 
 -- what a capture has taken and not handed out yet
 abbrev pub captured_of_capture : CaptureStage → Option Captured
@@ -290,15 +308,22 @@ pub record HasAnswer (n : ℕ) (b : Record) (r : read_type.Read) (t : Taken) (h 
 
 -- the walk of a change, which began at the record b, stands at the record p
 abbrev pub FitsChange : ℕ → Record → Task → ChangeStage → Record → Type 0
-FitsChange n b task (change.Begins new) p = HasBegun b task (ToChange new.command) p × IsWithin b.opening.key_limit new.command
-FitsChange n b task (change.HasTaken new t) p = OfTask n task (ToChange new.command) t.stripe (stripe_of n new.command.key) × TookContent b t p × Rises b (past t.content.outbox.items) p × IsWithin b.opening.key_limit new.command
-FitsChange n b task (change.IsAlive new t) p = OfTask n task (ToChange new.command) t.stripe (stripe_of n new.command.key) × TookAlive b t p × IsWithin b.opening.key_limit new.command
-FitsChange n b task (change.IsReady new t prepared) p = OfTask n task (ToChange new.command) t.stripe (stripe_of n new.command.key) × TookLooked b t p × (reach p < ticket_limit) × HasMemory new.command t.content prepared × IsWithin b.opening.key_limit new.command
+FitsChange n b task (change.Begins new) p =
+    HasBegun b task (ToChange new.command) p × IsWithin b.opening.key_limit new.command
+FitsChange n b task (change.HasTaken new t) p = OfTask n task (ToChange new.command) t.stripe
+    (stripe_of n new.command.key) × TookContent b t p × Rises b (past t.content.outbox.items) p
+    × IsWithin b.opening.key_limit new.command
+FitsChange n b task (change.IsAlive new t) p = OfTask n task (ToChange new.command) t.stripe
+    (stripe_of n new.command.key) × TookAlive b t p × IsWithin b.opening.key_limit new.command
+FitsChange n b task (change.IsReady new t prepared) p = OfTask n task (ToChange new.command) t.stripe
+    (stripe_of n new.command.key) × TookLooked b t p × (reach p < ticket_limit)
+    × HasMemory new.command t.content prepared × IsWithin b.opening.key_limit new.command
 FitsChange n b task (change.HasDrawn t h) p = HasMade n b task t h p
 
 abbrev pub FitsRead : ℕ → Record → Task → ReadStage → Record → Type 0
 FitsRead n b task (read.Begins r) p = HasBegun b task (ToRead r) p
-FitsRead n b task (read.HasTaken r t) p = OfTask n task (ToRead r) t.stripe (stripe_of n r.key) × TakesStripe n b t.stripe t.content p
+FitsRead n b task (read.HasTaken r t) p =
+    OfTask n task (ToRead r) t.stripe (stripe_of n r.key) × TakesStripe n b t.stripe t.content p
 FitsRead n b task (read.HasRead r t h) p = OfTask n task (ToRead r) t.stripe (stripe_of n r.key) × HasAnswer n b r t h p
 
 abbrev pub FitsRelease : Record → Task → ReleaseStage → Record → Type 0
@@ -316,19 +341,19 @@ abbrev pub FitsSweep : ℕ → Record → Task → SweepStage → Record → Typ
 FitsSweep n b task (sweep.Begins spare i) p = HasBegun b task (ToSweep i) p × (i < n) × (b.keeper ≡ true)
 FitsSweep n b task (sweep.HasTaken spare t) p = HasSwept n b task t p
 
--- since b: TAKE, and LOOK at the mark, and the entries of the part were copied
-pub record HasCopied (b : Record) (t : Taken) (z : Captured) (p : Record) : Type 0 where
+-- since b: TAKE, and LOOK at the mark, with the part as it is still held
+pub record HasMarked (b : Record) (t : Taken) (z : Captured) (p : Record) : Type 0 where
   pub taken : List Command
   pub looked : List Command
   pub is : p ≡ looking (taking b t.stripe t.content.part.map t.content.outbox.items t.content.last taken) looked
   pub mark_is : z.mark ≡ reach p
-  pub entries_are : z.entries.items ≡ finite.entries t.content.part.map
-  pub few : length z.entries.items < 2 ^ 32
+  pub part_is : z.part.value ≡ t.content.part
+  pub few : length (entries_captured z) < 2 ^ 32
 
 abbrev pub FitsCapture : ℕ → Record → Task → CaptureStage → Record → Type 0
-FitsCapture n b task (capture.Begins alloc i) p = HasBegun b task (ToCapture i) p × (i < n)
-FitsCapture n b task (capture.HasTaken alloc t) p = (task ≡ ToCapture t.stripe) × TookContent b t p
-FitsCapture n b task (capture.HasLooked t z) p = (task ≡ ToCapture t.stripe) × HasCopied b t z p
+FitsCapture n b task (capture.Begins i) p = HasBegun b task (ToCapture i) p × (i < n)
+FitsCapture n b task (capture.HasTaken t) p = (task ≡ ToCapture t.stripe) × TookContent b t p
+FitsCapture n b task (capture.HasLooked t z) p = (task ≡ ToCapture t.stripe) × HasMarked b t z p
 
 abbrev pub FitsStage : ℕ → Record → Task → Stage → Record → Type 0
 FitsStage n b task (stage.Change s) p = FitsChange n b task s p
@@ -354,11 +379,12 @@ Next n b (ToChange c) (stepped.Held h) w = MakesCall n b c h.position h.reply w
 Next n b (ToRead r) (stepped.Held h) w = MakesRead n b r h.position h.reply w
 Next n b (ToRelease q y) (stepped.Released z) w = Releases q y b z w
 Next n b (ToSweep i) (stepped.Swept entries) w = SweepsStripe n b i entries.items w
-Next n b (ToCapture i) (stepped.Captured z) w = CapturesStripe n b i z.mark z.entries.items w
+Next n b (ToCapture i) (stepped.Captured z) w = CapturesStripe n b i z.mark (entries_captured z) w
 Next n b task end w = ⊥
 
 -- exactly one step was made, of this kind
-pub record MakesOne {T : Type 0} (recorded : T → Record) (moves : T → StepMade → T → Type 0) (kind : Kind) (old new : T) : Type 0 where
+pub record MakesOne {T : Type 0} (recorded : T → Record) (moves : T → StepMade → T → Type 0) (kind : Kind)
+    (old new : T) : Type 0 where
   pub made : StepMade
   pub steps : (recorded new).steps ≡ (recorded old).steps ++ made ∷ []
   pub kind_is : kind_of made ≡ kind

@@ -6,26 +6,27 @@ ghost use Rattle.ticket_order.specs.Walks.{Task, FitsCapture, Next, MakesOne, ne
 use crate::record::Purpose;
 use crate::steps::Steps;
 use crate::walk::{Stage, Stepped, Taken, Walk};
-use map_types::{Key, Refusal, Value};
-use std::alloc::Global;
+use atomic_methods::Part;
+use map_types::Refusal;
+use std::snapshot::Snapshot;
 
 /// The most entries of a section.
 const MOST_ENTRIES: usize = (1 << 32) - 1;
 
-/// What a capture took of a stripe: its entries in the byte order of their keys, and the count of
-/// tickets while it was held.
+/// What a capture took of a stripe: the count of tickets while it was held, and its part as it was
+/// then, which contracts alone read.
 #[derive(Drop)]
 pub struct Captured {
     pub mark: u64,
-    pub entries: Vec<(Key, Value)>,
+    pub part: Snapshot<Part>,
 }
 
 /// How far a capture has come.
 #[derive(Drop)]
 pub(crate) enum CaptureStage {
     /// Of this stripe.
-    Begins(Global, usize),
-    HasTaken(Global, Taken),
+    Begins(usize),
+    HasTaken(Taken),
     HasLooked(Taken, Captured),
 }
 
@@ -58,20 +59,17 @@ impl CaptureStage {
         ensures stripes { S.stripe_count steps.new ≡ S.stripe_count steps.old }
     {
         match self {
-            CaptureStage::Begins(alloc, stripe) => match steps.take(stripe) {
-                Some(content) => CaptureStage::HasTaken(alloc, Taken { stripe, content }).more(),
+            CaptureStage::Begins(stripe) => match steps.take(stripe) {
+                Some(content) => CaptureStage::HasTaken(Taken { stripe, content }).more(),
                 None => Stepped::Refused(Refusal::Busy { stripe }),
             },
-            CaptureStage::HasTaken(alloc, taken) => {
+            CaptureStage::HasTaken(taken) => {
                 let mark = steps.look();
-                match taken.content.part.entries_sorted(alloc) {
-                    Ok(entries) if entries.len() > MOST_ENTRIES => taken.refused(Refusal::LogFull),
-                    Ok(entries) => CaptureStage::HasLooked(
-                        taken,
-                        Captured { mark, entries },
-                    ).more(),
-                    Err(refusal) => taken.refused(refusal),
+                if taken.content.part.len() > MOST_ENTRIES {
+                    return taken.refused(Refusal::LogFull);
                 }
+                let part = Snapshot::of(&taken.content.part);
+                CaptureStage::HasLooked(taken, Captured { mark, part }).more()
             }
             CaptureStage::HasLooked(taken, captured) => {
                 steps.give(taken.stripe, taken.content, Purpose::Capture);

@@ -1,9 +1,9 @@
 //! A call that is under way, as a machine that makes one step at a time.
 ghost use Rattle.std.specs.Prelude.{◌≡◌, ◌<◌, ℕ, Some, None, true, false, length};
-ghost use Rattle.std.specs.Option.{option_copied};
+ghost use Rattle.std.specs.Option.{option_map};
 ghost use Rattle.ticket_order.specs.declared.record.Record.{Record};
 ghost use Rattle.ticket_order.specs.Records.{IsWithin, giving};
-ghost use Rattle.ticket_order.specs.Walks.{Task, ToChange, ToRead, ToRelease, ToSweep, ToCapture, Fits, IsUnderWay, Next, MakesOne, next_kind, Take, Give, HasContent, IsRefusing, Refuses, HasFewerLeft, steps_left, entries_of_walk, KeepsEntries, captured_of_walk, KeepsCaptured, refusal_of_walk, KeepsRefusal, is_holding};
+ghost use Rattle.ticket_order.specs.Walks.{Task, ToChange, ToRead, ToRelease, ToSweep, ToCapture, Fits, IsUnderWay, Next, MakesOne, next_kind, Take, Give, HasContent, IsRefusing, Refuses, HasFewerLeft, steps_left, entries_of_walk, KeepsEntries, captured_of_walk, KeepsCaptured, part_of_walk, refusal_of_walk, KeepsRefusal, is_holding};
 
 use crate::capture_walk::{CaptureStage, Captured};
 use crate::change_walk::{ChangeStage, NewChange};
@@ -14,6 +14,7 @@ use crate::release_walk::ReleaseStage;
 use crate::steps::Steps;
 use crate::stripe::{Entry, Stripe};
 use crate::sweep_walk::SweepStage;
+use atomic_methods::Part;
 use map_types::{Command, Read, Refusal};
 use std::alloc::Global;
 
@@ -133,14 +134,14 @@ impl Walk {
     }
 
     /// A capture of the stripe: TAKE, LOOK, GIVE.
-    pub fn capture(alloc: Global, stripe: usize) -> Walk
+    pub fn capture(stripe: usize) -> Walk
         ensures fits { (n : ℕ) (b : Record) → b.holding ≡ None → stripe < n
             → Fits n b (ToCapture stripe) result b }
         ensures first { (n : ℕ) → next_kind n result ≡ Take stripe }
         ensures left { steps_left result ≡ 3 }
     {
         Walk {
-            stage: Stage::Capture(CaptureStage::Begins(alloc, stripe)),
+            stage: Stage::Capture(CaptureStage::Begins(stripe)),
         }
     }
 
@@ -164,12 +165,16 @@ impl Walk {
         }
     }
 
-    /// What a capture has taken that its GIVE will hand out.
-    pub fn captured(&self) -> Option<&Captured>
-        ensures { option_copied result ≡ captured_of_walk self.now }
+    /// What a capture has taken that its GIVE will hand out, and the part of its stripe, which it
+    /// holds.
+    pub fn captured(&self) -> Option<(&Captured, &Part)>
+        ensures captured { option_map (λ found. found.0.now) result ≡ captured_of_walk self.now }
+        ensures part { option_map (λ found. found.1.now) result ≡ part_of_walk self.now }
     {
         match &self.stage {
-            Stage::Capture(CaptureStage::HasLooked(_, captured)) => Some(captured),
+            Stage::Capture(CaptureStage::HasLooked(taken, captured)) => {
+                Some((captured, &taken.content.part))
+            }
             _ => None,
         }
     }

@@ -5,7 +5,7 @@ use Rattle.map_types.specs.declared.commands.Command.{Command}
 use Rattle.map_model.specs.Maps.{Map}
 use Rattle.ticket_order.specs.declared.stripe.Entry.{Entry}
 use Rattle.ticket_order.specs.declared.stripe.Stripe.{Stripe}
-use Rattle.ticket_order.specs.declared.capture_walk.Captured.{Captured}
+use Rattle.view_walk.specs.declared.walk.Captured.{Captured}
 use Rattle.ticket_order.specs.declared.record.Opening.{Opening}
 use Rattle.ticket_order.specs.declared.record.Purpose.TheVariants.{Nothing, Capture}
 use Rattle.ticket_order.specs.declared.record.StepMade.{StepMade}

@@ -2,7 +2,7 @@
 use Rattle.std.proofs.Common.{ℕ, ◌≡◌, List, None, Err}
 use Rattle.map_types.specs.declared.refusals.Refusal.{Refusal}
 use Rattle.map_types.specs.declared.refusals.Refusal.TheVariants as refusal
-use Rattle.ticket_order.specs.declared.capture_walk.Captured.{Captured}
+use Rattle.view_walk.specs.declared.walk.Captured.{Captured}
 use Rattle.ticket_order.specs.declared.record.Record.{Record}
 use Rattle.view_walk.specs.declared.walk.ViewWalk.{ViewWalk}
 use Rattle.view_walk.specs.declared.walk.Stage.{Stage}

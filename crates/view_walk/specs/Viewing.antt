@@ -6,7 +6,7 @@ use Rattle.map_types.specs.declared.refusals.Refusal.{Refusal}
 use Rattle.map_types.specs.declared.refusals.Refusal.TheVariants as refusal
 use Rattle.map_model.specs.Maps.{Map}
 use Rattle.ticket_order.specs.declared.stripe.Stripe.{Stripe}
-use Rattle.ticket_order.specs.declared.capture_walk.Captured.{Captured}
+use Rattle.view_walk.specs.declared.walk.Captured.{Captured}
 use Rattle.ticket_order.specs.declared.record.StepMade.{StepMade}
 use Rattle.ticket_order.specs.declared.record.StepMade.TheVariants.{Gave}
 use Rattle.ticket_order.specs.declared.record.Section.{Section}
@@ -37,10 +37,11 @@ abbrev pub Shows : ℕ → List Captured → List Section → Type 0
 Shows i [] [] = Unit {0}
 Shows i [] (x ∷ xs) = ⊥
 Shows i (z ∷ zs) [] = ⊥
-Shows i (z ∷ zs) (x ∷ xs) = (x.stripe ≡ i) × (z.mark ≡ x.mark) × (z.entries.items ≡ finite.entries x.part) × Shows (i + 1) zs xs
+Shows i (z ∷ zs) (x ∷ xs) =
+    (x.stripe ≡ i) × (z.mark ≡ x.mark) × (z.entries.items ≡ finite.entries x.part) × Shows (i + 1) zs xs
 
--- From b to p the record gained steps, a longer front of the history, and these sections of stripes 0, 1 and so on. Their marks don't fall, are
--- at least what was seen at b, and at most what is seen at p. It gained nothing else.
+-- From b to p the record gained steps, a longer front of the history, and these sections of stripes 0, 1 and so on.
+-- Their marks don't fall, are at least what was seen at b, and at most what is seen at p. It gained nothing else.
 pub record Views (n : ℕ) (b : Record) (zs : List Captured) (p : Record) : Type 0 where
   pub made : List StepMade
   pub more : List Command
@@ -62,7 +63,8 @@ pub record Views (n : ℕ) (b : Record) (zs : List Captured) (p : Record) : Type
 
 -- the stripe i is held with this content, of which no ticket was drawn
 abbrev pub Holds : ℕ → Stripe → Option ℕ → Record → Type 0
-Holds i content looked p = p.holding ≡ Some (record { stripe = i; part = content.part.map; outbox = content.outbox.items; last = content.last; has_drawn = false; looked = looked })
+Holds i content looked p = p.holding ≡ Some
+    (record { stripe = i; part = content.part.map; outbox = content.outbox.items; last = content.last; has_drawn = false; looked = looked })
 
 -- one more stripe was captured, with this mark and part
 pub record HasAdded (old : List Captured) (mark : ℕ) (part : Map) (new : List Captured) : Type 0 where
@@ -86,7 +88,8 @@ pub record ViewsAll (n : ℕ) (b : Record) (zs : List Captured) (p : Record) : T
   pub whole : length zs ≡ n
 
 -- all were captured, and since then this was done
-pub record After (n : ℕ) (b : Record) (zs : List Captured) (Since : Record → Record → Type 0) (p : Record) : Type 0 where
+pub record After (n : ℕ) (b : Record) (zs : List Captured) (Since : Record → Record → Type 0)
+    (p : Record) : Type 0 where
   pub between : Record
   pub all : ViewsAll n b zs between
   pub since : Since between p
@@ -100,7 +103,8 @@ abbrev pub FitsStage : ℕ → Record → List Captured → Stage → Record →
 FitsStage n b zs stage.Taking p = Views n b zs p × (p.holding ≡ None) × (length zs < n)
 FitsStage n b zs (stage.HasTaken content) p = Views n b zs p × Holds (length zs) content None p × (length zs < n)
 FitsStage n b zs (stage.HasLooked content) p = HasCopied n b zs content p
-FitsStage n b zs (stage.GivingBack content) p = Views n b zs p × Holds (length zs) content (Some (reach p)) p × (length zs < n)
+FitsStage n b zs (stage.GivingBack content) p =
+    Views n b zs p × Holds (length zs) content (Some (reach p)) p × (length zs < n)
 FitsStage n b zs (stage.Awaiting awaiting) p = FitsAwaiting n b zs awaiting p
 
 -- The walk of a view of n stripes, which began at the record b, stands at the record p.

@@ -4,10 +4,10 @@ ghost use Rattle.ticket_order.specs.declared.record.Record.{Record};
 ghost use Rattle.ticket_order.specs.Walks.{MakesOne};
 ghost use Rattle.view_walk.specs.Viewing.{FitsAwaiting, Next, greatest_mark, next_of_awaiting};
 
-use crate::walk::{Stage, ViewWalk, Viewed};
+use crate::walk::{Captured, Stage, ViewWalk, Viewed};
 use map_types::Refusal;
 use std::alloc::Global;
-use ticket_order::{Captured, Steps};
+use ticket_order::Steps;
 
 /// How far the wait for the greatest mark has come. All stripes were captured and given back.
 #[derive(Drop)]

@@ -6,4 +6,4 @@
 mod awaiting;
 mod walk;
 
-pub use walk::{ViewWalk, Viewed};
+pub use walk::{Captured, ViewWalk, Viewed};

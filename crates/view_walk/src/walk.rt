@@ -6,9 +6,17 @@ ghost use Rattle.view_walk.specs.Viewing.{Fits, Next, HasAdded, next_kind, mark_
 
 use crate::awaiting;
 use crate::awaiting::{Awaiting, greatest_mark};
-use map_types::Refusal;
+use map_types::{Key, Refusal, Value};
 use std::alloc::Global;
-use ticket_order::{Captured, Position, Purpose, Steps, Stripe};
+use ticket_order::{Position, Purpose, Steps, Stripe};
+
+/// What a view took of a stripe: its entries in the byte order of their keys, and the count of
+/// tickets while it was held.
+#[derive(Drop)]
+pub struct Captured {
+    pub mark: u64,
+    pub entries: Vec<(Key, Value)>,
+}
 
 /// A view of all stripes that is under way.
 #[derive(Drop)]

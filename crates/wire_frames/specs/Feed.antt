@@ -17,7 +17,8 @@ IsFirst bytes (Whole body rest) = IsBody body.now × (bytes ≡ frame body.now +
 abbrev pub HasMessage : Feed → Type 0
 HasMessage feed = (feed.ended ≡ false) × (IsPartial feed.left → ⊥)
 
--- the message stands at the front of what was left: a frame, which is taken, or a refused length, after which nothing more comes
+-- the message stands at the front of what was left: a frame, which is taken, or a refused length, after which nothing
+-- more comes
 abbrev pub Takes : Feed → Feed → Message → Type 0
 Takes old new message =
     (old.ended ≡ false)
@@ -35,4 +36,5 @@ pub record BeginsBulk (feed : Feed) : Type 0 where
 
 -- a message that asks something of the whole map comes out of such a frame
 abbrev pub WholeMapBeginsBulk : Type 0
-WholeMapBeginsBulk = (old new : Feed) (message : Message) → Takes old new message → AsksWholeMap message → BeginsBulk old
+WholeMapBeginsBulk =
+    (old new : Feed) (message : Message) → Takes old new message → AsksWholeMap message → BeginsBulk old

@@ -43,11 +43,13 @@ AreBytes stream = AllByRecursion (λ byte. byte < 256) stream
 
 -- two divisions of one stream are the same
 abbrev pub OneDivision : Type 0
-OneDivision = (stream : List ℕ) (bodies others : List (List ℕ)) (rest left : List ℕ) → Splits stream bodies rest → Splits stream others left → (bodies ≡ others) × (rest ≡ left)
+OneDivision = (stream : List ℕ) (bodies others : List (List ℕ)) (rest left : List ℕ) → Splits stream bodies rest
+    → Splits stream others left → (bodies ≡ others) × (rest ≡ left)
 
 -- every list of bytes has a division
 abbrev pub EveryDivision : Type 0
-EveryDivision = (stream : List ℕ) → AreBytes stream → (bodies : List (List ℕ)) × (rest : List ℕ) × Splits stream bodies rest
+EveryDivision =
+    (stream : List ℕ) → AreBytes stream → (bodies : List (List ℕ)) × (rest : List ℕ) × Splits stream bodies rest
 
 -- ---- the messages
 
@@ -74,7 +76,8 @@ pub record Begins (stream : List ℕ) (messages : List Message) (rest : List ℕ
 abbrev pub FirstMessages : List ℕ → List Message → Type 0
 FirstMessages stream messages =
     ((rest : List ℕ) × Begins stream messages rest)
-    ⊎ ((front : List Message) × (rest : List ℕ) × Begins stream front rest × IsRefusedLength rest × (messages ≡ front ++ Err BadFrame ∷ []))
+    ⊎ ((front : List Message) × (rest : List ℕ) × Begins stream front rest × IsRefusedLength rest
+    × (messages ≡ front ++ Err BadFrame ∷ []))
 
 -- all messages of the stream, if it has no refused length
 abbrev pub AllMessages : List ℕ → List Message → Type 0

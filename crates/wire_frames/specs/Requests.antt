@@ -162,7 +162,8 @@ request_of bytes = request_at bytes >>= alone
 
 -- what is read was spelled so
 abbrev pub ReadIsSpelled : Type 0
-ReadIsSpelled = (bytes : List ℕ) (request : Request) → IsBytes bytes → request_of bytes ≡ Ok request → IsRequest bytes request
+ReadIsSpelled =
+    (bytes : List ℕ) (request : Request) → IsBytes bytes → request_of bytes ≡ Ok request → IsRequest bytes request
 
 -- what is spelled so is read
 abbrev pub SpelledIsRead : Type 0

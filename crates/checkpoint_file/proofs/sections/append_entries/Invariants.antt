@@ -4,6 +4,6 @@ use Rattle.store_layout.specs.Checkpoints.{entries_bytes}
 use Rattle.checkpoint_file.specs.States.{AreWellFormed}
 use Rattle.checkpoint_file.proofs.sections.append_entries.Given as goal
 
-abbrev pub invariant-loop-key : goal.invariant-loop-key
-invariant-loop-key l =
-    (l.out.items ≡ l.fn.out.items ++ entries_bytes new_layout (take l.key-index l.entries)) × AreWellFormed new_layout (take l.key-index l.entries)
+abbrev pub invariant-loop-entry : goal.invariant-loop-entry
+invariant-loop-entry l =
+    (l.out.items ≡ l.fn.out.items ++ entries_bytes new_layout (take l.entry-index l.entries)) × AreWellFormed new_layout (take l.entry-index l.entries)

@@ -5,11 +5,11 @@ pub returns-in-Ok-first_error : goal.returns-in-Ok-first_error
 returns-in-Ok-first_error g c = inl (record {
   settings = c.in-Ok.settings;
   named = c.in-Ok.ensures.ok;
-  ends = inl (record { disk = c.in-Ok-create_files.disk; opened = c.in-Ok-create_files.ensures.created; hosts = c.serve_disk.ensures });
+  ends = inl (record { disk = c.in-Ok-open_directory.disk; opened = c.in-Ok-open_directory.ensures.opened; hosts = c.serve_disk.ensures });
 })
 
 pub returns-in-Err-first_error : goal.returns-in-Err-first_error
 returns-in-Err-first_error g c = inl (record { settings = c.in-Ok.settings; named = c.in-Ok.ensures.ok; ends = inr (refl, c.refuse.ensures) })
 
-pub returns-in-Err-create_files : goal.returns-in-Err-create_files
-returns-in-Err-create_files g c = inl (record { settings = c.in-Ok.settings; named = c.in-Ok.ensures.ok; ends = inr (refl, c.cannot_open.ensures) })
+pub returns-in-Err-open_directory : goal.returns-in-Err-open_directory
+returns-in-Err-open_directory g c = inl (record { settings = c.in-Ok.settings; named = c.in-Ok.ensures.ok; ends = inr (refl, c.cannot_open.ensures) })

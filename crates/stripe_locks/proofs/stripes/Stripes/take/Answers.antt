@@ -1,6 +1,6 @@
-use Rattle.std.proofs.Common.{◌≡◌, ◌∙◌, ◌∷◌, ◌+◌, ◌-◌, ◌<◌, ℕ, Some, arith, sym, ap, subst}
+use Rattle.std.proofs.Common.{◌∙◌, ◌∷◌, ◌<◌, ℕ, Some, arith, sym, ap, subst}
 use Rattle.atomic_table.specs.Table.{rest}
-use Rattle.stripe_locks.proofs.Moving.{allows_take}
+use Rattle.stripe_locks.proofs.Moving.{allows_take, word_of_stripe}
 use Rattle.stripe_locks.proofs.stripes.Stripes.take.Goals as goal
 
 pub compare_exchange-found-requires : goal.compare_exchange-found-requires
@@ -11,5 +11,4 @@ pub exchange-requires : goal.exchange-requires
 exchange-requires c =
     let found = c.compare_exchange-found.ensures in
     let home = found.2.0 c.if-found-ne0.false in
-    let minus : c.args.stripe + 4 - 4 ≡ c.args.stripe = omega arith in
-    (found.0 ∙ c.requires.own, (Some home.content, home.has ∙ (λ i. (minus i, Some home.content) ∷ sym (ap rest home.has) i)))
+    (found.0 ∙ c.requires.own, (Some home.content, home.has ∙ (λ i. (word_of_stripe c.args.stripe i, Some home.content) ∷ sym (ap rest home.has) i)))

@@ -1,17 +1,13 @@
-use Rattle.std.proofs.Common.{length, arith, ap}
-use Rattle.ticket_order.proofs.Taking.{viewed, capture_starved, capture_full, may_capture, captured_stripe}
+use Rattle.std.proofs.Common.{length, arith, subst, sym, ◌<◌, ◌^◌}
+use Rattle.std.specs.FinMap as finite
+use Rattle.atomic_methods.specs.PartState.{PartState}
+use Rattle.ticket_order.proofs.Taking.{viewed, capture_full, captured_stripe, few_entries, many_entries, may_capture}
 use Rattle.ticket_order.proofs.capture_walk.CaptureStage.step.Goals as goal
 
-pub returns-in-Ok-clause-next : goal.returns-in-Ok-clause-next
-returns-in-Ok-clause-next g c = λ b task f.
+pub returns-then-len-gt-MOST_ENTRIES-clause-next : goal.returns-then-len-gt-MOST_ENTRIES-clause-next
+returns-then-len-gt-MOST_ENTRIES-clause-next g c = λ b task f.
     let h = rw c.in-HasTaken.is at f in
-    let same = ap length c.in-Ok.ensures.ok in
-    rw c.refused.ensures (capture_full _ b _ task c.in-HasTaken.taken h.0 (viewed b _ _ _ _ h.1 c.look-mark.ensures.step) (omega (arith, same, c.in-Ok.entries.ok.0)))
-
-pub returns-in-Err-clause-next : goal.returns-in-Err-clause-next
-returns-in-Err-clause-next g c = λ b task f.
-    let h = rw c.in-HasTaken.is at f in
-    rw c.refused-in-Err.ensures (capture_starved _ b _ task c.in-HasTaken.taken _ h.0 (viewed b _ _ _ _ h.1 c.look-mark.ensures.step) c.in-Err.ensures.err)
+    rw c.refused.ensures (capture_full _ b _ task c.in-HasTaken.taken h.0 (viewed b _ _ _ _ h.1 c.look-mark.ensures.step) (many_entries _ _ c.len.ensures (omega (arith, c.if-len-gt-MOST_ENTRIES.true))))
 
 pub give-requires : goal.give-requires
 give-requires g c =
@@ -23,18 +19,18 @@ returns-in-HasLooked-clause-next g c = λ b task f.
     let h = rw c.in-HasLooked.is at f in
     rw h.0 (captured_stripe _ b _ _ c.in-HasLooked.taken c.in-HasLooked.captured h.1 c.give.ensures.step)
 
-pub returns-in-Ok-2-clause-next : goal.returns-in-Ok-2-clause-next
-returns-in-Ok-2-clause-next g c = λ b task f.
+pub returns-else-len-gt-MOST_ENTRIES-clause-next : goal.returns-else-len-gt-MOST_ENTRIES-clause-next
+returns-else-len-gt-MOST_ENTRIES-clause-next g c = λ b task f.
     let h = rw c.in-HasTaken.is at f in
     let seen = viewed b _ _ _ c.in-HasTaken.taken h.1 c.look-mark.ensures.step in
-    rw c.more-in-Ok-2.ensures (
+    rw c.more-in-HasTaken.ensures (
       h.0,
       record {
         taken = seen.taken;
         looked = seen.looked;
         is = seen.is;
         mark_is = c.look-mark.ensures.step.count_is;
-        entries_are = c.in-Ok.ensures.ok;
-        few = omega (arith, c.len.ensures, c.if-len-gt-MOST_ENTRIES.false);
+        part_is = c.of-part.ensures;
+        few = subst (λ (part : PartState). length (finite.entries part.map) < 2 ^ 32) (sym c.of-part.ensures) (few_entries _ _ c.len.ensures (omega (arith, c.if-len-gt-MOST_ENTRIES.false)));
       },
     )

@@ -9,6 +9,7 @@ final class Call extends Pending<Wire.Reply> {
     final long mostNanos;
     /** Whether a thread waits for the reply; else a callback may. */
     final boolean isAwaited;
+    final boolean isChange;
     // The moment of System.nanoTime at which the reply is due.
     private long due;
     private boolean wasQueued;
@@ -17,6 +18,7 @@ final class Call extends Pending<Wire.Reply> {
         this.frame = frame;
         this.mostNanos = mostNanos;
         this.isAwaited = isAwaited;
+        isChange = Wire.isChange(frame);
     }
 
     /** Says that the request lies with others that are written. */
@@ -58,7 +60,7 @@ final class Call extends Pending<Wire.Reply> {
             return;
         }
         String message = "it was sent, and no reply came: " + why.getMessage();
-        completeExceptionally(Wire.isChange(frame) ? new OutcomeOpenException(message, why)
+        completeExceptionally(isChange ? new OutcomeOpenException(message, why)
             : new NotMadeException(message, why));
     }
 }

@@ -11,18 +11,25 @@ import java.util.concurrent.locks.ReentrantLock;
 
 /**
  * The calls of a connection that have no reply yet: those that were written, and behind them those that are to be. One
- * thread at a time writes, for all.
+ * thread at a time writes, for all. While changes or many reads are under way, and each call has a thread that waits
+ * for it, they are written in rows, as {@link Gathering} says.
  */
 final class CallQueue {
     static final int BUFFER_BYTES = 65_536;
-    /** So many calls that nobody waits for are written at once: the server makes as many in a row. */
+    /** So many queued calls are written at once: the server makes as many in a row. */
     private static final int ROW_CALLS = 64;
+    /** While so many calls are under way, further ones gain by going together. */
+    private static final int MANY_CALLS = 4;
     private final ReentrantLock lock = new ReentrantLock();
     // Kept by the lock.
     private final ArrayDeque<Call> waiting = new ArrayDeque<>();
     private ByteBuffer queued = ByteBuffer.allocateDirect(BUFFER_BYTES);
     private int queuedCalls;
+    private int queuedChanges;
+    private int writtenChanges;
+    private int unawaitedCalls;
     private boolean isWriting;
+    private final Gathering gathering = new Gathering();
     private long lastUse = System.nanoTime();
     private volatile Throwable broken;
     // What the writer has in hand; nobody else touches it.
@@ -43,7 +50,9 @@ final class CallQueue {
                 return false;
             }
             append(call);
-            boolean mustWrite = !isWriting && isDue(call);
+            // Calls that nobody waits for are gathered while a reply is to come, behind which they are written.
+            boolean isGathered = !call.isAwaited && isReplyToCome() && !isFull();
+            boolean mustWrite = !isWriting && !isGathered && isDue();
             isWriting |= mustWrite;
             return mustWrite;
         } finally {
@@ -58,25 +67,54 @@ final class CallQueue {
         }
         queued.put(call.frame);
         queuedCalls++;
+        queuedChanges += call.isChange ? 1 : 0;
+        unawaitedCalls += call.isAwaited ? 0 : 1;
         waiting.add(call);
+        gathering.saw(waiting.size());
         lastUse = System.nanoTime();
         call.queuedAt(lastUse);
     }
 
-    /**
-     * Whether what is queued is to be written now. Calls that nobody waits for are gathered while a reply is to come,
-     * behind which they are written.
-     */
-    private boolean isDue(Call call) {
-        boolean isReplyToCome = waiting.size() > queuedCalls;
-        return call.isAwaited || !isReplyToCome || queuedCalls >= ROW_CALLS || queued.position() >= BUFFER_BYTES / 2;
+    private boolean isReplyToCome() {
+        return waiting.size() > queuedCalls;
     }
 
-    /** Whether this thread has to write what was gathered. */
-    boolean hasGathered() {
+    private boolean isFull() {
+        return queuedCalls >= ROW_CALLS || queued.position() >= BUFFER_BYTES / 2;
+    }
+
+    /** Whether what is queued is to be written now. */
+    private boolean isDue() {
+        return isFull() || unawaitedCalls > 0 || !isRowUnderWay() && gathering.isEnough(queuedCalls);
+    }
+
+    private boolean isRowUnderWay() {
+        return writtenChanges > 0 || waiting.size() - queuedCalls >= MANY_CALLS;
+    }
+
+    /** The next row is to wait for the threads that are answered now, if they made a row and no other is under way. */
+    void expectMore(List<Call> answered) {
+        boolean wasRow = answered.size() >= MANY_CALLS || answered.stream().anyMatch(call -> call.isChange);
+        if (!wasRow || !answered.stream().allMatch(call -> call.isAwaited)) {
+            return;
+        }
         lock.lock();
         try {
-            boolean mustWrite = !isWriting && queuedCalls > 0 && broken == null;
+            if (unawaitedCalls == 0 && !isRowUnderWay() && broken == null) {
+                gathering.expect(ROW_CALLS);
+            }
+        } finally {
+            lock.unlock();
+        }
+    }
+
+    /** Waits for what is expected; returns whether this thread has to write what was gathered. */
+    boolean hasGathered() {
+        gathering.await();
+        lock.lock();
+        try {
+            gathering.giveUp();
+            boolean mustWrite = !isWriting && queuedCalls > 0 && broken == null && isDue();
             isWriting |= mustWrite;
             return mustWrite;
         } finally {
@@ -85,7 +123,7 @@ final class CallQueue {
     }
 
     /**
-     * Writes until nothing is queued; returns false if the channel takes no more before, and then it is to be called
+     * Writes until nothing is due; returns false if the channel takes no more before, and then it is to be called
      * again once the channel does. Only the thread that has to write calls it.
      */
     boolean writeTo(WritableByteChannel channel) throws IOException {
@@ -101,9 +139,12 @@ final class CallQueue {
     private boolean hasRow() {
         lock.lock();
         try {
-            if (!row.hasRemaining() && queued.position() > 0) {
+            if (!row.hasRemaining() && queuedCalls > 0 && isDue()) {
                 ByteBuffer full = queued;
                 queuedCalls = 0;
+                writtenChanges += queuedChanges;
+                queuedChanges = 0;
+                gathering.begin(waiting.size());
                 queued = row.clear();
                 row = full.flip();
             }
@@ -116,13 +157,16 @@ final class CallQueue {
 
     // ---- replies
 
-    /** Takes so many of the oldest calls, or as many as there are. */
+    /** Takes so many of the oldest calls, or as many as were written. */
     List<Call> oldest(int count) {
         List<Call> calls = new ArrayList<>(count);
         lock.lock();
         try {
-            while (calls.size() < count && !waiting.isEmpty()) {
-                calls.add(waiting.poll());
+            while (calls.size() < count && isReplyToCome()) {
+                Call call = waiting.poll();
+                unawaitedCalls -= call.isAwaited ? 0 : 1;
+                writtenChanges -= call.isChange ? 1 : 0;
+                calls.add(call);
             }
         } finally {
             lock.unlock();
@@ -184,6 +228,10 @@ final class CallQueue {
             waiting.clear();
             queued.clear();
             queuedCalls = 0;
+            queuedChanges = 0;
+            writtenChanges = 0;
+            unawaitedCalls = 0;
+            gathering.giveUp();
         } finally {
             lock.unlock();
         }

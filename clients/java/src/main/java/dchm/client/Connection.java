@@ -6,14 +6,12 @@ import java.net.InetSocketAddress;
 import java.net.SocketAddress;
 import java.net.StandardProtocolFamily;
 import java.net.StandardSocketOptions;
-import java.nio.ByteBuffer;
 import java.nio.channels.CancelledKeyException;
 import java.nio.channels.SelectionKey;
 import java.nio.channels.Selector;
 import java.nio.channels.SocketChannel;
 import java.util.ArrayList;
 import java.util.List;
-import java.util.concurrent.Semaphore;
 import java.util.concurrent.TimeUnit;
 import java.util.concurrent.TimeoutException;
 import java.util.concurrent.locks.LockSupport;
@@ -38,23 +36,12 @@ final class Connection {
         }
     }
 
-    /** The bound of the requests under way. Who reads replies may pass it, since nobody else would free a place. */
-    private static final class Window extends Semaphore {
-        private static final long serialVersionUID = 1;
-
-        Window(int places) {
-            super(places);
-        }
-
-        void pass() {
-            reducePermits(1);
-        }
-    }
-
     private static final long MOST_TICK_MILLIS = 250;
     /** After how many calls, each alone under way and waited for, the reader stands aside, and how long at a time. */
     private static final int MOST_ALONE = 8;
     private static final long ASIDE_NANOS = 5_000_000;
+    /** How long a thread that leads looks for its reply before it waits for it, if the last one came as soon. */
+    private static final long SOON_NANOS = 20_000;
     /** Whether this thread leads a connection, so that callbacks run on it. */
     private static final ThreadLocal<Boolean> LEADS = new ThreadLocal<>();
     private final SocketChannel channel;
@@ -65,10 +52,11 @@ final class Connection {
     private final long tickMillis;
     private volatile SelectionKey key;
     private Thread reader;
-    // Held by whoever leads; the two below are the leader's alone.
+    // Held by whoever leads; the three below are the leader's alone.
     private final ReentrantLock leading = new ReentrantLock();
-    private final ByteBuffer in = ByteBuffer.allocateDirect(CallQueue.BUFFER_BYTES);
+    private final Incoming in = new Incoming();
     private int alone;
+    private boolean comesSoon = true;
     // How many calls other threads than the reader led to their end.
     private volatile long led;
     // Whether the reader stands aside, and whether it is to come back.
@@ -158,8 +146,8 @@ final class Connection {
                 + TimeUnit.NANOSECONDS.toMillis(mostNanos) + " ms", why);
         }
         if (why instanceof IOException) {
-            return new NotMadeException("the server at " + address + " ended the connection; it may serve no more of them"
-                + " (--connections): " + why.getMessage(), why);
+            return new NotMadeException("the server at " + address + " ended the connection; it may serve no more of"
+                + " them (--connections): " + why.getMessage(), why);
         }
         return error;
     }
@@ -249,13 +237,16 @@ final class Connection {
 
     private void leadUntilDone(Call call) {
         boolean wasInterrupted = false;
+        long begin = System.nanoTime();
         LEADS.set(true);
         try {
+            lookFor(call, begin);
             while (!call.isDone()) {
                 turn();
                 // Select would not wait on a thread that is interrupted.
                 wasInterrupted |= Thread.interrupted();
             }
+            comesSoon = System.nanoTime() - begin < 2 * SOON_NANOS;
             led++;
         } catch (Throwable error) {
             fail(error);
@@ -264,6 +255,13 @@ final class Connection {
             if (wasInterrupted) {
                 Thread.currentThread().interrupt();
             }
+        }
+    }
+
+    /** Looks for the reply a while: to wait and be woken takes longer than a read of the map. */
+    private void lookFor(Call call, long begin) throws IOException {
+        while (comesSoon && !call.isDone() && System.nanoTime() - begin < SOON_NANOS) {
+            readReplies();
         }
     }
 
@@ -331,11 +329,12 @@ final class Connection {
     // ---- reading
 
     private void readReplies() throws IOException {
-        int count = channel.read(in);
+        int count = in.readFrom(channel);
+        if (count == 0) {
+            return;
+        }
         List<Wire.Reply> replies = new ArrayList<>();
-        in.flip();
-        boolean isProtocol = cut(replies);
-        in.compact();
+        boolean isProtocol = in.take(replies);
         boolean isAsked = complete(replies);
         if (calls.hasGathered()) {
             write();
@@ -348,27 +347,6 @@ final class Connection {
         }
     }
 
-    /** Takes the whole replies from what was read; returns whether no bytes are none. */
-    private boolean cut(List<Wire.Reply> replies) {
-        while (in.remaining() >= 2) {
-            int length = in.getShort(in.position()) & 0xFFFF;
-            if (length < 2 || length > Wire.REPLY_LIMIT) {
-                return false;
-            }
-            if (in.remaining() < 2 + length) {
-                return true;
-            }
-            byte[] body = new byte[length];
-            in.position(in.position() + 2).get(body);
-            Wire.Reply reply = Wire.reply(body);
-            if (reply == null) {
-                return false;
-            }
-            replies.add(reply);
-        }
-        return true;
-    }
-
     /** Completes the oldest calls; returns whether there was one for each reply. */
     private boolean complete(List<Wire.Reply> replies) {
         if (replies.isEmpty()) {
@@ -378,6 +356,10 @@ final class Connection {
         boolean wasAlone = oldest.size() == 1 && oldest.get(0).isAwaited && calls.isEmpty();
         alone = wasAlone ? alone + 1 : 0;
         window.release(oldest.size());
+        // A thread that leads would wait for itself.
+        if (Thread.currentThread() == reader) {
+            calls.expectMore(oldest);
+        }
         for (int i = 0; i < oldest.size(); i++) {
             oldest.get(i).complete(replies.get(i));
         }

@@ -12,7 +12,8 @@ import java.util.concurrent.Executor;
 
 /**
  * A client of one {@code dchm serve}, to be shared by all threads of a program. It has one connection if not told
- * otherwise, opened when it is needed and ended when it is idle. Each connection takes a worker of the server.
+ * otherwise, opened when it is needed and ended when it is idle. Each connection takes a place of the server
+ * ({@code --connections}).
  */
 public final class DchmClient implements AutoCloseable {
     private static final byte[] LOCALHOST = {127, 0, 0, 1};
@@ -109,7 +110,7 @@ public final class DchmClient implements AutoCloseable {
         }
 
         /**
-         * After how long without a call a connection is ended, which frees its worker; 30 seconds if left out. It has
+         * After how long without a call a connection is ended, which frees its place; 30 seconds if left out. It has
          * to be less than {@code --idle-seconds} of the server, so that no change is sent while the server ends it.
          *
          * @param most the time; 0 for never
@@ -147,7 +148,7 @@ public final class DchmClient implements AutoCloseable {
          * Connects.
          *
          * @return a client whose first connection was answered
-         * @throws NotMadeException if there is no server, its store has failed, or no worker of it is free in time
+         * @throws NotMadeException if there is no server, its store has failed, or it has no place in time
          */
         public DchmClient connect() {
             DchmClient client = new DchmClient(this);
@@ -219,10 +220,21 @@ public final class DchmClient implements AutoCloseable {
      *
      * @param port the port
      * @return a client whose first connection was answered
-     * @throws NotMadeException if there is no server, its store has failed, or no worker of it is free in time
+     * @throws NotMadeException if there is no server, its store has failed, or it has no place in time
      */
     public static DchmClient connect(int port) {
         return at(port).connect();
+    }
+
+    /**
+     * Connects to the server at a Unix socket, with no other option.
+     *
+     * @param socket the path of the socket
+     * @return a client whose first connection was answered
+     * @throws NotMadeException if there is no server, its store has failed, or it has no place in time
+     */
+    public static DchmClient connect(Path socket) {
+        return at(socket).connect();
     }
 
     /**

@@ -307,6 +307,17 @@ public final class OutcomeTest {
     }
 
     @Test
+    public void the_server_is_reached_by_its_unix_socket_too() throws Exception {
+        try (Server server = Server.realAtSocket(); DchmClient byPort = server.client();
+             DchmClient bySocket = DchmClient.connect(server.socket())) {
+            assertNull(bySocket.longs().put("a", 1L));
+            assertEquals(3L, (long) byPort.longs().merge("a", 2L, Fn.SUM));
+            assertEquals(3L, (long) bySocket.longs().get("a"));
+            assertEquals(1, bySocket.longs().size());
+        }
+    }
+
+    @Test
     public void options_that_cannot_be_are_refused() {
         assertThrows(IllegalArgumentException.class, () -> DchmClient.at(1).connections(0));
         assertThrows(IllegalArgumentException.class, () -> DchmClient.at(1).inFlight(0));

@@ -40,7 +40,16 @@ final class Server implements AutoCloseable {
 
     /** The program, over an empty map, with these options. */
     static Server real(String... options) throws IOException, InterruptedException {
+        return real(Files.createTempDirectory("dchm-client-"), options);
+    }
+
+    /** The program, over an empty map, at a Unix socket too. */
+    static Server realAtSocket() throws IOException, InterruptedException {
         Path room = Files.createTempDirectory("dchm-client-");
+        return real(room, "--socket", room.resolve("socket").toString());
+    }
+
+    private static Server real(Path room, String... options) throws IOException, InterruptedException {
         String map = room.resolve("map").toString();
         Files.createDirectory(room.resolve("map"));
         new ProcessBuilder(PROGRAM, "init", map).redirectOutput(room.resolve("init").toFile()).start().waitFor();

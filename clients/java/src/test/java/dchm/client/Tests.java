@@ -9,7 +9,7 @@ public final class Tests {
     }
 
     public static void main(String[] words) {
-        Result result = JUnitCore.runClasses(PageTest.class, MapTest.class, OutcomeTest.class);
+        Result result = JUnitCore.runClasses(PageTest.class, MapTest.class, RowTest.class, OutcomeTest.class);
         result.getFailures().forEach(failure -> System.out.println(failure.getTestHeader() + ": " + failure.getTrace()));
         int failed = result.getFailureCount();
         System.out.printf("%d passed, %d failed%n", result.getRunCount() - failed, failed);

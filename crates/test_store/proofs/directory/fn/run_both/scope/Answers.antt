@@ -1,4 +1,3 @@
-use denote.Param.{param}
 use denote.Param.Send.{sendable}
 use Rattle.durable_map.proofs.Crosses.{map_sync}
 use Rattle.test_store.proofs.calls.Flag.TheSendSync as flag

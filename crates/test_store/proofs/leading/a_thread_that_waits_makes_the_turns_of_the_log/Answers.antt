@@ -1,0 +1,8 @@
+use denote.Param.Send.{sendable}
+use Rattle.std.proofs.Crossing.{crosses}
+use Rattle.disk_model.proofs.memory.MemDisk.TheSendSync as memory
+use Rattle.durable_map.proofs.Crosses.{shared_by_threads}
+use Rattle.test_store.proofs.leading.a_thread_that_waits_makes_the_turns_of_the_log.Goals as goal
+
+pub join-called-requires-send-F : goal.join-called-requires-send-F
+join-called-requires-send-F c κs h = search (shared_by_threads, memory.the_send, sendable, crosses) depth 20
