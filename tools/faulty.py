@@ -49,7 +49,7 @@ def left_out(count):
     Where the variable CI is `true` a compiler has to be there, and each case that isn't tried has failed.
     """
     has_failed = os.environ.get("CI") == "true"
-    print(f"no C compiler (cc): {count} cases are {'not tried, and CI is true' if has_failed else 'skipped'}")
+    print(f"{'FAILED ' if has_failed else ''}no C compiler (cc): {count} cases are not tried")
     return (count, 0) if has_failed else (0, count)
 
 

@@ -82,7 +82,7 @@ def run_tests():
     if len(sys.argv) > 1:
         servers.PROGRAM = os.path.abspath(sys.argv[1])
     if not os.access(servers.PROGRAM, os.X_OK):
-        print(f"no program {servers.PROGRAM}\n0 passed, 1 failed")
+        print(f"FAILED no program {servers.PROGRAM}\n0 passed, 1 failed")
         return 1
     end_by_signal()
     tests = unittest.defaultTestLoader.loadTestsFromModule(sys.modules["__main__"])

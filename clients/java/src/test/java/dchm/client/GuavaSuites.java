@@ -141,11 +141,12 @@ public final class GuavaSuites {
         };
         suite(builder, name).run(result);
         for (List<TestFailure> failures : List.of(Collections.list(result.errors()), Collections.list(result.failures()))) {
-            failures.forEach(failure -> System.out.println(name + ": " + failure.failedTest() + ": " + failure.trace()));
+            failures.forEach(failure -> System.out.println("FAILED " + name + ": " + failure.failedTest() + ": "
+                + failure.trace()));
         }
         int wrong = result.errorCount() + result.failureCount();
         if (result.runCount() < least && wrong == 0) {
-            System.out.printf("%s: %d tests, not %d%n", name, result.runCount(), least);
+            System.out.printf("FAILED %s: %d tests, not %d%n", name, result.runCount(), least);
             wrong++;
         }
         System.out.printf("%s: %d tests, %d wrong%n", name, result.runCount(), wrong);

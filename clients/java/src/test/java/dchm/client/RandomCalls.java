@@ -100,7 +100,8 @@ public final class RandomCalls {
         boolean isSame;
         try (Server server = Server.real(); DchmClient client = server.client()) {
             String difference = new RandomCalls(seed).difference(client.map(), calls);
-            System.out.printf("%d random calls, seed %d: %s%n", calls, seed, difference == null ? "all agree" : difference);
+            System.out.printf("%s%d random calls, seed %d: %s%n", difference == null ? "" : "FAILED ", calls, seed,
+                difference == null ? "all agree" : difference);
             System.out.println(difference == null ? "1 passed, 0 failed" : "0 passed, 1 failed");
             isSame = difference == null;
         }

@@ -10,7 +10,8 @@ public final class Tests {
 
     public static void main(String[] words) {
         Result result = JUnitCore.runClasses(PageTest.class, MapTest.class, RowTest.class, OutcomeTest.class);
-        result.getFailures().forEach(failure -> System.out.println(failure.getTestHeader() + ": " + failure.getTrace()));
+        result.getFailures().forEach(failure -> System.out.println("FAILED " + failure.getTestHeader() + ": "
+            + failure.getTrace()));
         int failed = result.getFailureCount();
         System.out.printf("%d passed, %d failed%n", result.getRunCount() - failed, failed);
         System.exit(result.wasSuccessful() ? 0 : 1);
