@@ -1,7 +1,9 @@
 #!/usr/bin/env python3
-"""Tests of the clients for Python, against the real server and against tools/stand_in.py.
+"""Tests of the clients for Python, against the real server and against tests/stand_in.py.
 
-Nothing is timed: a call that is to succeed has all the time it needs. The last line is `N passed, M failed`.
+    PYTHONPATH=tests clients/python/test_dchm.py [PROGRAM]
+
+tests/clients runs them. Nothing is timed: a call that is to succeed has all the time it needs. The last line is `N passed, M failed`.
 """
 import asyncio
 import contextlib
@@ -13,37 +15,23 @@ import threading
 import time
 import unittest
 
-sys.dont_write_bytecode = True
-HERE = os.path.dirname(os.path.abspath(__file__))
-TOP = os.path.join(HERE, "..", "..")
-TOOLS = os.path.join(TOP, "tools")
-sys.path[:0] = [HERE, TOOLS]
-import dchm  # noqa: E402
-import dchm_async  # noqa: E402
-import plain  # noqa: E402
-import servers  # noqa: E402
+import dchm
+import dchm_async
+from harness import plain, servers, suite
+from harness.places import PROTOCOL_PAGE, STAND_IN, read
+from harness.suite import TURN_SECONDS, wait_until
 
-STAND_IN = os.path.join(TOOLS, "stand_in.py")
-PAGE = os.path.join(TOP, "docs", "PROTOCOL.md")
+PROGRAM = suite.named_program()
 # Seconds of which no slow machine comes near, and seconds for what never comes.
 LONG, SHORT = 120, 1
 PATIENT = {"timeout": LONG, "connect_timeout": LONG, "idle": LONG}
-MOST_TURNS, TURN_SECONDS = 1200, 0.05
+MOST_TURNS = 1200
 # How many threads the real server has, and the option with which it serves one connection at a time.
 WORKERS = 4
 ALONE = ("--connections", "1")
 ROW = re.compile(r"\| `([0-9A-F]{4}[0-9A-F ]*)` \| `([0-9A-F]{4}[0-9A-F ]*)` \|")
 SMILE, HALF = "\U0001F600", "\ud83d"
 MADE = ("drop", "reset", "failed", "garbled", *(f"cut {count}" for count in range(12)))
-
-
-def comes(holds):
-    """Whether it holds within a bounded number of looks."""
-    for _ in range(MOST_TURNS):
-        if holds():
-            return True
-        time.sleep(TURN_SECONDS)
-    return False
 
 
 def made(call):
@@ -69,8 +57,8 @@ def real(*words):
     """The real server over an empty map, with these options: its port."""
     with servers.temporary_directory() as room:
         directory = os.path.join(room, "map")
-        servers.init(servers.PROGRAM, directory)
-        with servers.dchm(servers.PROGRAM, directory, WORKERS, words) as (_, port):
+        servers.init(PROGRAM, directory)
+        with servers.dchm(PROGRAM, directory, WORKERS, words) as (_, port):
             yield port
 
 
@@ -79,8 +67,8 @@ def real_at_socket():
     """The real server over an empty map at a Unix socket: its path."""
     with servers.temporary_directory() as room:
         directory = os.path.join(room, "map")
-        servers.init(servers.PROGRAM, directory)
-        with servers.dchm_at_socket(servers.PROGRAM, directory, WORKERS, os.path.join(room, "socket")) as (_, path):
+        servers.init(PROGRAM, directory)
+        with servers.dchm_at_socket(PROGRAM, directory, WORKERS, os.path.join(room, "socket")) as (_, path):
             yield path
 
 
@@ -116,27 +104,30 @@ def sum_frame(key):
 
 def rows():
     """The requests and replies in hexadecimal that the page of the protocol shows."""
-    with open(PAGE, encoding="utf-8") as page:
-        return [tuple(bytes.fromhex(cell) for cell in found.groups()) for found in map(ROW.search, page) if found]
+    lines = read(PROTOCOL_PAGE).splitlines()
+    return [tuple(bytes.fromhex(cell) for cell in found.groups()) for found in map(ROW.search, lines) if found]
 
 
 def told(reply):
     """What a reply says, by the plain reading: a value, a bool, or the class of an exception."""
-    read = plain.Bytes(reply, 2)
-    status, value = read.number(1), read.value(may_be_absent=True)
+    content = plain.Bytes(reply, 2)
+    status, value = content.number(1), content.value(may_be_absent=True)
     if status < 3:
         return value == 1 if status == 2 else value
     return {1: TypeError, 2: ValueError, 3: OverflowError}[value] if status == 3 else dchm.Refused
 
 
+def name_of(method):
+    """The name of a method in the clients."""
+    name = re.sub("[A-Z]", lambda letter: "_" + letter[0].lower(), plain.Method(method).name)
+    return "contains" if name == "contains_key" else name
+
+
 def call_of(server, body):
     """What the public methods make of a request."""
     method, key, arguments = plain.request_of(body)
-    calls = {1: server.get, 2: server.get_or_default, 3: server.contains, 16: server.put, 17: server.put_if_absent,
-             18: server.remove, 19: server.remove_if, 20: server.replace, 21: server.replace_if, 22: server.compute,
-             23: server.compute_if_absent, 24: server.compute_if_present, 25: server.merge}
     if key is not None:
-        return calls[method](key, *arguments)
+        return getattr(server, name_of(method))(key, *arguments)
     if method == dchm.COUNT:
         return server.count()
     return server.reduce(*arguments) if method == dchm.REDUCE else server.search(arguments[1], arguments[0])
@@ -158,7 +149,8 @@ class Page(unittest.TestCase):
                 self.play(there, server, kind, request, reply)
                 played[kind] += 1
         self.assertEqual(sum(played.values()), len(rows()))
-        self.assertTrue(played["key"] >= 18 and played["whole map"] >= 7 and played["wrong"] >= 11, played)
+        for kind, least in (("key", 18), ("whole map", 7), ("wrong", 11)):
+            self.assertGreaterEqual(played[kind], least, kind)
 
     def renew(self, server, entries):
         for key in ("a", "b", "c", "m", "n"):
@@ -185,8 +177,7 @@ class Page(unittest.TestCase):
         self.assertEqual((there.frames("got")[-1], there.frames("sent")[-1]), (request.hex().upper(), reply.hex().upper()))
 
     def test_each_refusal_has_its_name(self):
-        with open(PAGE, encoding="utf-8") as page:
-            names = re.findall(r"^\| `([0-9A-F]{2})` (\w+) \|.*\| (\w+)[^|]*\|$", page.read(), re.MULTILINE)
+        names = re.findall(r"^\| `([0-9A-F]{2})` (\w+) \|.*\| (\w+)[^|]*\|$", read(PROTOCOL_PAGE), re.MULTILINE)
         self.assertGreaterEqual(len(names), 9)
         change = dchm.request(dchm.REMOVE, "a")
         for status, name, _ in names:
@@ -316,14 +307,14 @@ class Outcomes(unittest.TestCase):
             for key in "ab":
                 with dchm.connect(there.address, timeout=SHORT, connect_timeout=LONG) as hasty:
                     self.assertRaises(dchm.OutcomeOpen, hasty.merge, key, dchm.SUM, 1)
-                self.assertTrue(comes(lambda: server.get(key) is not None), key)
+                self.assertTrue(wait_until(lambda: server.get(key) is not None, MOST_TURNS), f"{key} is never there")
                 self.assertEqual((server.get(key), there.received(sum_frame(key))), (1, 1))
 
     def test_a_reply_that_comes_late_or_in_pieces_is_a_reply(self):
         with stand_in("merge a held", "merge b bytewise") as there, dchm.connect(there.address, **PATIENT) as server:
             with dchm.connect(there.address, **PATIENT) as other:
                 def let_go():
-                    return comes(lambda: there.received(sum_frame("a"))) and other.get("release")
+                    return wait_until(lambda: there.received(sum_frame("a")), MOST_TURNS) and other.get("release")
                 release = threading.Thread(target=let_go)
                 release.start()
                 self.assertEqual(server.merge("a", dchm.SUM, 1), 1)
@@ -333,7 +324,7 @@ class Outcomes(unittest.TestCase):
     def test_a_reply_to_no_request_ends_the_connection(self):
         with stand_in("merge a twice") as there, dchm.connect(there.address, **PATIENT) as server:
             self.assertEqual(server.merge("a", dchm.SUM, 1), 1)
-            self.assertTrue(comes(server._has_ended))
+            self.assertTrue(wait_until(server._has_ended, MOST_TURNS), "the connection never ends")
             self.assertEqual(server.merge("a", dchm.SUM, 1), 2)
 
     def test_a_refusal_for_want_of_memory_changes_nothing_and_may_be_tried_again(self):
@@ -399,7 +390,7 @@ class Outcomes(unittest.TestCase):
     def test_the_end_of_an_idle_connection_by_the_server_is_no_error(self):
         with stand_in("put a quit") as there, dchm.connect(there.address, **PATIENT) as server:
             server.put("a", 1)
-            self.assertTrue(comes(server._has_ended))
+            self.assertTrue(wait_until(server._has_ended, MOST_TURNS), "the connection never ends")
             self.assertEqual(server.merge("a", dchm.SUM, 1), 2)
 
     def test_a_unix_socket_is_as_good_as_a_port(self):
@@ -438,14 +429,15 @@ class Async(unittest.IsolatedAsyncioTestCase):
 
     async def play(self, there, s, request, reply):
         method, key, arguments = plain.request_of(request[2:])
-        names = {1: "get", 2: "get_or_default", 3: "contains", 16: "put", 17: "put_if_absent", 18: "remove", 19: "remove_if",
-                 20: "replace", 21: "replace_if", 22: "compute", 23: "compute_if_absent", 24: "compute_if_present", 25: "merge"}
         try:
-            found = await getattr(s, names[method])(key, *arguments)
+            found = await getattr(s, name_of(method))(key, *arguments)
         except dchm.DchmError as error:
             found = error
         wanted = told(reply)
-        self.assertTrue(isinstance(found, wanted) if isinstance(wanted, type) else found == wanted, request.hex())
+        if isinstance(wanted, type):
+            self.assertIsInstance(found, wanted, request.hex())
+        else:
+            self.assertEqual(found, wanted, request.hex())
         self.assertEqual((there.frames("got")[-1], there.frames("sent")[-1]), (request.hex().upper(), reply.hex().upper()))
 
     async def test_what_is_under_way_is_told_when_a_connection_breaks(self):
@@ -461,8 +453,8 @@ class Async(unittest.IsolatedAsyncioTestCase):
             async with await dchm_async.connect(there.address, timeout=SHORT, connect_timeout=LONG) as s:
                 with self.assertRaises(dchm.OutcomeOpen):
                     await s.merge("a", dchm.SUM, 1)
-                self.assertTrue(await self.answers(s))
-            self.assertTrue(comes(lambda: there.received(sum_frame("a"))))
+                self.assertTrue(await self.answers(s), "the client never answers again")
+            self.assertTrue(wait_until(lambda: there.received(sum_frame("a")), MOST_TURNS), "the sum never comes")
             self.assertEqual(there.received(sum_frame("a")), 1)
 
     async def test_a_failed_store_and_garbled_replies(self):
@@ -472,7 +464,7 @@ class Async(unittest.IsolatedAsyncioTestCase):
                     with self.assertRaises(kind, msg=key):
                         await s.merge(key, dchm.SUM, 1)
                     # The connection of a failed store ends by itself.
-                    self.assertTrue(await self.answers(s), key)
+                    self.assertTrue(await self.answers(s), f"behind {key} the client never answers again")
                     self.assertEqual(there.received(sum_frame(key)), 1)
 
     async def answers(self, s):
@@ -521,17 +513,6 @@ class Async(unittest.IsolatedAsyncioTestCase):
                     self.assertEqual(replies, list(range(1, 101)))
 
 
-def main():
-    if len(sys.argv) > 1:
-        servers.PROGRAM = os.path.abspath(sys.argv[1])
-    servers.end_by_signal()
-    logging.getLogger("asyncio").setLevel(logging.ERROR)
-    tests = unittest.defaultTestLoader.loadTestsFromModule(sys.modules["__main__"])
-    result = unittest.TextTestRunner(sys.stdout, verbosity=2).run(tests)
-    failed = len(result.failures) + len(result.errors)
-    print(f"{result.testsRun - failed} passed, {failed} failed")
-    return 1 if failed else 0
-
-
 if __name__ == "__main__":
-    sys.exit(main())
+    logging.getLogger("asyncio").setLevel(logging.ERROR)
+    sys.exit(suite.run_tests())

@@ -1,25 +1,12 @@
-"""What the tests of the built program share: clients that add to shared counters, and what their replies show."""
+"""Clients that add to shared counters, and what their replies show."""
 import threading
-import time
 
-from servers import Connection, Dchm
+from harness.servers import Connection, Dchm
 
 COUNTERS = [b"c%d" % number for number in range(4)]
 # The replies that are refused with 9 and with 7.
 FAILED = b"\x00\x02\x89\x00"
 NO_MEMORY = b"\x00\x02\x87\x00"
-# How often a test looks for what is to come, and for how many seconds it sleeps between two looks.
-MOST_TURNS = 600
-TURN_SECONDS = 0.05
-
-
-def comes(holds):
-    """Whether it holds within a bounded number of looks."""
-    for _ in range(MOST_TURNS):
-        if holds():
-            return True
-        time.sleep(TURN_SECONDS)
-    return False
 
 
 class Client(threading.Thread):

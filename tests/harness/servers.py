@@ -1,4 +1,4 @@
-"""What bench/ and tests/ share: requests and replies, and the servers' processes."""
+"""Requests and replies, and the processes of servers."""
 import contextlib
 import os
 import random
@@ -13,41 +13,27 @@ import sys
 import tempfile
 import time
 
+from harness.plain import Function, Method, frame, key_bytes, value_bytes
+
 HOST = "127.0.0.1"
-PROGRAM = os.path.join(os.path.dirname(os.path.abspath(__file__)), "..", "crates", "dchm", "out", "dchm")
 # Ports below those that the system gives to clients of its own choice.
 PORTS = range(12000, 32000)
 REPLY_SECONDS = 30
 START_SECONDS = 60
-# The files of a program from before version 02: one stripe, and a put of 5 to the key a.
-OLD_FILES = {
-    "ckpt-a": "A501" + 24 * "00" + "0001" + "000000000000000C" + 12 * "00",
-    "ckpt-b": "",
-    "log-a": "01" + 16 * "00" + "A5" + "0100000018" + 8 * "00" + "00000001" + "10016101" + "0000000000000005" + "00",
-    "log-b": "",
-}
-# The same after a rotation, while a checkpoint is under way.
-OLD_FILES_ROTATED = {
-    **OLD_FILES,
-    "log-a": OLD_FILES["log-a"][:-2] + "A5" + "0200000008" + "0000000000000001" + "00",
-    "log-b": "01" + "0000000000000001" + "0000000000000001" + "00",
-}
 
 
 class Dchm:
     """Get, Put of an Int, and Merge with SUM, as frames of a u16 length."""
-    METHODS = {"get": 1, "put": 16, "merge": 25}
     STATUSES = {"get": b"\x01", "put": b"\x00", "merge": b"\x01"}
-    SUM = b"\x04"
 
-    @classmethod
-    def request(cls, kind, key, number=None):
-        body = bytes([cls.METHODS[kind]]) + len(key).to_bytes(2, "big") + key
+    @staticmethod
+    def request(kind, key, number=None):
+        body = bytes([Method[kind]]) + key_bytes(key)
         if kind == "merge":
-            body += cls.SUM
+            body += bytes([Function.SUM])
         if kind != "get":
-            body += b"\x01" + number.to_bytes(8, "big", signed=True)
-        return len(body).to_bytes(2, "big") + body
+            body += value_bytes(number)
+        return frame(body)
 
     @staticmethod
     def now(number):
@@ -114,7 +100,7 @@ def end_by_signal():
 
 @contextlib.contextmanager
 def temporary_directory():
-    directory = tempfile.mkdtemp(prefix="dchm-bench-")
+    directory = tempfile.mkdtemp(prefix="dchm-")
     try:
         yield directory
     finally:
@@ -133,8 +119,8 @@ def process(words, errors, limits=(), environment=None, directory=None):
             resource.setrlimit(kind, (most, most))
 
     with open(errors, "ab") as file:
-        child = subprocess.Popen(words, stdin=subprocess.DEVNULL, stdout=subprocess.PIPE, stderr=file,
-                                 preexec_fn=limit if limits else None, restore_signals=False, env=environment, cwd=directory)
+        child = subprocess.Popen(words, stdin=subprocess.DEVNULL, stdout=subprocess.PIPE, stderr=file, cwd=directory,
+                                 preexec_fn=limit if limits else None, restore_signals=False, env=environment)
     try:
         yield child
     except BaseException:
@@ -162,13 +148,6 @@ def init(program, directory):
     subprocess.run([program, "init", directory], check=True, stdout=subprocess.DEVNULL)
 
 
-def write_files(directory, files):
-    """Writes files in the directory, which are given by name in hexadecimal."""
-    for name, content in files.items():
-        with open(os.path.join(directory, name), "wb") as file:
-            file.write(bytes.fromhex(content))
-
-
 @contextlib.contextmanager
 def dchm(program, directory, workers, words=(), limits=(), environment=None):
     """`dchm serve` once it has said that it listens: the process and its port."""
@@ -194,7 +173,7 @@ def dchm_at_socket(program, directory, workers, path, words=()):
 
 @contextlib.contextmanager
 def redis(program, directory, path=None):
-    """`redis-server`, each change synced, once it takes a connection: the process, and its port or the path of its socket."""
+    """`redis-server`, each change synced, once it takes a connection: the process, and its port or socket's path."""
     os.mkdir(directory)
     port, errors = free_port(), directory + ".errors"
     line = [program, "--bind", HOST, "--port", str(port), "--dir", directory, "--daemonize", "no", "--loglevel",

@@ -1,7 +1,7 @@
 #!/usr/bin/env python3
-"""A server that stalls, breaks off and lies where a test says so: tools/stand_in.py [--unix PATH] [--journal FILE] [RULE..]
+"""A server that stalls, breaks off and lies where a test says so: tests/stand_in.py [--unix PATH] [--journal FILE] [RULE..]
 
-It serves the map of tools/plain.py, in memory, to any number of connections, at a port that the system chooses or at a
+It serves the map of `harness.plain`, in memory, to any number of connections, at a port that the system chooses or at a
 Unix socket. It prints `listening PORT` or `listening PATH`. A RULE is `METHOD KEY ACTION [N]` in the words of a shell,
 such as `merge a drop`.
 It holds for the first request of this method and key, and then no more:
@@ -24,24 +24,18 @@ The journal has a line for each frame: `got` or `sent`, the number of the connec
 """
 import argparse
 import itertools
-import os
 import shlex
 import socket
 import struct
-import sys
 import threading
 
-sys.dont_write_bytecode = True
-sys.path.insert(0, os.path.dirname(os.path.abspath(__file__)))
-import plain  # noqa: E402
+from harness import plain
+from harness.plain import Method
 
-METHODS = {"get": 1, "getOrDefault": 2, "containsKey": 3, "put": 16, "putIfAbsent": 17, "remove": 18, "removeIf": 19,
-           "replace": 20, "replaceIf": 21, "compute": 22, "computeIfAbsent": 23, "computeIfPresent": 24, "merge": 25,
-           "count": 32, "reduce": 33, "search": 34}
 FAILED, NO_MEMORY = plain.reply_bytes(0x89, None), plain.reply_bytes(0x87, None)
 # A reply with a kind of value that there isn't.
 GARBLED = b"\x00\x02\x01\x07"
-RELEASE = (METHODS["get"], "release")
+RELEASE = (Method.get, "release")
 MADE_AND_ENDED = ("drop", "reset")
 NOT_MADE = ("unmade", "late", "full")
 LINGER_NOT = struct.pack("ii", 1, 0)
@@ -55,7 +49,7 @@ class StandIn:
         self.rules = {}
         for rule in rules:
             method, key, action, *count = shlex.split(rule)
-            self.rules[METHODS[method], key] = action, int(count[0]) if count else 0
+            self.rules[Method[method], key] = action, int(count[0]) if count else 0
         self.journal = open(journal, "a", encoding="ascii") if journal else None
 
     def note(self, kind, number, frame):

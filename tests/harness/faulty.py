@@ -6,7 +6,10 @@ import shutil
 import struct
 import subprocess
 
-SOURCE = os.path.join(os.path.dirname(os.path.abspath(__file__)), "..", "tests", "faults.c")
+from harness.places import in_tree
+
+SOURCE = in_tree("tests", "faults.c")
+NO_COMPILER = "there is no C compiler (cc)"
 Counts = collections.namedtuple("Counts", "calls faults after begun asked refused file")
 
 
@@ -41,18 +44,3 @@ def library(place):
         return None
     subprocess.run(["cc", "-shared", "-fPIC", "-o", path, SOURCE], check=True)
     return path
-
-
-def left_out(count):
-    """Says that so many cases are left out for want of a compiler; returns how many of them failed, and were skipped.
-
-    Where the variable CI is `true` a compiler has to be there, and each case that isn't tried has failed.
-    """
-    has_failed = os.environ.get("CI") == "true"
-    print(f"{'FAILED ' if has_failed else ''}no C compiler (cc): {count} cases are not tried")
-    return (count, 0) if has_failed else (0, count)
-
-
-def counted(passed, failed, skipped=0):
-    """The last line of a test."""
-    return f"{passed} passed, {failed} failed" + (f", {skipped} skipped" if skipped else "")

@@ -3,6 +3,7 @@
 docs/FORMATS.md and docs/PROTOCOL.md say the same in words. Nothing here is taken from the program's output.
 """
 import dataclasses
+import enum
 
 KEY_LIMIT, TEXT_LIMIT, FRAME_LIMIT = 4095, 4096, 16384
 # How many bytes the length of a key takes in the files of each version, and in requests.
@@ -15,9 +16,48 @@ WAS, NOW, DID, FAULT = 0, 1, 2, 3
 WRONG_KIND, TOO_LONG, OVERFLOW = 1, 2, 3
 # What the program prints of a fault.
 FAULTS = {WRONG_KIND: "1 WrongKind", TOO_LONG: "2 TooLong", OVERFLOW: "3 Overflow"}
-COUNT, REDUCE, SEARCH = 32, 33, 34
-# The functions that reduce: SUM, MAX, MIN.
-REDUCING = (4, 5, 6)
+
+
+class Method(enum.IntEnum):
+    """The methods, named as `dchm call` names them."""
+    get = 1
+    getOrDefault = 2
+    containsKey = 3
+    put = 16
+    putIfAbsent = 17
+    remove = 18
+    removeIf = 19
+    replace = 20
+    replaceIf = 21
+    compute = 22
+    computeIfAbsent = 23
+    computeIfPresent = 24
+    merge = 25
+    count = 32
+    reduce = 33
+    search = 34
+
+
+class Function(enum.IntEnum):
+    """The functions, named as `dchm call` names them."""
+    CONST = 1
+    DROP = 2
+    KEEP = 3
+    SUM = 4
+    MAX = 5
+    MIN = 6
+    CONCAT = 7
+    SUM_NONZERO = 8
+    SUM_EXACT = 9
+
+
+FUNCTIONS = frozenset(Function)
+READS = (Method.get, Method.getOrDefault, Method.containsKey)
+CHANGES = frozenset(method for method in Method if Method.put <= method <= Method.merge)
+WHOLE_MAP = (Method.count, Method.reduce, Method.search)
+TAKE_A_VALUE = (Method.put, Method.putIfAbsent, Method.removeIf, Method.replace)
+COMPUTE = (Method.compute, Method.computeIfAbsent, Method.computeIfPresent)
+REDUCING = (Function.SUM, Function.MAX, Function.MIN)
 
 
 class Refused(Exception):
@@ -79,12 +119,22 @@ class Bytes:
 
     def function(self):
         number = self.number(1)
-        if number not in range(1, 10):
+        if number not in FUNCTIONS:
             raise Refused(UNKNOWN_FUNCTION)
         return number
 
     def rest(self):
         return len(self.content) - self.at
+
+
+def frame(body):
+    return len(body).to_bytes(2, "big") + body
+
+
+def key_bytes(key, width=REQUEST_KEY_WIDTH):
+    """A key behind its length, which takes so many bytes."""
+    content = key if isinstance(key, bytes) else key.encode()
+    return len(content).to_bytes(width, "big") + content
 
 
 def value_bytes(value):
@@ -98,13 +148,13 @@ def value_bytes(value):
 
 def arguments_at(read, method):
     """The arguments of a change behind its key."""
-    if method in (16, 17, 19, 20):
+    if method in TAKE_A_VALUE:
         return (read.value(),)
-    if method == 18:
+    if method == Method.remove:
         return ()
-    if method == 21:
+    if method == Method.replaceIf:
         return read.value(), read.value()
-    if method in (22, 23, 24):
+    if method in COMPUTE:
         return read.function(), read.value(may_be_absent=True)
     return read.function(), read.value()
 
@@ -112,7 +162,7 @@ def arguments_at(read, method):
 def record_at(read, key_width):
     """A change: its method, its key behind a length of this many bytes, its arguments."""
     method = read.number(1)
-    if method not in range(16, 26):
+    if method not in CHANGES:
         raise Refused(UNKNOWN_METHOD)
     key = read.key(key_width)
     return method, key, arguments_at(read, method)
@@ -121,9 +171,9 @@ def record_at(read, key_width):
 def whole_map_at(read):
     """A request of the whole map: its method, no key, its arguments."""
     method = read.number(1)
-    if method == COUNT:
+    if method == Method.count:
         return method, None, ()
-    if method == SEARCH:
+    if method == Method.search:
         return method, None, (read.number(8), read.value())
     function = read.number(1)
     if function not in REDUCING:
@@ -134,10 +184,10 @@ def whole_map_at(read):
 def request_of(body):
     """The request of a frame's body."""
     read = Bytes(body)
-    if body[0] in (1, 2, 3):
+    if body[0] in READS:
         method, key = read.number(1), read.key(REQUEST_KEY_WIDTH)
-        request = method, key, (read.value(),) if method == 2 else ()
-    elif body[0] in (COUNT, REDUCE, SEARCH):
+        request = method, key, (read.value(),) if method == Method.getOrDefault else ()
+    elif body[0] in WHOLE_MAP:
         request = whole_map_at(read)
     else:
         request = record_at(read, REQUEST_KEY_WIDTH)
@@ -155,47 +205,47 @@ def wrapped(number):
 
 def applied(function, old, arg):
     """What the function gives of the old value and the argument, each of which may be absent."""
-    if function == 1:
+    if function == Function.CONST:
         return arg
-    if function == 2:
+    if function == Function.DROP:
         return None
-    if function == 3:
+    if function == Function.KEEP:
         return old
-    kind = str if function == 7 else int
+    kind = str if function == Function.CONCAT else int
     if not isinstance(arg, kind) or (old is not None and not isinstance(old, kind)):
         raise Fault(WRONG_KIND)
-    if function == 7:
+    if function == Function.CONCAT:
         text = arg if old is None else old + arg
         if len(text.encode()) > TEXT_LIMIT:
             raise Fault(TOO_LONG)
         return text
-    if function in (5, 6):
-        return arg if old is None else max(old, arg) if function == 5 else min(old, arg)
+    if function in (Function.MAX, Function.MIN):
+        return arg if old is None else max(old, arg) if function == Function.MAX else min(old, arg)
     result = arg if old is None else old + arg
-    if function == 9 and result != wrapped(result):
+    if function == Function.SUM_EXACT and result != wrapped(result):
         raise Fault(OVERFLOW)
     result = wrapped(result)
-    return None if function == 8 and result == 0 else result
+    return None if function == Function.SUM_NONZERO and result == 0 else result
 
 
 def stepped(old, method, arguments):
     """The value of the key after the change, and the reply: a status and a value."""
-    if method == 16:
+    if method == Method.put:
         return arguments[0], (WAS, old)
-    if method == 17:
+    if method == Method.putIfAbsent:
         return (arguments[0] if old is None else old), (WAS, old)
-    if method == 18:
+    if method == Method.remove:
         return None, (WAS, old)
-    if method == 20:
+    if method == Method.replace:
         return (None if old is None else arguments[0]), (WAS, old)
-    if method in (19, 21):
+    if method in (Method.removeIf, Method.replaceIf):
         is_equal = old is not None and type(old) is type(arguments[0]) and old == arguments[0]
-        after = None if method == 19 else arguments[1]
+        after = None if method == Method.removeIf else arguments[1]
         return (after if is_equal else old), (DID, int(is_equal))
     function, arg = arguments
-    if method == 23 and old is not None or method == 24 and old is None:
+    if method == Method.computeIfAbsent and old is not None or method == Method.computeIfPresent and old is None:
         return old, (NOW, old)
-    if method == 25 and old is None:
+    if method == Method.merge and old is None:
         return arg, (NOW, arg)
     try:
         after = applied(function, old, arg)
@@ -206,9 +256,9 @@ def stepped(old, method, arguments):
 
 def answered(old, method, arguments):
     """The reply to a read."""
-    if method == 1:
+    if method == Method.get:
         return NOW, old
-    if method == 2:
+    if method == Method.getOrDefault:
         return NOW, arguments[0] if old is None else old
     return DID, int(old is not None)
 
@@ -225,7 +275,7 @@ class Map:
             # A map in memory has no views.
             raise Refused(UNKNOWN_METHOD)
         old = self.entries.get(key)
-        if method < 16:
+        if method in READS:
             return answered(old, method, arguments)
         after, reply = stepped(old, method, arguments)
         if after is None:
@@ -248,9 +298,9 @@ def reduced(entries, function):
 
 def viewed(entries, method, arguments):
     """What a view returns of its entries. A threshold changes nothing."""
-    if method == COUNT:
+    if method == Method.count:
         return NOW, len(entries)
-    if method == REDUCE:
+    if method == Method.reduce:
         return reduced(entries, arguments[0])
     _, sought = arguments
     keys = [key for key, value in entries.items() if type(value) is type(sought) and value == sought]
@@ -266,8 +316,7 @@ class Running(Map):
 
 
 def reply_bytes(status, value):
-    body = bytes([status]) + value_bytes(value)
-    return len(body).to_bytes(2, "big") + body
+    return frame(bytes([status]) + value_bytes(value))
 
 
 def dialogue(stream):
