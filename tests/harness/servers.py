@@ -1,4 +1,4 @@
-"""Requests and replies, and the processes of servers."""
+"""Requests and replies, runs of the program, and the processes of servers."""
 import contextlib
 import os
 import random
@@ -20,6 +20,7 @@ HOST = "127.0.0.1"
 PORTS = range(12000, 32000)
 REPLY_SECONDS = 30
 START_SECONDS = 60
+RUN_SECONDS = 60
 
 
 class Dchm:
@@ -107,6 +108,24 @@ def temporary_directory():
         shutil.rmtree(directory, ignore_errors=True)
 
 
+def run_program(program, *words, given=None, text=True, seconds=RUN_SECONDS, **options):
+    """A run to its end of a program that is given nothing, or this: its status, standard output and standard error."""
+    given_to_it = {"stdin": subprocess.DEVNULL} if given is None else {"input": given}
+    ended = subprocess.run([program, *words], capture_output=True, text=text, errors="replace" if text else None,
+                           timeout=seconds, **given_to_it, **options)
+    return ended.returncode, ended.stdout, ended.stderr
+
+
+def play_script(program, lines):
+    """What `dchm sim` prints behind the numbers of these lines; else its status, and why."""
+    with temporary_directory() as room:
+        path = os.path.join(room, "script")
+        with open(path, "w", encoding="utf-8") as script:
+            script.writelines(line + "\n" for line in lines)
+        status, printed, said = run_program(program, "sim", path)
+    return [line.partition(" ")[2] for line in printed.splitlines()] if status == 0 else [f"status {status}: {said}"]
+
+
 @contextlib.contextmanager
 def process(words, errors, limits=(), environment=None, directory=None):
     """A process that is stopped at the end; its standard error goes to a file, which is shown after an error.
@@ -143,9 +162,10 @@ def first_line(child):
     return child.stdout.readline() if ready else b""
 
 
-def init(program, directory):
+def init(program, directory, *words):
+    """Makes the directory, and an empty map in it."""
     os.mkdir(directory)
-    subprocess.run([program, "init", directory], check=True, stdout=subprocess.DEVNULL)
+    subprocess.run([program, "init", directory, *words], check=True, stdout=subprocess.DEVNULL)
 
 
 @contextlib.contextmanager

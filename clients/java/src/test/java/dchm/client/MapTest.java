@@ -257,7 +257,7 @@ public final class MapTest {
     public void a_callback_that_waits_on_the_reader_is_told() throws Exception {
         AsyncDchmMap<Object> async = map.async();
         Thread here = Thread.currentThread();
-        assertTrue("no callback ran on the reader", Server.comes(() -> {
+        assertTrue("no callback ran on the reader", Server.waitUntil(() -> {
             List<Throwable> told = new ArrayList<>();
             List<Thread> ran = new ArrayList<>();
             async.put("a", 1L).thenAccept(old -> {

@@ -48,7 +48,7 @@ public final class OutcomeTest {
             assertThrows(OutcomeOpenException.class, () -> hasty.longs().merge("b", 1L, Fn.SUM));
             // Both were sent, and the second was made after the client had given it up.
             for (String key : List.of("a", "b")) {
-                assertTrue(key, Server.comes(() -> client.longs().get(key) != null));
+                assertTrue(key, Server.waitUntil(() -> client.longs().get(key) != null));
                 assertEquals(1L, (long) client.longs().get(key));
                 assertEquals(1, server.received(sum(key)));
             }
@@ -61,7 +61,7 @@ public final class OutcomeTest {
              DchmClient other = server.client()) {
             CompletableFuture<Long> late = client.longs().async().merge("a", 1L, Fn.SUM);
             CompletableFuture<Long> behind = client.longs().async().merge("a", 1L, Fn.SUM);
-            assertTrue(Server.comes(() -> server.received(sum("a")) > 0));
+            assertTrue("the request never comes", Server.waitUntil(() -> server.received(sum("a")) > 0));
             assertFalse(late.isDone());
             other.longs().get("release");
             assertEquals(1L, (long) late.join());
@@ -74,7 +74,7 @@ public final class OutcomeTest {
     public void a_reply_to_no_request_ends_the_connection() throws Exception {
         try (Server server = Server.standIn("merge a twice"); DchmClient client = server.client()) {
             assertEquals(1L, (long) client.longs().merge("a", 1L, Fn.SUM));
-            assertTrue(Server.comes(() -> !client.hasConnection()));
+            assertTrue("the connection never ends", Server.waitUntil(() -> !client.hasConnection()));
             assertEquals(2L, (long) client.longs().merge("a", 1L, Fn.SUM));
         }
     }
@@ -247,7 +247,7 @@ public final class OutcomeTest {
     /** What a call gives once it is made: while the server has no place for the client, nothing of it is. */
     private static <T> T made(Callable<T> call) throws Exception {
         List<T> found = new ArrayList<>();
-        assertTrue("no connection", Server.comes(() -> {
+        assertTrue("no connection", Server.waitUntil(() -> {
             try {
                 found.add(call.call());
                 return true;
@@ -283,7 +283,7 @@ public final class OutcomeTest {
     public void the_end_of_an_idle_connection_by_the_server_is_no_error() throws Exception {
         try (Server server = Server.standIn("put a quit"); DchmClient client = server.client()) {
             client.longs().put("a", 1L);
-            assertTrue(Server.comes(() -> !client.hasConnection()));
+            assertTrue("the connection never ends", Server.waitUntil(() -> !client.hasConnection()));
             assertEquals(2L, (long) client.longs().merge("a", 1L, Fn.SUM));
         }
     }

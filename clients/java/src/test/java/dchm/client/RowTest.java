@@ -183,7 +183,8 @@ public final class RowTest {
              DchmClient client = server.options().timeout(Server.SHORT).connect()) {
             DchmMap<Long> map = client.longs();
             CompletableFuture<Long> first = CompletableFuture.supplyAsync(() -> map.put("a", 1L));
-            assertTrue(Server.comes(() -> server.received(Wire.request(Wire.PUT, Wire.key("a"), 1L)) > 0));
+            assertTrue("the request never comes",
+                Server.waitUntil(() -> server.received(Wire.request(Wire.PUT, Wire.key("a"), 1L)) > 0));
             NotMadeException kept = assertThrows(NotMadeException.class, () -> map.put("b", 1L));
             assertTrue(kept.getMessage(), kept.getMessage().contains("before it was sent"));
             Throwable open = assertThrows(CompletionException.class, first::join).getCause();

@@ -138,7 +138,7 @@ final class Server implements AutoCloseable {
     }
 
     /** Whether it holds within a bounded number of looks. */
-    static boolean comes(Condition condition) throws Exception {
+    static boolean waitUntil(Condition condition) throws Exception {
         for (int turn = 0; turn < MOST_TURNS; turn++) {
             if (condition.holds()) {
                 return true;
