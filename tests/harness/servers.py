@@ -156,6 +156,12 @@ def process(words, errors, limits=(), environment=None, directory=None):
                 child.wait()
 
 
+def kill(child):
+    """Kills a process, and waits until it has ended."""
+    child.kill()
+    child.wait()
+
+
 def first_line(child):
     """What the process prints first; nothing if it prints nothing in time."""
     ready, _, _ = select.select([child.stdout], [], [], START_SECONDS)
