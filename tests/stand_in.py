@@ -32,7 +32,7 @@ import threading
 from harness import plain
 from harness.plain import Method
 
-FAILED, NO_MEMORY = plain.reply_bytes(0x89, None), plain.reply_bytes(0x87, None)
+FAILED, NO_MEMORY = plain.refusal_bytes(plain.FAILED), plain.refusal_bytes(plain.NO_MEMORY)
 # A reply with a kind of value that there isn't.
 GARBLED = b"\x00\x02\x01\x07"
 RELEASE = (Method.get, "release")
@@ -75,7 +75,7 @@ class StandIn:
             try:
                 return plain.reply_bytes(*self.map.call(plain.request_of(body)))
             except plain.Refused as refused:
-                return plain.reply_bytes(0x80 + refused.number, None)
+                return plain.refusal_bytes(refused.number)
 
 
 class Served:
@@ -99,7 +99,7 @@ class Served:
         head = self.stream.read(2)
         body = self.stream.read(int.from_bytes(head, "big")) if len(head) == 2 else b""
         if head == b"\0\0":
-            self.send(plain.reply_bytes(0x80 + plain.BAD_FRAME, None))
+            self.send(plain.refusal_bytes(plain.BAD_FRAME))
         elif body:
             self.stand_in.note("got", self.number, head + body)
         return body

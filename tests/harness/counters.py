@@ -1,12 +1,13 @@
 """Clients that add to shared counters, and what their replies show."""
 import threading
 
+from harness import plain
 from harness.servers import Connection, Dchm
 
 COUNTERS = [b"c%d" % number for number in range(4)]
 # The replies that are refused with 9 and with 7.
-FAILED = b"\x00\x02\x89\x00"
-NO_MEMORY = b"\x00\x02\x87\x00"
+FAILED = plain.refusal_bytes(plain.FAILED)
+NO_MEMORY = plain.refusal_bytes(plain.NO_MEMORY)
 
 
 class Client(threading.Thread):

@@ -1,11 +1,11 @@
 """The files of a directory: their names, reading and writing them, and the bytes that docs/FORMATS.md gives them."""
 import os
 
-from harness.plain import FILE_KEY_WIDTHS, key_bytes, value_bytes
+from harness.plain import FILE_KEY_WIDTHS, OPEN_GATE, key_bytes, value_bytes
 
 # Beside `lock`.
 FILES = ("ckpt-a", "ckpt-b", "log-a", "log-b")
-GATE = b"\xa5"
+GATE = bytes([OPEN_GATE])
 CLOSED_GATE = b"\0"
 # The files of a program from before version 02: one stripe, and a put of 5 to the key a.
 OLD_FILES = {name: bytes.fromhex(content) for name, content in {

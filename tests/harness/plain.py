@@ -11,6 +11,7 @@ FILE_KEY_WIDTHS, REQUEST_KEY_WIDTH = {1: 1, 2: 2}, 2
 OPEN_GATE = 0xA5
 # Refusals by number, and their names as the program prints them.
 NULL_VALUE, KEY_TOO_LONG, VALUE_TOO_LONG, UNKNOWN_METHOD, UNKNOWN_FUNCTION, BAD_FRAME = 1, 2, 3, 4, 5, 6
+NO_MEMORY, FAILED = 7, 9
 NOT_FORMATTED, DAMAGED, WRONG_VERSION, NOT_TEXT = 11, 12, 13, 18
 WAS, NOW, DID, FAULT = 0, 1, 2, 3
 WRONG_KIND, TOO_LONG, OVERFLOW = 1, 2, 3
@@ -319,19 +320,23 @@ def reply_bytes(status, value):
     return frame(bytes([status]) + value_bytes(value))
 
 
+def refusal_bytes(number):
+    return reply_bytes(0x80 + number, None)
+
+
 def dialogue(stream):
     """The replies of a new map to all that a stream has, up to and with the first of status 86."""
     store, replies, read = Map(), [], Bytes(stream)
     while read.rest() >= 2:
         length = read.number(2)
         if not 1 <= length <= FRAME_LIMIT:
-            return b"".join([*replies, reply_bytes(0x80 + BAD_FRAME, None)])
+            return b"".join([*replies, refusal_bytes(BAD_FRAME)])
         if read.rest() < length:
             break
         try:
             replies.append(reply_bytes(*store.call(request_of(read.take(length)))))
         except Refused as refused:
-            replies.append(reply_bytes(0x80 + refused.number, None))
+            replies.append(refusal_bytes(refused.number))
             if refused.number == BAD_FRAME:
                 break
     return b"".join(replies)

@@ -5,6 +5,7 @@ import socket
 import struct
 import unittest
 
+from harness import plain
 from harness.plain import Method, frame, key_bytes, value_bytes
 from harness.places import read
 from harness.servers import Dchm, connect_to, dchm, init, temporary_directory
@@ -16,8 +17,8 @@ COUNT = frame(bytes([Method.count]))
 LONG = frame(bytes([Method.put]) + key_bytes("key") + value_bytes("t" * 4096))
 GET_LONG = Dchm.request("get", b"key")
 # The replies to a put of a key that was absent, and to a frame whose length is refused.
-WAS_ABSENT = b"\x00\x02\x00\x00"
-BAD_FRAME = b"\x00\x02\x86\x00"
+WAS_ABSENT = plain.reply_bytes(plain.WAS, None)
+BAD_FRAME = plain.refusal_bytes(plain.BAD_FRAME)
 REPLY_SECONDS = 60
 
 
