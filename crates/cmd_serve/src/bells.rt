@@ -8,7 +8,7 @@ use durable_map::{DurableMap, Ends};
 use mio::{Registry, Token, Waker};
 use std::alloc::Global;
 use std::io;
-use std::sync::atomic::{AtomicU64, Ordering};
+use std::sync::atomic::{AtomicU64, AtomicUsize, Ordering};
 use ticket_order::Position;
 
 /// The token of what wakes a worker.
@@ -40,6 +40,8 @@ pub struct Bell {
     waker: Waker,
     // the number of that position; 0 is for none
     awaited: AtomicU64,
+    // how many clients the worker has, with those that were handed to it
+    clients: AtomicUsize,
 }
 
 impl Bell {
@@ -48,12 +50,29 @@ impl Bell {
         Ok(Bell {
             waker: Waker::new(registry, WAKE)?,
             awaited: AtomicU64::new(0),
+            clients: AtomicUsize::new(0),
         })
     }
 
     /// Wakes the worker. If it can't be woken, it looks by itself after a while.
     pub(crate) fn ring(&self) {
         let _ = self.waker.wake();
+    }
+
+    /// How many clients the worker has, with those that were handed to it.
+    pub(crate) fn clients(&self) -> usize {
+        self.clients.load(Ordering::SeqCst)
+    }
+
+    /// A client was handed to the worker, which is woken.
+    pub(crate) fn client_came(&self) {
+        let _ = self.clients.fetch_add(1, Ordering::SeqCst);
+        self.ring();
+    }
+
+    /// A client of the worker is gone.
+    pub(crate) fn client_left(&self) {
+        let _ = self.clients.fetch_sub(1, Ordering::SeqCst);
     }
 
     /// The worker is to be woken once the position with this number is durable.

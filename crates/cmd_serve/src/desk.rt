@@ -56,6 +56,8 @@ pub(crate) struct Desk<'a, D: Disk + Drop, R: Clock + Wait, C: Calls<Held = Begu
     pub(crate) has_ended: bool,
     /// Each connection that waits is to be looked at.
     pub(crate) must_look: bool,
+    /// How often the worker has looked for more changes of the batch that is due.
+    pub(crate) looks: u32,
     /// For how long a client may be idle, and when it is to be looked who was.
     pub(crate) limit: Option<Duration>,
     pub(crate) next_sweep: Option<Instant>,
@@ -90,6 +92,7 @@ impl<'a, D: Disk + Drop, R: Clock + Wait, C: Calls<Held = Begun> + Drop> Desk<'a
             has_errand: false,
             has_ended: false,
             must_look: false,
+            looks: 0,
             limit,
             next_sweep: None,
         })
@@ -124,6 +127,12 @@ impl<'a, D: Disk + Drop, R: Clock + Wait, C: Calls<Held = Begun> + Drop> Desk<'a
         true
     }
 
+    // One of the clients that were handed to this worker is gone.
+    fn count_out(&self) {
+        self.bell.client_left();
+        let _ = self.open.fetch_sub(1, Ordering::SeqCst);
+    }
+
     /// Takes up the connections that have come.
     pub(crate) fn welcome_all(&mut self) {
         let now = self.now();
@@ -131,7 +140,7 @@ impl<'a, D: Disk + Drop, R: Clock + Wait, C: Calls<Held = Begun> + Drop> Desk<'a
             match self.seat.streams.try_recv(self.rt) {
                 Ok(stream) => {
                     if !self.welcome(stream, now) {
-                        let _ = self.open.fetch_sub(1, Ordering::SeqCst);
+                        self.count_out();
                     }
                 }
                 Err(TryRecvError::Empty) => return,
@@ -146,7 +155,7 @@ impl<'a, D: Disk + Drop, R: Clock + Wait, C: Calls<Held = Begun> + Drop> Desk<'a
     /// Lets go of a client, whose connection is gone.
     pub(crate) fn remove(&mut self, key: usize) {
         if self.clients.try_remove(key).is_some() {
-            let _ = self.open.fetch_sub(1, Ordering::SeqCst);
+            self.count_out();
         }
     }
 

@@ -8,12 +8,17 @@ use disk_model::Disk;
 use mio::event::Event;
 use mio::{Events, Token};
 use std::alloc::{AllocError, Global};
+use std::mem;
 use std::sync::Wait;
 use std::time::{Clock, Duration, Instant};
 use ticket_order::Position;
 
 /// The most sockets that one wait reports.
 const MOST_EVENTS: usize = 1024;
+
+/// How often a worker looks at most whether clients come whose changes share the next batch. That takes
+/// about a tenth of a millisecond.
+const MOST_LOOKS: u32 = 100;
 
 /// For how many milliseconds a worker sleeps at most that has calls to be answered.
 const LONGEST_SLEEP: u64 = 100;
@@ -128,7 +133,7 @@ impl<'a, D: Disk + Drop, R: Clock + Wait, C: Calls<Held = Begun> + Drop> Desk<'a
 
     // For how long the worker may sleep at most. It is woken once what it awaits is durable.
     fn longest_sleep(&self) -> Option<Duration> {
-        if self.must_look || !self.queue.is_empty() {
+        if self.must_look || self.looks > 0 || !self.queue.is_empty() {
             return Some(Duration::from_secs(0));
         }
         if let Some(first) = self.turns.first() {
@@ -171,8 +176,24 @@ impl<'a, D: Disk + Drop, R: Clock + Wait, C: Calls<Held = Begun> + Drop> Desk<'a
         !self.must_look && self.queue.is_empty() && self.turns.len() == self.clients.len()
     }
 
-    // Has what is awaited committed: by itself if each client waits, else by the thread of the log.
+    // Makes the turns of the log until what is awaited first is durable. It says whether there was
+    // nothing in the way.
+    fn lead(&mut self, first: u64) -> bool {
+        let chime = Chime {
+            map: self.map,
+            bells: self.bells,
+        };
+        if matches!(self.map.try_flush(Position::new(first), &chime), Ok(false)) {
+            return false;
+        }
+        self.answer_all();
+        true
+    }
+
+    // Has what is awaited committed: by itself if each client waits, else by the thread of the log. If
+    // clients are expected whose changes share the batch, it looks for them first.
     fn commit(&mut self) {
+        let looks = mem::take(&mut self.looks);
         let Some(first) = self.turns.first() else {
             return;
         };
@@ -180,14 +201,12 @@ impl<'a, D: Disk + Drop, R: Clock + Wait, C: Calls<Held = Begun> + Drop> Desk<'a
             return;
         }
         if self.must_wait() {
-            let chime = Chime {
-                map: self.map,
-                bells: self.bells,
-            };
-            if !matches!(self.map.try_flush(Position::new(first), &chime), Ok(false)) {
-                self.answer_all();
+            if self.lead(first) {
                 return;
             }
+        } else if looks < MOST_LOOKS && self.map.expects_more() {
+            self.looks = looks + 1;
+            return;
         }
         self.map.wake_log();
     }

@@ -25,6 +25,9 @@ use std::thread;
 use std::thread::Threads;
 use std::time::Clock;
 
+/// How many clients a worker gets before the next one gets any.
+const SHARE: usize = 4;
+
 /// Where connections come from.
 pub trait Arrivals {
     /// The next connection, or nothing if no more come.
@@ -161,13 +164,20 @@ fn has_room<D: Disk + Drop, G: Gate, L: Log>(
     false
 }
 
-// Hands each connection to the workers in turn. One above the limit is closed at once.
+// How many clients a worker gets before the next one gets any. Those of one worker share its batches
+// without a wake. A gate that is told of requests may hold one up, and its worker's other clients with it.
+fn share_of<G: Gate>(gate: &G) -> usize {
+    if gate.is_told() { 1 } else { SHARE }
+}
+
+// Hands each connection to a worker. One above the limit is closed at once.
 fn hand_out<D: Disk + Drop, G: Gate, C: Arrivals, R: Log + Wait>(
     rt: &R,
     pool: &Pool<'_, D, G>,
     doors: &mut Doors,
     arrivals: &mut C,
 ) {
+    let share = share_of(pool.gate);
     let mut has_said = false;
     for _ in rt.forever() {
         let Some(stream) = arrivals.next() else {
@@ -175,7 +185,7 @@ fn hand_out<D: Disk + Drop, G: Gate, C: Arrivals, R: Log + Wait>(
         };
         if has_room(rt, pool, &mut has_said) {
             let _ = pool.open.fetch_add(1, Ordering::SeqCst);
-            if !doors.hand_in(rt, pool.bells, stream) {
+            if !doors.hand_in(rt, pool.bells, share, stream) {
                 return;
             }
         }

@@ -23,6 +23,24 @@ pub struct Doors {
     turn: usize,
 }
 
+// The place of the first worker that has fewer clients than this share. If none has, it is that of one
+// that has the fewest.
+fn least_busy(bells: &[Bell], share: usize) -> usize {
+    let mut found = 0;
+    let mut fewest = usize::MAX;
+    for (place, bell) in bells.iter().enumerate() {
+        let clients = bell.clients();
+        if clients < share {
+            return place;
+        }
+        if clients < fewest {
+            found = place;
+            fewest = clients;
+        }
+    }
+    found
+}
+
 impl Doors {
     // The place of the worker whose turn it is. The turn of the next one comes next.
     fn take_turn(&mut self) -> usize {
@@ -42,7 +60,7 @@ impl Doors {
         };
         match sender.try_send(rt, stream) {
             Ok(()) => {
-                bell.ring();
+                bell.client_came();
                 Ok(())
             }
             Err(back) => Err(back.into_inner()),
@@ -62,7 +80,7 @@ impl Doors {
         };
         match sender.send(rt, stream) {
             Ok(()) => {
-                bell.ring();
+                bell.client_came();
                 Ok(())
             }
             Err(back) => Err(back.into_inner()),
@@ -81,10 +99,18 @@ impl Doors {
         Err(offered)
     }
 
-    /// Hands a connection to the next worker. One that has no place for it, since it is held up, or that
-    /// could not start, is passed over; if none has a place, it waits for one. It says whether some
-    /// worker took it.
-    pub(crate) fn hand_in<R: Wait>(&mut self, rt: &R, bells: &[Bell], stream: Stream) -> bool {
+    /// Hands a connection to the first worker that has fewer clients than this share. If none has, one
+    /// that has the fewest gets it. A worker that has no place for it, since it is held up, or that could
+    /// not start, is passed over; if none has a place, it waits for one. It says whether some worker took
+    /// it.
+    pub(crate) fn hand_in<R: Wait>(
+        &mut self,
+        rt: &R,
+        bells: &[Bell],
+        share: usize,
+        stream: Stream,
+    ) -> bool {
+        self.turn = least_busy(bells, share);
         let mut offered = match self.offer_all(rt, bells, stream) {
             Ok(()) => return true,
             Err(back) => back,

@@ -63,6 +63,11 @@ impl Gathering {
         }
     }
 
+    /// Whether some of those that are expected haven't come.
+    pub(crate) fn lacks(&self, stripes: &Stripes) -> bool {
+        stripes.ticket_count() < self.expected.load(Ordering::SeqCst)
+    }
+
     /// How many changes wait.
     pub(crate) fn waiting(&self, stripes: &Stripes) -> u64 {
         let committed = self.committed.load(Ordering::SeqCst);

@@ -14,7 +14,7 @@ const MOST_TURNS: u32 = 16;
 
 /// A thread makes turns while at most so many changes wait. More come from several threads, which then
 /// go on beside that of `flush_loop`.
-const MOST_WAITING: u64 = 4;
+const MOST_WAITING: u64 = 16;
 
 impl<D: Disk + Drop> DurableMap<D> {
     // A turn of the log, with the count that is committed after it, unless another thread has the keeper.
@@ -85,6 +85,13 @@ impl<D: Disk + Drop> DurableMap<D> {
         }
         let made = made?;
         Ok(made.is_some())
+    }
+
+    /// Whether changes are expected at once that would share the next batch: those whose last changes were
+    /// just committed often come back. A thread with a change that waits then does well to look for them
+    /// before it calls `try_flush` or `wake_log`.
+    pub fn expects_more(&self) -> bool {
+        self.gathering.lacks(&self.stripes)
     }
 
     /// Has what was begun committed soon: wakes the thread of `flush_loop`, unless another thread makes
