@@ -10,7 +10,7 @@ ghost use Rattle.recovery.specs.Opening.{IsNotOpened};
 ghost use Rattle.cmd_directory.specs.Directory.{IsCounted, IsSummed, summary_text};
 
 use atomic_methods::Part;
-use checkpoint_file::load;
+use checkpoint_file::read_head;
 use disk_model::Disk;
 use java_hash::StripeCount;
 use map_types::Refusal;
@@ -96,7 +96,7 @@ fn count<D: Disk>(alloc: Global, disk: D) -> Result<(D, Counts), (D, Refusal)>
 }
 
 // The number of stripes of the checkpoint of this generation.
-fn stripes_of<D: Disk>(alloc: Global, disk: &mut D, generation: u64) -> Result<usize, Refusal>
+fn stripes_of<D: Disk>(disk: &mut D, generation: u64) -> Result<usize, Refusal>
     ensures looks { Looks D.states D.failures D.honest (failed_in result) disk.old disk.new }
     ensures ok { D.honest disk.new → (found : Opened) → found.checkpoint.generation ≡ generation
         → Holds (contents_of D.states disk.old) found
@@ -107,8 +107,8 @@ fn stripes_of<D: Disk>(alloc: Global, disk: &mut D, generation: u64) -> Result<u
     ensures listed { IfErr result AreFilesRefused }
 {
     let file = (generation % 2) as usize;
-    match load(alloc, disk, file)? {
-        Some(loaded) => Ok(loaded.stripes.get()),
+    match read_head(disk, file)? {
+        Some(head) => Ok(usize::from(head.stripes)),
         None => Err(Refusal::NotFormatted),
     }
 }
@@ -119,7 +119,7 @@ pub fn summarize<D: Disk>(alloc: Global, disk: D) -> Result<(D, Summary), (D, Re
     ensures err { IfErr result (λ x. IsNotOpened D.states D.failures D.honest disk x.0 x.1) }
 {
     let (mut disk, counts) = count(alloc, disk)?;
-    match stripes_of(alloc, &mut disk, counts.generation) {
+    match stripes_of(&mut disk, counts.generation) {
         Ok(stripes) => Ok((
             disk,
             Summary {
