@@ -209,6 +209,7 @@ impl<'a, D: Disk + Drop, R: Clock + Wait, C: Calls<Held = Begun> + Drop> Desk<'a
             self.answer_all();
             self.commit();
             self.sweep();
+            self.tell();
         }
         unreachable!()
     }

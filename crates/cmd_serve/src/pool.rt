@@ -9,10 +9,11 @@ use crate::bulk::{Responds, Task, answer_of, respond_by};
 use crate::desk::{Desk, Seat};
 use crate::errands::{Office, run_errands};
 use crate::event_loop::room_for_events;
+use crate::observer::Observer;
 use crate::seats::{Doors, Furniture};
 use crate::service::Service;
 use crate::streams::Stream;
-use crate::worker::{Gate, Worker};
+use crate::worker::Worker;
 use connections::Calls;
 use disk_model::Disk;
 use durable_map::DurableMap;
@@ -20,7 +21,7 @@ use log::{Log, warn};
 use map_types::{Refusal, Reply};
 use std::alloc::Global;
 use std::sync::Wait;
-use std::sync::atomic::{AtomicU64, AtomicUsize, Ordering};
+use std::sync::atomic::{AtomicUsize, Ordering};
 use std::thread;
 use std::thread::Threads;
 use std::time::Clock;
@@ -33,13 +34,12 @@ pub trait Arrivals {
 
 /// What the threads of the workers share.
 #[derive(Drop)]
-pub(crate) struct Pool<'a, D: Disk + Drop, G: Gate> {
+pub(crate) struct Pool<'a, D: Disk + Drop, O: Observer> {
     pub(crate) alloc: Global,
     pub(crate) map: &'a DurableMap<D>,
-    gate: &'a G,
-    taken_up: AtomicU64,
+    pub(crate) observer: &'a O,
     /// How many clients are served, and how many may be.
-    pub(crate) open: AtomicUsize,
+    pub(crate) open: &'a AtomicUsize,
     most: usize,
     /// For how many seconds a client may be idle; 0 is for ever.
     pub(crate) idle: u32,
@@ -55,10 +55,20 @@ enum Job {
     Answer(Office),
 }
 
+impl Job {
+    // The number of its worker. The last one answers the requests of the whole map.
+    fn place(&self) -> usize {
+        match self {
+            Job::Serve(seat) => seat.place,
+            Job::Answer(office) => office.ways_back.len(),
+        }
+    }
+}
+
 // Serves the clients of a seat until no more come.
-fn serve_at<'a, D: Disk + Drop, G: Gate, R: Clock + Wait, C: Calls<Held = Begun> + Drop>(
+fn serve_at<'a, D: Disk + Drop, O: Observer, R: Clock + Wait, C: Calls<Held = Begun> + Drop>(
     rt: &'a R,
-    pool: &'a Pool<'a, D, G>,
+    pool: &'a Pool<'a, D, O>,
     seat: Seat,
     calls: C,
 ) {
@@ -74,9 +84,9 @@ fn serve_at<'a, D: Disk + Drop, G: Gate, R: Clock + Wait, C: Calls<Held = Begun>
 }
 
 // Does a job with these calls.
-fn do_job_with<'a, D: Disk + Drop, G: Gate, R: Clock + Wait, C: Calls<Held = Begun> + Drop>(
+fn do_job_with<'a, D: Disk + Drop, O: Observer, R: Clock + Wait, C: Calls<Held = Begun> + Drop>(
     rt: &'a R,
-    pool: &'a Pool<'a, D, G>,
+    pool: &'a Pool<'a, D, O>,
     job: Job,
     calls: C,
 ) {
@@ -90,9 +100,9 @@ fn do_job_with<'a, D: Disk + Drop, G: Gate, R: Clock + Wait, C: Calls<Held = Beg
 }
 
 // Does a job, with a pass of its own.
-fn do_job<D: Disk + Drop, G: Gate, R: Clock + Wait, A: Responds>(
+fn do_job<D: Disk + Drop, O: Observer, R: Clock + Wait, A: Responds>(
     rt: &R,
-    pool: &Pool<'_, D, G>,
+    pool: &Pool<'_, D, O>,
     job: Job,
     responds: A,
 )
@@ -103,8 +113,8 @@ fn do_job<D: Disk + Drop, G: Gate, R: Clock + Wait, A: Responds>(
         pool.alloc,
         responds,
         pool.map,
-        pool.gate,
-        &pool.taken_up,
+        pool.observer,
+        job.place(),
     );
     if let Ok(worker) = made {
         do_job_with(rt, pool, job, worker);
@@ -114,10 +124,10 @@ fn do_job<D: Disk + Drop, G: Gate, R: Clock + Wait, A: Responds>(
 // The same, with what finds the replies to requests of the whole map.
 fn do_job_by<
     D: Disk + Drop,
-    G: Gate,
+    O: Observer,
     R: Clock + Wait,
     F: Fn(Task) -> Result<Reply, Refusal> + Drop,
->(rt: &R, pool: &Pool<'_, D, G>, job: Job, by: F)
+>(rt: &R, pool: &Pool<'_, D, O>, job: Job, by: F)
     requires callable { F.IsAlwaysCallable by }
     requires right { (task : _) (answer : _) → F.post by task answer
         → AnswersOf task.view.map task.bulk answer }
@@ -127,9 +137,9 @@ fn do_job_by<
 }
 
 // A thread of the pool.
-fn work<D: Disk + Drop, G: Gate, R: Clock + Threads + Wait + Sync>(
+fn work<D: Disk + Drop, O: Observer, R: Clock + Threads + Wait + Sync>(
     rt: &R,
-    pool: &Pool<'_, D, G>,
+    pool: &Pool<'_, D, O>,
     job: Job,
 ) {
     let alloc = pool.alloc;
@@ -144,9 +154,9 @@ fn work<D: Disk + Drop, G: Gate, R: Clock + Threads + Wait + Sync>(
 }
 
 /// Whether one more client may be served. The log has one record for as long as none may.
-fn has_room<D: Disk + Drop, G: Gate, L: Log>(
+fn has_room<D: Disk + Drop, O: Observer, L: Log>(
     rt: &L,
-    pool: &Pool<'_, D, G>,
+    pool: &Pool<'_, D, O>,
     has_said: &mut bool,
 ) -> bool {
     let most = pool.most;
@@ -162,9 +172,9 @@ fn has_room<D: Disk + Drop, G: Gate, L: Log>(
 }
 
 // Hands each connection to the workers in turn. One above the limit is closed at once.
-fn hand_out<D: Disk + Drop, G: Gate, C: Arrivals, R: Log + Wait>(
+fn hand_out<D: Disk + Drop, O: Observer, C: Arrivals, R: Log + Wait>(
     rt: &R,
-    pool: &Pool<'_, D, G>,
+    pool: &Pool<'_, D, O>,
     doors: &mut Doors,
     arrivals: &mut C,
 ) {
@@ -186,10 +196,10 @@ fn hand_out<D: Disk + Drop, G: Gate, C: Arrivals, R: Log + Wait>(
 // Starts the threads, and hands the connections out. The threads end once the doors are closed.
 fn employ<
     D: Disk + Drop + Send,
-    G: Gate + Sync,
+    O: Observer + Sync,
     C: Arrivals,
     R: Clock + Log + Threads + Wait + Sync,
->(rt: &R, pool: &Pool<'_, D, G>, furniture: Furniture, arrivals: &mut C) -> Result<(), Refusal>
+>(rt: &R, pool: &Pool<'_, D, O>, furniture: Furniture, arrivals: &mut C) -> Result<(), Refusal>
     ensures { IfErr result (λ refusal. refusal ≡ Refusal.NoMemory) }
 {
     let Furniture {
@@ -230,13 +240,13 @@ fn employ<
 /// `NoMemory` if a thread can't be started.
 pub fn workers<
     D: Disk + Drop + Send,
-    G: Gate + Sync,
+    O: Observer + Sync,
     C: Arrivals,
     R: Clock + Log + Threads + Wait + Sync,
 >(
     rt: &R,
     service: &Service<'_, D>,
-    gate: &G,
+    observer: &O,
     furniture: Furniture,
     bells: &[Bell],
     arrivals: &mut C,
@@ -246,9 +256,8 @@ pub fn workers<
     let pool = Pool {
         alloc: service.alloc,
         map: service.map,
-        gate,
-        taken_up: AtomicU64::new(0),
-        open: AtomicUsize::new(0),
+        observer,
+        open: service.open,
         most: service.connections,
         idle: service.idle,
         bells,

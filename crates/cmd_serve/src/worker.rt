@@ -10,6 +10,7 @@ ghost use Rattle.cmd_serve.specs.WholeMap.{CompletesBulk};
 
 use crate::begun::Begun;
 use crate::bulk::{Responds, Task};
+use crate::observer::Observer;
 use bulk_tasks::view;
 use connections::Calls;
 use disk_model::Disk;
@@ -18,53 +19,26 @@ use map_types::{Refusal, Reply};
 use std::alloc::Global;
 use std::marker::Model;
 use std::sync::Wait;
-use std::sync::atomic::{AtomicU64, Ordering};
 use stripe_locks::laws::held_at_is_held_of;
 use stripe_locks::{Held, Pass};
 use wire_frames::{Bulk, Request};
-
-/// Is told of each request that is taken up, before its call is begun, and again once it is answered or
-/// given up. The requests are numbered from 0 in the order in which they are taken up.
-pub trait Gate {
-    /// Whether it is told of requests; else they aren't counted.
-    fn is_told(&self) -> bool {
-        true
-    }
-
-    fn before(&self, n: u64);
-
-    fn after(&self, n: u64);
-}
-
-/// The gate of a server, which holds nothing up, and is told of nothing.
-#[derive(Drop)]
-pub struct NoGate;
-
-impl Gate for NoGate {
-    fn is_told(&self) -> bool {
-        false
-    }
-
-    fn before(&self, _n: u64) {}
-
-    fn after(&self, _n: u64) {}
-}
 
 /// A worker makes the call of each request with its own pass as it begins it, and gives the reply out as
 /// it finishes it. For a request of the whole map it then takes a view, and `responds` finds the reply
 /// by it.
 #[derive(Drop)]
-pub struct Worker<'a, D: Disk + Drop, G: Gate, R: Wait, A: Responds> {
+pub struct Worker<'a, D: Disk + Drop, O: Observer, R: Wait, A: Responds> {
     rt: &'a R,
     alloc: Global,
     responds: A,
     map: &'a DurableMap<D>,
-    gate: &'a G,
-    taken_up: &'a AtomicU64,
+    observer: &'a O,
+    // its number among the workers
+    place: usize,
     pass: Pass,
 }
 
-impl<'a, D: Disk + Drop, G: Gate, R: Wait, A: Responds> Model for Worker<'a, D, G, R, A> {
+impl<'a, D: Disk + Drop, O: Observer, R: Wait, A: Responds> Model for Worker<'a, D, O, R, A> {
     ghost use Rattle.stripe_locks.specs.Passes.{recorded};
     ghost use Rattle.durable_map.specs.Maps.{IsReady, name_of_words, stripe_count};
     ghost use Rattle.std.specs.Coded.{coded_ℕ, coded_list, coded×, code_by};
@@ -90,17 +64,17 @@ impl<'a, D: Disk + Drop, G: Gate, R: Wait, A: Responds> Model for Worker<'a, D, 
         × RespondsRightly A.is_ready A.replies worker.responds };
 }
 
-impl<'a, D: Disk + Drop, G: Gate, R: Wait, A: Responds> Worker<'a, D, G, R, A> {
-    /// A worker, which takes a new pass. The requests of all workers are counted in `taken_up`.
-    /// `responds` finds the replies to requests of the whole map.
+impl<'a, D: Disk + Drop, O: Observer, R: Wait, A: Responds> Worker<'a, D, O, R, A> {
+    /// The worker with the number `place`, which takes a new pass. `responds` finds the replies to requests
+    /// of the whole map.
     pub fn new(
         rt: &'a R,
         alloc: Global,
         responds: A,
         map: &'a DurableMap<D>,
-        gate: &'a G,
-        taken_up: &'a AtomicU64,
-    ) -> Result<Worker<'a, D, G, R, A>, Refusal>
+        observer: &'a O,
+        place: usize,
+    ) -> Result<Worker<'a, D, O, R, A>, Refusal>
         // Each reply that it finds is that of the view.
         requires { RespondsRightly A.is_ready A.replies responds }
 
@@ -118,47 +92,42 @@ impl<'a, D: Disk + Drop, G: Gate, R: Wait, A: Responds> Worker<'a, D, G, R, A> {
             alloc,
             responds,
             map,
-            gate,
-            taken_up,
+            observer,
+            place,
             pass,
         })
     }
 
-    // Tells the gate of the next request, and gives its number, if the gate is told of requests.
+    // Tells the observer of the next request, and gives its mark, if it is to be told of its end.
     fn take_up(&self) -> Option<u64> {
-        if !self.gate.is_told() {
-            return None;
-        }
-        let n = self.taken_up.fetch_add(1, Ordering::SeqCst);
-        self.gate.before(n);
-        Some(n)
+        self.observer.request_begins(self.place)
     }
 
-    // Tells the gate of the end of the request with this number, if it has one.
-    fn put_down(&self, number: Option<u64>) {
-        if let Some(n) = number {
-            self.gate.after(n);
+    // Tells the observer of the end of the request with this mark, if it has one.
+    fn put_down(&self, mark: Option<u64>) {
+        if let Some(mark) = mark {
+            self.observer.request_ended(self.place, mark);
         }
     }
 
     // Makes the call of a change or a read. A request of the whole map is held as it is.
     #[tactic(auto, using(crate::proofs::Owning::held_at))]
-    fn begin_as(&mut self, number: Option<u64>, request: Request) -> Result<Begun, Refusal>
+    fn begin_as(&mut self, mark: Option<u64>, request: Request) -> Result<Begun, Refusal>
         ensures began { Began self.old request result self.new }
         ensures owned { IfOk result (Owns self.new) }
     {
         match request {
             Request::Change(command) => {
                 match self.map.begin_change(self.rt, &mut self.pass, command) {
-                    Ok(held) => Ok(Begun::Call(number, held)),
+                    Ok(held) => Ok(Begun::Call(mark, held)),
                     Err(refusal) => Err(refusal),
                 }
             }
             Request::Read(read) => match self.map.begin_read(self.rt, &mut self.pass, read) {
-                Ok(held) => Ok(Begun::Call(number, held)),
+                Ok(held) => Ok(Begun::Call(mark, held)),
                 Err(refusal) => Err(refusal),
             },
-            Request::Bulk(bulk) => Ok(Begun::View(number, bulk)),
+            Request::Bulk(bulk) => Ok(Begun::View(mark, bulk)),
         }
     }
 
@@ -182,7 +151,7 @@ impl<'a, D: Disk + Drop, G: Gate, R: Wait, A: Responds> Worker<'a, D, G, R, A> {
     }
 }
 
-impl<D: Disk + Drop, G: Gate, R: Wait, A: Responds> Calls for Worker<'_, D, G, R, A> {
+impl<D: Disk + Drop, O: Observer, R: Wait, A: Responds> Calls for Worker<'_, D, O, R, A> {
     type Held = Begun;
 
     ghost began = { Began };
@@ -194,11 +163,11 @@ impl<D: Disk + Drop, G: Gate, R: Wait, A: Responds> Calls for Worker<'_, D, G, R
     ghost owns = { Owns };
 
     fn begin(&mut self, request: Request) -> Result<Begun, Refusal> {
-        let number = self.take_up();
-        match self.begin_as(number, request) {
+        let mark = self.take_up();
+        match self.begin_as(mark, request) {
             Ok(begun) => Ok(begun),
             Err(refusal) => {
-                self.put_down(number);
+                self.put_down(mark);
                 Err(refusal)
             }
         }
@@ -220,14 +189,14 @@ impl<D: Disk + Drop, G: Gate, R: Wait, A: Responds> Calls for Worker<'_, D, G, R
 
     fn finish(&mut self, begun: Begun) -> Result<Reply, Refusal> {
         match begun {
-            Begun::Call(number, held) => {
+            Begun::Call(mark, held) => {
                 let answer = self.finish_call(held);
-                self.put_down(number);
+                self.put_down(mark);
                 answer
             }
-            Begun::View(number, bulk) => {
+            Begun::View(mark, bulk) => {
                 let answer = self.answer_bulk(bulk);
-                self.put_down(number);
+                self.put_down(mark);
                 answer
             }
         }
@@ -235,11 +204,11 @@ impl<D: Disk + Drop, G: Gate, R: Wait, A: Responds> Calls for Worker<'_, D, G, R
 
     fn give_up(&mut self, begun: Begun) {
         match begun {
-            Begun::Call(number, held) => {
+            Begun::Call(mark, held) => {
                 held.give_up();
-                self.put_down(number);
+                self.put_down(mark);
             }
-            Begun::View(number, _bulk) => self.put_down(number),
+            Begun::View(mark, _bulk) => self.put_down(mark),
         }
     }
 }

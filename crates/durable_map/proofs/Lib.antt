@@ -8,6 +8,7 @@ mod Between
 mod Sealed
 mod Ahead
 mod Causes
+mod Entries
 mod Released
 pub mod Viewing
 pub mod Crosses

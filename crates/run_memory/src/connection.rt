@@ -8,7 +8,7 @@ use crate::host::Host;
 use crate::marks::{begin, end};
 use anyhow::{Context, Result, anyhow};
 use cmd_mem::Memory;
-use cmd_serve::{NoGate, Responds, Task, Worker, answer_of, respond_by};
+use cmd_serve::{NoObserver, Responds, Task, Worker, answer_of, respond_by};
 use connections::{Calls, ConnectionError, serve_connection};
 use disk_model::{Disk, MemDisk};
 use durable_map::{DurableMap, Ends, flush_loop};
@@ -16,7 +16,7 @@ use map_types::{Refusal, Reply};
 use run_cases::{bytes_spelled, hexadecimal};
 use std::alloc::Global;
 use std::sync::Wait;
-use std::sync::atomic::{AtomicBool, AtomicU64, Ordering};
+use std::sync::atomic::{AtomicBool, Ordering};
 use std::thread::join;
 
 /// Room for all replies of a case, so that what is written takes no memory.
@@ -119,8 +119,7 @@ fn serve_by<D: Disk + Drop, R: Host, A: Responds>(
 ) -> bool
     requires { RespondsRightly A.is_ready A.replies responds }
 {
-    let taken_up = AtomicU64::new(0);
-    match Worker::new(rt, rt.alloc(), responds, map, &NoGate, &taken_up) {
+    match Worker::new(rt, rt.alloc(), responds, map, &NoObserver, 0) {
         Ok(mut worker) => serve_each(rt, &mut worker, texts).is_ok(),
         Err(_refusal) => false,
     }

@@ -9,17 +9,17 @@ use std::alloc::Global;
 use std::io;
 use std::io::ErrorKind;
 
-/// Fails unless the path is free, or has a socket at which nobody listens.
-fn see_that_it_is_free<S: SocketFiles>(files: &S, path: &str) -> io::Result<()>
-    ensures { OnOk result (S.was_free path.now) }
+/// Fails unless the path is free, or has a socket at which nobody listens, while the directory is held.
+fn see_that_it_is_free<S: SocketFiles>(files: &S, held: &S::Room, path: &str) -> io::Result<()>
+    ensures { OnOk result (S.was_free held.now path.now) }
 {
-    match files.look(path)? {
+    match files.look(held, path)? {
         Found::Nothing => Ok(()),
         Found::Other => Err(io::Error::new(
             ErrorKind::AlreadyExists,
             "a file is there that isn't a socket",
         )),
-        Found::Socket if files.is_listening(path)? => Err(io::Error::new(
+        Found::Socket if files.is_listening(held, path)? => Err(io::Error::new(
             ErrorKind::AddrInUse,
             "another server listens there",
         )),
@@ -27,45 +27,58 @@ fn see_that_it_is_free<S: SocketFiles>(files: &S, path: &str) -> io::Result<()>
     }
 }
 
-/// Removes the directory in which a socket was made, and a socket in it. While they stay, no other socket
-/// can be made for this path.
-fn clear<S: SocketFiles>(files: &S, room: &str, inner: &str) {
-    if let Ok(Found::Socket) = files.look(inner) {
+/// Removes the directory in which a socket is made, which is held, and a socket in it.
+fn clear<S: SocketFiles>(files: &S, held: &S::Room, room: &str, inner: &str) {
+    if let Ok(Found::Socket) = files.look(held, inner) {
         let _ = files.remove_socket(inner);
     }
     let _ = files.remove_directory(room);
+}
+
+/// Makes the directory in which the socket is made. One that a process left which has ended is removed
+/// first; one that another process holds stays.
+fn make_room<S: SocketFiles>(files: &S, room: &str, inner: &str) -> io::Result<S::Room>
+    ensures { IfOk result (S.is_private room.now) }
+{
+    if let Some(left) = files.hold(room)? {
+        clear(files, &left, room, inner);
+    }
+    files.make_private(room)
 }
 
 /// Makes a socket where nobody else reaches it, gives its file these rights, and renames it to the path.
 fn bind_inside<S: SocketFiles>(
     files: &S,
     alloc: Global,
+    held: &S::Room,
     room: &str,
     inner: &str,
     path: &str,
     mode: u32,
 ) -> io::Result<S::Listener>
-    requires free { S.was_free path.now }
+    requires private { S.is_private room.now held.now }
     requires room { room.now ≡ room_of path.now }
     requires inner { inner.now ≡ inner_of path.now }
     ensures { IfOk result (λ listener. Binds S.was_free S.is_private S.is_bound S.has_mode
         S.is_renamed path.now mode listener) }
 {
-    files.make_private(room)?;
-    let listener = files.listen(alloc, room, inner)?;
+    see_that_it_is_free(files, held, path)?;
+    let listener = files.listen(alloc, held, room, inner)?;
     files.set_mode(&listener, inner, mode)?;
-    files.rename(inner, path, mode)?;
+    files.rename(held, inner, path, mode)?;
     Ok(listener)
 }
 
 /// A socket that listens at the path, whose file has these rights. Who may connect is so the file system's
 /// rule from the first moment on: the socket is made in a directory beside the path that only its user can
 /// enter, its file is given its rights there, and it is renamed to the path only then. The directory is
-/// removed.
+/// removed. It is held meanwhile, so that of several processes one alone binds a socket at a path at a
+/// time.
 ///
-/// It fails if a file is there that isn't a socket, which it leaves, and if a server listens there. The
-/// file of a server that has ended is replaced: this is to be called only while the lock is held that that
-/// server had. What else fails is the system's. If it fails, what was at the path is there still.
+/// It fails if a file is there that isn't a socket, which it leaves, if a server listens there, and if
+/// another process is about to. The file of a server that has ended is replaced: this is to be called only
+/// while the lock is held that that server had. What else fails is the system's. If it fails, what was at
+/// the path is there still.
 pub fn bind<S: SocketFiles>(
     files: &S,
     alloc: Global,
@@ -77,11 +90,10 @@ pub fn bind<S: SocketFiles>(
     ensures { IfOk result (λ listener. Binds S.was_free S.is_private S.is_bound S.has_mode
         S.is_renamed path.now mode listener) }
 {
-    see_that_it_is_free(files, path)?;
     let room = room_of(alloc, path)?;
     let inner = inner_of(alloc, path)?;
-    clear(files, &room, &inner);
-    let bound = bind_inside(files, alloc, &room, &inner, path, mode);
-    clear(files, &room, &inner);
+    let held = make_room(files, &room, &inner)?;
+    let bound = bind_inside(files, alloc, &held, &room, &inner, path, mode);
+    clear(files, &held, &room, &inner);
     bound
 }

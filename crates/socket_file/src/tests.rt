@@ -1,4 +1,6 @@
 //! Sockets in a directory of their own.
+ghost use Rattle.socket_file.specs.Names.{IsSocketPath};
+
 use crate::binding::bind;
 use crate::calls::{Found, SocketFiles};
 use crate::names::{is_socket_path, mode_named};
@@ -21,6 +23,12 @@ fn mode_of(rt: &HostRuntime, path: &str) -> Result<u32, Fail> {
     Ok(fs::symlink_metadata(rt, path)?.permissions().mode() & 0o777)
 }
 
+/// What stands at the path.
+fn found(rt: &HostRuntime, path: &str) -> Result<Found, Fail> {
+    let here = File::open(rt, ".")?;
+    Ok(rt.look(&here, path)?)
+}
+
 /// Whether a byte that a client sends comes to the listener.
 fn is_reached(rt: &HostRuntime, listener: &UnixListener, path: &str) -> Result<bool, Fail> {
     let mut client = UnixStream::connect(rt, path)?;
@@ -34,8 +42,9 @@ fn is_reached(rt: &HostRuntime, listener: &UnixListener, path: &str) -> Result<b
 #[test]
 fn a_directory_is_its_users_alone(rt: HostRuntime) -> Result<(), Fail> {
     make_directory(&rt, "alone")?;
-    rt.make_private("alone/room")?;
+    let room = rt.make_private("alone/room")?;
     assert_eq!(rt; mode_of(&rt, "alone/room")?, 0o700);
+    drop(room);
     fs::remove_dir_all(&rt, "alone")?;
     Ok(())
 }
@@ -45,9 +54,9 @@ fn a_socket_has_its_rights(rt: HostRuntime) -> Result<(), Fail> {
     make_directory(&rt, "rights")?;
     for mode in [0o600u32, 0o660, 0o666, 0o000] {
         let listener = bind(&rt, rt.alloc(), "rights/socket", mode)?;
-        assert_eq!(rt; rt.look("rights/socket")?, Found::Socket);
+        assert_eq!(rt; found(&rt, "rights/socket")?, Found::Socket);
         assert_eq!(rt; mode_of(&rt, "rights/socket")?, mode);
-        assert_eq!(rt; rt.look("rights/socket.new")?, Found::Nothing);
+        assert_eq!(rt; found(&rt, "rights/socket.new")?, Found::Nothing);
         drop(listener);
     }
     fs::remove_dir_all(&rt, "rights")?;
@@ -107,7 +116,7 @@ fn what_is_no_socket_stays(rt: HostRuntime) -> Result<(), Fail> {
             refused.map_err(|cause| cause.kind()),
             Err(ErrorKind::AlreadyExists)
         );
-        assert_eq!(rt; rt.look(path)?, Found::Other);
+        assert_eq!(rt; found(&rt, path)?, Found::Other);
     }
     assert_eq!(rt; fs::symlink_metadata(&rt, "others/file")?.len(), 4);
     fs::remove_dir_all(&rt, "others")?;
@@ -121,7 +130,7 @@ fn what_stands_beside_the_path(rt: HostRuntime) -> Result<(), Fail> {
     fs::create_dir(&rt, "beside/socket.new")?;
     drop(UnixListener::bind(&rt, "beside/socket.new/s")?);
     drop(bind(&rt, rt.alloc(), "beside/socket", 0o600)?);
-    assert_eq!(rt; rt.look("beside/socket.new")?, Found::Nothing);
+    assert_eq!(rt; found(&rt, "beside/socket.new")?, Found::Nothing);
     fs::create_dir(&rt, "beside/socket.new")?;
     drop(File::create(&rt, "beside/socket.new/file")?);
     let file = fs::symlink_metadata(&rt, "beside/socket")?.ino();
@@ -131,8 +140,35 @@ fn what_stands_beside_the_path(rt: HostRuntime) -> Result<(), Fail> {
         Err(ErrorKind::AlreadyExists)
     );
     assert_eq!(rt; fs::symlink_metadata(&rt, "beside/socket")?.ino(), file);
-    assert_eq!(rt; rt.look("beside/socket.new/file")?, Found::Other);
+    assert_eq!(rt; found(&rt, "beside/socket.new/file")?, Found::Other);
     fs::remove_dir_all(&rt, "beside")?;
+    Ok(())
+}
+
+/// Why no socket is bound at the path.
+fn refusal_of(rt: &HostRuntime, path: &str) -> Option<ErrorKind>
+    requires { IsSocketPath path.now }
+{
+    match bind(rt, rt.alloc(), path, 0o600) {
+        Ok(_) => None,
+        Err(cause) => Some(cause.kind()),
+    }
+}
+
+/// What another one that binds has made stays, until that one has ended.
+#[test]
+fn one_at_a_time(rt: HostRuntime) -> Result<(), Fail> {
+    make_directory(&rt, "turns")?;
+    let other = rt.make_private("turns/socket.new")?;
+    let theirs = UnixListener::bind(&rt, "turns/socket.new/s")?;
+    assert_eq!(rt; refusal_of(&rt, "turns/socket"), Some(ErrorKind::AddrInUse));
+    assert_eq!(rt; found(&rt, "turns/socket.new/s")?, Found::Socket);
+    assert_eq!(rt; found(&rt, "turns/socket")?, Found::Nothing);
+    drop(theirs);
+    drop(other);
+    assert_eq!(rt; refusal_of(&rt, "turns/socket"), None);
+    assert_eq!(rt; found(&rt, "turns/socket.new")?, Found::Nothing);
+    fs::remove_dir_all(&rt, "turns")?;
     Ok(())
 }
 

@@ -1,6 +1,6 @@
 //! Clients that neither read nor end.
 use crate::clients::{Listed, MOST_TURNS, PUT, WAS_ABSENT, connected, map_over, serve_listed};
-use cmd_serve::{Arrivals, NoGate, Stream};
+use cmd_serve::{Arrivals, NoObserver, Stream};
 use log::Log;
 use std::alloc::Global;
 use std::io::{Read, Write};
@@ -63,7 +63,7 @@ fn is_answered_beside<
 >(rt: &R, alloc: Global, bytes: &[u8]) -> Result<bool, Fail> {
     let mut stalling = Stalling::new(rt, alloc, bytes)?;
     let map = map_over(alloc, None)?;
-    let ran = serve_listed(rt, alloc, &map, &NoGate, &mut stalling, 2);
+    let ran = serve_listed(rt, alloc, &map, &NoObserver, &mut stalling, 2);
     drop(map);
     ran?;
     Ok(stalling.was_answered && stalling.reply.as_slice() == WAS_ABSENT)

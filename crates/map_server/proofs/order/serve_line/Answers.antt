@@ -19,7 +19,8 @@ returns-clause-app c =
     let eight = with_argument _ _ _ _ (option_rule (codes "checkpoint-bytes")) c.in_ok-arg-8.ensures c.option-bytes.ensures.local c.option-bytes.ensures.rule seven in
     let nine = with_argument _ _ _ _ (option_rule (codes "idle-seconds")) c.in_ok-arg-9.ensures c.option-idle.ensures.local c.option-idle.ensures.rule eight in
     let ten = with_argument _ _ _ _ (option_rule (codes "log-ahead")) c.in_ok-arg-10.ensures c.option-ahead.ensures.local c.option-ahead.ensures.rule nine in
-    IfOk-weaker c.arg-11.result _ _ (λ command h. with_argument _ _ _ _ (flag_rule (codes "standby")) h c.flag-standby.ensures.local c.flag-standby.ensures.rule ten) c.arg-11.ensures
+    let eleven = with_argument _ _ _ _ (option_rule (codes "report-seconds")) c.in_ok-arg-11.ensures c.option-report.ensures.local c.option-report.ensures.rule ten in
+    IfOk-weaker c.arg-12.result _ _ (λ command h. with_argument _ _ _ _ (flag_rule (codes "standby")) h c.flag-standby.ensures.local c.flag-standby.ensures.rule eleven) c.arg-12.ensures
 
 pub returns-clause-local : goal.returns-clause-local
 returns-clause-local c =
@@ -34,4 +35,5 @@ returns-clause-local c =
     let eight = stays_local _ _ _ c.in_ok-arg-8.ensures c.option-bytes.ensures.local seven in
     let nine = stays_local _ _ _ c.in_ok-arg-9.ensures c.option-idle.ensures.local eight in
     let ten = stays_local _ _ _ c.in_ok-arg-10.ensures c.option-ahead.ensures.local nine in
-    IfOk-weaker c.arg-11.result _ _ (λ command h. stays_local _ _ _ h c.flag-standby.ensures.local ten) c.arg-11.ensures
+    let eleven = stays_local _ _ _ c.in_ok-arg-11.ensures c.option-report.ensures.local ten in
+    IfOk-weaker c.arg-12.result _ _ (λ command h. stays_local _ _ _ h c.flag-standby.ensures.local eleven) c.arg-12.ensures
