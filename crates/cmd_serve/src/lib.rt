@@ -5,7 +5,7 @@
 mod accepting;
 pub mod begun;
 pub mod bells;
-pub mod bulk;
+mod bulk;
 mod client;
 pub mod desk;
 pub mod errands;
@@ -25,7 +25,6 @@ pub mod worker;
 
 pub use begun::Begun;
 pub use bells::Bell;
-pub use bulk::{RespondBy, Responds, Task, answer_of, respond_by};
 pub use pool::{Arrivals, workers};
 pub use seats::{Furniture, furnish};
 pub use server::{ServerWords, serve};

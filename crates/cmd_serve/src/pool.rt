@@ -1,11 +1,8 @@
 //! The threads of the workers, and the connections that are handed to them.
 ghost use Rattle.std.specs.Prelude.{◌≡◌, IfErr};
-ghost use Rattle.cmd_serve.specs.Responding.{RespondsRightly};
-ghost use Rattle.cmd_serve.specs.WholeMap.{AnswersOf};
 
 use crate::begun::Begun;
 use crate::bells::Bell;
-use crate::bulk::{Responds, Task, answer_of, respond_by};
 use crate::desk::{Desk, Seat};
 use crate::errands::{Office, run_errands};
 use crate::event_loop::room_for_events;
@@ -17,7 +14,7 @@ use connections::Calls;
 use disk_model::Disk;
 use durable_map::DurableMap;
 use log::{Log, warn};
-use map_types::{Refusal, Reply};
+use map_types::Refusal;
 use std::alloc::Global;
 use std::sync::Wait;
 use std::sync::atomic::{AtomicU64, AtomicUsize, Ordering};
@@ -89,58 +86,12 @@ fn do_job_with<'a, D: Disk + Drop, G: Gate, R: Clock + Wait, C: Calls<Held = Beg
     }
 }
 
-// Does a job, with a pass of its own.
-fn do_job<D: Disk + Drop, G: Gate, R: Clock + Wait, A: Responds>(
-    rt: &R,
-    pool: &Pool<'_, D, G>,
-    job: Job,
-    responds: A,
-)
-    requires { RespondsRightly A.is_ready A.replies responds }
-{
-    let made = Worker::new(
-        rt,
-        pool.alloc,
-        responds,
-        pool.map,
-        pool.gate,
-        &pool.taken_up,
-    );
+// A thread of the pool, which does a job with a pass of its own.
+fn work<D: Disk + Drop, G: Gate, R: Clock + Wait>(rt: &R, pool: &Pool<'_, D, G>, job: Job) {
+    let made = Worker::new(rt, pool.alloc, pool.map, pool.gate, &pool.taken_up);
     if let Ok(worker) = made {
         do_job_with(rt, pool, job, worker);
     }
-}
-
-// The same, with what finds the replies to requests of the whole map.
-fn do_job_by<
-    D: Disk + Drop,
-    G: Gate,
-    R: Clock + Wait,
-    F: Fn(Task) -> Result<Reply, Refusal> + Drop,
->(rt: &R, pool: &Pool<'_, D, G>, job: Job, by: F)
-    requires callable { F.IsAlwaysCallable by }
-    requires right { (task : _) (answer : _) → F.post by task answer
-        → AnswersOf task.view.map task.bulk answer }
-{
-    let responds = respond_by(by);
-    do_job(rt, pool, job, responds);
-}
-
-// A thread of the pool.
-fn work<D: Disk + Drop, G: Gate, R: Clock + Threads + Wait + Sync>(
-    rt: &R,
-    pool: &Pool<'_, D, G>,
-    job: Job,
-) {
-    let alloc = pool.alloc;
-    do_job_by(
-        rt,
-        pool,
-        job,
-        move |task: Task| -> Result<Reply, Refusal>
-            ensures { AnswersOf task.view.map task.bulk result }
-        { answer_of(rt, alloc, &task) },
-    );
 }
 
 /// Whether one more client may be served. The log has one record for as long as none may.

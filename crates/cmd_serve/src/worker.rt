@@ -5,12 +5,10 @@ ghost use Rattle.stripe_locks.specs.Plays.{joining};
 ghost use Rattle.durable_map.specs.Durable.{Finishes};
 ghost use Rattle.durable_map.specs.Maps.{name_of_words, opening_of, stripe_count};
 ghost use Rattle.cmd_serve.specs.Serving.{Began, Finished, GaveUp, IsSameWorker, Owns};
-ghost use Rattle.cmd_serve.specs.Responding.{RespondsRightly};
 ghost use Rattle.cmd_serve.specs.WholeMap.{CompletesBulk};
 
 use crate::begun::Begun;
-use crate::bulk::{Responds, Task};
-use bulk_tasks::view;
+use crate::bulk::answer_bulk;
 use connections::Calls;
 use disk_model::Disk;
 use durable_map::DurableMap;
@@ -51,27 +49,24 @@ impl Gate for NoGate {
 }
 
 /// A worker makes the call of each request with its own pass as it begins it, and gives the reply out as
-/// it finishes it. For a request of the whole map it then takes a view, and `responds` finds the reply
-/// by it.
+/// it finishes it. For a request of the whole map it then takes a view, of which the reply is.
 #[derive(Drop)]
-pub struct Worker<'a, D: Disk + Drop, G: Gate, R: Wait, A: Responds> {
+pub struct Worker<'a, D: Disk + Drop, G: Gate, R: Wait> {
     rt: &'a R,
     alloc: Global,
-    responds: A,
     map: &'a DurableMap<D>,
     gate: &'a G,
     taken_up: &'a AtomicU64,
     pass: Pass,
 }
 
-impl<'a, D: Disk + Drop, G: Gate, R: Wait, A: Responds> Model for Worker<'a, D, G, R, A> {
+impl<'a, D: Disk + Drop, G: Gate, R: Wait> Model for Worker<'a, D, G, R> {
     ghost use Rattle.stripe_locks.specs.Passes.{recorded};
     ghost use Rattle.durable_map.specs.Maps.{IsReady, name_of_words, stripe_count};
     ghost use Rattle.std.specs.Coded.{coded_ℕ, coded_list, coded×, code_by};
     ghost use Rattle.std.specs.Prelude.{refl};
     ghost use Rattle.ticket_order.specs.contracts.record.Record as record_type;
     ghost use Rattle.cmd_serve.specs.Serving.{WorkerState};
-    ghost use Rattle.cmd_serve.specs.Responding.{RespondsRightly};
 
     ghost Value = { WorkerState };
 
@@ -86,24 +81,18 @@ impl<'a, D: Disk + Drop, G: Gate, R: Wait, A: Responds> Model for Worker<'a, D, 
       pass = recorded worker.pass;
     } };
 
-    ghost invariant = { λ worker. IsReady worker.map.now worker.pass
-        × RespondsRightly A.is_ready A.replies worker.responds };
+    ghost invariant = { λ worker. IsReady worker.map.now worker.pass };
 }
 
-impl<'a, D: Disk + Drop, G: Gate, R: Wait, A: Responds> Worker<'a, D, G, R, A> {
+impl<'a, D: Disk + Drop, G: Gate, R: Wait> Worker<'a, D, G, R> {
     /// A worker, which takes a new pass. The requests of all workers are counted in `taken_up`.
-    /// `responds` finds the replies to requests of the whole map.
     pub fn new(
         rt: &'a R,
         alloc: Global,
-        responds: A,
         map: &'a DurableMap<D>,
         gate: &'a G,
         taken_up: &'a AtomicU64,
-    ) -> Result<Worker<'a, D, G, R, A>, Refusal>
-        // Each reply that it finds is that of the view.
-        requires { RespondsRightly A.is_ready A.replies responds }
-
+    ) -> Result<Worker<'a, D, G, R>, Refusal>
         // It has the stripes and the shared words of the map, and a new pass that isn't the keeper's.
         ensures stripes { IfOk result (λ worker. worker.stripes ≡ stripe_count map.now) }
         ensures words { IfOk result (λ worker. worker.words ≡ name_of_words map.now) }
@@ -116,7 +105,6 @@ impl<'a, D: Disk + Drop, G: Gate, R: Wait, A: Responds> Worker<'a, D, G, R, A> {
         Ok(Worker {
             rt,
             alloc,
-            responds,
             map,
             gate,
             taken_up,
@@ -177,12 +165,11 @@ impl<'a, D: Disk + Drop, G: Gate, R: Wait, A: Responds> Worker<'a, D, G, R, A> {
         ensures same { IsSameWorker self.old self.new }
         ensures completes { CompletesBulk self.old.stripes self.old.pass bulk result self.new.pass }
     {
-        let view = view(self.rt, self.alloc, self.map, &mut self.pass)?;
-        self.responds.respond(Task { view, bulk })
+        answer_bulk(self.rt, self.alloc, self.map, &mut self.pass, &bulk)
     }
 }
 
-impl<D: Disk + Drop, G: Gate, R: Wait, A: Responds> Calls for Worker<'_, D, G, R, A> {
+impl<D: Disk + Drop, G: Gate, R: Wait> Calls for Worker<'_, D, G, R> {
     type Held = Begun;
 
     ghost began = { Began };

@@ -17,4 +17,4 @@ mod views;
 
 pub use loops::{Ends, checkpoint_loop, flush_loop};
 pub use map::DurableMap;
-pub use view_walk::{Captured, ViewWalk, Viewed};
+pub use view_walk::{Captured, PartsWalk, PartsWalked, ViewWalk, Viewed};

@@ -1,0 +1,24 @@
+use Rattle.std.proofs.Common.{◌≡◌, length, arith, sym, ◌∙◌}
+use Rattle.bulk_tasks.specs.Answering.{entries_kept}
+use Rattle.bulk_tasks.specs.Bulk.{count_of}
+use Rattle.bulk_tasks.proofs.AnyOrder.{len-map_of}
+use Rattle.bulk_tasks.proofs.Answering.{answered_by, distinct_kept, refused_by, starved_by}
+use Rattle.bulk_tasks.proofs.counting.count.Goals as goal
+
+pub returns-in_err-gather_all-clause-answers : goal.returns-in_err-gather_all-clause-answers
+returns-in_err-gather_all-clause-answers g c =
+    let k = c.in_err-gather_all.ensures.refused in
+    refused_by _ _ k.0 _ count_of _ k.1
+
+pub returns-then-count-clause-answers : goal.returns-then-count-clause-answers
+returns-then-count-clause-answers g c =
+    let k = c.in_ok-gather_all.ensures.done in
+    starved_by _ _ k.0 _ count_of k.1
+
+pub returns-else-count-clause-answers : goal.returns-else-count-clause-answers
+returns-else-count-clause-answers g c =
+    let k = c.in_ok-gather_all.ensures.done in
+    let count = c.gather_all.new.gathering.count in
+    let es = entries_kept k.0 in
+    let few : count ≡ length es = omega (arith, k.2) in
+    answered_by _ _ k.0 _ count_of count k.1 (few ∙ sym (len-map_of es (distinct_kept _ _ k.0 _ k.1)))

@@ -1,0 +1,6 @@
+use Rattle.std.proofs.Common.{◌≡◌, sym, ap, ◌∙◌, fold}
+use Rattle.bulk_tasks.proofs.Gathering.{fold_more}
+use Rattle.bulk_tasks.proofs.searching.SearchingGathers.gather.Goals as goal
+
+pub returns-clause-ok : goal.returns-clause-ok
+returns-clause-ok c = ?

@@ -1,0 +1,17 @@
+use Rattle.std.proofs.Common.{◌≡◌, sym, ap, ◌∙◌}
+use Rattle.bulk_tasks.specs.Answering.{entries_kept}
+use Rattle.bulk_tasks.specs.Bulk.{key_of_value}
+use Rattle.bulk_tasks.proofs.Nearing.{finds}
+use Rattle.bulk_tasks.proofs.Answering.{answered_by, distinct_kept, refused_by}
+use Rattle.bulk_tasks.proofs.searching.search.Goals as goal
+
+pub returns-in_err-gather_all-clause-answers : goal.returns-in_err-gather_all-clause-answers
+returns-in_err-gather_all-clause-answers g c =
+    let k = c.in_err-gather_all.ensures.refused in
+    refused_by _ _ k.0 _ (key_of_value c.args.sought.now) _ k.1
+
+pub returns-in_ok-gather_all-clause-answers : goal.returns-in_ok-gather_all-clause-answers
+returns-in_ok-gather_all-clause-answers g c =
+    let k = c.in_ok-gather_all.ensures.done in
+    let es = entries_kept k.0 in
+    answered_by _ _ k.0 _ (key_of_value c.args.sought.now) _ k.1 (k.2.1 ∙ finds c.args.sought.now es (distinct_kept _ _ k.0 _ k.1))
