@@ -12,9 +12,10 @@ use Rattle.log_records.specs.Layout.{Layout, IsLayout}
 use Rattle.store_layout.specs.Checkpoints.{Checkpoint, is_sealed}
 use Rattle.store_layout.specs.Faults.{head_fault, version_in}
 use Rattle.store_layout.specs.Opening.{Contents, Opened, Holds, IsCheckpointIn, checkpoint_layout}
-use Rattle.store_layout.proofs.CheckpointFields.{has_head, never_bad, one_checkpoint, sealed}
+use Rattle.store_layout.proofs.CheckpointFields.{has_head, has_stripes, sealed}
 use Rattle.store_layout.proofs.Versions.{read_for, room_for}
-use Rattle.checkpoint_file.specs.Loads.{IsUnloadable}
+use Rattle.checkpoint_file.specs.declared.head.Head.{Head}
+use Rattle.checkpoint_file.specs.Heads.{HasFields}
 use Rattle.gate_log.proofs.Scanning.{looks_on, same_now}
 use Rattle.recovery.specs.Dividing.{IsDivided}
 use Rattle.recovery.specs.LogReading.{contents_of}
@@ -53,14 +54,11 @@ module _ (contents : Contents) (found : Opened) (generation : ℕ) (same : found
   pub is_there : is_sealed content ≡ true
   is_there = sealed layout found.checkpoint content checkpoint
 
-  pub same_stripes : (k : Checkpoint) → IsCheckpointIn k content → k.stripes ≡ found.checkpoint.stripes
-  same_stripes k is = ap (λ (c : Checkpoint). c.stripes) (one_checkpoint layout room k found.checkpoint content is checkpoint)
+  pub same_stripes : (head : Head) → HasFields head content → head.stripes ≡ found.checkpoint.stripes
+  same_stripes head fields = fields.stripes ∙ has_stripes layout found.checkpoint content checkpoint
 
-  pub is_loadable : (refusal : Refusal) → IsUnloadable (generation % 2) content refusal → ⊥
-  is_loadable refusal (inl head) =
-      let none : head_fault (generation % 2) content ≡ None =
-      has_head layout found.checkpoint content checkpoint (read_for (version_in content)) (generation % 2) (ap (λ (n : ℕ). n % 2) same) in absurd (cc)
-  is_loadable refusal (inr bad) = never_bad layout room (generation % 2) content found.checkpoint refusal checkpoint bad.2
+  pub has_no_fault : head_fault (generation % 2) content ≡ None
+  has_no_fault = has_head layout found.checkpoint content checkpoint (read_for (version_in content)) (generation % 2) (ap (λ (n : ℕ). n % 2) same)
 
 -- ---- looking on
 

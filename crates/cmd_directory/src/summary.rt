@@ -10,12 +10,13 @@ ghost use Rattle.recovery.specs.Opening.{IsNotOpened};
 ghost use Rattle.cmd_directory.specs.Directory.{IsCounted, IsSummed, summary_text};
 
 use atomic_methods::Part;
-use checkpoint_file::load;
+use checkpoint_file::read_head;
 use disk_model::Disk;
 use java_hash::StripeCount;
 use map_types::Refusal;
-use recovery::open_parts;
+use recovery::open_parts_with;
 use std::alloc::{AllocError, Global};
+use std::thread::Threads;
 
 /// The numbers of a directory.
 #[derive(Clone, Copy, Debug, PartialEq, Eq)]
@@ -77,11 +78,15 @@ fn sixteen() -> StripeCount
 }
 
 // Opens the disk, and counts what it stands for. The map is given up.
-fn count<D: Disk>(alloc: Global, disk: D) -> Result<(D, Counts), (D, Refusal)>
+fn count<R: Threads + Sync, D: Disk>(
+    rt: &R,
+    alloc: Global,
+    disk: D,
+) -> Result<(D, Counts), (D, Refusal)>
     ensures ok { IfOk result (λ x. IsCounted D.states D.failures D.honest disk x.0 x.1) }
     ensures err { IfErr result (λ x. IsNotOpened D.states D.failures D.honest disk x.0 x.1) }
 {
-    match open_parts(alloc, disk, sixteen()) {
+    match open_parts_with(rt, alloc, disk, sixteen()) {
         Ok((keeper, parts, prefix, _limit)) => {
             let counts = Counts {
                 generation: keeper.sealed,
@@ -96,7 +101,7 @@ fn count<D: Disk>(alloc: Global, disk: D) -> Result<(D, Counts), (D, Refusal)>
 }
 
 // The number of stripes of the checkpoint of this generation.
-fn stripes_of<D: Disk>(alloc: Global, disk: &mut D, generation: u64) -> Result<usize, Refusal>
+fn stripes_of<D: Disk>(disk: &mut D, generation: u64) -> Result<usize, Refusal>
     ensures looks { Looks D.states D.failures D.honest (failed_in result) disk.old disk.new }
     ensures ok { D.honest disk.new → (found : Opened) → found.checkpoint.generation ≡ generation
         → Holds (contents_of D.states disk.old) found
@@ -107,19 +112,23 @@ fn stripes_of<D: Disk>(alloc: Global, disk: &mut D, generation: u64) -> Result<u
     ensures listed { IfErr result AreFilesRefused }
 {
     let file = (generation % 2) as usize;
-    match load(alloc, disk, file)? {
-        Some(loaded) => Ok(loaded.stripes.get()),
+    match read_head(disk, file)? {
+        Some(head) => Ok(usize::from(head.stripes)),
         None => Err(Refusal::NotFormatted),
     }
 }
 
 /// Opens the disk, and sums up what it stands for. It writes nothing. The disk is handed back.
-pub fn summarize<D: Disk>(alloc: Global, disk: D) -> Result<(D, Summary), (D, Refusal)>
+pub fn summarize<R: Threads + Sync, D: Disk>(
+    rt: &R,
+    alloc: Global,
+    disk: D,
+) -> Result<(D, Summary), (D, Refusal)>
     ensures ok { IfOk result (λ x. IsSummed D.states D.failures D.honest disk x.0 x.1) }
     ensures err { IfErr result (λ x. IsNotOpened D.states D.failures D.honest disk x.0 x.1) }
 {
-    let (mut disk, counts) = count(alloc, disk)?;
-    match stripes_of(alloc, &mut disk, counts.generation) {
+    let (mut disk, counts) = count(rt, alloc, disk)?;
+    match stripes_of(&mut disk, counts.generation) {
         Ok(stripes) => Ok((
             disk,
             Summary {

@@ -1,5 +1,7 @@
 mod DividingLemmas
 mod GroupingLemmas
+mod LaneLemmas
+mod Crosses
 mod CountingLemmas
 mod PrefixLemmas
 mod ReplayLemmas
