@@ -4,7 +4,7 @@
 It serves the map of `harness.plain`, in memory, to any number of connections, at a port that the system chooses or at a
 Unix socket. It prints `listening PORT` or `listening PATH`. A RULE is `METHOD KEY ACTION [N]` in the words of a shell,
 such as `merge a drop`.
-It holds for the first request of this method and key, and then no more:
+It holds for the first request of this method and key, and then no more; for a method of the whole map, KEY may be any:
 
     drop      makes the change; ends the connection without a reply
     reset     the same, and what was under way is lost too
@@ -49,7 +49,8 @@ class StandIn:
         self.rules = {}
         for rule in rules:
             method, key, action, *count = shlex.split(rule)
-            self.rules[Method[method], key] = action, int(count[0]) if count else 0
+            named = Method[method], None if Method[method] in plain.WHOLE_MAP else key
+            self.rules[named] = action, int(count[0]) if count else 0
         self.journal = open(journal, "a", encoding="ascii") if journal else None
 
     def note(self, kind, number, frame):

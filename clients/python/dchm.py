@@ -22,6 +22,7 @@ No change is ever sent twice.
 from __future__ import annotations
 
 import contextlib
+import enum
 import os
 import socket
 import threading
@@ -32,7 +33,21 @@ from typing import Any, Union
 Value = Union[int, str]
 Address = Union[int, str, "os.PathLike[str]"]
 
-CONST, DROP, KEEP, SUM, MAX, MIN, CONCAT, SUM_NONZERO, SUM_EXACT = range(1, 10)
+
+class Function(enum.IntEnum):
+    """The functions that the server has by name. Each stands in this module too, such as dchm.SUM."""
+    CONST = 1
+    DROP = 2
+    KEEP = 3
+    SUM = 4
+    MAX = 5
+    MIN = 6
+    CONCAT = 7
+    SUM_NONZERO = 8
+    SUM_EXACT = 9
+
+
+CONST, DROP, KEEP, SUM, MAX, MIN, CONCAT, SUM_NONZERO, SUM_EXACT = tuple(Function)
 GET, GET_OR_DEFAULT, CONTAINS_KEY = 1, 2, 3
 PUT, PUT_IF_ABSENT, REMOVE, REMOVE_IF, REPLACE, REPLACE_IF = 16, 17, 18, 19, 20, 21
 COMPUTE, COMPUTE_IF_ABSENT, COMPUTE_IF_PRESENT, MERGE = 22, 23, 24, 25
@@ -149,11 +164,17 @@ def _key_bytes(key: str) -> bytes:
 def _value_bytes(value: Value | None) -> bytes:
     if value is None:
         return b"\0"
-    if isinstance(value, int) and not isinstance(value, bool):
+    if isinstance(value, int) and not isinstance(value, (bool, Function)):
         return b"\1" + value.to_bytes(8, "big", signed=True)
     if not isinstance(value, str):
         raise TypeError(f"a value is an int or a str, not {type(value).__name__}")
     return b"\2" + _text_bytes(value, TEXT_LIMIT)
+
+
+def _function_bytes(function: Function) -> bytes:
+    if not isinstance(function, Function):
+        raise TypeError(f"a function is one such as dchm.SUM, not {function!r}")
+    return bytes([function])
 
 
 def _needed(value: Value) -> bytes:
@@ -167,10 +188,14 @@ def _frame(*parts: bytes) -> bytes:
     return len(body).to_bytes(2, "big") + body
 
 
-def request(method: int, key: str, *values: Value | None, function: int | None = None) -> bytes:
-    """The frame of a request of a key. A value of None is sent as absent."""
-    named = b"" if function is None else bytes([function])
-    return _frame(bytes([method]), _key_bytes(key), named, *map(_value_bytes, values))
+def request(method: int, key: str, *values: Value | None) -> bytes:
+    """The frame of a request of a key that takes no function. A value of None is sent as absent."""
+    return _frame(bytes([method]), _key_bytes(key), *map(_value_bytes, values))
+
+
+def function_request(method: int, key: str, function: Function, value: Value | None) -> bytes:
+    """The frame of a request of a key with a function. A value of None is sent as absent."""
+    return _frame(bytes([method]), _key_bytes(key), _function_bytes(function), _value_bytes(value))
 
 
 def count_request() -> bytes:
@@ -178,9 +203,9 @@ def count_request() -> bytes:
     return _frame(bytes([COUNT]))
 
 
-def reduce_request(function: int, threshold: int) -> bytes:
+def reduce_request(function: Function, threshold: int) -> bytes:
     """The frame of a request to fold the whole map."""
-    return _frame(bytes([REDUCE, function]), threshold.to_bytes(8, "big"))
+    return _frame(bytes([REDUCE]), _function_bytes(function), threshold.to_bytes(8, "big"))
 
 
 def search_request(value: Value, threshold: int) -> bytes:
@@ -188,11 +213,13 @@ def search_request(value: Value, threshold: int) -> bytes:
     return _frame(bytes([SEARCH]), threshold.to_bytes(8, "big"), _needed(value))
 
 
-def _change(method: int, key: str, *values: Value, function: int | None = None) -> bytes:
+def _change(method: int, key: str, *values: Value) -> bytes:
     """The frame of a request that needs its values."""
-    for value in values:
-        _needed(value)
-    return request(method, key, *values, function=function)
+    return _frame(bytes([method]), _key_bytes(key), *map(_needed, values))
+
+
+def _merge(key: str, function: Function, value: Value) -> bytes:
+    return _frame(bytes([MERGE]), _key_bytes(key), _function_bytes(function), _needed(value))
 
 
 def may_change(frame: bytes) -> bool:
@@ -236,7 +263,7 @@ def result(frame: bytes, body: bytes) -> Any:
         return value
     if status == 2 and value in (0, 1):
         return value == 1
-    if status == 3 and value in _FAULTS:
+    if status == 3 and isinstance(value, int) and value in _FAULTS:
         return _FAULTS[value](f"fault {value}")
     if status == _FAILED and value is None:
         return lost(frame, "refused 9 Failed: the store has failed; the server has to be restarted")
@@ -299,27 +326,27 @@ class Calls:
         """
         return self._call(_change(REPLACE_IF, key, old, new))
 
-    def compute(self, key: str, function: int, argument: Value | None = None) -> Value | None:
+    def compute(self, key: str, function: Function, argument: Value | None = None) -> Value | None:
         """Maps a key to what the function gives of the old value and the argument; returns the new value."""
-        return self._call(request(COMPUTE, key, argument, function=function))
+        return self._call(function_request(COMPUTE, key, function, argument))
 
-    def compute_if_absent(self, key: str, function: int, argument: Value | None = None) -> Value | None:
+    def compute_if_absent(self, key: str, function: Function, argument: Value | None = None) -> Value | None:
         """As compute, if the key has no value; returns the value that it has now."""
-        return self._call(request(COMPUTE_IF_ABSENT, key, argument, function=function))
+        return self._call(function_request(COMPUTE_IF_ABSENT, key, function, argument))
 
-    def compute_if_present(self, key: str, function: int, argument: Value | None = None) -> Value | None:
+    def compute_if_present(self, key: str, function: Function, argument: Value | None = None) -> Value | None:
         """As compute, if the key has a value; returns the value that it has now."""
-        return self._call(request(COMPUTE_IF_PRESENT, key, argument, function=function))
+        return self._call(function_request(COMPUTE_IF_PRESENT, key, function, argument))
 
-    def merge(self, key: str, function: int, value: Value) -> Value | None:
+    def merge(self, key: str, function: Function, value: Value) -> Value | None:
         """Maps a key to the function of the old value and this one, or to this one; returns the new value."""
-        return self._call(_change(MERGE, key, value, function=function))
+        return self._call(_merge(key, function, value))
 
     def count(self) -> int:
         """How many keys have a value. The server copies its whole map for it."""
         return self._call(count_request())
 
-    def reduce(self, function: int, threshold: int = 0) -> int | None:
+    def reduce(self, function: Function, threshold: int = 0) -> int | None:
         """All values folded by SUM, MAX or MIN, or None of an empty map. It costs as much as count."""
         return self._call(reduce_request(function, threshold))
 
@@ -373,13 +400,14 @@ class Client(Calls):
     # -- connecting
 
     def _opened(self) -> socket.socket:
-        is_port = isinstance(self.address, int)
-        opened = socket.socket(socket.AF_INET if is_port else socket.AF_UNIX)
+        opened = socket.socket(socket.AF_INET if isinstance(self.address, int) else socket.AF_UNIX)
         try:
             opened.settimeout(self.connect_timeout)
-            opened.connect((_HOST, self.address) if is_port else os.fspath(self.address))
-            if is_port:
+            if isinstance(self.address, int):
+                opened.connect((_HOST, self.address))
                 opened.setsockopt(socket.IPPROTO_TCP, socket.TCP_NODELAY, 1)
+            else:
+                opened.connect(os.fspath(self.address))
         except BaseException:
             opened.close()
             raise
@@ -464,6 +492,7 @@ class Client(Calls):
             self._end()
         if not self._socket:
             self._connect()
+        assert self._socket
         results: list[Any] = []
         try:
             self._last_use = time.monotonic()

@@ -13,10 +13,11 @@ import collections
 import contextlib
 import os
 import socket
+from collections.abc import Callable
 from typing import Any
 
 import dchm
-from dchm import Address, Value
+from dchm import Address, Function, Value
 
 
 class _Connection:
@@ -164,8 +165,11 @@ class AsyncClient:
 
     async def _call(self, frame: bytes) -> Any:
         async with self._room:
-            # Nothing is awaited between the look at the connection and the sending.
-            return await (await self._current()).send(frame)
+            connection = await self._current()
+            # Nothing is awaited between this look at the connection and the sending.
+            if connection.broken:
+                raise dchm.NotMade(f"the connection ended before it was sent: {connection.broken!r}")
+            return await connection.send(frame)
 
     async def get(self, key: str) -> Value | None:
         """The value of a key, or None."""
@@ -203,33 +207,49 @@ class AsyncClient:
         """Maps a key to another value if it has the old one; returns whether it was done."""
         return await self._call(dchm._change(dchm.REPLACE_IF, key, old, new))
 
-    async def compute(self, key: str, function: int, argument: Value | None = None) -> Value | None:
+    async def compute(self, key: str, function: Function, argument: Value | None = None) -> Value | None:
         """Maps a key to what the function gives of the old value and the argument; returns the new value."""
-        return await self._call(dchm.request(dchm.COMPUTE, key, argument, function=function))
+        return await self._call(dchm.function_request(dchm.COMPUTE, key, function, argument))
 
-    async def compute_if_absent(self, key: str, function: int, argument: Value | None = None) -> Value | None:
+    async def compute_if_absent(self, key: str, function: Function, argument: Value | None = None) -> Value | None:
         """As compute, if the key has no value; returns the value that it has now."""
-        return await self._call(dchm.request(dchm.COMPUTE_IF_ABSENT, key, argument, function=function))
+        return await self._call(dchm.function_request(dchm.COMPUTE_IF_ABSENT, key, function, argument))
 
-    async def compute_if_present(self, key: str, function: int, argument: Value | None = None) -> Value | None:
+    async def compute_if_present(self, key: str, function: Function, argument: Value | None = None) -> Value | None:
         """As compute, if the key has a value; returns the value that it has now."""
-        return await self._call(dchm.request(dchm.COMPUTE_IF_PRESENT, key, argument, function=function))
+        return await self._call(dchm.function_request(dchm.COMPUTE_IF_PRESENT, key, function, argument))
 
-    async def merge(self, key: str, function: int, value: Value) -> Value | None:
+    async def merge(self, key: str, function: Function, value: Value) -> Value | None:
         """Maps a key to the function of the old value and this one, or to this one; returns the new value."""
-        return await self._call(dchm._change(dchm.MERGE, key, value, function=function))
+        return await self._call(dchm._merge(key, function, value))
 
     async def count(self) -> int:
         """How many keys have a value. The server copies its whole map for it, and what follows waits."""
         return await self._call(dchm.count_request())
 
-    async def reduce(self, function: int, threshold: int = 0) -> int | None:
+    async def reduce(self, function: Function, threshold: int = 0) -> int | None:
         """All values folded by SUM, MAX or MIN, or None of an empty map. It costs as much as count."""
         return await self._call(dchm.reduce_request(function, threshold))
 
     async def search(self, value: Value, threshold: int = 0) -> str | None:
         """The least key, by its bytes, with this value, or None. It costs as much as count."""
         return await self._call(dchm.search_request(value, threshold))
+
+    async def update(self, key: str, function: Callable[[Value | None], Value | None]) -> Value | None:
+        """Maps a key to function(value or None); None unmaps it. Returns the new value.
+
+        A Get and a conditional change, again and again until no other change comes between: the function may be called
+        more than once. It ends with OutcomeOpen if one of its changes does.
+        """
+        while True:
+            old = await self.get(key)
+            new = function(old)
+            if old is None:
+                is_done = new is None or await self.put_if_absent(key, new) is None
+            else:
+                is_done = await (self.remove_if(key, old) if new is None else self.replace_if(key, old, new))
+            if is_done:
+                return new
 
     async def close(self) -> None:
         """Ends the connection; what is under way is told. A later call opens another."""

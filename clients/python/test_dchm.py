@@ -99,7 +99,7 @@ def stand_in(*rules, unix=False):
 
 
 def sum_frame(key):
-    return dchm.request(dchm.MERGE, key, 1, function=dchm.SUM)
+    return dchm.function_request(dchm.MERGE, key, dchm.SUM, 1)
 
 
 def rows():
@@ -123,9 +123,17 @@ def name_of(method):
     return "contains" if name == "contains_key" else name
 
 
+def request_of(body):
+    """The method, the key and the arguments of a request, as the clients take them."""
+    method, key, arguments = plain.request_of(body)
+    if method in (*plain.COMPUTE, plain.Method.merge, plain.Method.reduce):
+        arguments = (dchm.Function(arguments[0]), *arguments[1:])
+    return method, key, arguments
+
+
 def call_of(server, body):
     """What the public methods make of a request."""
-    method, key, arguments = plain.request_of(body)
+    method, key, arguments = request_of(body)
     if key is not None:
         return getattr(server, name_of(method))(key, *arguments)
     if method == dchm.COUNT:
@@ -237,6 +245,12 @@ class Methods(unittest.TestCase):
                           (None, TypeError), (b"a", TypeError)):
             self.assertRaises(kind, s.put, key, 1)
             self.assertRaises(kind, s.get, key)
+        # Java has the arguments of merge in the other order.
+        for function, value in ((1, dchm.SUM), (4, 1), (None, 1), ("SUM", 1), (dchm.SUM, dchm.SUM)):
+            self.assertRaises(TypeError, s.merge, "a", function, value)
+            self.assertRaises(TypeError, s.compute, "a", function, value)
+        self.assertRaises(TypeError, s.reduce, 4)
+        self.assertRaises(TypeError, s.put, "a", dchm.SUM)
         self.assertEqual(s.count(), 0)
 
     def test_refusals_and_faults_are_exceptions(self):
@@ -428,7 +442,7 @@ class Async(unittest.IsolatedAsyncioTestCase):
                 self.assertEqual(await s.reduce(dchm.SUM), 2**63 - 2)
 
     async def play(self, there, s, request, reply):
-        method, key, arguments = plain.request_of(request[2:])
+        method, key, arguments = request_of(request[2:])
         try:
             found = await getattr(s, name_of(method))(key, *arguments)
         except dchm.DchmError as error:
@@ -466,6 +480,31 @@ class Async(unittest.IsolatedAsyncioTestCase):
                     # The connection of a failed store ends by itself.
                     self.assertTrue(await self.answers(s), f"behind {key} the client never answers again")
                     self.assertEqual(there.received(sum_frame(key)), 1)
+
+    async def test_a_connection_that_ends_as_soon_as_it_is_open_leaves_no_call_waiting(self):
+        with stand_in() as there:
+            async with await dchm_async.connect(there.address, **PATIENT) as s:
+                await s.close()
+                opened = s._opened
+
+                async def ended():
+                    connection = await opened()
+                    connection.end(ConnectionError("it broke"))
+                    return connection
+                s._opened = ended
+                with self.assertRaises(dchm.NotMade):
+                    await asyncio.wait_for(s.put("a", 1), LONG)
+                s._opened = opened
+                self.assertIsNone(await s.put("a", 2))
+                self.assertEqual(there.received(dchm.request(dchm.PUT, "a", 1)), 0)
+
+    async def test_updates_of_many_tasks_count_exactly(self):
+        with real() as port:
+            async with await dchm_async.connect(port, **PATIENT) as s:
+                await asyncio.gather(*(s.update("a", lambda number: (number or 0) + 1) for _ in range(20)))
+                self.assertEqual(await s.get("a"), 20)
+                self.assertIsNone(await s.update("a", lambda number: None))
+                self.assertIs(await s.contains("a"), False)
 
     async def answers(self, s):
         for _ in range(MOST_TURNS):

@@ -27,7 +27,7 @@ public final class AsyncDchmMap<V> {
     }
 
     private <T> CompletableFuture<T> ask(byte[] key, byte[] frame, Function<Wire.Reply, T> result) {
-        Function<Wire.Reply, T> told = reply -> result.apply(DchmClient.checked(reply, frame));
+        Function<Wire.Reply, T> told = reply -> result.apply(Told.checked(reply, frame));
         Executor callbacks = client.callbacks();
         CompletableFuture<Wire.Reply> call = client.send(key, frame);
         return callbacks == null ? call.thenApply(told) : call.thenApplyAsync(told, callbacks);

@@ -7,7 +7,8 @@ import java.net.UnixDomainSocketAddress;
 import java.nio.file.Path;
 import java.time.Duration;
 import java.util.Arrays;
-import java.util.concurrent.CompletableFuture;
+import java.util.Set;
+import java.util.concurrent.ConcurrentHashMap;
 import java.util.concurrent.Executor;
 
 /**
@@ -21,10 +22,16 @@ public final class DchmClient implements AutoCloseable {
     private static final int MOST_TURNS = 8;
     private final Builder options;
     private final Lane[] lanes;
+    /** The connections of calls of the whole map that are under way. */
+    private final Set<Connection> wholeMap = ConcurrentHashMap.newKeySet();
     private volatile boolean isClosed;
 
-    /** How a client is to be. Each method changes one thing and returns the builder. */
+    /**
+     * How a client is to be. Each method changes one thing and returns the builder. A client that is connected keeps the
+     * options that it was connected with. A time above 100 years counts as 100 years.
+     */
     public static final class Builder {
+        private static final Duration LONGEST = Duration.ofDays(36_500);
         private final SocketAddress address;
         private int connections = 1;
         private int inFlight = 256;
@@ -39,6 +46,19 @@ public final class DchmClient implements AutoCloseable {
             this.address = address;
         }
 
+        /** The same options, of which a later change of the other builder changes nothing. */
+        private Builder(Builder other) {
+            address = other.address;
+            connections = other.connections;
+            inFlight = other.inFlight;
+            connectTimeout = other.connectTimeout;
+            timeout = other.timeout;
+            wholeMapTimeout = other.wholeMapTimeout;
+            idle = other.idle;
+            hasReadLane = other.hasReadLane;
+            callbacks = other.callbacks;
+        }
+
         private static int positive(int number) {
             if (number < 1) {
                 throw new IllegalArgumentException("at least 1, not " + number);
@@ -50,7 +70,7 @@ public final class DchmClient implements AutoCloseable {
             if (time.isZero() || time.isNegative()) {
                 throw new IllegalArgumentException("a time above 0, not " + time);
             }
-            return time;
+            return time.compareTo(LONGEST) > 0 ? LONGEST : time;
         }
 
         /**
@@ -185,8 +205,8 @@ public final class DchmClient implements AutoCloseable {
         }
     }
 
-    private DchmClient(Builder options) {
-        this.options = options;
+    private DchmClient(Builder chosen) {
+        options = new Builder(chosen);
         lanes = new Lane[options.hasReadLane ? 2 * options.connections : options.connections];
         Arrays.setAll(lanes, number -> new Lane());
     }
@@ -283,6 +303,7 @@ public final class DchmClient implements AutoCloseable {
         for (Lane lane : lanes) {
             lane.end();
         }
+        wholeMap.forEach(connection -> connection.fail(new IOException("the client was closed")));
     }
 
     private void refuseIfClosed() {
@@ -333,7 +354,7 @@ public final class DchmClient implements AutoCloseable {
     }
 
     /** Sends a request of a key, for which nobody waits. */
-    CompletableFuture<Wire.Reply> send(byte[] key, byte[] frame) {
+    Call send(byte[] key, byte[] frame) {
         return send(key, frame, false).call;
     }
 
@@ -344,13 +365,13 @@ public final class DchmClient implements AutoCloseable {
         long due = System.nanoTime() + options.timeout.toNanos();
         Sent sent = send(key, frame, true);
         try {
-            return checked(sent.reply(), frame);
+            return Told.checked(sent.reply(), frame);
         } catch (NotMadeException error) {
             boolean wasLost = sent.call.wasQueued() && sent.call.isCompletedExceptionally();
             if (Wire.isChange(frame) || !wasLost || System.nanoTime() - due >= 0) {
                 throw error;
             }
-            return checked(send(key, frame, true).reply(), frame);
+            return Told.checked(send(key, frame, true).reply(), frame);
         }
     }
 
@@ -359,37 +380,16 @@ public final class DchmClient implements AutoCloseable {
         Connection.refuseOnReader();
         refuseIfClosed();
         Connection connection = options.open();
+        wholeMap.add(connection);
         try {
+            // From here on a client that is closed ends it.
+            refuseIfClosed();
             Call call = new Call(frame, options.wholeMapTimeout.toNanos(), true);
             connection.send(call);
-            return checked(connection.reply(call), frame);
+            return Told.checked(connection.reply(call), frame);
         } finally {
+            wholeMap.remove(connection);
             connection.fail(new IOException("the call is done"));
         }
-    }
-
-    /** The reply, if it is one of the method; else what it says as an exception. */
-    static Wire.Reply checked(Wire.Reply reply, byte[] frame) {
-        if (reply.status() < Wire.FAULT) {
-            return reply;
-        }
-        if (reply.status() == Wire.FAULT) {
-            throw fault(((Long) reply.value()).intValue());
-        }
-        int number = reply.status() - Wire.REFUSED;
-        if (number != Wire.FAILED) {
-            throw new RefusedException(number);
-        }
-        String message = "refused 9 Failed: the store has failed; the server has to be restarted";
-        throw Wire.isChange(frame) ? new OutcomeOpenException(message, null) : new NotMadeException(message, null);
-    }
-
-    private static RuntimeException fault(int number) {
-        return switch (number) {
-            case Wire.WRONG_KIND -> new ClassCastException("fault 1 WrongKind: the function doesn't take these values");
-            case Wire.TOO_LONG -> new IllegalArgumentException("fault 2 TooLong: the text would have more than "
-                + Wire.TEXT_LIMIT + " bytes");
-            default -> new ArithmeticException("fault 3 Overflow: long overflow");
-        };
     }
 }

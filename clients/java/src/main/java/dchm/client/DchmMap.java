@@ -7,8 +7,6 @@ import java.util.Map;
 import java.util.Objects;
 import java.util.OptionalLong;
 import java.util.Set;
-import java.util.concurrent.CompletableFuture;
-import java.util.concurrent.CompletionException;
 import java.util.concurrent.ConcurrentMap;
 import java.util.function.BiFunction;
 
@@ -18,8 +16,8 @@ import java.util.function.BiFunction;
  * <p>What a call throws, unless its own text says more:
  * <ul>
  * <li>NullPointerException if a key, a value or a function is null. Nothing was sent.
- * <li>IllegalArgumentException if a change names a key or a text that no server can hold. Nothing was sent. A read of
- *     such a key finds nothing.
+ * <li>IllegalArgumentException if a change names a key or a text that no server can hold. Nothing was sent. A read or
+ *     a removal of such a key finds nothing, and nothing is sent.
  * <li>ClassCastException if a value is of another class: write {@code 5L}, not {@code 5}. Nothing was sent. If the
  *     map's old or new value is of another class, the call was made, and its text says so.
  * <li>{@link RefusedException} if the server refused. Nothing changed.
@@ -251,18 +249,26 @@ public final class DchmMap<V> implements ConcurrentMap<String, V> {
      * Puts each entry, sent ahead. It is not one change: if it throws, each entry may have been put or not.
      *
      * @param entries the entries
+     * @throws OutcomeOpenException if the outcome of an entry is open, whatever came of the others
      */
     @Override
     public void putAll(Map<? extends String, ? extends V> entries) {
         Connection.refuseOnReader();
-        AsyncDchmMap<V> async = async();
-        List<CompletableFuture<?>> puts = new ArrayList<>();
-        entries.forEach((key, value) -> puts.add(async.put(key, value)));
-        try {
-            CompletableFuture.allOf(puts.toArray(new CompletableFuture<?>[0])).join();
-        } catch (CompletionException error) {
-            throw error.getCause() instanceof DchmException end ? end.here()
-                : error.getCause() instanceof RuntimeException other ? other : error;
+        List<Call> puts = new ArrayList<>();
+        entries.forEach((key, value) -> {
+            byte[] bytes = Wire.key(key);
+            puts.add(client.send(bytes, Wire.request(Wire.PUT, bytes, Wire.checked(kind, value))));
+        });
+        RuntimeException told = null;
+        for (Call put : puts) {
+            try {
+                Wire.told(kind, Told.checked(put.await(), put.frame).value());
+            } catch (RuntimeException error) {
+                told = told == null || error instanceof OutcomeOpenException ? error : told;
+            }
+        }
+        if (told != null) {
+            throw told;
         }
     }
 

@@ -6,6 +6,7 @@ import static org.junit.Assert.assertNull;
 import static org.junit.Assert.assertThrows;
 import static org.junit.Assert.assertTrue;
 
+import java.time.temporal.ChronoUnit;
 import java.util.ArrayList;
 import java.util.List;
 import java.util.Map;
@@ -13,6 +14,8 @@ import java.util.OptionalLong;
 import java.util.concurrent.CompletableFuture;
 import java.util.concurrent.CompletionException;
 import java.util.concurrent.ConcurrentHashMap;
+import java.util.concurrent.ExecutorService;
+import java.util.concurrent.Executors;
 import java.util.concurrent.ForkJoinPool;
 import org.junit.After;
 import org.junit.Before;
@@ -226,6 +229,18 @@ public final class MapTest {
     }
 
     @Test
+    public void a_client_keeps_the_options_that_it_was_connected_with() {
+        DchmClient.Builder options = server.options().timeout(ChronoUnit.FOREVER.getDuration());
+        try (DchmClient first = options.connect();
+             DchmClient second = options.connections(4).readLane(true).connect()) {
+            for (int i = 0; i < 25; i++) {
+                assertNull(first.longs().put("k" + i, (long) i));
+                assertEquals((long) i, (long) second.longs().get("k" + i));
+            }
+        }
+    }
+
+    @Test
     public void what_is_sent_ahead_is_answered_in_order_and_never_stalls() {
         try (DchmClient other = server.options().inFlight(4096).connect()) {
             AsyncDchmMap<String> texts = other.texts().async();
@@ -283,6 +298,15 @@ public final class MapTest {
         try (DchmClient other = server.options().callbacks(ForkJoinPool.commonPool()).connect()) {
             DchmMap<Long> longs = other.longs();
             assertEquals(1L, (long) longs.async().put("a", 1L).thenApply(old -> longs.get("a")).join());
+        }
+        // Nor does it wait for the executor's only thread, on which it runs.
+        ExecutorService alone = Executors.newSingleThreadExecutor();
+        try (DchmClient other = server.options().callbacks(alone).connect()) {
+            DchmMap<Long> longs = other.longs();
+            longs.async().put("b", 1L).thenAccept(old -> longs.putAll(Map.of("c", 2L, "d", 3L))).join();
+            assertEquals(3L, (long) longs.get("d"));
+        } finally {
+            alone.shutdown();
         }
     }
 

@@ -9,7 +9,9 @@ import static org.junit.Assert.assertTrue;
 import java.nio.file.Path;
 import java.time.Duration;
 import java.util.ArrayList;
+import java.util.LinkedHashMap;
 import java.util.List;
+import java.util.Map;
 import java.util.concurrent.Callable;
 import java.util.concurrent.CompletableFuture;
 import java.util.concurrent.CompletionException;
@@ -159,8 +161,30 @@ public final class OutcomeTest {
     @Test
     public void put_all_of_which_one_is_open_says_so() throws Exception {
         try (Server server = Server.standIn("put a drop"); DchmClient client = server.client()) {
-            assertThrows(OutcomeOpenException.class, () -> client.longs().putAll(java.util.Map.of("a", 1L)));
+            assertThrows(OutcomeOpenException.class, () -> client.longs().putAll(Map.of("a", 1L)));
             assertEquals(1, server.received(Wire.request(Wire.PUT, Wire.key("a"), 1L)));
+        }
+    }
+
+    @Test
+    public void put_all_says_that_an_entry_is_open_whatever_came_of_those_before() throws Exception {
+        Map<String, Long> entries = new LinkedHashMap<>();
+        List.of("a", "b", "c").forEach(key -> entries.put(key, 1L));
+        try (Server server = Server.standIn("put a full", "put b drop"); DchmClient client = server.client()) {
+            assertThrows(OutcomeOpenException.class, () -> client.longs().putAll(entries));
+            assertNull(client.longs().get("a"));
+            assertEquals(1L, (long) client.longs().get("b"));
+        }
+    }
+
+    @Test
+    public void a_call_of_the_whole_map_ends_with_its_client() throws Exception {
+        try (Server server = Server.standIn("count - stall"); DchmClient client = server.client()) {
+            CompletableFuture<Long> count = CompletableFuture.supplyAsync(client.longs()::mappingCount);
+            assertTrue("the request never comes", Server.waitUntil(() -> server.received(Wire.count()) > 0));
+            client.close();
+            Throwable told = assertThrows(CompletionException.class, count::join).getCause();
+            assertEquals(NotMadeException.class, told.getClass());
         }
     }
 

@@ -260,7 +260,7 @@ public final class PageTest {
             assertEquals(cells.get(0).substring(5), Wire.refusalName(number));
             Wire.Reply reply = Wire.reply(new byte[] {(byte) (number + Wire.REFUSED), 0});
             byte[] change = Wire.request(Wire.REMOVE, Wire.key("a"));
-            RuntimeException error = assertThrows(DchmException.class, () -> DchmClient.checked(reply, change));
+            RuntimeException error = assertThrows(DchmException.class, () -> Told.checked(reply, change));
             boolean isOpen = cells.get(3).contains("may have been made");
             assertEquals(isOpen ? OutcomeOpenException.class : RefusedException.class, error.getClass());
             assertEquals(cells.get(3).startsWith("yes"), error instanceof RefusedException refused && refused.mayTryAgain());
