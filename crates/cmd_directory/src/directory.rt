@@ -13,6 +13,7 @@ use recovery::format;
 use std::alloc::Global;
 use std::io;
 use std::io::Write;
+use std::thread::Threads;
 
 /// Says on `error` what was refused. If a call of the directory's files has failed, a record before it
 /// says which, and why.
@@ -71,7 +72,7 @@ pub fn init_disk<L: Log, D: Disk, W: Write, E: Write>(
 
 /// Opens the disk, of which `first_error` tells, and then prints what it stands for. The disk is handed
 /// back.
-pub fn check_disk<L: Log, D: Disk, W: Write, E: Write>(
+pub fn check_disk<L: Log + Threads + Sync, D: Disk, W: Write, E: Write>(
     rt: &L,
     alloc: Global,
     disk: D,
@@ -82,7 +83,7 @@ pub fn check_disk<L: Log, D: Disk, W: Write, E: Write>(
     ensures { Checks D.states D.failures D.honest disk result.0 (W.contents output.old)
         (W.contents output.new) result.1 }
 {
-    match summarize(alloc, disk) {
+    match summarize(rt, alloc, disk) {
         Ok((disk, summary)) => match summary.text(alloc) {
             Ok(text) => (disk, print(rt, text.as_str(), output, error)),
             Err(_) => (disk, refuse(alloc, Refusal::NoMemory, error)),
@@ -123,7 +124,7 @@ pub fn init<L: Log, M: Directories, W: Write, E: Write>(
 }
 
 /// Prints what the directory stands for. If the system refuses a call, a record has the cause.
-pub fn check<L: Log, M: Directories, W: Write, E: Write>(
+pub fn check<L: Log + Threads + Sync, M: Directories, W: Write, E: Write>(
     rt: &L,
     machine: &M,
     alloc: Global,

@@ -14,8 +14,9 @@ use checkpoint_file::read_head;
 use disk_model::Disk;
 use java_hash::StripeCount;
 use map_types::Refusal;
-use recovery::open_parts;
+use recovery::open_parts_with;
 use std::alloc::{AllocError, Global};
+use std::thread::Threads;
 
 /// The numbers of a directory.
 #[derive(Clone, Copy, Debug, PartialEq, Eq)]
@@ -77,11 +78,15 @@ fn sixteen() -> StripeCount
 }
 
 // Opens the disk, and counts what it stands for. The map is given up.
-fn count<D: Disk>(alloc: Global, disk: D) -> Result<(D, Counts), (D, Refusal)>
+fn count<R: Threads + Sync, D: Disk>(
+    rt: &R,
+    alloc: Global,
+    disk: D,
+) -> Result<(D, Counts), (D, Refusal)>
     ensures ok { IfOk result (λ x. IsCounted D.states D.failures D.honest disk x.0 x.1) }
     ensures err { IfErr result (λ x. IsNotOpened D.states D.failures D.honest disk x.0 x.1) }
 {
-    match open_parts(alloc, disk, sixteen()) {
+    match open_parts_with(rt, alloc, disk, sixteen()) {
         Ok((keeper, parts, prefix, _limit)) => {
             let counts = Counts {
                 generation: keeper.sealed,
@@ -114,11 +119,15 @@ fn stripes_of<D: Disk>(disk: &mut D, generation: u64) -> Result<usize, Refusal>
 }
 
 /// Opens the disk, and sums up what it stands for. It writes nothing. The disk is handed back.
-pub fn summarize<D: Disk>(alloc: Global, disk: D) -> Result<(D, Summary), (D, Refusal)>
+pub fn summarize<R: Threads + Sync, D: Disk>(
+    rt: &R,
+    alloc: Global,
+    disk: D,
+) -> Result<(D, Summary), (D, Refusal)>
     ensures ok { IfOk result (λ x. IsSummed D.states D.failures D.honest disk x.0 x.1) }
     ensures err { IfErr result (λ x. IsNotOpened D.states D.failures D.honest disk x.0 x.1) }
 {
-    let (mut disk, counts) = count(alloc, disk)?;
+    let (mut disk, counts) = count(rt, alloc, disk)?;
     match stripes_of(&mut disk, counts.generation) {
         Ok(stripes) => Ok((
             disk,

@@ -13,10 +13,11 @@ use java_hash::StripeCount;
 use log::{Log, info};
 use map_model::laws::laws_of_parts;
 use map_types::Refusal;
-use recovery::{open_parts, upgrade};
+use recovery::{open_parts_with, upgrade};
 use std::alloc::Global;
 use std::io::ErrorKind;
 use std::sync::Wait;
+use std::thread::Threads;
 use std::time::{Clock, Duration};
 use std::{io, thread};
 use store_layout::NEW_VERSION;
@@ -60,9 +61,9 @@ pub(crate) fn open_directory<M: Directories, R: Clock + Log + Wait>(
 /// The map of the directory, and how many commands it begins with. If the newest log is of an earlier
 /// version, the directory is upgraded, the log has a record of it, and the directory is opened again.
 /// Else it is opened once, which writes nothing.
-/// Refused as `open_parts` and `upgrade` are; or with `NoMemory`, or with `SeatsSpent` if the keeper's
+/// Refused as `open_parts_with` and `upgrade` are; or with `NoMemory`, or with `SeatsSpent` if the keeper's
 /// pass can't be had. The disk is handed back with a refusal.
-pub(crate) fn open_map<D: Disk + Drop, L: Log>(
+pub(crate) fn open_map<D: Disk + Drop, L: Log + Threads + Sync>(
     rt: &L,
     alloc: Global,
     disk: D,
@@ -82,7 +83,7 @@ pub(crate) fn open_map<D: Disk + Drop, L: Log>(
         ⊎ IsNotOpenedNewest D.states D.failures D.honest stripes.count disk x.0 x.1) }
 {
     laws_of_parts();
-    let (keeper, parts, first, limit) = open_parts(alloc, disk, stripes)?;
+    let (keeper, parts, first, limit) = open_parts_with(rt, alloc, disk, stripes)?;
     if keeper.log.version() == NEW_VERSION {
         let map = DurableMap::new(alloc, keeper, parts, first, limit)?;
         return Ok((map, first));
@@ -91,7 +92,7 @@ pub(crate) fn open_map<D: Disk + Drop, L: Log>(
     let upgraded = upgrade(alloc, keeper.into_disk(), stripes)?;
     let version = NEW_VERSION.byte();
     info!(rt; "upgraded to version {version}");
-    let (keeper, parts, first, limit) = open_parts(alloc, upgraded, stripes)?;
+    let (keeper, parts, first, limit) = open_parts_with(rt, alloc, upgraded, stripes)?;
     let map = DurableMap::new(alloc, keeper, parts, first, limit)?;
     Ok((map, first))
 }

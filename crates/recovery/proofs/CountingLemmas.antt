@@ -19,7 +19,7 @@ use Rattle.checkpoint_file.specs.Loads.{AreRising, sections_of}
 use Rattle.recovery.specs.declared.divided.Divided.{Divided}
 use Rattle.recovery.specs.declared.restoring.Restoring.{Restoring}
 use Rattle.recovery.specs.Counting.{counted_of, entries_in, greatest_of, marks_in}
-use Rattle.recovery.specs.Dividing.{IsDivided}
+use Rattle.recovery.specs.Lanes.{AreLanesOf}
 use Rattle.recovery.specs.Restoring.{HasMap, IsSameFrame}
 
 -- ---- marks
@@ -78,11 +78,9 @@ counted_push n marks (e ∷ entries) entry =
     ap (counted_or (is_counted n marks e) e.command) (counted_push n marks entries entry)
     ∙ sym (cond_append (is_counted n marks e) e.command (counted_of n marks entries) (counted_or (is_counted n marks entry) entry.command []))
 
-counted_next : (n : ℕ) (marks : List ℕ) (entries : List Entry) (i : ℕ) (entry : Entry) (b : Bool) → i < length entries → entry ≡ get_or entries i entry → is_counted n marks entry ≡ b
-    → counted_of n marks (take (i + 1) entries) ≡ counted_of n marks (take i entries) ++ counted_or b entry.command []
-counted_next n marks entries i entry b low is e =
-    ap (λ (l : List Entry). counted_of n marks l) (take_next entries i entry low is) ∙ counted_push n marks (take i entries) entry
-    ∙ ap (λ x. counted_of n marks (take i entries) ++ counted_or x entry.command []) e
+counted_next : (n : ℕ) (marks : List ℕ) (entries : List Entry) (entry : Entry) (b : Bool) → is_counted n marks entry ≡ b
+    → counted_of n marks (entries ++ entry ∷ []) ≡ counted_of n marks entries ++ counted_or b entry.command []
+counted_next n marks entries entry b e = counted_push n marks entries entry ∙ ap (λ x. counted_of n marks entries ++ counted_or x entry.command []) e
 
 -- the changes of consecutive tickets, as they count in the sections with these marks
 pub counted_is : (n : ℕ) (xs : List Section) (marks : List ℕ) (t : ℕ) (entries : List Entry) → map (λ (section : Section). section.mark) xs ≡ marks → AreFrom t entries
@@ -96,30 +94,30 @@ counted_is n xs marks t (e ∷ entries) same from =
 
 -- ---- one change more
 
-module _ (before mid : Restoring) (entries : List Entry) (i : ℕ) (entry : Entry) (low : i < length entries) (is : entry ≡ get_or entries i entry) (same : IsSameFrame before mid)
-    (so_far : (m : Map) → HasMap before m → HasMap mid (map_after m (counted_of before.of.count before.marks.items (take i entries)))) where
+module _ (before mid : Restoring) (entries : List Entry) (entry : Entry) (same : IsSameFrame before mid)
+    (so_far : (m : Map) → HasMap before m → HasMap mid (map_after m (counted_of before.of.count before.marks.items entries))) where
   counts_so : (b : Bool) → b ≡ nat_le (get_or mid.marks.items (stripe_of mid.of.count entry.command.key) 0) entry.ticket → is_counted before.of.count before.marks.items entry ≡ b
   counts_so b e =
       sym (e ∙ ap (λ marks. nat_le (get_or marks.items (stripe_of mid.of.count entry.command.key) 0) entry.ticket) same.marks
       ∙ ap (λ of. nat_le (get_or before.marks.items (stripe_of of.count entry.command.key) 0) entry.ticket) same.of)
 
-  -- it counts, and was made
-  pub made_one : (b : Bool) → b ≡ nat_le (get_or mid.marks.items (stripe_of mid.of.count entry.command.key) 0) entry.ticket → b ≡ true → (divided : Divided)
+  -- it counts, and is due
+  pub queued_one : (b : Bool) → b ≡ nat_le (get_or mid.marks.items (stripe_of mid.of.count entry.command.key) 0) entry.ticket → b ≡ true → (divided : Divided)
       → divided.stripes ≡ mid.divided.stripes
-      → ((m : Map) → IsDivided mid.divided.stripes.count m mid.divided.parts.items → IsDivided mid.divided.stripes.count (step m entry.command).map divided.parts.items)
-      → (m : Map) → HasMap before m → IsDivided divided.stripes.count (map_after m (counted_of before.of.count before.marks.items (take (i + 1) entries))) divided.parts.items
-  made_one b e counting divided stripes made m has =
-      let done = counted_of before.of.count before.marks.items (take i entries) in
-      let next : map_after m (counted_of before.of.count before.marks.items (take (i + 1) entries)) ≡ (step (map_after m done) entry.command).map =
-      ap (map_after m) (counted_next before.of.count before.marks.items entries i entry true low is (counts_so b e ∙ counting)) ∙ map_after-append m done (entry.command ∷ []) in
-      subst (λ (x : Map). IsDivided divided.stripes.count x divided.parts.items) (sym next)
-      (subst (λ s. IsDivided s.count (step (map_after m done) entry.command).map divided.parts.items) (sym stripes) (made (map_after m done) (so_far m has)))
+      → ((m : Map) → AreLanesOf mid.divided.stripes.count m mid.divided.lanes.items → AreLanesOf mid.divided.stripes.count (step m entry.command).map divided.lanes.items)
+      → (m : Map) → HasMap before m → AreLanesOf divided.stripes.count (map_after m (counted_of before.of.count before.marks.items (entries ++ entry ∷ []))) divided.lanes.items
+  queued_one b e counting divided stripes queued m has =
+      let done = counted_of before.of.count before.marks.items entries in
+      let next : map_after m (counted_of before.of.count before.marks.items (entries ++ entry ∷ [])) ≡ (step (map_after m done) entry.command).map =
+      ap (map_after m) (counted_next before.of.count before.marks.items entries entry true (counts_so b e ∙ counting)) ∙ map_after-append m done (entry.command ∷ []) in
+      subst (λ (x : Map). AreLanesOf divided.stripes.count x divided.lanes.items) (sym next)
+      (subst (λ s. AreLanesOf s.count (step (map_after m done) entry.command).map divided.lanes.items) (sym stripes) (queued (map_after m done) (so_far m has)))
 
   -- it is in a section
   pub passed_one : (b : Bool) → b ≡ nat_le (get_or mid.marks.items (stripe_of mid.of.count entry.command.key) 0) entry.ticket → b ≡ false
-      → (m : Map) → HasMap before m → HasMap mid (map_after m (counted_of before.of.count before.marks.items (take (i + 1) entries)))
+      → (m : Map) → HasMap before m → HasMap mid (map_after m (counted_of before.of.count before.marks.items (entries ++ entry ∷ [])))
   passed_one b e passing m has =
-      let done = counted_of before.of.count before.marks.items (take i entries) in
-      let next : map_after m (counted_of before.of.count before.marks.items (take (i + 1) entries)) ≡ map_after m done =
-      ap (map_after m) (counted_next before.of.count before.marks.items entries i entry false low is (counts_so b e ∙ passing)) ∙ map_after-append m done [] in
+      let done = counted_of before.of.count before.marks.items entries in
+      let next : map_after m (counted_of before.of.count before.marks.items (entries ++ entry ∷ [])) ≡ map_after m done =
+      ap (map_after m) (counted_next before.of.count before.marks.items entries entry false (counts_so b e ∙ passing)) ∙ map_after-append m done [] in
       subst (λ (x : Map). HasMap mid x) (sym next) (so_far m has)

@@ -2,7 +2,6 @@
 use Rattle.std.proofs.Common.{◌≡◌, ◌≢◌, ℕ, zero, suc, ◌+◌, ◌<◌, true, false, cond, None, List, [], ◌∷◌, ◌++◌, length, map, get_or, set, refl, sym, ap, ap₂, subst, ◌∙◌, arith, append_assoc}
 use Rattle.std.proofs.lemmas.Bool.{ne_eqb}
 use Rattle.std.proofs.lemmas.Bool.Decides.{nat_tests}
-use Rattle.std.proofs.Math.Seq.{map-set_same}
 use Rattle.std.proofs.lemmas.List.{map-set, get_or-map}
 use Rattle.std.proofs.lemmas.List.FromFn.{get_or-map-range_with_len}
 use Rattle.std.specs.List.{AllByRecursion, range_with_len}
@@ -21,7 +20,8 @@ use Rattle.atomic_methods.specs.PartState.{PartState}
 use Rattle.one_history.specs.OneHistory.{AreParts}
 use Rattle.one_history.specs.Turns.{maps_of}
 use Rattle.store_layout.proofs.NewStores.{no_entries}
-use Rattle.recovery.specs.Dividing.{IsDivided}
+use Rattle.recovery.specs.declared.lanes.Lane.{Lane}
+use Rattle.recovery.specs.Lanes.{AreLanesOf, IsLaid, IsLaidFor, promised}
 
 -- ---- lists
 
@@ -67,26 +67,31 @@ module _ (n : ℕ) (m : Map) (c : Command) where
       ap₂ (λ (x : Map) (xs : List Map). x ∷ xs) (same_part a (λ e. omega (arith, e, is, place))) (set_part (a + 1) k i j is (omega (arith, place)) (omega (arith, low)))
 
   -- the part of the key makes the change, and the others stay
-  pub maps_changed : (parts : List PartState) (i : ℕ) (d old new : PartState) → i ≡ stripe_of n c.key → i < n → length parts ≡ n → old ≡ get_or parts i d
-      → new.map ≡ (step old.map c).map → maps_of parts ≡ parts_of n m → maps_of (set parts i new) ≡ parts_of n (step m c).map
+  maps_changed : {V : Type 0} (f : V → Map) (parts : List V) (i : ℕ) (d old new : V) → i ≡ stripe_of n c.key → i < n → length parts ≡ n → old ≡ get_or parts i d
+      → f new ≡ (step (f old) c).map → map f parts ≡ parts_of n m → map f (set parts i new) ≡ parts_of n (step m c).map
   unfolding parts_from
-  maps_changed parts i d old new is within size there made maps =
+  maps_changed f parts i d old new is within size there made maps =
       let low : i < length parts = omega (arith, within, size) in
-      let here : old.map ≡ part_of n i m =
-      ap (λ (p : PartState). p.map) there ∙ sym (get_or-map (λ (p : PartState). p.map) parts i d finite.empty low)
+      let here : f old ≡ part_of n i m =
+      ap f there ∙ sym (get_or-map f parts i d finite.empty low)
       ∙ ap (λ (l : List Map). get_or l i finite.empty) maps ∙ get_or-map-range_with_len (λ s. part_of n s m) 0 n i i finite.empty within (omega arith) in
-      map-set (λ (p : PartState). p.map) parts i new
+      map-set f parts i new
       ∙ ap₂ (λ (l : List Map) (x : Map). set l i x) maps (made ∙ ap (λ (x : Map). (step x c).map) here)
       ∙ set_part 0 n i i (sym is) (omega arith) within
 
-  pub changed : (parts : List PartState) (i : ℕ) (d old new : PartState) → i ≡ stripe_of n c.key → i < n → length parts ≡ n → old ≡ get_or parts i d
-      → new.map ≡ (step old.map c).map → new.growth.stripes ≡ old.growth.stripes → IsDivided n m parts → IsDivided n (step m c).map (set parts i new)
-  changed parts i d old new is within size there made laid divided =
-      let low : i < length parts = omega (arith, within, size) in
+  -- a change is due in the lane of its key
+  pub lanes_changed : (lanes : List Lane) (i : ℕ) (d old new : Lane) → i ≡ stripe_of n c.key → i < n → length lanes ≡ n → old ≡ get_or lanes i d
+      → promised new ≡ (step (promised old) c).map → new.stripes ≡ old.stripes → new.content ≡ old.content → AreLanesOf n m lanes → AreLanesOf n (step m c).map (set lanes i new)
+  lanes_changed lanes i d old new is within size there made stripes content are =
+      let low : i < length lanes = omega (arith, within, size) in
       record {
-        maps = maps_changed parts i d old new is within size there made divided.maps;
-        laid = all_set (λ (p : PartState). p.growth.stripes ≡ n) parts i new divided.laid
-            (laid ∙ ap (λ (p : PartState). p.growth.stripes) there ∙ all_at (λ (p : PartState). p.growth.stripes ≡ n) parts i d divided.laid low);
+        maps = maps_changed promised lanes i d old new is within size there made are.maps;
+        laid = all_set (IsLaidFor n) lanes i new are.laid
+            (let before : IsLaidFor n old = subst (IsLaidFor n) (sym there) (all_at (IsLaidFor n) lanes i d are.laid low) in
+            record {
+              stripes_are = ap (λ s. s.count) stripes ∙ before.stripes_are;
+              laid = subst (IsLaid n) (sym content) before.laid;
+            });
       }
 
 -- ---- parts of the map that they make
@@ -94,18 +99,6 @@ module _ (n : ℕ) (m : Map) (c : Command) where
 module _ (law : PartsMakeTheMap) (n : ℕ) (some : 0 < n) where
   pub own_parts : (m : Map) (parts : List PartState) → maps_of parts ≡ parts_of n m → AreParts n parts
   own_parts m parts maps = maps ∙ ap (parts_of n) (sym (ap union_of maps ∙ law n m some))
-
-  -- the part of a key makes a change
-  pub own_changed : (c : Command) (parts : List PartState) (i : ℕ) (d old new : PartState) → i ≡ stripe_of n c.key → i < n → length parts ≡ n → old ≡ get_or parts i d
-      → new.map ≡ (step old.map c).map → AreParts n parts → AreParts n (set parts i new)
-  own_changed c parts i d old new is within size there made are =
-      own_parts _ (set parts i new) (maps_changed n (union_of (maps_of parts)) c parts i d old new is within size there made are)
-
--- one of them is replaced by one with the same map
-pub own_same : (n : ℕ) (parts : List PartState) (i : ℕ) (d old new : PartState) → old ≡ get_or parts i d → new.map ≡ old.map → AreParts n parts → AreParts n (set parts i new)
-own_same n parts i d old new there same are =
-    let maps : maps_of (set parts i new) ≡ maps_of parts = map-set_same (λ (p : PartState). p.map) parts i new d (same ∙ ap (λ (p : PartState). p.map) there) in
-    subst (λ (l : List Map). l ≡ parts_of n (union_of l)) (sym maps) are
 
 -- ---- the empty map
 

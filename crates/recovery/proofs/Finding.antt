@@ -19,7 +19,7 @@ use Rattle.gate_log.specs.States.{LogState, resumed}
 use Rattle.gate_log.specs.LogStates as log
 use Rattle.flusher.specs.Fitting.{IsFoundFor}
 use Rattle.flusher.specs.declared.keeper.Keeper.{Keeper}
-use Rattle.recovery.specs.declared.opening.Restored.{Restored}
+use Rattle.recovery.specs.declared.reading.Restored.{Restored}
 use Rattle.recovery.specs.LogReading.{GoesOnFrom, GoesOnIn, IsResumed}
 use Rattle.recovery.specs.Opening.{IsOpened, IsOpenedAs, OpensWith}
 

@@ -7,19 +7,19 @@ use Rattle.std.proofs.lemmas.Simd.{map-map}
 use Rattle.std.specs.List.{AllByRecursion, range_with_len}
 use Rattle.std.specs.Cmp.Lexicographic.{nat_list_cmp_total}
 use Rattle.std.specs.FinMap as finite
+use Rattle.std.specs.Option.{option_or}
 use Rattle.java_hash.specs.Stripes.{stripe_of}
 use Rattle.map_types.specs.declared.texts.Value.{Value}
 use Rattle.map_model.specs.Maps.{Map}
 use Rattle.map_model.specs.Parts.{part_of, parts_of, is_in_stripe}
-use Rattle.map_model.proofs.MapLaws.{ties, same_from_ties, get-part_of, assign-part_of, part_of-assign_other}
+use Rattle.map_model.proofs.MapLaws.{ties, same_from_ties, same_gets, get-part_of, assign-part_of, part_of-assign_other}
 use Rattle.bin_table.specs.Chains.{Entries, HasDistinctKeys, find_in}
 use Rattle.bin_table.proofs.SortLaws.{distinct_sorted}
-use Rattle.bin_table.proofs.TableLaws.{distinct-append}
+use Rattle.bin_table.proofs.TableLaws.{distinct-append, find-append}
 use Rattle.log_records.specs.Layout.{Layout}
 use Rattle.store_layout.specs.Checkpoints.{IsEntryOf, IsSection, AreSections}
 use Rattle.checkpoint_file.specs.declared.loading.LoadedSection.{LoadedSection}
-use Rattle.checkpoint_file.specs.Loads.{AreRising, IsRising, section_of, sections_of}
-use Rattle.atomic_methods.specs.PartState.{PartState}
+use Rattle.checkpoint_file.specs.Loads.{AreLoaded, AreRising, IsRising, section_of, sections_of}
 use Rattle.recovery.specs.Counting.{entries_in}
 use Rattle.recovery.specs.Dividing.{AreGroups, IsGroup}
 use Rattle.recovery.proofs.DividingLemmas.{no_part, nothing}
@@ -143,23 +143,20 @@ pub distinct_in : {V : Type 0} (items : V → Entries) (before behind : List V) 
 distinct_in items [] behind list all = all.0
 distinct_in items (x ∷ before) behind list all = distinct_in items before behind list all.1
 
-abbrev pub map_of_part : PartState → Map
-map_of_part part = part.map
-
-pub maps_push : {V : Type 0} (items : V → Entries) (parts : List PartState) (part : PartState) (lists : List V) (list : V)
-    → map map_of_part parts ≡ map (λ l. finite.from_entries (items l)) lists → part.map ≡ finite.from_entries (items list)
-    → map map_of_part (parts ++ part ∷ []) ≡ map (λ l. finite.from_entries (items l)) (lists ++ list ∷ [])
-maps_push items parts part lists list same here =
-    map-append map_of_part parts (part ∷ []) ∙ ap₂ (λ (xs : List Map) (x : Map). xs ++ x ∷ []) same here
+pub maps_push : {V P : Type 0} (map_in : P → Map) (items : V → Entries) (parts : List P) (part : P) (lists : List V) (list : V)
+    → map map_in parts ≡ map (λ l. finite.from_entries (items l)) lists → map_in part ≡ finite.from_entries (items list)
+    → map map_in (parts ++ part ∷ []) ≡ map (λ l. finite.from_entries (items l)) (lists ++ list ∷ [])
+maps_push map_in items parts part lists list same here =
+    map-append map_in parts (part ∷ []) ∙ ap₂ (λ (xs : List Map) (x : Map). xs ++ x ∷ []) same here
     ∙ sym (map-append (λ l. finite.from_entries (items l)) lists (list ∷ []))
 
 -- the parts that were made of all lists are those of the map
-pub made_of : {V : Type 0} (items : V → Entries) (n : ℕ) (m : Map) (parts : List PartState) (lists : List V)
-    → map map_of_part parts ≡ map (λ l. finite.from_entries (items l)) lists → AreGroups n m (map items lists) → map map_of_part parts ≡ parts_of n m
-made_of items n m parts lists same are = same ∙ sym (map-map finite.from_entries items lists) ∙ all_maps n m (map items lists) are
+pub made_of : {V P : Type 0} (map_in : P → Map) (items : V → Entries) (n : ℕ) (m : Map) (parts : List P) (lists : List V)
+    → map map_in parts ≡ map (λ l. finite.from_entries (items l)) lists → AreGroups n m (map items lists) → map map_in parts ≡ parts_of n m
+made_of map_in items n m parts lists same are = same ∙ sym (map-map finite.from_entries items lists) ∙ all_maps n m (map items lists) are
 
-pub many_made : (n : ℕ) (m : Map) (parts : List PartState) → map map_of_part parts ≡ parts_of n m → length parts ≡ n
-many_made n m parts maps = sym (length-map parts map_of_part) ∙ ap length maps ∙ length-map-range_with_len (λ s. part_of n s m) 0 n
+pub many_made : {P : Type 0} (map_in : P → Map) (n : ℕ) (m : Map) (parts : List P) → map map_in parts ≡ parts_of n m → length parts ≡ n
+many_made map_in n m parts maps = sym (length-map parts map_in) ∙ ap length maps ∙ length-map-range_with_len (λ s. part_of n s m) 0 n
 
 -- ---- entries behind others
 
@@ -212,3 +209,57 @@ distinct_entries layout n a (read ∷ reads) fit rising =
       at = λ q is. nowhere (λ k. a + 1 ≤ stripe_of n k) q (entries_in reads) (later_keys layout n (a + 1) reads fit.1 rising.1)
           (λ above. let here : stripe_of n q ≡ a = found (λ k. stripe_of n k ≡ a) q read.entries.items (section_keys layout n a read fit.0 rising.0) is in absurd (omega (arith, above, here)));
     })
+
+-- ---- sections that are groups as they stand
+
+abbrev entries_of : LoadedSection → Entries
+entries_of read = read.entries.items
+
+no_other : (o : Option Value) → option_or o None ≡ o
+no_other None = refl
+no_other (Some v) = refl
+
+found_within : (layout : Layout) (n a : ℕ) (reads : List LoadedSection) → AreSections layout n a (sections_of reads) → AreRising reads → (q : List ℕ) (i : ℕ) → i < length reads
+    → stripe_of n q ≡ a + i → find_in q (entries_in reads) ≡ find_in q (get_or (map entries_of reads) i [])
+found_within layout n a [] fit rising q i low own = absurd (omega (arith, low))
+found_within layout n a (read ∷ reads) fit rising q zero low own =
+    find-append q read.entries.items (entries_in reads)
+    ∙ ap (option_or (find_in q read.entries.items)) (nowhere (λ k. a + 1 ≤ stripe_of n k) q (entries_in reads) (later_keys layout n (a + 1) reads fit.1 rising.1) (λ above. omega (arith, above, own)))
+    ∙ no_other (find_in q read.entries.items)
+found_within layout n a (read ∷ reads) fit rising q (suc i) low own =
+    find-append q read.entries.items (entries_in reads)
+    ∙ ap (λ o. option_or o (find_in q (entries_in reads))) (nowhere (λ k. stripe_of n k ≡ a) q read.entries.items (section_keys layout n a read fit.0 rising.0) (λ here. omega (arith, here, own)))
+    ∙ found_within layout n (a + 1) reads fit.1 rising.1 q i (omega (arith, low)) (omega (arith, own))
+
+keys_at : (layout : Layout) (n a : ℕ) (reads : List LoadedSection) → AreSections layout n a (sections_of reads) → AreRising reads → (i : ℕ) → i < length reads
+    → HasDistinctKeys (get_or (map entries_of reads) i []) × AllByRecursion (λ (e : List ℕ × Value). stripe_of n e.0 ≡ a + i) (get_or (map entries_of reads) i [])
+keys_at layout n a [] fit rising i low = absurd (omega (arith, low))
+keys_at layout n a (read ∷ reads) fit rising zero low =
+    (rising_distinct read rising.0, all_weaken (λ (e : List ℕ × Value). stripe_of n e.0 ≡ a) _ read.entries.items (λ e is. omega (arith, is)) (section_keys layout n a read fit.0 rising.0))
+keys_at layout n a (read ∷ reads) fit rising (suc i) low =
+    let rest = keys_at layout n (a + 1) reads fit.1 rising.1 i (omega (arith, low)) in
+    (rest.0, all_weaken (λ (e : List ℕ × Value). stripe_of n e.0 ≡ a + 1 + i) _ _ (λ e is. omega (arith, is)) rest.1)
+
+-- with as many stripes each section is the list of its stripe
+pub groups_as_they_stand : (layout : Layout) (n : ℕ) (reads : List LoadedSection) → AreLoaded layout n reads → length reads ≡ n → AreGroups n (finite.from_entries (entries_in reads)) (map entries_of reads)
+groups_as_they_stand layout n reads loaded size = record {
+  one_each = length-map reads entries_of ∙ size;
+  each = λ s within.
+      let low : s < length reads = omega (arith, within, size) in
+      let keys = keys_at layout n 0 reads loaded.fit loaded.rising s low in
+      let m : Map = finite.from_entries (entries_in reads) in
+      let group : Entries = get_or (map entries_of reads) s [] in
+      record {
+        distinct = keys.0;
+        same = same_gets _ _ (λ q.
+            finite.get-from_entries nat_list_cmp_total group q
+            ∙ elim (is_in_stripe n s q) as (λ b. is_in_stripe n s q ≡ b → find_in q group ≡ cond b (finite.get m q) None) [
+              | true ↦ λ own.
+                  let is : stripe_of n q ≡ 0 + s = grind (arith, nat_tests) in
+                  sym (finite.get-from_entries nat_list_cmp_total (entries_in reads) q ∙ found_within layout n 0 reads loaded.fit loaded.rising q s low is)
+              | false ↦ λ other.
+                  nowhere (λ k. stripe_of n k ≡ 0 + s) q group keys.1 (λ is. let e : stripe_of n q ≡ s = omega (arith, is) in grind (arith, nat_tests))
+            ] refl
+            ∙ sym (get-part_of n s m q));
+      };
+}

@@ -1,5 +1,6 @@
 mod DividingLemmas
 mod GroupingLemmas
+mod LaneLemmas
 mod CountingLemmas
 mod PrefixLemmas
 mod ReplayLemmas

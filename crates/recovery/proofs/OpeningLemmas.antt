@@ -16,7 +16,7 @@ use Rattle.checkpoint_file.specs.declared.loading.LoadedCheckpoint.{LoadedCheckp
 use Rattle.checkpoint_file.specs.Loads.{AreRising, IsUnloadable, checkpoint_of, sections_of}
 use Rattle.gate_log.specs.Scan.{failed_in}
 use Rattle.gate_log.specs.States.{LogState}
-use Rattle.recovery.specs.declared.opening.Restored.{Restored}
+use Rattle.recovery.specs.declared.reading.Restored.{Restored}
 use Rattle.recovery.specs.declared.restoring.Restoring.{Restoring}
 use Rattle.recovery.specs.Counting.{entries_in, greatest_of, marks_in}
 use Rattle.recovery.specs.Dividing.{IsDivided}
@@ -53,8 +53,8 @@ module _ (contents : Contents) (loaded : LoadedCheckpoint) (before after : Resto
   -- the map of the sections, and of the changes behind them
   pub is_restored : (same : IsSameFrame before after) (n : ℕ) → before.of ≡ loaded.stripes → before.divided.stripes.count ≡ n → AreRising loaded.sections.items
       → HasMap before (finite.from_entries (entries_in loaded.sections.items)) → greatest_of after.marks.items ≤ place.committed → (found : Restored)
-      → found ≡ record { parts = after.divided.parts; sealed = loaded.generation; log = place } → IsRestored contents (checkpoint_of loaded) n found
-  is_restored same n of stripes rising has reaches found is =
+      → ((m : Map) → HasMap after m → IsDivided after.divided.stripes.count m found.parts.items) → found.sealed ≡ loaded.generation → found.log ≡ place → IsRestored contents (checkpoint_of loaded) n found
+  is_restored same n of stripes rising has reaches found parts sealed log_is =
       let k = checkpoint_of loaded in
       let committed = committed_is contents k replayed.first replayed.second place replayed.goes_on in
       let most = greatest same in
@@ -64,19 +64,19 @@ module _ (contents : Contents) (loaded : LoadedCheckpoint) (before after : Resto
       replayed.applied xs start (marks_are loaded.sections.items ∙ sym marks) has in
       let same_map : map_after start (counted before.of.count xs k.low log) ≡ restored k.stripes xs k.low log =
       ap₂ (λ (m : Map) s. map_after m (counted s.count xs k.low log)) (sym (union_is loaded.sections.items rising)) of in
-      let divided : IsDivided n (restored k.stripes xs k.low log) after.divided.parts.items =
-      subst (λ j. IsDivided j (restored k.stripes xs k.low log) after.divided.parts.items) (ap (λ s. s.count) same.stripes ∙ stripes)
-      (subst (λ (m : Map). HasMap after m) same_map made) in
-      subst (λ (r : Restored). IsRestored contents k n r) (sym is) (record {
+      let divided : IsDivided n (restored k.stripes xs k.low log) found.parts.items =
+      subst (λ j. IsDivided j (restored k.stripes xs k.low log) found.parts.items) (ap (λ s. s.count) same.stripes ∙ stripes)
+      (parts _ (subst (λ (m : Map). HasMap after m) same_map made)) in
+      record {
         first = replayed.first;
         second = replayed.second;
         logs = replayed.logs;
         reaches = omega (arith, reaches, committed, most);
-        sealed = refl;
-        goes_on = replayed.goes_on;
-        committed = committed;
+        sealed = sealed;
+        goes_on = subst (λ (l : LogState). GoesOnIn contents (newest_by k replayed.first replayed.second) l) (sym log_is) replayed.goes_on;
+        committed = ap (λ (l : LogState). l.committed) log_is ∙ committed;
         divided = divided;
-      })
+      }
 
 -- ---- what opening gives
 

@@ -62,26 +62,25 @@ pub no_frame : (a : Restoring) → IsSameFrame a a
 no_frame a = record { stripes = refl; of = refl; marks = refl }
 
 -- one batch more
-pub batch_more : (layout : Layout) (low : ℕ) (content : List ℕ) (before mid after : Restoring) (scan new : ScanState) (count : ℕ) (entries given : List Entry) → given ≡ entries → IsSameFrame before mid
+pub batch_more : (layout : Layout) (low : ℕ) (content : List ℕ) (before mid after : Restoring) (scan new : ScanState) (count : ℕ) (entries : List Entry) → IsSameFrame before mid
     → (reading : IsReading layout low content before scan count mid) → IsNextBatch layout low reading.batches entries scan new content
-    → ((m : Map) → HasMap mid m → HasMap after (map_after m (counted_of mid.of.count mid.marks.items given))) → IsReading layout low content before new (count + 1) after
-batch_more layout low content before mid after scan new count entries given e same reading next made = record {
+    → ((m : Map) → HasMap mid m → HasMap after (map_after m (counted_of mid.of.count mid.marks.items entries))) → IsReading layout low content before new (count + 1) after
+batch_more layout low content before mid after scan new count entries same reading next made = record {
   batches = reading.batches ++ batch_of scan.expected entries ∷ [];
   read = next.read;
   many = let many = reading.many in omega (arith, many, length-append reading.batches (batch_of scan.expected entries ∷ []));
   applied = λ sections m marks has.
       let n = before.of.count in
       let done = counted n sections low (commands_in reading.batches) in
-      let here : counted_of mid.of.count mid.marks.items given ≡ counted n sections (low + length (commands_in reading.batches)) (commands_of entries) =
-      ap (λ (l : List Entry). counted_of mid.of.count mid.marks.items l) e
-      ∙ ap (λ of. counted_of of.count mid.marks.items entries) same.of
+      let here : counted_of mid.of.count mid.marks.items entries ≡ counted n sections (low + length (commands_in reading.batches)) (commands_of entries) =
+      ap (λ of. counted_of of.count mid.marks.items entries) same.of
       ∙ counted_is n sections mid.marks.items scan.expected entries (marks ∙ sym (ap (λ ms. ms.items) same.marks)) next.tickets
       ∙ ap (λ t. counted n sections t (commands_of entries)) reading.read.tickets in
-      let all : counted n sections low (commands_in (reading.batches ++ batch_of scan.expected entries ∷ [])) ≡ done ++ counted_of mid.of.count mid.marks.items given =
+      let all : counted n sections low (commands_in (reading.batches ++ batch_of scan.expected entries ∷ [])) ≡ done ++ counted_of mid.of.count mid.marks.items entries =
       ap (counted n sections low) (commands_in-push reading.batches (batch_of scan.expected entries))
       ∙ counted-append n sections low (commands_in reading.batches) (commands_of entries)
       ∙ ap (λ (l : List Command). done ++ l) (sym here) in
-      subst (λ (x : Map). HasMap after x) (sym (ap (map_after m) all ∙ map_after-append m done (counted_of mid.of.count mid.marks.items given)))
+      subst (λ (x : Map). HasMap after x) (sym (ap (map_after m) all ∙ map_after-append m done (counted_of mid.of.count mid.marks.items entries)))
       (made (map_after m done) (reading.applied sections m marks has));
 }
 

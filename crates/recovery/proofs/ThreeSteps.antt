@@ -23,7 +23,7 @@ use Rattle.checkpoint_walk.specs.Capturing.{IsCauseOf}
 use Rattle.checkpoint_walk.specs.Walking.{AfterStep, AfterTake, FitsBy, GivesSection, LooksAt, TakesStripe, kind_next}
 use Rattle.recovery.specs.Upgrading.{IsGivenAt, IsSectionRefused, IsUnmovedWith}
 use Rattle.recovery.proofs.Unmoved.{err_of}
-use Rattle.recovery.proofs.OnePass.{IsSame, captures_one, captures_two, cause_of, given_at, gives, has_looked, looks, no_refusal, not_failed, puts_back, same_back, same_by, same_frame, same_given, same_place, same_two, section_refused, taken, takes, unmoved_then}
+use Rattle.recovery.proofs.OnePass.{IsSame, captures_one, captures_two, cause_of, given_at, gives, has_looked, looks, no_refusal, not_failed, puts_back, same_back, same_by, same_given, same_place, same_two, section_refused, taken, takes, unmoved_then}
 
 abbrev book_at : At → Book
 book_at at = at.words.now

@@ -1,5 +1,7 @@
+pub mod Distinctness
 pub mod Dividing
 pub mod Counting
+pub mod Lanes
 pub mod Restoring
 pub mod LogReading
 pub mod Heads

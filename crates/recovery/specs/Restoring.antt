@@ -6,7 +6,7 @@ use Rattle.map_model.specs.Steps.{map_after}
 use Rattle.store_layout.specs.Checkpoints.{Section}
 use Rattle.store_layout.specs.SectionsAndLog.{counted}
 use Rattle.recovery.specs.declared.restoring.Restoring.{Restoring}
-use Rattle.recovery.specs.Dividing.{IsDivided}
+use Rattle.recovery.specs.Lanes.{AreLanesOf}
 
 -- the map alone has changed
 pub record IsSameFrame (old new : Restoring) : Type 0 where
@@ -14,9 +14,13 @@ pub record IsSameFrame (old new : Restoring) : Type 0 where
   pub of : new.of ≡ old.of
   pub marks : new.marks ≡ old.marks
 
--- this is the map so far
+-- this is the map so far, once what is due is made
 abbrev pub HasMap : Restoring → Map → Type 0
-HasMap restoring m = IsDivided restoring.divided.stripes.count m restoring.divided.parts.items
+HasMap restoring m = AreLanesOf restoring.divided.stripes.count m restoring.divided.lanes.items
+
+-- its parts are those of some map
+abbrev pub IsOfSome : Restoring → Type 0
+IsOfSome restoring = (m : Map) × HasMap restoring m
 
 -- the commands from this ticket on were made, but for those that are in a section
 abbrev pub Applies : ℕ → List Command → Restoring → Restoring → Type 0

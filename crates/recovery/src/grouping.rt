@@ -1,7 +1,9 @@
 //! The entries of a checkpoint, in lists by the stripes of their keys.
-ghost use Rattle.std.specs.Prelude.{◌≡◌, ◌∷◌, ◌++◌, length, IfOk, IfErr, OnOk};
+ghost use Rattle.std.specs.Prelude.{◌≡◌, ◌∷◌, ◌++◌, length, map, IfOk, IfErr, OnOk};
 ghost use Rattle.std.specs.FinMap as finite;
 ghost use Rattle.bin_table.specs.Chains.{Entries, HasDistinctKeys};
+ghost use Rattle.log_records.specs.Layout.{Layout};
+ghost use Rattle.checkpoint_file.specs.Loads.{AreLoaded};
 ghost use Rattle.recovery.specs.Counting.{entries_in};
 ghost use Rattle.recovery.specs.Dividing.{AreGroups, lists_of};
 
@@ -66,8 +68,27 @@ impl Groups {
         Ok(())
     }
 
-    /// The entries of the sections, whose keys are distinct. Each entry is moved, and none copied.
-    pub(crate) fn of_sections(
+    // The entries of the sections of a checkpoint that has these stripes.
+    fn as_they_stand(
+        alloc: Global,
+        stripes: StripeCount,
+        sections: Vec<LoadedSection>,
+    ) -> Result<Groups, Refusal>
+        requires { length sections.items ≡ stripes.count }
+        ensures ok { IfOk result (λ groups.
+            lists_of groups.lists ≡ map (λ section. section.entries.items) sections.items) }
+        ensures stripes { IfOk result (λ groups. groups.stripes ≡ stripes) }
+        ensures err { IfErr result (λ refusal. refusal ≡ Refusal.NoMemory) }
+    {
+        let mut lists = Vec::new(alloc);
+        for section in sections {
+            lists.push(section.entries)?;
+        }
+        Ok(Groups { stripes, lists })
+    }
+
+    // The entries of the sections, whose keys are distinct. Each entry is moved, and none copied.
+    fn divided_anew(
         alloc: Global,
         stripes: StripeCount,
         mut sections: Vec<LoadedSection>,
@@ -83,5 +104,24 @@ impl Groups {
             groups.add_all(section.entries)?;
         }
         Ok(groups)
+    }
+
+    /// The entries of the sections of a checkpoint of `of` stripes.
+    pub(crate) fn of_sections(
+        alloc: Global,
+        stripes: StripeCount,
+        of: StripeCount,
+        sections: Vec<LoadedSection>,
+    ) -> Result<Groups, Refusal>
+        requires { (layout : Layout) × AreLoaded layout of.count sections.items }
+        ensures ok { IfOk result (λ groups. AreGroups stripes.count
+            (finite.from_entries (entries_in sections.items)) (lists_of groups.lists)) }
+        ensures stripes { IfOk result (λ groups. groups.stripes ≡ stripes) }
+        ensures err { IfErr result (λ refusal. refusal ≡ Refusal.NoMemory) }
+    {
+        if of.count == stripes.count && sections.len() == stripes.get() {
+            return Groups::as_they_stand(alloc, stripes, sections);
+        }
+        Groups::divided_anew(alloc, stripes, sections)
     }
 }

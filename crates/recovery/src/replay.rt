@@ -7,9 +7,11 @@ ghost use Rattle.log_records.specs.Layout.{layout_of};
 ghost use Rattle.store_layout.specs.Failures.{IsFileRefused};
 ghost use Rattle.store_layout.specs.Logs.{Batch, log_file};
 ghost use Rattle.gate_log.specs.Scan.{HasRead, failed_in, log_bytes};
-ghost use Rattle.recovery.specs.Restoring.{IsSameFrame};
+ghost use Rattle.recovery.specs.Lanes.{Runs};
+ghost use Rattle.recovery.specs.Restoring.{IsOfSome, IsSameFrame};
 ghost use Rattle.recovery.specs.LogReading.{EndsAt, IsBrokenFor, IsReplayed, RefusesFor, end_gate};
 
+use crate::lanes::Lane;
 use crate::restoring::Restoring;
 use disk_model::Disk;
 use gate_log::{Found, Scan};
@@ -35,15 +37,18 @@ pub(crate) fn damaged(generation: u64, scan: &Scan) -> Refusal
     }
 }
 
-/// Makes the changes of the log from its first gate on, but for those that are in a section. It holds
-/// one frame at a time.
-pub(crate) fn replay<D: Disk>(
+/// Makes the changes of the log from its first gate on, but for those that are in a section, or
+/// leaves some of them due. It holds one frame at a time besides.
+pub(crate) fn replay<D: Disk, F: Fn(&mut [Lane])>(
+    run_each: &F,
     alloc: Global,
     disk: &mut D,
     generation: u64,
     scan: &mut Scan,
     restoring: &mut Restoring,
 ) -> Result<End, Refusal>
+    requires runs { Runs F.Fn run_each.now }
+
     // The scan is of this log, and has read as far as its next gate.
     requires generation { scan.old.generation ≡ generation }
     requires reached { pieces_in (scan.old.gate + 1) ≤ pieces_in (end_of scan.old.reader) }
@@ -65,6 +70,7 @@ pub(crate) fn replay<D: Disk>(
 
     // On an honest disk all changes that no section has are made, to the end.
     ensures same { IsSameFrame restoring.old restoring.new }
+    ensures some { OnOk result (IsOfSome restoring.old → IsOfSome restoring.new) }
     ensures version { OnOk result (scan.new.version ≡ scan.old.version) }
     ensures ok { D.honest disk.new → (low : ℕ)
         → HasRead (layout_of scan.old.version) low [] scan.old
@@ -85,7 +91,7 @@ pub(crate) fn replay<D: Disk>(
 {
     for _ in 0..u64::MAX {
         match scan.next_frame(alloc, disk)? {
-            Found::Batch(entries) => restoring.apply(alloc, &entries)?,
+            Found::Batch(entries) => restoring.apply(run_each, entries)?,
             Found::Ended => return Ok(End::Ended),
             Found::Closed => return Ok(End::Closed),
         }

@@ -10,6 +10,8 @@ mod checkpoints;
 #[cfg(test)]
 mod lives;
 #[cfg(test)]
+mod long_logs;
+#[cfg(test)]
 mod replies;
 #[cfg(test)]
 mod stores;

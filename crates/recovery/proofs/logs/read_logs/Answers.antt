@@ -44,6 +44,9 @@ pub returns-in-Closed-clause-looks : goal.returns-in-Closed-clause-looks
 returns-in-Closed-clause-looks g c =
     looks_on g.D.Disk.states g.D.Disk.failures g.D.Disk.honest 0 c.args.disk.now c.read_log.new.disk c.read_log-2.new.disk c.in_ok-end.ensures.looks c.in_ok-end-2.ensures.looks
 
+pub returns-in-Closed-clause-some : goal.returns-in-Closed-clause-some
+returns-in-Closed-clause-some g c = λ some. c.in_ok-end-2.ensures.some (c.in_ok-end.ensures.some some)
+
 pub returns-in-Closed-clause-ok : goal.returns-in-Closed-clause-ok
 returns-in-Closed-clause-ok g c = λ honest stripes sections.
     let contents : Contents = contents_of g.D.Disk.states c.args.disk.now in

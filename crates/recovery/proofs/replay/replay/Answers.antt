@@ -85,6 +85,7 @@ loop-preserved g c =
     record {
       looks = looks_on g.D.Disk.states g.D.Disk.failures g.D.Disk.honest 0 c.args.disk.now c.loop.disk c.next_frame.new.disk inv.looks c.in_ok-entries.ensures.looks;
       same = frame_on c.args.restoring.now c.loop.restoring c.apply.new.self inv.same c.in_ok-apply-in-Batch.ensures.same;
+      some = λ some. c.in_ok-apply-in-Batch.ensures.some (inv.some some);
       version = goes_on.3 ∙ inv.version;
       generation = goes_on.0 ∙ inv.generation;
       called = let so_far = inv.called in let more = c.in_ok-entries.ensures.called in omega (arith, so_far, more);
@@ -96,7 +97,7 @@ loop-preserved g c =
           let same = same_log g.D.Disk.states g.D.Disk.failures g.D.Disk.honest c.args.disk.now c.loop.disk inv.looks c.loop.scan c.args.generation inv.generation in
           let found = rw c.in-Batch.is at (c.in_ok-entries.ensures.found honest low so_far.batches (subst (λ content. HasRead layout low so_far.batches c.loop.scan content) (sym same) so_far.read)) in
           let more = batch_more layout low (log_bytes g.D.Disk.states c.args.disk.now c.args.generation) c.args.restoring.now c.loop.restoring c.apply.new.self c.loop.scan c.next_frame.new.self c.loop.counter
-          c.in-Batch.entries.items c.deref.result.now c.deref.ensures.value inv.same so_far
+          c.in-Batch.entries.items inv.same so_far
           (subst (λ content. IsNextBatch layout low so_far.batches c.in-Batch.entries.items c.loop.scan c.next_frame.new.self content) same found)
           c.in_ok-apply-in-Batch.ensures.ok in
           subst (λ (v : Version). IsReading (layout_of v) low (log_bytes g.D.Disk.states c.args.disk.now c.args.generation) c.args.restoring.now c.next_frame.new.self (c.loop.counter + 1) c.apply.new.self) (sym goes_on.3) more;

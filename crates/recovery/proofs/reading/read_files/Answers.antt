@@ -5,7 +5,7 @@ use Rattle.store_layout.specs.Checkpoints.{is_to_close, checkpoint_file}
 use Rattle.store_layout.proofs.Refused.{of_files}
 use Rattle.recovery.specs.LogReading.{contents_of}
 use Rattle.gate_log.proofs.Scanning.{looks_on, same_now}
-use Rattle.recovery.proofs.opening.read_files.Goals as goal
+use Rattle.recovery.proofs.reading.read_files.Goals as goal
 
 pub returns-in_err-must_close-clause-looks : goal.returns-in_err-must_close-clause-looks
 returns-in_err-must_close-clause-looks g c =

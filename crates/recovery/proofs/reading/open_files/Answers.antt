@@ -10,7 +10,7 @@ use Rattle.recovery.specs.Opening.{IsOpened}
 use Rattle.recovery.proofs.LogReadingLemmas.{refuses_more}
 use Rattle.recovery.proofs.OpeningLemmas.{if_err, if_ok}
 use Rattle.recovery.proofs.SyncingLemmas.{few_synced, four_synced, same_contents}
-use Rattle.recovery.proofs.opening.open_files.Goals as goal
+use Rattle.recovery.proofs.reading.open_files.Goals as goal
 
 pub returns-clause-ok : goal.returns-clause-ok
 returns-clause-ok g c = λ honest.

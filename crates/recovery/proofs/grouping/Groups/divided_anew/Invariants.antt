@@ -3,7 +3,7 @@ use Rattle.std.specs.FinMap as finite
 use Rattle.checkpoint_file.specs.declared.loading.LoadedSection.{LoadedSection}
 use Rattle.recovery.specs.Counting.{entries_in}
 use Rattle.recovery.specs.Dividing.{AreGroups, lists_of}
-use Rattle.recovery.proofs.grouping.Groups.of_sections.Given as goal
+use Rattle.recovery.proofs.grouping.Groups.divided_anew.Given as goal
 
 -- the last sections were added
 abbrev pub invariant-loop-section : goal.invariant-loop-section

@@ -12,12 +12,12 @@ use Rattle.recovery.proofs.CallLemmas.{body_found, checkpoint_found}
 use Rattle.checkpoint_file.specs.declared.loading.LoadedCheckpoint.{LoadedCheckpoint}
 use Rattle.checkpoint_file.specs.Loads.{IsUnloadable, checkpoint_of}
 use Rattle.gate_log.proofs.Scanning.{looks_on, same_now}
-use Rattle.recovery.specs.declared.opening.Restored.{Restored}
+use Rattle.recovery.specs.declared.reading.Restored.{Restored}
 use Rattle.recovery.specs.LogReading.{RefusesFor, contents_of}
 use Rattle.recovery.specs.Opening.{IsOpened, IsRestored}
 use Rattle.recovery.proofs.LogReadingLemmas.{refuses_more}
 use Rattle.recovery.proofs.OpeningLemmas.{if_err, if_ok, is_opened, logs_refused, not_loaded, same_failed}
-use Rattle.recovery.proofs.opening.restore.Goals as goal
+use Rattle.recovery.proofs.reading.restore.Goals as goal
 
 pub returns-in_err-loaded-clause-looks : goal.returns-in_err-loaded-clause-looks
 returns-in_err-loaded-clause-looks g c =

@@ -1,0 +1,124 @@
+//! A directory with a long log is opened by one thread, and by many.
+
+use atomic_methods::Part;
+use disk_model::{Disk, MemDisk};
+use flusher::Keeper;
+use java_hash::{StripeCount, stripe_of};
+use map_types::{Key, Question, Read, Refusal, Reply, Value};
+use recovery::{format, open_parts, open_parts_with};
+use std::alloc::Global;
+
+/// How many keys there are. Each is put twice.
+const KEYS: u32 = 5_000;
+
+/// How many batches there are, and how many Puts each has. So more changes are due at once than are
+/// made at a time, and some are left at the end.
+const BATCHES: u32 = 10;
+
+const BATCH: u32 = 1_000;
+
+/// A Put of a number to a key of eight bytes.
+const RECORD_BYTES: u32 = 20;
+
+fn name_of(alloc: Global, number: u32) -> Result<String, Refusal> {
+    let key = number % KEYS;
+    Ok(format!(in alloc; "key{key:05}")?)
+}
+
+fn append_put(alloc: Global, number: u32, log: &mut Vec<u8>) -> Result<(), Refusal> {
+    let name = name_of(alloc, number)?;
+    log.extend_from_slice(&[16, 0, 8])?;
+    log.extend_from_slice(name.as_bytes())?;
+    log.extend_from_slice(&[1])?;
+    log.extend_from_slice(&u64::from(number).to_be_bytes())?;
+    Ok(())
+}
+
+// An open gate, and the batch of the Puts of the numbers from `first` on.
+fn append_batch(alloc: Global, first: u32, log: &mut Vec<u8>) -> Result<(), Refusal> {
+    log.extend_from_slice(&[0xA5, 1])?;
+    log.extend_from_slice(&(12 + RECORD_BYTES * BATCH).to_be_bytes())?;
+    log.extend_from_slice(&u64::from(first).to_be_bytes())?;
+    log.extend_from_slice(&BATCH.to_be_bytes())?;
+    for place in 0..BATCH {
+        append_put(alloc, first.wrapping_add(place), log)?;
+    }
+    Ok(())
+}
+
+// The log of generation 0 with all batches.
+fn long_log(alloc: Global) -> Result<Vec<u8>, Refusal> {
+    let mut log = Vec::new(alloc);
+    log.extend_from_slice(&[2])?;
+    log.extend_from_slice(&[0; 16])?;
+    for batch in 0..BATCHES {
+        append_batch(alloc, batch.wrapping_mul(BATCH), &mut log)?;
+    }
+    log.push(0)?;
+    Ok(log)
+}
+
+// Whether the key of the number is mapped to the one that was put last.
+fn is_last(
+    alloc: Global,
+    parts: &[Part],
+    stripes: StripeCount,
+    number: u32,
+) -> Result<bool, Refusal> {
+    let name = name_of(alloc, number)?;
+    let Some(part) = parts.get(stripe_of(name.as_str(), stripes)) else {
+        return Ok(false);
+    };
+    let reply = part.read(&Read {
+        key: Key::new(alloc, name.as_str())?,
+        question: Question::Get,
+    })?;
+    let last = i64::from(number) + i64::from(KEYS);
+    Ok(reply == Reply::Now(Some(Value::Int(last))))
+}
+
+// A disk with all batches in its log.
+fn disk_of(alloc: Global, stripes: StripeCount) -> Result<MemDisk, Refusal> {
+    let mut disk = MemDisk::new(alloc);
+    format(alloc, &mut disk, stripes)?;
+    let log = long_log(alloc)?;
+    if disk.write_at(2, 0, &log).is_err() {
+        return Err(Refusal::Failed);
+    }
+    Ok(disk)
+}
+
+// How many commands were found, and how many keys are mapped to what was put last.
+fn found_in(
+    alloc: Global,
+    opened: Result<(Keeper<MemDisk>, Vec<Part>, u64, u16), (MemDisk, Refusal)>,
+    stripes: StripeCount,
+) -> Result<(u64, u32), Refusal> {
+    let (_keeper, parts, first, _limit) = match opened {
+        Ok(opened) => opened,
+        Err((_disk, refusal)) => return Err(refusal),
+    };
+    let mut found = 0u32;
+    for number in 0..KEYS {
+        if is_last(alloc, &parts, stripes, number)? {
+            found = found.wrapping_add(1);
+        }
+    }
+    Ok((first, found))
+}
+
+#[test]
+fn a_long_log_is_opened(rt: HostRuntime) -> Result<(), Refusal> {
+    let alloc = rt.alloc();
+    let stripes = StripeCount::new(16).ok_or(Refusal::WrongPhase)?;
+    let wanted = (10_000, KEYS);
+    let by_one = open_parts(alloc, disk_of(alloc, stripes)?, stripes);
+    assert_eq!(rt; found_in(alloc, by_one, stripes)?, wanted, "by one thread");
+    let by_many = open_parts_with(&rt, alloc, disk_of(alloc, stripes)?, stripes);
+    assert_eq!(rt;
+        found_in(alloc, by_many, stripes)?,
+        wanted,
+        "by many threads"
+    );
+    Ok(())
+}
