@@ -8,6 +8,7 @@ mod maps;
 mod measure;
 mod plain;
 mod sections;
+mod whole;
 mod writers;
 
 use crate::beside::{Outcome, Size, compare_beside};

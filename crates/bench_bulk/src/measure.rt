@@ -1,6 +1,7 @@
 //! How long a view takes, and the bulk calls over it.
 
 use crate::maps::{Filling, filled};
+use crate::whole::{Wanted, Whole};
 use bulk_tasks::{View, view};
 use disk_model::MemDisk;
 use durable_map::DurableMap;
@@ -159,7 +160,27 @@ fn print_calls<R: Clock + Threads + Print + Sync>(
     Ok(true)
 }
 
-/// The lines of a view and of the bulk calls over it. Says whether all were measured.
+/// The lines of the calls of the whole map, by one thread. Says whether all were measured.
+fn print_whole<R: AllocGlobal + Clock + Wait + Print>(
+    rt: &R,
+    map: &DurableMap<MemDisk>,
+    entries: u32,
+) -> io::Result<bool> {
+    let wanted = Wanted {
+        entries,
+        sum: sum_below(entries),
+    };
+    for call in Whole::ALL {
+        let Some(spent) = call.best(rt, map, wanted) else {
+            return Ok(false);
+        };
+        print_row(rt, call.name(), u64::MAX, entries, spent)?;
+    }
+    Ok(true)
+}
+
+/// The lines of the calls of the whole map, of a view, and of the bulk calls over it. Says whether all
+/// were measured.
 pub(crate) fn print_times<R: AllocGlobal + Clock + Threads + Wait + Print + Sync>(
     rt: &R,
     entries: u32,
@@ -171,6 +192,9 @@ pub(crate) fn print_times<R: AllocGlobal + Clock + Threads + Wait + Print + Sync
     let Ok(map) = filled(rt, rt.alloc(), filling) else {
         return Ok(false);
     };
+    if !print_whole(rt, &map, entries)? {
+        return Ok(false);
+    }
     let Some((spent, view)) = best_of_views(rt, &map) else {
         return Ok(false);
     };

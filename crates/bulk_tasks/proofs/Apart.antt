@@ -63,14 +63,12 @@ none_both q (e ∷ es) fs none rest =
     ∙ none_both q es fs (none_behind (eq_by_cmp (slice_cmp nat_cmp) q e.0) e.1 (find_in q es) none) rest
 
 -- a key of stripe i isn't found in later stripes
-none_later : (n i j : ℕ) (zs : List Captured) (ms : List Map) (q : List ℕ) → i < j → is_in_stripe n i q ≡ true → AreParts n j zs ms → find_in q (entries_of zs) ≡ None
-none_later n i j [] [] q later own parts = refl
-none_later n i j [] (m ∷ ms) q later own parts = absurd parts
-none_later n i j (z ∷ zs) [] q later own parts = absurd parts
-none_later n i j (z ∷ zs) (m ∷ ms) q later own parts =
+none_later : (n i j : ℕ) (ms : List Map) (q : List ℕ) → i < j → is_in_stripe n i q ≡ true → find_in q (flat_map finite.entries (parts_from n j ms)) ≡ None
+none_later n i j [] q later own = refl
+none_later n i j (m ∷ ms) q later own =
     let at : stripe_of n q ≡ i = eqb-true _ _ own in
     let other : is_in_stripe n j q ≡ false = ne_eqb (stripe_of n q) j (λ e. omega arith) in
-    none_both q z.entries.items (entries_of zs) (ap (find_in q) parts.0 ∙ none_of_others n j m q other) (none_later n i (j + 1) zs ms q (omega arith) own parts.1)
+    none_both q (finite.entries (part_of n j m)) (flat_map finite.entries (parts_from n (j + 1) ms)) (none_of_others n j m q other) (none_later n i (j + 1) ms q (omega arith) own)
 
 distinct_both : (n i : ℕ) (es fs : Entries) → Outside n i es → ((q : List ℕ) → is_in_stripe n i q ≡ true → find_in q fs ≡ None) → HasDistinctKeys es → HasDistinctKeys fs → HasDistinctKeys (es ++ fs)
 distinct_both n i [] fs out apart one two = two
@@ -79,19 +77,21 @@ distinct_both n i (e ∷ es) fs out apart one two = (
   distinct_both n i es fs (outside_behind n i e es out) apart one.1 two,
 )
 
--- the entries of all stripes have distinct keys
-pub distinct : (n i : ℕ) (zs : List Captured) (ms : List Map) → AreParts n i zs ms → HasDistinctKeys (entries_of zs)
-distinct n i [] [] parts = tt
-distinct n i [] (m ∷ ms) parts = absurd parts
-distinct n i (z ∷ zs) [] parts = absurd parts
-distinct n i (z ∷ zs) (m ∷ ms) parts =
-    let own : Outside n i z.entries.items = λ q other. ap (find_in q) parts.0 ∙ none_of_others n i m q other in
-    let one : HasDistinctKeys z.entries.items = subst HasDistinctKeys (sym parts.0) (sorted_distinct (finite.entries (part_of n i m)) (finite.entries_sorted (part_of n i m))) in
-    distinct_both n i z.entries.items (entries_of zs) own (λ q at. none_later n i (i + 1) zs ms q (omega arith) at parts.1) one (distinct n (i + 1) zs ms parts.1)
+-- the entries of all parts have distinct keys
+pub distinct_parts : (n i : ℕ) (ms : List Map) → HasDistinctKeys (flat_map finite.entries (parts_from n i ms))
+distinct_parts n i [] = tt
+distinct_parts n i (m ∷ ms) =
+    let es : Entries = finite.entries (part_of n i m) in
+    let one : HasDistinctKeys es = sorted_distinct es (finite.entries_sorted (part_of n i m)) in
+    distinct_both n i es (flat_map finite.entries (parts_from n (i + 1) ms)) (λ q other. none_of_others n i m q other) (λ q at. none_later n i (i + 1) ms q (omega arith) at) one (distinct_parts n (i + 1) ms)
 
--- and they make the union of the parts
+-- the entries of all stripes make the union of the parts
 pub united : (n i : ℕ) (zs : List Captured) (ms : List Map) → AreParts n i zs ms → entries_of zs ≡ flat_map finite.entries (parts_from n i ms)
 united n i [] [] parts = refl
 united n i [] (m ∷ ms) parts = absurd parts
 united n i (z ∷ zs) [] parts = absurd parts
 united n i (z ∷ zs) (m ∷ ms) parts = ap (λ l. l ++ entries_of zs) parts.0 ∙ ap (λ l. finite.entries (part_of n i m) ++ l) (united n (i + 1) zs ms parts.1)
+
+-- and have distinct keys
+pub distinct : (n i : ℕ) (zs : List Captured) (ms : List Map) → AreParts n i zs ms → HasDistinctKeys (entries_of zs)
+distinct n i zs ms parts = subst HasDistinctKeys (sym (united n i zs ms parts)) (distinct_parts n i ms)

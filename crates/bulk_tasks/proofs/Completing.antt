@@ -15,134 +15,148 @@ use Rattle.ticket_order.specs.Legality.{history_of}
 use Rattle.flusher.specs.Fitting.{IsBeside}
 use Rattle.durable_map.specs.Durable.{EndsDurable, EndsFailed}
 use Rattle.durable_map.proofs.Growing.{fails_behind}
-use Rattle.view_walk.specs.Viewing as walked
-use Rattle.view_walk.specs.Viewing.{greatest_mark, IsDone, IsFailed, IsStarved, Next, Shows, Views}
+use Rattle.view_walk.specs.Walking as walking
+use Rattle.view_walk.specs.Walking.{greatest_mark, Gains, IsDone, IsFailed, IsStarved, Refuses}
+use Rattle.view_walk.specs.Viewing as viewing
+use Rattle.view_walk.specs.Viewing.{Shows}
 use Rattle.bulk_tasks.specs.ViewState.{ViewState}
 use Rattle.bulk_tasks.specs.Parts.{AreParts, marks_of, parts_from}
 use Rattle.bulk_tasks.specs.Laws.{maps_of}
-use Rattle.bulk_tasks.specs.Completing.{AddsView, AnswersView, AreInTurn, Captures, CompletesView, greatest_of, LacksMemory, Rising, view_of}
+use Rattle.bulk_tasks.specs.Completing.{AnswersView, AreInTurn, Captures, CompletesView, greatest_of, Rising, view_of}
 use Rattle.bulk_tasks.proofs.Walked.{views_are_parts}
 
--- ---- the marks of what was captured
+-- ---- the marks of the sections
 
-rising_marks : (low : ℕ) (zs : List Captured) (high : ℕ) → walked.Rising low zs high → Rising low (marks_of zs) high
+abbrev pub marks : List Section → List ℕ
+marks xs = map (λ (x : Section). x.mark) xs
+
+rising_marks : (low : ℕ) (xs : List Section) (high : ℕ) → walking.Rising low xs high → Rising low (marks xs) high
 rising_marks low [] high r = r
-rising_marks low (z ∷ zs) high r = (r.0, rising_marks z.mark zs high r.1)
+rising_marks low (x ∷ xs) high r = (r.0, rising_marks x.mark xs high r.1)
 
-in_turn : (i : ℕ) (zs : List Captured) (xs : List Section) → Shows i zs xs → AreInTurn i (marks_of zs) xs
-in_turn i [] [] s = tt
-in_turn i [] (x ∷ xs) s = absurd s
-in_turn i (z ∷ zs) [] s = absurd s
-in_turn i (z ∷ zs) (x ∷ xs) s = (s.0, sym s.1, in_turn (i + 1) zs xs s.3)
+in_turn : (i : ℕ) (xs : List Section) → walking.AreInTurn i xs → AreInTurn i (marks xs) xs
+in_turn i [] s = tt
+in_turn i (x ∷ xs) s = (s.0, refl, in_turn (i + 1) xs s.1)
 
-greatest_from : (a : ℕ) (zs : List Captured) → fold (λ (q : ℕ) (z : Captured). max q z.mark) a zs ≡ fold max a (marks_of zs)
+greatest_from : (a : ℕ) (xs : List Section) → fold (λ (q : ℕ) (x : Section). max q x.mark) a xs ≡ fold max a (marks xs)
 greatest_from a [] = refl
-greatest_from a (z ∷ zs) = greatest_from (max a z.mark) zs
+greatest_from a (x ∷ xs) = greatest_from (max a x.mark) xs
 
-greatest_is : (zs : List Captured) → greatest_mark zs ≡ greatest_of (marks_of zs)
-greatest_is zs = greatest_from 0 zs
+greatest_is : (xs : List Section) → greatest_mark xs ≡ greatest_of (marks xs)
+greatest_is xs = greatest_from 0 xs
 
-how_many : (zs : List Captured) → length (marks_of zs) ≡ length zs
-how_many zs = length-map zs (λ (z : Captured). z.mark)
+how_many : (xs : List Section) → length (marks xs) ≡ length xs
+how_many xs = length-map xs (λ (x : Section). x.mark)
 
--- the maps at the marks of the sections are those at the marks of what was captured
-maps_at : (h : History) (i : ℕ) (zs : List Captured) (xs : List Section) → Shows i zs xs → maps_of h xs ≡ map (fold_to h) (marks_of zs)
-maps_at h i [] [] s = refl
-maps_at h i [] (x ∷ xs) s = absurd s
-maps_at h i (z ∷ zs) [] s = absurd s
-maps_at h i (z ∷ zs) (x ∷ xs) s =
-    ap (λ (q : ℕ). fold_to h q ∷ maps_of h xs) (sym s.1) ∙ ap (λ (ms : List Map). fold_to h z.mark ∷ ms) (maps_at h (i + 1) zs xs s.3)
+-- the maps at the marks
+maps_at : (h : History) (xs : List Section) → maps_of h xs ≡ map (fold_to h) (marks xs)
+maps_at h [] = refl
+maps_at h (x ∷ xs) = ap (λ (ms : List Map). fold_to h x.mark ∷ ms) (maps_at h xs)
+
+-- what was captured has the marks of the sections
+marks_shown : (zs : List Captured) (xs : List Section) → Shows zs xs → marks_of zs ≡ marks xs
+marks_shown [] [] s = refl
+marks_shown [] (x ∷ xs) s = absurd s
+marks_shown (z ∷ zs) [] s = absurd s
+marks_shown (z ∷ zs) (x ∷ xs) s = ap (λ (q : ℕ). q ∷ marks_of zs) s.0 ∙ ap (λ (qs : List ℕ). x.mark ∷ qs) (marks_shown zs xs s.2)
 
 -- ---- what the record gained
 
-captures : (n : ℕ) (b : Record) (zs : List Captured) (w : Record) → Views n b zs w → Captures n b (marks_of zs) w
-captures n b zs w v = record { sections = v.sections; grew = v.sections_are; in_turn = in_turn 0 zs v.sections v.shows; legal = v.legal; rising = rising_marks _ zs _ v.rising }
+captures : (n : ℕ) (b : Record) (xs : List Section) (w : Record) → Gains n b xs w → Captures n b (marks xs) w
+captures n b xs w g = record { sections = xs; grew = g.sections_are; in_turn = in_turn 0 xs g.in_turn; legal = g.legal; rising = rising_marks _ xs _ g.rising }
 
-beside : (n : ℕ) (b : Record) (zs : List Captured) (w : Record) → Views n b zs w → IsBeside b w
-beside n b zs w v = record { opening = v.opening; keeper = v.keeper; taken = v.taken; published = v.published; failed = v.failed; seen = record { more = v.more; is = v.seen_is }; made = v.made; steps = v.steps_are }
+beside : (n : ℕ) (b : Record) (xs : List Section) (w : Record) → Gains n b xs w → IsBeside b w
+beside n b xs w g = record { opening = g.opening; keeper = g.keeper; taken = g.taken; published = g.published; failed = g.failed; seen = record { more = g.more; is = g.seen_is }; made = g.made; steps = g.steps_are }
 
-ends_durable : (n : ℕ) (b : Record) (zs : List Captured) (w : Record) → IsDone n b zs w → EndsDurable b (greatest_of (marks_of zs)) w
-ends_durable n b zs w d =
+ends_durable : (n : ℕ) (b : Record) (xs : List Section) (w : Record) → IsDone n b xs w → EndsDurable b (greatest_of (marks xs)) w
+ends_durable n b xs w d =
     let at = d.durable in
-    let made = at.all.views.made in
+    let made = at.all.gains.made in
     let last = Saw at.since.durable ∷ [] in record {
       before = made;
       durable = at.since.durable;
-      steps = ap (λ (r : Record). r.steps) at.since.sees.is ∙ (ap (λ (l : List StepMade). l ++ last) at.all.views.steps_are ∙ append_assoc b.steps made last);
-      reached = subst (λ (q : ℕ). q ≤ at.since.durable) (greatest_is zs) at.since.reached;
+      steps = ap (λ (r : Record). r.steps) at.since.sees.is ∙ (ap (λ (l : List StepMade). l ++ last) at.all.gains.steps_are ∙ append_assoc b.steps made last);
+      reached = subst (λ (q : ℕ). q ≤ at.since.durable) (greatest_is xs) at.since.reached;
     }
 
-ends_failed : (n : ℕ) (b w : Record) (k : IsFailed n b w) → EndsFailed b (greatest_of (marks_of k.captured)) w
-ends_failed n b w k =
+ends_failed : (n : ℕ) (b : Record) (xs : List Section) (w : Record) → IsFailed n b xs w → EndsFailed b (greatest_of (marks xs)) w
+ends_failed n b xs w k =
     let at = k.failed in
-    let failed = fails_behind b at.between w (greatest_mark k.captured) at.all.views.made at.all.views.steps_are at.since in
-    subst (λ (q : ℕ). EndsFailed b q w) (greatest_is k.captured) failed
+    let failed = fails_behind b at.between w (greatest_mark xs) at.all.gains.made at.all.gains.steps_are at.since in
+    subst (λ (q : ℕ). EndsFailed b q w) (greatest_is xs) failed
 
 -- ---- how a view ends
 
-answered : (n : ℕ) (b : Record) (zs : List Captured) (w : Record) (view : ViewState) (d : IsDone n b zs w) → view.marks ≡ marks_of zs
-    → view.map ≡ union_of (parts_from n 0 (maps_of (history_of w) d.views.views.sections)) → AnswersView n b view w
-answered n b zs w view d marks united =
-    let v = d.views.views in record {
-      captures = subst (λ (qs : List ℕ). Captures n b qs w) (sym marks) (captures n b zs w v);
-      whole = ap length marks ∙ (how_many zs ∙ d.views.whole);
-      map_is = united
-          ∙ (ap (λ (ms : List Map). union_of (parts_from n 0 ms)) (maps_at (history_of w) 0 zs v.sections v.shows)
-          ∙ ap (λ (qs : List ℕ). view_of n (history_of w) qs) (sym marks));
-      durable = subst (λ (qs : List ℕ). EndsDurable b (greatest_of qs) w) (sym marks) (ends_durable n b zs w d);
-    }
+-- the view of these sections
+pub record IsViewOf (n : ℕ) (xs : List Section) (w : Record) (view : ViewState) : Type 0 where
+  pub marks_are : view.marks ≡ marks xs
+  pub map_is : view.map ≡ union_of (parts_from n 0 (maps_of (history_of w) xs))
 
--- all was captured, but there was no memory to put it together
-too_many : (n : ℕ) (b : Record) (zs : List Captured) (w : Record) → IsDone n b zs w → LacksMemory n b w
-too_many n b zs w d = record { marks = marks_of zs; captures = captures n b zs w d.views.views; within = omega (arith, how_many zs, d.views.whole) }
-
-adds : (n : ℕ) (b : Record) (zs : List Captured) (w : Record) (d : IsDone n b zs w) (result : Result ViewState Refusal) → IfOk result (λ view. view.marks ≡ marks_of zs)
-    → IfOk result (λ view. view.map ≡ union_of (parts_from n 0 (maps_of (history_of w) d.views.views.sections))) → IfErr result (λ e. e ≡ refusal.NoMemory) → AddsView n b result w
-adds n b zs w d (Ok view) marks united none = answered n b zs w view d marks united
-adds n b zs w d (Err e) marks united none = subst (λ (r : Refusal). AddsView n b (Err r) w) (sym none) (too_many n b zs w d)
-
--- a view of all that was captured, or none
-pub completes : (n : ℕ) (b : Record) (zs : List Captured) (w : Record) (d : IsDone n b zs w) (result : Result ViewState Refusal) → IfOk result (λ view. view.marks ≡ marks_of zs)
-    → ((k : ℕ) (ms : List Map) → AreParts k 0 zs ms → IfOk result (λ view. view.map ≡ union_of (parts_from k 0 ms))) → IfErr result (λ e. e ≡ refusal.NoMemory) → CompletesView n b result w
-completes n b zs w d result marks united none =
-    let v = d.views.views in record {
-      beside = beside n b zs w v;
-      calls = v.calls;
-      adds = adds n b zs w d result marks (united n (maps_of (history_of w) v.sections) (views_are_parts n b w zs d.views)) none;
-    }
-
-starved : (n : ℕ) (b w : Record) → IsStarved n b w → CompletesView n b (Err refusal.NoMemory) w
-starved n b w k = record {
-  beside = beside n b k.front w k.views;
-  calls = k.views.calls;
-  adds = record { marks = marks_of k.front; captures = captures n b k.front w k.views; within = omega (arith, how_many k.front, k.within) };
+answers : (n : ℕ) (b : Record) (xs : List Section) (w : Record) (view : ViewState) → IsDone n b xs w → IsViewOf n xs w view → AnswersView n b view w
+answers n b xs w view d is = record {
+  captures = subst (λ (qs : List ℕ). Captures n b qs w) (sym is.marks_are) (captures n b xs w d.all.gains);
+  whole = ap length is.marks_are ∙ (how_many xs ∙ d.all.whole);
+  map_is = is.map_is
+      ∙ (ap (λ (ms : List Map). union_of (parts_from n 0 ms)) (maps_at (history_of w) xs)
+      ∙ ap (λ (qs : List ℕ). view_of n (history_of w) qs) (sym is.marks_are));
+  durable = subst (λ (qs : List ℕ). EndsDurable b (greatest_of qs) w) (sym is.marks_are) (ends_durable n b xs w d);
 }
 
-failed : (n : ℕ) (b w : Record) → IsFailed n b w → CompletesView n b (Err refusal.Failed) w
-failed n b w k = record {
-  beside = beside n b k.captured w k.views.views;
-  calls = k.views.views.calls;
-  adds = record { marks = marks_of k.captured; captures = captures n b k.captured w k.views.views; whole = how_many k.captured ∙ k.views.whole; failed = ends_failed n b w k };
+pub done : (n : ℕ) (b : Record) (xs : List Section) (w : Record) (view : ViewState) → IsDone n b xs w → IsViewOf n xs w view → CompletesView n b (Ok view) w
+done n b xs w view d is = record { beside = beside n b xs w d.all.gains; calls = d.all.gains.calls; adds = answers n b xs w view d is }
+
+-- all was captured, but there was no memory for what is made of it
+pub too_many : (n : ℕ) (b : Record) (xs : List Section) (w : Record) → IsDone n b xs w → CompletesView n b (Err refusal.NoMemory) w
+too_many n b xs w d = record {
+  beside = beside n b xs w d.all.gains;
+  calls = d.all.gains.calls;
+  adds = record { marks = marks xs; captures = captures n b xs w d.all.gains; within = omega (arith, how_many xs, d.all.whole) };
+}
+
+starved : (n : ℕ) (b : Record) (xs : List Section) (w : Record) → IsStarved n b xs w → CompletesView n b (Err refusal.NoMemory) w
+starved n b xs w k = record {
+  beside = beside n b xs w k.gains;
+  calls = k.gains.calls;
+  adds = record { marks = marks xs; captures = captures n b xs w k.gains; within = omega (arith, how_many xs, k.within) };
+}
+
+failed : (n : ℕ) (b : Record) (xs : List Section) (w : Record) → IsFailed n b xs w → CompletesView n b (Err refusal.Failed) w
+failed n b xs w k = record {
+  beside = beside n b xs w k.all.gains;
+  calls = k.all.gains.calls;
+  adds = record { marks = marks xs; captures = captures n b xs w k.all.gains; whole = how_many xs ∙ k.all.whole; failed = ends_failed n b xs w k };
 }
 
 -- a view that was refused
-pub refused : (n : ℕ) (b : Record) (e : Refusal) (w : Record) → Next n b (Err e) w → CompletesView n b (Err e) w
-refused n b refusal.NullValue w k = absurd k
-refused n b refusal.KeyTooLong w k = absurd k
-refused n b refusal.ValueTooLong w k = absurd k
-refused n b refusal.UnknownMethod w k = absurd k
-refused n b refusal.UnknownFunction w k = absurd k
-refused n b refusal.BadFrame w k = absurd k
-refused n b refusal.NoMemory w k = starved n b w k
-refused n b (refusal.Busy j) w k = absurd k
-refused n b refusal.Failed w k = failed n b w k
-refused n b refusal.TicketsSpent w k = absurd k
-refused n b refusal.NotFormatted w k = absurd k
-refused n b (refusal.Damaged file offset) w k = absurd k
-refused n b refusal.WrongVersion w k = absurd k
-refused n b refusal.LogFull w k = absurd k
-refused n b refusal.AlreadyFormatted w k = absurd k
-refused n b refusal.WrongPhase w k = absurd k
-refused n b refusal.TooEarly w k = absurd k
-refused n b refusal.NotText w k = absurd k
-refused n b refusal.SeatsSpent w k = absurd k
+pub refused : (n : ℕ) (b : Record) (xs : List Section) (e : Refusal) (w : Record) → Refuses n b xs e w → CompletesView n b (Err e) w
+refused n b xs refusal.NullValue w k = absurd k
+refused n b xs refusal.KeyTooLong w k = absurd k
+refused n b xs refusal.ValueTooLong w k = absurd k
+refused n b xs refusal.UnknownMethod w k = absurd k
+refused n b xs refusal.UnknownFunction w k = absurd k
+refused n b xs refusal.BadFrame w k = absurd k
+refused n b xs refusal.NoMemory w k = starved n b xs w k
+refused n b xs (refusal.Busy j) w k = absurd k
+refused n b xs refusal.Failed w k = failed n b xs w k
+refused n b xs refusal.TicketsSpent w k = absurd k
+refused n b xs refusal.NotFormatted w k = absurd k
+refused n b xs (refusal.Damaged file offset) w k = absurd k
+refused n b xs refusal.WrongVersion w k = absurd k
+refused n b xs refusal.LogFull w k = absurd k
+refused n b xs refusal.AlreadyFormatted w k = absurd k
+refused n b xs refusal.WrongPhase w k = absurd k
+refused n b xs refusal.TooEarly w k = absurd k
+refused n b xs refusal.NotText w k = absurd k
+refused n b xs refusal.SeatsSpent w k = absurd k
+
+-- a view of all that was copied, or none
+adds : (n : ℕ) (b : Record) (zs : List Captured) (xs : List Section) (w : Record) → Shows zs xs → IsDone n b xs w → (result : Result ViewState Refusal) → IfOk result (λ view. view.marks ≡ marks_of zs)
+    → IfOk result (λ view. view.map ≡ union_of (parts_from n 0 (maps_of (history_of w) xs))) → IfErr result (λ e. e ≡ refusal.NoMemory) → CompletesView n b result w
+adds n b zs xs w s d (Ok view) marked united none = done n b xs w view d (record { marks_are = marked ∙ marks_shown zs xs s; map_is = united })
+adds n b zs xs w s d (Err e) marked united none = subst (λ (r : Refusal). CompletesView n b (Err r) w) (sym none) (too_many n b xs w d)
+
+pub completes : (n : ℕ) (b : Record) (zs : List Captured) (w : Record) (d : viewing.IsDone n b zs w) (result : Result ViewState Refusal) → IfOk result (λ view. view.marks ≡ marks_of zs)
+    → ((k : ℕ) (ms : List Map) → AreParts k 0 zs ms → IfOk result (λ view. view.map ≡ union_of (parts_from k 0 ms))) → IfErr result (λ e. e ≡ refusal.NoMemory) → CompletesView n b result w
+completes n b zs w d result marked united none =
+    let v = d.views in
+    adds n b zs v.sections w v.shows (record { all = v.all; durable = d.durable }) result marked (united n (maps_of (history_of w) v.sections) (views_are_parts n b w zs v)) none

@@ -4,4 +4,6 @@ pub mod Nearing
 pub mod Apart
 pub mod Walked
 mod Completing
+mod Answering
+mod Adding
 mod InTurn

@@ -5,3 +5,4 @@ pub mod ViewState
 pub mod Parts
 pub mod Laws
 pub mod Completing
+pub mod Answering

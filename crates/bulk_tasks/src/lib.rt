@@ -8,10 +8,17 @@
 #![tactic(auto)]
 
 mod contents;
+mod counting;
+mod gathering;
 pub mod laws;
 mod nearest;
+mod reducing;
+mod searching;
 mod tally;
 mod walking;
 
 pub use contents::View;
+pub use counting::count;
+pub use reducing::reduce;
+pub use searching::search;
 pub use walking::view;

@@ -9,7 +9,7 @@ use std::cmp::Ordering;
 use std::thread::Threads;
 
 // The lesser of two keys that may be missing.
-fn nearer<'a>(a: Option<&'a Key>, b: Option<&'a Key>) -> Option<&'a Key>
+pub(crate) fn nearer<'a>(a: Option<&'a Key>, b: Option<&'a Key>) -> Option<&'a Key>
     ensures { option_copied result
         ≡ nearest.nearer (option_copied a.entry) (option_copied b.entry) }
 {

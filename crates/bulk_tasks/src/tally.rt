@@ -50,7 +50,7 @@ fn wrapping_sum(a: i64, b: i64) -> i64
 }
 
 // The tally of two parts.
-fn joined(func: Func, a: Tally, b: Tally) -> Tally
+pub(crate) fn joined(func: Func, a: Tally, b: Tally) -> Tally
     ensures { result ≡ tallies.joined func a b }
 {
     match (a, b) {
@@ -62,7 +62,7 @@ fn joined(func: Func, a: Tally, b: Tally) -> Tally
 }
 
 // The tally of one value.
-fn tally_of(value: &Value) -> Tally
+pub(crate) fn tally_of(value: &Value) -> Tally
     ensures { result ≡ tallies.tally_of value.now }
 {
     match value {

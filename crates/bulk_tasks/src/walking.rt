@@ -6,7 +6,7 @@ ghost use Rattle.bulk_tasks.specs.Completing.{CompletesView};
 use crate::contents::View;
 use crossbeam_utils::Backoff;
 use disk_model::Disk;
-use durable_map::{DurableMap, ViewWalk, Viewed};
+use durable_map::{DurableMap, PartsWalk, ViewWalk, Viewed};
 use map_types::Refusal;
 use std::alloc::Global;
 use std::sync::Wait;
@@ -14,16 +14,16 @@ use stripe_locks::Pass;
 
 // Waits a moment if the step that was made found its stripe held, or the greatest mark not durable yet.
 // Before it the stripe that follows was this one, if any.
-fn pause<D: Disk + Drop, R: Wait>(
+pub(crate) fn pause<D: Disk + Drop, R: Wait>(
     rt: &R,
     map: &DurableMap<D>,
     backoff: &Backoff,
     stripe: Option<usize>,
-    walk: &ViewWalk,
+    walk: &PartsWalk,
 ) {
     let was_held = stripe.is_some() && walk.stripe_to_take() == stripe;
     if was_held || walk.position_awaited().is_some() {
-        map.wait_for_view(rt, backoff, walk);
+        map.wait_for_parts(rt, backoff, walk);
     } else if stripe.is_some() {
         backoff.reset();
     }
@@ -52,7 +52,7 @@ pub fn view<D: Disk + Drop, R: Wait>(
         let stripe = walk.stripe_to_take();
         match map.view_step(pass, walk) {
             Ok(Viewed::More(next)) => {
-                pause(rt, map, &backoff, stripe, &next);
+                pause(rt, map, &backoff, stripe, next.parts());
                 walk = next;
             }
             Ok(Viewed::Done(captured)) => return View::new(alloc, captured),

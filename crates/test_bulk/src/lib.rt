@@ -6,6 +6,10 @@ mod answers;
 #[cfg(test)]
 mod maps;
 #[cfg(test)]
+mod parts;
+#[cfg(test)]
 mod steps;
 #[cfg(test)]
 mod waiting;
+#[cfg(test)]
+mod whole;

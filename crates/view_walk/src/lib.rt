@@ -4,6 +4,8 @@
 #![tactic(auto)]
 
 mod awaiting;
+mod parts;
 mod walk;
 
+pub use parts::{PartsWalk, PartsWalked};
 pub use walk::{Captured, ViewWalk, Viewed};

@@ -1,14 +1,17 @@
-//! The walk of a view, and what a step leaves of it.
-ghost use Rattle.std.specs.Prelude.{◌≡◌, ◌<◌, ℕ, None, length, IfOk, IfErr};
+//! The walk of a view, and what a step leaves of it. It copies each part that is lent.
+ghost use Rattle.std.specs.Prelude.{◌≡◌, ◌<◌, ◌++◌, ℕ, List, None, Some, IfOk, IfErr};
 ghost use Rattle.ticket_order.specs.declared.record.Record.{Record};
+ghost use Rattle.ticket_order.specs.declared.record.Section.{Section};
 ghost use Rattle.ticket_order.specs.Walks.{MakesOne};
-ghost use Rattle.view_walk.specs.Viewing.{Fits, Next, HasAdded, next_kind, mark_awaited, stripe_of_take};
+ghost use Rattle.view_walk.specs.Walking as walking;
+ghost use Rattle.view_walk.specs.Walking.{lent_sections, sections_of, stripe_of_take};
+ghost use Rattle.view_walk.specs.Viewing.{Fits, Next, Shows, mark_awaited, next_kind};
 
-use crate::awaiting;
-use crate::awaiting::{Awaiting, greatest_mark};
+use crate::parts::{PartsWalk, PartsWalked};
+use atomic_methods::Part;
 use map_types::{Key, Refusal, Value};
 use std::alloc::Global;
-use ticket_order::{Position, Purpose, Steps, Stripe};
+use ticket_order::{Position, Steps};
 
 /// What a view took of a stripe: its entries in the byte order of their keys, and the count of
 /// tickets while it was held.
@@ -22,22 +25,9 @@ pub struct Captured {
 #[derive(Drop)]
 pub struct ViewWalk {
     pub(crate) alloc: Global,
-    // Of the stripes so far.
+    // Of the parts that were lent so far.
     pub(crate) captured: Vec<Captured>,
-    pub(crate) stage: Stage,
-}
-
-#[derive(Drop)]
-pub(crate) enum Stage {
-    /// The stripe that follows is to be taken.
-    Taking,
-    HasTaken(Stripe),
-    /// The last one of `captured` is of this stripe, which is to be given back.
-    HasLooked(Stripe),
-    /// No memory was found, and the stripe is to be given back.
-    GivingBack(Stripe),
-    /// All stripes were captured and given back.
-    Awaiting(Awaiting),
+    pub(crate) parts: PartsWalk,
 }
 
 /// What a step leaves of a view.
@@ -48,32 +38,39 @@ pub enum Viewed {
     Done(Vec<Captured>),
 }
 
-// The entries of the stripe, at the end of the captured ones. `NoMemory` leaves those as they were.
+// The entries of the part, at the end of the captured ones. `NoMemory` leaves those as they were.
 fn capture(
     alloc: Global,
     captured: &mut Vec<Captured>,
-    content: &Stripe,
     mark: u64,
+    part: &Part,
 ) -> Result<(), Refusal>
-    ensures ok { IfOk result
-        (λ _. HasAdded captured.old.items mark content.now.part.map captured.new.items) }
+    ensures ok { IfOk result (λ _. (xs : List Section) (i : ℕ) → Shows captured.old.items xs
+        → Shows captured.new.items (xs ++ sections_of i (Some (mark, part.now)))) }
     ensures err { IfErr result
         (λ refusal. (refusal ≡ Refusal.NoMemory) × (captured.new.items ≡ captured.old.items)) }
 {
-    let entries = content.part.entries_sorted(alloc)?;
+    let entries = part.entries_sorted(alloc)?;
     captured.push(Captured { mark, entries })?;
     Ok(())
 }
 
-fn more(alloc: Global, captured: Vec<Captured>, stage: Stage) -> Result<Viewed, Refusal>
-    ensures { result ≡ Ok (Viewed.More
-        (record { alloc = alloc; captured = captured; stage = stage })) }
+// The walk, once the part that it lends is captured. If no memory is found for that, the stripe is to
+// go back as it was taken.
+fn keep(alloc: Global, captured: &mut Vec<Captured>, parts: PartsWalk) -> PartsWalk
+    ensures shows { (xs : List Section) → Shows captured.old.items xs
+        → Shows captured.new.items (xs ++ lent_sections result) }
+    ensures fits { (n : ℕ) (b : Record) (xs : List Section) (p : Record)
+        → walking.Fits n b xs parts p → walking.Fits n b xs result p }
 {
-    Ok(Viewed::More(ViewWalk {
-        alloc,
-        captured,
-        stage,
-    }))
+    let kept = match parts.lent() {
+        Some((mark, part)) => capture(alloc, captured, mark, part),
+        None => return parts,
+    };
+    match kept {
+        Ok(()) => parts,
+        Err(_) => parts.give_back(),
+    }
 }
 
 impl ViewWalk {
@@ -81,33 +78,34 @@ impl ViewWalk {
     pub fn new(alloc: Global) -> ViewWalk
         ensures { (n : ℕ) (b : Record) → 0 < n → b.holding ≡ None → Fits n b result b }
     {
+        let captured = Vec::new(alloc);
+        let parts = PartsWalk::new();
         ViewWalk {
             alloc,
-            captured: Vec::new(alloc),
-            stage: Stage::Taking,
+            captured,
+            parts,
         }
+    }
+
+    /// The walk over the parts that it copies.
+    pub fn parts(&self) -> &PartsWalk
+        ensures { result.now ≡ self.now.parts }
+    {
+        &self.parts
     }
 
     /// The stripe that the next step takes, if it takes one.
     pub fn stripe_to_take(&self) -> Option<usize>
         ensures { result ≡ stripe_of_take (next_kind self.now) }
     {
-        match self.stage {
-            Stage::Taking => Some(self.captured.len()),
-            _ => None,
-        }
+        self.parts.stripe_to_take()
     }
 
     /// The greatest mark, if it was found not to be durable yet.
     pub fn position_awaited(&self) -> Option<Position>
         ensures { result ≡ mark_awaited self.now }
     {
-        match self.stage {
-            Stage::Awaiting(Awaiting::HasMissed) => {
-                Some(Position::new(greatest_mark(&self.captured)))
-            }
-            _ => None,
-        }
+        self.parts.position_awaited()
     }
 
     /// Makes exactly one step. Refused with `NoMemory` once a stripe that can't be copied is given
@@ -128,33 +126,19 @@ impl ViewWalk {
         let ViewWalk {
             alloc,
             mut captured,
-            stage,
+            parts,
         } = self;
-        match stage {
-            Stage::Taking => match steps.take(captured.len()) {
-                Some(content) => more(alloc, captured, Stage::HasTaken(content)),
-                None => more(alloc, captured, Stage::Taking),
-            },
-            Stage::HasTaken(content) => {
-                let mark = steps.look();
-                match capture(alloc, &mut captured, &content, mark) {
-                    Ok(()) => more(alloc, captured, Stage::HasLooked(content)),
-                    Err(_) => more(alloc, captured, Stage::GivingBack(content)),
-                }
+        match parts.step(steps) {
+            Ok(PartsWalked::More(parts)) => {
+                let parts = keep(alloc, &mut captured, parts);
+                Ok(Viewed::More(ViewWalk {
+                    alloc,
+                    captured,
+                    parts,
+                }))
             }
-            Stage::HasLooked(content) => {
-                steps.give(captured.len() - 1, content, Purpose::Capture);
-                if captured.len() < steps.stripes().get() {
-                    more(alloc, captured, Stage::Taking)
-                } else {
-                    more(alloc, captured, Stage::Awaiting(Awaiting::Seeing))
-                }
-            }
-            Stage::GivingBack(content) => {
-                steps.give(captured.len(), content, Purpose::Nothing);
-                Err(Refusal::NoMemory)
-            }
-            Stage::Awaiting(stage) => awaiting::step(alloc, captured, stage, steps),
+            Ok(PartsWalked::Done) => Ok(Viewed::Done(captured)),
+            Err(refusal) => Err(refusal),
         }
     }
 }

@@ -13,4 +13,4 @@ returns-in-Ok-Done-clause-parts g c =
     let w = recorded c.view_step.new.pass in
     let zs = c.in-Ok-Done.captured.items in
     let d : IsDone n b zs w = rw c.in-Ok-Done.field-0-is at (c.in-Ok-Done.ensures.next b c.loop-step.invariant.fit) in
-    (n, maps_of (history_of w) d.views.views.sections, views_are_parts n b w zs d.views)
+    (n, maps_of (history_of w) d.views.sections, views_are_parts n b w zs d.views)

@@ -14,7 +14,7 @@ new-requires g c =
     let w = recorded c.view_step.new.pass in
     let zs = c.in-Ok-Done.captured.items in
     let d : IsDone n b zs w = rw c.in-Ok-Done.field-0-is at (c.in-Ok-Done.ensures.next b c.loop-step.invariant.fit) in
-    record { parts = (n, maps_of (history_of w) d.views.views.sections, views_are_parts n b w zs d.views) }
+    record { parts = (n, maps_of (history_of w) d.views.sections, views_are_parts n b w zs d.views) }
 
 pub returns-in-Ok-Done-clause-completes : goal.returns-in-Ok-Done-clause-completes
 returns-in-Ok-Done-clause-completes g c =
@@ -26,4 +26,6 @@ returns-in-Ok-Done-clause-completes g c =
     completes n b zs w d c.new.result c.new.ensures.marks c.new.ensures.map c.new.ensures.err
 
 pub returns-in-Err-clause-completes : goal.returns-in-Err-clause-completes
-returns-in-Err-clause-completes g c = refused _ _ _ _ (c.in-Err.ensures.next (recorded c.args.pass.now) c.loop-step.invariant.fit)
+returns-in-Err-clause-completes g c =
+    let k = c.in-Err.ensures.next (recorded c.args.pass.now) c.loop-step.invariant.fit in
+    refused _ _ k.0 _ _ k.1
