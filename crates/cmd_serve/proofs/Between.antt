@@ -9,11 +9,13 @@ use Rattle.ticket_order.specs.Records.{call}
 use Rattle.stripe_locks.specs.Holding.{position_of, reply_of}
 use Rattle.stripe_locks.specs.declared.held.Held.{Held}
 use Rattle.durable_map.specs.Durable.{Begins, CompletesAmong, Finishes, GoesOnWith}
+use Rattle.wire_frames.specs.declared.requests.Bulk.{Bulk}
 use Rattle.wire_frames.specs.declared.requests.Request.{Request}
 use Rattle.wire_frames.specs.declared.requests.Request.TheVariants as request
 use Rattle.connections.specs.Dialogue.{Answer}
 use Rattle.cmd_serve.specs.declared.begun.Begun.{Begun}
 use Rattle.cmd_serve.specs.declared.begun.Begun.TheVariants as begun
+use Rattle.cmd_serve.specs.WholeMap.{CompletesBulk}
 use Rattle.cmd_serve.specs.Serving.{AsksFor, Began, BegunRequestsComplete, Calls, CallsThrough, Finished, WorkerState}
 
 -- ---- the pass goes on
@@ -76,9 +78,13 @@ began a b (request.Bulk bulk) (Ok (begun.Call number held)) k = absurd k.begins
 began a b (request.Bulk bulk) (Ok (begun.View number kept)) k = nothing a.pass b.pass k.begins.1
 began a b (request.Bulk bulk) (Err refusal) k = absurd k.begins
 
+whole : (n : ℕ) (v w : Record) (bulk : Bulk) (answer : Answer) → CompletesBulk n v bulk answer w → GoesOn v w
+whole n v w bulk answer (inl k) = record { others = []; goes_on = record { beside = k.completes.beside; calls = as_it_was v.calls w.calls k.completes.calls } }
+whole n v w bulk answer (inr k) = nothing v w k.same
+
 finished : (a b : WorkerState) (held : Begun) (answer : Answer) → Finished a held answer b → GoesOn a.pass b.pass
 finished a b (begun.Call number held) answer k = record { others = []; goes_on = record { beside = k.finishes.beside.goes_on.beside; calls = as_it_was a.pass.calls b.pass.calls k.finishes.beside.calls } }
-finished a b (begun.View number bulk) answer k = record { others = []; goes_on = record { beside = k.finishes.completes.beside; calls = as_it_was a.pass.calls b.pass.calls k.finishes.completes.calls } }
+finished a b (begun.View number bulk) answer k = whole a.stripes a.pass b.pass bulk answer k.finishes
 
 unchanged : (a b : WorkerState) → b ≡ a → GoesOn a.pass b.pass
 unchanged a b is = nothing a.pass b.pass (ap (λ (s : WorkerState). s.pass) is)

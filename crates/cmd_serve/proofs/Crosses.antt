@@ -46,7 +46,7 @@ module _ (a : NamedLft) (D : RattleType) (g : Ghosts D.Denot) where
       shr_sync _ _ _ (map_sync D g s),
       (
         search (first_error.the_field_sync, sendable, crosses) depth 20,
-        (search sendable, (search sendable, (search sendable, (search sendable, tt)))),
+        (search sendable, (search sendable, (search sendable, (search sendable, (search (sendable, crosses), tt))))),
       ),
     ),
   )
@@ -54,20 +54,27 @@ module _ (a : NamedLft) (D : RattleType) (g : Ghosts D.Denot) where
   pub service_sync : IsSend D → IsSync (Service.the_row a D g)
   service_sync s = recorded_sync _ _ _ (Service.the_type a D g).to_one (struct_sync (shape (Service.the_type a D g)) (service_fields s))
 
-  ending_fields : IsSend D → AllSync (shape (Ending.the_type a D g)).fields
-  ending_fields s = (
-    shr_sync _ _ _ (map_sync D g s),
+module _ (a : NamedLft) (D O R : RattleType) (g : Ghosts D.Denot) where
+  ending_fields : IsSend D → IsSync O → IsSync R → AllSync (shape (Ending.the_type a D O R g)).fields
+  ending_fields s y r = (
+    shr_sync _ _ _ r,
     (
-      search (bell.the_sync, sendable, crosses) depth 20,
-      (search (sendable, crosses) depth 10, (search (sendable, crosses) depth 10, tt)),
+      shr_sync _ _ _ (map_sync D g s),
+      (
+        shr_sync _ _ _ y,
+        (
+          search (bell.the_sync, sendable, crosses) depth 20,
+          (search (sendable, crosses) depth 10, (search (sendable, crosses) depth 10, tt)),
+        ),
+      ),
     ),
   )
 
-  pub ending_sync : IsSend D → IsSync (Ending.the_row a D g)
-  ending_sync s = recorded_sync _ _ _ (Ending.the_type a D g).to_one (struct_sync (shape (Ending.the_type a D g)) (ending_fields s))
+  pub ending_sync : IsSend D → IsSync O → IsSync R → IsSync (Ending.the_row a D O R g)
+  ending_sync s y r = recorded_sync _ _ _ (Ending.the_type a D O R g).to_one (struct_sync (shape (Ending.the_type a D O R g)) (ending_fields s y r))
 
-module _ (a : NamedLft) (D G : RattleType) (g : Ghosts D.Denot) where
-  pool_fields : IsSend D → IsSync G → AllSync (shape (Pool.the_type a D G g)).fields
+module _ (a : NamedLft) (D O : RattleType) (g : Ghosts D.Denot) where
+  pool_fields : IsSend D → IsSync O → AllSync (shape (Pool.the_type a D O g)).fields
   pool_fields s y = (
     search sendable,
     (
@@ -76,11 +83,11 @@ module _ (a : NamedLft) (D G : RattleType) (g : Ghosts D.Denot) where
         shr_sync _ _ _ y,
         (
           search (sendable, crosses),
-          (search (sendable, crosses), (search sendable, (search sendable, (search (bell.the_sync, sendable, crosses) depth 20, tt)))),
+          (search sendable, (search sendable, (search (bell.the_sync, sendable, crosses) depth 20, tt))),
         ),
       ),
     ),
   )
 
-  pub pool_sync : IsSend D → IsSync G → IsSync (Pool.the_row a D G g)
-  pool_sync s y = recorded_sync _ _ _ (Pool.the_type a D G g).to_one (struct_sync (shape (Pool.the_type a D G g)) (pool_fields s y))
+  pub pool_sync : IsSend D → IsSync O → IsSync (Pool.the_row a D O g)
+  pool_sync s y = recorded_sync _ _ _ (Pool.the_type a D O g).to_one (struct_sync (shape (Pool.the_type a D O g)) (pool_fields s y))

@@ -1,3 +1,4 @@
+mod Whole
 mod Between
 mod Crosses
 mod Lines

@@ -1,7 +1,6 @@
 pub mod WholeMap
 pub mod Opening
 pub mod Reading
-pub mod Responding
 pub mod Serving
 pub mod Listening
 pub mod Settings

@@ -25,6 +25,16 @@ ArePlacesOf (Some word) (Some path) (Both port named) =
     IsNamed IsPort word.now (Some port) × ((named.now ≡ path.now) × IsSocketPath named.now)
 ArePlacesOf port socket places = ⊥
 
+-- there can be `number` seconds between two records
+abbrev pub IsReportInterval : ℕ → Type 0
+IsReportInterval number = (1 ≤ number) × (number < 2 ^ 32)
+
+-- the word names these seconds between two records; without a word there are no records
+abbrev pub IsReportOf : Option (Bor (List ℕ)) → Option ℕ → Type 0
+IsReportOf None None = Unit {0}
+IsReportOf (Some word) (Some seconds) = IsNamed IsReportInterval word.now (Some seconds)
+IsReportOf word report = ⊥
+
 -- the words name these settings, which are allowed
 pub record AreNamed (words : ServerWords) (settings : Settings) : Type 0 where
   pub stands_by : settings.stands_by ≡ words.standby
@@ -42,3 +52,4 @@ pub record AreNamed (words : ServerWords) (settings : Settings) : Type 0 where
   pub idle_fits : settings.idle < 2 ^ 32
   pub ahead : Spells words.ahead.now settings.ahead
   pub ahead_fits : settings.ahead < 2 ^ 32
+  pub report : IsReportOf words.report settings.report

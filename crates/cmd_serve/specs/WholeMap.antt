@@ -1,6 +1,7 @@
 -- What is replied to a request of the whole map.
-use Rattle.std.specs.Prelude.{◌≡◌, ℕ, pos, Option, Some, Result, Ok, Err}
+use Rattle.std.specs.Prelude.{◌≡◌, ◌⊎◌, ℕ, pos, Option, Some, Result, Ok, Err}
 use Rattle.std.specs.Option.{option_map}
+use Rattle.map_types.specs.declared.commands.Func.{Func}
 use Rattle.map_types.specs.declared.commands.FuncError.{FuncError}
 use Rattle.map_types.specs.declared.commands.Reply.{Reply}
 use Rattle.map_types.specs.declared.commands.Reply.TheVariants.{Now, Fault}
@@ -27,7 +28,7 @@ reduced (Err fault) = Fault fault
 abbrev pub AnswersOf : Map → Bulk → Answer → Type 0
 AnswersOf m Count answer = answer ≡ Ok (Now (Some (Int (pos (count_of m)))))
 AnswersOf m (Reduce func threshold) (Ok reply) = IsReducing func × (reply ≡ reduced (reduction_of func m))
-AnswersOf m (Reduce func threshold) (Err refusal) = (IsReducing func → ⊥) × (refusal ≡ UnknownFunction)
+AnswersOf m (Reduce func threshold) (Err refusal) = ⊥
 AnswersOf m (Search threshold sought) (Ok reply) = reply ≡ Now (option_map (λ key. Text key) (key_of_value sought m))
 AnswersOf m (Search threshold sought) (Err refusal) = refusal ≡ NoMemory
 
@@ -37,7 +38,20 @@ AnswersBy (Ok view) bulk answer = AnswersOf view.map bulk answer
 AnswersBy (Err refusal) bulk answer = answer ≡ Err refusal
 
 -- A view of n stripes was taken on the record of a pass, and the request of the whole map was answered by it.
-pub record CompletesBulk (n : ℕ) (v : Record) (bulk : Bulk) (answer : Answer) (w : Record) : Type 0 where
+pub record AnswersBulk (n : ℕ) (v : Record) (bulk : Bulk) (answer : Answer) (w : Record) : Type 0 where
   pub view : Result ViewState Refusal
   pub completes : CompletesView n v view w
   pub answers : AnswersBy view bulk answer
+
+-- A reduction by a function that reduces nothing was refused, and nothing else was done.
+pub record RefusesUnknown (v : Record) (bulk : Bulk) (answer : Answer) (w : Record) : Type 0 where
+  pub func : Func
+  pub threshold : ℕ
+  pub asks : bulk ≡ Reduce func threshold
+  pub unknown : IsReducing func → ⊥
+  pub refused : answer ≡ Err UnknownFunction
+  pub same : w ≡ v
+
+-- what was done for a request of the whole map
+abbrev pub CompletesBulk : ℕ → Record → Bulk → Answer → Record → Type 0
+CompletesBulk n v bulk answer w = AnswersBulk n v bulk answer w ⊎ RefusesUnknown v bulk answer w

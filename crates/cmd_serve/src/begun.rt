@@ -3,7 +3,7 @@
 use stripe_locks::Held;
 use wire_frames::Bulk;
 
-/// A request that was begun. It has the number by which the gate is told of it, if the gate is.
+/// A request that was begun. It has the mark by which the observer is told of its end, if it is.
 #[derive(Drop)]
 pub enum Begun {
     /// The call of a change or a read was made, and its reply is held.

@@ -4,10 +4,11 @@ use crate::begun::Begun;
 use crate::bells::Bell;
 use crate::client::{Client, Line};
 use crate::errands::Errand;
+use crate::observer::Observer;
 use crate::pool::Pool;
 use crate::streams::Stream;
+use crate::tally::Tally;
 use crate::turns::{Turned, Turns};
-use crate::worker::Gate;
 use connections::{Calls, Resting};
 use crossbeam_channel::{Receiver, Sender, TryRecvError};
 use disk_model::Disk;
@@ -45,6 +46,8 @@ pub(crate) struct Desk<'a, D: Disk + Drop, R: Clock + Wait, C: Calls<Held = Begu
     pub(crate) bells: &'a [Bell],
     /// How many clients there are at all workers.
     pub(crate) open: &'a AtomicUsize,
+    // where it writes how many there are here, if that is of interest
+    tally: Option<&'a Tally>,
     pub(crate) turns: Turns<C>,
     pub(crate) clients: Slab<Client>,
     /// The clients that are to have their turn.
@@ -65,9 +68,9 @@ pub(crate) struct Desk<'a, D: Disk + Drop, R: Clock + Wait, C: Calls<Held = Begu
 
 impl<'a, D: Disk + Drop, R: Clock + Wait, C: Calls<Held = Begun> + Drop> Desk<'a, D, R, C> {
     /// A worker without clients, at a seat of the pool.
-    pub(crate) fn new<G: Gate>(
+    pub(crate) fn new<O: Observer>(
         rt: &'a R,
-        pool: &'a Pool<'a, D, G>,
+        pool: &'a Pool<'a, D, O>,
         bell: &'a Bell,
         seat: Seat,
         calls: C,
@@ -81,10 +84,11 @@ impl<'a, D: Disk + Drop, R: Clock + Wait, C: Calls<Held = Begun> + Drop> Desk<'a
             rt,
             alloc,
             map: pool.map,
+            tally: pool.observer.tally(seat.place),
             seat,
             bell,
             bells: pool.bells,
-            open: &pool.open,
+            open: pool.open,
             turns: Turns::new(alloc, calls)?,
             clients: Slab::new(alloc),
             queue: VecDeque::new(alloc),
@@ -170,6 +174,17 @@ impl<'a, D: Disk + Drop, R: Clock + Wait, C: Calls<Held = Begun> + Drop> Desk<'a
             return;
         }
         self.remove(key);
+    }
+
+    /// Tells how many clients there are, and how many connections hold calls, if that is of interest.
+    pub(crate) fn tell(&self) {
+        if let Some(tally) = self.tally {
+            let held = self
+                .turns
+                .len()
+                .saturating_add(usize::from(self.has_errand));
+            tally.note_clients(self.clients.len(), held);
+        }
     }
 
     /// Puts a client among those that are to have their turn, if there is something to do and it isn't

@@ -226,8 +226,10 @@ impl<'a, D: Disk + Drop, R: Clock + Wait, C: Calls<Held = Begun> + Drop> Desk<'a
             self.wait(events);
             self.begin_all();
             self.answer_all();
+            self.tell();
             self.commit();
             self.sweep();
+            self.tell();
         }
         unreachable!()
     }

@@ -1,32 +1,30 @@
 //! The threads of the workers, and the connections that are handed to them.
 ghost use Rattle.std.specs.Prelude.{◌≡◌, IfErr};
-ghost use Rattle.cmd_serve.specs.Responding.{RespondsRightly};
-ghost use Rattle.cmd_serve.specs.WholeMap.{AnswersOf};
 
 use crate::begun::Begun;
 use crate::bells::Bell;
-use crate::bulk::{Responds, Task, answer_of, respond_by};
 use crate::desk::{Desk, Seat};
 use crate::errands::{Office, run_errands};
 use crate::event_loop::room_for_events;
+use crate::observer::Observer;
 use crate::seats::{Doors, Furniture};
 use crate::service::Service;
 use crate::streams::Stream;
-use crate::worker::{Gate, Worker};
+use crate::worker::Worker;
 use connections::Calls;
 use disk_model::Disk;
 use durable_map::DurableMap;
 use log::{Log, warn};
-use map_types::{Refusal, Reply};
+use map_types::Refusal;
 use std::alloc::Global;
 use std::sync::Wait;
-use std::sync::atomic::{AtomicU64, AtomicUsize, Ordering};
+use std::sync::atomic::{AtomicUsize, Ordering};
 use std::thread;
 use std::thread::Threads;
 use std::time::Clock;
 
 /// How many clients a worker gets before the next one gets any.
-const SHARE: usize = 4;
+const SHARE: usize = 8;
 
 /// Where connections come from.
 pub trait Arrivals {
@@ -36,13 +34,12 @@ pub trait Arrivals {
 
 /// What the threads of the workers share.
 #[derive(Drop)]
-pub(crate) struct Pool<'a, D: Disk + Drop, G: Gate> {
+pub(crate) struct Pool<'a, D: Disk + Drop, O: Observer> {
     pub(crate) alloc: Global,
     pub(crate) map: &'a DurableMap<D>,
-    gate: &'a G,
-    taken_up: AtomicU64,
+    pub(crate) observer: &'a O,
     /// How many clients are served, and how many may be.
-    pub(crate) open: AtomicUsize,
+    pub(crate) open: &'a AtomicUsize,
     most: usize,
     /// For how many seconds a client may be idle; 0 is for ever.
     pub(crate) idle: u32,
@@ -58,10 +55,20 @@ enum Job {
     Answer(Office),
 }
 
+impl Job {
+    // The number of its worker. The last one answers the requests of the whole map.
+    fn place(&self) -> usize {
+        match self {
+            Job::Serve(seat) => seat.place,
+            Job::Answer(office) => office.ways_back.len(),
+        }
+    }
+}
+
 // Serves the clients of a seat until no more come.
-fn serve_at<'a, D: Disk + Drop, G: Gate, R: Clock + Wait, C: Calls<Held = Begun> + Drop>(
+fn serve_at<'a, D: Disk + Drop, O: Observer, R: Clock + Wait, C: Calls<Held = Begun> + Drop>(
     rt: &'a R,
-    pool: &'a Pool<'a, D, G>,
+    pool: &'a Pool<'a, D, O>,
     seat: Seat,
     calls: C,
 ) {
@@ -77,9 +84,9 @@ fn serve_at<'a, D: Disk + Drop, G: Gate, R: Clock + Wait, C: Calls<Held = Begun>
 }
 
 // Does a job with these calls.
-fn do_job_with<'a, D: Disk + Drop, G: Gate, R: Clock + Wait, C: Calls<Held = Begun> + Drop>(
+fn do_job_with<'a, D: Disk + Drop, O: Observer, R: Clock + Wait, C: Calls<Held = Begun> + Drop>(
     rt: &'a R,
-    pool: &'a Pool<'a, D, G>,
+    pool: &'a Pool<'a, D, O>,
     job: Job,
     calls: C,
 ) {
@@ -92,64 +99,18 @@ fn do_job_with<'a, D: Disk + Drop, G: Gate, R: Clock + Wait, C: Calls<Held = Beg
     }
 }
 
-// Does a job, with a pass of its own.
-fn do_job<D: Disk + Drop, G: Gate, R: Clock + Wait, A: Responds>(
-    rt: &R,
-    pool: &Pool<'_, D, G>,
-    job: Job,
-    responds: A,
-)
-    requires { RespondsRightly A.is_ready A.replies responds }
-{
-    let made = Worker::new(
-        rt,
-        pool.alloc,
-        responds,
-        pool.map,
-        pool.gate,
-        &pool.taken_up,
-    );
+// A thread of the pool, which does a job with a pass of its own.
+fn work<D: Disk + Drop, O: Observer, R: Clock + Wait>(rt: &R, pool: &Pool<'_, D, O>, job: Job) {
+    let made = Worker::new(rt, pool.alloc, pool.map, pool.observer, job.place());
     if let Ok(worker) = made {
         do_job_with(rt, pool, job, worker);
     }
 }
 
-// The same, with what finds the replies to requests of the whole map.
-fn do_job_by<
-    D: Disk + Drop,
-    G: Gate,
-    R: Clock + Wait,
-    F: Fn(Task) -> Result<Reply, Refusal> + Drop,
->(rt: &R, pool: &Pool<'_, D, G>, job: Job, by: F)
-    requires callable { F.IsAlwaysCallable by }
-    requires right { (task : _) (answer : _) → F.post by task answer
-        → AnswersOf task.view.map task.bulk answer }
-{
-    let responds = respond_by(by);
-    do_job(rt, pool, job, responds);
-}
-
-// A thread of the pool.
-fn work<D: Disk + Drop, G: Gate, R: Clock + Threads + Wait + Sync>(
-    rt: &R,
-    pool: &Pool<'_, D, G>,
-    job: Job,
-) {
-    let alloc = pool.alloc;
-    do_job_by(
-        rt,
-        pool,
-        job,
-        move |task: Task| -> Result<Reply, Refusal>
-            ensures { AnswersOf task.view.map task.bulk result }
-        { answer_of(rt, alloc, &task) },
-    );
-}
-
 /// Whether one more client may be served. The log has one record for as long as none may.
-fn has_room<D: Disk + Drop, G: Gate, L: Log>(
+fn has_room<D: Disk + Drop, O: Observer, L: Log>(
     rt: &L,
-    pool: &Pool<'_, D, G>,
+    pool: &Pool<'_, D, O>,
     has_said: &mut bool,
 ) -> bool {
     let most = pool.most;
@@ -165,19 +126,19 @@ fn has_room<D: Disk + Drop, G: Gate, L: Log>(
 }
 
 // How many clients a worker gets before the next one gets any. Those of one worker share its batches
-// without a wake. A gate that is told of requests may hold one up, and its worker's other clients with it.
-fn share_of<G: Gate>(gate: &G) -> usize {
-    if gate.is_told() { 1 } else { SHARE }
+// without a wake. An observer that may hold a request up holds up its worker's other clients with it.
+fn share_of<O: Observer>(observer: &O) -> usize {
+    if observer.may_hold_up() { 1 } else { SHARE }
 }
 
 // Hands each connection to a worker. One above the limit is closed at once.
-fn hand_out<D: Disk + Drop, G: Gate, C: Arrivals, R: Log + Wait>(
+fn hand_out<D: Disk + Drop, O: Observer, C: Arrivals, R: Log + Wait>(
     rt: &R,
-    pool: &Pool<'_, D, G>,
+    pool: &Pool<'_, D, O>,
     doors: &mut Doors,
     arrivals: &mut C,
 ) {
-    let share = share_of(pool.gate);
+    let share = share_of(pool.observer);
     let mut has_said = false;
     for _ in rt.forever() {
         let Some(stream) = arrivals.next() else {
@@ -196,10 +157,10 @@ fn hand_out<D: Disk + Drop, G: Gate, C: Arrivals, R: Log + Wait>(
 // Starts the threads, and hands the connections out. The threads end once the doors are closed.
 fn employ<
     D: Disk + Drop + Send,
-    G: Gate + Sync,
+    O: Observer + Sync,
     C: Arrivals,
     R: Clock + Log + Threads + Wait + Sync,
->(rt: &R, pool: &Pool<'_, D, G>, furniture: Furniture, arrivals: &mut C) -> Result<(), Refusal>
+>(rt: &R, pool: &Pool<'_, D, O>, furniture: Furniture, arrivals: &mut C) -> Result<(), Refusal>
     ensures { IfErr result (λ refusal. refusal ≡ Refusal.NoMemory) }
 {
     let Furniture {
@@ -240,13 +201,13 @@ fn employ<
 /// `NoMemory` if a thread can't be started.
 pub fn workers<
     D: Disk + Drop + Send,
-    G: Gate + Sync,
+    O: Observer + Sync,
     C: Arrivals,
     R: Clock + Log + Threads + Wait + Sync,
 >(
     rt: &R,
     service: &Service<'_, D>,
-    gate: &G,
+    observer: &O,
     furniture: Furniture,
     bells: &[Bell],
     arrivals: &mut C,
@@ -256,9 +217,8 @@ pub fn workers<
     let pool = Pool {
         alloc: service.alloc,
         map: service.map,
-        gate,
-        taken_up: AtomicU64::new(0),
-        open: AtomicUsize::new(0),
+        observer,
+        open: service.open,
         most: service.connections,
         idle: service.idle,
         bells,

@@ -1,9 +1,10 @@
-//! The server: the map of a directory is served at a port of this machine, at a Unix socket, or at both.
+//! The server: the map of a directory is served at a port of this machine, at a Unix socket, or at
+//! both.
 ghost use Rattle.std.specs.Prelude.{◌≡◌, IfOk, IfErr};
 ghost use Rattle.cmd_text.specs.Naming.{IsNamed};
 ghost use Rattle.cmd_text.specs.Printing.{PrintsAtMost};
 ghost use Rattle.cmd_serve.specs.Serving.{Announces, Hosts, ServesOn};
-ghost use Rattle.cmd_serve.specs.Settings.{AreNamed, ArePlacesOf, IsConnectionCount, IsWorkerCount};
+ghost use Rattle.cmd_serve.specs.Settings.{AreNamed, ArePlacesOf, IsConnectionCount, IsReportInterval, IsReportOf, IsWorkerCount};
 ghost use Rattle.cmd_serve.specs.Listening.{HaveSocketPath};
 ghost use Rattle.cmd_serve.specs.declared.listening.Places.{Places};
 ghost use Rattle.socket_file.specs.Binding.{Binds};
@@ -12,8 +13,8 @@ ghost use Rattle.socket_file.specs.Names.{IsMode};
 use crate::accepting::Acceptor;
 use crate::listening::{Places, lines_of, listen};
 use crate::opening::{open_directory, open_map};
+use crate::reporting::Reporter;
 use crate::service::{Service, serve_map};
-use crate::worker::NoGate;
 use cmd_directory::Directories;
 use cmd_text::{MISUSED, break_off, cannot_open, port_named, refuse, say, stripes_named};
 use disk_model::{Disk, FirstError};
@@ -21,12 +22,15 @@ use java_hash::StripeCount;
 use log::{Log, error, info};
 use map_types::Refusal;
 use socket_file::{SocketFiles, is_socket_path, mode_named};
-use std::alloc::Global;
+use std::alloc::{AllocError, Global};
+use std::fs::File;
 use std::io;
 use std::io::Write;
 use std::net::{Net, TcpListener, TcpStream};
 use std::os::unix::net::UnixListener;
+use std::rt::Files;
 use std::sync::Wait;
+use std::sync::atomic::AtomicUsize;
 use std::thread::Threads;
 use std::time::Clock;
 use wire_frames::write_whole;
@@ -47,6 +51,8 @@ pub struct ServerWords<'a> {
     pub bytes: &'a str,
     pub idle: &'a str,
     pub ahead: &'a str,
+    /// Left out there are no records of its work.
+    pub report: Option<&'a str>,
 }
 
 /// What a server is to do.
@@ -69,6 +75,8 @@ pub(crate) struct Settings<'a> {
     pub idle: u32,
     /// How many zeros are written ahead of a batch in a long log; with 0 none are.
     pub ahead: u32,
+    /// How many seconds lie between two records of its work; nothing if there are none.
+    pub report: Option<u32>,
 }
 
 fn workers_named(word: &str) -> Option<usize>
@@ -86,6 +94,29 @@ fn connections_named(word: &str) -> Option<u32>
     match word.parse::<u32>() {
         Ok(count) if count > 0 => Some(count),
         _ => None,
+    }
+}
+
+fn interval_named(word: &str) -> Option<u32>
+    ensures { IsNamed IsReportInterval word.now result }
+{
+    match word.parse::<u32>() {
+        Ok(seconds) if seconds > 0 => Some(seconds),
+        _ => None,
+    }
+}
+
+/// The seconds between two records, if a word names them; else a text that says what is wrong with it.
+fn report_named(word: Option<&str>) -> Result<Option<u32>, &'static str>
+    ensures ok { IfOk result (IsReportOf word.entry) }
+    ensures err { IfErr result (λ _. (report : _) → IsReportOf word.entry report → ⊥) }
+{
+    match word {
+        None => Ok(None),
+        Some(word) => match interval_named(word) {
+            Some(seconds) => Ok(Some(seconds)),
+            None => Err("N of --report-seconds is a number from 1 to 4294967295\n"),
+        },
     }
 }
 
@@ -143,6 +174,7 @@ fn settings_named<'a>(words: &ServerWords<'a>) -> Result<Settings<'a>, &'static 
     let Ok(ahead) = words.ahead.parse::<u32>() else {
         return Err("A is a number from 0 to 4294967295\n");
     };
+    let report = report_named(words.report)?;
     Ok(Settings {
         stands_by: words.standby,
         places,
@@ -153,6 +185,7 @@ fn settings_named<'a>(words: &ServerWords<'a>) -> Result<Settings<'a>, &'static 
         bytes,
         idle,
         ahead,
+        report,
     })
 }
 
@@ -170,11 +203,18 @@ fn host<
     M: SocketFiles<Listener = UnixListener>,
     W: Write,
     E: Write,
-    R: Net<Listener = TcpListener, Stream = TcpStream> + Clock + Log + Threads + Wait + Sync,
+    R: Files<File = File, Dir: Send + Sync>
+        + Net<Listener = TcpListener, Stream = TcpStream>
+        + Clock
+        + Log
+        + Threads
+        + Wait
+        + Sync,
 >(
     rt: &R,
     machine: &M,
     service: &Service<'_, D>,
+    reporter: &Reporter<'_>,
     places: Places<'_>,
     mode: u32,
     output: &mut W,
@@ -204,24 +244,44 @@ fn host<
         error!(rt; "standard output failed: {cause}");
         return break_off(error);
     }
-    match serve_map(rt, service, &NoGate, &mut acceptor) {
+    match serve_map(rt, service, reporter, &mut acceptor) {
         Ok(()) => break_off(error),
         Err(refusal) => refuse(alloc, refusal, error),
     }
 }
 
-/// Opens the disk, says in a record with how many commands its map begins, and serves the map, whose
-/// log is written ahead as the settings say. `first_error` tells of the disk.
+/// What writes the records of a server of the directory, whose map begins with so many commands.
+/// One of its threads takes up the requests of the whole map, beside the workers.
+fn reporter_of<'a, R: Clock>(
+    rt: &R,
+    alloc: Global,
+    directory: &'a str,
+    first: u64,
+    settings: &Settings<'_>,
+) -> Result<Reporter<'a>, AllocError> {
+    let threads = settings.workers.saturating_add(1);
+    Reporter::new(rt, alloc, directory, settings.report, first, threads)
+}
+
+/// Opens the disk of a directory, says in a record with how many commands its map begins, and
+/// serves the map, whose log is written ahead as the settings say. `first_error` tells of the disk.
 pub(crate) fn serve_disk<
     D: Disk + Drop + Send,
     M: SocketFiles<Listener = UnixListener>,
     W: Write,
     E: Write,
-    R: Net<Listener = TcpListener, Stream = TcpStream> + Clock + Log + Threads + Wait + Sync,
+    R: Files<File = File, Dir: Send + Sync>
+        + Net<Listener = TcpListener, Stream = TcpStream>
+        + Clock
+        + Log
+        + Threads
+        + Wait
+        + Sync,
 >(
     rt: &R,
     machine: &M,
     alloc: Global,
+    directory: &str,
     disk: D,
     first_error: FirstError,
     settings: &Settings<'_>,
@@ -240,6 +300,10 @@ pub(crate) fn serve_disk<
             if let Err(refusal) = map.set_log_ahead(rt, settings.ahead as usize) {
                 return refuse(alloc, refusal, error);
             }
+            let Ok(reporter) = reporter_of(rt, alloc, directory, first, settings) else {
+                return refuse(alloc, Refusal::NoMemory, error);
+            };
+            let served = AtomicUsize::new(0);
             let service = Service {
                 alloc,
                 map: &map,
@@ -248,11 +312,13 @@ pub(crate) fn serve_disk<
                 workers: settings.workers,
                 connections: settings.connections as usize,
                 idle: settings.idle,
+                open: &served,
             };
             host(
                 rt,
                 machine,
                 &service,
+                &reporter,
                 settings.places,
                 settings.mode,
                 output,
@@ -268,21 +334,29 @@ pub(crate) fn serve_disk<
     }
 }
 
-/// Serves the map of a directory at a port of this machine, at a Unix socket, or at both, with the words
-/// of its command line. It ends only by being ended. Of its four files those that are absent are made: an empty one may have been left
-/// out of a copy. A directory whose newest log is of an earlier version is brought to the newest one
-/// first. A server that stands by waits as long as another holds a lock of the directory, and one Info
-/// record says so.
+/// Serves the map of a directory at a port of this machine, at a Unix socket, or at both, with the
+/// words of its command line. It ends only by being ended. Of its four files those that are absent
+/// are made: an empty one may have been left out of a copy. A directory whose newest log is of an
+/// earlier version is brought to the newest one first. A server that stands by waits as long as
+/// another holds a lock of the directory, and one Info record says so.
 ///
 /// The status is 2 with a text on `error` if the words aren't allowed. It is 1 with `unreadable` on
-/// `error` if the directory's lock or files, the port, the socket or `output` fail. It is 1 with `refused` and
-/// the refusal if the directory can't be opened or no memory is found. An Error record has the
-/// cause of what the system refused. An upgrade has a record. Once the directory is open an Info
-/// record says how many commands the map begins with. Only then, with the directory's lock, is the
-/// socket made, and the file of a server that has ended replaced. Once it listens it prints
-/// `listening` and the port, and the same with the path. If the store fails later, one Error record says why.
+/// `error` if the directory's lock or files, the port, the socket or `output` fail. It is 1 with
+/// `refused` and the refusal if the directory can't be opened or no memory is found. An Error
+/// record has the cause of what the system refused. An upgrade has a record. Once the directory is
+/// open an Info record says how many commands the map begins with. Only then, with the directory's
+/// lock, is the socket made, and the file of a server that has ended replaced. Once it listens it
+/// prints `listening` and the port, and the same with the path. If the store fails later, one Error
+/// record says why. If records of its work are asked for, an Info record tells of it each time that
+/// so many seconds have gone, and one of each checkpoint.
 pub fn serve<
-    R: Net<Listener = TcpListener, Stream = TcpStream> + Clock + Log + Threads + Wait + Sync,
+    R: Files<File = File, Dir: Send + Sync>
+        + Net<Listener = TcpListener, Stream = TcpStream>
+        + Clock
+        + Log
+        + Threads
+        + Wait
+        + Sync,
     M: Directories + SocketFiles<Listener = UnixListener>,
     W: Write,
     E: Write,
@@ -304,6 +378,7 @@ pub fn serve<
                 rt,
                 machine,
                 alloc,
+                words.directory,
                 disk,
                 first_error,
                 &settings,

@@ -2,17 +2,19 @@
 ghost use Rattle.std.specs.Prelude.{◌≡◌, IfErr};
 
 use crate::bells::Bell;
+use crate::observer::Observer;
 use crate::pool::{Arrivals, workers};
 use crate::seats::furnish;
-use crate::worker::Gate;
 use disk_model::{Disk, FirstError};
-use durable_map::{DurableMap, Ends, checkpoint_loop, flush_loop};
+use durable_map::{DurableMap, Ends, SealedCheckpoint, checkpoint_loop, flush_loop};
 use log::{Log, error};
 use map_types::Refusal;
 use std::alloc::Global;
+use std::fs::File;
 use std::net::Net;
+use std::rt::Files;
 use std::sync::Wait;
-use std::sync::atomic::{AtomicBool, Ordering};
+use std::sync::atomic::{AtomicBool, AtomicUsize, Ordering};
 use std::thread;
 use std::thread::Threads;
 use std::time::Clock;
@@ -36,18 +38,23 @@ pub struct Service<'a, D: Disk + Drop> {
     pub connections: usize,
     /// For how many seconds a client may be idle; 0 is for ever.
     pub idle: u32,
+    /// How many connections are served now.
+    pub open: &'a AtomicUsize,
 }
 
 /// What the threads of the two loops share beside their map.
 #[derive(Drop)]
-struct Ending<'a, D: Disk + Drop> {
+struct Ending<'a, D: Disk + Drop, O: Observer, R> {
+    rt: &'a R,
     map: &'a DurableMap<D>,
+    observer: &'a O,
     bells: &'a [Bell],
     has_ended: AtomicBool,
     has_told: AtomicBool,
 }
 
-impl<D: Disk + Drop> Ends for Ending<'_, D> {
+impl<D: Disk + Drop, O: Observer, R: Clock + Files<File = File, Dir: Send + Sync> + Log> Ends
+    for Ending<'_, D, O, R> {
     fn has_ended(&self) -> bool {
         self.has_ended.load(Ordering::SeqCst)
     }
@@ -55,12 +62,23 @@ impl<D: Disk + Drop> Ends for Ending<'_, D> {
     fn turn_ended(&self) {
         self.ring();
     }
+
+    fn checkpoint_sealed(&self, sealed: &SealedCheckpoint) {
+        self.observer.checkpoint_sealed(self.rt, sealed);
+    }
 }
 
-impl<'a, D: Disk + Drop> Ending<'a, D> {
-    fn new(map: &'a DurableMap<D>, bells: &'a [Bell]) -> Ending<'a, D> {
+impl<'a, D: Disk + Drop, O: Observer, R> Ending<'a, D, O, R> {
+    fn new(
+        rt: &'a R,
+        map: &'a DurableMap<D>,
+        observer: &'a O,
+        bells: &'a [Bell],
+    ) -> Ending<'a, D, O, R> {
         Ending {
+            rt,
             map,
+            observer,
             bells,
             has_ended: AtomicBool::new(false),
             has_told: AtomicBool::new(false),
@@ -97,21 +115,21 @@ impl<'a, D: Disk + Drop> Ending<'a, D> {
 }
 
 /// Runs the two loops of the map on threads of their own and serves the connections with its workers,
-/// until no more come. If the store fails, one Error record says so. Refused with `NoMemory` if a thread
-/// can't be started.
+/// until no more come. The observer is told of what they do, and watches on one thread more, if it is to.
+/// If the store fails, one Error record says so. Refused with `NoMemory` if a thread can't be started.
 pub fn serve_map<
     D: Disk + Drop + Send,
-    G: Gate + Sync,
+    O: Observer + Sync,
     C: Arrivals,
-    R: Clock + Log + Net + Threads + Wait + Sync,
->(rt: &R, service: &Service<'_, D>, gate: &G, arrivals: &mut C) -> Result<(), Refusal>
+    R: Clock + Files<File = File, Dir: Send + Sync> + Log + Net + Threads + Wait + Sync,
+>(rt: &R, service: &Service<'_, D>, observer: &O, arrivals: &mut C) -> Result<(), Refusal>
     ensures { IfErr result (λ refusal. refusal ≡ Refusal.NoMemory) }
 {
     let Ok((furniture, bells)) = furnish(rt, service.alloc, service.workers) else {
         return Err(Refusal::NoMemory);
     };
     let bells = bells.as_slice();
-    let ending = &Ending::new(service.map, bells);
+    let ending = &Ending::new(rt, service.map, observer, bells);
     let has_started = thread::scope(thread::scope_env(), rt, |scope| {
         let flusher = scope.spawn(move || {
             let ended = flush_loop(rt, service.map, ending);
@@ -121,9 +139,19 @@ pub fn serve_map<
             let ended = checkpoint_loop(rt, service.map, service.bytes, ending);
             ending.tell(rt, service.first_error, ended);
         });
-        let has_started = flusher.is_ok()
-            && keeper.is_ok()
-            && workers(rt, service, gate, furniture, bells, arrivals).is_ok();
+        let mut has_started = flusher.is_ok() && keeper.is_ok();
+        if has_started && observer.watches() {
+            let watcher = scope.spawn(move || observer.watch(
+                rt,
+                service.map,
+                service.open,
+                ending,
+            ));
+            has_started = watcher.is_ok();
+        }
+        if has_started {
+            has_started = workers(rt, service, observer, furniture, bells, arrivals).is_ok();
+        }
         ending.end();
         has_started
     });

@@ -5,12 +5,11 @@ ghost use Rattle.stripe_locks.specs.Plays.{joining};
 ghost use Rattle.durable_map.specs.Durable.{Finishes};
 ghost use Rattle.durable_map.specs.Maps.{name_of_words, opening_of, stripe_count};
 ghost use Rattle.cmd_serve.specs.Serving.{Began, Finished, GaveUp, IsSameWorker, Owns};
-ghost use Rattle.cmd_serve.specs.Responding.{RespondsRightly};
 ghost use Rattle.cmd_serve.specs.WholeMap.{CompletesBulk};
 
 use crate::begun::Begun;
-use crate::bulk::{Responds, Task};
-use bulk_tasks::view;
+use crate::bulk::answer_bulk;
+use crate::observer::Observer;
 use connections::Calls;
 use disk_model::Disk;
 use durable_map::DurableMap;
@@ -18,60 +17,31 @@ use map_types::{Refusal, Reply};
 use std::alloc::Global;
 use std::marker::Model;
 use std::sync::Wait;
-use std::sync::atomic::{AtomicU64, Ordering};
+use std::time::Clock;
 use stripe_locks::laws::held_at_is_held_of;
 use stripe_locks::{Held, Pass};
 use wire_frames::{Bulk, Request};
 
-/// Is told of each request that is taken up, before its call is begun, and again once it is answered or
-/// given up. The requests are numbered from 0 in the order in which they are taken up.
-pub trait Gate {
-    /// Whether it is told of requests; else they aren't counted.
-    fn is_told(&self) -> bool {
-        true
-    }
-
-    fn before(&self, n: u64);
-
-    fn after(&self, n: u64);
-}
-
-/// The gate of a server, which holds nothing up, and is told of nothing.
-#[derive(Drop)]
-pub struct NoGate;
-
-impl Gate for NoGate {
-    fn is_told(&self) -> bool {
-        false
-    }
-
-    fn before(&self, _n: u64) {}
-
-    fn after(&self, _n: u64) {}
-}
-
 /// A worker makes the call of each request with its own pass as it begins it, and gives the reply out as
-/// it finishes it. For a request of the whole map it then takes a view, and `responds` finds the reply
-/// by it.
+/// it finishes it. For a request of the whole map it then takes a view, of which the reply is.
 #[derive(Drop)]
-pub struct Worker<'a, D: Disk + Drop, G: Gate, R: Wait, A: Responds> {
+pub struct Worker<'a, D: Disk + Drop, O: Observer, R: Wait> {
     rt: &'a R,
     alloc: Global,
-    responds: A,
     map: &'a DurableMap<D>,
-    gate: &'a G,
-    taken_up: &'a AtomicU64,
+    observer: &'a O,
+    // its number among the workers
+    place: usize,
     pass: Pass,
 }
 
-impl<'a, D: Disk + Drop, G: Gate, R: Wait, A: Responds> Model for Worker<'a, D, G, R, A> {
+impl<'a, D: Disk + Drop, O: Observer, R: Wait> Model for Worker<'a, D, O, R> {
     ghost use Rattle.stripe_locks.specs.Passes.{recorded};
     ghost use Rattle.durable_map.specs.Maps.{IsReady, name_of_words, stripe_count};
     ghost use Rattle.std.specs.Coded.{coded_ℕ, coded_list, coded×, code_by};
     ghost use Rattle.std.specs.Prelude.{refl};
     ghost use Rattle.ticket_order.specs.contracts.record.Record as record_type;
     ghost use Rattle.cmd_serve.specs.Serving.{WorkerState};
-    ghost use Rattle.cmd_serve.specs.Responding.{RespondsRightly};
 
     ghost Value = { WorkerState };
 
@@ -86,24 +56,18 @@ impl<'a, D: Disk + Drop, G: Gate, R: Wait, A: Responds> Model for Worker<'a, D, 
       pass = recorded worker.pass;
     } };
 
-    ghost invariant = { λ worker. IsReady worker.map.now worker.pass
-        × RespondsRightly A.is_ready A.replies worker.responds };
+    ghost invariant = { λ worker. IsReady worker.map.now worker.pass };
 }
 
-impl<'a, D: Disk + Drop, G: Gate, R: Wait, A: Responds> Worker<'a, D, G, R, A> {
-    /// A worker, which takes a new pass. The requests of all workers are counted in `taken_up`.
-    /// `responds` finds the replies to requests of the whole map.
+impl<'a, D: Disk + Drop, O: Observer, R: Wait> Worker<'a, D, O, R> {
+    /// The worker with the number `place`, which takes a new pass.
     pub fn new(
         rt: &'a R,
         alloc: Global,
-        responds: A,
         map: &'a DurableMap<D>,
-        gate: &'a G,
-        taken_up: &'a AtomicU64,
-    ) -> Result<Worker<'a, D, G, R, A>, Refusal>
-        // Each reply that it finds is that of the view.
-        requires { RespondsRightly A.is_ready A.replies responds }
-
+        observer: &'a O,
+        place: usize,
+    ) -> Result<Worker<'a, D, O, R>, Refusal>
         // It has the stripes and the shared words of the map, and a new pass that isn't the keeper's.
         ensures stripes { IfOk result (λ worker. worker.stripes ≡ stripe_count map.now) }
         ensures words { IfOk result (λ worker. worker.words ≡ name_of_words map.now) }
@@ -116,49 +80,31 @@ impl<'a, D: Disk + Drop, G: Gate, R: Wait, A: Responds> Worker<'a, D, G, R, A> {
         Ok(Worker {
             rt,
             alloc,
-            responds,
             map,
-            gate,
-            taken_up,
+            observer,
+            place,
             pass,
         })
     }
 
-    // Tells the gate of the next request, and gives its number, if the gate is told of requests.
-    fn take_up(&self) -> Option<u64> {
-        if !self.gate.is_told() {
-            return None;
-        }
-        let n = self.taken_up.fetch_add(1, Ordering::SeqCst);
-        self.gate.before(n);
-        Some(n)
-    }
-
-    // Tells the gate of the end of the request with this number, if it has one.
-    fn put_down(&self, number: Option<u64>) {
-        if let Some(n) = number {
-            self.gate.after(n);
-        }
-    }
-
     // Makes the call of a change or a read. A request of the whole map is held as it is.
     #[tactic(auto, using(crate::proofs::Owning::held_at))]
-    fn begin_as(&mut self, number: Option<u64>, request: Request) -> Result<Begun, Refusal>
+    fn begin_as(&mut self, mark: Option<u64>, request: Request) -> Result<Begun, Refusal>
         ensures began { Began self.old request result self.new }
         ensures owned { IfOk result (Owns self.new) }
     {
         match request {
             Request::Change(command) => {
                 match self.map.begin_change(self.rt, &mut self.pass, command) {
-                    Ok(held) => Ok(Begun::Call(number, held)),
+                    Ok(held) => Ok(Begun::Call(mark, held)),
                     Err(refusal) => Err(refusal),
                 }
             }
             Request::Read(read) => match self.map.begin_read(self.rt, &mut self.pass, read) {
-                Ok(held) => Ok(Begun::Call(number, held)),
+                Ok(held) => Ok(Begun::Call(mark, held)),
                 Err(refusal) => Err(refusal),
             },
-            Request::Bulk(bulk) => Ok(Begun::View(number, bulk)),
+            Request::Bulk(bulk) => Ok(Begun::View(mark, bulk)),
         }
     }
 
@@ -177,12 +123,25 @@ impl<'a, D: Disk + Drop, G: Gate, R: Wait, A: Responds> Worker<'a, D, G, R, A> {
         ensures same { IsSameWorker self.old self.new }
         ensures completes { CompletesBulk self.old.stripes self.old.pass bulk result self.new.pass }
     {
-        let view = view(self.rt, self.alloc, self.map, &mut self.pass)?;
-        self.responds.respond(Task { view, bulk })
+        answer_bulk(self.rt, self.alloc, self.map, &mut self.pass, &bulk)
     }
 }
 
-impl<D: Disk + Drop, G: Gate, R: Wait, A: Responds> Calls for Worker<'_, D, G, R, A> {
+impl<D: Disk + Drop, O: Observer, R: Clock + Wait> Worker<'_, D, O, R> {
+    // Tells the observer of the next request, and gives its mark, if it is to be told of its end.
+    fn take_up(&self) -> Option<u64> {
+        self.observer.request_begins(self.rt, self.place)
+    }
+
+    // Tells the observer of the end of the request with this mark, if it has one.
+    fn put_down(&self, mark: Option<u64>) {
+        if let Some(mark) = mark {
+            self.observer.request_ended(self.rt, self.place, mark);
+        }
+    }
+}
+
+impl<D: Disk + Drop, O: Observer, R: Clock + Wait> Calls for Worker<'_, D, O, R> {
     type Held = Begun;
 
     ghost began = { Began };
@@ -194,11 +153,11 @@ impl<D: Disk + Drop, G: Gate, R: Wait, A: Responds> Calls for Worker<'_, D, G, R
     ghost owns = { Owns };
 
     fn begin(&mut self, request: Request) -> Result<Begun, Refusal> {
-        let number = self.take_up();
-        match self.begin_as(number, request) {
+        let mark = self.take_up();
+        match self.begin_as(mark, request) {
             Ok(begun) => Ok(begun),
             Err(refusal) => {
-                self.put_down(number);
+                self.put_down(mark);
                 Err(refusal)
             }
         }
@@ -220,14 +179,14 @@ impl<D: Disk + Drop, G: Gate, R: Wait, A: Responds> Calls for Worker<'_, D, G, R
 
     fn finish(&mut self, begun: Begun) -> Result<Reply, Refusal> {
         match begun {
-            Begun::Call(number, held) => {
+            Begun::Call(mark, held) => {
                 let answer = self.finish_call(held);
-                self.put_down(number);
+                self.put_down(mark);
                 answer
             }
-            Begun::View(number, bulk) => {
+            Begun::View(mark, bulk) => {
                 let answer = self.answer_bulk(bulk);
-                self.put_down(number);
+                self.put_down(mark);
                 answer
             }
         }
@@ -235,11 +194,11 @@ impl<D: Disk + Drop, G: Gate, R: Wait, A: Responds> Calls for Worker<'_, D, G, R
 
     fn give_up(&mut self, begun: Begun) {
         match begun {
-            Begun::Call(number, held) => {
+            Begun::Call(mark, held) => {
                 held.give_up();
-                self.put_down(number);
+                self.put_down(mark);
             }
-            Begun::View(number, _bulk) => self.put_down(number),
+            Begun::View(mark, _bulk) => self.put_down(mark),
         }
     }
 }

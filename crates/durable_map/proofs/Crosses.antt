@@ -17,6 +17,7 @@ use Rattle.durable_map.specs.contracts.locked_keeper.LockedKeeper.TheInside as I
 use Rattle.durable_map.specs.contracts.locked_keeper.LockedKeeperKeyedStripes.TheImpl as fitting
 use Rattle.durable_map.specs.contracts.map.DurableMap as DurableMap
 use Rattle.durable_map.proofs.gathering.Gathering.TheSendSync as gathering
+use Rattle.durable_map.proofs.locked_keeper.Done.TheSendSync as done
 use Rattle.atomic_methods.proofs.Crosses.{prepared_send}
 use Rattle.map_types.proofs.commands.Reply.TheSendSync as reply
 use Rattle.map_types.proofs.commands.Read.TheSendSync as read
@@ -90,7 +91,7 @@ module _ (D : RattleType) where
 
   module _ (g : Ghosts D.Denot) where
     fields : IsSend D → AllSend (shape (Inside.the_type D g)).fields
-    fields s = (heap.Arc-send Stripes.the_row stripes_send stripes_sync, (keeper s, (pass, ((search sendable), tt))))
+    fields s = (heap.Arc-send Stripes.the_row stripes_send stripes_sync, (keeper s, (pass, ((search sendable), (search (done.the_field_send, crosses, sendable) depth 20, tt)))))
 
     inside : IsSend D → IsSend (Inside.the_row D g)
     inside s = recorded_send _ _ _ (Inside.the_type D g).to_one (struct_send (shape (Inside.the_type D g)) (fields s))

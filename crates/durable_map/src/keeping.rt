@@ -7,6 +7,7 @@ ghost use Rattle.flusher.specs.Fitting.{Fits};
 ghost use Rattle.flusher.specs.KeeperSteps.{is_walking};
 ghost use Rattle.durable_map.specs.LockedKeepers.{HasCause, Keeps, KeepsSealed};
 
+use crate::counting::Counting;
 use checkpoint_file::CheckpointPhase;
 use checkpoint_walk::try_capture;
 use disk_model::Disk;
@@ -142,6 +143,25 @@ pub(crate) fn capture<D: Disk, S: Steps>(
     let captured = try_capture(keeper, stripe, steps);
     what_is_kept(keeper);
     captured
+}
+
+/// The same, with how many entries the stripe had, if it was taken.
+pub(crate) fn capture_counted<D: Disk, S: Steps>(
+    keeper: &mut Keeper<D>,
+    stripe: usize,
+    steps: &mut S,
+) -> (Result<u64, Refusal>, usize)
+    requires keeps { Keeps D.states D.honest (S.stripe_count steps.old) keeper.old
+        (S.recorded steps.old) }
+    ensures keeps { Keeps D.states D.honest (S.stripe_count steps.new) keeper.new
+        (S.recorded steps.new) }
+    ensures cause { (is_full : Bool) → HasCause is_full keeper.old → HasCause is_full keeper.new }
+    ensures place { S.place steps.new ≡ S.place steps.old }
+    ensures stripes { S.stripe_count steps.new ≡ S.stripe_count steps.old }
+{
+    let mut counting = Counting::of(steps);
+    let captured = capture(keeper, stripe, &mut counting);
+    (captured, counting.entries())
 }
 
 /// Goes on to the seal of the checkpoint.

@@ -3,6 +3,7 @@
 
 mod calls;
 mod changes;
+mod counting;
 mod gathering;
 mod keeping;
 pub mod laws;
@@ -12,9 +13,11 @@ mod loops;
 mod map;
 mod reads;
 mod starts;
+mod telling;
 mod tries;
 mod views;
 
 pub use loops::{Ends, checkpoint_loop, flush_loop};
 pub use map::DurableMap;
-pub use view_walk::{Captured, ViewWalk, Viewed};
+pub use telling::{SealedCheckpoint, Standing};
+pub use view_walk::{Captured, PartsWalk, PartsWalked, ViewWalk, Viewed};

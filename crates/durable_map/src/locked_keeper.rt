@@ -8,6 +8,7 @@ ghost use Rattle.stripe_locks.specs.Passes.{recorded, stripe_count, IsPassOf};
 ghost use Rattle.durable_map.specs.LockedKeepers.{HasCause, Keeps};
 
 use crate::keeping;
+use crate::telling::{SealedCheckpoint, Standing};
 use checkpoint_file::CheckpointPhase;
 use disk_model::Disk;
 use flusher::Keeper;
@@ -16,6 +17,7 @@ use map_types::Refusal;
 use std::alloc::Global;
 use std::marker::Model;
 use std::sync::Arc;
+use std::time::Instant;
 use stripe_locks::{Pass, Stripes};
 
 /// The longest batch.
@@ -26,10 +28,53 @@ const MOST_COMMANDS: u32 = 65_536;
 pub(crate) enum Turn {
     /// Something was done, and there may be more to do.
     Worked,
+    /// The same: a checkpoint was sealed.
+    Sealed,
     /// There was nothing to do.
     Rested,
     /// The turns of the other loop come first.
     Awaited,
+}
+
+/// What is told of the work that was done in this life.
+#[derive(Clone, Copy)]
+struct Done {
+    // how many batches were committed
+    batches: u64,
+    // when the checkpoint under way was begun, and how many entries of it were captured
+    begun: Option<Instant>,
+    captured: u64,
+    // the checkpoint that was sealed last
+    sealed: Option<SealedCheckpoint>,
+}
+
+impl Done {
+    fn new() -> Done {
+        Done {
+            batches: 0,
+            begun: None,
+            captured: 0,
+            sealed: None,
+        }
+    }
+
+    // A batch was committed, if so.
+    fn note_batch(&mut self, is_batch: bool) {
+        if is_batch {
+            self.batches = self.batches.saturating_add(1);
+        }
+    }
+
+    // A checkpoint was begun.
+    fn note_begun(&mut self, now: Option<Instant>) {
+        self.begun = now;
+        self.captured = 0;
+    }
+
+    // A stripe with so many entries was captured.
+    fn note_captured(&mut self, entries: usize) {
+        self.captured = self.captured.saturating_add(entries as u64);
+    }
 }
 
 /// The keeper with its pass. It holds no stripe between its calls; each of them makes at most one
@@ -42,6 +87,7 @@ pub(crate) struct LockedKeeper<D: Disk> {
     // A file was found full: a batch would have carried the log past its greatest length, or a stripe has
     // too many entries for a checkpoint.
     is_full: bool,
+    done: Done,
 }
 
 impl<D: Disk> Model for LockedKeeper<D> {
@@ -99,6 +145,7 @@ impl<D: Disk> LockedKeeper<D> {
             keeper,
             pass,
             is_full: false,
+            done: Done::new(),
         }
     }
 
@@ -113,6 +160,18 @@ impl<D: Disk> LockedKeeper<D> {
     /// How many commands are committed.
     pub(crate) fn committed(&self) -> u64 {
         self.keeper.committed()
+    }
+
+    /// How the map stands, of which so many tickets were drawn.
+    pub(crate) fn standing(&self, tickets: u64) -> Standing {
+        Standing {
+            tickets,
+            durable: self.keeper.published,
+            batches: self.done.batches,
+            log_bytes: self.keeper.log.gate() as u64 + 1,
+            generation: self.keeper.sealed,
+            sealed: self.done.sealed,
+        }
     }
 
     // Takes the entries of a stripe, unless another pass holds it or no memory is found.
@@ -173,6 +232,8 @@ impl<D: Disk> LockedKeeper<D> {
     fn publish(&mut self)
         ensures words { self.new.words ≡ self.old.words }
     {
+        self.done
+            .note_batch(self.keeper.published < self.keeper.committed());
         let mut steps = self.stripes.at(&mut self.pass);
         keeping::publish(&mut self.keeper, &mut steps);
         self.stripes.wake_released();
@@ -217,7 +278,7 @@ impl<D: Disk> LockedKeeper<D> {
 
     // Begins a checkpoint if the newest log has at least `bytes` bytes, and wakes the loop of the
     // log, which begins another log.
-    fn begin_checkpoint(&mut self, bytes: u64) -> Result<Turn, Refusal>
+    fn begin_checkpoint(&mut self, bytes: u64, now: Option<Instant>) -> Result<Turn, Refusal>
         ensures words { self.new.words ≡ self.old.words }
     {
         let length = self.keeper.log.gate() as u64 + 1;
@@ -225,6 +286,7 @@ impl<D: Disk> LockedKeeper<D> {
             return Ok(Turn::Rested);
         }
         keeping::begin(&mut self.keeper)?;
+        self.done.note_begun(now);
         self.stripes.wake_keeper();
         Ok(Turn::Worked)
     }
@@ -234,11 +296,12 @@ impl<D: Disk> LockedKeeper<D> {
         ensures words { self.new.words ≡ self.old.words }
     {
         let mut steps = self.stripes.at(&mut self.pass);
-        let captured = keeping::capture(&mut self.keeper, stripe, &mut steps);
+        let (captured, entries) = keeping::capture_counted(&mut self.keeper, stripe, &mut steps);
         if matches!(captured, Err(Refusal::LogFull)) {
             self.is_full = true;
         }
         let _mark = captured?;
+        self.done.note_captured(entries);
         Ok(Turn::Worked)
     }
 
@@ -253,22 +316,38 @@ impl<D: Disk> LockedKeeper<D> {
     fn advance_checkpoint(&mut self) -> Result<Turn, Refusal>
         ensures words { self.new.words ≡ self.old.words }
     {
-        let _phase = keeping::advance_checkpoint(&mut self.keeper)?;
-        Ok(Turn::Worked)
+        match keeping::advance_checkpoint(&mut self.keeper)? {
+            CheckpointPhase::Sealed => Ok(Turn::Sealed),
+            _ => Ok(Turn::Worked),
+        }
     }
 
-    /// A turn of the checkpoints. If none runs, one is begun once the newest log has at least
+    /// The checkpoint that was just sealed, for who watches.
+    pub(crate) fn note_sealed(&mut self, now: Option<Instant>) -> SealedCheckpoint
+        ensures words { self.new.words ≡ self.old.words }
+    {
+        let sealed = SealedCheckpoint {
+            generation: self.keeper.sealed,
+            entries: self.done.captured,
+            begun: self.done.begun,
+            ended: now,
+        };
+        self.done.sealed = Some(sealed);
+        sealed
+    }
+
+    /// A turn of the checkpoints. If none runs, one is begun `now` once the newest log has at least
     /// `bytes` bytes. Else it makes the device call that is due in its file, captures its next
     /// stripe, or seals it. While its log is begun it waits for the turns of the log. Refused with
     /// `Failed` once a device call has failed or a FAIL was made.
-    pub(crate) fn checkpoint(&mut self, bytes: u64) -> Result<Turn, Refusal>
+    pub(crate) fn checkpoint(&mut self, bytes: u64, now: Option<Instant>) -> Result<Turn, Refusal>
         ensures words { self.new.words ≡ self.old.words }
     {
         if self.keeper.is_broken || self.keeper.has_failed {
             return Err(Refusal::Failed);
         }
         let Some(writer) = &self.keeper.checkpoint else {
-            return self.begin_checkpoint(bytes);
+            return self.begin_checkpoint(bytes, now);
         };
         if self.keeper.next.is_some() {
             return Ok(Turn::Awaited);

@@ -5,6 +5,7 @@ ghost use Rattle.durable_map.specs.Maps.{name_of_words};
 
 use crate::locked_keeper::{LockedKeeper, Turn};
 use crate::map::DurableMap;
+use crate::telling::SealedCheckpoint;
 use crossbeam_utils::Backoff;
 use disk_model::Disk;
 use keyed_lock::Loan;
@@ -33,6 +34,21 @@ pub trait Ends {
     /// Is told after each turn of the log in which something was done: more may be durable. Left out it
     /// does nothing.
     fn turn_ended(&self) {}
+
+    /// Is told of each checkpoint that was sealed. Left out it does nothing.
+    fn checkpoint_sealed(&self, _sealed: &SealedCheckpoint) {}
+}
+
+/// What a turn of the checkpoints came to.
+#[derive(Clone, Copy)]
+struct CheckpointTurn {
+    turn: Result<Turn, Refusal>,
+    // how many changes are committed after it
+    committed: u64,
+    // for how long it held the lock, if the clock told
+    spent: Option<Duration>,
+    // the checkpoint that it sealed
+    sealed: Option<SealedCheckpoint>,
 }
 
 // Whether the store can't go on after this refusal: a device call failed, or a file is full.
@@ -93,20 +109,28 @@ impl<D: Disk + Drop> DurableMap<D> {
         (turn, committed)
     }
 
-    // A turn of the checkpoints, with the count that is committed after it, and for how long it held the
-    // lock.
-    fn checkpoint<R: Clock + Wait>(
-        &self,
-        rt: &R,
-        bytes: u64,
-    ) -> (Result<Turn, Refusal>, u64, Option<Duration>) {
+    // A turn of the checkpoints.
+    fn checkpoint<R: Clock + Wait>(&self, rt: &R, bytes: u64) -> CheckpointTurn {
         let (mut locked, loan) = self.take_keeper(rt);
         let start = Instant::now(rt).ok();
-        let turn = locked.checkpoint(bytes);
+        let turn = locked.checkpoint(bytes, start);
         let committed = locked.committed();
-        let spent = start.and_then(|start| start.elapsed(rt).ok());
+        let end = Instant::now(rt).ok();
+        let sealed = match turn {
+            Ok(Turn::Sealed) => Some(locked.note_sealed(end)),
+            _ => None,
+        };
         self.give_keeper(locked, loan);
-        (turn, committed, spent)
+        let spent = match (start, end) {
+            (Some(start), Some(end)) => Some(end.duration_since(start)),
+            _ => None,
+        };
+        CheckpointTurn {
+            turn,
+            committed,
+            spent,
+            sealed,
+        }
     }
 
     // Lets the loop of the log have the lock, if a change is still to be committed, for some times as
@@ -177,7 +201,7 @@ pub fn flush_loop<D: Disk + Drop, E: Ends, R: Wait>(
         let (turn, committed) = map.flush(rt, has_waited);
         last = committed;
         match turn {
-            Ok(Turn::Worked) => {
+            Ok(Turn::Worked | Turn::Sealed) => {
                 ends.turn_ended();
                 backoff.reset();
             }
@@ -214,14 +238,23 @@ pub fn checkpoint_loop<D: Disk + Drop, E: Ends, R: Clock + Wait>(
         if ends.has_ended() {
             return Ok(());
         }
-        match map.checkpoint(rt, bytes) {
-            (Ok(Turn::Worked), committed, spent) => {
+        let CheckpointTurn {
+            turn,
+            committed,
+            spent,
+            sealed,
+        } = map.checkpoint(rt, bytes);
+        if let Some(sealed) = &sealed {
+            ends.checkpoint_sealed(sealed);
+        }
+        match turn {
+            Ok(Turn::Worked | Turn::Sealed) => {
                 map.rest_behind(rt, committed, spent);
                 backoff.reset();
             }
-            (Ok(Turn::Rested), _, _) => map.rest_long(rt),
-            (Ok(Turn::Awaited), _, _) => map.wait_a_moment(rt, &backoff),
-            (Err(refusal), _, _) => {
+            Ok(Turn::Rested) => map.rest_long(rt),
+            Ok(Turn::Awaited) => map.wait_a_moment(rt, &backoff),
+            Err(refusal) => {
                 if is_final(refusal) {
                     map.fail(rt);
                     return Err(refusal);

@@ -48,15 +48,20 @@ init_line = with_rule (with_rule (new_app (codes "init")) directory_rule) (optio
 abbrev pub check_line : App
 check_line = with_rule (new_app (codes "check")) directory_rule
 
+-- the line, with the options that name the places of a server
+abbrev pub with_places : App → App
+with_places line = with_rule (with_rule (with_rule line (option_rule (codes "port"))) (option_rule (codes "socket")))
+    (option_rule (codes "socket-mode"))
+
 abbrev pub serve_line : App
 serve_line =
     with_rule (with_rule (with_rule (with_rule
     (with_rule (with_rule (with_rule (with_rule
-    (with_rule (with_rule (with_rule (new_app (codes "serve")) directory_rule)
+    (with_rule (with_rule (with_rule (with_rule (new_app (codes "serve")) directory_rule)
     (option_rule (codes "port"))) (option_rule (codes "socket"))) (option_rule (codes "socket-mode")))
     (option_rule (codes "stripes"))) (option_rule (codes "workers"))) (option_rule (codes "connections")))
     (option_rule (codes "checkpoint-bytes"))) (option_rule (codes "idle-seconds"))) (option_rule (codes "log-ahead")))
-    (flag_rule (codes "standby"))
+    (option_rule (codes "report-seconds"))) (flag_rule (codes "standby"))
 
 abbrev pub call_line : App
 call_line = with_rule (with_rule (with_rule (new_app (codes "call")) (option_rule (codes "port")))
@@ -114,8 +119,8 @@ pub record GivesFlag (id : Text) (rows : List Row) (is_given : Bool) : Type 0 wh
   pub default : one_of id rows ≡ Some (codes "false") → is_given ≡ false
   pub given : one_of id rows ≡ Some (codes "true") → is_given ≡ true
 
--- What `serve` is given. The port and the path may be left out; then 600, 4 workers, 10000 connections, 67108864 bytes,
--- 0 seconds and 1048576 zeros, each if it is left out.
+-- What `serve` is given. The port, the path and the seconds of records may be left out; then 600, 4 workers, 10000
+-- connections, 67108864 bytes, 0 seconds and 1048576 zeros, each if it is left out.
 pub record GivesServer (rows : List Row) (words : ServerWords) : Type 0 where
   pub directory : words.directory.now ≡ directory_in rows
   pub standby : GivesFlag (codes "standby") rows words.standby
@@ -128,6 +133,7 @@ pub record GivesServer (rows : List Row) (words : ServerWords) : Type 0 where
   pub bytes : words.bytes.now ≡ word_or (codes "67108864") (codes "checkpoint-bytes") rows
   pub idle : words.idle.now ≡ word_or (codes "0") (codes "idle-seconds") rows
   pub ahead : words.ahead.now ≡ word_or (codes "1048576") (codes "log-ahead") rows
+  pub report : word_of words.report ≡ first_of (codes "report-seconds") rows
 
 -- where the server of a call is; each of the two may be left out
 pub record GivesPlace (rows : List Row) (at : PlaceWords) : Type 0 where

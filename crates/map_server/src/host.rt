@@ -9,7 +9,7 @@ use std::thread::Threads;
 use std::time::Clock;
 
 /// Files, sockets, the clock, threads, records, and leave to wait.
-pub trait Host: Files<File = File>
+pub trait Host: Files<File = File, Dir: Send + Sync>
     + Net<Listener = TcpListener, Stream = TcpStream>
     + Clock
     + Log
@@ -18,7 +18,7 @@ pub trait Host: Files<File = File>
     + Sync {}
 
 impl<
-    T: Files<File = File>
+    T: Files<File = File, Dir: Send + Sync>
         + Net<Listener = TcpListener, Stream = TcpStream>
         + Clock
         + Log

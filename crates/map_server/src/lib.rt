@@ -5,7 +5,7 @@ mod host;
 mod order;
 pub mod program;
 
-pub use cmd_serve::{Arrivals, Gate, NoGate, workers};
+pub use cmd_serve::{Arrivals, NoObserver, Observer, workers};
 pub use connections::{Calls, ConnectionError, serve_connection};
 pub use host::Host;
 pub use program::dchm;

@@ -1,8 +1,8 @@
 //! What the words of the command line ask for.
 ghost use Rattle.std.specs.Prelude.{◌≡◌, false, codes, map, option_map, string_bytes, IfOk};
-ghost use Rattle.clap.specs.Words.{app_of, found_of, rows_of, rule_of, subcommand_rows_of, FailsBy};
+ghost use Rattle.clap.specs.Words.{app_of, first_of, found_of, rows_of, rule_of, subcommand_rows_of, FailsBy};
 ghost use Rattle.clap.specs.declared.builder.command.Command.TheViews.{out-Command as fields_of};
-ghost use Rattle.map_server.specs.CommandLine.{call_line, check_line, command_line, directory_rule, faults, file_rule, flag_rule, init_line, mem_line, named_by, option_rule, serve_line, sim_line, word_or, words_rule, call_in, Asks, GivesFlag, GivesPlace, GivesServer};
+ghost use Rattle.map_server.specs.CommandLine.{call_line, check_line, command_line, directory_rule, faults, file_rule, flag_rule, init_line, mem_line, named_by, option_rule, serve_line, sim_line, with_places, word_of, word_or, words_rule, call_in, Asks, GivesFlag, GivesPlace, GivesServer};
 
 use clap::{Arg, ArgAction, ArgMatches, Command, Error};
 use cmd_call::PlaceWords;
@@ -163,10 +163,11 @@ fn check_line<'a>(alloc: Global) -> Result<Command<'a>, AllocError>
         .arg(directory(alloc))
 }
 
-/// The command that serves the map of a directory.
-fn serve_line<'a>(alloc: Global) -> Result<Command<'a>, AllocError>
-    ensures app { IfOk result (λ command. app_of command ≡ serve_line) }
-    ensures local { IfOk result (λ command. (fields_of command).has_globals ≡ false) }
+/// The command, with the options that name the places of a server.
+fn with_places<'a>(alloc: Global, command: Command<'a>) -> Result<Command<'a>, AllocError>
+    ensures app { IfOk result (λ new. app_of new ≡ with_places (app_of command.entry)) }
+    ensures local { IfOk result (λ new.
+        (fields_of command.entry).has_globals ≡ false → (fields_of new).has_globals ≡ false) }
 {
     let port = option(
         alloc,
@@ -186,6 +187,14 @@ fn serve_line<'a>(alloc: Global) -> Result<Command<'a>, AllocError>
         "OCTAL",
         "The rights of the socket's file: 600, its user's alone, if left out",
     );
+    command.arg(port)?.arg(socket)?.arg(mode)
+}
+
+/// The command that serves the map of a directory.
+fn serve_line<'a>(alloc: Global) -> Result<Command<'a>, AllocError>
+    ensures app { IfOk result (λ command. app_of command ≡ serve_line) }
+    ensures local { IfOk result (λ command. (fields_of command).has_globals ≡ false) }
+{
     let standby = flag(
         alloc,
         "standby",
@@ -221,18 +230,23 @@ fn serve_line<'a>(alloc: Global) -> Result<Command<'a>, AllocError>
         "A",
         "How many zeros are written ahead of a batch in a long log: 1048576 if left out, 0 for none",
     );
-    Command::new(alloc, "serve")
+    let report = option(
+        alloc,
+        "report-seconds",
+        "N",
+        "Writes a record of its work each N seconds, and of each checkpoint: none if left out",
+    );
+    let line = Command::new(alloc, "serve")
         .about("Opens a directory, and serves its map to this machine until it is ended")
-        .arg(directory(alloc))?
-        .arg(port)?
-        .arg(socket)?
-        .arg(mode)?
+        .arg(directory(alloc))?;
+    with_places(alloc, line)?
         .arg(stripes(alloc))?
         .arg(workers)?
         .arg(connections)?
         .arg(bytes)?
         .arg(idle)?
         .arg(ahead)?
+        .arg(report)?
         .arg(standby)
 }
 
@@ -305,6 +319,13 @@ fn word_or<'a>(matches: &ArgMatches<'a>, id: &str, other: &'a str) -> &'a str
     matches.get_str(id).unwrap_or(other)
 }
 
+/// The word that is given for an argument, if one is.
+fn word_in<'a>(matches: &ArgMatches<'a>, id: &str) -> Option<&'a str>
+    ensures { word_of result ≡ first_of id.now (rows_of (found_of matches.now)) }
+{
+    matches.get_str(id)
+}
+
 /// Whether an option that takes no value is given.
 fn is_given<'a>(matches: &ArgMatches<'a>, id: &str) -> bool
     ensures { GivesFlag id.now (rows_of (found_of matches.now)) result }
@@ -327,8 +348,8 @@ fn place_in<'a>(matches: &ArgMatches<'a>) -> PlaceWords<'a>
     ensures { GivesPlace (rows_of (found_of matches.now)) result }
 {
     PlaceWords {
-        port: matches.get_str("port"),
-        socket: matches.get_str("socket"),
+        port: word_in(matches, "port"),
+        socket: word_in(matches, "socket"),
     }
 }
 
@@ -349,6 +370,7 @@ fn server_in<'a>(matches: &ArgMatches<'a>) -> ServerWords<'a>
         bytes: word_or(matches, "checkpoint-bytes", BYTES),
         idle: word_or(matches, "idle-seconds", IDLE),
         ahead: word_or(matches, "log-ahead", AHEAD),
+        report: word_in(matches, "report-seconds"),
     }
 }
 

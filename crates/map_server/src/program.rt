@@ -81,13 +81,13 @@ fn mem<T: Wait, R: Read, W: Write, E: Write>(
 /// refusal on `error` if the map can't be begun or no memory is found to read. It is 2 with a text
 /// on how to call the program on `error` for words that aren't known.
 ///
-/// `serve` serves the map of a directory at a port of this machine, at a Unix socket, or at both, and ends
-/// only by being ended. Once it listens it prints `listening` and the port, or the path, on `output`. The status is 2 with a text on
-/// `error` if one of its words isn't allowed, and 1 if it can't open the directory, listen, or
-/// start its threads.
+/// `serve` serves the map of a directory at a port of this machine, at a Unix socket, or at both,
+/// and ends only by being ended. Once it listens it prints `listening` and the port, or the path,
+/// on `output`. The status is 2 with a text on `error` if one of its words isn't allowed, and 1 if
+/// it can't open the directory, listen, or start its threads.
 ///
-/// `call` makes one call of a server, and prints its reply on `output`. With `-` in place of a method
-/// it makes one for each line of `input`, and prints a line for each.
+/// `call` makes one call of a server, and prints its reply on `output`. With `-` in place of a
+/// method it makes one for each line of `input`, and prints a line for each.
 ///
 /// `sim` plays the script of a file, and prints on `output` a line for each of its lines. The
 /// status is 1 with `unreadable` on `error` if the file can't be read. It is 2 with what is wrong
@@ -109,8 +109,9 @@ pub fn dchm<
 ) -> u8
     ensures { Ran M.Opened.states M.Opened.failures M.Opened.honest M.is_opened M.is_created
         M.is_refused M.Reader.fails M.Reader.remaining M.Writer.contents M.is_connected
-        M.is_unreachable (Binds M.was_free M.is_private M.is_bound M.has_mode M.is_renamed) (map string_bytes words.now) (R.remaining input.old)
-        (R.remaining input.new) (W.contents output.old) (W.contents output.new) result }
+        M.is_unreachable (Binds M.was_free M.is_private M.is_bound M.has_mode M.is_renamed)
+        (map string_bytes words.now) (R.remaining input.old) (R.remaining input.new)
+        (W.contents output.old) (W.contents output.new) result }
 {
     match order_of(alloc, words) {
         Ok(Order::Mem) => mem(rt, alloc, input, output, error),

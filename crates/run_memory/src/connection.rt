@@ -1,6 +1,4 @@
 //! Connections of the running store and of the map in memory.
-ghost use Rattle.cmd_serve.specs.Responding.{RespondsRightly};
-ghost use Rattle.cmd_serve.specs.WholeMap.{AnswersOf};
 
 use crate::cases::Case;
 use crate::directory::running;
@@ -8,15 +6,14 @@ use crate::host::Host;
 use crate::marks::{begin, end};
 use anyhow::{Context, Result, anyhow};
 use cmd_mem::Memory;
-use cmd_serve::{NoGate, Responds, Task, Worker, answer_of, respond_by};
+use cmd_serve::{NoObserver, Worker};
 use connections::{Calls, ConnectionError, serve_connection};
 use disk_model::{Disk, MemDisk};
 use durable_map::{DurableMap, Ends, flush_loop};
-use map_types::{Refusal, Reply};
 use run_cases::{bytes_spelled, hexadecimal};
 use std::alloc::Global;
 use std::sync::Wait;
-use std::sync::atomic::{AtomicBool, AtomicU64, Ordering};
+use std::sync::atomic::{AtomicBool, Ordering};
 use std::thread::join;
 
 /// Room for all replies of a case, so that what is written takes no memory.
@@ -111,46 +108,16 @@ pub(crate) fn play_memory<R: AllocGlobal + Print + Wait>(rt: &R, case: &Case<'_>
 }
 
 /// Serves the connections of a case by a worker of the running store.
-fn serve_by<D: Disk + Drop, R: Host, A: Responds>(
-    rt: &R,
-    map: &DurableMap<D>,
-    texts: &[&str],
-    responds: A,
-) -> bool
-    requires { RespondsRightly A.is_ready A.replies responds }
-{
-    let taken_up = AtomicU64::new(0);
-    match Worker::new(rt, rt.alloc(), responds, map, &NoGate, &taken_up) {
+fn serve_by_worker<D: Disk + Drop, R: Host>(rt: &R, map: &DurableMap<D>, texts: &[&str]) -> bool {
+    match Worker::new(rt, rt.alloc(), map, &NoObserver, 0) {
         Ok(mut worker) => serve_each(rt, &mut worker, texts).is_ok(),
         Err(_refusal) => false,
     }
 }
 
-/// The same, with what finds the replies to requests of the whole map.
-fn serve_with<D: Disk + Drop, R: Host, F: Fn(Task) -> Result<Reply, Refusal> + Drop>(
-    rt: &R,
-    map: &DurableMap<D>,
-    texts: &[&str],
-    by: F,
-) -> bool
-    requires callable { F.IsAlwaysCallable by }
-    requires right { (task : _) (answer : _) → F.post by task answer
-        → AnswersOf task.view.map task.bulk answer }
-{
-    serve_by(rt, map, texts, respond_by(by))
-}
-
 /// Serves the connections of a case, and ends the loop of the store.
 fn work<D: Disk + Drop, R: Host>(rt: &R, map: &DurableMap<D>, texts: &[&str], flag: &Flag) -> bool {
-    let alloc = rt.alloc();
-    let is_served = serve_with(
-        rt,
-        map,
-        texts,
-        move |task: Task| -> Result<Reply, Refusal>
-            ensures { AnswersOf task.view.map task.bulk result }
-        { answer_of(rt, alloc, &task) },
-    );
+    let is_served = serve_by_worker(rt, map, texts);
     flag.raise();
     is_served
 }

@@ -3,8 +3,9 @@ use std::fs::File;
 use std::rt::Files;
 use std::sync::Wait;
 use std::thread::Threads;
+use std::time::Clock;
 
-/// Files, memory, printing, threads, and leave to wait.
-pub trait Host: Files<File = File> + AllocGlobal + Print + Threads + Wait + Sync {}
+/// A clock, files, memory, printing, threads, and leave to wait.
+pub trait Host: Clock + Files<File = File> + AllocGlobal + Print + Threads + Wait + Sync {}
 
-impl<T: Files<File = File> + AllocGlobal + Print + Threads + Wait + Sync> Host for T {}
+impl<T: Clock + Files<File = File> + AllocGlobal + Print + Threads + Wait + Sync> Host for T {}

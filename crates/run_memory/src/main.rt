@@ -16,6 +16,7 @@ mod showing;
 mod stores;
 mod sweeps;
 mod views;
+mod whole;
 
 use crate::calls::play_calls;
 use crate::captures::play_captures;
@@ -26,6 +27,7 @@ use crate::growing::play_growing;
 use crate::host::Host;
 use crate::sweeps::play_sweeps;
 use crate::views::{play_questions, play_views};
+use crate::whole::play_whole;
 use anyhow::{Result, bail};
 use std::{env, fs};
 
@@ -44,6 +46,7 @@ fn play<R: Host>(rt: &R, case: &Case<'_>) -> Result<()> {
         "growing" => play_growing(rt, case),
         "view" => play_views(rt, case),
         "asked_of_view" => play_questions(rt, case),
+        "asked_of_map" => play_whole(rt, case),
         _ => bail!("no such call"),
     }
 }

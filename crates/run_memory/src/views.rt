@@ -91,7 +91,7 @@ pub(crate) fn play_views<R: Host>(rt: &R, case: &Case<'_>) -> Result<()> {
 
 /// What a view returns.
 #[derive(Drop)]
-enum Answer {
+pub(crate) enum Answer {
     /// How many entries it has.
     Counted(usize),
     /// What its values come to.
@@ -129,7 +129,7 @@ fn ask_marked<R: Host>(
 }
 
 /// Prints what a view answered.
-fn show_answer<R: Host>(rt: &R, answer: &Result<Answer, Refusal>) -> Result<()> {
+pub(crate) fn show_answer<R: Host>(rt: &R, answer: &Result<Answer, Refusal>) -> Result<()> {
     match answer {
         Ok(Answer::Counted(count)) => println!(rt; "counted {count}")?,
         Ok(Answer::Reduced(Ok(value))) => {

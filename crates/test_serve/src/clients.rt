@@ -1,14 +1,17 @@
 //! Maps that are served, and clients of them.
-use cmd_serve::{Arrivals, Gate, Service, Stream, serve_map};
+use cmd_serve::{Arrivals, Observer, Service, Stream, serve_map};
 use disk_model::{Disk, Failure, FirstError, MemDisk};
 use durable_map::DurableMap;
 use java_hash::StripeCount;
 use log::Log;
 use recovery::{format, open_parts};
 use std::alloc::Global;
+use std::fs::File;
 use std::io::{Read, Write};
 use std::net::{Net, Shutdown, TcpListener, TcpStream};
+use std::rt::Files;
 use std::sync::Wait;
+use std::sync::atomic::AtomicUsize;
 use std::test::Fail;
 use std::thread::Threads;
 use std::time::Clock;
@@ -114,18 +117,19 @@ pub(crate) fn received(alloc: Global, clients: &[TcpStream]) -> Vec<u8> {
 /// Serves the connections with this many workers, until no more come.
 pub(crate) fn serve_listed<
     D: Disk + Drop + Send,
-    G: Gate + Sync,
+    O: Observer + Sync,
     C: Arrivals,
-    R: Clock + Log + Net + Threads + Wait + Sync,
+    R: Clock + Files<File = File, Dir: Send + Sync> + Log + Net + Threads + Wait + Sync,
 >(
     rt: &R,
     alloc: Global,
     map: &DurableMap<D>,
-    gate: &G,
+    observer: &O,
     arrivals: &mut C,
     workers: usize,
 ) -> Result<(), Fail> {
     let first_error = FirstError::new(alloc)?;
+    let count = AtomicUsize::new(0);
     let service = Service {
         alloc,
         map,
@@ -134,27 +138,34 @@ pub(crate) fn serve_listed<
         workers,
         connections: MOST_CLIENTS,
         idle: 0,
+        open: &count,
     };
-    serve_map(rt, &service, gate, arrivals).map_err(|_| "threads start")?;
+    serve_map(rt, &service, observer, arrivals).map_err(|_| "threads start")?;
     Ok(())
 }
 
 /// Serves clients that send these bytes, one each, and returns what they were sent.
 pub(crate) fn served<
     D: Disk + Drop + Send,
-    G: Gate + Sync,
-    R: Net<Listener = TcpListener, Stream = TcpStream> + Clock + Log + Threads + Wait + Sync,
+    O: Observer + Sync,
+    R: Net<Listener = TcpListener, Stream = TcpStream>
+        + Clock
+        + Files<File = File, Dir: Send + Sync>
+        + Log
+        + Threads
+        + Wait
+        + Sync,
 >(
     rt: &R,
     alloc: Global,
     map: &DurableMap<D>,
-    gate: &G,
+    observer: &O,
     requests: &[&[u8]],
     workers: usize,
 ) -> Result<Vec<u8>, Fail> {
     let (clients, mut listed) = connected(rt, alloc, requests.len())?;
     send_each(clients.as_slice(), requests)?;
-    serve_listed(rt, alloc, map, gate, &mut listed, workers)?;
+    serve_listed(rt, alloc, map, observer, &mut listed, workers)?;
     Ok(received(alloc, clients.as_slice()))
 }
 

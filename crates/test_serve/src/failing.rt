@@ -1,15 +1,17 @@
 //! A device that fails, and servers that can't begin.
 use crate::clients::{PUT, formatted, map_over, repeated, served, sixteen};
 use cmd_directory::Directories;
-use cmd_serve::{NoGate, ServerWords, serve};
+use cmd_serve::{NoObserver, ServerWords, serve};
 use disk_model::{DirDisk, Failure, Fill, Unknown};
 use log::Log;
 use recovery::{format, open_parts};
 use socket_file::SocketFiles;
 use std::alloc::Global;
 use std::fs;
+use std::fs::File;
 use std::net::{Net, TcpListener, TcpStream};
 use std::os::unix::net::UnixListener;
+use std::rt::Files;
 use std::sync::Wait;
 use std::test::Fail;
 use std::thread::Threads;
@@ -44,7 +46,7 @@ fn after_a_device_failure_each_call_fails(rt: HostRuntime) -> Result<(), Fail> {
     let after = calls_of_opening(rt.alloc())?.wrapping_add(2);
     let puts = repeated(rt.alloc(), PUT, 30)?;
     let map = map_over(rt.alloc(), Some(Failure { after, fill }))?;
-    let sent = served(&rt, rt.alloc(), &map, &NoGate, &[puts.as_slice(); 3], 1);
+    let sent = served(&rt, rt.alloc(), &map, &NoObserver, &[puts.as_slice(); 3], 1);
     drop(map);
     assert_eq!(rt; sent?.as_slice(), ALL_FAILED);
     Ok(())
@@ -52,15 +54,22 @@ fn after_a_device_failure_each_call_fails(rt: HostRuntime) -> Result<(), Fail> {
 
 /// What a server of the directory complains of at the port or at the path, which prints nothing and ends with status 1.
 fn complaint<
-    R: Net<Listener = TcpListener, Stream = TcpStream> + Clock + Log + Threads + Wait + Sync,
+    'a,
+    R: Files<File = File, Dir: Send + Sync>
+        + Net<Listener = TcpListener, Stream = TcpStream>
+        + Clock
+        + Log
+        + Threads
+        + Wait
+        + Sync,
     M: Directories + SocketFiles<Listener = UnixListener>,
 >(
     rt: &R,
     machine: &M,
     alloc: Global,
-    directory: &str,
-    port: Option<&str>,
-    socket: Option<&str>,
+    directory: &'a str,
+    port: Option<&'a str>,
+    socket: Option<&'a str>,
 ) -> Result<Vec<u8>, Fail> {
     let words = ServerWords {
         directory,
@@ -74,6 +83,7 @@ fn complaint<
         bytes: "1000000",
         idle: "0",
         ahead: "0",
+        report: None,
     };
     let mut output = Vec::new(alloc);
     let mut error = Vec::new(alloc);

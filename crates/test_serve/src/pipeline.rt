@@ -1,6 +1,6 @@
 //! Puts of one connection that are sent in one piece, over a directory.
 use crate::clients::{WAS_ABSENT, map_of, served, sixteen};
-use cmd_serve::NoGate;
+use cmd_serve::NoObserver;
 use disk_model::{DirDisk, Unknown};
 use durable_map::DurableMap;
 use recovery::format;
@@ -71,7 +71,7 @@ fn puts_in_one_piece_share_batches(rt: HostRuntime) -> Result<(), Fail> {
     let puts = numbered_puts(alloc)?;
     let replies = numbers_before(alloc)?;
     let map = map_over(&rt, "pipeline")?;
-    let sent = served(&rt, alloc, &map, &NoGate, &[puts.as_slice()], 1);
+    let sent = served(&rt, alloc, &map, &NoObserver, &[puts.as_slice()], 1);
     drop(map);
     assert_eq!(rt; sent?.as_slice(), replies.as_slice());
     let batches = batches_of(&rt, alloc, "pipeline/log-a")?;

@@ -2,15 +2,17 @@
 use crate::clients::{
     MOST_TURNS, PUT, connected, map_over, received, repeated, send_each, serve_listed, served,
 };
-use cmd_serve::{Gate, NoGate};
+use cmd_serve::{NoObserver, Observer};
 use disk_model::MemDisk;
 use durable_map::DurableMap;
 use log::Log;
 use std::alloc::Global;
+use std::fs::File;
 use std::io::Write;
 use std::net::{Net, TcpListener, TcpStream};
+use std::rt::Files;
 use std::sync::Wait;
-use std::sync::atomic::{AtomicBool, Ordering};
+use std::sync::atomic::{AtomicBool, AtomicU64, Ordering};
 use std::test::Fail;
 use std::thread;
 use std::thread::Threads;
@@ -35,44 +37,56 @@ const BOTH_ARE_800: &[u8] =
 
 /// Holds the first request until the second was answered.
 #[derive(Drop)]
-struct HoldsFirst<'a, R> {
-    rt: &'a R,
+struct HoldsFirst {
+    taken_up: AtomicU64,
     has_answered: AtomicBool,
     was_in_time: AtomicBool,
 }
 
-impl<R: Clock> Gate for HoldsFirst<'_, R> {
-    fn before(&self, n: u64) {
-        if n > 0 {
-            return;
-        }
+impl HoldsFirst {
+    fn hold<R: Clock>(&self, rt: &R) {
         for _ in 0..MOST_TURNS {
             if self.has_answered.load(Ordering::SeqCst) {
                 self.was_in_time.store(true, Ordering::SeqCst);
                 return;
             }
-            thread::sleep(self.rt, Duration::from_millis(1));
+            thread::sleep(rt, Duration::from_millis(1));
         }
     }
+}
 
-    fn after(&self, n: u64) {
+impl Observer for HoldsFirst {
+    // The mark is the number of the request.
+    fn request_begins<R: Clock>(&self, rt: &R, _worker: usize) -> Option<u64> {
+        let n = self.taken_up.fetch_add(1, Ordering::SeqCst);
+        if n == 0 {
+            self.hold(rt);
+        }
+        Some(n)
+    }
+
+    fn request_ended<R: Clock>(&self, _rt: &R, _worker: usize, n: u64) {
         if n == 1 {
             self.has_answered.store(true, Ordering::SeqCst);
         }
+    }
+
+    fn may_hold_up(&self) -> bool {
+        true
     }
 }
 
 #[test]
 fn a_request_that_is_held_holds_up_no_other(rt: HostRuntime) -> Result<(), Fail> {
     let map = map_over(rt.alloc(), None)?;
-    let gate = HoldsFirst {
-        rt: &rt,
+    let observer = HoldsFirst {
+        taken_up: AtomicU64::new(0),
         has_answered: AtomicBool::new(false),
         was_in_time: AtomicBool::new(false),
     };
-    let sent = served(&rt, rt.alloc(), &map, &gate, &[PUT, PUT], 2);
+    let sent = served(&rt, rt.alloc(), &map, &observer, &[PUT, PUT], 2);
     drop(map);
-    assert!(rt; gate.was_in_time.load(Ordering::SeqCst));
+    assert!(rt; observer.was_in_time.load(Ordering::SeqCst));
     assert!(rt; [ABSENT_AND_5, FIVE_AND_ABSENT].contains(&sent?.as_slice()));
     Ok(())
 }
@@ -90,13 +104,19 @@ fn leave_before_last(clients: &mut Vec<TcpStream>) -> Result<(), Fail> {
 /// What five clients are sent: one goes without a reply, and the others send nothing, a part of a put,
 /// a refused length, and a put.
 fn sent_beside_broken<
-    R: Net<Listener = TcpListener, Stream = TcpStream> + Clock + Log + Threads + Wait + Sync,
+    R: Net<Listener = TcpListener, Stream = TcpStream>
+        + Clock
+        + Files<File = File, Dir: Send + Sync>
+        + Log
+        + Threads
+        + Wait
+        + Sync,
 >(rt: &R, alloc: Global, map: &DurableMap<MemDisk>) -> Result<Vec<u8>, Fail> {
     let (mut clients, mut listed) = connected(rt, alloc, 5)?;
     leave_before_last(&mut clients)?;
     let long = b"\x00\x00\x00\x04\x01\x00\x01a";
     send_each(clients.as_slice(), &[b"", &PUT[..9], long, PUT])?;
-    serve_listed(rt, alloc, map, &NoGate, &mut listed, 1)?;
+    serve_listed(rt, alloc, map, &NoObserver, &mut listed, 1)?;
     Ok(received(alloc, clients.as_slice()))
 }
 
@@ -112,11 +132,17 @@ fn a_connection_breaks_off_alone(rt: HostRuntime) -> Result<(), Fail> {
 /// Eight clients add 1 to two counters, a hundred times each, and then another one asks for both: how
 /// many bytes the eight are sent, and what the other one is.
 fn add_and_ask<
-    R: Net<Listener = TcpListener, Stream = TcpStream> + Clock + Log + Threads + Wait + Sync,
+    R: Net<Listener = TcpListener, Stream = TcpStream>
+        + Clock
+        + Files<File = File, Dir: Send + Sync>
+        + Log
+        + Threads
+        + Wait
+        + Sync,
 >(rt: &R, alloc: Global, map: &DurableMap<MemDisk>) -> Result<(usize, Vec<u8>), Fail> {
     let merges = repeated(alloc, ADD_TO_A_AND_B, 100)?;
-    let sent = served(rt, alloc, map, &NoGate, &[merges.as_slice(); 8], 8)?;
-    let counts = served(rt, alloc, map, &NoGate, &[GET_A_AND_B], 1)?;
+    let sent = served(rt, alloc, map, &NoObserver, &[merges.as_slice(); 8], 8)?;
+    let counts = served(rt, alloc, map, &NoObserver, &[GET_A_AND_B], 1)?;
     Ok((sent.len(), counts))
 }
 

@@ -1,6 +1,6 @@
 //! A client at a Unix socket.
 use crate::clients::{Listed, PUT, WAS_ABSENT, map_over, serve_listed};
-use cmd_serve::{NoGate, Stream};
+use cmd_serve::{NoObserver, Stream};
 use std::io::{Read, Write};
 use std::net::Shutdown;
 use std::os::unix::net::UnixStream;
@@ -16,7 +16,7 @@ fn a_client_at_a_unix_socket(rt: HostRuntime) -> Result<(), Fail> {
     streams.push(Stream::of_socket(server)?)?;
     let mut listed = Listed { streams };
     let map = map_over(rt.alloc(), None)?;
-    let ran = serve_listed(&rt, rt.alloc(), &map, &NoGate, &mut listed, 1);
+    let ran = serve_listed(&rt, rt.alloc(), &map, &NoObserver, &mut listed, 1);
     drop(map);
     ran?;
     let mut reply = [0u8; 4];

@@ -1,10 +1,12 @@
 //! Clients that neither read nor end.
 use crate::clients::{Listed, MOST_TURNS, PUT, WAS_ABSENT, connected, map_over, serve_listed};
-use cmd_serve::{Arrivals, NoGate, Stream};
+use cmd_serve::{Arrivals, NoObserver, Stream};
 use log::Log;
 use std::alloc::Global;
+use std::fs::File;
 use std::io::{Read, Write};
 use std::net::{Net, Shutdown, TcpListener, TcpStream};
+use std::rt::Files;
 use std::sync::Wait;
 use std::test::Fail;
 use std::thread::Threads;
@@ -59,11 +61,17 @@ impl Stalling {
 
 /// Whether a put is answered beside a client that sends these bytes, and then neither reads nor ends.
 fn is_answered_beside<
-    R: Net<Listener = TcpListener, Stream = TcpStream> + Clock + Log + Threads + Wait + Sync,
+    R: Net<Listener = TcpListener, Stream = TcpStream>
+        + Clock
+        + Files<File = File, Dir: Send + Sync>
+        + Log
+        + Threads
+        + Wait
+        + Sync,
 >(rt: &R, alloc: Global, bytes: &[u8]) -> Result<bool, Fail> {
     let mut stalling = Stalling::new(rt, alloc, bytes)?;
     let map = map_over(alloc, None)?;
-    let ran = serve_listed(rt, alloc, &map, &NoGate, &mut stalling, 2);
+    let ran = serve_listed(rt, alloc, &map, &NoObserver, &mut stalling, 2);
     drop(map);
     ran?;
     Ok(stalling.was_answered && stalling.reply.as_slice() == WAS_ABSENT)

@@ -219,7 +219,7 @@ fn gives(map: &DurableMap<MemDisk>, pass: &mut Pass, held: Held, wanted: i64) ->
     }
 }
 
-fn position(held: Held) -> u64 {
+pub(crate) fn position(held: Held) -> u64 {
     held.position().number()
 }
 

@@ -11,3 +11,5 @@ mod directory;
 mod leading;
 #[cfg(test)]
 mod limits;
+#[cfg(test)]
+mod standing;

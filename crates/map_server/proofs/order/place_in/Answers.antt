@@ -1,12 +1,4 @@
-use Rattle.std.proofs.Common.{◌∙◌, codes}
-use Rattle.clap.specs.Words.{found_of}
-use Rattle.clap.proofs.WalkLemmas.{first_value-rows}
 use Rattle.map_server.proofs.order.place_in.Goals as goal
 
 pub returns : goal.returns
-returns c =
-    let found = found_of c.args.matches.now in
-    record {
-      port = c.get_str.ensures ∙ first_value-rows found (codes "port");
-      socket = c.get_str-2.ensures ∙ first_value-rows found (codes "socket");
-    }
+returns c = record { port = c.word_in.ensures; socket = c.word_in-2.ensures }

@@ -13,4 +13,5 @@ returns c = record {
   bytes = c.word_or-6.ensures;
   idle = c.word_or-7.ensures;
   ahead = c.word_or-8.ensures;
+  report = c.word_in.ensures;
 }

@@ -10,3 +10,6 @@ spawn-keeper-requires-send-F g c κs h = search (service_sync, ending_sync, send
 
 pub workers-requires-send-D : goal.workers-requires-send-D
 workers-requires-send-D g c = search sendable
+
+pub spawn-watcher-requires-send-F : goal.spawn-watcher-requires-send-F
+spawn-watcher-requires-send-F g c κs h = search (service_sync, ending_sync, c.requires, c.well_formed, sendable) depth 14
