@@ -1,12 +1,31 @@
 -- How a server opens its disk, in the newest version of the files.
-use Rattle.std.specs.Prelude.{◌≡◌, ◌⊎◌, ℕ, List}
+use Rattle.std.specs.Prelude.{◌≡◌, ◌⊎◌, ℕ, List, []}
+use Rattle.java_hash.specs.declared.stripe_count.StripeCount.{StripeCount}
 use Rattle.map_types.specs.declared.refusals.Refusal.{Refusal}
 use Rattle.disk_model.specs.Files.{Contents, Files, now}
+use Rattle.ticket_order.specs.declared.record.Record.{Record}
+use Rattle.one_history.specs.Turns.{opening_of}
 use Rattle.store_layout.specs.Opening.{Opened, Holds, map_of, prefix_of}
-use Rattle.recovery.specs.Opening.{IsNotOpened}
+use Rattle.flusher.specs.Fitting.{Fits, IsUnused}
+use Rattle.recovery.specs.Dividing.{ArePartsOf}
+use Rattle.recovery.specs.Opening.{IsAtStart, IsNotOpened, IsOpenedAs}
 use Rattle.recovery.specs.LogReading.{contents_of}
 use Rattle.recovery.specs.Syncing.{LeavesOnly, SyncsAndLooks}
 use Rattle.recovery.specs.Upgrading.{IsNewest, IsUpgradeRefused, IsUpgraded, StaysStanding}
+use Rattle.cmd_serve.specs.declared.opening.Found.{Found}
+
+-- The disk was opened for as many stripes, which writes nothing: a stop now leaves exactly the files as they were read.
+-- A keeper that has done nothing yet was found, and the parts of the map that it begins with.
+pub record HasFound {D : Type 0} (states : D → List Files) (failures : D → ℕ) (honest : D → Type 0)
+    (stripes : StripeCount) (old : D) (found : Found D) : Type 0 where
+  pub looks : SyncsAndLooks states failures honest 4 0 old found.keeper.disk
+  pub left : LeavesOnly (now (states found.keeper.disk)) (contents_of states old)
+  pub start : IsAtStart stripes found.first found.keeper
+  pub are_parts : ArePartsOf stripes.count found.parts.items
+  pub reads : honest found.keeper.disk → honest old × IsOpenedAs (contents_of states old) stripes.count found.keeper
+      found.parts.items found.first found.limit
+  pub fits : (p : Record) → p.opening ≡ opening_of found.first found.parts.items found.limit
+      → IsUnused found.first found.limit p → Fits states honest stripes.count [] found.keeper p
 
 -- the newest log of what is found is in an earlier version
 abbrev pub IsEarlier : Contents → Opened → Type 0
@@ -20,6 +39,12 @@ pub record IsFound {D : Type 0} (states : D → List Files) (failures : D → �
   pub left : LeavesOnly (now (states opened)) (contents_of states old)
   pub holds : honest opened → honest old
       × ((found : Opened) × (Holds (contents_of states old) found × Is (contents_of states old) found))
+
+-- The disk was opened, which writes nothing, or that was refused.
+abbrev pub IsOnlyOpened : {D : Type 0} → (D → List Files) → (D → ℕ) → (D → Type 0) → D → D → Type 0
+IsOnlyOpened states failures honest old new =
+    IsFound states failures honest (λ contents found. Unit {0}) old new
+    ⊎ ((refusal : Refusal) × IsNotOpened states failures honest old new refusal)
 
 -- The disk was opened, its newest log was in an earlier version, and it was upgraded; no device call failed. On an
 -- honest disk no stop loses the map that it stood for, and afterwards it stands for the same.

@@ -1,5 +1,8 @@
 -- What a worker's calls leave of the record of its pass, and what serving a directory prints.
-use Rattle.std.specs.Prelude.{◌≡◌, ◌⊎◌, ℕ, List, [], ◌∷◌, Option, Result, Ok, Err}
+use Rattle.std.specs.Prelude.{◌≡◌, ◌≢◌, ◌⊎◌, ℕ, List, [], ◌∷◌, Option, Result, Ok, Err, true}
+use Rattle.std.specs.IoError.{error_kind}
+use Rattle.std.specs.declared.io.Error.{Error}
+use Rattle.std.specs.declared.io.ErrorKind.TheVariants.{WouldBlock}
 use Rattle.map_types.specs.declared.refusals.Refusal.{Refusal}
 use Rattle.disk_model.specs.Files.{Files}
 use Rattle.ticket_order.specs.declared.record.Record.{Record}
@@ -13,7 +16,7 @@ use Rattle.wire_frames.specs.declared.requests.Request.{Request}
 use Rattle.wire_frames.specs.declared.requests.Request.TheVariants as request
 use Rattle.connections.specs.Dialogue.{Answer}
 use Rattle.cmd_text.specs.Printing.{PrintsAtMost, PrintsNothing}
-use Rattle.cmd_serve.specs.Opening.{IsNotOpenedNewest, IsOpenedNewest}
+use Rattle.cmd_serve.specs.Opening.{IsNotOpenedNewest, IsOnlyOpened, IsOpenedNewest}
 use Rattle.cmd_serve.specs.Listening.{HaveListener, listening_lines}
 use Rattle.cmd_serve.specs.Settings.{AreNamed}
 use Rattle.cmd_serve.specs.WholeMap.{CompletesBulk}
@@ -115,22 +118,28 @@ BegunRequestsComplete =
 
 -- ---- what a server prints
 
+-- A server that listened at these places ended: with status 1, and it printed its lines at most.
+abbrev pub EndsAt : Places → Option (List ℕ) → Option (List ℕ) → ℕ → Type 0
+EndsAt places w0 w1 status = (status ≡ 1) × PrintsAtMost (listening_lines places) w0 w1
+
 -- IsListener says that a listener was bound at a path, and its file has these rights.
 module _ {L : Type 0} (IsListener : List ℕ → ℕ → L → Type 0) where
-  -- A server ended, before or after it listened at these places, with these rights of a socket. It printed nothing, or
-  -- its lines at most once it had bound its socket.
-  pub record Announces (places : Places) (mode : ℕ) (w0 w1 : Option (List ℕ)) (status : ℕ) : Type 0 where
-    pub status_is : status ≡ 1
-    pub prints : (w1 ≡ w0) ⊎ (HaveListener IsListener places mode × PrintsAtMost (listening_lines places) w0 w1)
-
-  -- If a server over the disk, of this many stripes, ends, the status is 1. It prints its lines at most, and nothing if
-  -- opening the disk was refused. `new` is how opening left the disk.
+  -- Once it listened at these places, with these rights of a socket, the disk was brought to the newest version and
+  -- opened, and it printed its lines at most. Or that was refused, and nothing was printed.
   pub record Hosts {D : Type 0} (states : D → List Files) (failures : D → ℕ) (honest : D → Type 0) (settings : Settings)
-      (old : D) (w0 w1 : Option (List ℕ)) (status : ℕ) : Type 0 where
-    pub new : D
-    pub ends : (IsOpenedNewest states failures honest old new × Announces settings.places settings.mode w0 w1 status)
+      (old new : D) (w0 w1 : Option (List ℕ)) (status : ℕ) : Type 0 where
+    pub listens : HaveListener IsListener settings.places settings.mode
+    pub ends : (IsOpenedNewest states failures honest old new × EndsAt settings.places w0 w1 status)
         ⊎ ((refusal : Refusal) × IsNotOpenedNewest states failures honest settings.stripes.count old new refusal
         × PrintsNothing w0 w1 status)
+
+  -- A server over the disk ended. The disk was only opened, which writes nothing, and nothing was printed. Or it was
+  -- served. `new` is how opening left the disk.
+  pub record ServesDisk {D : Type 0} (states : D → List Files) (failures : D → ℕ) (honest : D
+      → Type 0) (settings : Settings) (old : D) (w0 w1 : Option (List ℕ)) (status : ℕ) : Type 0 where
+    pub new : D
+    pub ends : (IsOnlyOpened states failures honest old new × PrintsNothing w0 w1 status)
+        ⊎ Hosts states failures honest settings old new w0 w1 status
 
 -- ---- a directory that was opened
 
@@ -140,23 +149,36 @@ pub record AreMisused (words : ServerWords) (w0 w1 : Option (List ℕ)) (status 
   pub nothing : w1 ≡ w0
   pub status_is : status ≡ 2
 
--- IsOpened says that a disk has the files of a directory, as they were when it was opened. IsListener says that a
--- listener was bound at a path, and its file has these rights.
+-- IsOpened says that a disk has the files of a directory, as they were when it was opened. IsRefused says that a
+-- directory couldn't be opened, for an error. IsListener says that a listener was bound at a path, and its file has these
+-- rights.
 module _ {D L : Type 0} (states : D → List Files) (failures : D → ℕ) (honest : D → Type 0)
-    (IsOpened : List ℕ → D → Type 0) (IsListener : List ℕ → ℕ → L → Type 0) where
-  -- a server over a disk of the directory ended
+    (IsOpened : List ℕ → D → Type 0) (IsRefused : List ℕ → Error → Type 0)
+    (IsListener : List ℕ → ℕ → L → Type 0) where
+  -- the directory was opened, and a server over its disk ended
   pub record HostsDirectory (directory : List ℕ) (settings : Settings) (w0 w1 : Option (List ℕ))
       (status : ℕ) : Type 0 where
     pub disk : D
     pub opened : IsOpened directory disk
-    pub hosts : Hosts IsListener states failures honest settings disk w0 w1 status
+    pub hosts : ServesDisk IsListener states failures honest settings disk w0 w1 status
 
-  -- The words name these settings, which are allowed; and a server over the directory ended, or it couldn't be opened,
-  -- and nothing was printed.
+  -- The directory couldn't be opened. A server that stands by isn't refused for a lock that another holds.
+  pub record IsNotServed (directory : List ℕ) (settings : Settings) : Type 0 where
+    pub cause : Error
+    pub refused : IsRefused directory cause
+    pub waits : settings.stands_by ≡ true → error_kind cause ≢ WouldBlock
+
+  -- The directory was opened and no memory was found for more, or it couldn't be opened.
+  abbrev pub IsOpenedAlone : List ℕ → Settings → Type 0
+  IsOpenedAlone directory settings = ((disk : D) × IsOpened directory disk) ⊎ IsNotServed directory settings
+
+  -- The words name these settings, which are allowed; and a server over the directory ended, or there was none, and
+  -- nothing was printed.
   pub record ServesAs (words : ServerWords) (w0 w1 : Option (List ℕ)) (status : ℕ) : Type 0 where
     pub settings : Settings
     pub named : AreNamed words settings
-    pub ends : HostsDirectory words.directory.now settings w0 w1 status ⊎ PrintsNothing w0 w1 status
+    pub ends : HostsDirectory words.directory.now settings w0 w1 status
+        ⊎ (IsOpenedAlone words.directory.now settings × PrintsNothing w0 w1 status)
 
   -- a directory was served by these words, if they are allowed
   abbrev pub ServesOn : ServerWords → Option (List ℕ) → Option (List ℕ) → ℕ → Type 0

@@ -46,10 +46,10 @@ pub record AreNamed (words : ServerWords) (settings : Settings) : Type 0 where
   pub workers_allowed : IsWorkerCount settings.workers
   pub connections : Spells words.connections.now settings.connections
   pub connections_allowed : IsConnectionCount settings.connections
-  pub bytes : Spells words.bytes.now settings.bytes
-  pub bytes_fit : settings.bytes < 2 ^ 64
-  pub idle : Spells words.idle.now settings.idle
-  pub idle_fits : settings.idle < 2 ^ 32
-  pub ahead : Spells words.ahead.now settings.ahead
-  pub ahead_fits : settings.ahead < 2 ^ 32
-  pub report : IsReportOf words.report settings.report
+  pub bytes : Spells words.checkpoint_bytes.now settings.checkpoint_bytes
+  pub bytes_fit : settings.checkpoint_bytes < 2 ^ 64
+  pub idle : Spells words.idle_seconds.now settings.idle_seconds
+  pub idle_fits : settings.idle_seconds < 2 ^ 32
+  pub ahead : Spells words.log_ahead.now settings.log_ahead
+  pub ahead_fits : settings.log_ahead < 2 ^ 32
+  pub report : IsReportOf words.report_seconds settings.report_seconds

@@ -76,7 +76,7 @@ impl<'a, D: Disk + Drop, R: Clock + Wait, C: Calls<Held = Begun> + Drop> Desk<'a
         calls: C,
     ) -> Result<Desk<'a, D, R, C>, AllocError> {
         let alloc = pool.alloc;
-        let limit = match pool.idle {
+        let limit = match pool.idle_seconds {
             0 => None,
             seconds => Some(Duration::from_secs(u64::from(seconds))),
         };

@@ -10,6 +10,7 @@ mod client;
 pub mod desk;
 pub mod errands;
 mod event_loop;
+pub mod figures;
 mod idle;
 pub mod laws;
 mod listening;
@@ -29,6 +30,7 @@ pub mod worker;
 
 pub use begun::Begun;
 pub use bells::Bell;
+pub use figures::Figures;
 pub use observer::{NoObserver, Observer};
 pub use pool::{Arrivals, workers};
 pub use seats::{Furniture, furnish};

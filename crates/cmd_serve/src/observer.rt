@@ -1,11 +1,10 @@
 //! What is told of a server's work: how it is watched, and how a test holds it up.
 
+use crate::figures::Figures;
 use crate::tally::Tally;
 use disk_model::Disk;
 use durable_map::{DurableMap, Ends, SealedCheckpoint};
 use log::Log;
-use std::fs::File;
-use std::rt::Files;
 use std::sync::Wait;
 use std::sync::atomic::AtomicUsize;
 use std::time::Clock;
@@ -31,11 +30,7 @@ pub trait Observer {
     }
 
     /// A checkpoint was sealed.
-    fn checkpoint_sealed<R: Clock + Files<File = File, Dir: Send + Sync> + Log>(
-        &self,
-        _rt: &R,
-        _sealed: &SealedCheckpoint,
-    ) {}
+    fn checkpoint_sealed<R: Clock + Figures + Log>(&self, _rt: &R, _sealed: &SealedCheckpoint) {}
 
     /// Whether `watch` is to be called, on a thread of its own.
     fn watches(&self) -> bool {
@@ -43,7 +38,7 @@ pub trait Observer {
     }
 
     /// Watches the map, of which `served` connections are served, until `ends` says so.
-    fn watch<R: Clock + Files<File = File, Dir: Send + Sync> + Log + Wait, D: Disk + Drop, E: Ends>(
+    fn watch<R: Clock + Figures + Log + Wait, D: Disk + Drop, E: Ends>(
         &self,
         _rt: &R,
         _map: &DurableMap<D>,

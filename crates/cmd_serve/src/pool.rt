@@ -42,7 +42,7 @@ pub(crate) struct Pool<'a, D: Disk + Drop, O: Observer> {
     pub(crate) open: &'a AtomicUsize,
     most: usize,
     /// For how many seconds a client may be idle; 0 is for ever.
-    pub(crate) idle: u32,
+    pub(crate) idle_seconds: u32,
     pub(crate) bells: &'a [Bell],
 }
 
@@ -220,7 +220,7 @@ pub fn workers<
         observer,
         open: service.open,
         most: service.connections,
-        idle: service.idle,
+        idle_seconds: service.idle_seconds,
         bells,
     };
     employ(rt, &pool, furniture, arrivals)

@@ -1,7 +1,9 @@
 //! The records of a server's work, one in so many seconds, and one of each checkpoint.
+ghost use Rattle.std.specs.Prelude.{◌≡◌, IfOk};
 ghost use Rattle.stripe_locks.specs.Passes.{IsSamePass};
 ghost use Rattle.durable_map.specs.Maps.{IsReady};
 
+use crate::figures::Figures;
 use crate::observer::Observer;
 use crate::reports::{CheckpointRecord, Report};
 use crate::tally::{Tally, Totals, tallies};
@@ -10,24 +12,15 @@ use disk_model::Disk;
 use durable_map::{DurableMap, Ends, SealedCheckpoint, Standing};
 use log::{Log, info};
 use std::alloc::{AllocError, Global};
-use std::fs::File;
-use std::rt::Files;
 use std::sync::Wait;
 use std::sync::atomic::{AtomicUsize, Ordering};
+use std::thread;
 use std::time::{Clock, Duration, Instant};
-use std::{fs, io, thread};
 use store_layout::checkpoint_file;
 use stripe_locks::Pass;
 
 /// How long the thread that writes the records sleeps at a time, in milliseconds.
 const PAUSE: u64 = 100;
-
-/// Where Linux tells of a process, the line that says how much memory it has, and the line's unit.
-const STATUS: &str = "/proc/self/status";
-
-const RESIDENT: &str = "VmRSS:";
-
-const KILOBYTE: u64 = 1_024;
 
 /// The names of the two files of checkpoints.
 const CHECKPOINTS: [&str; 2] = ["ckpt-a", "ckpt-b"];
@@ -55,7 +48,9 @@ impl<'a> Reporter<'a> {
         seconds: Option<u32>,
         first: u64,
         threads: usize,
-    ) -> Result<Reporter<'a>, AllocError> {
+    ) -> Result<Reporter<'a>, AllocError>
+        ensures { IfOk result (λ reporter. reporter.seconds ≡ seconds) }
+    {
         let count = match seconds {
             Some(_) => threads,
             None => 0,
@@ -83,26 +78,11 @@ impl<'a> Reporter<'a> {
     }
 }
 
-/// How long the file of a checkpoint is.
-fn length_of<R: Files<File = File>>(
-    rt: &R,
-    alloc: Global,
-    directory: &str,
-    generation: u64,
-) -> io::Result<u64> {
-    let name = CHECKPOINTS
-        .get(checkpoint_file(generation))
-        .ok_or(io::ErrorKind::NotFound)?;
-    let path = format!(in alloc; "{directory}/{name}")?;
-    Ok(fs::metadata(rt, path.as_str())?.len())
-}
-
-/// How many bytes of memory the process has, if the system tells.
-fn memory<R: Files<File = File>>(rt: &R, alloc: Global) -> Option<u64> {
-    let text = io::read_to_string(alloc, File::open(rt, STATUS).ok()?).ok()?;
-    let line = text.lines().find(|line| line.starts_with(RESIDENT))?;
-    let kilobytes: u64 = line.split_whitespace().nth(1)?.parse().ok()?;
-    kilobytes.checked_mul(KILOBYTE)
+/// How long the file of a checkpoint is, if the system tells.
+fn length_of<R: Figures>(rt: &R, alloc: Global, directory: &str, generation: u64) -> Option<u64> {
+    let name = CHECKPOINTS.get(checkpoint_file(generation))?;
+    let path = format!(in alloc; "{directory}/{name}").ok()?;
+    rt.file_length(path.as_str())
 }
 
 /// How the map stood at the last record.
@@ -125,7 +105,7 @@ impl Last {
 
 impl Reporter<'_> {
     // Writes the record of the time since the last one, and returns how the map stands.
-    fn report<R: Clock + Files<File = File> + Log + Wait, D: Disk + Drop>(
+    fn report<R: Clock + Figures + Log + Wait, D: Disk + Drop>(
         &self,
         rt: &R,
         map: &DurableMap<D>,
@@ -151,7 +131,7 @@ impl Reporter<'_> {
             standing,
             entries,
             sealed_ago,
-            memory: memory(rt, self.alloc),
+            memory: rt.memory(self.alloc),
         };
         info!(rt; "report {report}");
         Last::of(&standing)
@@ -173,7 +153,7 @@ impl Reporter<'_> {
     }
 
     // Writes a record each time that so many seconds have gone, until the server ends.
-    fn report_all<R: Clock + Files<File = File> + Log + Wait, D: Disk + Drop, E: Ends>(
+    fn report_all<R: Clock + Figures + Log + Wait, D: Disk + Drop, E: Ends>(
         &self,
         rt: &R,
         map: &DurableMap<D>,
@@ -222,15 +202,11 @@ impl Observer for Reporter<'_> {
         self.tallies.get(worker)
     }
 
-    fn checkpoint_sealed<R: Clock + Files<File = File, Dir: Send + Sync> + Log>(
-        &self,
-        rt: &R,
-        sealed: &SealedCheckpoint,
-    ) {
+    fn checkpoint_sealed<R: Clock + Figures + Log>(&self, rt: &R, sealed: &SealedCheckpoint) {
         if self.seconds.is_none() {
             return;
         }
-        let bytes = length_of(rt, self.alloc, self.directory, sealed.generation).ok();
+        let bytes = length_of(rt, self.alloc, self.directory, sealed.generation);
         let checkpoint = CheckpointRecord { sealed, bytes };
         info!(rt; "checkpoint {checkpoint}");
     }
@@ -239,7 +215,7 @@ impl Observer for Reporter<'_> {
         self.seconds.is_some()
     }
 
-    fn watch<R: Clock + Files<File = File, Dir: Send + Sync> + Log + Wait, D: Disk + Drop, E: Ends>(
+    fn watch<R: Clock + Figures + Log + Wait, D: Disk + Drop, E: Ends>(
         &self,
         rt: &R,
         map: &DurableMap<D>,

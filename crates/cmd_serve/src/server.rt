@@ -3,7 +3,7 @@
 ghost use Rattle.std.specs.Prelude.{◌≡◌, IfOk, IfErr};
 ghost use Rattle.cmd_text.specs.Naming.{IsNamed};
 ghost use Rattle.cmd_text.specs.Printing.{PrintsAtMost};
-ghost use Rattle.cmd_serve.specs.Serving.{Announces, Hosts, ServesOn};
+ghost use Rattle.cmd_serve.specs.Serving.{EndsAt, ServesDisk, ServesOn};
 ghost use Rattle.cmd_serve.specs.Settings.{AreNamed, ArePlacesOf, IsConnectionCount, IsReportInterval, IsReportOf, IsWorkerCount};
 ghost use Rattle.cmd_serve.specs.Listening.{HaveSocketPath};
 ghost use Rattle.cmd_serve.specs.declared.listening.Places.{Places};
@@ -11,24 +11,24 @@ ghost use Rattle.socket_file.specs.Binding.{Binds};
 ghost use Rattle.socket_file.specs.Names.{IsMode};
 
 use crate::accepting::Acceptor;
-use crate::listening::{Places, lines_of, listen};
-use crate::opening::{open_directory, open_map};
+use crate::figures::Figures;
+use crate::listening::{Listeners, Places, lines_of, listen};
+use crate::opening::{find, open_directory, open_map};
 use crate::reporting::Reporter;
 use crate::service::{Service, serve_map};
 use cmd_directory::Directories;
 use cmd_text::{MISUSED, break_off, cannot_open, port_named, refuse, say, stripes_named};
 use disk_model::{Disk, FirstError};
+use durable_map::DurableMap;
 use java_hash::StripeCount;
 use log::{Log, error, info};
 use map_types::Refusal;
 use socket_file::{SocketFiles, is_socket_path, mode_named};
 use std::alloc::{AllocError, Global};
-use std::fs::File;
 use std::io;
 use std::io::Write;
 use std::net::{Net, TcpListener, TcpStream};
 use std::os::unix::net::UnixListener;
-use std::rt::Files;
 use std::sync::Wait;
 use std::sync::atomic::AtomicUsize;
 use std::thread::Threads;
@@ -48,11 +48,11 @@ pub struct ServerWords<'a> {
     pub stripes: &'a str,
     pub workers: &'a str,
     pub connections: &'a str,
-    pub bytes: &'a str,
-    pub idle: &'a str,
-    pub ahead: &'a str,
+    pub checkpoint_bytes: &'a str,
+    pub idle_seconds: &'a str,
+    pub log_ahead: &'a str,
     /// Left out there are no records of its work.
-    pub report: Option<&'a str>,
+    pub report_seconds: Option<&'a str>,
 }
 
 /// What a server is to do.
@@ -70,13 +70,13 @@ pub(crate) struct Settings<'a> {
     /// How many connections are served at a time.
     pub connections: u32,
     /// The length of the log that begins a checkpoint.
-    pub bytes: u64,
+    pub checkpoint_bytes: u64,
     /// For how many seconds a client may be idle; 0 is for ever.
-    pub idle: u32,
+    pub idle_seconds: u32,
     /// How many zeros are written ahead of a batch in a long log; with 0 none are.
-    pub ahead: u32,
+    pub log_ahead: u32,
     /// How many seconds lie between two records of its work; nothing if there are none.
-    pub report: Option<u32>,
+    pub report_seconds: Option<u32>,
 }
 
 fn workers_named(word: &str) -> Option<usize>
@@ -165,16 +165,16 @@ fn settings_named<'a>(words: &ServerWords<'a>) -> Result<Settings<'a>, &'static 
     let Some(connections) = connections_named(words.connections) else {
         return Err("C is a number from 1 to 4294967295\n");
     };
-    let Ok(bytes) = words.bytes.parse::<u64>() else {
+    let Ok(checkpoint_bytes) = words.checkpoint_bytes.parse::<u64>() else {
         return Err("B is a number from 0 to 18446744073709551615\n");
     };
-    let Ok(idle) = words.idle.parse::<u32>() else {
+    let Ok(idle_seconds) = words.idle_seconds.parse::<u32>() else {
         return Err("N is a number from 0 to 4294967295\n");
     };
-    let Ok(ahead) = words.ahead.parse::<u32>() else {
+    let Ok(log_ahead) = words.log_ahead.parse::<u32>() else {
         return Err("A is a number from 0 to 4294967295\n");
     };
-    let report = report_named(words.report)?;
+    let report_seconds = report_named(words.report_seconds)?;
     Ok(Settings {
         stands_by: words.standby,
         places,
@@ -182,10 +182,10 @@ fn settings_named<'a>(words: &ServerWords<'a>) -> Result<Settings<'a>, &'static 
         stripes,
         workers,
         connections,
-        bytes,
-        idle,
-        ahead,
-        report,
+        checkpoint_bytes,
+        idle_seconds,
+        log_ahead,
+        report_seconds,
     })
 }
 
@@ -197,41 +197,34 @@ fn announce<W: Write>(lines: &str, output: &mut W) -> io::Result<()>
     output.flush()
 }
 
-/// Listens at these places, says so, and serves the map.
+/// Says at which places it listens, and serves the map.
 fn host<
     D: Disk + Drop + Send,
-    M: SocketFiles<Listener = UnixListener>,
     W: Write,
     E: Write,
-    R: Files<File = File, Dir: Send + Sync>
-        + Net<Listener = TcpListener, Stream = TcpStream>
+    R: Net<Listener = TcpListener, Stream = TcpStream>
         + Clock
+        + Figures
         + Log
         + Threads
         + Wait
         + Sync,
 >(
     rt: &R,
-    machine: &M,
     service: &Service<'_, D>,
     reporter: &Reporter<'_>,
-    places: Places<'_>,
-    mode: u32,
+    settings: &Settings<'_>,
+    listeners: Listeners<UnixListener>,
     output: &mut W,
     error: &mut E,
 ) -> u8
-    requires path { HaveSocketPath places }
-    requires mode { IsMode mode }
-    ensures { Announces (Binds M.was_free M.is_private M.is_bound M.has_mode M.is_renamed)
-        places.entry mode (W.contents output.old) (W.contents output.new) result }
+    // The records are those that are asked for.
+    requires { reporter.now.seconds ≡ settings.now.report_seconds }
+    ensures { EndsAt settings.now.places (W.contents output.old) (W.contents output.new) result }
 {
     let alloc = service.alloc;
-    let Ok(lines) = lines_of(alloc, places) else {
+    let Ok(lines) = lines_of(alloc, settings.places) else {
         return refuse(alloc, Refusal::NoMemory, error);
-    };
-    let listeners = match listen(rt, machine, alloc, places, mode) {
-        Ok(listeners) => listeners,
-        Err(cause) => return cannot_open(alloc, &cause, error),
     };
     let mut acceptor = match Acceptor::new(rt, alloc, listeners) {
         Ok(acceptor) => acceptor,
@@ -258,21 +251,94 @@ fn reporter_of<'a, R: Clock>(
     directory: &'a str,
     first: u64,
     settings: &Settings<'_>,
-) -> Result<Reporter<'a>, AllocError> {
+) -> Result<Reporter<'a>, AllocError>
+    ensures { IfOk result (λ reporter. reporter.seconds ≡ settings.now.report_seconds) }
+{
     let threads = settings.workers.saturating_add(1);
-    Reporter::new(rt, alloc, directory, settings.report, first, threads)
+    Reporter::new(
+        rt,
+        alloc,
+        directory,
+        settings.report_seconds,
+        first,
+        threads,
+    )
 }
 
-/// Opens the disk of a directory, says in a record with how many commands its map begins, and
-/// serves the map, whose log is written ahead as the settings say. `first_error` tells of the disk.
+/// Serves the map of the directory, which begins with so many commands and whose log is written
+/// ahead as the settings say.
+fn serve_opened<
+    D: Disk + Drop + Send,
+    W: Write,
+    E: Write,
+    R: Net<Listener = TcpListener, Stream = TcpStream>
+        + Clock
+        + Figures
+        + Log
+        + Threads
+        + Wait
+        + Sync,
+>(
+    rt: &R,
+    alloc: Global,
+    directory: &str,
+    map: &DurableMap<D>,
+    first: u64,
+    first_error: &FirstError,
+    settings: &Settings<'_>,
+    listeners: Listeners<UnixListener>,
+    output: &mut W,
+    error: &mut E,
+) -> u8
+    ensures { EndsAt settings.now.places (W.contents output.old) (W.contents output.new) result }
+{
+    if let Err(refusal) = map.set_log_ahead(rt, settings.log_ahead as usize) {
+        return refuse(alloc, refusal, error);
+    }
+    let Ok(reporter) = reporter_of(rt, alloc, directory, first, settings) else {
+        return refuse(alloc, Refusal::NoMemory, error);
+    };
+    let served = AtomicUsize::new(0);
+    let service = Service {
+        alloc,
+        map,
+        first_error,
+        checkpoint_bytes: settings.checkpoint_bytes,
+        workers: settings.workers,
+        connections: settings.connections as usize,
+        idle_seconds: settings.idle_seconds,
+        open: &served,
+    };
+    host(rt, &service, &reporter, settings, listeners, output, error)
+}
+
+/// Says why the files of a directory can't be opened, whose first failing call has this cause.
+fn refuse_files<L: Log, E: Write>(
+    rt: &L,
+    alloc: Global,
+    first_error: &FirstError,
+    refusal: Refusal,
+    error: &mut E,
+) -> u8
+    ensures { result ≡ 1 }
+{
+    if let Some(cause) = first_error.get() {
+        error!(rt; "the directory can't be opened, {cause}");
+    }
+    refuse(alloc, refusal, error)
+}
+
+/// Opens the disk of a directory, and says in a record with how many commands its map begins. Then it
+/// listens, and serves the map, upgraded first if its newest log is of an earlier version. So nothing is
+/// written if it can't listen. `first_error` tells of the disk.
 pub(crate) fn serve_disk<
     D: Disk + Drop + Send,
     M: SocketFiles<Listener = UnixListener>,
     W: Write,
     E: Write,
-    R: Files<File = File, Dir: Send + Sync>
-        + Net<Listener = TcpListener, Stream = TcpStream>
+    R: Net<Listener = TcpListener, Stream = TcpStream>
         + Clock
+        + Figures
         + Log
         + Threads
         + Wait
@@ -290,69 +356,58 @@ pub(crate) fn serve_disk<
 ) -> u8
     requires path { HaveSocketPath settings.now.places }
     requires mode { IsMode settings.now.mode }
-    ensures { Hosts (Binds M.was_free M.is_private M.is_bound M.has_mode M.is_renamed) D.states
+    ensures { ServesDisk (Binds M.was_free M.is_private M.is_bound M.has_mode M.is_renamed) D.states
         D.failures D.honest settings.now disk (W.contents output.old) (W.contents output.new)
         result }
 {
-    match open_map(rt, alloc, disk, settings.stripes) {
-        Ok((map, first)) => {
-            info!(rt; "prefix {first}");
-            if let Err(refusal) = map.set_log_ahead(rt, settings.ahead as usize) {
-                return refuse(alloc, refusal, error);
-            }
-            let Ok(reporter) = reporter_of(rt, alloc, directory, first, settings) else {
-                return refuse(alloc, Refusal::NoMemory, error);
-            };
-            let served = AtomicUsize::new(0);
-            let service = Service {
-                alloc,
-                map: &map,
-                first_error: &first_error,
-                bytes: settings.bytes,
-                workers: settings.workers,
-                connections: settings.connections as usize,
-                idle: settings.idle,
-                open: &served,
-            };
-            host(
-                rt,
-                machine,
-                &service,
-                &reporter,
-                settings.places,
-                settings.mode,
-                output,
-                error,
-            )
-        }
-        Err((_disk, refusal)) => {
-            if let Some(cause) = first_error.get() {
-                error!(rt; "the directory can't be opened, {cause}");
-            }
-            refuse(alloc, refusal, error)
-        }
+    let stripes = settings.stripes;
+    let found = match find(rt, alloc, disk, stripes) {
+        Ok(found) => found,
+        Err((_disk, refusal)) => return refuse_files(rt, alloc, &first_error, refusal, error),
+    };
+    let first = found.first;
+    info!(rt; "prefix {first}");
+    let listeners = match listen(rt, machine, alloc, settings.places, settings.mode) {
+        Ok(listeners) => listeners,
+        Err(cause) => return cannot_open(alloc, &cause, error),
+    };
+    match open_map(rt, alloc, found, stripes) {
+        Ok((map, first)) => serve_opened(
+            rt,
+            alloc,
+            directory,
+            &map,
+            first,
+            &first_error,
+            settings,
+            listeners,
+            output,
+            error,
+        ),
+        Err((_disk, refusal)) => refuse_files(rt, alloc, &first_error, refusal, error),
     }
 }
 
 /// Serves the map of a directory at a port of this machine, at a Unix socket, or at both, with the
 /// words of its command line. It ends only by being ended. Of its four files those that are absent
 /// are made: an empty one may have been left out of a copy. A directory whose newest log is of an
-/// earlier version is brought to the newest one first. A server that stands by waits as long as
+/// earlier version is brought to the newest one. A server that stands by waits as long as
 /// another holds a lock of the directory, and one Info record says so.
 ///
 /// The status is 2 with a text on `error` if the words aren't allowed. It is 1 with `unreadable` on
 /// `error` if the directory's lock or files, the port, the socket or `output` fail. It is 1 with
 /// `refused` and the refusal if the directory can't be opened or no memory is found. An Error
-/// record has the cause of what the system refused. An upgrade has a record. Once the directory is
-/// open an Info record says how many commands the map begins with. Only then, with the directory's
-/// lock, is the socket made, and the file of a server that has ended replaced. Once it listens it
-/// prints `listening` and the port, and the same with the path. If the store fails later, one Error
+/// record has the cause of what the system refused. Once the directory is open an Info record says
+/// how many commands the map begins with. Only then, with the directory's lock, is the socket made,
+/// and the file of a server that has ended replaced. If that fails no file of the directory was
+/// written to. An upgrade comes behind it, and has a record. Once it serves it prints `listening` and
+/// the port, and the same with the path. If the store fails later, one Error
 /// record says why. If records of its work are asked for, an Info record tells of it each time that
 /// so many seconds have gone, and one of each checkpoint.
 pub fn serve<
-    R: Files<File = File, Dir: Send + Sync>
-        + Net<Listener = TcpListener, Stream = TcpStream>
+    R: Net<Listener = TcpListener, Stream = TcpStream>
         + Clock
+        + Figures
         + Log
         + Threads
         + Wait
@@ -362,7 +417,7 @@ pub fn serve<
     E: Write,
 >(rt: &R, machine: &M, alloc: Global, words: &ServerWords<'_>, output: &mut W, error: &mut E) -> u8
     ensures { ServesOn M.Opened.states M.Opened.failures M.Opened.honest M.is_created
-        (Binds M.was_free M.is_private M.is_bound M.has_mode M.is_renamed) words.now
+        M.is_refused (Binds M.was_free M.is_private M.is_bound M.has_mode M.is_renamed) words.now
         (W.contents output.old) (W.contents output.new) result }
 {
     let settings = match settings_named(words) {

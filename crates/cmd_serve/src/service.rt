@@ -2,6 +2,7 @@
 ghost use Rattle.std.specs.Prelude.{◌≡◌, IfErr};
 
 use crate::bells::Bell;
+use crate::figures::Figures;
 use crate::observer::Observer;
 use crate::pool::{Arrivals, workers};
 use crate::seats::furnish;
@@ -10,9 +11,7 @@ use durable_map::{DurableMap, Ends, SealedCheckpoint, checkpoint_loop, flush_loo
 use log::{Log, error};
 use map_types::Refusal;
 use std::alloc::Global;
-use std::fs::File;
 use std::net::Net;
-use std::rt::Files;
 use std::sync::Wait;
 use std::sync::atomic::{AtomicBool, AtomicUsize, Ordering};
 use std::thread;
@@ -31,13 +30,13 @@ pub struct Service<'a, D: Disk + Drop> {
     /// What tells of the first call of the map's files that failed.
     pub first_error: &'a FirstError,
     /// The length of the log that begins a checkpoint.
-    pub bytes: u64,
+    pub checkpoint_bytes: u64,
     /// How many threads serve connections.
     pub workers: usize,
     /// How many connections are served at a time.
     pub connections: usize,
     /// For how many seconds a client may be idle; 0 is for ever.
-    pub idle: u32,
+    pub idle_seconds: u32,
     /// How many connections are served now.
     pub open: &'a AtomicUsize,
 }
@@ -53,8 +52,7 @@ struct Ending<'a, D: Disk + Drop, O: Observer, R> {
     has_told: AtomicBool,
 }
 
-impl<D: Disk + Drop, O: Observer, R: Clock + Files<File = File, Dir: Send + Sync> + Log> Ends
-    for Ending<'_, D, O, R> {
+impl<D: Disk + Drop, O: Observer, R: Clock + Figures + Log> Ends for Ending<'_, D, O, R> {
     fn has_ended(&self) -> bool {
         self.has_ended.load(Ordering::SeqCst)
     }
@@ -121,7 +119,7 @@ pub fn serve_map<
     D: Disk + Drop + Send,
     O: Observer + Sync,
     C: Arrivals,
-    R: Clock + Files<File = File, Dir: Send + Sync> + Log + Net + Threads + Wait + Sync,
+    R: Clock + Figures + Log + Net + Threads + Wait + Sync,
 >(rt: &R, service: &Service<'_, D>, observer: &O, arrivals: &mut C) -> Result<(), Refusal>
     ensures { IfErr result (λ refusal. refusal ≡ Refusal.NoMemory) }
 {
@@ -135,11 +133,11 @@ pub fn serve_map<
             let ended = flush_loop(rt, service.map, ending);
             ending.tell(rt, service.first_error, ended);
         });
-        let keeper = scope.spawn(move || {
-            let ended = checkpoint_loop(rt, service.map, service.bytes, ending);
+        let checkpointer = scope.spawn(move || {
+            let ended = checkpoint_loop(rt, service.map, service.checkpoint_bytes, ending);
             ending.tell(rt, service.first_error, ended);
         });
-        let mut has_started = flusher.is_ok() && keeper.is_ok();
+        let mut has_started = flusher.is_ok() && checkpointer.is_ok();
         if has_started && observer.watches() {
             let watcher = scope.spawn(move || observer.watch(
                 rt,

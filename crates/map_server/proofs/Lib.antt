@@ -1,3 +1,4 @@
 pub mod CommandLines
 pub mod Getters
 pub mod Lines
+pub mod Playing

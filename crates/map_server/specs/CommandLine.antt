@@ -130,10 +130,10 @@ pub record GivesServer (rows : List Row) (words : ServerWords) : Type 0 where
   pub stripes : words.stripes.now ≡ stripes_in rows
   pub workers : words.workers.now ≡ word_or (codes "4") (codes "workers") rows
   pub connections : words.connections.now ≡ word_or (codes "10000") (codes "connections") rows
-  pub bytes : words.bytes.now ≡ word_or (codes "67108864") (codes "checkpoint-bytes") rows
-  pub idle : words.idle.now ≡ word_or (codes "0") (codes "idle-seconds") rows
-  pub ahead : words.ahead.now ≡ word_or (codes "1048576") (codes "log-ahead") rows
-  pub report : word_of words.report ≡ first_of (codes "report-seconds") rows
+  pub bytes : words.checkpoint_bytes.now ≡ word_or (codes "67108864") (codes "checkpoint-bytes") rows
+  pub idle : words.idle_seconds.now ≡ word_or (codes "0") (codes "idle-seconds") rows
+  pub ahead : words.log_ahead.now ≡ word_or (codes "1048576") (codes "log-ahead") rows
+  pub report : word_of words.report_seconds ≡ first_of (codes "report-seconds") rows
 
 -- where the server of a call is; each of the two may be left out
 pub record GivesPlace (rows : List Row) (at : PlaceWords) : Type 0 where

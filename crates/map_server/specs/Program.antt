@@ -14,7 +14,7 @@ use Rattle.cmd_directory.specs.Directory.{Inits, Inspects}
 use Rattle.cmd_call.specs.declared.servers.Place.{Place}
 use Rattle.cmd_call.specs.Calling.{MakesCalls}
 use Rattle.cmd_serve.specs.Serving.{ServesOn}
-use Rattle.cmd_sim.specs.Simulation.{Simulates}
+use Rattle.map_server.specs.Simulation.{Simulates}
 
 -- What was written is the dialogue of what was read, each request answered by the map, which was empty at first. The
 -- status is 0 if the connection ended by itself, and 1 if it broke off.
@@ -49,7 +49,7 @@ module _ {D R W L : Type 0} (states : D → List Files) (failures : D → ℕ) (
   Does (Check directory) r0 r1 w0 w1 status =
       (r1 ≡ r0) × Inspects states failures honest IsOpened IsRefused directory.now w0 w1 status
   Does (Serve words) r0 r1 w0 w1 status =
-      (r1 ≡ r0) × ServesOn states failures honest IsCreated IsListener words w0 w1 status
+      (r1 ≡ r0) × ServesOn states failures honest IsCreated IsRefused IsListener words w0 w1 status
   Does (Call at words) r0 r1 w0 w1 status = MakesCalls Fails remaining contents IsConnected IsUnreachable at
       (map (λ word. word.now) words.items) r0 r1 w0 w1 status
   Does (Sim file) r0 r1 w0 w1 status = (r1 ≡ r0) × Simulates w0 w1 status

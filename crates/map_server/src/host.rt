@@ -1,5 +1,6 @@
 //! What the program needs of the system.
 
+use cmd_serve::Figures;
 use log::Log;
 use std::fs::File;
 use std::net::{Net, TcpListener, TcpStream};
@@ -8,8 +9,9 @@ use std::sync::Wait;
 use std::thread::Threads;
 use std::time::Clock;
 
-/// Files, sockets, the clock, threads, records, and leave to wait.
-pub trait Host: Files<File = File, Dir: Send + Sync>
+/// Files and figures of them, sockets, the clock, threads, records, and leave to wait.
+pub trait Host: Files<File = File>
+    + Figures
     + Net<Listener = TcpListener, Stream = TcpStream>
     + Clock
     + Log
@@ -18,7 +20,8 @@ pub trait Host: Files<File = File, Dir: Send + Sync>
     + Sync {}
 
 impl<
-    T: Files<File = File, Dir: Send + Sync>
+    T: Files<File = File>
+        + Figures
         + Net<Listener = TcpListener, Stream = TcpStream>
         + Clock
         + Log

@@ -4,8 +4,10 @@
 mod host;
 mod order;
 pub mod program;
+pub mod simulation;
 
 pub use cmd_serve::{Arrivals, NoObserver, Observer, workers};
 pub use connections::{Calls, ConnectionError, serve_connection};
 pub use host::Host;
 pub use program::dchm;
+pub use simulation::{sim, simulate};

@@ -367,10 +367,10 @@ fn server_in<'a>(matches: &ArgMatches<'a>) -> ServerWords<'a>
         stripes: word_or(matches, "stripes", STRIPES),
         workers: word_or(matches, "workers", WORKERS),
         connections: word_or(matches, "connections", CONNECTIONS),
-        bytes: word_or(matches, "checkpoint-bytes", BYTES),
-        idle: word_or(matches, "idle-seconds", IDLE),
-        ahead: word_or(matches, "log-ahead", AHEAD),
-        report: word_in(matches, "report-seconds"),
+        checkpoint_bytes: word_or(matches, "checkpoint-bytes", BYTES),
+        idle_seconds: word_or(matches, "idle-seconds", IDLE),
+        log_ahead: word_or(matches, "log-ahead", AHEAD),
+        report_seconds: word_in(matches, "report-seconds"),
     }
 }
 

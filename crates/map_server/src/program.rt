@@ -7,13 +7,13 @@ ghost use Rattle.socket_file.specs.Binding.{Binds};
 
 use crate::host::Host;
 use crate::order::{Order, order_of};
+use crate::simulation::sim;
 use clap::Error;
 use clap::error::ErrorKind;
 use cmd_call::{Servers, make_calls};
 use cmd_directory::{Directories, check, init};
 use cmd_mem::Memory;
 use cmd_serve::serve;
-use cmd_sim::sim;
 use cmd_text::{DONE, MISUSED, break_off, refuse, say};
 use connections::{ConnectionError, serve_connection};
 use disk_model::MemDisk;

@@ -1,15 +1,13 @@
 //! Maps that are served, and clients of them.
-use cmd_serve::{Arrivals, Observer, Service, Stream, serve_map};
+use cmd_serve::{Arrivals, Figures, Observer, Service, Stream, serve_map};
 use disk_model::{Disk, Failure, FirstError, MemDisk};
 use durable_map::DurableMap;
 use java_hash::StripeCount;
 use log::Log;
 use recovery::{format, open_parts};
 use std::alloc::Global;
-use std::fs::File;
 use std::io::{Read, Write};
 use std::net::{Net, Shutdown, TcpListener, TcpStream};
-use std::rt::Files;
 use std::sync::Wait;
 use std::sync::atomic::AtomicUsize;
 use std::test::Fail;
@@ -119,7 +117,7 @@ pub(crate) fn serve_listed<
     D: Disk + Drop + Send,
     O: Observer + Sync,
     C: Arrivals,
-    R: Clock + Files<File = File, Dir: Send + Sync> + Log + Net + Threads + Wait + Sync,
+    R: Clock + Figures + Log + Net + Threads + Wait + Sync,
 >(
     rt: &R,
     alloc: Global,
@@ -134,10 +132,10 @@ pub(crate) fn serve_listed<
         alloc,
         map,
         first_error: &first_error,
-        bytes: NO_CHECKPOINT,
+        checkpoint_bytes: NO_CHECKPOINT,
         workers,
         connections: MOST_CLIENTS,
-        idle: 0,
+        idle_seconds: 0,
         open: &count,
     };
     serve_map(rt, &service, observer, arrivals).map_err(|_| "threads start")?;
@@ -150,7 +148,7 @@ pub(crate) fn served<
     O: Observer + Sync,
     R: Net<Listener = TcpListener, Stream = TcpStream>
         + Clock
-        + Files<File = File, Dir: Send + Sync>
+        + Figures
         + Log
         + Threads
         + Wait

@@ -1,17 +1,15 @@
 //! A device that fails, and servers that can't begin.
 use crate::clients::{PUT, formatted, map_over, repeated, served, sixteen};
 use cmd_directory::Directories;
-use cmd_serve::{NoObserver, ServerWords, serve};
+use cmd_serve::{Figures, NoObserver, ServerWords, serve};
 use disk_model::{DirDisk, Failure, Fill, Unknown};
 use log::Log;
 use recovery::{format, open_parts};
 use socket_file::SocketFiles;
 use std::alloc::Global;
 use std::fs;
-use std::fs::File;
 use std::net::{Net, TcpListener, TcpStream};
 use std::os::unix::net::UnixListener;
-use std::rt::Files;
 use std::sync::Wait;
 use std::test::Fail;
 use std::thread::Threads;
@@ -55,7 +53,7 @@ fn after_a_device_failure_each_call_fails(rt: HostRuntime) -> Result<(), Fail> {
 /// What a server of the directory complains of at the port or at the path, which prints nothing and ends with status 1.
 fn complaint<
     'a,
-    R: Files<File = File, Dir: Send + Sync>
+    R: Figures
         + Net<Listener = TcpListener, Stream = TcpStream>
         + Clock
         + Log
@@ -80,10 +78,10 @@ fn complaint<
         stripes: "16",
         workers: "4",
         connections: "64",
-        bytes: "1000000",
-        idle: "0",
-        ahead: "0",
-        report: None,
+        checkpoint_bytes: "1000000",
+        idle_seconds: "0",
+        log_ahead: "0",
+        report_seconds: None,
     };
     let mut output = Vec::new(alloc);
     let mut error = Vec::new(alloc);

@@ -2,15 +2,13 @@
 use crate::clients::{
     MOST_TURNS, PUT, connected, map_over, received, repeated, send_each, serve_listed, served,
 };
-use cmd_serve::{NoObserver, Observer};
+use cmd_serve::{Figures, NoObserver, Observer};
 use disk_model::MemDisk;
 use durable_map::DurableMap;
 use log::Log;
 use std::alloc::Global;
-use std::fs::File;
 use std::io::Write;
 use std::net::{Net, TcpListener, TcpStream};
-use std::rt::Files;
 use std::sync::Wait;
 use std::sync::atomic::{AtomicBool, AtomicU64, Ordering};
 use std::test::Fail;
@@ -106,7 +104,7 @@ fn leave_before_last(clients: &mut Vec<TcpStream>) -> Result<(), Fail> {
 fn sent_beside_broken<
     R: Net<Listener = TcpListener, Stream = TcpStream>
         + Clock
-        + Files<File = File, Dir: Send + Sync>
+        + Figures
         + Log
         + Threads
         + Wait
@@ -134,7 +132,7 @@ fn a_connection_breaks_off_alone(rt: HostRuntime) -> Result<(), Fail> {
 fn add_and_ask<
     R: Net<Listener = TcpListener, Stream = TcpStream>
         + Clock
-        + Files<File = File, Dir: Send + Sync>
+        + Figures
         + Log
         + Threads
         + Wait

@@ -1,12 +1,10 @@
 //! Clients that neither read nor end.
 use crate::clients::{Listed, MOST_TURNS, PUT, WAS_ABSENT, connected, map_over, serve_listed};
-use cmd_serve::{Arrivals, NoObserver, Stream};
+use cmd_serve::{Arrivals, Figures, NoObserver, Stream};
 use log::Log;
 use std::alloc::Global;
-use std::fs::File;
 use std::io::{Read, Write};
 use std::net::{Net, Shutdown, TcpListener, TcpStream};
-use std::rt::Files;
 use std::sync::Wait;
 use std::test::Fail;
 use std::thread::Threads;
@@ -63,7 +61,7 @@ impl Stalling {
 fn is_answered_beside<
     R: Net<Listener = TcpListener, Stream = TcpStream>
         + Clock
-        + Files<File = File, Dir: Send + Sync>
+        + Figures
         + Log
         + Threads
         + Wait

@@ -5,8 +5,8 @@ use Rattle.cmd_serve.proofs.service.fn.serve_map.scope.Goals as goal
 pub spawn-flusher-requires-send-F : goal.spawn-flusher-requires-send-F
 spawn-flusher-requires-send-F g c κs h = search (service_sync, ending_sync, sendable) depth 12
 
-pub spawn-keeper-requires-send-F : goal.spawn-keeper-requires-send-F
-spawn-keeper-requires-send-F g c κs h = search (service_sync, ending_sync, sendable) depth 12
+pub spawn-checkpointer-requires-send-F : goal.spawn-checkpointer-requires-send-F
+spawn-checkpointer-requires-send-F g c κs h = search (service_sync, ending_sync, sendable) depth 12
 
 pub workers-requires-send-D : goal.workers-requires-send-D
 workers-requires-send-D g c = search sendable

@@ -1,8 +1,8 @@
 use Rattle.std.proofs.Common.{ap, subst, ◌∙◌}
 use Rattle.sim_rules.specs.Runs.{IsRun}
-use Rattle.cmd_sim.specs.Simulation.ComesOf.{Played, PlayedAgain}
-use Rattle.cmd_sim.proofs.Playing.{not_taken, shown_by, taken}
-use Rattle.cmd_sim.proofs.simulation.play.Goals as goal
+use Rattle.map_server.specs.Simulation.ComesOf.{Played, PlayedAgain}
+use Rattle.map_server.proofs.Playing.{not_taken, shown_by, taken}
+use Rattle.map_server.proofs.simulation.play.Goals as goal
 
 pub plays-smaller : goal.plays-smaller
 plays-smaller c =

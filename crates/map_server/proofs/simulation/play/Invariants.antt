@@ -1,9 +1,9 @@
 use Rattle.std.proofs.Common.{◌≡◌, List}
 use Rattle.sim_rules.specs.declared.outcome.Outcome.{Outcome}
 use Rattle.sim_rules.specs.Runs.{IsRun}
-use Rattle.cmd_sim.specs.Simulation.{ComesOf}
-use Rattle.cmd_sim.proofs.Playing.{left}
-use Rattle.cmd_sim.proofs.simulation.play.Given as goal
+use Rattle.map_server.specs.Simulation.{ComesOf}
+use Rattle.map_server.proofs.Playing.{left}
+use Rattle.map_server.proofs.simulation.play.Given as goal
 
 abbrev pub invariant-plays : goal.invariant-plays
 invariant-plays l =

@@ -2,7 +2,7 @@
 ghost use Rattle.std.specs.Prelude.{◌≡◌, IfOk, IfErr, string_bytes};
 ghost use Rattle.sim_rules.specs.Runs.{IsRun};
 ghost use Rattle.sim_script.specs.Scripts.{script_of, Reads};
-ghost use Rattle.cmd_sim.specs.Simulation.{ComesOf, IsTold, Simulates, SimulatesText, TellsOrFails};
+ghost use Rattle.map_server.specs.Simulation.{ComesOf, IsTold, Simulates, SimulatesText, TellsOrFails};
 
 use cmd_text::{MISUSED, cannot_open, print, refuse, say};
 use log::{Log, error};
