@@ -73,7 +73,10 @@ static WORDS: [(&str, Option<u16>, Option<usize>); 15] = [
 
 // Whether the word names this port, and this count of stripes.
 fn names(word: &str, port: Option<u16>, count: Option<usize>) -> bool {
-    let stripes = stripes_named(word).map(|stripes| stripes.get());
+    let stripes = match stripes_named(word) {
+        Some(stripes) => Some(stripes.get()),
+        None => None,
+    };
     port_named(word) == port && stripes == count
 }
 

@@ -1,56 +1,57 @@
 //! The dialogues of connections, over readers and writers that halt.
+use crate::numbered::number_put;
 use connections::{Calls, ConnectionError, serve_connection};
-use map_types::{Change, Refusal, Reply, Value};
+use map_types::{Refusal, Reply, Value};
 use std::alloc::Global;
 use std::io;
 use std::io::{Read, Write};
 use wire_frames::{Bulk, Request};
 
-/// A map of one key that fails at every change but `Put`, and at every search.
+/// A call of a map of one key, whose value is a number.
+#[derive(Drop)]
+enum Call {
+    Now,
+    Count,
+    Put(i64),
+    Fail,
+}
+
+// Every change but `Put` fails, and every search.
+fn call_of(request: &Request) -> Call {
+    match request {
+        Request::Read(_) | Request::Bulk(Bulk::Reduce(..)) => Call::Now,
+        Request::Bulk(Bulk::Count) => Call::Count,
+        Request::Bulk(Bulk::Search(..)) => Call::Fail,
+        Request::Change(_) => match number_put(request) {
+            Some(number) => Call::Put(number),
+            None => Call::Fail,
+        },
+    }
+}
+
 #[derive(Drop)]
 struct OneValue {
-    value: Option<Value>,
+    value: Option<i64>,
     // how many calls were begun, and neither finished nor given up
     held: u64,
 }
 
 impl OneValue {
-    fn new() -> OneValue {
-        OneValue {
-            value: None,
-            held: 0,
-        }
-    }
-
-    fn now(&self) -> Result<Reply, Refusal> {
-        Ok(Reply::Now(self.value.clone()?))
-    }
-
-    fn count(&self) -> Reply {
-        let count = i64::from(self.value.is_some());
-        Reply::Now(Some(Value::Int(count)))
-    }
-
-    fn put(&mut self, value: &Value) -> Result<Reply, Refusal> {
-        let value = value.clone()?;
-        Ok(Reply::Was(self.value.replace(value)))
-    }
-
-    fn answer(&mut self, request: &Request) -> Result<Reply, Refusal> {
-        match request {
-            Request::Read(_) | Request::Bulk(Bulk::Reduce(..)) => self.now(),
-            Request::Bulk(Bulk::Count) => Ok(self.count()),
-            Request::Bulk(Bulk::Search(..)) => Err(Refusal::Failed),
-            Request::Change(command) => match &command.change {
-                Change::Put(value) => self.put(value),
-                _ => Err(Refusal::Failed),
-            },
+    fn answer(&mut self, call: Call) -> Result<Reply, Refusal> {
+        match call {
+            Call::Now => Ok(Reply::Now(self.value.map(Value::Int))),
+            Call::Count => {
+                let count = i64::from(self.value.is_some());
+                Ok(Reply::Now(Some(Value::Int(count))))
+            }
+            Call::Put(number) => Ok(Reply::Was(self.value.replace(number).map(Value::Int))),
+            Call::Fail => Err(Refusal::Failed),
         }
     }
 }
 
 impl Calls for OneValue {
-    type Held = Request;
+    type Held = Call;
 
     ghost began = { λ _ _ _ _. Unit {0} };
 
@@ -60,25 +61,24 @@ impl Calls for OneValue {
 
     ghost owns = { λ _ _. Unit {0} };
 
-    fn begin(&mut self, request: Request) -> Result<Request, Refusal> {
+    fn begin(&mut self, request: Request) -> Result<Call, Refusal> {
         self.held = self.held.wrapping_add(1);
-        Ok(request)
+        let call = call_of(&request);
+        drop(request);
+        Ok(call)
     }
 
-    fn may_finish(&self, _request: &Request) -> bool {
+    fn may_finish(&self, _call: &Call) -> bool {
         true
     }
 
-    fn give_up(&mut self, request: Request) {
-        drop(request);
+    fn give_up(&mut self, _call: Call) {
         self.held = self.held.wrapping_sub(1);
     }
 
-    fn finish(&mut self, request: Request) -> Result<Reply, Refusal> {
+    fn finish(&mut self, call: Call) -> Result<Reply, Refusal> {
         self.held = self.held.wrapping_sub(1);
-        let reply = self.answer(&request);
-        drop(request);
-        reply
+        self.answer(call)
     }
 }
 
@@ -183,7 +183,7 @@ const WHOLE_MAP_REPLIES: &[u8] =
 /// The reply to a refused length, and to a request whose bytes are missing.
 const BAD_FRAME_REPLY: &[u8] = b"\x00\x02\x86\x00";
 
-const DIALOGUES: [(&[u8], &[u8]); 7] = [
+static DIALOGUES: [(&[u8], &[u8]); 7] = [
     (PUT_GET, PUT_GET_REPLIES),
     (WHOLE_MAP, WHOLE_MAP_REPLIES),
     (REFUSED, REFUSED_REPLIES),
@@ -193,37 +193,32 @@ const DIALOGUES: [(&[u8], &[u8]); 7] = [
     (b"", b""),
 ];
 
-// Whether the reader's requests are answered with these replies.
-fn is_answered<R: Read>(alloc: Global, reader: &mut R, replies: &[u8]) -> bool {
-    let mut writer = Vec::new(alloc);
-    let mut calls = OneValue::new();
-    let served = serve_connection(alloc, reader, &mut writer, &mut calls);
-    served.is_ok() && writer.as_slice() == replies && calls.held == 0
+/// How a connection ends.
+#[derive(Drop)]
+enum End {
+    Served,
+    ReaderFailed,
+    WriterFailed,
+    NoMemory,
 }
 
-// The same if they come in pieces of at most `most` bytes each.
-fn is_answered_in_pieces(alloc: Global, requests: &[u8], replies: &[u8], most: usize) -> bool {
-    let mut reader = Pieces {
-        left: requests,
-        most,
-        interrupts: false,
-        fails: false,
-    };
-    is_answered(alloc, &mut reader, replies)
-}
-
-fn is_answered_in_equal_pieces(alloc: Global, requests: &[u8], replies: &[u8]) -> bool {
-    for most in 1..=requests.len() {
-        if !is_answered_in_pieces(alloc, requests, replies, most) {
-            return false;
-        }
+fn end_of(served: &Result<(), ConnectionError>) -> End {
+    match served {
+        Ok(()) => End::Served,
+        Err(ConnectionError::Reader(_)) => End::ReaderFailed,
+        Err(ConnectionError::Writer(_)) => End::WriterFailed,
+        Err(ConnectionError::NoMemory) => End::NoMemory,
     }
-    true
 }
 
-fn is_answered_whole(alloc: Global, requests: &[u8], replies: &[u8]) -> bool {
-    let mut reader = requests;
-    is_answered(alloc, &mut reader, replies)
+// How a connection ends, and how many calls are held then.
+fn serve<R: Read, W: Write>(alloc: Global, reader: &mut R, writer: &mut W) -> (End, u64) {
+    let mut calls = OneValue {
+        value: None,
+        held: 0,
+    };
+    let served = serve_connection(alloc, reader, writer, &mut calls);
+    (end_of(&served), calls.held)
 }
 
 /// A reader that ends a piece behind each byte whose bit in `cuts` is 1, the first byte's lowest.
@@ -245,6 +240,30 @@ impl Read for Cut<'_> {
     }
 }
 
+// Whether the reader's requests are answered with these replies, and nothing is held any more.
+fn is_answered<R: Read>(alloc: Global, reader: &mut R, replies: &[u8]) -> bool {
+    let mut writer = Vec::new(alloc);
+    let served = serve(alloc, reader, &mut writer);
+    matches!(served, (End::Served, 0)) && writer.as_slice() == replies
+}
+
+// The same for equal pieces, of each length.
+fn is_answered_in_equal_pieces(alloc: Global, requests: &[u8], replies: &[u8]) -> bool {
+    for most in 1..=requests.len() {
+        let mut reader = Pieces {
+            left: requests,
+            most,
+            interrupts: false,
+            fails: false,
+        };
+        if !is_answered(alloc, &mut reader, replies) {
+            return false;
+        }
+    }
+    true
+}
+
+// The same for pieces that end at these places.
 fn is_answered_if_cut(alloc: Global, requests: &[u8], replies: &[u8], cuts: u64) -> bool {
     let mut reader = Cut {
         left: requests,
@@ -253,20 +272,12 @@ fn is_answered_if_cut(alloc: Global, requests: &[u8], replies: &[u8], cuts: u64)
     is_answered(alloc, &mut reader, replies)
 }
 
-// The same for each second place of a cut.
-fn is_answered_if_cut_again(alloc: Global, requests: &[u8], replies: &[u8], first: u64) -> bool {
-    for second in 0..64u32 {
-        if !is_answered_if_cut(alloc, requests, replies, first | 1 << second) {
-            return false;
-        }
-    }
-    true
-}
-
-// The same for each pair of places among the first 64 bytes.
+// The same for each pair of places among the first 64 bytes. With no cut but behind the last of
+// these the requests come whole.
 fn is_answered_in_three_pieces(alloc: Global, requests: &[u8], replies: &[u8]) -> bool {
-    for first in 0..64u32 {
-        if !is_answered_if_cut_again(alloc, requests, replies, 1 << first) {
+    for pair in 0..64 * 64u32 {
+        let cuts = 1 << (pair / 64) | 1 << (pair % 64);
+        if !is_answered_if_cut(alloc, requests, replies, cuts) {
             return false;
         }
     }
@@ -275,20 +286,17 @@ fn is_answered_in_three_pieces(alloc: Global, requests: &[u8], replies: &[u8]) -
 
 #[test]
 fn dialogues_in_pieces(rt: HostRuntime) {
-    let alloc = rt.alloc();
-    for (requests, replies) in DIALOGUES {
-        let is_answered = is_answered_whole(alloc, requests, replies)
-            && is_answered_in_equal_pieces(alloc, requests, replies)
-            && is_answered_in_three_pieces(alloc, requests, replies);
+    for (requests, replies) in &DIALOGUES {
+        let is_answered = is_answered_in_equal_pieces(rt.alloc(), requests, replies)
+            && is_answered_in_three_pieces(rt.alloc(), requests, replies);
         assert!(rt; is_answered, "{requests:?}");
     }
 }
 
 #[test]
 fn a_put_in_every_cutting(rt: HostRuntime) {
-    let alloc = rt.alloc();
     for cuts in 0..1u64 << 14 {
-        let is_answered = is_answered_if_cut(alloc, PUT, PUT_REPLY, cuts);
+        let is_answered = is_answered_if_cut(rt.alloc(), PUT, PUT_REPLY, cuts);
         assert!(rt; is_answered, "{cuts:b}");
     }
 }
@@ -303,11 +311,8 @@ fn fails_behind(alloc: Global, len: usize, replies: &[u8]) -> bool {
         fails: true,
     };
     let mut writer = Room::of(64);
-    let mut calls = OneValue::new();
-    let served = serve_connection(alloc, &mut reader, &mut writer, &mut calls);
-    matches!(served, Err(ConnectionError::Reader(_)))
-        && writer.written() == replies
-        && calls.held == 0
+    let served = serve(alloc, &mut reader, &mut writer);
+    matches!(served, (End::ReaderFailed, 0)) && writer.written() == replies
 }
 
 #[test]
@@ -330,11 +335,8 @@ fn a_reader_that_fails(rt: HostRuntime) {
 fn fails_with_room_for(alloc: Global, replies: &[u8]) -> bool {
     let mut reader = PUT_GET;
     let mut writer = Room::of(replies.len());
-    let mut calls = OneValue::new();
-    let served = serve_connection(alloc, &mut reader, &mut writer, &mut calls);
-    matches!(served, Err(ConnectionError::Writer(_)))
-        && writer.written() == replies
-        && calls.held == 0
+    let served = serve(alloc, &mut reader, &mut writer);
+    matches!(served, (End::WriterFailed, 0)) && writer.written() == replies
 }
 
 #[test]
@@ -345,21 +347,25 @@ fn a_writer_that_fails(rt: HostRuntime) {
     }
 }
 
+// Whether a connection of a put and a get may end so, if any one allocation is refused.
+fn is_allowed(end: &End, written: &[u8]) -> bool {
+    match end {
+        End::Served => {
+            written == PUT_GET_REPLIES
+                || written == b"\x00\x02\x87\x00\x00\x02\x01\x00".as_slice()
+                || written == b"\x00\x02\x00\x00\x00\x02\x87\x00".as_slice()
+        }
+        End::NoMemory => written.is_empty(),
+        _ => false,
+    }
+}
+
 /// It passes too if any one allocation is refused.
 #[test]
 fn memory_that_is_refused(rt: HostRuntime) {
     let mut reader = PUT_GET;
     let mut writer = Room::of(64);
-    let mut calls = OneValue::new();
-    let served = serve_connection(rt.alloc(), &mut reader, &mut writer, &mut calls);
+    let (end, _held) = serve(rt.alloc(), &mut reader, &mut writer);
     let written = writer.written();
-    let is_allowed = match served {
-        Ok(()) => {
-            written == PUT_GET_REPLIES
-                || written == b"\x00\x02\x87\x00\x00\x02\x01\x00".as_slice()
-                || written == b"\x00\x02\x00\x00\x00\x02\x87\x00".as_slice()
-        }
-        Err(error) => matches!(error, ConnectionError::NoMemory) && written.is_empty(),
-    };
-    assert!(rt; is_allowed, "{written:?}");
+    assert!(rt; is_allowed(&end, written), "{written:?}");
 }

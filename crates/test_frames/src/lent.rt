@@ -1,105 +1,82 @@
 //! Rows and buffers that are lent to a connection, and connections that rest.
-use crate::numbered::{Begun, Numbered, lent_and_begun, puts, replies, take_replies};
-use connections::{Buffer, Connection, Resting, Row};
-use std::test::Fail;
+use crate::steps::{State, Step, Who, assert_steps};
 
 /// Without a row nothing is begun. A row that holds calls is not given, nor left for another.
+static ROWS: [(Who, Step); 18] = [
+    (Who::One, Step::GiveRow(false)),
+    (Who::One, Step::Is(State::Ready(false))),
+    (Who::One, Step::Receive(1, 2)),
+    (Who::One, Step::Begin(0)),
+    (Who::One, Step::Is(State::Idle(true))),
+    (Who::One, Step::Is(State::Ready(true))),
+    (Who::One, Step::LendRow(true)),
+    (Who::One, Step::LendRow(false)),
+    (Who::One, Step::Begin(2)),
+    (Who::One, Step::Is(State::Ready(false))),
+    (Who::One, Step::GiveRow(false)),
+    (Who::One, Step::LendRow(false)),
+    (Who::One, Step::Settle(2)),
+    (Who::One, Step::Answer(true)),
+    (Who::One, Step::SendAll),
+    (Who::One, Step::Is(State::Sent(1, 2))),
+    (Who::One, Step::GiveRow(true)),
+    (Who::One, Step::GiveRow(false)),
+];
+
 #[test]
-fn rows_that_are_lent(rt: HostRuntime) -> Result<(), Fail> {
-    let alloc = rt.alloc();
-    let mut calls = Numbered::new(alloc);
-    let mut connection: Connection<Begun> = Connection::new(alloc);
-    assert!(rt; connection.give_row().is_none() && !connection.has_message());
-    connection.receive(&puts(alloc, 1, 2)?)?;
-    connection.begin(&mut calls);
-    assert!(rt; connection.is_idle() && connection.has_message() && calls.begun == 0);
-    assert!(rt; connection.lend_row(Row::new(alloc)?).is_none());
-    assert!(rt; connection.lend_row(Row::new(alloc)?).is_some());
-    connection.begin(&mut calls);
-    assert!(rt; calls.begun == 2 && !connection.has_message());
-    assert!(rt; connection.give_row().is_none());
-    assert!(rt; connection.lend_row(Row::new(alloc)?).is_some());
-    calls.settled = 2;
-    let mut taken = Vec::new(alloc);
-    assert!(rt; take_replies(&mut connection, &mut calls, &mut taken)?);
-    assert!(rt;
-        taken.as_slice() == replies(alloc, 1, 2)?.as_slice(),
-        "{taken:?}"
-    );
-    assert!(rt; connection.give_row().is_some() && connection.give_row().is_none());
-    Ok(())
-}
-
-// Takes note that so many bytes were taken, if as many are unsent.
-fn is_taken(connection: &mut Connection<Begun>, count: usize) -> bool {
-    if count > connection.unsent().len() {
-        return false;
-    }
-    connection.sent(count);
-    true
-}
-
-// Whether the bytes from this place on are unsent.
-fn is_unsent(connection: &Connection<Begun>, bytes: &[u8], start: usize) -> bool {
-    match bytes.get(start..) {
-        Some(rest) => connection.unsent() == rest,
-        None => false,
-    }
+fn rows_that_are_lent(rt: HostRuntime) {
+    assert_steps(&rt, rt.alloc(), &ROWS);
 }
 
 /// What is unsent stays when the buffer is given back, and no other takes its place.
+static BUFFERS: [(Who, Step); 19] = [
+    (Who::One, Step::Settle(u64::MAX)),
+    (Who::One, Step::LendRow(true)),
+    (Who::One, Step::Receive(1, 2)),
+    (Who::One, Step::Begin(2)),
+    (Who::One, Step::GiveBuffer(false)),
+    (Who::One, Step::LendBuffer(true)),
+    (Who::One, Step::LendBuffer(false)),
+    (Who::One, Step::Answer(true)),
+    (Who::One, Step::Send(5)),
+    (Who::One, Step::GiveBuffer(true)),
+    (Who::One, Step::GiveBuffer(false)),
+    (Who::One, Step::Is(State::Unsent(1, 2, 5))),
+    (Who::One, Step::LendBuffer(false)),
+    (Who::One, Step::Trim),
+    (Who::One, Step::Is(State::Unsent(1, 2, 5))),
+    (Who::One, Step::Send(19)),
+    (Who::One, Step::Trim),
+    (Who::One, Step::Is(State::Unsent(1, 2, 24))),
+    (Who::One, Step::LendBuffer(true)),
+];
+
 #[test]
-#[tactic(auto, using(crate::proofs::Owned::owns_all))]
-fn buffers_that_are_lent(rt: HostRuntime) -> Result<(), Fail> {
-    let alloc = rt.alloc();
-    let mut calls = Numbered::new(alloc);
-    calls.settled = u64::MAX;
-    let mut connection = lent_and_begun(alloc, &mut calls, 1, 2)?;
-    assert!(rt; connection.give_buffer().is_none());
-    assert!(rt; connection.lend_buffer(Buffer::new(alloc)?).is_none());
-    assert!(rt; connection.lend_buffer(Buffer::new(alloc)?).is_some());
-    let answered = connection.answer(&mut calls, false);
-    assert!(rt; answered.is_all());
-    assert!(rt; is_taken(&mut connection, 5));
-    assert!(rt; connection.give_buffer().is_some() && connection.give_buffer().is_none());
-    let wanted = replies(alloc, 1, 2)?;
-    assert!(rt; is_unsent(&connection, &wanted, 5));
-    assert!(rt; connection.lend_buffer(Buffer::new(alloc)?).is_some());
-    connection.trim();
-    assert!(rt; is_unsent(&connection, &wanted, 5));
-    assert!(rt; is_taken(&mut connection, 19));
-    connection.trim();
-    assert!(rt; connection.unsent().is_empty());
-    assert!(rt; connection.lend_buffer(Buffer::new(alloc)?).is_none());
-    Ok(())
+fn buffers_that_are_lent(rt: HostRuntime) {
+    assert_steps(&rt, rt.alloc(), &BUFFERS);
 }
 
 /// A connection rests only if none of its calls is held.
+static RESTS: [(Who, Step); 16] = [
+    (Who::One, Step::Receive(7, 1)),
+    (Who::One, Step::ReceiveCount),
+    (Who::One, Step::Trim),
+    (Who::One, Step::Rest(true)),
+    (Who::One, Step::Is(State::Ready(true))),
+    (Who::One, Step::Is(State::WholeMap(false))),
+    (Who::One, Step::LendRow(true)),
+    (Who::One, Step::Begin(1)),
+    (Who::One, Step::Rest(false)),
+    (Who::One, Step::Settle(1)),
+    (Who::One, Step::Answer(true)),
+    (Who::One, Step::SendAll),
+    (Who::One, Step::Is(State::Sent(7, 1))),
+    (Who::One, Step::Rest(true)),
+    (Who::One, Step::Is(State::Ready(true))),
+    (Who::One, Step::Is(State::WholeMap(true))),
+];
+
 #[test]
-fn connections_that_rest(rt: HostRuntime) -> Result<(), Fail> {
-    let alloc = rt.alloc();
-    let mut calls = Numbered::new(alloc);
-    let mut resting: Resting<Begun> = Resting::new(alloc);
-    resting.receive(&puts(alloc, 7, 1)?)?;
-    resting.receive(b"\x00\x01\x20")?;
-    resting.trim();
-    assert!(rt; resting.connection().has_message() && !resting.connection().asks_whole_map());
-    let mut connection = resting.wake();
-    let _spare = connection.lend_row(Row::new(alloc)?);
-    connection.begin(&mut calls);
-    let Err(mut held) = Resting::of(connection) else {
-        return Err(Fail::new("it rests, or does not"));
-    };
-    calls.settled = 1;
-    let mut taken = Vec::new(alloc);
-    assert!(rt; take_replies(&mut held, &mut calls, &mut taken)?);
-    assert!(rt;
-        taken.as_slice() == replies(alloc, 7, 1)?.as_slice(),
-        "{taken:?}"
-    );
-    let Ok(resting) = Resting::of(held) else {
-        return Err(Fail::new("it rests, or does not"));
-    };
-    assert!(rt; resting.connection().has_message() && resting.connection().asks_whole_map());
-    Ok(())
+fn connections_that_rest(rt: HostRuntime) {
+    assert_steps(&rt, rt.alloc(), &RESTS);
 }

@@ -14,4 +14,6 @@ mod numbered;
 #[cfg(test)]
 mod rows;
 #[cfg(test)]
+mod steps;
+#[cfg(test)]
 mod turns;

@@ -1,59 +1,22 @@
 //! The order in which the calls of a row are begun and finished, and what is written together.
+use crate::steps::{PUT, frames};
 use connections::{Calls, serve_connection};
 use map_types::{Refusal, Reply, Value};
 use std::alloc::Global;
 use std::io;
 use std::io::Write;
-use std::test::Fail;
 use wire_frames::Request;
-
-/// What is done with a call, in turn.
-#[derive(Clone, Copy, Debug, PartialEq, Eq)]
-enum Did {
-    BeginsSingle,
-    BeginsWhole,
-    FinishesSingle,
-    FinishesWhole,
-    GivesUp,
-}
-
-// What is done with a request whose call begins.
-fn begun(request: &Request) -> Did {
-    match request {
-        Request::Bulk(_) => Did::BeginsWhole,
-        Request::Change(_) | Request::Read(_) => Did::BeginsSingle,
-    }
-}
-
-// What is done with a request whose call is finished.
-fn finished(request: &Request) -> Did {
-    match request {
-        Request::Bulk(_) => Did::FinishesWhole,
-        Request::Change(_) | Request::Read(_) => Did::FinishesSingle,
-    }
-}
 
 /// Calls that write down what is done with them, and answer each with the same value.
 #[derive(Drop)]
 struct Noted<'a> {
     value: &'a Value,
-    done: Vec<Did>,
-}
-
-impl Noted<'_> {
-    fn note(&mut self, did: Did) -> Result<(), Refusal> {
-        self.done.push(did)?;
-        Ok(())
-    }
-
-    fn noted_reply(&mut self, did: Did) -> Result<Reply, Refusal> {
-        self.note(did)?;
-        Ok(Reply::Now(Some(self.value.clone()?)))
-    }
+    done: String,
 }
 
 impl Calls for Noted<'_> {
-    type Held = Request;
+    // whether the request is of the whole map
+    type Held = bool;
 
     ghost began = { λ _ _ _ _. Unit {0} };
 
@@ -63,29 +26,32 @@ impl Calls for Noted<'_> {
 
     ghost owns = { λ _ _. Unit {0} };
 
-    fn begin(&mut self, request: Request) -> Result<Request, Refusal> {
-        match self.note(begun(&request)) {
-            Ok(()) => Ok(request),
-            Err(refusal) => {
-                drop(request);
-                Err(refusal)
-            }
-        }
+    fn begin(&mut self, request: Request) -> Result<bool, Refusal> {
+        let is_whole = matches!(request, Request::Bulk(_));
+        drop(request);
+        self.done.push_str(if is_whole {
+            "begins whole, "
+        } else {
+            "begins, "
+        })?;
+        Ok(is_whole)
     }
 
-    fn may_finish(&self, _request: &Request) -> bool {
+    fn may_finish(&self, _is_whole: &bool) -> bool {
         true
     }
 
-    fn finish(&mut self, request: Request) -> Result<Reply, Refusal> {
-        let did = finished(&request);
-        drop(request);
-        self.noted_reply(did)
+    fn finish(&mut self, is_whole: bool) -> Result<Reply, Refusal> {
+        self.done.push_str(if is_whole {
+            "finishes whole, "
+        } else {
+            "finishes, "
+        })?;
+        Ok(Reply::Now(Some(self.value.clone()?)))
     }
 
-    fn give_up(&mut self, request: Request) {
-        drop(request);
-        let _noted = self.done.push(Did::GivesUp);
+    fn give_up(&mut self, _is_whole: bool) {
+        let _noted = self.done.push_str("gives up, ");
     }
 }
 
@@ -108,127 +74,85 @@ impl Write for Lengths {
     }
 }
 
-/// What was done with the calls of frames, and how long the writes were.
-#[derive(Drop)]
-struct Outcome {
-    done: Vec<Did>,
-    written: Vec<usize>,
+// Whether a connection of these bytes is served to their end.
+fn serve(alloc: Global, calls: &mut Noted<'_>, writer: &mut Lengths, bytes: &[u8]) -> bool {
+    let mut reader = bytes;
+    serve_connection(alloc, &mut reader, writer, calls).is_ok()
 }
 
-impl Outcome {
-    fn is(&self, done: &[Did], written: &[usize]) -> bool {
-        self.done.as_slice() == done && self.written.as_slice() == written
-    }
-}
+/// Three puts of `a`.
+const PUTS: &[u8] =
+    b"\x00\x0D\x10\x00\x01a\x01\x00\x00\x00\x00\x00\x00\x00\x05\x00\x0D\x10\x00\x01a\x01\x00\x00\x00\x00\x00\x00\x00\x05\x00\x0D\x10\x00\x01a\x01\x00\x00\x00\x00\x00\x00\x00\x05";
 
-fn served(alloc: Global, value: &Value, frames: &[u8]) -> Result<Outcome, Fail> {
+/// Two puts, two counts, and a put.
+const PUTS_AND_COUNTS: &[u8] =
+    b"\x00\x0D\x10\x00\x01a\x01\x00\x00\x00\x00\x00\x00\x00\x05\x00\x0D\x10\x00\x01a\x01\x00\x00\x00\x00\x00\x00\x00\x05\x00\x01\x20\x00\x01\x20\x00\x0D\x10\x00\x01a\x01\x00\x00\x00\x00\x00\x00\x00\x05";
+
+/// Requests, what is done with their calls, and how long the writes are. All calls of a row are
+/// begun before the first is finished. The replies before a request of the whole map are written
+/// before it is begun, and its own before the next is.
+static ROWS: [(&[u8], &str, &[usize]); 2] = [
+    (
+        PUTS,
+        "begins, begins, begins, finishes, finishes, finishes, ",
+        &[36],
+    ),
+    (
+        PUTS_AND_COUNTS,
+        "begins, begins, finishes, finishes, begins whole, finishes whole, begins whole, finishes whole, begins, finishes, ",
+        &[24, 12, 12, 12],
+    ),
+];
+
+// Whether this is done with the calls of these bytes, and the writes are so long.
+fn is_served(alloc: Global, bytes: &[u8], done: &str, written: &[usize]) -> bool {
+    let value = Value::Int(5);
     let mut calls = Noted {
-        value,
-        done: Vec::new(alloc),
+        value: &value,
+        done: String::new(alloc),
     };
     let mut writer = Lengths {
         written: Vec::new(alloc),
     };
-    let mut reader = frames;
-    serve_connection(alloc, &mut reader, &mut writer, &mut calls)?;
-    Ok(Outcome {
-        done: calls.done,
-        written: writer.written,
-    })
+    serve(alloc, &mut calls, &mut writer, bytes)
+        && calls.done.as_str() == done
+        && writer.written.as_slice() == written
 }
 
-/// A put of `a`.
-const PUT: &[u8] = b"\x00\x0D\x10\x00\x01a\x01\x00\x00\x00\x00\x00\x00\x00\x05";
-
-/// A count.
-const COUNT: &[u8] = b"\x00\x01\x20";
-
-/// Frames behind one another.
-fn joined(alloc: Global, frames: &[&[u8]]) -> Result<Vec<u8>, Fail> {
-    let mut bytes = Vec::new(alloc);
-    for frame in frames {
-        bytes.extend_from_slice(frame)?;
+#[test]
+fn calls_in_their_order(rt: HostRuntime) {
+    for (bytes, done, written) in &ROWS {
+        let is_served = is_served(rt.alloc(), bytes, done, written);
+        assert!(rt; is_served, "{done}");
     }
-    Ok(bytes)
 }
 
-// What comes of frames behind one another.
-fn served_together(alloc: Global, value: &Value, frames: &[&[u8]]) -> Result<Outcome, Fail> {
-    let bytes = joined(alloc, frames)?;
-    let served = served(alloc, value, &bytes);
-    drop(bytes);
-    served
-}
-
-#[test]
-fn calls_are_begun_before_the_first_is_finished(rt: HostRuntime) -> Result<(), Fail> {
-    let served = served_together(rt.alloc(), &Value::Int(5), &[PUT, PUT, PUT])?;
-    let wanted = &[
-        Did::BeginsSingle,
-        Did::BeginsSingle,
-        Did::BeginsSingle,
-        Did::FinishesSingle,
-        Did::FinishesSingle,
-        Did::FinishesSingle,
-    ];
-    assert!(rt;
-        served.is(wanted, &[36]),
-        "{:?} {:?}",
-        served.done,
-        served.written
-    );
-    drop(served);
-    Ok(())
-}
-
-/// The replies before a request of the whole map are written before it is begun, and its own before
-/// the next is.
-#[test]
-fn a_request_of_the_whole_map_is_alone(rt: HostRuntime) -> Result<(), Fail> {
-    let frames = &[PUT, PUT, COUNT, COUNT, PUT];
-    let served = served_together(rt.alloc(), &Value::Int(5), frames)?;
-    let wanted = &[
-        Did::BeginsSingle,
-        Did::BeginsSingle,
-        Did::FinishesSingle,
-        Did::FinishesSingle,
-        Did::BeginsWhole,
-        Did::FinishesWhole,
-        Did::BeginsWhole,
-        Did::FinishesWhole,
-        Did::BeginsSingle,
-        Did::FinishesSingle,
-    ];
-    assert!(rt;
-        served.is(wanted, &[24, 12, 12, 12]),
-        "{:?} {:?}",
-        served.done,
-        served.written
-    );
-    drop(served);
-    Ok(())
-}
-
-fn longest_text(alloc: Global) -> Result<Value, Fail> {
+// How long the writes are if 64 puts are answered with a text of 4,096 bytes.
+fn written_with_text(alloc: Global) -> Result<Vec<usize>, Refusal> {
     let text = "v".repeat(alloc, 4096)?;
-    Ok(Value::text(alloc, text.as_str())?)
-}
-
-// What comes of 64 puts that are answered with a text of 4,096 bytes.
-fn served_with_text(alloc: Global) -> Result<Outcome, Fail> {
-    let value = longest_text(alloc)?;
-    let served = served_together(alloc, &value, &[PUT; 64]);
-    drop(value);
-    served
+    let value = Value::text(alloc, text.as_str())?;
+    let mut calls = Noted {
+        value: &value,
+        done: String::new(alloc),
+    };
+    let mut writer = Lengths {
+        written: Vec::new(alloc),
+    };
+    let puts = frames(alloc, PUT, 0, 64)?;
+    if !serve(alloc, &mut calls, &mut writer, &puts) {
+        return Err(Refusal::Failed);
+    }
+    Ok(writer.written)
 }
 
 /// A reply with a text of 4,096 bytes has 4,102, of which 15 leave no room for another in 65,536.
 #[test]
-fn gathered_replies_stay_within_their_room(rt: HostRuntime) -> Result<(), Fail> {
-    let served = served_with_text(rt.alloc())?;
-    let is_gathered = served.written.as_slice()
-        == [61_530, 61_530, 61_530, 61_530, 16_408].as_slice();
-    assert!(rt; is_gathered, "{:?}", served.written);
-    drop(served);
+fn gathered_replies_stay_within_their_room(rt: HostRuntime) -> Result<(), Refusal> {
+    let written = written_with_text(rt.alloc())?;
+    assert!(rt;
+        written.as_slice() == [61_530, 61_530, 61_530, 61_530, 16_408].as_slice(),
+        "{written:?}"
+    );
+    drop(written);
     Ok(())
 }

@@ -2,6 +2,7 @@
 ghost use Rattle.std.specs.Prelude.{◌≡◌, None};
 ghost use Rattle.stripe_locks.specs.Passes.{recorded, IsPassOf};
 
+use crate::checks::assert_same;
 use crate::stripes::{Tried, try_get, try_put};
 use java_hash::StripeCount;
 use map_types::Refusal;
@@ -48,19 +49,6 @@ fn mark_by_changes(stripes: &Stripes, alloc: Global) -> Result<([Tried; 4], [boo
     Ok((tried, [before, behind, then]))
 }
 
-#[test]
-fn a_change_marks_its_stripe(rt: HostRuntime) -> Result<(), Refusal> {
-    let alloc = rt.alloc();
-    let count = StripeCount::new(256).expect(&rt, "256 is a count of stripes");
-    let stripes = Stripes::empty(alloc, count)?;
-    let marked = mark_by_changes(&stripes, alloc);
-    drop(stripes);
-    let (tried, are_marked) = marked?;
-    assert!(rt; tried == [Tried::Held; 4]);
-    assert_eq!(rt; are_marked, [true; 3]);
-    Ok(())
-}
-
 // What comes of a put of `a`, a read of `b` and a read of `a`, and whether the marks behind each
 // are right.
 fn mark_by_reads(stripes: &Stripes, alloc: Global) -> Result<([Tried; 3], [bool; 3]), Refusal> {
@@ -77,14 +65,16 @@ fn mark_by_reads(stripes: &Stripes, alloc: Global) -> Result<([Tried; 3], [bool;
 
 // No sweep has taken the entry, so that whoever gives the stripe back marks it.
 #[test]
-fn a_read_marks_a_stripe_with_entries(rt: HostRuntime) -> Result<(), Refusal> {
+fn stripes_with_entries_are_marked(rt: HostRuntime) {
     let alloc = rt.alloc();
     let count = StripeCount::new(256).expect(&rt, "256 is a count of stripes");
-    let stripes = Stripes::empty(alloc, count)?;
-    let marked = mark_by_reads(&stripes, alloc);
+    let stripes = Stripes::empty(alloc, count).expect(&rt, "256 stripes");
+    let changed = mark_by_changes(&stripes, alloc);
+    let read = mark_by_reads(&stripes, alloc);
     drop(stripes);
-    let (tried, are_marked) = marked?;
-    assert!(rt; tried == [Tried::Held; 3]);
-    assert_eq!(rt; are_marked, [true; 3]);
-    Ok(())
+    assert_same(
+        &rt,
+        &(changed, read),
+        &(Ok(([Ok(()); 4], [true; 3])), Ok(([Ok(()); 3], [true; 3]))),
+    );
 }

@@ -1,4 +1,5 @@
 //! One part: its longest texts, a change that is ready, and memory that is refused.
+use crate::checks::assert_same;
 use atomic_methods::{Acted, Part, Ready, Unready};
 use java_hash::StripeCount;
 use map_types::{Change, Command, Func, FuncError, Key, Question, Read, Refusal, Reply, Value};
@@ -17,7 +18,6 @@ pub(crate) fn text_of(alloc: Global, len: usize) -> Result<Value, Refusal> {
 }
 
 /// A change, by the number that it puts, or the length of its text.
-#[derive(Clone, Copy)]
 enum Step {
     Put(i64),
     PutText(usize),
@@ -26,20 +26,43 @@ enum Step {
     RemoveText(usize),
 }
 
-fn change_of(alloc: Global, step: Step) -> Result<Change, Refusal> {
+fn change_of(alloc: Global, step: &Step) -> Result<Change, Refusal> {
     match step {
-        Step::Put(number) => Ok(Change::Put(Value::Int(number))),
-        Step::PutText(len) => Ok(Change::Put(text_of(alloc, len)?)),
-        Step::JoinText(len) => Ok(Change::Merge(Func::Concat, text_of(alloc, len)?)),
+        Step::Put(number) => Ok(Change::Put(Value::Int(*number))),
+        Step::PutText(len) => Ok(Change::Put(text_of(alloc, *len)?)),
+        Step::JoinText(len) => Ok(Change::Merge(Func::Concat, text_of(alloc, *len)?)),
         Step::Remove => Ok(Change::Remove),
-        Step::RemoveText(len) => Ok(Change::RemoveIf(text_of(alloc, len)?)),
+        Step::RemoveText(len) => Ok(Change::RemoveIf(text_of(alloc, *len)?)),
     }
 }
 
-fn command(alloc: Global, key: &str, step: Step) -> Result<Command, Refusal> {
+fn command(alloc: Global, key: &str, step: &Step) -> Result<Command, Refusal> {
     let key = Key::new(alloc, key)?;
     let change = change_of(alloc, step)?;
     Ok(Command { key, change })
+}
+
+// What is replied, in short.
+fn reply_text(reply: &Reply) -> &'static str {
+    match reply {
+        Reply::Was(None) => "was nothing",
+        Reply::Did(true) => "did",
+        Reply::Now(Some(Value::Int(5))) => "now 5",
+        Reply::Now(Some(Value::Text(_))) => "now a text",
+        Reply::Fault(FuncError::TooLong) => "too long",
+        _ => "another reply",
+    }
+}
+
+fn answer_text(answer: Result<Reply, Refusal>) -> Result<&'static str, Refusal> {
+    match answer {
+        Ok(reply) => {
+            let text = reply_text(&reply);
+            drop(reply);
+            Ok(text)
+        }
+        Err(refusal) => Err(refusal),
+    }
 }
 
 fn changed(part: &mut Part, alloc: Global, command: &Command) -> Result<Reply, Refusal> {
@@ -47,82 +70,57 @@ fn changed(part: &mut Part, alloc: Global, command: &Command) -> Result<Reply, R
     Ok(part.act(&command.key, prepared))
 }
 
-// Makes the change of the key "k".
-fn change(part: &mut Part, alloc: Global, step: Step) -> Result<Reply, Refusal> {
+// Makes the change of the key "k". What is replied.
+fn change(part: &mut Part, alloc: Global, step: &Step) -> Result<&'static str, Refusal> {
     let command = command(alloc, "k", step)?;
     let reply = changed(part, alloc, &command);
     drop(command);
-    reply
+    answer_text(reply)
 }
 
-/// What comes of a text that is joined by another.
-#[derive(Clone, Copy, Debug, PartialEq, Eq)]
-enum Joined {
-    Text,
-    TooLong,
-    Other,
-}
+/// Changes of the key "k" in turn, and what is replied: a text that is joined by one byte has at
+/// most 4096.
+static LONGEST: [(Step, &str); 6] = [
+    (Step::PutText(4096), "was nothing"),
+    (Step::JoinText(1), "too long"),
+    (Step::RemoveText(4096), "did"),
+    (Step::PutText(4095), "was nothing"),
+    (Step::JoinText(1), "now a text"),
+    (Step::RemoveText(4096), "did"),
+];
 
-fn joined_of(reply: Reply) -> Joined {
-    match reply {
-        Reply::Now(Some(Value::Text(_))) => Joined::Text,
-        Reply::Fault(FuncError::TooLong) => Joined::TooLong,
-        _ => Joined::Other,
+// The number of the first of these changes that comes out otherwise, if any.
+fn first_wrong(alloc: Global, part: &mut Part) -> Result<Option<usize>, Refusal> {
+    for number in 0..LONGEST.len() {
+        let (step, reply) = &LONGEST[number];
+        if change(part, alloc, step)? != *reply {
+            return Ok(Some(number));
+        }
     }
-}
-
-// Joins one byte to a text of `len` bytes.
-fn join(alloc: Global, part: &mut Part, len: usize) -> Result<Joined, Refusal> {
-    change(part, alloc, Step::PutText(len))?;
-    Ok(joined_of(change(part, alloc, Step::JoinText(1))?))
-}
-
-fn is_done(reply: Reply) -> bool {
-    matches!(reply, Reply::Did(true))
-}
-
-// Whether the text has 4096 bytes.
-fn is_longest(alloc: Global, part: &mut Part) -> Result<bool, Refusal> {
-    Ok(is_done(change(part, alloc, Step::RemoveText(4096))?))
-}
-
-fn join_and_remove(alloc: Global, part: &mut Part, len: usize) -> Result<(Joined, bool), Refusal> {
-    let joined = join(alloc, part, len)?;
-    Ok((joined, is_longest(alloc, part)?))
-}
-
-fn joined_and_removed(alloc: Global, len: usize) -> Result<(Joined, bool), Refusal> {
-    let mut part = empty_part(alloc)?;
-    let joined = join_and_remove(alloc, &mut part, len);
-    drop(part);
-    joined
+    Ok(None)
 }
 
 #[test]
 fn longest_text(rt: HostRuntime) {
-    for (len, expected) in [(4096, Joined::TooLong), (4095, Joined::Text)] {
-        assert_eq!(rt;
-            joined_and_removed(rt.alloc(), len),
-            Ok((expected, true)),
-            "{len}"
-        );
-    }
+    let mut part = empty_part(rt.alloc()).expect(&rt, "a part");
+    let wrong = first_wrong(rt.alloc(), &mut part);
+    drop(part);
+    assert_same(&rt, &wrong, &Ok(None));
 }
 
-// Whether the reply is that nothing was mapped, and how many entries there are.
-fn left_by(acted: &Acted) -> (bool, usize) {
-    let is_first = matches!(acted.reply, Reply::Was(None));
-    (is_first, acted.part.len())
+// What is replied to a change that was ready, and how many entries it leaves.
+fn left_by(acted: &Acted) -> (&'static str, usize) {
+    (reply_text(&acted.reply), acted.part.len())
 }
 
-fn act(ready: Ready) -> (bool, usize) {
+fn act(ready: Ready) -> (&'static str, usize) {
     let acted = ready.act();
     let left = left_by(&acted);
     drop(acted);
     left
 }
 
-fn act_if_ready(ready: Result<Ready, Unready>) -> Result<(bool, usize), Refusal> {
+fn act_if_ready(ready: Result<Ready, Unready>) -> Result<(&'static str, usize), Refusal> {
     match ready {
         Ok(ready) => Ok(act(ready)),
         Err(unready) => {
@@ -133,7 +131,7 @@ fn act_if_ready(ready: Result<Ready, Unready>) -> Result<(bool, usize), Refusal>
     }
 }
 
-fn act_on_empty(alloc: Global, command: Command) -> Result<(bool, usize), Refusal> {
+fn act_on_empty(alloc: Global, command: Command) -> Result<(&'static str, usize), Refusal> {
     match empty_part(alloc) {
         Ok(part) => act_if_ready(Ready::new(alloc, part, command)),
         Err(refusal) => {
@@ -143,28 +141,26 @@ fn act_on_empty(alloc: Global, command: Command) -> Result<(bool, usize), Refusa
     }
 }
 
-// What a change of an empty part leaves.
-fn acted(alloc: Global) -> Result<(bool, usize), Refusal> {
-    let command = command(alloc, "a", Step::Put(5))?;
+// What comes of a put in an empty part.
+fn acted(alloc: Global) -> Result<(&'static str, usize), Refusal> {
+    let command = command(alloc, "a", &Step::Put(5))?;
     act_on_empty(alloc, command)
 }
 
 #[test]
 fn ready_change(rt: HostRuntime) {
-    assert_eq!(rt; acted(rt.alloc()), Ok((true, 1)));
+    assert_same(&rt, &acted(rt.alloc()), &Ok(("was nothing", 1)));
 }
 
-fn is_five(reply: Reply) -> bool {
-    matches!(reply, Reply::Now(Some(Value::Int(5))))
-}
-
-// Whether the key "k" alone is mapped, to 5.
-fn is_kept(alloc: Global, part: &Part) -> Result<bool, Refusal> {
+// What the key "k" has, and how many entries there are.
+fn content(alloc: Global, part: &Part) -> Result<(&'static str, usize), Refusal> {
     let read = Read {
         key: Key::new(alloc, "k")?,
         question: Question::Get,
     };
-    Ok(is_five(part.read(&read)?) && part.len() == 1)
+    let reply = part.read(&read);
+    drop(read);
+    Ok((answer_text(reply)?, part.len()))
 }
 
 fn is_ready(part: &mut Part, alloc: Global, command: &Command) -> bool {
@@ -174,31 +170,44 @@ fn is_ready(part: &mut Part, alloc: Global, command: &Command) -> bool {
     is_ready
 }
 
-// Prepares the change of a key, which may be refused. Whether the key "k" stays the same.
-fn stays(alloc: Global, part: &mut Part, key: &str, step: Step) -> Result<bool, Refusal> {
+// Prepares the change of a key, which may be refused. The content behind it.
+fn content_behind(
+    alloc: Global,
+    part: &mut Part,
+    key: &str,
+    step: &Step,
+) -> Result<(&'static str, usize), Refusal> {
     let command = command(alloc, key, step)?;
     let _is_ready = is_ready(part, alloc, &command);
     drop(command);
-    is_kept(alloc, part)
+    content(alloc, part)
 }
 
-// Maps the key "k" to 5. Whether it stays so at each of three changes.
-fn stays_five(alloc: Global, part: &mut Part) -> Result<[bool; 3], Refusal> {
-    drop(change(part, alloc, Step::Put(5))?);
-    Ok([
-        stays(alloc, part, "k", Step::Put(6))?,
-        stays(alloc, part, "k", Step::Remove)?,
-        stays(alloc, part, "b", Step::Put(7))?,
-    ])
+/// Keys, and changes that are prepared and not made.
+static PREPARED: [(&str, Step); 3] = [
+    ("k", Step::Put(6)),
+    ("k", Step::Remove),
+    ("b", Step::Put(7)),
+];
+
+// Maps the key "k" to 5. The number of the first prepared change that leaves another content, if
+// any.
+fn first_unkept(alloc: Global, part: &mut Part) -> Result<Option<usize>, Refusal> {
+    change(part, alloc, &Step::Put(5))?;
+    for number in 0..PREPARED.len() {
+        let (key, step) = &PREPARED[number];
+        if content_behind(alloc, part, key, step)? != ("now 5", 1) {
+            return Ok(Some(number));
+        }
+    }
+    Ok(None)
 }
 
 /// Whichever one allocation is refused, a change that isn't prepared leaves the content.
 #[test]
-fn refused_memory(rt: HostRuntime) -> Result<(), Refusal> {
-    let alloc = rt.alloc();
-    let mut part = empty_part(alloc)?;
-    let stays = stays_five(alloc, &mut part);
+fn refused_memory(rt: HostRuntime) {
+    let mut part = empty_part(rt.alloc()).expect(&rt, "a part");
+    let unkept = first_unkept(rt.alloc(), &mut part);
     drop(part);
-    assert_eq!(rt; stays?, [true; 3]);
-    Ok(())
+    assert_same(&rt, &unkept, &Ok(None));
 }

@@ -2,6 +2,7 @@
 ghost use Rattle.std.specs.Prelude.{◌≡◌, ◌<◌, None};
 ghost use Rattle.stripe_locks.specs.Passes.{recorded, stripe_count, IsPassOf};
 
+use crate::checks::assert_same;
 use java_hash::StripeCount;
 use map_types::{Change, Command, Key, Question, Read, Refusal, Reply, Value};
 use one_history::empty_parts;
@@ -31,21 +32,23 @@ pub(crate) fn get(alloc: Global, key: &str) -> Result<Read, Refusal> {
     })
 }
 
-/// What came of a call that was tried.
-#[derive(Clone, Copy, PartialEq, Eq)]
-pub(crate) enum Tried {
-    Held,
-    Busy(usize),
-    Spent,
-    Other,
+/// Stripes of an empty map.
+pub(crate) fn sixteen_stripes<R: Abort>(rt: &R, alloc: Global) -> Stripes
+    ensures { stripe_count result ≡ 16 }
+{
+    Stripes::empty(alloc, sixteen(rt)).expect(rt, "16 stripes")
 }
 
-fn outcome_of(answer: Result<Held, Refusal>) -> Tried {
+/// What came of a call that was tried: its reply is given up.
+pub(crate) type Tried = Result<(), Refusal>;
+
+pub(crate) fn outcome_of(answer: Result<Held, Refusal>) -> Tried {
     match answer {
-        Ok(_) => Tried::Held,
-        Err(Refusal::Busy { stripe }) => Tried::Busy(stripe),
-        Err(Refusal::TicketsSpent) => Tried::Spent,
-        Err(_) => Tried::Other,
+        Ok(held) => {
+            held.give_up();
+            Ok(())
+        }
+        Err(refusal) => Err(refusal),
     }
 }
 
@@ -56,10 +59,8 @@ pub(crate) fn try_put(stripes: &Stripes, pass: &mut Pass, alloc: Global, key: &s
     ensures own { IsPassOf stripes.now pass.new }
     ensures empty_handed { (recorded pass.new).holding ≡ None }
 {
-    match put(alloc, key, 1) {
-        Ok(command) => outcome_of(stripes.try_call(pass, command)),
-        Err(_) => Tried::Other,
-    }
+    let command = put(alloc, key, 1)?;
+    outcome_of(stripes.try_call(pass, command))
 }
 
 // What comes of a read of this key.
@@ -69,10 +70,8 @@ pub(crate) fn try_get(stripes: &Stripes, pass: &mut Pass, alloc: Global, key: &s
     ensures own { IsPassOf stripes.now pass.new }
     ensures empty_handed { (recorded pass.new).holding ≡ None }
 {
-    match get(alloc, key) {
-        Ok(read) => outcome_of(stripes.try_read(pass, read)),
-        Err(_) => Tried::Other,
-    }
+    let read = get(alloc, key)?;
+    outcome_of(stripes.try_read(pass, read))
 }
 
 // Takes a stripe, and keeps it.
@@ -97,9 +96,9 @@ fn try_four(stripes: &Stripes, pass: &mut Pass, alloc: Global) -> [Tried; 4]
     ]
 }
 
-// Whether the first of two passes alone is the keeper, and the other finds stripe 0 alone busy
-// while the first holds it.
-fn is_busy_for_another(stripes: &Stripes, alloc: Global) -> Result<bool, Refusal>
+// Whether the first of two passes alone is the keeper and gets stripe 0, and what comes of the
+// other's calls meanwhile.
+fn try_beside_holder(stripes: &Stripes, alloc: Global) -> Result<(bool, [Tried; 4]), Refusal>
     requires { 0 < stripe_count stripes.now }
 {
     let mut holder = stripes.pass()?;
@@ -109,19 +108,16 @@ fn is_busy_for_another(stripes: &Stripes, alloc: Global) -> Result<bool, Refusal
     let tried = try_four(stripes, &mut caller, alloc);
     drop(holder);
     drop(caller);
-    let busy = Tried::Busy(0);
-    Ok(is_keeper_alone && is_held && tried == [busy, busy, Tried::Held, Tried::Held])
+    Ok((is_keeper_alone && is_held, tried))
 }
 
 #[test]
-fn a_held_stripe_is_busy_and_others_are_not(rt: HostRuntime) -> Result<(), Refusal> {
-    let stripes = Stripes::empty(rt.alloc(), sixteen(&rt))?;
-    let count = stripes.stripes().get();
-    let is_busy = is_busy_for_another(&stripes, rt.alloc());
+fn a_held_stripe_is_busy_and_others_are_not(rt: HostRuntime) {
+    let stripes = sixteen_stripes(&rt, rt.alloc());
+    let tried = try_beside_holder(&stripes, rt.alloc());
     drop(stripes);
-    assert_eq!(rt; count, 16);
-    assert!(rt; is_busy?);
-    Ok(())
+    let busy = Err(Refusal::Busy { stripe: 0 });
+    assert_same(&rt, &tried, &Ok((true, [busy, busy, Ok(()), Ok(())])));
 }
 
 // Whether the one pass learns of a position once the other has made its change, and not before.
@@ -135,7 +131,7 @@ fn learns(stripes: &Stripes, one: &mut Pass, two: &mut Pass, alloc: Global) -> b
     let before = stripes.learn(two, Position::new(1));
     let tried = try_put(stripes, one, alloc, "a");
     let after = stripes.learn(two, Position::new(1));
-    count == 0 && !before && tried == Tried::Held && after
+    count == 0 && !before && tried.is_ok() && after
 }
 
 // Whether the second of two passes learns of the first's change, and how many changes it counts.
@@ -151,18 +147,22 @@ fn learn_of_change(stripes: &Stripes, alloc: Global) -> Result<(bool, u64), Refu
 }
 
 #[test]
-fn a_pass_learns_of_positions(rt: HostRuntime) -> Result<(), Refusal> {
-    let stripes = Stripes::empty(rt.alloc(), sixteen(&rt))?;
+fn a_pass_learns_of_positions(rt: HostRuntime) {
+    let stripes = sixteen_stripes(&rt, rt.alloc());
     let learned = learn_of_change(&stripes, rt.alloc());
     drop(stripes);
-    assert_eq!(rt; learned, Ok((true, 1)));
-    Ok(())
+    assert_same(&rt, &learned, &Ok((true, 1)));
 }
 
-// Stripes of an empty map, after `first` changes.
-fn empty_after(alloc: Global, count: StripeCount, first: u64) -> Result<Stripes, Refusal> {
+// Stripes of an empty map after `first` changes, whose keys have at most `limit` bytes.
+fn empty_after(
+    alloc: Global,
+    count: StripeCount,
+    first: u64,
+    limit: u16,
+) -> Result<Stripes, Refusal> {
     let parts = empty_parts(alloc, count)?;
-    Stripes::new(alloc, count, parts, first, Key::MOST_BYTES as u16)
+    Stripes::new(alloc, count, parts, first, limit)
 }
 
 fn is_absent_at(released: &Released, number: u64) -> bool {
@@ -189,61 +189,71 @@ fn reads_at(stripes: &Stripes, pass: &mut Pass, read: Read, number: u64) -> bool
     }
 }
 
-// Stripes of an empty map, whose keys have at most 255 bytes.
-fn empty_of_short_keys(alloc: Global, count: StripeCount) -> Result<Stripes, Refusal> {
-    let parts = empty_parts(alloc, count)?;
-    Stripes::new(alloc, count, parts, 0, 255)
+// What comes of a change of this key, which may wait.
+pub(crate) fn call_put<R: Wait>(
+    rt: &R,
+    stripes: &Stripes,
+    pass: &mut Pass,
+    alloc: Global,
+    key: &str,
+) -> Tried
+    requires own { IsPassOf stripes.now pass.old }
+    requires empty_handed { (recorded pass.old).holding ≡ None }
+    ensures own { IsPassOf stripes.now pass.new }
+    ensures empty_handed { (recorded pass.new).holding ≡ None }
+{
+    let command = put(alloc, key, 1)?;
+    outcome_of(stripes.call(rt, pass, command))
 }
 
-// The key of this many bytes, each an `x`.
-fn key_of(alloc: Global, bytes: usize) -> Result<String, Refusal> {
-    let mut key = String::new(alloc);
-    for _ in 0..bytes {
-        key.push('x')?;
-    }
-    Ok(key)
-}
-
-// The number of the refusal, or 0.
-fn number_of<T: Drop>(answer: Result<T, Refusal>) -> u8 {
-    match answer {
-        Ok(_) => 0,
-        Err(refusal) => refusal.number(),
-    }
-}
-
-// What a change and a read of the key come to: `try_call`, `call` and `try_read`; and how many
-// tickets are drawn then.
+// What two changes and a read of this key come to, and how many tickets are drawn then.
 fn call_with<R: Wait>(
     rt: &R,
     stripes: &Stripes,
     alloc: Global,
     key: &str,
-) -> Result<([u8; 3], u64), Refusal> {
+) -> Result<([Tried; 3], u64), Refusal> {
     let mut pass = stripes.pass()?;
-    let tried = number_of(stripes.try_call(&mut pass, put(alloc, key, 1)?));
-    let called = number_of(stripes.call(rt, &mut pass, put(alloc, key, 1)?));
-    let read = number_of(stripes.try_read(&mut pass, get(alloc, key)?));
+    let tried = try_put(stripes, &mut pass, alloc, key);
+    let called = call_put(rt, stripes, &mut pass, alloc, key);
+    let read = try_get(stripes, &mut pass, alloc, key);
     let count = stripes.look(&mut pass);
+    drop(pass);
     Ok(([tried, called, read], count))
+}
+
+// The same for the key of this many bytes.
+fn call_with_bytes<R: Wait>(
+    rt: &R,
+    stripes: &Stripes,
+    alloc: Global,
+    bytes: usize,
+) -> Result<([Tried; 3], u64), Refusal> {
+    let key = "x".repeat(alloc, bytes)?;
+    let called = call_with(rt, stripes, alloc, key.as_str());
+    drop(key);
+    called
 }
 
 // A change of a longer key is refused before it takes its stripe; a read is served.
 #[test]
-fn keys_above_the_limit(rt: HostRuntime) -> Result<(), Refusal> {
+fn keys_above_the_limit(rt: HostRuntime) {
     let alloc = rt.alloc();
-    let stripes = empty_of_short_keys(alloc, sixteen(&rt))?;
-    assert_eq!(rt; stripes.key_limit(), 255);
-    let (longer, longest) = (key_of(alloc, 256)?, key_of(alloc, 255)?);
-    assert_eq!(rt;
-        call_with(&rt, &stripes, alloc, longer.as_str()),
-        Ok(([2, 2, 0], 0))
+    let stripes = empty_after(alloc, sixteen(&rt), 0, 255).expect(&rt, "stripes of short keys");
+    let limit = stripes.key_limit();
+    let longer = call_with_bytes(&rt, &stripes, alloc, 256);
+    let longest = call_with_bytes(&rt, &stripes, alloc, 255);
+    drop(stripes);
+    let refused = Err(Refusal::KeyTooLong);
+    assert_same(
+        &rt,
+        &(limit, longer, longest),
+        &(
+            255,
+            Ok(([refused, refused, Ok(())], 0)),
+            Ok(([Ok(()); 3], 2)),
+        ),
     );
-    assert_eq!(rt;
-        call_with(&rt, &stripes, alloc, longest.as_str()),
-        Ok(([0, 0, 0], 2))
-    );
-    Ok(())
 }
 
 // What comes of puts of `a` and `b`, and whether a read of `a` is released at this position.
@@ -264,23 +274,29 @@ fn try_without_tickets(
 }
 
 #[test]
-fn tickets_are_spent_and_reads_are_not(rt: HostRuntime) -> Result<(), Refusal> {
+fn tickets_are_spent_and_reads_are_not(rt: HostRuntime) {
     let alloc = rt.alloc();
-    let stripes = empty_after(alloc, sixteen(&rt), 1 << 62)?;
+    let limit = Key::MOST_BYTES as u16;
+    let stripes = empty_after(alloc, sixteen(&rt), 1 << 62, limit).expect(&rt, "full stripes");
     let calls = try_without_tickets(&stripes, alloc, 1 << 62);
     drop(stripes);
-    let (tried, is_read) = calls?;
-    assert!(rt; tried == [Tried::Spent; 2]);
-    assert!(rt; is_read);
-    Ok(())
+    assert_same(&rt, &calls, &Ok(([Err(Refusal::TicketsSpent); 2], true)));
+}
+
+// How many passes there are, and how the next is refused.
+fn count_passes(stripes: &Stripes) -> (usize, Option<Refusal>) {
+    for count in 0..5000 {
+        if let Err(refusal) = stripes.pass() {
+            return (count, Some(refusal));
+        }
+    }
+    (5000, None)
 }
 
 #[test]
-fn there_are_4096_passes(rt: HostRuntime) -> Result<(), Refusal> {
-    let stripes = Stripes::empty(rt.alloc(), sixteen(&rt))?;
-    for _pass in 0..4096 {
-        assert!(rt; stripes.pass().is_ok());
-    }
-    assert!(rt; matches!(stripes.pass(), Err(Refusal::SeatsSpent)));
-    Ok(())
+fn there_are_4096_passes(rt: HostRuntime) {
+    let stripes = sixteen_stripes(&rt, rt.alloc());
+    let counted = count_passes(&stripes);
+    drop(stripes);
+    assert_same(&rt, &counted, &(4096, Some(Refusal::SeatsSpent)));
 }

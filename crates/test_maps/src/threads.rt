@@ -4,7 +4,8 @@ ghost use Rattle.std.specs.List.{All};
 ghost use Rattle.stripe_locks.specs.Holding.{IsHeldOf};
 ghost use Rattle.stripe_locks.specs.Passes.{recorded, stripe_count, IsPassOf};
 
-use crate::stripes::{Tried, get, hold, put, sixteen, try_put};
+use crate::checks::assert_same;
+use crate::stripes::{Tried, call_put, get, hold, outcome_of, put, sixteen_stripes, try_put};
 use map_types::{Change, Command, Func, Key, Read, Refusal, Reply, Value};
 use std::alloc::Global;
 use std::sync::Wait;
@@ -82,23 +83,20 @@ fn are_each_once(mut all: Vec<u64>) -> Result<bool, Refusal> {
     Ok(all.len() == 2000)
 }
 
-fn all_of(one: Vec<u64>, two: Vec<u64>) -> Result<Vec<u64>, Refusal> {
-    let mut all = one;
-    all.extend_from_slice(two.as_slice())?;
-    Ok(all)
-}
-
 fn draw_each_once(
     one: Result<Vec<u64>, Refusal>,
     two: Result<Vec<u64>, Refusal>,
 ) -> Result<bool, Refusal> {
-    are_each_once(all_of(one?, two?)?)
+    let mut all = one?;
+    let two = two?;
+    all.extend_from_slice(two.as_slice())?;
+    are_each_once(all)
 }
 
 #[test]
-fn two_threads_draw_each_ticket_once(rt: HostRuntime) -> Result<(), Refusal> {
+fn two_threads_draw_each_ticket_once(rt: HostRuntime) {
     let alloc = rt.alloc();
-    let stripes = Stripes::empty(alloc, sixteen(&rt))?;
+    let stripes = sixteen_stripes(&rt, alloc);
     let (one, two) = join(
         &rt,
         || put_often(&stripes, alloc, 0),
@@ -106,8 +104,7 @@ fn two_threads_draw_each_ticket_once(rt: HostRuntime) -> Result<(), Refusal> {
     );
     let is_each_once = draw_each_once(one, two);
     drop(stripes);
-    assert!(rt; is_each_once?);
-    Ok(())
+    assert_same(&rt, &is_each_once, &Ok(true));
 }
 
 fn add_one(alloc: Global) -> Result<Command, Refusal> {
@@ -221,15 +218,17 @@ fn published_sum(
 }
 
 #[test]
-fn eight_threads_add_to_one_key(rt: HostRuntime) -> Result<(), Refusal> {
+fn eight_threads_add_to_one_key(rt: HostRuntime) {
     let alloc = rt.alloc();
-    let stripes = Stripes::empty(alloc, sixteen(&rt))?;
-    let keeper = stripes.pass()?;
-    let lasts = map_indices(&rt, alloc, 8, &|_thread| add_often(&rt, &stripes, alloc))?;
+    let stripes = sixteen_stripes(&rt, alloc);
+    let keeper = stripes.pass().expect(&rt, "a pass");
+    let lasts = map_indices(&rt, alloc, 8, &|_thread| add_often(&rt, &stripes, alloc)).expect(
+        &rt,
+        "eight threads",
+    );
     let published = published_sum(&stripes, keeper, lasts);
     drop(stripes);
-    assert_eq!(rt; published, Some((1600, 1600)));
-    Ok(())
+    assert_same(&rt, &published, &Some((1600, 1600)));
 }
 
 // Takes a stripe and leaves with it.
@@ -242,61 +241,36 @@ fn leave_with(stripes: &Stripes, stripe: usize) -> bool
     }
 }
 
-fn is_called<R: Wait>(rt: &R, stripes: &Stripes, pass: &mut Pass, command: Command) -> bool
-    requires own { IsPassOf stripes.now pass.old }
-    requires empty_handed { (recorded pass.old).holding ≡ None }
-    ensures own { IsPassOf stripes.now pass.new }
-    ensures empty_handed { (recorded pass.new).holding ≡ None }
-{
-    let called = stripes.call(rt, pass, command);
-    let is_called = called.is_ok();
-    drop(called);
-    is_called
-}
-
-fn is_read<R: Wait>(rt: &R, stripes: &Stripes, pass: &mut Pass, read: Read) -> bool
+// What comes of a change and a read.
+fn call_and_read<R: Wait>(rt: &R, stripes: &Stripes, pass: &mut Pass, alloc: Global) -> Tried
     requires own { IsPassOf stripes.now pass.old }
     requires empty_handed { (recorded pass.old).holding ≡ None }
 {
-    let answer = stripes.read(rt, pass, read);
-    let is_read = answer.is_ok();
-    drop(answer);
-    is_read
-}
-
-// Whether a change and a read are answered.
-fn answers<R: Wait>(
-    rt: &R,
-    stripes: &Stripes,
-    pass: &mut Pass,
-    alloc: Global,
-) -> Result<bool, Refusal>
-    requires own { IsPassOf stripes.now pass.old }
-    requires empty_handed { (recorded pass.old).holding ≡ None }
-{
-    let command = put(alloc, "a", 1)?;
-    let is_called = is_called(rt, stripes, pass, command);
+    call_put(rt, stripes, pass, alloc, "a")?;
     let read = get(alloc, "a")?;
-    Ok(is_read(rt, stripes, pass, read) && is_called)
+    outcome_of(stripes.read(rt, pass, read))
 }
 
-// Whether stripe 11 is busy for another pass, whose calls of others are answered.
-fn lets_work<R: Wait>(rt: &R, stripes: &Stripes, alloc: Global) -> Result<bool, Refusal> {
+// What comes of a change in stripe 11, and of a change and a read in another.
+fn work<R: Wait>(rt: &R, stripes: &Stripes, alloc: Global) -> Result<[Tried; 2], Refusal> {
     let mut pass = stripes.pass()?;
     let tried = try_put(stripes, &mut pass, alloc, "hello");
-    let answered = answers(rt, stripes, &mut pass, alloc);
+    let called = call_and_read(rt, stripes, &mut pass, alloc);
     drop(pass);
-    Ok(tried == Tried::Busy(11) && answered?)
+    Ok([tried, called])
 }
 
 #[test]
-fn those_who_leave_let_the_others_work(rt: HostRuntime) -> Result<(), Refusal> {
+fn those_who_leave_let_the_others_work(rt: HostRuntime) {
     let alloc = rt.alloc();
-    let stripes = Stripes::empty(alloc, sixteen(&rt))?;
+    let stripes = sixteen_stripes(&rt, alloc);
     let (left, worked) = join(&rt, || leave_with(&stripes, 11), || stripes.pass().is_ok());
-    assert!(rt; left && worked);
-    let lets_work = lets_work(&rt, &stripes, alloc);
+    let tried = work(&rt, &stripes, alloc);
     drop(stripes);
-    assert!(rt; lets_work?);
-    Ok(())
+    let busy = Err(Refusal::Busy { stripe: 11 });
+    assert_same(
+        &rt,
+        &(left, worked, tried),
+        &(true, true, Ok([busy, Ok(())])),
+    );
 }

@@ -1,9 +1,13 @@
 //! Tickets and positions, by their numbers.
+use crate::checks::assert_same;
 use ticket_order::{Position, Ticket};
 
 #[test]
 fn positions_follow_tickets(rt: HostRuntime) {
-    assert_eq!(rt; Ticket::new(0).position().number(), 1);
-    assert_eq!(rt; Ticket::new(41).number(), 41);
-    assert_eq!(rt; Position::new(7).number(), 7);
+    let numbers = [
+        Ticket::new(0).position().number(),
+        Ticket::new(41).number(),
+        Position::new(7).number(),
+    ];
+    assert_same(&rt, &numbers, &[1, 41, 7]);
 }

@@ -1,4 +1,5 @@
 //! The kinds of values, functions and refusals, at their limits.
+use crate::checks::assert_same;
 use map_types::{Func, Key, Refusal, Text, Value};
 use std::alloc::Global;
 
@@ -9,33 +10,6 @@ fn key_of(alloc: Global, len: usize) -> Result<usize, Refusal> {
     Ok(key.as_str().len())
 }
 
-#[test]
-fn keys_up_to_their_limit(rt: HostRuntime) {
-    assert_eq!(rt; key_of(rt.alloc(), 4095), Ok(4095));
-    assert_eq!(rt; key_of(rt.alloc(), 4096), Err(Refusal::KeyTooLong));
-}
-
-fn is_before(alloc: Global, first: &str, second: &str) -> Result<bool, Refusal> {
-    Ok(Key::new(alloc, first)? < Key::new(alloc, second)?)
-}
-
-fn is_its_clone(key: &Key) -> Result<bool, Refusal> {
-    let clone = key.clone()?;
-    let is_same = *key == clone;
-    drop(clone);
-    Ok(is_same)
-}
-
-#[test]
-fn keys_in_byte_order(rt: HostRuntime) -> Result<(), Refusal> {
-    assert!(rt; is_before(rt.alloc(), "a", "aa")?);
-    let key = Key::new(rt.alloc(), "a")?;
-    let is_its_clone = is_its_clone(&key);
-    drop(key);
-    assert!(rt; is_its_clone?);
-    Ok(())
-}
-
 // The length of the text of `len` bytes.
 fn text_of(alloc: Global, len: usize) -> Result<usize, Refusal> {
     let text = "v".repeat(alloc, len)?;
@@ -43,72 +17,95 @@ fn text_of(alloc: Global, len: usize) -> Result<usize, Refusal> {
     Ok(text.as_str().len())
 }
 
-fn value_of(alloc: Global, len: usize) -> Result<bool, Refusal> {
+// The same of a value; 0 if it's none of a text.
+fn value_of(alloc: Global, len: usize) -> Result<usize, Refusal> {
     let text = "v".repeat(alloc, len)?;
-    let value = Value::text(alloc, text.as_str())?;
-    Ok(matches!(value, Value::Text(_)))
+    match Value::text(alloc, text.as_str())? {
+        Value::Text(text) => Ok(text.as_str().len()),
+        Value::Int(_) => Ok(0),
+    }
 }
 
 #[test]
-fn texts_up_to_their_limit(rt: HostRuntime) {
+fn lengths_up_to_their_limit(rt: HostRuntime) {
     let alloc = rt.alloc();
-    assert_eq!(rt;
-        (text_of(alloc, 4096), value_of(alloc, 4096)),
-        (Ok(4096), Ok(true))
+    let longest = [
+        key_of(alloc, 4095),
+        text_of(alloc, 4096),
+        value_of(alloc, 4096),
+    ];
+    let longer = [
+        key_of(alloc, 4096),
+        text_of(alloc, 4097),
+        value_of(alloc, 4097),
+    ];
+    let too_long = Err(Refusal::ValueTooLong);
+    let wanted = (
+        [Ok(4095), Ok(4096), Ok(4096)],
+        [Err(Refusal::KeyTooLong), too_long, too_long],
     );
-    let refusal = Refusal::ValueTooLong;
-    assert_eq!(rt;
-        (text_of(alloc, 4097), value_of(alloc, 4097)),
-        (Err(refusal), Err(refusal))
-    );
+    assert_same(&rt, &(longest, longer), &wanted);
 }
 
-// `ab`, followed by `c`.
-fn joined(alloc: Global) -> Result<Text, Refusal> {
+// Whether `a` is before `aa`, and is its clone.
+fn compared(alloc: Global) -> Result<(bool, bool), Refusal> {
+    let key = Key::new(alloc, "a")?;
+    let longer = Key::new(alloc, "aa")?;
+    let clone = key.clone()?;
+    Ok((key < longer, key == clone))
+}
+
+// Whether `ab`, followed by `c`, is `abc`.
+fn is_joined(alloc: Global) -> Result<bool, Refusal> {
     let tail = Text::new(alloc, "c")?;
-    let both = Text::new(alloc, "ab")?.followed_by(alloc, &tail);
-    drop(tail);
-    both
+    let both = Text::new(alloc, "ab")?.followed_by(alloc, &tail)?;
+    Ok(both.as_str() == "abc")
+}
+
+// Whether the text `1` is the same as another `1`, and as the number 1.
+fn are_same(alloc: Global) -> Result<(bool, bool), Refusal> {
+    let text = Value::text(alloc, "1")?;
+    let other = Value::text(alloc, "1")?;
+    Ok((other.is_same(&text), Value::Int(1).is_same(&text)))
 }
 
 #[test]
-fn texts_follow_one_another(rt: HostRuntime) -> Result<(), Refusal> {
+fn keys_and_values_are_compared(rt: HostRuntime) {
     let alloc = rt.alloc();
-    let both = joined(alloc)?;
-    assert_eq!(rt; both.as_str(), "abc");
-    drop(both);
-    Ok(())
+    let found = (compared(alloc), is_joined(alloc), are_same(alloc));
+    assert_same(
+        &rt,
+        &found,
+        &(Ok((true, true)), Ok(true), Ok((true, false))),
+    );
 }
 
-#[test]
-fn values_of_kind_and_content(rt: HostRuntime) -> Result<(), Refusal> {
-    let text = Value::text(rt.alloc(), "1")?;
-    assert!(rt; Value::text(rt.alloc(), "1")?.is_same(&text));
-    assert!(rt; !Value::Int(1).is_same(&text));
-    Ok(())
+// Whether there is a function of this number.
+fn is_known(number: u8) -> bool {
+    match Func::of(number) {
+        Some(func) => func.number() == number,
+        None => false,
+    }
+}
+
+// The first number that comes out otherwise, if any: there are functions of 1 to 9 alone.
+fn first_wrong() -> Option<u8> {
+    for number in 0..=255u8 {
+        if is_known(number) != (number >= 1 && number <= 9) {
+            return Some(number);
+        }
+    }
+    None
 }
 
 #[test]
 fn functions_by_number(rt: HostRuntime) {
-    for number in 0..=255u8 {
-        let known = Func::of(number).map(|func| func.number());
-        assert_eq!(rt;
-            known,
-            if number >= 1 && number <= 9 {
-                Some(number)
-            } else {
-                None
-            },
-            "{number}"
-        );
-    }
+    assert_same(&rt, &first_wrong(), &None);
 }
 
 fn is_printed(alloc: Global, refusal: Refusal, text: &str) -> Result<bool, Refusal> {
     let printed = format!(in alloc; "{refusal}")?;
-    let is_printed = printed.as_str() == text;
-    drop(printed);
-    Ok(is_printed)
+    Ok(printed.as_str() == text)
 }
 
 /// Refusals, their numbers and how they are printed.
@@ -126,11 +123,17 @@ static REFUSALS: [(Refusal, u8, &str); 4] = [
     (Refusal::SeatsSpent, 19, "19 SeatsSpent"),
 ];
 
-#[test]
-fn printed_refusals(rt: HostRuntime) -> Result<(), Refusal> {
+// The text of the first refusal that has another number, or is printed otherwise, if any.
+fn first_misprinted(alloc: Global) -> Result<Option<&'static str>, Refusal> {
     for (refusal, number, text) in &REFUSALS {
-        let is_printed = is_printed(rt.alloc(), *refusal, text)?;
-        assert!(rt; is_printed && refusal.number() == *number, "{text}");
+        if !is_printed(alloc, *refusal, text)? || refusal.number() != *number {
+            return Ok(Some(*text));
+        }
     }
-    Ok(())
+    Ok(None)
+}
+
+#[test]
+fn printed_refusals(rt: HostRuntime) {
+    assert_same(&rt, &first_misprinted(rt.alloc()), &Ok(None));
 }

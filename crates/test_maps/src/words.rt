@@ -1,32 +1,13 @@
 //! Whole calls over plain words.
 ghost use Rattle.std.specs.Prelude.{◌≡◌, None, false, true};
 
+use crate::checks::assert_same;
+use crate::stripes::{get, put, sixteen};
 use java_hash::StripeCount;
-use map_types::{Change, Command, Key, Question, Read, Refusal, Reply, Value};
+use map_types::{Refusal, Reply, Value};
 use plain_words::{At, PlainWords};
 use std::alloc::Global;
-use std::process::Abort;
 use ticket_order::{Held, Released, Steps, release, try_call, try_read};
-
-fn sixteen<R: Abort>(rt: &R) -> StripeCount
-    ensures { result.count ≡ 16 }
-{
-    StripeCount::new(16).expect(rt, "16 is a count of stripes")
-}
-
-fn put_one(alloc: Global) -> Result<Command, Refusal> {
-    Ok(Command {
-        key: Key::new(alloc, "k")?,
-        change: Change::Put(Value::Int(1)),
-    })
-}
-
-fn get_one(alloc: Global) -> Result<Read, Refusal> {
-    Ok(Read {
-        key: Key::new(alloc, "k")?,
-        question: Question::Get,
-    })
-}
 
 fn position_of(held: &Held) -> u64
     ensures { result ≡ held.now.position }
@@ -44,17 +25,17 @@ fn is_one_at_one(released: &Released) -> bool {
     }
 }
 
-// Makes a put, and a read that is published. Their positions, and whether the number 1 is read at
-// position 1.
+// Makes a put whose reply is given up, and a read that is published. Their positions, and whether
+// the number 1 is read at position 1.
 fn put_and_read<S: Steps>(steps: &mut S, alloc: Global) -> Result<(u64, u64, bool), Refusal>
     requires empty_handed { (S.recorded steps.old).holding ≡ None }
     requires by_keeper { (S.recorded steps.old).keeper ≡ true }
     requires unfailed { (S.recorded steps.old).failed ≡ false }
 {
-    let put = try_call(steps, alloc, put_one(alloc)?)?;
+    let put = try_call(steps, alloc, put(alloc, "k", 1)?)?;
     let changed = position_of(&put);
     put.give_up();
-    let held = try_read(steps, get_one(alloc)?)?;
+    let held = try_read(steps, get(alloc, "k")?)?;
     let read = position_of(&held);
     steps.durable(read);
     let released = release(steps, held);
@@ -64,40 +45,19 @@ fn put_and_read<S: Steps>(steps: &mut S, alloc: Global) -> Result<(u64, u64, boo
 }
 
 #[test]
-fn one_pass_puts_and_reads(rt: HostRuntime) -> Result<(), Refusal> {
+fn one_pass_puts_and_reads(rt: HostRuntime) {
     let alloc = rt.alloc();
-    let mut words = PlainWords::empty(alloc, sixteen(&rt), 0)?;
+    let mut words = PlainWords::empty(alloc, sixteen(&rt), 0).expect(&rt, "words");
     let made = put_and_read(&mut At::new(&mut words, 0), alloc);
     drop(words);
-    assert_eq!(rt; made, Ok((1, 1, true)));
-    Ok(())
-}
-
-// Makes a put, and gives its reply up. Its position.
-fn give_up_put<S: Steps>(steps: &mut S, alloc: Global) -> Result<u64, Refusal>
-    requires { (S.recorded steps.old).holding ≡ None }
-{
-    let held = try_call(steps, alloc, put_one(alloc)?)?;
-    let position = position_of(&held);
-    held.give_up();
-    Ok(position)
-}
-
-#[test]
-fn a_held_reply_is_given_up(rt: HostRuntime) -> Result<(), Refusal> {
-    let alloc = rt.alloc();
-    let mut words = PlainWords::empty(alloc, sixteen(&rt), 0)?;
-    let position = give_up_put(&mut At::new(&mut words, 0), alloc);
-    drop(words);
-    assert_eq!(rt; position, Ok(1));
-    Ok(())
+    assert_same(&rt, &made, &Ok((1, 1, true)));
 }
 
 // Makes a put. Whether its reply has to wait.
 fn waits<S: Steps>(steps: &mut S, alloc: Global) -> Result<bool, Refusal>
     requires { (S.recorded steps.old).holding ≡ None }
 {
-    let changed = try_call(steps, alloc, put_one(alloc)?)?;
+    let changed = try_call(steps, alloc, put(alloc, "k", 1)?)?;
     let released = release(steps, changed);
     let waits = matches!(released, Released::NotYet(_));
     drop(released);
@@ -105,13 +65,12 @@ fn waits<S: Steps>(steps: &mut S, alloc: Global) -> Result<bool, Refusal>
 }
 
 #[test]
-fn a_reply_waits_until_its_position_is_durable(rt: HostRuntime) -> Result<(), Refusal> {
+fn a_reply_waits_until_its_position_is_durable(rt: HostRuntime) {
     let alloc = rt.alloc();
-    let mut words = PlainWords::empty(alloc, sixteen(&rt), 0)?;
+    let mut words = PlainWords::empty(alloc, sixteen(&rt), 0).expect(&rt, "words");
     let waits = waits(&mut At::new(&mut words, 0), alloc);
     drop(words);
-    assert!(rt; waits?);
-    Ok(())
+    assert_same(&rt, &waits, &Ok(true));
 }
 
 // How many stripes there are, whether pass 0 is alive before the keeper fails and behind it, and
@@ -132,8 +91,7 @@ fn shared(alloc: Global, count: StripeCount) -> Result<(usize, [bool; 4]), Refus
 }
 
 #[test]
-fn passes_share_the_words(rt: HostRuntime) -> Result<(), Refusal> {
-    let shared = shared(rt.alloc(), sixteen(&rt))?;
-    assert_eq!(rt; shared, (16, [true, false, true, false]));
-    Ok(())
+fn passes_share_the_words(rt: HostRuntime) {
+    let shared = shared(rt.alloc(), sixteen(&rt));
+    assert_same(&rt, &shared, &Ok((16, [true, false, true, false])));
 }

@@ -1,4 +1,4 @@
-use Rattle.std.proofs.Common.{rules, ◌≡◌, ◌∷◌, List, Result, IfOk, subst}
+use Rattle.std.proofs.Common.{rules, ◌≡◌, ◌∷◌, Result, IfOk, subst}
 use Rattle.std.specs.List.{All}
 use Rattle.std.specs.Vec.Iter.{into_iter_items}
 use Rattle.std.proofs.lemmas.List.Elements.{All-tail}
