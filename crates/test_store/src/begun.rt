@@ -2,7 +2,8 @@
 ghost use Rattle.std.specs.Prelude.{IfOk};
 ghost use Rattle.durable_map.specs.Maps.{IsHeldOf, IsReady};
 
-use crate::calls::{commit_batch, is_absent_now, is_now, key, open, was, was_absent};
+use crate::calls::{is_absent_now, is_now, key, was, was_absent};
+use crate::maps::{commit, open};
 use disk_model::MemDisk;
 use durable_map::DurableMap;
 use map_types::{Change, Command, Question, Read, Refusal, Value};
@@ -83,7 +84,7 @@ fn share_a_batch<R: Wait>(
     let second = begin_put(rt, map, &mut pass, alloc, 2)?;
     let last = begin_get(rt, map, &mut pass, alloc)?;
     let before = may_finish(map, &first, &second, &last);
-    commit_batch(rt, map);
+    commit(rt, map);
     let behind = may_finish(map, &first, &second, &last);
     if before != [false; 3] || behind != [true; 3] {
         return Ok(false);
@@ -94,7 +95,7 @@ fn share_a_batch<R: Wait>(
 #[test]
 fn begun_calls_share_a_batch(rt: HostRuntime) -> Result<(), Refusal> {
     let alloc = rt.alloc();
-    let map = open(&rt, alloc, MemDisk::new(alloc))?;
+    let map = open(alloc, 16)?;
     assert!(rt; share_a_batch(&rt, &map, alloc)?);
     Ok(())
 }
@@ -115,7 +116,7 @@ fn gets_beside_a_put<R: Wait>(
 #[test]
 fn a_read_of_another_stripe_waits_for_no_commit(rt: HostRuntime) -> Result<(), Refusal> {
     let alloc = rt.alloc();
-    let map = open(&rt, alloc, MemDisk::new(alloc))?;
+    let map = open(alloc, 16)?;
     assert!(rt; gets_beside_a_put(&rt, &map, alloc)?);
     Ok(())
 }

@@ -2,67 +2,14 @@
 ghost use Rattle.std.specs.Prelude.{IfOk};
 ghost use Rattle.durable_map.specs.Maps.{IsHeldOf, IsReady};
 
+use crate::maps::{Flag, commit, open};
 use disk_model::MemDisk;
-use durable_map::{DurableMap, Ends, flush_loop};
-use java_hash::StripeCount;
+use durable_map::{DurableMap, flush_loop};
 use map_types::{Func, Key, Refusal, Reply, Value};
-use recovery::{format, open_parts};
 use std::alloc::Global;
-use std::process::Abort;
 use std::sync::Wait;
-use std::sync::atomic::{AtomicBool, AtomicU32, Ordering};
 use std::thread::join;
 use stripe_locks::{Held, Pass, Released};
-
-/// Ends the loops once a test has made its calls.
-#[derive(Drop)]
-pub(crate) struct Flag {
-    is_up: AtomicBool,
-}
-
-impl Flag {
-    pub(crate) fn new() -> Flag {
-        Flag {
-            is_up: AtomicBool::new(false),
-        }
-    }
-
-    pub(crate) fn raise(&self) {
-        self.is_up.store(true, Ordering::SeqCst);
-    }
-}
-
-impl Ends for Flag {
-    fn has_ended(&self) -> bool {
-        self.is_up.load(Ordering::SeqCst)
-    }
-}
-
-// The map of a disk that was formatted.
-pub(crate) fn map_over(
-    alloc: Global,
-    disk: MemDisk,
-    count: StripeCount,
-) -> Result<DurableMap<MemDisk>, Refusal> {
-    let Ok((keeper, parts, first, limit)) = open_parts(alloc, disk, count) else {
-        return Err(Refusal::Failed);
-    };
-    match DurableMap::new(alloc, keeper, parts, first, limit) {
-        Ok(map) => Ok(map),
-        Err((_disk, refusal)) => Err(refusal),
-    }
-}
-
-pub(crate) fn open<R: Abort>(
-    rt: &R,
-    alloc: Global,
-    disk: MemDisk,
-) -> Result<DurableMap<MemDisk>, Refusal> {
-    let count = StripeCount::new(16).expect(rt, "16 is a count of stripes");
-    let mut disk = disk;
-    format(alloc, &mut disk, count)?;
-    map_over(alloc, disk, count)
-}
 
 pub(crate) fn key(alloc: Global, text: &str) -> Result<Key, Refusal> {
     Key::new(alloc, text)
@@ -196,7 +143,7 @@ fn call_all<R: Wait>(
 #[test]
 fn thirteen_calls_answer_once_they_are_durable(rt: HostRuntime) -> Result<(), Refusal> {
     let alloc = rt.alloc();
-    let map = open(&rt, alloc, MemDisk::new(alloc))?;
+    let map = open(alloc, 16)?;
     let flag = Flag::new();
     let (_, called) = join(
         &rt,
@@ -267,28 +214,6 @@ fn try_reads(
     Ok((map.try_get(pass, key(alloc, "a")?)?, default))
 }
 
-/// Ends a loop after `left` turns.
-#[derive(Drop)]
-struct Turns {
-    left: AtomicU32,
-}
-
-impl Ends for Turns {
-    fn has_ended(&self) -> bool {
-        let left = self.left.load(Ordering::SeqCst);
-        self.left.store(left.saturating_sub(1), Ordering::SeqCst);
-        left == 0
-    }
-}
-
-// Commits one batch: a turn takes up what was changed, and the batch has four device calls.
-pub(crate) fn commit_batch<R: Wait>(rt: &R, map: &DurableMap<MemDisk>) {
-    let turns = Turns {
-        left: AtomicU32::new(5),
-    };
-    let _end = flush_loop(rt, map, &turns);
-}
-
 // What is held, which isn't durable.
 fn still_held(map: &DurableMap<MemDisk>, pass: &mut Pass, held: Held) -> Result<Held, Refusal>
     requires ready { IsReady map.now pass.old }
@@ -310,7 +235,7 @@ fn try_all<R: Wait>(rt: &R, map: &DurableMap<MemDisk>, alloc: Global) -> Result<
     let (got, default) = try_reads(map, &mut pass, alloc)?;
     let learned = map.learn(&mut pass, got.position());
     let got = still_held(map, &mut pass, got)?;
-    commit_batch(rt, map);
+    commit(rt, map);
     let gave = gives(map, &mut pass, got, 8) && gives(map, &mut pass, default, 6);
     Ok(changed && computed && learned && gave)
 }
@@ -318,7 +243,7 @@ fn try_all<R: Wait>(rt: &R, map: &DurableMap<MemDisk>, alloc: Global) -> Result<
 #[test]
 fn tries_are_held_until_they_are_durable(rt: HostRuntime) -> Result<(), Refusal> {
     let alloc = rt.alloc();
-    let map = open(&rt, alloc, MemDisk::new(alloc))?;
+    let map = open(alloc, 16)?;
     assert!(rt; try_all(&rt, &map, alloc)?);
     Ok(())
 }

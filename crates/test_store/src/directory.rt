@@ -2,12 +2,12 @@
 ghost use Rattle.std.specs.Prelude.{IfOk};
 ghost use Rattle.durable_map.specs.Maps.{IsHeldOf, IsReady};
 
-use crate::calls::Flag;
+use crate::maps::{Flag, map_over};
 use disk_model::{DirDisk, Disk, Unknown};
 use durable_map::{DurableMap, checkpoint_loop, flush_loop};
 use java_hash::StripeCount;
 use map_types::{Key, Refusal, Reply, Value};
-use recovery::{format, open_parts};
+use recovery::format;
 use std::alloc::Global;
 use std::fs::File;
 use std::io::Read;
@@ -31,13 +31,7 @@ fn new_map(rt: &HostRuntime, directory: &str) -> Result<DurableMap<DirDisk<Unkno
     let count = StripeCount::new(16).ok_or(Refusal::WrongPhase)?;
     let mut disk = DirDisk::create(rt, alloc, directory, Unknown)?;
     format(alloc, &mut disk, count)?;
-    let Ok((keeper, parts, first, limit)) = open_parts(alloc, disk, count) else {
-        return Err(Fail::from("the directory is opened"));
-    };
-    match DurableMap::new(alloc, keeper, parts, first, limit) {
-        Ok(map) => Ok(map),
-        Err((_disk, refusal)) => Err(Fail::from(refusal)),
-    }
+    Ok(map_over(alloc, disk, count)?)
 }
 
 // The position and the reply, once the position is durable.

@@ -2,7 +2,7 @@
 //! that nobody waits for.
 
 use crate::begun::begin_put;
-use crate::calls::{Flag, open};
+use crate::maps::{Flag, open};
 use disk_model::MemDisk;
 use durable_map::{DurableMap, Ends, flush_loop};
 use map_types::Refusal;
@@ -68,7 +68,7 @@ fn leave_and_end<R: Clock + Wait>(
 #[test]
 fn a_change_that_nobody_finishes_is_committed(rt: HostRuntime) -> Result<(), Refusal> {
     let alloc = rt.alloc();
-    let map = open(&rt, alloc, MemDisk::new(alloc))?;
+    let map = open(alloc, 16)?;
     let flag = Flag::new();
     let (_, called) = join(
         &rt,
@@ -119,7 +119,7 @@ fn lead_and_end<R: Wait>(
 #[test]
 fn a_thread_that_waits_makes_the_turns_of_the_log(rt: HostRuntime) -> Result<(), Refusal> {
     let alloc = rt.alloc();
-    let map = open(&rt, alloc, MemDisk::new(alloc))?;
+    let map = open(alloc, 16)?;
     let flag = Flag::new();
     let (_, called) = join(
         &rt,

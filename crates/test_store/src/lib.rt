@@ -1,4 +1,5 @@
-//! Tests of the running store: its calls on threads beside its loops, in memory and over a directory.
+//! Tests of the running store: its calls on threads beside its loops, views and bulk answers over it, in
+//! memory and over a directory.
 #![tactic(auto)]
 
 #[cfg(test)]
@@ -12,4 +13,16 @@ mod leading;
 #[cfg(test)]
 mod limits;
 #[cfg(test)]
+mod maps;
+#[cfg(test)]
+mod part_steps;
+#[cfg(test)]
 mod standing;
+#[cfg(test)]
+mod view_steps;
+#[cfg(test)]
+mod view_waits;
+#[cfg(test)]
+mod views;
+#[cfg(test)]
+mod whole_map;

@@ -1,7 +1,7 @@
 //! Keys above the limit of a running map, whose directory is of version 01.
 ghost use Rattle.durable_map.specs.Maps.{IsReady};
 
-use crate::calls::{Flag, map_over};
+use crate::maps::{Flag, map_over};
 use disk_model::MemDisk;
 use durable_map::{DurableMap, flush_loop};
 use java_hash::StripeCount;

@@ -1,7 +1,8 @@
 //! How a running map is told to stand, and a checkpoint that was sealed.
 ghost use Rattle.durable_map.specs.Maps.{IsReady};
 
-use crate::calls::{key, open, position};
+use crate::calls::{key, position};
+use crate::maps::open;
 use disk_model::MemDisk;
 use durable_map::{DurableMap, Ends, SealedCheckpoint, checkpoint_loop, flush_loop};
 use map_types::{Refusal, Value};
@@ -44,7 +45,7 @@ fn change(map: &DurableMap<MemDisk>, pass: &mut Pass, alloc: Global) -> Result<u
 #[test]
 fn a_sealed_checkpoint_is_told(rt: HostRuntime) -> Result<(), Refusal> {
     let alloc = rt.alloc();
-    let map = open(&rt, alloc, MemDisk::new(alloc))?;
+    let map = open(alloc, 16)?;
     let mut pass = map.pass()?;
     assert_eq!(rt; change(&map, &mut pass, alloc)?, 3);
     let ends = UntilSealed {

@@ -1,6 +1,6 @@
 use denote.Param.Send.{sendable}
 use Rattle.durable_map.proofs.Crosses.{map_sync}
-use Rattle.test_store.proofs.calls.Flag.TheSendSync as flag
+use Rattle.test_store.proofs.maps.Flag.TheSendSync as flag
 use Rattle.test_store.proofs.directory.fn.run_both.scope.Goals as goal
 
 pub spawn-flusher-requires-send-F : goal.spawn-flusher-requires-send-F

@@ -1,6 +1,6 @@
 use Rattle.std.proofs.Common.{◌++◌}
 use Rattle.view_walk.specs.Walking.{lent_sections}
-use Rattle.test_bulk.proofs.parts.stepped.Goals as goal
+use Rattle.test_store.proofs.part_steps.stepped.Goals as goal
 
 pub returns-in-More-clause-fits : goal.returns-in-More-clause-fits
 returns-in-More-clause-fits c =

@@ -1,7 +1,7 @@
 //! Views beside the loop that commits, and after it has failed.
 
-use crate::answers::gives;
 use crate::maps::{Flag, commit, open, open_over, put};
+use crate::views::gives;
 use bulk_tasks::view;
 use disk_model::{Failure, Fill, MemDisk};
 use durable_map::{DurableMap, flush_loop};

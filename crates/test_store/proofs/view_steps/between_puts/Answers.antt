@@ -2,7 +2,7 @@ use Rattle.stripe_locks.specs.Passes.{recorded}
 use Rattle.view_walk.specs.Viewing.{Fits}
 use Rattle.durable_map.specs.Maps.{stripe_count}
 use Rattle.durable_map.proofs.Viewing.{some_stripes}
-use Rattle.test_bulk.proofs.steps.between_puts.Goals as goal
+use Rattle.test_store.proofs.view_steps.between_puts.Goals as goal
 
 pub advanced-requires-clause-fits : goal.advanced-requires-clause-fits
 advanced-requires-clause-fits g c =

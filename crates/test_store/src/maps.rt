@@ -1,7 +1,7 @@
 //! A running map in memory, whose changes are committed when a test says so.
 ghost use Rattle.durable_map.specs.Maps.{IsReady};
 
-use disk_model::{Failure, MemDisk};
+use disk_model::{Disk, Failure, MemDisk};
 use durable_map::{DurableMap, Ends, flush_loop};
 use java_hash::StripeCount;
 use map_types::{Key, Refusal, Value};
@@ -28,7 +28,7 @@ impl Ends for Turns {
     }
 }
 
-/// Ends a loop once a test has made its calls.
+/// Ends the loops once a test has made its calls.
 #[derive(Drop)]
 pub(crate) struct Flag {
     is_up: AtomicBool,
@@ -52,9 +52,19 @@ impl Ends for Flag {
     }
 }
 
-/// A map with no entries.
-pub(crate) fn open(alloc: Global, stripes: u16) -> Result<DurableMap<MemDisk>, Refusal> {
-    open_over(alloc, stripes, None)
+/// The map of a disk that was formatted.
+pub(crate) fn map_over<D: Disk + Drop>(
+    alloc: Global,
+    disk: D,
+    count: StripeCount,
+) -> Result<DurableMap<D>, Refusal> {
+    let Ok((keeper, parts, first, limit)) = open_parts(alloc, disk, count) else {
+        return Err(Refusal::Failed);
+    };
+    match DurableMap::new(alloc, keeper, parts, first, limit) {
+        Ok(map) => Ok(map),
+        Err((_disk, refusal)) => Err(refusal),
+    }
 }
 
 /// A disk that was made that of an empty map.
@@ -73,13 +83,12 @@ pub(crate) fn open_over(
     let count = StripeCount::new(stripes).ok_or(Refusal::WrongPhase)?;
     let mut disk = formatted(alloc, count)?;
     disk.plan(failure);
-    let Ok((keeper, parts, first, limit)) = open_parts(alloc, disk, count) else {
-        return Err(Refusal::Failed);
-    };
-    match DurableMap::new(alloc, keeper, parts, first, limit) {
-        Ok(map) => Ok(map),
-        Err((_disk, refusal)) => Err(refusal),
-    }
+    map_over(alloc, disk, count)
+}
+
+/// A map with no entries.
+pub(crate) fn open(alloc: Global, stripes: u16) -> Result<DurableMap<MemDisk>, Refusal> {
+    open_over(alloc, stripes, None)
 }
 
 /// Commits what was changed so far.

@@ -5,8 +5,8 @@ ghost use Rattle.view_walk.specs.Viewing.{Fits};
 ghost use Rattle.stripe_locks.specs.Passes.{recorded};
 ghost use Rattle.durable_map.specs.Maps.{IsPassOf, stripe_count};
 
-use crate::answers::{finds, gives};
 use crate::maps::{commit, open, put};
+use crate::views::{finds, gives};
 use bulk_tasks::View;
 use disk_model::MemDisk;
 use durable_map::{DurableMap, ViewWalk, Viewed};

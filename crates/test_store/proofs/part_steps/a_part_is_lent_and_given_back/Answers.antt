@@ -1,7 +1,7 @@
 use Rattle.std.proofs.Common.{[]}
 use Rattle.stripe_locks.specs.Passes.{recorded}
 use Rattle.durable_map.proofs.Viewing.{some_stripes}
-use Rattle.test_bulk.proofs.parts.a_part_is_lent_and_given_back.Goals as goal
+use Rattle.test_store.proofs.part_steps.a_part_is_lent_and_given_back.Goals as goal
 
 pub stepped-requires-clause-fits : goal.stepped-requires-clause-fits
 stepped-requires-clause-fits g c = (recorded c.in_ok-pass.pass, [], c.new.ensures.fits _ _ (some_stripes c.in_ok-map.map) c.in_ok-pass.ensures.ready.free)

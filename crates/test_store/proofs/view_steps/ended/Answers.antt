@@ -4,7 +4,7 @@ use Rattle.view_walk.specs.Viewing.{IsDone}
 use Rattle.durable_map.specs.Maps.{stripe_count}
 use Rattle.bulk_tasks.specs.Laws.{maps_of}
 use Rattle.bulk_tasks.proofs.Walked.{views_are_parts}
-use Rattle.test_bulk.proofs.steps.ended.Goals as goal
+use Rattle.test_store.proofs.view_steps.ended.Goals as goal
 
 pub new-requires : goal.new-requires
 new-requires c =

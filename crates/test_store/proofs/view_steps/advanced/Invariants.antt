@@ -2,7 +2,7 @@ use Rattle.ticket_order.specs.declared.record.Record.{Record}
 use Rattle.stripe_locks.specs.Passes.{recorded}
 use Rattle.view_walk.specs.Viewing.{Fits}
 use Rattle.durable_map.specs.Maps.{IsPassOf, stripe_count}
-use Rattle.test_bulk.proofs.steps.advanced.Given as goal
+use Rattle.test_store.proofs.view_steps.advanced.Given as goal
 
 abbrev pub invariant-loop-step : goal.invariant-loop-step
 invariant-loop-step l = record {
