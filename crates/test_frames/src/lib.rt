@@ -1,4 +1,5 @@
-//! Tests of connections: their dialogues, the lines of the program, and the calls of a client.
+//! Tests of the program's edges: connections and their dialogues, its lines, the calls of a client, and the
+//! directories of a disk.
 #![tactic(auto)]
 
 #[cfg(test)]
@@ -8,9 +9,17 @@ mod complaints;
 #[cfg(test)]
 mod dialogues;
 #[cfg(test)]
+mod directories;
+#[cfg(test)]
+mod interrupted;
+#[cfg(test)]
+mod layouts;
+#[cfg(test)]
 mod lent;
 #[cfg(test)]
 mod numbered;
+#[cfg(test)]
+mod printed_directories;
 #[cfg(test)]
 mod rows;
 #[cfg(test)]
