@@ -1,8 +1,8 @@
 import java.util.concurrent.ConcurrentHashMap;
 
 /**
- * Makes the bulk calls of crates/bench_bulk on the JDK's ConcurrentHashMap, and prints the same lines without that of the
- * view, which it has none of: give `measure N`.
+ * Makes the bulk calls of crates/bench_map on the JDK's ConcurrentHashMap, and prints the same lines without that of the
+ * view, which it has none of: give `bulk N`.
  */
 public final class BulkPeer {
     /** How many rounds the best is taken of, after as many that aren't counted. */
@@ -66,8 +66,8 @@ public final class BulkPeer {
     }
 
     public static void main(String[] words) {
-        if (words.length != 2 || !words[0].equals("measure")) {
-            System.err.println("give words: measure N");
+        if (words.length != 2 || !words[0].equals("bulk")) {
+            System.err.println("give words: bulk N");
             System.exit(2);
         }
         int entries = Integer.parseInt(words[1]);

@@ -10,7 +10,7 @@ import java.util.concurrent.Executors;
 import java.util.concurrent.Future;
 
 /**
- * Makes the calls of crates/bench_stripes on the JDK's ConcurrentHashMap, and prints the same lines: give `keys N THREADS`
+ * Makes the calls of crates/bench_map on the JDK's ConcurrentHashMap, and prints the same lines: give `keys N THREADS`
  * or `longest N`.
  */
 public final class StripesPeer {
