@@ -1,5 +1,6 @@
 //! The keeper's sweeps, which throw away what they take.
 ghost use Rattle.std.specs.Prelude.{◌≡◌, ◌<◌, None, true};
+ghost use Rattle.ticket_order.specs.StepRules.{IsOfSamePass};
 
 use std::alloc::Global;
 use std::mem;
@@ -12,8 +13,7 @@ pub(crate) fn sweep_stripe<S: Steps>(steps: &mut S, alloc: Global, stripe: usize
     requires within { stripe < S.stripe_count steps.old }
     ensures idle { (S.recorded steps.new).holding ≡ None }
     ensures keeper { (S.recorded steps.new).keeper ≡ true }
-    ensures place { S.place steps.new ≡ S.place steps.old }
-    ensures stripes { S.stripe_count steps.new ≡ S.stripe_count steps.old }
+    ensures pass { IsOfSamePass S.place S.stripe_count steps.old steps.new }
 {
     if let Some(mut content) = steps.take(stripe) {
         let entries = mem::replace(&mut content.outbox, Vec::new(alloc));
@@ -27,7 +27,7 @@ pub(crate) fn sweep_all<S: Steps>(steps: &mut S, alloc: Global)
     requires idle { (S.recorded steps.old).holding ≡ None }
     requires keeper { (S.recorded steps.old).keeper ≡ true }
     ensures idle { (S.recorded steps.new).holding ≡ None }
-    ensures place { S.place steps.new ≡ S.place steps.old }
+    ensures pass { IsOfSamePass S.place S.stripe_count steps.old steps.new }
 {
     for stripe in 0..steps.stripes().get() {
         sweep_stripe(steps, alloc, stripe);

@@ -10,7 +10,7 @@ ghost use Rattle.store_layout.specs.Checkpoints.{Section};
 ghost use Rattle.checkpoint_file.specs.CheckpointSteps.{Advances, MayAdvance};
 ghost use Rattle.checkpoint_file.specs.States.{CheckpointState, call_in};
 ghost use Rattle.checkpoint_file.specs.CheckpointStates.{checkpoint_of};
-ghost use Rattle.flusher.specs.Fitting.{Fits, StopsFit};
+ghost use Rattle.flusher.specs.Fitting.{Fits, IsFitting, StillFits, StopsFit};
 ghost use Rattle.checkpoint_walk.specs.Checkpointing.{HasGiven, KeepsAfter, StepsCheckpoint, call_due, checkpoints_of, phase_of};
 ghost use Rattle.store_layout.specs.UsedCheckpoint.{UsesCheckpoint};
 
@@ -18,8 +18,8 @@ use checkpoint_file::{CheckpointPhase, CheckpointWriter};
 use disk_model::Disk;
 use flusher::Keeper;
 use map_types::Refusal;
-use store_invariant::laws::{steps_of_checkpoints, stops_of_a_store};
-use store_layout::laws::laws_of_checkpoints;
+use store_invariant::laws as store_laws;
+use store_layout::laws as layout_laws;
 
 /// Makes the device call that is due in the file of the checkpoint, and no other, and returns the
 /// phase after it. If none is due, it makes none. While the log of the checkpoint is begun, none is
@@ -27,8 +27,7 @@ use store_layout::laws::laws_of_checkpoints;
 /// device failure no call is made. It takes no memory.
 pub fn advance<D: Disk>(keeper: &mut Keeper<D>) -> Result<CheckpointPhase, Refusal>
     // The keeper's invariant holds.
-    requires { (n : ℕ) × (done : List Command) × (p : Record)
-        × Fits D.states D.honest n done keeper.old p }
+    requires { IsFitting D.states D.honest keeper.old }
 
     // Refused after a failure; no call if none is due. Then nothing changes.
     ensures failed { keeper.old.is_broken ≡ true
@@ -62,8 +61,7 @@ pub fn advance<D: Disk>(keeper: &mut Keeper<D>) -> Result<CheckpointPhase, Refus
         → w.phase ≡ CheckpointPhase.Opened
         → HasGiven keeper.old.checkpoint sections (now (D.states keeper.old.disk))
         → OnOk result (UsesCheckpoint (checkpoint_of w sections) (now (D.states keeper.new.disk))) }
-    ensures fits { (n : ℕ) (done : List Command) (p : Record)
-        → Fits D.states D.honest n done keeper.old p → Fits D.states D.honest n done keeper.new p }
+    ensures fits { StillFits D.states D.honest keeper.old keeper.new }
     ensures same { keeper.new ≡ record keeper.old {
       disk = keeper.new.disk;
       sealed = keeper.new.sealed;
@@ -72,9 +70,9 @@ pub fn advance<D: Disk>(keeper: &mut Keeper<D>) -> Result<CheckpointPhase, Refus
       is_broken = keeper.new.is_broken;
     } }
 {
-    steps_of_checkpoints();
-    stops_of_a_store();
-    laws_of_checkpoints();
+    store_laws::steps_of_checkpoints();
+    store_laws::stops_of_a_store();
+    layout_laws::laws_of_checkpoints();
     if keeper.is_broken {
         return Err(Refusal::Failed);
     }

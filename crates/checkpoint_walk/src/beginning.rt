@@ -6,7 +6,7 @@ ghost use Rattle.ticket_order.specs.declared.record.Record.{Record};
 ghost use Rattle.checkpoint_file.specs.States.{begun};
 ghost use Rattle.checkpoint_file.specs.CheckpointStates.{Stands};
 ghost use Rattle.store_layout.specs.Checkpoints.{is_to_close};
-ghost use Rattle.flusher.specs.Fitting.{Fits};
+ghost use Rattle.flusher.specs.Fitting.{Fits, IsFitting, StillFits};
 ghost use Rattle.checkpoint_walk.specs.Checkpointing.{Begins, HasGiven, MayBegin};
 
 use checkpoint_file::CheckpointWriter;
@@ -14,15 +14,14 @@ use disk_model::Disk;
 use flusher::Keeper;
 use gate_log::GateLog;
 use map_types::Refusal;
-use store_invariant::laws::steps_of_checkpoints;
+use store_invariant::laws;
 
 /// Begins the checkpoint that follows the sealed one. If the newest log is still that of the sealed
 /// one, the log of the checkpoint is begun with it. The keeper's next six calls of `advance` then
 /// write its header and end the newest one. It makes no device call and takes no memory.
 pub fn begin<D: Disk>(keeper: &mut Keeper<D>) -> Result<(), Refusal>
     // The keeper's invariant holds.
-    requires { (n : ℕ) × (done : List Command) × (p : Record)
-        × Fits D.states D.honest n done keeper.old p }
+    requires { IsFitting D.states D.honest keeper.old }
 
     // Refused: after a device failure, or if no checkpoint may begin now.
     ensures failed { (result ≡ Err Refusal.Failed) ↔ (keeper.old.is_broken ≡ true) }
@@ -42,14 +41,13 @@ pub fn begin<D: Disk>(keeper: &mut Keeper<D>) -> Result<(), Refusal>
     ensures err { OnErr result (keeper.new ≡ keeper.old) }
 
     // The invariant goes on, and no other field changes.
-    ensures fits { (n : ℕ) (done : List Command) (p : Record)
-        → Fits D.states D.honest n done keeper.old p → Fits D.states D.honest n done keeper.new p }
+    ensures fits { StillFits D.states D.honest keeper.old keeper.new }
     ensures same { keeper.new ≡ record keeper.old {
       next = keeper.new.next;
       checkpoint = keeper.new.checkpoint;
     } }
 {
-    steps_of_checkpoints();
+    laws::steps_of_checkpoints();
     if keeper.is_broken {
         return Err(Refusal::Failed);
     }

@@ -1,7 +1,7 @@
 //! Captures, step by step or whole.
 ghost use Rattle.std.specs.Prelude.{◌≡◌, ◌≢◌, ◌⊎◌, ◌↔◌, ℕ, List, None, Some, false, true, IfErr, IfOk};
 ghost use Rattle.map_types.specs.declared.commands.Command.{Command};
-ghost use Rattle.flusher.specs.Fitting.{Fits};
+ghost use Rattle.flusher.specs.Fitting.{Fits, FitsOn, IsKept};
 ghost use Rattle.flusher.specs.KeeperSteps.{is_walking};
 ghost use Rattle.disk_model.specs.Files.{now};
 ghost use Rattle.store_layout.specs.Checkpoints.{Section};
@@ -9,6 +9,7 @@ ghost use Rattle.ticket_order.specs.Legality.{history_of};
 ghost use Rattle.checkpoint_walk.specs.Checkpointing.{HasGiven, IsNextStripe};
 ghost use Rattle.ticket_order.specs.declared.record.Record.{Record};
 ghost use Rattle.ticket_order.specs.declared.walk.Walk.{Walk as TheWalk};
+ghost use Rattle.ticket_order.specs.StepRules.{IsOfSamePass};
 ghost use Rattle.ticket_order.specs.Walks.{MakesOne, Take, next_kind};
 ghost use Rattle.checkpoint_walk.specs.Capturing.{HasLooked, HasTaken, IsCauseOf};
 ghost use Rattle.checkpoint_walk.specs.Walking.{AfterRefusal, AfterStep, AfterTake, AfterWaiting, AfterWalk, FitsWalking, GivesPart, GivesPartIn, GivesSection, GivesWaiting, kind_next};
@@ -16,11 +17,11 @@ ghost use Rattle.checkpoint_walk.specs.Walking.{AfterRefusal, AfterStep, AfterTa
 use crate::capturing::{hold, look};
 use crate::sections::{check, give};
 use disk_model::Disk;
-use flusher::{Keeper, pass_goes_on};
+use flusher::{Keeper, laws as keeper_laws};
 use map_types::Refusal;
 use std::mem;
 use std::sync::Wait;
-use store_invariant::laws::steps_of_checkpoints;
+use store_invariant::laws as store_laws;
 use ticket_order::{Stepped, Steps, Walk};
 
 /// Makes exactly one step of a capture: TAKE of the stripe whose section is the next, LOOK, or
@@ -71,11 +72,10 @@ pub fn capture_step<D: Disk, S: Steps>(
         (S.recorded steps.old)
         → FitsWalking D.states D.honest (S.stripe_count steps.new) done keeper.new
         (S.recorded steps.new) }
-    ensures place { S.place steps.new ≡ S.place steps.old }
-    ensures stripes { S.stripe_count steps.new ≡ S.stripe_count steps.old }
+    ensures pass { IsOfSamePass S.place S.stripe_count steps.old steps.new }
 {
-    steps_of_checkpoints();
-    pass_goes_on(keeper);
+    store_laws::steps_of_checkpoints();
+    keeper_laws::pass_goes_on(keeper);
     match keeper.capture.take() {
         Some(walk) => go_on(keeper, walk, steps),
         None => take(keeper, stripe, steps),
@@ -96,8 +96,8 @@ fn take<D: Disk, S: Steps>(
     steps: &mut S,
 ) -> Result<Option<u64>, Refusal>
     // The invariant holds; no sweep is between steps, no capture under way.
-    requires fits { (done : List Command)
-        × Fits D.states D.honest (S.stripe_count steps.old) done keeper.old (S.recorded steps.old) }
+    requires fits { IsKept D.states D.honest (S.stripe_count steps.old) keeper.old
+        (S.recorded steps.old) }
     requires rests { is_walking keeper.old.sweeper.walking ≡ false }
     requires over { keeper.old.capture ≡ None }
 
@@ -120,10 +120,9 @@ fn take<D: Disk, S: Steps>(
         → Fits D.states D.honest (S.stripe_count steps.old) done keeper.old (S.recorded steps.old)
         → FitsWalking D.states D.honest (S.stripe_count steps.new) done keeper.new
         (S.recorded steps.new) }
-    ensures place { S.place steps.new ≡ S.place steps.old }
-    ensures stripes { S.stripe_count steps.new ≡ S.stripe_count steps.old }
+    ensures pass { IsOfSamePass S.place S.stripe_count steps.old steps.new }
 {
-    pass_goes_on(keeper);
+    keeper_laws::pass_goes_on(keeper);
     match check(keeper, stripe) {
         Ok(()) => {}
         Err(refusal) => return Err(refusal),
@@ -158,8 +157,7 @@ fn go_on<D: Disk, S: Steps>(
     ensures cause { IfErr result (IsCauseOf walk) }
 
     // It is the same pass, over as many stripes.
-    ensures place { S.place steps.new ≡ S.place steps.old }
-    ensures stripes { S.stripe_count steps.new ≡ S.stripe_count steps.old }
+    ensures pass { IsOfSamePass S.place S.stripe_count steps.old steps.new }
 {
     let has_looked = walk.captured().is_some();
     if has_looked {
@@ -187,8 +185,8 @@ pub fn try_capture<D: Disk, S: Steps>(
     steps: &mut S,
 ) -> Result<u64, Refusal>
     // The invariant holds; no sweep is between steps, no capture under way.
-    requires fits { (done : List Command)
-        × Fits D.states D.honest (S.stripe_count steps.old) done keeper.old (S.recorded steps.old) }
+    requires fits { IsKept D.states D.honest (S.stripe_count steps.old) keeper.old
+        (S.recorded steps.old) }
     requires rests { is_walking keeper.old.sweeper.walking ≡ false }
     requires over { keeper.old.capture ≡ None }
 
@@ -218,14 +216,12 @@ pub fn try_capture<D: Disk, S: Steps>(
         sections keeper.new) }
 
     // The invariant goes on, in the same pass over as many stripes.
-    ensures fits { (done : List Command)
-        → Fits D.states D.honest (S.stripe_count steps.old) done keeper.old (S.recorded steps.old)
-        → Fits D.states D.honest (S.stripe_count steps.new) done keeper.new (S.recorded steps.new) }
-    ensures place { S.place steps.new ≡ S.place steps.old }
-    ensures stripes { S.stripe_count steps.new ≡ S.stripe_count steps.old }
+    ensures fits { FitsOn D.states D.honest S.stripe_count S.recorded keeper.old steps.old
+        keeper.new steps.new }
+    ensures pass { IsOfSamePass S.place S.stripe_count steps.old steps.new }
 {
-    steps_of_checkpoints();
-    pass_goes_on(keeper);
+    store_laws::steps_of_checkpoints();
+    keeper_laws::pass_goes_on(keeper);
     match check(keeper, stripe) {
         Ok(()) => {}
         Err(refusal) => return Err(refusal),
@@ -245,8 +241,8 @@ pub fn capture<D: Disk, R: Wait, S: Steps>(
     steps: &mut S,
 ) -> Result<u64, Refusal>
     // The invariant holds; no sweep is between steps, no capture under way.
-    requires fits { (done : List Command)
-        × Fits D.states D.honest (S.stripe_count steps.old) done keeper.old (S.recorded steps.old) }
+    requires fits { IsKept D.states D.honest (S.stripe_count steps.old) keeper.old
+        (S.recorded steps.old) }
     requires rests { is_walking keeper.old.sweeper.walking ≡ false }
     requires over { keeper.old.capture ≡ None }
 
@@ -276,11 +272,9 @@ pub fn capture<D: Disk, R: Wait, S: Steps>(
         sections keeper.new) }
 
     // The invariant goes on, in the same pass over as many stripes.
-    ensures fits { (done : List Command)
-        → Fits D.states D.honest (S.stripe_count steps.old) done keeper.old (S.recorded steps.old)
-        → Fits D.states D.honest (S.stripe_count steps.new) done keeper.new (S.recorded steps.new) }
-    ensures place { S.place steps.new ≡ S.place steps.old }
-    ensures stripes { S.stripe_count steps.new ≡ S.stripe_count steps.old }
+    ensures fits { FitsOn D.states D.honest S.stripe_count S.recorded keeper.old steps.old
+        keeper.new steps.new }
+    ensures pass { IsOfSamePass S.place S.stripe_count steps.old steps.new }
 {
     for _try in rt.forever() {
         match try_capture(keeper, stripe, steps) {

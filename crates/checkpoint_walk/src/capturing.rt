@@ -2,6 +2,7 @@
 ghost use Rattle.std.specs.Prelude.{◌≡◌, ◌<◌, ℕ, Some, None, IfOk, IfErr, IfSome, IfNone};
 ghost use Rattle.ticket_order.specs.declared.record.Record.{Record};
 ghost use Rattle.ticket_order.specs.Records.{missing};
+ghost use Rattle.ticket_order.specs.StepRules.{IsOfSamePass};
 ghost use Rattle.ticket_order.specs.Calls.{CapturesStripe, RefusesCapture};
 ghost use Rattle.ticket_order.specs.Walks.{Give, Look, MakesOne, Take, captured_of_walk, entries_captured, refusal_of_walk};
 ghost use Rattle.checkpoint_walk.specs.Capturing.{HasLooked, HasTaken};
@@ -23,8 +24,7 @@ pub(crate) fn hold<S: Steps>(stripe: usize, steps: &mut S) -> Option<Walk>
     ensures none { IfNone result (S.recorded steps.new ≡ missing (S.recorded steps.old) stripe) }
 
     // It is the same pass, over as many stripes.
-    ensures place { S.place steps.new ≡ S.place steps.old }
-    ensures stripes { S.stripe_count steps.new ≡ S.stripe_count steps.old }
+    ensures pass { IsOfSamePass S.place S.stripe_count steps.old steps.new }
 {
     match Walk::capture(stripe).step(steps) {
         Stepped::More(walk) => Some(walk),
@@ -44,8 +44,7 @@ pub(crate) fn look<S: Steps>(walk: Walk, steps: &mut S) -> Walk
     ensures looked { (b : Record) (i : ℕ)
         → HasTaken (S.stripe_count steps.old) b i walk (S.recorded steps.old)
         → HasLooked (S.stripe_count steps.old) b i result (S.recorded steps.new) }
-    ensures place { S.place steps.new ≡ S.place steps.old }
-    ensures stripes { S.stripe_count steps.new ≡ S.stripe_count steps.old }
+    ensures pass { IsOfSamePass S.place S.stripe_count steps.old steps.new }
 {
     match walk.step(steps) {
         Stepped::More(walk) => walk,
@@ -83,8 +82,7 @@ pub(crate) fn hand_out<S: Steps>(walk: Walk, steps: &mut S) -> Result<Captured, 
         → RefusesCapture b i refusal (S.recorded steps.new)) }
 
     // It is the same pass, over as many stripes.
-    ensures place { S.place steps.new ≡ S.place steps.old }
-    ensures stripes { S.stripe_count steps.new ≡ S.stripe_count steps.old }
+    ensures pass { IsOfSamePass S.place S.stripe_count steps.old steps.new }
 {
     match walk.step(steps) {
         Stepped::Captured(captured) => Ok(captured),

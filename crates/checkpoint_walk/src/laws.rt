@@ -8,8 +8,8 @@ ghost use Rattle.flusher.specs.Fitting.{StopsFit};
 ghost use Rattle.checkpoint_walk.specs.Walking.{FitsWalking};
 
 use disk_model::Disk;
-use flusher::{Keeper, stops_of_a_keeper};
-use store_layout::laws::laws_of_found;
+use flusher::{Keeper, laws as keeper_laws};
+use store_layout::laws as layout_laws;
 
 /// Whatever a stop leaves of the four files stands for a front of the history that the keeper's
 /// pass has seen. That front has the committed commands, and no more than the staged ones besides.
@@ -18,6 +18,6 @@ pub fn stops_while_capturing<D: Disk>(keeper: &Keeper<D>)
         → FitsWalking D.states D.honest n done keeper.now p → D.honest keeper.now.disk
         → StopsFit (history_of p) keeper.now (now (D.states keeper.now.disk)) }
 {
-    stops_of_a_keeper(keeper);
-    laws_of_found();
+    keeper_laws::stops_of_a_keeper(keeper);
+    layout_laws::laws_of_found();
 }

@@ -6,12 +6,11 @@ mod advancing;
 mod beginning;
 mod captures;
 mod capturing;
-mod laws;
+pub mod laws;
 mod sealing;
 mod sections;
 
 pub use advancing::advance;
 pub use beginning::begin;
 pub use captures::{capture, capture_step, try_capture};
-pub use laws::stops_while_capturing;
 pub use sealing::seal;

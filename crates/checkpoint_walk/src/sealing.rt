@@ -1,28 +1,25 @@
 //! A checkpoint is to be sealed.
 ghost use Rattle.std.specs.Prelude.{◌≡◌, ◌⊎◌, ◌↔◌, ◌<◌, ◌≤◌, ℕ, List, Some, true, false, IfErr, OnOk, OnErr};
 ghost use Rattle.disk_model.specs.Files.{now};
-ghost use Rattle.map_types.specs.declared.commands.Command.{Command};
-ghost use Rattle.ticket_order.specs.declared.record.Record.{Record};
 ghost use Rattle.store_layout.specs.Checkpoints.{Section};
 ghost use Rattle.checkpoint_file.specs.States.{TakesSeal};
 ghost use Rattle.checkpoint_file.specs.CheckpointStates as checkpoint;
 ghost use Rattle.disk_model.specs.Files.{File};
-ghost use Rattle.flusher.specs.Fitting.{Fits};
+ghost use Rattle.flusher.specs.Fitting.{IsFitting, StillFits};
 ghost use Rattle.checkpoint_walk.specs.Checkpointing.{HasAllSections, HasGiven, IsMarkedAbove, sealing};
 
 use checkpoint_file::{CheckpointPhase, CheckpointWriter};
 use disk_model::Disk;
 use flusher::Keeper;
 use map_types::Refusal;
-use store_invariant::laws::steps_of_checkpoints;
+use store_invariant::laws;
 
 /// Goes on to the header of the checkpoint, once the sections of all stripes are written and the count
 /// that was last published has reached the greatest of their marks. Until then it may be tried again.
 /// It makes no device call.
 pub fn seal<D: Disk>(keeper: &mut Keeper<D>) -> Result<(), Refusal>
     // The keeper's invariant holds.
-    requires { (n : ℕ) × (done : List Command) × (p : Record)
-        × Fits D.states D.honest n done keeper.old p }
+    requires { IsFitting D.states D.honest keeper.old }
 
     // Refused: after a failure, if no seal is due, with a mark unpublished.
     ensures failed { (result ≡ Err Refusal.Failed) ↔ (keeper.old.is_broken ≡ true) }
@@ -43,10 +40,9 @@ pub fn seal<D: Disk>(keeper: &mut Keeper<D>) -> Result<(), Refusal>
 
     // A refusal changes nothing, and the invariant goes on.
     ensures err { OnErr result (keeper.new ≡ keeper.old) }
-    ensures fits { (n : ℕ) (done : List Command) (p : Record)
-        → Fits D.states D.honest n done keeper.old p → Fits D.states D.honest n done keeper.new p }
+    ensures fits { StillFits D.states D.honest keeper.old keeper.new }
 {
-    steps_of_checkpoints();
+    laws::steps_of_checkpoints();
     if keeper.is_broken {
         return Err(Refusal::Failed);
     }

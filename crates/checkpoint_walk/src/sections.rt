@@ -2,6 +2,7 @@
 ghost use Rattle.std.specs.Prelude.{◌≡◌, ◌⊎◌, ◌↔◌, ℕ, None, true, false, IfErr, IfOk, OnErr, OnOk};
 ghost use Rattle.std.specs.FinMap as finite;
 ghost use Rattle.ticket_order.specs.declared.record.Record.{Record};
+ghost use Rattle.ticket_order.specs.StepRules.{IsOfSamePass};
 ghost use Rattle.ticket_order.specs.Walks.{Give, MakesOne};
 ghost use Rattle.checkpoint_file.specs.States.{TakesSection, with_section};
 ghost use Rattle.checkpoint_walk.specs.Capturing.{HasLooked, IsCauseOf, IsStaged, StandsWith};
@@ -114,8 +115,7 @@ pub(crate) fn give<D: Disk, S: Steps>(
     ensures cause { IfErr result (IsCauseOf walk) }
 
     // It is the same pass, over as many stripes.
-    ensures place { S.place steps.new ≡ S.place steps.old }
-    ensures stripes { S.stripe_count steps.new ≡ S.stripe_count steps.old }
+    ensures pass { IsOfSamePass S.place S.stripe_count steps.old steps.new }
 {
     let alloc = keeper.alloc;
     let Some(writer) = &mut keeper.checkpoint else {

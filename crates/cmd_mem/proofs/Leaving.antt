@@ -5,9 +5,8 @@ use Rattle.map_types.specs.declared.commands.Command.{Command}
 use Rattle.ticket_order.specs.declared.record.Record.{Record}
 use Rattle.ticket_order.specs.Legality.{history_of}
 use Rattle.flusher.specs.declared.keeper.Keeper.{Keeper}
-use Rattle.flusher.specs.Fitting.{Fits, StopsFit}
+use Rattle.flusher.specs.Fitting.{Fits, IsKept, StopsFit}
 use Rattle.cmd_mem.specs.Maps.{Leaves, MapState}
-use Rattle.cmd_mem.specs.Served.{IsKept}
 
 module _ {D : Type 0} (states : D → List Files) (honest : D → Type 0) where
   pub leaves : (n : ℕ) (keeper : Keeper D) (map view : MapState) (disk : D) → view ≡ map → keeper.log ≡ view.log → disk ≡ keeper.disk → IsKept states honest n keeper view.pass

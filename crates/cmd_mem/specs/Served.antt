@@ -2,7 +2,6 @@
 -- and of the log.
 use Rattle.std.specs.Prelude.{◌≡◌, ◌⊎◌, ℕ, ◌+◌, ◌<◌, ◌≤◌, Bool, true, false, None, Result, Ok, Err, List, length}
 use Rattle.std.specs.List.{Contains}
-use Rattle.disk_model.specs.Files.{Files}
 use Rattle.java_hash.specs.Stripes.{stripe_of}
 use Rattle.map_types.specs.declared.refusals.Refusal.{Refusal}
 use Rattle.map_types.specs.declared.refusals.Refusal.TheVariants as refusal_type
@@ -17,7 +16,7 @@ use Rattle.ticket_order.specs.Legality.{entries_from}
 use Rattle.ticket_order.specs.Calls.{MakesCall, MakesRead, RefusesRead, Reaches, TurnsDown}
 use Rattle.gate_log.specs.States.{LogState, IsResting}
 use Rattle.flusher.specs.declared.keeper.Keeper.{Keeper}
-use Rattle.flusher.specs.Fitting.{Fits, HasSeenMore, IsQuiet, IsTakenFront, WereTaken}
+use Rattle.flusher.specs.Fitting.{HasSeenMore, IsQuiet, IsTakenFront, WereTaken}
 use Rattle.log_records.specs.Layout.{layout_of}
 use Rattle.store_layout.specs.Hands.{FitsBatch}
 use Rattle.store_layout.specs.Logs.{most_commands}
@@ -25,10 +24,6 @@ use Rattle.flusher.specs.KeeperSteps.{is_too_long, is_walking}
 use Rattle.wire_frames.specs.declared.requests.Request.{Request}
 use Rattle.wire_frames.specs.declared.requests.Request.TheVariants.{Change, Read, Bulk}
 use Rattle.connections.specs.Dialogue.{Answer}
-
--- the keeper and its pass over n stripes
-abbrev pub IsKept : {D : Type 0} → (D → List Files) → (D → Type 0) → ℕ → Keeper D → Record → Type 0
-IsKept states honest n keeper p = (done : List Command) × Fits states honest n done keeper p
 
 -- between two commits of a keeper that has not failed
 pub record IsIdle {D : Type 0} (keeper : Keeper D) : Type 0 where

@@ -1,13 +1,14 @@
 //! What commits calls that were begun, and gives their replies out.
 ghost use Rattle.std.specs.Prelude.{◌≡◌, ◌≢◌, ◌≤◌, IfOk, IfErr, OnOk, OnErr, ℕ, None, false, true};
 ghost use Rattle.ticket_order.specs.declared.record.Record.{Record};
+ghost use Rattle.ticket_order.specs.StepRules.{IsOfSamePass};
 ghost use Rattle.gate_log.specs.States.{IsResting, log_after};
-ghost use Rattle.flusher.specs.Fitting.{HasSeenMore, IsQuiet};
+ghost use Rattle.flusher.specs.Fitting.{HasSeenMore, IsKept, IsQuiet};
 ghost use Rattle.flusher.specs.KeeperSteps.{is_walking};
-ghost use Rattle.cmd_mem.specs.Served.{AreTaken, CannotCommit, IsCommitted, IsGivenOut, IsIdle, IsKept, IsWithheld};
+ghost use Rattle.cmd_mem.specs.Served.{AreTaken, CannotCommit, IsCommitted, IsGivenOut, IsIdle, IsWithheld};
 
 use disk_model::Disk;
-use flusher::{Keeper, committed_were_taken, pass_goes_on, runs_were_taken};
+use flusher::{Keeper, laws};
 use gate_log::Phase;
 use map_types::{Refusal, Reply};
 use std::sync::Wait;
@@ -88,7 +89,7 @@ fn commit_some<D: Disk>(keeper: &mut Keeper<D>) -> Result<(), Refusal>
         → IsKept D.states D.honest n keeper.new p }
     ensures walking { keeper.new.sweeper.walking ≡ keeper.old.sweeper.walking }
 {
-    runs_were_taken(keeper);
+    laws::runs_were_taken(keeper);
     match keeper.stage_batch(MOST_COMMANDS) {
         Ok(count) => {
             if count == 0 {
@@ -130,8 +131,7 @@ fn commit_in_time<S: Steps, D: Disk, R: Wait>(
     ensures seen { HasSeenMore (S.recorded steps.old) (S.recorded steps.new) }
 
     // It is the same pass, over as many stripes.
-    ensures place { S.place steps.new ≡ S.place steps.old }
-    ensures stripes { S.stripe_count steps.new ≡ S.stripe_count steps.old }
+    ensures pass { IsOfSamePass S.place S.stripe_count steps.old steps.new }
 {
     for _turn in rt.forever() {
         if position.number() <= keeper.committed() {
@@ -169,12 +169,11 @@ fn make_durable<S: Steps, D: Disk, R: Wait>(
     // The invariant goes on, in the same pass over as many stripes.
     ensures kept { IsKept D.states D.honest (S.stripe_count steps.new) keeper.new
         (S.recorded steps.new) }
-    ensures place { S.place steps.new ≡ S.place steps.old }
-    ensures stripes { S.stripe_count steps.new ≡ S.stripe_count steps.old }
+    ensures pass { IsOfSamePass S.place S.stripe_count steps.old steps.new }
 {
     match commit_in_time(rt, steps, keeper, position) {
         Ok(()) => {
-            committed_were_taken(keeper);
+            laws::committed_were_taken(keeper);
             keeper.publish(steps);
             Ok(())
         }
@@ -209,11 +208,10 @@ pub(crate) fn give_out<S: Steps, D: Disk, R: Wait>(
     // The invariant goes on, in the same pass over as many stripes.
     ensures kept { IsKept D.states D.honest (S.stripe_count steps.new) keeper.new
         (S.recorded steps.new) }
-    ensures place { S.place steps.new ≡ S.place steps.old }
-    ensures stripes { S.stripe_count steps.new ≡ S.stripe_count steps.old }
+    ensures pass { IsOfSamePass S.place S.stripe_count steps.old steps.new }
 {
     make_durable(rt, steps, keeper, held.position())?;
-    pass_goes_on(keeper);
+    laws::pass_goes_on(keeper);
     match release(steps, held) {
         Released::Reply(_, reply) => Ok(reply),
         Released::NotYet(_) | Released::Failed => unreachable!(),

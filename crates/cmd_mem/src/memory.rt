@@ -1,24 +1,24 @@
 //! The map in memory: the shared stripes on one thread, and a keeper with its log on a disk.
 ghost use Rattle.std.specs.Prelude.{◌≡◌, IfOk, IfErr, None, false};
 ghost use Rattle.ticket_order.specs.declared.record.Record.{Record};
-ghost use Rattle.flusher.specs.Fitting.{IsBeside, IsUnused};
+ghost use Rattle.ticket_order.specs.StepRules.{IsOfSamePass};
+ghost use Rattle.flusher.specs.Fitting.{IsBeside, IsKept, IsUnused};
 ghost use Rattle.recovery.specs.LogReading.{IsResumed};
 ghost use Rattle.stripe_locks.specs.Passes.{begun_with, recorded, stripe_count, IsPassOf};
-ghost use Rattle.stripe_locks.specs.Plays.{joining};
 ghost use Rattle.cmd_mem.specs.Maps.{CannotBegin, CannotOpen, IsEmpty, Leaves, nothing_yet};
-ghost use Rattle.cmd_mem.specs.Served.{BegunIsServed, Begins, Ends, IsCallOf, IsIdle, IsKept, Makes, PassGoesOn, Refuses, StillMade, fails};
+ghost use Rattle.cmd_mem.specs.Served.{BegunIsServed, Begins, Ends, IsCallOf, IsIdle, Makes, PassGoesOn, Refuses, StillMade, fails};
 
 use crate::committing::give_out;
 use connections::Calls;
 use disk_model::{Disk, MemDisk};
-use flusher::{Keeper, pass_goes_on, stops_of_a_keeper};
+use flusher::{Keeper, laws as keeper_laws};
 use java_hash::StripeCount;
 use map_types::{Refusal, Reply};
 use recovery::{format, open};
 use std::alloc::Global;
 use std::marker::Model;
 use std::sync::Wait;
-use store_layout::laws::laws_of_opening;
+use store_layout::laws as layout_laws;
 use stripe_locks::{Pass, Stripes};
 use ticket_order::{Held, Steps, try_call, try_read};
 use wire_frames::Request;
@@ -43,7 +43,8 @@ impl<'a, D: Disk + Drop, R: Wait> Model for Memory<'a, D, R> {
     ghost use Rattle.std.specs.Prelude.{◌≡◌, false};
     ghost use Rattle.stripe_locks.specs.Passes.{recorded, stripe_count, IsPassOf};
     ghost use Rattle.cmd_mem.specs.Maps.{MapState};
-    ghost use Rattle.cmd_mem.specs.Served.{IsKept, IsIdle};
+    ghost use Rattle.flusher.specs.Fitting.{IsKept};
+    ghost use Rattle.cmd_mem.specs.Served.{IsIdle};
     ghost use Rattle.ticket_order.specs.contracts.record.Record as record_type;
     ghost use Rattle.std.specs.Coded.{codes};
 
@@ -80,8 +81,7 @@ fn make<S: Steps>(steps: &mut S, alloc: Global, request: Request) -> Result<Held
     // The pass holds no stripe again, and made no step of the keeper's.
     ensures free { (S.recorded steps.new).holding ≡ None }
     ensures beside { IsBeside (S.recorded steps.old) (S.recorded steps.new) }
-    ensures place { S.place steps.new ≡ S.place steps.old }
-    ensures stripes { S.stripe_count steps.new ≡ S.stripe_count steps.old }
+    ensures pass { IsOfSamePass S.place S.stripe_count steps.old steps.new }
 {
     match request {
         Request::Change(command) => try_call(steps, alloc, command),
@@ -111,10 +111,9 @@ fn begin_beside<S: Steps, D: Disk>(
     // The keeper goes on.
     ensures kept { IsKept D.states D.honest (S.stripe_count steps.new)
         keeper.now (S.recorded steps.new) }
-    ensures place { S.place steps.new ≡ S.place steps.old }
-    ensures stripes { S.stripe_count steps.new ≡ S.stripe_count steps.old }
+    ensures pass { IsOfSamePass S.place S.stripe_count steps.old steps.new }
 {
-    pass_goes_on(keeper);
+    keeper_laws::pass_goes_on(keeper);
     make(steps, alloc, request)
 }
 
@@ -139,8 +138,7 @@ fn end_beside<S: Steps, D: Disk, R: Wait>(
     ensures works { fails result ≡ false → IsIdle keeper.new }
     ensures kept { IsKept D.states D.honest (S.stripe_count steps.new)
         keeper.new (S.recorded steps.new) }
-    ensures place { S.place steps.new ≡ S.place steps.old }
-    ensures stripes { S.stripe_count steps.new ≡ S.stripe_count steps.old }
+    ensures pass { IsOfSamePass S.place S.stripe_count steps.old steps.new }
 {
     give_out(rt, steps, keeper, held)
 }
@@ -170,7 +168,7 @@ fn open_new<D: Disk + Drop>(alloc: Global, disk: D) -> Result<(Keeper<D>, Stripe
     ensures failures { IfOk result (λ x. D.failures x.0.disk ≡ D.failures disk) }
     ensures err { IfErr result (λ x. D.honest x.0 → CannotOpen D.states D.failures disk x.1 x.0) }
 {
-    laws_of_opening();
+    layout_laws::laws_of_opening();
     let Some(count) = StripeCount::new(16) else {
         unreachable!()
     };
@@ -217,7 +215,7 @@ impl<D: Disk + Drop, R: Wait> Memory<'_, D, R> {
     pub fn into_disk(self) -> D
         ensures { D.honest result → Leaves D.states self.entry result }
     {
-        stops_of_a_keeper(&self.keeper);
+        keeper_laws::stops_of_a_keeper(&self.keeper);
         let Memory {
             rt: _,
             alloc: _,

@@ -2,7 +2,7 @@
 ghost use Rattle.std.specs.Prelude.{◌≡◌, ◌⊎◌, ◌<◌, ℕ, List, None, Bool, true, false, IfErr};
 ghost use Rattle.map_types.specs.declared.commands.Command.{Command};
 ghost use Rattle.ticket_order.specs.declared.record.Record.{Record};
-ghost use Rattle.ticket_order.specs.StepRules.{AllLegalSections};
+ghost use Rattle.ticket_order.specs.StepRules.{AllLegalSections, IsOfSamePass};
 ghost use Rattle.flusher.specs.Fitting.{Fits};
 ghost use Rattle.flusher.specs.KeeperSteps.{is_walking};
 ghost use Rattle.durable_map.specs.LockedKeepers.{HasCause, Keeps, KeepsSealed};
@@ -11,7 +11,7 @@ use crate::counting::Counting;
 use checkpoint_file::CheckpointPhase;
 use checkpoint_walk::try_capture;
 use disk_model::Disk;
-use flusher::{Keeper, committed_were_taken, stops_of_a_keeper};
+use flusher::{Keeper, laws};
 use gate_log::Phase;
 use map_types::Refusal;
 use ticket_order::Steps;
@@ -25,8 +25,8 @@ pub(crate) fn what_is_kept<D: Disk>(keeper: &Keeper<D>)
         → (keeper.now.is_broken ≡ true → KeepsSealed D.states D.honest keeper.now)
         → Keeps D.states D.honest n keeper.now p }
 {
-    committed_were_taken(keeper);
-    stops_of_a_keeper(keeper);
+    laws::committed_were_taken(keeper);
+    laws::stops_of_a_keeper(keeper);
 }
 
 /// Takes the entries of a stripe, unless another pass holds it or no memory is found.
@@ -42,8 +42,7 @@ pub(crate) fn sweep<D: Disk, S: Steps>(keeper: &mut Keeper<D>, stripe: usize, st
     ensures cause { (is_full : Bool) → HasCause is_full keeper.old → HasCause is_full keeper.new }
 
     // It is the same pass, over as many stripes.
-    ensures place { S.place steps.new ≡ S.place steps.old }
-    ensures stripes { S.stripe_count steps.new ≡ S.stripe_count steps.old }
+    ensures pass { IsOfSamePass S.place S.stripe_count steps.old steps.new }
 {
     let _swept = keeper.try_sweep(stripe, steps);
     what_is_kept(keeper);
@@ -92,8 +91,7 @@ pub(crate) fn publish<D: Disk, S: Steps>(keeper: &mut Keeper<D>, steps: &mut S)
     ensures keeps { Keeps D.states D.honest (S.stripe_count steps.new) keeper.new
         (S.recorded steps.new) }
     ensures cause { (is_full : Bool) → HasCause is_full keeper.old → HasCause is_full keeper.new }
-    ensures place { S.place steps.new ≡ S.place steps.old }
-    ensures stripes { S.stripe_count steps.new ≡ S.stripe_count steps.old }
+    ensures pass { IsOfSamePass S.place S.stripe_count steps.old steps.new }
 {
     keeper.publish(steps);
     what_is_kept(keeper);
@@ -107,8 +105,7 @@ pub(crate) fn fail<D: Disk, S: Steps>(keeper: &mut Keeper<D>, steps: &mut S)
         (S.recorded steps.new) }
     ensures cause { (is_full : Bool) → (keeper.old.is_broken ≡ true) ⊎ (is_full ≡ true)
         → HasCause is_full keeper.new }
-    ensures place { S.place steps.new ≡ S.place steps.old }
-    ensures stripes { S.stripe_count steps.new ≡ S.stripe_count steps.old }
+    ensures pass { IsOfSamePass S.place S.stripe_count steps.old steps.new }
 {
     keeper.fail(steps);
     what_is_kept(keeper);
@@ -137,8 +134,7 @@ pub(crate) fn capture<D: Disk, S: Steps>(
     ensures keeps { Keeps D.states D.honest (S.stripe_count steps.new) keeper.new
         (S.recorded steps.new) }
     ensures cause { (is_full : Bool) → HasCause is_full keeper.old → HasCause is_full keeper.new }
-    ensures place { S.place steps.new ≡ S.place steps.old }
-    ensures stripes { S.stripe_count steps.new ≡ S.stripe_count steps.old }
+    ensures pass { IsOfSamePass S.place S.stripe_count steps.old steps.new }
 {
     let captured = try_capture(keeper, stripe, steps);
     what_is_kept(keeper);
@@ -156,8 +152,7 @@ pub(crate) fn capture_counted<D: Disk, S: Steps>(
     ensures keeps { Keeps D.states D.honest (S.stripe_count steps.new) keeper.new
         (S.recorded steps.new) }
     ensures cause { (is_full : Bool) → HasCause is_full keeper.old → HasCause is_full keeper.new }
-    ensures place { S.place steps.new ≡ S.place steps.old }
-    ensures stripes { S.stripe_count steps.new ≡ S.stripe_count steps.old }
+    ensures pass { IsOfSamePass S.place S.stripe_count steps.old steps.new }
 {
     let mut counting = Counting::of(steps);
     let captured = capture(keeper, stripe, &mut counting);

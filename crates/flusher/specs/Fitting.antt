@@ -108,6 +108,32 @@ pub record Fits {D : Type 0} (states : D → List Files) (honest : D → Type 0)
   pub keys : AllowsKeys keeper.log p
   pub stores : Stores states honest keeper p
 
+-- the keeper over n stripes fits this record of its pass
+abbrev pub IsKept : {D : Type 0} → (D → List Files) → (D → Type 0) → ℕ → Keeper D → Record → Type 0
+IsKept states honest n keeper p = (done : List Command) × Fits states honest n done keeper p
+
+-- it fits some record, of a pass over some stripes
+abbrev pub IsFitting : {D : Type 0} → (D → List Files) → (D → Type 0) → Keeper D → Type 0
+IsFitting states honest keeper = (n : ℕ) × (done : List Command) × (p : Record) × Fits states honest n done keeper p
+
+-- it fits what it fitted before; no step was made
+abbrev pub StillFits : {D : Type 0} → (D → List Files) → (D → Type 0) → Keeper D → Keeper D → Type 0
+StillFits states honest before after =
+    (n : ℕ) (done : List Command) (p : Record) → Fits states honest n done before p → Fits states honest n done after p
+
+-- it fits what it fitted before, and perhaps more is committed; no step was made
+abbrev pub FitsFurther : {D : Type 0} → (D → List Files) → (D → Type 0) → Keeper D → Keeper D → Type 0
+FitsFurther states honest before after =
+    (n : ℕ) (p : Record) (done : List Command) → Fits states honest n done before p
+    → (more : List Command) × Fits states honest n more after p
+
+-- it fits the record that the pass has after its steps, and no more is committed
+abbrev pub FitsOn : {D S : Type 0} → (D → List Files) → (D → Type 0) → (S → ℕ) → (S → Record)
+    → Keeper D → S → Keeper D → S → Type 0
+FitsOn states honest stripe_count recorded keeper steps keeper_after steps_after =
+    (done : List Command) → Fits states honest (stripe_count steps) done keeper (recorded steps)
+    → Fits states honest (stripe_count steps_after) done keeper_after (recorded steps_after)
+
 -- what is committed after a step of the log
 abbrev pub done_after : Result Phase Refusal → Phase → List Command → List Entry → List Command
 done_after (Ok next) Opened done staged = done ++ commands_of staged

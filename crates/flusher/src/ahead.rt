@@ -6,13 +6,13 @@ ghost use Rattle.ticket_order.specs.declared.record.Record.{Record};
 ghost use Rattle.ticket_order.specs.Legality.{history_of};
 ghost use Rattle.gate_log.specs.LogSteps.{MayAdvance};
 ghost use Rattle.gate_log.specs.Ahead.{WritesAhead};
-ghost use Rattle.flusher.specs.Fitting.{Fits, StopsFit};
+ghost use Rattle.flusher.specs.Fitting.{Fits, IsFitting, StillFits, StopsFit};
 
 use crate::keeper::Keeper;
 use disk_model::Disk;
 use gate_log::Zeros;
 use map_types::Refusal;
-use store_invariant::laws::{steps_of_logs, stops_of_a_store};
+use store_invariant::laws;
 
 impl<D: Disk> Keeper<D> {
     /// From now on `count` zeros are written ahead at a time; with 0, as at first, none are. Their
@@ -21,8 +21,7 @@ impl<D: Disk> Keeper<D> {
         ensures ok { OnOk result (self.new ≡ record self.old { zeros = count }) }
         ensures no_other { IfErr result (λ refusal. refusal ≡ Refusal.NoMemory) }
         ensures err { OnErr result (self.new ≡ self.old) }
-        ensures fits { (n : ℕ) (done : List Command) (p : Record)
-            → Fits D.states D.honest n done self.old p → Fits D.states D.honest n done self.new p }
+        ensures fits { StillFits D.states D.honest self.old self.new }
     {
         self.zeros = Zeros::new(self.alloc, count)?;
         Ok(())
@@ -63,8 +62,7 @@ impl<D: Disk> Keeper<D> {
     /// call. After a device failure no call is made. It takes no memory.
     pub fn write_ahead(&mut self) -> Result<(), Refusal>
         // The keeper's invariant holds.
-        requires { (n : ℕ) × (done : List Command) × (p : Record)
-            × Fits D.states D.honest n done self.old p }
+        requires { IsFitting D.states D.honest self.old }
 
         // After a device failure it is refused, and nothing changes.
         ensures failed { self.old.is_broken ≡ true
@@ -85,16 +83,15 @@ impl<D: Disk> Keeper<D> {
             → AtEachMoment D.states self.old.disk self.new.disk (StopsFit (history_of p) self.old) }
 
         // The invariant goes on, and no other field changes.
-        ensures fits { (n : ℕ) (done : List Command) (p : Record)
-            → Fits D.states D.honest n done self.old p → Fits D.states D.honest n done self.new p }
+        ensures fits { StillFits D.states D.honest self.old self.new }
         ensures same { self.new ≡ record self.old {
           disk = self.new.disk;
           log = self.new.log;
           is_broken = self.new.is_broken;
         } }
     {
-        steps_of_logs();
-        stops_of_a_store();
+        laws::steps_of_logs();
+        laws::stops_of_a_store();
         if self.is_broken {
             return Err(Refusal::Failed);
         }

@@ -1,8 +1,7 @@
 //! How a keeper stages batches.
-ghost use Rattle.std.specs.Prelude.{◌≡◌, ◌⊎◌, ◌↔◌, ◌||◌, ◌<◌, ◌≤◌, ℕ, List, is_some, [], ◌∷◌, length, true, false, Result, Ok, IfOk, IfErr, OnOk, OnErr};
+ghost use Rattle.std.specs.Prelude.{◌≡◌, ◌⊎◌, ◌↔◌, ◌||◌, ◌<◌, ◌≤◌, List, [], ◌∷◌, length, true, false, Result, Ok, IfOk, IfErr, OnOk, OnErr};
 ghost use Rattle.std.specs.List.{All};
 ghost use Rattle.map_types.specs.declared.commands.Command.{Command};
-ghost use Rattle.ticket_order.specs.declared.record.Record.{Record};
 ghost use Rattle.ticket_order.specs.Records.{IsWithin};
 ghost use Rattle.log_records.specs.Layout.{layout_of};
 ghost use Rattle.gate_log.specs.States.{IsResting, batch_of};
@@ -12,13 +11,13 @@ ghost use Rattle.store_layout.specs.Logs.{Batch};
 ghost use Rattle.store_layout.specs.Hands.{FitsBatch, IsLongest, IsRun};
 ghost use Rattle.flusher.specs.HandSteps.{SameEntries};
 ghost use Rattle.flusher.specs.KeeperSteps.{IsFull, MayStage, Stages, is_too_long};
-ghost use Rattle.flusher.specs.Fitting.{Fits};
+ghost use Rattle.flusher.specs.Fitting.{IsFitting, StillFits};
 
 use crate::keeper::Keeper;
 use disk_model::Disk;
 use map_types::Refusal;
 use std::mem;
-use store_invariant::laws::steps_of_logs;
+use store_invariant::laws;
 use store_layout::MOST_LOG_BYTES;
 
 impl<D: Disk> Keeper<D> {
@@ -80,8 +79,7 @@ impl<D: Disk> Keeper<D> {
     /// batch of at most `most` commands, and returns its length. If there is none, it stages none.
     pub fn stage_batch(&mut self, most: u32) -> Result<u32, Refusal>
         // The keeper's invariant holds.
-        requires { (n : ℕ) × (done : List Command) × (p : Record)
-            × Fits D.states D.honest n done self.old p }
+        requires { IsFitting D.states D.honest self.old }
 
         // Refused: it has failed, may not stage, its log is full, or no memory.
         ensures failed { (result ≡ Err Refusal.Failed) ↔ (self.old.is_broken ≡ true) }
@@ -108,8 +106,7 @@ impl<D: Disk> Keeper<D> {
             × SameEntries self.old.sweeper.in_hand self.new.sweeper.in_hand) }
 
         // The invariant goes on, and no other field changes.
-        ensures fits { (n : ℕ) (done : List Command) (p : Record)
-            → Fits D.states D.honest n done self.old p → Fits D.states D.honest n done self.new p }
+        ensures fits { StillFits D.states D.honest self.old self.new }
         ensures same { self.new ≡ record self.old {
           log = self.new.log;
           sweeper = record self.old.sweeper { in_hand = self.new.sweeper.in_hand };
@@ -122,7 +119,7 @@ impl<D: Disk> Keeper<D> {
         if !self.log.is_resting() || self.next.is_some() {
             return Err(Refusal::WrongPhase);
         }
-        steps_of_logs();
+        laws::steps_of_logs();
         let run = self.sweeper.in_hand.longest_run(self.log.version(), most);
         if run.count == 0 {
             return Ok(0);

@@ -13,17 +13,17 @@
 //! newest one. A device call that fails leaves the keeper broken (`is_broken`): it makes no more,
 //! and its owner calls `fail`. The loops of `durable_map` call it under one lock; `checkpoint_walk`
 //! writes checkpoints by it; `cmd_mem` and the simulator call it on one thread.
-ghost use Rattle.std.specs.Prelude.{◌≡◌, ◌||◌, ◌<◌, List, None, is_some, [], true, false};
-ghost use Rattle.map_types.specs.declared.commands.Command.{Command};
+ghost use Rattle.std.specs.Prelude.{◌≡◌, ◌||◌, ◌<◌, None, is_some, [], true, false};
 ghost use Rattle.ticket_order.specs.declared.record.Record.{Record};
 ghost use Rattle.ticket_order.specs.Records.{failing, publishing};
+ghost use Rattle.ticket_order.specs.StepRules.{IsOfSamePass};
 ghost use Rattle.ticket_order.specs.Walks.{MakesOne, Durable, Fail};
 ghost use Rattle.log_records.specs.Layout.{layout_of};
 ghost use Rattle.gate_log.specs.States.{resumed};
 ghost use Rattle.gate_log.specs.LogStates as log;
 ghost use Rattle.disk_model.specs.Files.{now};
 ghost use Rattle.flusher.specs.KeeperSteps.{is_walking};
-ghost use Rattle.flusher.specs.Fitting.{Fits, IsFoundFor, IsUnused};
+ghost use Rattle.flusher.specs.Fitting.{Fits, FitsOn, IsFoundFor, IsKept, IsUnused};
 
 use crate::sweeper::{Sweeper, Walking};
 use checkpoint_file::CheckpointWriter;
@@ -31,7 +31,7 @@ use disk_model::Disk;
 use gate_log::{GateLog, Zeros};
 use java_hash::StripeCount;
 use std::alloc::Global;
-use store_invariant::laws::beginnings_of_stores;
+use store_invariant::laws;
 use ticket_order::{Entry, Steps, Walk};
 
 /// The one value that sweeps, commits, publishes and fails.
@@ -102,7 +102,7 @@ impl<D: Disk> Keeper<D> {
             → (D.honest disk → IsFoundFor p sealed log must_close (now (D.states disk)))
             → Fits D.states D.honest stripes.count [] result p }
     {
-        beginnings_of_stores();
+        laws::beginnings_of_stores();
         let first = log.committed();
         Keeper {
             disk,
@@ -141,8 +141,7 @@ impl<D: Disk> Keeper<D> {
     /// DURABLE with the committed count, which the pass has seen; no step if `fail` was called.
     pub fn publish<S: Steps>(&mut self, steps: &mut S)
         // The invariant holds, and no sweep is between two of its steps.
-        requires fits { (done : List Command)
-            × Fits D.states D.honest (S.stripe_count steps.old) done self.old
+        requires fits { IsKept D.states D.honest (S.stripe_count steps.old) self.old
             (S.recorded steps.old) }
         requires rests { is_walking self.old.sweeper.walking ≡ false }
 
@@ -158,12 +157,9 @@ impl<D: Disk> Keeper<D> {
             → (steps.new ≡ steps.old) × (self.new ≡ self.old) }
 
         // The invariant goes on, in the same pass over as many stripes.
-        ensures fits { (done : List Command)
-            → Fits D.states D.honest (S.stripe_count steps.old) done self.old (S.recorded steps.old)
-            → Fits D.states D.honest (S.stripe_count steps.new) done self.new
-            (S.recorded steps.new) }
-        ensures place { S.place steps.new ≡ S.place steps.old }
-        ensures stripes { S.stripe_count steps.new ≡ S.stripe_count steps.old }
+        ensures fits { FitsOn D.states D.honest S.stripe_count S.recorded self.old steps.old
+            self.new steps.new }
+        ensures pass { IsOfSamePass S.place S.stripe_count steps.old steps.new }
     {
         if self.has_failed {
             return;
@@ -176,8 +172,7 @@ impl<D: Disk> Keeper<D> {
     /// FAIL. From now on nothing is published.
     pub fn fail<S: Steps>(&mut self, steps: &mut S)
         // The invariant holds, and no sweep is between two of its steps.
-        requires fits { (done : List Command)
-            × Fits D.states D.honest (S.stripe_count steps.old) done self.old
+        requires fits { IsKept D.states D.honest (S.stripe_count steps.old) self.old
             (S.recorded steps.old) }
         requires rests { is_walking self.old.sweeper.walking ≡ false }
 
@@ -187,12 +182,9 @@ impl<D: Disk> Keeper<D> {
             × (self.new ≡ record self.old { has_failed = true }) }
 
         // The invariant goes on, in the same pass over as many stripes.
-        ensures fits { (done : List Command)
-            → Fits D.states D.honest (S.stripe_count steps.old) done self.old (S.recorded steps.old)
-            → Fits D.states D.honest (S.stripe_count steps.new) done self.new
-            (S.recorded steps.new) }
-        ensures place { S.place steps.new ≡ S.place steps.old }
-        ensures stripes { S.stripe_count steps.new ≡ S.stripe_count steps.old }
+        ensures fits { FitsOn D.states D.honest S.stripe_count S.recorded self.old steps.old
+            self.new steps.new }
+        ensures pass { IsOfSamePass S.place S.stripe_count steps.old steps.new }
     {
         steps.fail();
         self.has_failed = true;

@@ -12,8 +12,8 @@ ghost use Rattle.flusher.specs.KeeperSteps.{is_walking};
 
 use crate::keeper::Keeper;
 use disk_model::Disk;
-use store_invariant::laws::{beginnings_of_stores, stops_of_a_store};
-use store_layout::laws::laws_of_found;
+use store_invariant::laws as store_laws;
+use store_layout::laws as layout_laws;
 
 /// Whatever a stop leaves of the four files stands for a front of the history that the keeper's
 /// pass has seen. That front has the committed commands, and no more than the staged ones besides,
@@ -23,7 +23,7 @@ pub fn stops_of_a_keeper<D: Disk>(_keeper: &Keeper<D>)
         → Fits D.states D.honest n done _keeper.now p → D.honest _keeper.now.disk
         → StopsFit (history_of p) _keeper.now (now (D.states _keeper.now.disk)) }
 {
-    stops_of_a_store();
+    store_laws::stops_of_a_store();
 }
 
 /// What is committed was taken by the sweeps of the keeper's pass, ticket by ticket. It is the
@@ -57,6 +57,6 @@ pub fn pass_goes_on<D: Disk>(_keeper: &Keeper<D>)
         → is_walking _keeper.now.sweeper.walking ≡ false → (w : Record) → IsBeside p w
         → w.holding ≡ None → Fits D.states D.honest n done _keeper.now w }
 {
-    beginnings_of_stores();
-    laws_of_found();
+    store_laws::beginnings_of_stores();
+    layout_laws::laws_of_found();
 }

@@ -6,7 +6,7 @@ mod ahead;
 mod batching;
 mod in_hand;
 mod keeper;
-mod laws;
+pub mod laws;
 mod logs;
 mod spare;
 mod sweeper;
@@ -14,5 +14,4 @@ mod sweeping;
 
 pub use in_hand::{InHand, Run};
 pub use keeper::Keeper;
-pub use laws::{committed_were_taken, pass_goes_on, runs_were_taken, stops_of_a_keeper};
 pub use sweeper::{Sweep, Sweeper, Swept, Walking};

@@ -11,13 +11,13 @@ ghost use Rattle.disk_model.specs.Moments.{AtEachMoment};
 ghost use Rattle.store_layout.specs.Logs.{Batch};
 ghost use Rattle.flusher.specs.KeeperSteps.{IsPast, Stages, committed_by, passed};
 ghost use Rattle.flusher.specs.Rotating.{IsTold, StepsLogs, due_of, ended_in, logs_of};
-ghost use Rattle.flusher.specs.Fitting.{Fits, StopsFit, done_after};
+ghost use Rattle.flusher.specs.Fitting.{Fits, IsFitting, StopsFit, done_after};
 
 use crate::keeper::Keeper;
 use disk_model::Disk;
 use gate_log::{GateLog, Phase};
 use map_types::Refusal;
-use store_invariant::laws::{steps_of_logs, stops_of_a_store};
+use store_invariant::laws;
 
 impl<D: Disk> Keeper<D> {
     // The staged batch is committed, and no longer in hand.
@@ -225,8 +225,7 @@ impl<D: Disk> Keeper<D> {
     /// a device failure no call is made. It takes no memory.
     pub fn advance(&mut self) -> Result<Phase, Refusal>
         // The keeper's invariant holds.
-        requires { (n : ℕ) × (done : List Command) × (p : Record)
-            × Fits D.states D.honest n done self.old p }
+        requires { IsFitting D.states D.honest self.old }
 
         // After a failure it is refused; at rest no call is made. Nothing changes.
         ensures failed { self.old.is_broken ≡ true
@@ -267,8 +266,8 @@ impl<D: Disk> Keeper<D> {
           is_broken = self.new.is_broken;
         } }
     {
-        steps_of_logs();
-        stops_of_a_store();
+        laws::steps_of_logs();
+        laws::stops_of_a_store();
         if self.is_broken {
             return Err(Refusal::Failed);
         }

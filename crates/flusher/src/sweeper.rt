@@ -2,7 +2,8 @@
 ghost use Rattle.std.specs.Prelude.{◌≡◌, ◌+◌, ◌<◌, ◌≤◌, ℕ, List, Some, None, [], true, IfOk, IfErr, OnOk, OnErr, IfSome, IfNone};
 ghost use Rattle.map_types.specs.declared.commands.Command.{Command};
 ghost use Rattle.ticket_order.specs.declared.record.Record.{Record};
-ghost use Rattle.ticket_order.specs.Records.{reach, missing};
+ghost use Rattle.ticket_order.specs.Records.{missing};
+ghost use Rattle.ticket_order.specs.StepRules.{IsOfSamePass};
 ghost use Rattle.ticket_order.specs.Calls.{SweepsStripe, RefusesSweep};
 ghost use Rattle.ticket_order.specs.Walks.{MakesOne, Look, Take, Give, entries_of_walk, refusal_of_walk};
 ghost use Rattle.flusher.specs.HandSteps.{Gains};
@@ -94,8 +95,7 @@ impl Sweeper {
             → IfOk result (IsDone self.new gone (S.recorded steps.new)) }
 
         // It is the same pass, over as many stripes.
-        ensures place { S.place steps.new ≡ S.place steps.old }
-        ensures stripes { S.stripe_count steps.new ≡ S.stripe_count steps.old }
+        ensures pass { IsOfSamePass S.place S.stripe_count steps.old steps.new }
     {
         let Some(sweep) = self.sweep else {
             return self.look(steps);
@@ -125,8 +125,7 @@ impl Sweeper {
 
         // Only the hand changes, in the same pass over as many stripes.
         ensures same { self.new ≡ record self.old { in_hand = self.new.in_hand } }
-        ensures place { S.place steps.new ≡ S.place steps.old }
-        ensures stripes { S.stripe_count steps.new ≡ S.stripe_count steps.old }
+        ensures pass { IsOfSamePass S.place S.stripe_count steps.old steps.new }
     {
         let spare = self.spare.take(self.alloc);
         let Some(walk) = hold(spare, stripe, steps) else {
@@ -165,8 +164,7 @@ impl Sweeper {
         ensures stands { (gone : List Command)
             → HasNone self.old.in_hand gone (S.recorded steps.old)
             → Stands (S.stripe_count steps.new) self.new gone (S.recorded steps.new) }
-        ensures place { S.place steps.new ≡ S.place steps.old }
-        ensures stripes { S.stripe_count steps.new ≡ S.stripe_count steps.old }
+        ensures pass { IsOfSamePass S.place S.stripe_count steps.old steps.new }
     {
         let _stripes = steps.stripes().get();
         let count = steps.look();
@@ -192,8 +190,7 @@ impl Sweeper {
             → IsBetween (S.stripe_count steps.old) sweep self.old.in_hand gone
             (S.recorded steps.old)
             → Stands (S.stripe_count steps.new) self.new gone (S.recorded steps.new) }
-        ensures place { S.place steps.new ≡ S.place steps.old }
-        ensures stripes { S.stripe_count steps.new ≡ S.stripe_count steps.old }
+        ensures pass { IsOfSamePass S.place S.stripe_count steps.old steps.new }
     {
         let spare = self.spare.take(self.alloc);
         match hold(spare, sweep.stripe, steps) {
@@ -230,8 +227,7 @@ impl Sweeper {
             (S.recorded steps.old) → IfOk result (IsDone self.new gone (S.recorded steps.new)) }
 
         // It is the same pass, over as many stripes.
-        ensures place { S.place steps.new ≡ S.place steps.old }
-        ensures stripes { S.stripe_count steps.new ≡ S.stripe_count steps.old }
+        ensures pass { IsOfSamePass S.place S.stripe_count steps.old steps.new }
     {
         self.set_walking(Walking::Rests);
         let walk = with_room(&mut self.in_hand, walk);
@@ -300,8 +296,7 @@ fn hold<S: Steps>(spare: Vec<Entry>, stripe: usize, steps: &mut S) -> Option<Wal
     ensures none { IfNone result (S.recorded steps.new ≡ missing (S.recorded steps.old) stripe) }
 
     // It is the same pass, over as many stripes.
-    ensures place { S.place steps.new ≡ S.place steps.old }
-    ensures stripes { S.stripe_count steps.new ≡ S.stripe_count steps.old }
+    ensures pass { IsOfSamePass S.place S.stripe_count steps.old steps.new }
 {
     match Walk::sweep(spare, stripe).step(steps) {
         Stepped::More(walk) => Some(walk),
@@ -335,8 +330,7 @@ fn hand_out<S: Steps>(walk: Walk, steps: &mut S) -> Option<Vec<Entry>>
         → RefusesSweep b i Refusal.NoMemory (S.recorded steps.new)) }
 
     // It is the same pass, over as many stripes.
-    ensures place { S.place steps.new ≡ S.place steps.old }
-    ensures stripes { S.stripe_count steps.new ≡ S.stripe_count steps.old }
+    ensures pass { IsOfSamePass S.place S.stripe_count steps.old steps.new }
 {
     match walk.step(steps) {
         Stepped::Swept(entries) => Some(entries),

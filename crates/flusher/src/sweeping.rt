@@ -7,15 +7,16 @@ ghost use Rattle.gate_log.specs.States.{commands_of};
 ghost use Rattle.flusher.specs.HandSteps.{SameEntries};
 ghost use Rattle.flusher.specs.Sweeping.{HasGathered, IsDone, StepsOn, next_kind};
 ghost use Rattle.flusher.specs.KeeperSteps.{HasGivenBack, MakesSweep, StaysAt, SweepsOnce, is_walking};
-ghost use Rattle.flusher.specs.Fitting.{Fits, HasSeenMore, IsQuiet};
+ghost use Rattle.flusher.specs.Fitting.{Fits, FitsOn, HasSeenMore, IsKept, IsQuiet};
+ghost use Rattle.ticket_order.specs.StepRules.{IsOfSamePass};
 
 use crate::keeper::Keeper;
 use crate::sweeper::Swept;
 use disk_model::Disk;
 use map_types::Refusal;
 use std::sync::Wait;
-use store_invariant::laws::beginnings_of_stores;
-use store_layout::laws::laws_of_found;
+use store_invariant::laws as store_laws;
+use store_layout::laws as layout_laws;
 use ticket_order::Steps;
 
 impl<D: Disk> Keeper<D> {
@@ -24,8 +25,7 @@ impl<D: Disk> Keeper<D> {
     /// that stripe again.
     pub fn sweep_step<S: Steps>(&mut self, steps: &mut S) -> Result<Swept, Refusal>
         // The keeper's invariant holds.
-        requires { (done : List Command)
-            × Fits D.states D.honest (S.stripe_count steps.old) done self.old
+        requires { IsKept D.states D.honest (S.stripe_count steps.old) self.old
             (S.recorded steps.old) }
 
         // Exactly one step: the next of the sweep, with what that leaves.
@@ -43,20 +43,17 @@ impl<D: Disk> Keeper<D> {
             (S.recorded steps.new)) }
 
         // The invariant goes on; calls, the published count and failure stay.
-        ensures fits { (done : List Command)
-            → Fits D.states D.honest (S.stripe_count steps.old) done self.old (S.recorded steps.old)
-            → Fits D.states D.honest (S.stripe_count steps.new) done self.new
-            (S.recorded steps.new) }
+        ensures fits { FitsOn D.states D.honest S.stripe_count S.recorded self.old steps.old
+            self.new steps.new }
         ensures quiet { IsQuiet (S.recorded steps.old) (S.recorded steps.new) }
         ensures seen { HasSeenMore (S.recorded steps.old) (S.recorded steps.new) }
 
         // Only the sweeper changes, in the same pass over as many stripes.
         ensures same { self.new ≡ record self.old { sweeper = self.new.sweeper } }
-        ensures place { S.place steps.new ≡ S.place steps.old }
-        ensures stripes { S.stripe_count steps.new ≡ S.stripe_count steps.old }
+        ensures pass { IsOfSamePass S.place S.stripe_count steps.old steps.new }
     {
-        beginnings_of_stores();
-        laws_of_found();
+        store_laws::beginnings_of_stores();
+        layout_laws::laws_of_found();
         self.sweeper.step(steps)
     }
 
@@ -65,8 +62,7 @@ impl<D: Disk> Keeper<D> {
     /// found, the stripes before that one are drained, and the next sweep goes on there.
     pub fn sweep<R: Wait, S: Steps>(&mut self, rt: &R, steps: &mut S) -> Result<u64, Refusal>
         // The keeper's invariant holds.
-        requires { (done : List Command)
-            × Fits D.states D.honest (S.stripe_count steps.old) done self.old
+        requires { IsKept D.states D.honest (S.stripe_count steps.old) self.old
             (S.recorded steps.old) }
 
         // A sweep is over, and has gathered each ticket below its count.
@@ -90,17 +86,14 @@ impl<D: Disk> Keeper<D> {
 
         // It rests; the invariant goes on; calls, published count, failure stay.
         ensures rests { is_walking self.new.sweeper.walking ≡ false }
-        ensures fits { (done : List Command)
-            → Fits D.states D.honest (S.stripe_count steps.old) done self.old (S.recorded steps.old)
-            → Fits D.states D.honest (S.stripe_count steps.new) done self.new
-            (S.recorded steps.new) }
+        ensures fits { FitsOn D.states D.honest S.stripe_count S.recorded self.old steps.old
+            self.new steps.new }
         ensures quiet { IsQuiet (S.recorded steps.old) (S.recorded steps.new) }
         ensures seen { HasSeenMore (S.recorded steps.old) (S.recorded steps.new) }
 
         // Only the sweeper changes, in the same pass over as many stripes.
         ensures same { self.new ≡ record self.old { sweeper = self.new.sweeper } }
-        ensures place { S.place steps.new ≡ S.place steps.old }
-        ensures stripes { S.stripe_count steps.new ≡ S.stripe_count steps.old }
+        ensures pass { IsOfSamePass S.place S.stripe_count steps.old steps.new }
     {
         for _step in rt.forever() {
             let swept = match self.sweep_step(steps) {
@@ -118,8 +111,7 @@ impl<D: Disk> Keeper<D> {
     /// stays where it is.
     pub fn try_sweep<S: Steps>(&mut self, stripe: usize, steps: &mut S) -> Result<(), Refusal>
         // The invariant holds, no sweep is between steps, there is this stripe.
-        requires fits { (done : List Command)
-            × Fits D.states D.honest (S.stripe_count steps.old) done self.old
+        requires fits { IsKept D.states D.honest (S.stripe_count steps.old) self.old
             (S.recorded steps.old) }
         requires rests { is_walking self.old.sweeper.walking ≡ false }
         requires within { stripe < S.stripe_count steps.old }
@@ -136,18 +128,15 @@ impl<D: Disk> Keeper<D> {
             (SameEntries self.old.sweeper.in_hand self.new.sweeper.in_hand) }
 
         // The invariant goes on, and only the hand changes, in the same pass.
-        ensures fits { (done : List Command)
-            → Fits D.states D.honest (S.stripe_count steps.old) done self.old (S.recorded steps.old)
-            → Fits D.states D.honest (S.stripe_count steps.new) done self.new
-            (S.recorded steps.new) }
+        ensures fits { FitsOn D.states D.honest S.stripe_count S.recorded self.old steps.old
+            self.new steps.new }
         ensures same { self.new ≡ record self.old {
           sweeper = record self.old.sweeper { in_hand = self.new.sweeper.in_hand };
         } }
-        ensures place { S.place steps.new ≡ S.place steps.old }
-        ensures stripes { S.stripe_count steps.new ≡ S.stripe_count steps.old }
+        ensures pass { IsOfSamePass S.place S.stripe_count steps.old steps.new }
     {
-        beginnings_of_stores();
-        laws_of_found();
+        store_laws::beginnings_of_stores();
+        layout_laws::laws_of_found();
         self.sweeper.sweep_stripe(stripe, steps)
     }
 }

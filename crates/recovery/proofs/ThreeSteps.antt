@@ -11,6 +11,7 @@ use Rattle.ticket_order.specs.declared.record.StepMade.{StepMade}
 use Rattle.ticket_order.specs.declared.record.StepMade.TheVariants.{FoundHeld}
 use Rattle.ticket_order.specs.declared.walk.Walk.{Walk}
 use Rattle.ticket_order.specs.Records.{missing}
+use Rattle.ticket_order.specs.StepRules.{IsOfSamePass}
 use Rattle.ticket_order.specs.Walks.{Give, Look, MakesOne, Take, Ticket, next_kind}
 use Rattle.one_history.specs.declared.book.Book.{Book}
 use Rattle.one_history.specs.Moves.{BookMoves, WordsMove}
@@ -39,8 +40,7 @@ moves_at at made after = BookMoves at.pass made at.words.now after.words.now
 
 -- what the contract of a step tells of it
 pub record IsStep {D : Type 0} (stripe : ℕ) (k : Keeper D) (a : At) (k' : Keeper D) (a' : At) (r : Result (Option ℕ) Refusal) : Type 0 where
-  pub stripes : a'.words.now.stripes ≡ a.words.now.stripes
-  pub place : a'.words.ghost_name ∷ a'.pass ∷ [] ≡ a.words.ghost_name ∷ a.pass ∷ []
+  pub pass : IsOfSamePass (λ (x : At). x.words.ghost_name ∷ x.pass ∷ []) (λ (x : At). x.words.now.stripes) a a'
   pub one : r ≢ Err Failed → r ≢ Err WrongPhase → MakesOne record_at moves_at (kind_next a.words.now.stripes stripe k.capture) a a'
   pub after : AfterStep a.words.now.stripes stripe k.capture k k' (record_at a) (record_at a') r
 
@@ -95,22 +95,22 @@ module _ {D : Type 0} (states : D → List Files) (honest : D → Type 0) (strip
 
   -- a LOOK isn't refused
   pub never_refused : (e : Refusal) → r2 ≡ Err e → ⊥
-  never_refused e was = no_refusal book_at pass_at states honest stripe k k1 k2 a a1 a2 took s1.stripes r2 s2.after e was
+  never_refused e was = no_refusal book_at pass_at states honest stripe k k1 k2 a a1 a2 took s1.pass.1 r2 s2.after e was
 
   abbrev look : LooksAt a1.words.now.stripes took.walk k1 k2 (record_at a1) (record_at a2)
-  look = looks book_at pass_at states honest stripe k k1 k2 a a1 a2 took s1.stripes r2 s2.after
+  look = looks book_at pass_at states honest stripe k k1 k2 a a1 a2 took s1.pass.1 r2 s2.after
 
   kind_one : kind_next a.words.now.stripes stripe k.capture ≡ Take stripe
   kind_one = ap (kind_next a.words.now.stripes stripe) free
 
   kind_two : kind_next a1.words.now.stripes stripe k1.capture ≡ Look
   kind_two =
-      ap (kind_next a1.words.now.stripes stripe) (captures_one book_at pass_at states honest stripe k k1 k2 a a1 a2 took s1.stripes r2 s2.after)
-      ∙ (taken book_at pass_at states honest stripe k k1 k2 a a1 a2 took s1.stripes r2 s2.after).next
+      ap (kind_next a1.words.now.stripes stripe) (captures_one book_at pass_at states honest stripe k k1 k2 a a1 a2 took s1.pass.1 r2 s2.after)
+      ∙ (taken book_at pass_at states honest stripe k k1 k2 a a1 a2 took s1.pass.1 r2 s2.after).next
 
   same_one : IsSame book_at pass_at states honest stripe a a1
   same_one =
-      same_by book_at pass_at states honest stripe (kind_next a.words.now.stripes stripe k.capture) a a1 (λ x. let y : Take stripe ≡ Ticket = sym kind_one ∙ x in absurd cc) (same_place a a1 s1.place)
+      same_by book_at pass_at states honest stripe (kind_next a.words.now.stripes stripe k.capture) a a1 (λ x. let y : Take stripe ≡ Ticket = sym kind_one ∙ x in absurd cc) (same_place a a1 s1.pass.0)
       (s1.one (not_failed r1 x1 Failed ok1) (not_failed r1 x1 WrongPhase ok1))
 
   module _ (k3 : Keeper D) (a3 : At) (r3 : Result (Option ℕ) Refusal) (x2 : Option ℕ) (ok2 : r2 ≡ Ok x2) (s3 : IsStep stripe k2 a2 k3 a3 r3) where
@@ -119,43 +119,43 @@ module _ {D : Type 0} (states : D → List Files) (honest : D → Type 0) (strip
 
     same_looked : IsSame book_at pass_at states honest stripe a1 a2
     same_looked =
-        same_by book_at pass_at states honest stripe (kind_next a1.words.now.stripes stripe k1.capture) a1 a2 (λ x. let y : Look ≡ Ticket = sym kind_two ∙ x in absurd cc) (same_place a1 a2 s2.place) made_two
+        same_by book_at pass_at states honest stripe (kind_next a1.words.now.stripes stripe k1.capture) a1 a2 (λ x. let y : Look ≡ Ticket = sym kind_two ∙ x in absurd cc) (same_place a1 a2 s2.pass.0) made_two
 
     -- a refused GIVE leaves the keeper as it was
     pub left : (e : Refusal) → r3 ≡ Err e → k3 ≡ record k { capture = None }
     left e was =
-        same_back book_at pass_at states honest stripe k k1 k2 a a1 a2 took s1.stripes r2 s2.after k3 a3 s2.stripes r3 s3.after e
-        (puts_back book_at pass_at states honest stripe k k1 k2 a a1 a2 took s1.stripes r2 s2.after k3 a3 s2.stripes r3 s3.after e was)
+        same_back book_at pass_at states honest stripe k k1 k2 a a1 a2 took s1.pass.1 r2 s2.after k3 a3 s2.pass.1 r3 s3.after e
+        (puts_back book_at pass_at states honest stripe k k1 k2 a a1 a2 took s1.pass.1 r2 s2.after k3 a3 s2.pass.1 r3 s3.after e was)
 
     -- it is refused for its section
     pub refused : (e : Refusal) → r3 ≡ Err e → ((walk : Walk) → k2.capture ≡ Some walk → IfErr r3 (IsCauseOf walk)) → IsOneHistory a2.words.now → a2.pass < length a2.words.now.passes
         → (o : Opening) → IsUnmovedWith states honest o k a.pass a.words.now → IsSectionRefused k.stripes.count o.map e
     refused e was causes history within o is =
-        let back = puts_back book_at pass_at states honest stripe k k1 k2 a a1 a2 took s1.stripes r2 s2.after k3 a3 s2.stripes r3 s3.after e was in
-        let walk = captures_two book_at pass_at states honest stripe k k1 k2 a a1 a2 took s1.stripes r2 s2.after k3 a3 s2.stripes r3 s3.after in
+        let back = puts_back book_at pass_at states honest stripe k k1 k2 a a1 a2 took s1.pass.1 r2 s2.after k3 a3 s2.pass.1 r3 s3.after e was in
+        let walk = captures_two book_at pass_at states honest stripe k k1 k2 a a1 a2 took s1.pass.1 r2 s2.after k3 a3 s2.pass.1 r3 s3.after in
         let cause = err_of (IsCauseOf look.next) r3 e was (causes look.next walk) in
         section_refused a2.words.now a2.pass stripe k.stripes.count o (record_at a) e history within (same_looked.history ∙ same_one.history ∙ is.none_made) is.unmoved.opening
-        (s2.stripes ∙ s1.stripes ∙ sym is.unmoved.fits.stripes.count)
-        (cause_of book_at pass_at states honest stripe k k1 k2 a a1 a2 took s1.stripes r2 s2.after k3 a3 s2.stripes r3 s3.after e back cause)
+        (s2.pass.1 ∙ s1.pass.1 ∙ sym is.unmoved.fits.stripes.count)
+        (cause_of book_at pass_at states honest stripe k k1 k2 a a1 a2 took s1.pass.1 r2 s2.after k3 a3 s2.pass.1 r3 s3.after e back cause)
 
     module _ (x3 : Option ℕ) (ok3 : r3 ≡ Ok x3) where
       abbrev given : (mark : ℕ) × GivesSection a2.words.now.stripes (record_at a) stripe mark k2 k3 (record_at a3)
-      given = gives book_at pass_at states honest stripe k k1 k2 a a1 a2 took s1.stripes r2 s2.after k3 a3 s2.stripes r3 s3.after x3 ok3
+      given = gives book_at pass_at states honest stripe k k1 k2 a a1 a2 took s1.pass.1 r2 s2.after k3 a3 s2.pass.1 r3 s3.after x3 ok3
 
       kind_three : kind_next a2.words.now.stripes stripe k2.capture ≡ Give stripe
       kind_three =
-          ap (kind_next a2.words.now.stripes stripe) (captures_two book_at pass_at states honest stripe k k1 k2 a a1 a2 took s1.stripes r2 s2.after k3 a3 s2.stripes r3 s3.after)
-          ∙ (ap (λ (n : ℕ). next_kind n look.next) s2.stripes ∙ (has_looked book_at pass_at states honest stripe k k1 k2 a a1 a2 took s1.stripes r2 s2.after).next)
+          ap (kind_next a2.words.now.stripes stripe) (captures_two book_at pass_at states honest stripe k k1 k2 a a1 a2 took s1.pass.1 r2 s2.after k3 a3 s2.pass.1 r3 s3.after)
+          ∙ (ap (λ (n : ℕ). next_kind n look.next) s2.pass.1 ∙ (has_looked book_at pass_at states honest stripe k k1 k2 a a1 a2 took s1.pass.1 r2 s2.after).next)
 
       made_three : MakesOne record_at moves_at (kind_next a2.words.now.stripes stripe k2.capture) a2 a3
       made_three = s3.one (not_failed r3 x3 Failed ok3) (not_failed r3 x3 WrongPhase ok3)
 
       same_given_back : IsSame book_at pass_at states honest stripe a2 a3
       same_given_back =
-          same_by book_at pass_at states honest stripe (kind_next a2.words.now.stripes stripe k2.capture) a2 a3 (λ x. let y : Give stripe ≡ Ticket = sym kind_three ∙ x in absurd cc) (same_place a2 a3 s3.place) made_three
+          same_by book_at pass_at states honest stripe (kind_next a2.words.now.stripes stripe k2.capture) a2 a3 (λ x. let y : Give stripe ≡ Ticket = sym kind_three ∙ x in absurd cc) (same_place a2 a3 s3.pass.0) made_three
 
       same_kept : k2 ≡ record k { capture = Some look.next }
-      same_kept = same_two book_at pass_at states honest stripe k k1 k2 a a1 a2 took s1.stripes r2 s2.after k3 a3 s2.stripes r3 s3.after
+      same_kept = same_two book_at pass_at states honest stripe k k1 k2 a a1 a2 took s1.pass.1 r2 s2.after k3 a3 s2.pass.1 r3 s3.after
 
       -- the section is given, and no other field changes
       pub given_alone : k3 ≡ record k { checkpoint = Some (with_section given.0 given.1.entries given.1.writer); capture = None }

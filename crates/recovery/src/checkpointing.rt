@@ -9,7 +9,7 @@ ghost use Rattle.recovery.specs.Upgrading.{HasSections, IsCheckpointRefused, IsG
 
 use checkpoint_walk::capture_step;
 use disk_model::Disk;
-use flusher::{Keeper, stops_of_a_keeper};
+use flusher::{Keeper, laws};
 use map_types::Refusal;
 use plain_words::At;
 
@@ -49,7 +49,7 @@ fn advance<D: Disk>(keeper: &mut Keeper<D>, calls: usize) -> Result<(), Refusal>
     ensures err { IfErr result (λ refusal. (refusal ≡ Refusal.Failed)
         × (D.failures keeper.new.disk ≡ D.failures keeper.old.disk + 1)) }
 {
-    stops_of_a_keeper(keeper);
+    laws::stops_of_a_keeper(keeper);
     for _ in 0..calls {
         let _phase = checkpoint_walk::advance(keeper)?;
     }
@@ -136,7 +136,7 @@ fn capture_all<D: Disk>(keeper: &mut Keeper<D>, steps: &mut At<'_>) -> Result<()
         → IsCheckpointRefused (D.failures keeper.new.disk ≡ D.failures keeper.old.disk + 1)
         keeper.old.stripes.count o.map refusal) }
 {
-    stops_of_a_keeper(keeper);
+    laws::stops_of_a_keeper(keeper);
     for stripe in 0..keeper.stripes.get() {
         capture(keeper, steps, stripe)?;
         advance(keeper, SECTION_CALLS)?;
@@ -187,7 +187,7 @@ pub(crate) fn seal_checkpoint<D: Disk>(
         keeper.old.stripes.count o.map refusal
         ⊎ ((refusal ≡ Refusal.WrongPhase) × IsLastGeneration keeper.old.sealed)) }
 {
-    stops_of_a_keeper(keeper);
+    laws::stops_of_a_keeper(keeper);
     checkpoint_walk::begin(keeper)?;
     advance(keeper, HEAD_CALLS)?;
     capture_all(keeper, steps)?;

@@ -11,7 +11,7 @@ use crate::grouping::Groups;
 use crate::lanes::{Lane, is_any_refused, parts_of};
 use atomic_methods::Part;
 use java_hash::{StripeCount, stripe_of_spread};
-use map_model::laws::laws_of_parts;
+use map_model::laws;
 use map_types::{Command, Refusal};
 use std::alloc::Global;
 
@@ -115,7 +115,7 @@ impl Divided {
             → ArePartsOf self.stripes.count parts.items) }
         ensures err { IfErr result (λ refusal. refusal ≡ Refusal.NoMemory) }
     {
-        laws_of_parts();
+        laws::laws_of_parts();
         self.run(run_each)?;
         parts_of(alloc, self.lanes)
     }

@@ -23,7 +23,7 @@ use atomic_methods::Part;
 use disk_model::Disk;
 use flusher::Keeper;
 use java_hash::StripeCount;
-use map_model::laws::laws_of_parts;
+use map_model::laws;
 use map_types::Refusal;
 use std::alloc::Global;
 use std::thread::Threads;
@@ -75,7 +75,7 @@ fn open_parts_by<D: Disk, F: Fn(&mut [Lane])>(
     ensures fits { IfOk result (λ x. (p : Record) → p.opening ≡ opening_of x.2 x.1.items x.3
         → IsUnused x.2 x.3 p → Fits D.states D.honest stripes.count [] x.0 p) }
 {
-    laws_of_parts();
+    laws::laws_of_parts();
     match open_files(run_each, alloc, &mut disk, stripes) {
         Ok((restored, must_close)) => {
             let Restored { parts, sealed, log } = restored;
@@ -241,7 +241,7 @@ pub fn open<D: Disk>(
         → IsUnused (begun_with x.1).first (begun_with x.1).key_limit p
         → Fits D.states D.honest stripes.count [] x.0 p) }
 {
-    laws_of_parts();
+    laws::laws_of_parts();
     let (keeper, parts, first, limit) = open_parts(alloc, disk, stripes)?;
     match Stripes::new(alloc, stripes, parts, first, limit) {
         Ok(shared) => Ok((keeper, shared)),

@@ -23,16 +23,15 @@ use crate::checkpointing::seal_checkpoint;
 use crate::opening::open_parts;
 use atomic_methods::Part;
 use disk_model::Disk;
-use flusher::{Keeper, stops_of_a_keeper};
+use flusher::{Keeper, laws as keeper_laws};
 use java_hash::StripeCount;
 use log_records::Version;
-use map_model::laws::laws_of_parts;
+use map_model::laws as map_laws;
 use map_types::Refusal;
 use plain_words::{At, PlainWords};
 use std::alloc::Global;
-use store_invariant::laws::stops_of_a_store;
-use store_layout::NEW_VERSION;
-use store_layout::laws::laws_of_opening;
+use store_invariant::laws as store_laws;
+use store_layout::{NEW_VERSION, laws as layout_laws};
 
 /// The calls of a rotation: the header of the next log is written and synced, and the end frame of the
 /// newest one committed by four.
@@ -61,7 +60,7 @@ fn advance<D: Disk>(keeper: &mut Keeper<D>, calls: usize) -> Result<(), Refusal>
     ensures err { IfErr result (λ refusal. (refusal ≡ Refusal.Failed)
         × (D.failures keeper.new.disk ≡ D.failures keeper.old.disk + 1)) }
 {
-    stops_of_a_keeper(keeper);
+    keeper_laws::stops_of_a_keeper(keeper);
     for _ in 0..calls {
         let _phase = keeper.advance()?;
     }
@@ -95,7 +94,7 @@ fn rotate<D: Disk>(keeper: &mut Keeper<D>) -> Result<(), Refusal>
         × (D.failures keeper.new.disk ≡ D.failures keeper.old.disk + 1))
         ⊎ ((refusal ≡ Refusal.WrongPhase) × (MayBegin keeper.old → ⊥))) }
 {
-    stops_of_a_keeper(keeper);
+    keeper_laws::stops_of_a_keeper(keeper);
     checkpoint_walk::begin(keeper)?;
     advance(keeper, ROTATION_CALLS)
 }
@@ -197,7 +196,7 @@ fn upgrade_keeper<D: Disk>(
         keeper.old.stripes.count (opening_of first parts.items limit).map keeper.old.log.generation
         keeper.old.sealed refusal) }
 {
-    stops_of_a_keeper(keeper);
+    keeper_laws::stops_of_a_keeper(keeper);
     let mut words = PlainWords::new(alloc, keeper.stripes, parts, first, limit, 0)?;
     let mut steps = At::new(&mut words, 0);
     rotate_sealed(keeper, &mut steps)
@@ -251,9 +250,9 @@ pub fn upgrade<D: Disk>(alloc: Global, disk: D, stripes: StripeCount) -> Result<
         → Stopped D.states D.failures D.honest 4 disk x.0 x.1
         × ((x.1 ≡ Refusal.Failed) ⊎ (x.1 ≡ Refusal.NoMemory))) }
 {
-    laws_of_parts();
-    laws_of_opening();
-    stops_of_a_store();
+    map_laws::laws_of_parts();
+    layout_laws::laws_of_opening();
+    store_laws::stops_of_a_store();
     let (mut keeper, parts, first, limit) = open_parts(alloc, disk, stripes)?;
     if is_newest(keeper.log.version()) {
         return Ok(keeper.into_disk());

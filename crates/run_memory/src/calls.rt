@@ -1,9 +1,8 @@
 //! Calls of a pass on shared stripes.
-ghost use Rattle.std.specs.Prelude.{◌≡◌, List, None, IfOk};
-ghost use Rattle.map_types.specs.declared.commands.Command.{Command};
+ghost use Rattle.std.specs.Prelude.{◌≡◌, None, IfOk};
 ghost use Rattle.stripe_locks.specs.Holding.{IsHeldOf};
 ghost use Rattle.stripe_locks.specs.Passes.{recorded, IsPassOf};
-ghost use Rattle.flusher.specs.Fitting.{Fits};
+ghost use Rattle.flusher.specs.Fitting.{IsKept};
 
 use crate::cases::{Case, asked_in};
 use crate::keepers::commit_all;
@@ -136,13 +135,11 @@ fn play_one<D: Disk, R: AllocGlobal + Print + Wait, S: Steps>(
     text: &str,
     is_to_wait: bool,
 ) -> Result<()>
-    requires kept { (done : List Command)
-        × Fits D.states D.honest (S.stripe_count steps.old) done keeper.old
+    requires kept { IsKept D.states D.honest (S.stripe_count steps.old) keeper.old
         (S.recorded steps.old) }
     requires own { IsPassOf stripes.now worker.old }
     requires idle { (recorded worker.old).holding ≡ None }
-    ensures kept { (done : List Command)
-        × Fits D.states D.honest (S.stripe_count steps.new) done keeper.new
+    ensures kept { IsKept D.states D.honest (S.stripe_count steps.new) keeper.new
         (S.recorded steps.new) }
     ensures own { IsPassOf stripes.now worker.new }
     ensures idle { (recorded worker.new).holding ≡ None }
@@ -161,8 +158,7 @@ fn play_each<D: Disk, R: AllocGlobal + Print + Wait, S: Steps>(
     worker: &mut Pass,
     case: &Case<'_>,
 ) -> Result<()>
-    requires kept { (done : List Command)
-        × Fits D.states D.honest (S.stripe_count steps.old) done keeper.old
+    requires kept { IsKept D.states D.honest (S.stripe_count steps.old) keeper.old
         (S.recorded steps.old) }
     requires own { IsPassOf stripes.now worker.old }
     requires idle { (recorded worker.old).holding ≡ None }

@@ -1,8 +1,7 @@
 //! What a keeper captures.
-ghost use Rattle.std.specs.Prelude.{◌≡◌, List, None};
-ghost use Rattle.map_types.specs.declared.commands.Command.{Command};
+ghost use Rattle.std.specs.Prelude.{◌≡◌, None};
 ghost use Rattle.stripe_locks.specs.Passes.{recorded, IsPassOf};
-ghost use Rattle.flusher.specs.Fitting.{Fits};
+ghost use Rattle.flusher.specs.Fitting.{IsKept};
 
 use crate::cases::Case;
 use crate::checkpoints::{begin_checkpoint, capture};
@@ -29,11 +28,9 @@ fn capture_marked<D: Disk, R: Print + Wait, S: Steps>(
     steps: &mut S,
     is_to_wait: bool,
 ) -> io::Result<Result<u64, Refusal>>
-    requires kept { (done : List Command)
-        × Fits D.states D.honest (S.stripe_count steps.old) done keeper.old
+    requires kept { IsKept D.states D.honest (S.stripe_count steps.old) keeper.old
         (S.recorded steps.old) }
-    ensures kept { (done : List Command)
-        × Fits D.states D.honest (S.stripe_count steps.new) done keeper.new
+    ensures kept { IsKept D.states D.honest (S.stripe_count steps.new) keeper.new
         (S.recorded steps.new) }
 {
     begin(rt)?;
@@ -70,8 +67,7 @@ fn play<D: Disk, R: AllocGlobal + Print + Wait, S: Steps>(
     worker: &mut Pass,
     is_to_wait: bool,
 ) -> Result<()>
-    requires kept { (done : List Command)
-        × Fits D.states D.honest (S.stripe_count steps.old) done keeper.old
+    requires kept { IsKept D.states D.honest (S.stripe_count steps.old) keeper.old
         (S.recorded steps.old) }
     requires own { IsPassOf stripes.now worker.old }
     requires idle { (recorded worker.old).holding ≡ None }

@@ -1,7 +1,6 @@
 //! What a keeper does for a checkpoint, each with what holds of the keeper before and after it.
-ghost use Rattle.std.specs.Prelude.{◌≡◌, List};
-ghost use Rattle.map_types.specs.declared.commands.Command.{Command};
-ghost use Rattle.flusher.specs.Fitting.{Fits};
+ghost use Rattle.flusher.specs.Fitting.{IsKept};
+ghost use Rattle.ticket_order.specs.StepRules.{IsOfSamePass};
 
 use crate::keepers::advance_times;
 use disk_model::Disk;
@@ -18,11 +17,9 @@ const HEAD_CALLS: u32 = 3;
 
 /// Makes the next device call of the checkpoint.
 fn write<D: Disk, S: Steps>(keeper: &mut Keeper<D>, _steps: &S)
-    requires kept { (done : List Command)
-        × Fits D.states D.honest (S.stripe_count _steps.now) done keeper.old
+    requires kept { IsKept D.states D.honest (S.stripe_count _steps.now) keeper.old
         (S.recorded _steps.now) }
-    ensures kept { (done : List Command)
-        × Fits D.states D.honest (S.stripe_count _steps.now) done keeper.new
+    ensures kept { IsKept D.states D.honest (S.stripe_count _steps.now) keeper.new
         (S.recorded _steps.now) }
 {
     let _phase = checkpoint_walk::advance(keeper);
@@ -30,11 +27,9 @@ fn write<D: Disk, S: Steps>(keeper: &mut Keeper<D>, _steps: &S)
 
 /// Makes `times` device calls of the checkpoint.
 fn write_times<D: Disk, S: Steps>(keeper: &mut Keeper<D>, steps: &S, times: u32)
-    requires kept { (done : List Command)
-        × Fits D.states D.honest (S.stripe_count steps.now) done keeper.old
+    requires kept { IsKept D.states D.honest (S.stripe_count steps.now) keeper.old
         (S.recorded steps.now) }
-    ensures kept { (done : List Command)
-        × Fits D.states D.honest (S.stripe_count steps.now) done keeper.new
+    ensures kept { IsKept D.states D.honest (S.stripe_count steps.now) keeper.new
         (S.recorded steps.now) }
 {
     for _ in 0..times {
@@ -43,11 +38,9 @@ fn write_times<D: Disk, S: Steps>(keeper: &mut Keeper<D>, steps: &S, times: u32)
 }
 
 fn begin_one<D: Disk, S: Steps>(keeper: &mut Keeper<D>, _steps: &S) -> Result<(), Refusal>
-    requires kept { (done : List Command)
-        × Fits D.states D.honest (S.stripe_count _steps.now) done keeper.old
+    requires kept { IsKept D.states D.honest (S.stripe_count _steps.now) keeper.old
         (S.recorded _steps.now) }
-    ensures kept { (done : List Command)
-        × Fits D.states D.honest (S.stripe_count _steps.now) done keeper.new
+    ensures kept { IsKept D.states D.honest (S.stripe_count _steps.now) keeper.new
         (S.recorded _steps.now) }
 {
     checkpoint_walk::begin(keeper)
@@ -58,11 +51,9 @@ pub(crate) fn begin_checkpoint<D: Disk, S: Steps>(
     keeper: &mut Keeper<D>,
     steps: &S,
 ) -> Result<(), Refusal>
-    requires kept { (done : List Command)
-        × Fits D.states D.honest (S.stripe_count steps.now) done keeper.old
+    requires kept { IsKept D.states D.honest (S.stripe_count steps.now) keeper.old
         (S.recorded steps.now) }
-    ensures kept { (done : List Command)
-        × Fits D.states D.honest (S.stripe_count steps.now) done keeper.new
+    ensures kept { IsKept D.states D.honest (S.stripe_count steps.now) keeper.new
         (S.recorded steps.now) }
 {
     begin_one(keeper, steps)?;
@@ -79,13 +70,11 @@ pub(crate) fn capture<D: Disk, R: Wait, S: Steps>(
     stripe: usize,
     is_to_wait: bool,
 ) -> Result<u64, Refusal>
-    requires kept { (done : List Command)
-        × Fits D.states D.honest (S.stripe_count steps.old) done keeper.old
+    requires kept { IsKept D.states D.honest (S.stripe_count steps.old) keeper.old
         (S.recorded steps.old) }
-    ensures kept { (done : List Command)
-        × Fits D.states D.honest (S.stripe_count steps.new) done keeper.new
+    ensures kept { IsKept D.states D.honest (S.stripe_count steps.new) keeper.new
         (S.recorded steps.new) }
-    ensures stripes { S.stripe_count steps.new ≡ S.stripe_count steps.old }
+    ensures pass { IsOfSamePass S.place S.stripe_count steps.old steps.new }
 {
     if keeper.is_walking() {
         return Err(Refusal::WrongPhase);

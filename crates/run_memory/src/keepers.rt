@@ -1,7 +1,6 @@
 //! What a keeper does beside its stripes, each with what holds of the keeper before and after it.
-ghost use Rattle.std.specs.Prelude.{◌≡◌, List};
-ghost use Rattle.map_types.specs.declared.commands.Command.{Command};
-ghost use Rattle.flusher.specs.Fitting.{Fits};
+ghost use Rattle.flusher.specs.Fitting.{IsKept};
+ghost use Rattle.ticket_order.specs.StepRules.{IsOfSamePass};
 
 use crate::showing::MOST;
 use disk_model::Disk;
@@ -16,13 +15,11 @@ pub(crate) fn sweep<D: Disk, R: Wait, S: Steps>(
     keeper: &mut Keeper<D>,
     steps: &mut S,
 ) -> Result<u64, Refusal>
-    requires kept { (done : List Command)
-        × Fits D.states D.honest (S.stripe_count steps.old) done keeper.old
+    requires kept { IsKept D.states D.honest (S.stripe_count steps.old) keeper.old
         (S.recorded steps.old) }
-    ensures kept { (done : List Command)
-        × Fits D.states D.honest (S.stripe_count steps.new) done keeper.new
+    ensures kept { IsKept D.states D.honest (S.stripe_count steps.new) keeper.new
         (S.recorded steps.new) }
-    ensures stripes { S.stripe_count steps.new ≡ S.stripe_count steps.old }
+    ensures pass { IsOfSamePass S.place S.stripe_count steps.old steps.new }
 {
     keeper.sweep(rt, steps)
 }
@@ -33,13 +30,11 @@ pub(crate) fn try_sweep<D: Disk, S: Steps>(
     steps: &mut S,
     stripe: usize,
 ) -> Result<u64, Refusal>
-    requires kept { (done : List Command)
-        × Fits D.states D.honest (S.stripe_count steps.old) done keeper.old
+    requires kept { IsKept D.states D.honest (S.stripe_count steps.old) keeper.old
         (S.recorded steps.old) }
-    ensures kept { (done : List Command)
-        × Fits D.states D.honest (S.stripe_count steps.new) done keeper.new
+    ensures kept { IsKept D.states D.honest (S.stripe_count steps.new) keeper.new
         (S.recorded steps.new) }
-    ensures stripes { S.stripe_count steps.new ≡ S.stripe_count steps.old }
+    ensures pass { IsOfSamePass S.place S.stripe_count steps.old steps.new }
 {
     if keeper.is_walking() || stripe >= steps.stripes().get() {
         return Err(Refusal::WrongPhase);
@@ -50,11 +45,9 @@ pub(crate) fn try_sweep<D: Disk, S: Steps>(
 
 /// Stages what is in hand.
 pub(crate) fn stage<D: Disk, S: Steps>(keeper: &mut Keeper<D>, _steps: &S) -> Result<u64, Refusal>
-    requires kept { (done : List Command)
-        × Fits D.states D.honest (S.stripe_count _steps.now) done keeper.old
+    requires kept { IsKept D.states D.honest (S.stripe_count _steps.now) keeper.old
         (S.recorded _steps.now) }
-    ensures kept { (done : List Command)
-        × Fits D.states D.honest (S.stripe_count _steps.now) done keeper.new
+    ensures kept { IsKept D.states D.honest (S.stripe_count _steps.now) keeper.new
         (S.recorded _steps.now) }
 {
     let staged = keeper.stage_batch(MOST)?;
@@ -63,11 +56,9 @@ pub(crate) fn stage<D: Disk, S: Steps>(keeper: &mut Keeper<D>, _steps: &S) -> Re
 
 /// Makes the next device call of the log.
 fn advance<D: Disk, S: Steps>(keeper: &mut Keeper<D>, _steps: &S)
-    requires kept { (done : List Command)
-        × Fits D.states D.honest (S.stripe_count _steps.now) done keeper.old
+    requires kept { IsKept D.states D.honest (S.stripe_count _steps.now) keeper.old
         (S.recorded _steps.now) }
-    ensures kept { (done : List Command)
-        × Fits D.states D.honest (S.stripe_count _steps.now) done keeper.new
+    ensures kept { IsKept D.states D.honest (S.stripe_count _steps.now) keeper.new
         (S.recorded _steps.now) }
 {
     let _phase = keeper.advance();
@@ -75,11 +66,9 @@ fn advance<D: Disk, S: Steps>(keeper: &mut Keeper<D>, _steps: &S)
 
 /// Makes `times` device calls of the log.
 pub(crate) fn advance_times<D: Disk, S: Steps>(keeper: &mut Keeper<D>, steps: &S, times: u32)
-    requires kept { (done : List Command)
-        × Fits D.states D.honest (S.stripe_count steps.now) done keeper.old
+    requires kept { IsKept D.states D.honest (S.stripe_count steps.now) keeper.old
         (S.recorded steps.now) }
-    ensures kept { (done : List Command)
-        × Fits D.states D.honest (S.stripe_count steps.now) done keeper.new
+    ensures kept { IsKept D.states D.honest (S.stripe_count steps.now) keeper.new
         (S.recorded steps.now) }
 {
     for _ in 0..times {
@@ -95,13 +84,11 @@ pub(crate) fn commit<D: Disk, S: Steps>(
     keeper: &mut Keeper<D>,
     steps: &mut S,
 ) -> Result<u64, Refusal>
-    requires kept { (done : List Command)
-        × Fits D.states D.honest (S.stripe_count steps.old) done keeper.old
+    requires kept { IsKept D.states D.honest (S.stripe_count steps.old) keeper.old
         (S.recorded steps.old) }
-    ensures kept { (done : List Command)
-        × Fits D.states D.honest (S.stripe_count steps.new) done keeper.new
+    ensures kept { IsKept D.states D.honest (S.stripe_count steps.new) keeper.new
         (S.recorded steps.new) }
-    ensures stripes { S.stripe_count steps.new ≡ S.stripe_count steps.old }
+    ensures pass { IsOfSamePass S.place S.stripe_count steps.old steps.new }
 {
     let staged = stage(keeper, steps);
     advance_times(keeper, steps, BATCH_CALLS);
@@ -118,13 +105,11 @@ pub(crate) fn commit_all<D: Disk, R: Wait, S: Steps>(
     keeper: &mut Keeper<D>,
     steps: &mut S,
 ) -> Result<u64, Refusal>
-    requires kept { (done : List Command)
-        × Fits D.states D.honest (S.stripe_count steps.old) done keeper.old
+    requires kept { IsKept D.states D.honest (S.stripe_count steps.old) keeper.old
         (S.recorded steps.old) }
-    ensures kept { (done : List Command)
-        × Fits D.states D.honest (S.stripe_count steps.new) done keeper.new
+    ensures kept { IsKept D.states D.honest (S.stripe_count steps.new) keeper.new
         (S.recorded steps.new) }
-    ensures stripes { S.stripe_count steps.new ≡ S.stripe_count steps.old }
+    ensures pass { IsOfSamePass S.place S.stripe_count steps.old steps.new }
 {
     sweep(rt, keeper, steps)?;
     commit(keeper, steps)

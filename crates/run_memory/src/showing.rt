@@ -1,6 +1,7 @@
 //! What stands: the tickets, each stripe with its entries, and the keeper.
 ghost use Rattle.std.specs.Prelude.{◌≡◌, ◌<◌, None};
 ghost use Rattle.stripe_locks.specs.Passes.{recorded, IsPassOf};
+ghost use Rattle.ticket_order.specs.StepRules.{IsOfSamePass};
 
 use anyhow::Result;
 use atomic_methods::Part;
@@ -65,8 +66,7 @@ fn show_stripe<R: AllocGlobal + Print, S: Steps>(rt: &R, steps: &mut S, stripe: 
     requires idle { (S.recorded steps.old).holding ≡ None }
     requires within { stripe < S.stripe_count steps.old }
     ensures idle { (S.recorded steps.new).holding ≡ None }
-    ensures place { S.place steps.new ≡ S.place steps.old }
-    ensures stripes { S.stripe_count steps.new ≡ S.stripe_count steps.old }
+    ensures pass { IsOfSamePass S.place S.stripe_count steps.old steps.new }
 {
     let Some(content) = steps.take(stripe) else {
         println!(rt; "  stripe {stripe} held")?;
@@ -81,7 +81,7 @@ fn show_stripe<R: AllocGlobal + Print, S: Steps>(rt: &R, steps: &mut S, stripe: 
 fn show_all<R: AllocGlobal + Print, S: Steps>(rt: &R, steps: &mut S) -> Result<()>
     requires idle { (S.recorded steps.old).holding ≡ None }
     ensures idle { (S.recorded steps.new).holding ≡ None }
-    ensures place { S.place steps.new ≡ S.place steps.old }
+    ensures pass { IsOfSamePass S.place S.stripe_count steps.old steps.new }
 {
     for stripe in 0..steps.stripes().get() {
         show_stripe(rt, steps, stripe)?;

@@ -12,13 +12,12 @@ ghost use Rattle.schedule_sim.specs.Storing.{IsInterrupted};
 use crate::life::Life;
 use crate::traced::Traced;
 use checkpoint_file::CheckpointPhase;
-use checkpoint_walk::{advance, stops_while_capturing};
+use checkpoint_walk::{advance, laws as walk_laws};
 use gate_log::Phase;
 use map_types::Refusal;
-use sim_keeper::laws::{laws_of_checkpoint_calls, laws_of_log_calls, laws_of_telling};
-use sim_rules::laws::laws_of_known_histories;
-use sim_rules::{DeviceCall, Ending, Outcome, Side};
-use sim_workers::laws::steps_of_the_keeper;
+use sim_keeper::laws as keeper_laws;
+use sim_rules::{DeviceCall, Ending, Outcome, Side, laws as rule_laws};
+use sim_workers::laws as worker_laws;
 use std::alloc::AllocError;
 use store_layout::{checkpoint_file, log_file};
 
@@ -60,7 +59,7 @@ impl Life {
             → result ≡ fits w (event.Stop (Some side) fill) }
         ensures no_capture { result ≡ true → self.now.keeper.capture ≡ None }
     {
-        laws_of_telling::<Traced>();
+        keeper_laws::laws_of_telling::<Traced>();
         !self.keeper.is_walking() && !self.keeper.is_broken && self.has_call(side)
     }
 
@@ -102,9 +101,9 @@ impl Life {
         ensures { IfOk result (λ x. (w : World) → IsLife w self.old
             → Did w (event.Device sides.Log ending.now) x self.new) }
     {
-        laws_of_telling::<Traced>();
-        laws_of_log_calls::<Traced>();
-        steps_of_the_keeper();
+        keeper_laws::laws_of_telling::<Traced>();
+        keeper_laws::laws_of_log_calls::<Traced>();
+        worker_laws::steps_of_the_keeper();
         let file = self.log_due();
         match ending {
             Ending::Done => {
@@ -133,9 +132,9 @@ impl Life {
         ensures { IfOk result (λ x. (w : World) → IsLife w self.old
             → Did w (event.Device sides.Checkpoint ending.now) x self.new) }
     {
-        laws_of_telling::<Traced>();
-        laws_of_checkpoint_calls::<Traced>();
-        steps_of_the_keeper();
+        keeper_laws::laws_of_telling::<Traced>();
+        keeper_laws::laws_of_checkpoint_calls::<Traced>();
+        worker_laws::steps_of_the_keeper();
         let file = self.checkpoint_due();
         match ending {
             Ending::Done => {
@@ -163,8 +162,8 @@ impl Life {
         ensures { IfOk result (λ x. (w : World) → IsLife w self.old
             → Did w (event.Device side ending.now) x self.new) }
     {
-        laws_of_telling::<Traced>();
-        laws_of_log_calls::<Traced>();
+        keeper_laws::laws_of_telling::<Traced>();
+        keeper_laws::laws_of_log_calls::<Traced>();
         if self.keeper.is_walking() {
             return Ok(Outcome::Skipped);
         }
@@ -225,10 +224,10 @@ impl Life {
         ensures { IfOk result (λ call. (w : World) → IsLife w self.old
             → IsInterrupted w side call self.new.keeper.disk) }
     {
-        laws_of_telling::<Traced>();
-        laws_of_log_calls::<Traced>();
-        laws_of_checkpoint_calls::<Traced>();
-        laws_of_known_histories();
+        keeper_laws::laws_of_telling::<Traced>();
+        keeper_laws::laws_of_log_calls::<Traced>();
+        keeper_laws::laws_of_checkpoint_calls::<Traced>();
+        rule_laws::laws_of_known_histories();
         let file = self.number_due(side);
         self.keeper.disk.plan_none();
         match side {
@@ -254,9 +253,9 @@ impl Life {
         ensures { IfOk result (λ call. (w : World) → IsLife w self.old
             → IsInterrupted w side call self.new.keeper.disk) }
     {
-        laws_of_telling::<Traced>();
-        laws_of_known_histories();
-        stops_while_capturing(&self.keeper);
+        keeper_laws::laws_of_telling::<Traced>();
+        rule_laws::laws_of_known_histories();
+        walk_laws::stops_while_capturing(&self.keeper);
         if self.is_sync_due(side) {
             let file = self.number_due(side);
             return Ok(DeviceCall::Sync { file });

@@ -12,18 +12,18 @@ use crate::life::{Life, WORKERS};
 use crate::traced::Traced;
 use checkpoint_walk::{begin, seal};
 use plain_words::At;
-use sim_keeper::laws::{laws_of_batches, laws_of_counts, laws_of_seals, laws_of_telling};
+use sim_keeper::laws as keeper_laws;
 use sim_rules::Outcome;
-use sim_workers::laws::steps_of_the_keeper;
+use sim_workers::laws as worker_laws;
 
 impl Life {
     pub(crate) fn stage(&mut self, most: u32) -> Outcome
         requires { (w : World) × IsLife w self.old }
         ensures { (w : World) → IsLife w self.old → Did w (event.Stage most) result self.new }
     {
-        laws_of_telling::<Traced>();
-        laws_of_batches::<Traced>();
-        steps_of_the_keeper();
+        keeper_laws::laws_of_telling::<Traced>();
+        keeper_laws::laws_of_batches::<Traced>();
+        worker_laws::steps_of_the_keeper();
         if self.keeper.is_walking() {
             return Outcome::Skipped;
         }
@@ -37,9 +37,9 @@ impl Life {
         requires { (w : World) × IsLife w self.old }
         ensures { (w : World) → IsLife w self.old → Did w (event.Publish) result self.new }
     {
-        laws_of_telling::<Traced>();
-        laws_of_counts::<Traced>();
-        steps_of_the_keeper();
+        keeper_laws::laws_of_telling::<Traced>();
+        keeper_laws::laws_of_counts::<Traced>();
+        worker_laws::steps_of_the_keeper();
         if self.keeper.is_walking() || self.keeper.has_failed {
             return Outcome::Skipped;
         }
@@ -53,9 +53,9 @@ impl Life {
         requires { (w : World) × IsLife w self.old }
         ensures { (w : World) → IsLife w self.old → Did w (event.Fail) result self.new }
     {
-        laws_of_telling::<Traced>();
-        laws_of_counts::<Traced>();
-        steps_of_the_keeper();
+        keeper_laws::laws_of_telling::<Traced>();
+        keeper_laws::laws_of_counts::<Traced>();
+        worker_laws::steps_of_the_keeper();
         if self.keeper.is_walking() {
             return Outcome::Skipped;
         }
@@ -69,9 +69,9 @@ impl Life {
         requires { (w : World) × IsLife w self.old }
         ensures { (w : World) → IsLife w self.old → Did w (event.Begin) result self.new }
     {
-        laws_of_telling::<Traced>();
-        laws_of_seals::<Traced>();
-        steps_of_the_keeper();
+        keeper_laws::laws_of_telling::<Traced>();
+        keeper_laws::laws_of_seals::<Traced>();
+        worker_laws::steps_of_the_keeper();
         if self.keeper.is_walking() {
             return Outcome::Skipped;
         }
@@ -85,9 +85,9 @@ impl Life {
         requires { (w : World) × IsLife w self.old }
         ensures { (w : World) → IsLife w self.old → Did w (event.Seal) result self.new }
     {
-        laws_of_telling::<Traced>();
-        laws_of_seals::<Traced>();
-        steps_of_the_keeper();
+        keeper_laws::laws_of_telling::<Traced>();
+        keeper_laws::laws_of_seals::<Traced>();
+        worker_laws::steps_of_the_keeper();
         if self.keeper.is_walking() {
             return Outcome::Skipped;
         }

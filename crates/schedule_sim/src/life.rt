@@ -18,22 +18,19 @@ ghost use Rattle.sim_rules.specs.World.{World};
 ghost use Rattle.schedule_sim.specs.Living.{Did, IsLife, IsLifeBut, is_of_life};
 ghost use Rattle.schedule_sim.specs.Workers.{job_of};
 
+use checkpoint_walk::laws as walk_laws;
 use crate::job::{Job, called, released};
 use crate::traced::Traced;
 use crate::watched::Watched;
 use atomic_methods::Part;
-use checkpoint_walk::stops_while_capturing;
 use flusher::Keeper;
 use java_hash::StripeCount;
-use map_model::laws::laws_of_parts;
+use map_model::laws as map_laws;
 use map_types::{Command, Read, Refusal};
 use plain_words::PlainWords;
-use sim_keeper::laws::laws_of_lives;
-use sim_rules::laws::laws_of_known_histories;
-use sim_rules::{Event, Made, Outcome};
-use sim_workers::laws::{
-    beginnings_of_lives, beginnings_of_walks, fits_of_workers, steps_of_workers, walks_of_workers,
-};
+use sim_keeper::laws as keeper_laws;
+use sim_rules::{Event, Made, Outcome, laws as rule_laws};
+use sim_workers::laws as worker_laws;
 use std::alloc::{AllocError, Global};
 use std::mem;
 use ticket_order::{Stepped, Walk};
@@ -116,9 +113,9 @@ impl Life {
             → IsOpening w stripes.count contents found keeper parts.items → IsLife w life) }
         ensures kept { IfOk result (λ life. life.keeper ≡ keeper) }
     {
-        laws_of_parts();
-        laws_of_lives::<Traced>();
-        beginnings_of_lives();
+        map_laws::laws_of_parts();
+        keeper_laws::laws_of_lives::<Traced>();
+        worker_laws::beginnings_of_lives();
         let Ok(words) = PlainWords::new(alloc, stripes, parts, first, limit, WORKERS as u16) else {
             return Err(AllocError);
         };
@@ -145,9 +142,9 @@ impl Life {
         ensures { IfOk result (λ x. (w : World) → IsLife w self.old
             → Did w (event.Change worker command.now) x self.new) }
     {
-        fits_of_workers();
-        beginnings_of_walks();
-        laws_of_lives::<Traced>();
+        worker_laws::fits_of_workers();
+        worker_laws::beginnings_of_walks();
+        keeper_laws::laws_of_lives::<Traced>();
         if !self.is_idle(worker) {
             return Ok(Outcome::Skipped);
         }
@@ -164,9 +161,9 @@ impl Life {
         ensures { IfOk result (λ x. (w : World) → IsLife w self.old
             → Did w (event.Read worker read.now) x self.new) }
     {
-        fits_of_workers();
-        beginnings_of_walks();
-        laws_of_lives::<Traced>();
+        worker_laws::fits_of_workers();
+        worker_laws::beginnings_of_walks();
+        keeper_laws::laws_of_lives::<Traced>();
         if !self.is_idle(worker) {
             return Ok(Outcome::Skipped);
         }
@@ -178,9 +175,9 @@ impl Life {
         requires { (w : World) × IsLife w self.old }
         ensures { (w : World) → IsLife w self.old → Did w (event.Release worker) result self.new }
     {
-        fits_of_workers();
-        beginnings_of_walks();
-        laws_of_lives::<Traced>();
+        worker_laws::fits_of_workers();
+        worker_laws::beginnings_of_walks();
+        keeper_laws::laws_of_lives::<Traced>();
         if worker >= WORKERS {
             return Outcome::Skipped;
         }
@@ -202,9 +199,9 @@ impl Life {
         ensures { (w : World) → IsLifeBut w worker (Job.Calling walk) self.old
             → Did w (event.Step worker) result self.new }
     {
-        walks_of_workers();
-        steps_of_workers();
-        laws_of_lives::<Traced>();
+        worker_laws::walks_of_workers();
+        worker_laws::steps_of_workers();
+        keeper_laws::laws_of_lives::<Traced>();
         let (made, stepped) = step_walk(&mut self.words, worker, walk);
         self.words.keeps_one_history();
         let (job, end) = called(stepped);
@@ -218,9 +215,9 @@ impl Life {
         ensures { (w : World) → IsLifeBut w worker (Job.Releasing walk) self.old
             → Did w (event.Step worker) result self.new }
     {
-        walks_of_workers();
-        steps_of_workers();
-        laws_of_lives::<Traced>();
+        worker_laws::walks_of_workers();
+        worker_laws::steps_of_workers();
+        keeper_laws::laws_of_lives::<Traced>();
         let (made, stepped) = step_walk(&mut self.words, worker, walk);
         self.words.keeps_one_history();
         let (job, end) = released(stepped);
@@ -233,7 +230,7 @@ impl Life {
         requires { (w : World) × IsLife w self.old }
         ensures { (w : World) → IsLife w self.old → Did w (event.Step worker) result self.new }
     {
-        fits_of_workers();
+        worker_laws::fits_of_workers();
         if worker >= WORKERS {
             return Outcome::Skipped;
         }
@@ -279,8 +276,8 @@ impl Life {
         ensures lies { (w : World) (least : ℕ) → IsLife w self → IsDurable least w.life
             → LiesOn w least result }
     {
-        stops_while_capturing(&self.keeper);
-        laws_of_known_histories();
+        walk_laws::stops_while_capturing(&self.keeper);
+        rule_laws::laws_of_known_histories();
         let Life {
             keeper,
             words: _words,

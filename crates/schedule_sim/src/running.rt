@@ -6,8 +6,7 @@ ghost use Rattle.schedule_sim.specs.Storing.{IsBeginning};
 
 use crate::beginning::{formatted, old_directory};
 use crate::store::Store;
-use sim_rules::laws::{ends_of_runs, laws_of_runs, steps_between_lives, steps_of_a_life};
-use sim_rules::{Event, Outcome};
+use sim_rules::{Event, Outcome, laws};
 use std::alloc::{AllocError, Global};
 
 /// What came of a schedule: the outcome of each event.
@@ -22,10 +21,10 @@ fn play(alloc: Global, mut store: Store, events: &[Event]) -> Result<Vec<Outcome
     ensures { IfOk result (λ outcomes. (from : World) → IsBeginning from store
         → IsRunFrom from events.now outcomes.items) }
 {
-    laws_of_runs();
-    steps_of_a_life();
-    steps_between_lives();
-    ends_of_runs();
+    laws::laws_of_runs();
+    laws::steps_of_a_life();
+    laws::steps_between_lives();
+    laws::ends_of_runs();
     let mut outcomes = Vec::new(alloc);
     for event in events {
         let (next, outcome) = store.happen(alloc, event)?;
@@ -62,8 +61,8 @@ fn behind_first(events: &[Event]) -> &[Event]
 pub fn run(alloc: Global, events: &[Event]) -> Result<Trace, AllocError>
     ensures { IfOk result (λ trace. IsRun events.now trace.outcomes.items) }
 {
-    steps_between_lives();
-    ends_of_runs();
+    laws::steps_between_lives();
+    laws::ends_of_runs();
     if !begins_old(events) {
         let outcomes = play(alloc, formatted(alloc)?, events)?;
         return Ok(Trace { outcomes });

@@ -23,20 +23,19 @@ ghost use Rattle.schedule_sim.specs.Opening.{LastFails, TellsCalls};
 ghost use Rattle.schedule_sim.specs.Storing.{DidStore, IsClosed, IsStore, LiesOn, StandsNow};
 ghost use Rattle.schedule_sim.specs.Tracing.{traced_states, traced_honest};
 
+use checkpoint_walk::laws as walk_laws;
 use crate::entries::entries_of;
 use crate::life::Life;
 use crate::traced::Traced;
 use atomic_methods::Part;
-use checkpoint_walk::stops_while_capturing;
 use disk_model::Fill;
 use flusher::Keeper;
 use java_hash::StripeCount;
-use map_model::laws::laws_of_parts;
+use map_model::laws as map_laws;
 use map_types::Refusal;
 use recovery::open_parts;
-use sim_keeper::laws::laws_of_telling;
-use sim_rules::laws::{laws_of_known_histories, steps_between_lives};
-use sim_rules::{DeviceCall, Event, Outcome, Side};
+use sim_keeper::laws as keeper_laws;
+use sim_rules::{DeviceCall, Event, Outcome, Side, laws as rule_laws};
 use std::alloc::{AllocError, Global};
 
 #[derive(Drop)]
@@ -108,7 +107,7 @@ fn refused(
     ensures told { (old : Traced) → length (traced_states old) + calls ≡ length (traced_states disk)
         → IfOk result (λ x. TellsCalls old x) }
 {
-    steps_between_lives();
+    rule_laws::steps_between_lives();
     let is_told = match refusal {
         Refusal::Failed => is_last(&disk, fails_at, calls),
         _ => !names_within(fails_at, calls),
@@ -146,8 +145,8 @@ fn begun(
     ensures told { (old : Traced) → length (traced_states old) + calls
         ≡ length (traced_states keeper.disk) → IfOk result (λ x. TellsCalls old x) }
 {
-    steps_between_lives();
-    laws_of_parts();
+    rule_laws::steps_between_lives();
+    map_laws::laws_of_parts();
     let entries = entries_of(alloc, &parts)?;
     let life = Life::new(alloc, keeper, stripes, parts, first, limit)?;
     let outcome = Outcome::Opened {
@@ -228,11 +227,11 @@ impl Store {
     pub(crate) fn stands_for_a_front(&self)
         ensures { (w : World) (least : ℕ) → IsStore w least self.now → StandsNow w least }
     {
-        laws_of_known_histories();
-        laws_of_telling::<Traced>();
+        rule_laws::laws_of_known_histories();
+        keeper_laws::laws_of_telling::<Traced>();
         match self {
             Store::Closed(_disk) => {}
-            Store::Open(life) => stops_while_capturing(&life.keeper),
+            Store::Open(life) => walk_laws::stops_while_capturing(&life.keeper),
         }
     }
 

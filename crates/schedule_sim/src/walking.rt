@@ -14,11 +14,9 @@ use crate::watched::Watched;
 use checkpoint_walk::capture_step;
 use flusher::Swept;
 use map_types::Refusal;
-use sim_keeper::laws::{
-    laws_of_captures, laws_of_lives, laws_of_sweeps, laws_of_taking, laws_of_telling,
-};
+use sim_keeper::laws as keeper_laws;
 use sim_rules::{End, Outcome};
-use sim_workers::laws::{steps_of_the_keeper, words_of_stripes};
+use sim_workers::laws as worker_laws;
 
 // What a step of a sweep leaves of it.
 fn end_of_sweep(swept: Result<Swept, Refusal>) -> End
@@ -62,12 +60,12 @@ impl Life {
             unreachable!()
         };
         self.words.keeps_one_history();
-        steps_of_the_keeper();
-        words_of_stripes();
-        laws_of_sweeps::<Traced>();
-        laws_of_taking::<Traced>();
-        laws_of_telling::<Traced>();
-        laws_of_lives::<Traced>();
+        worker_laws::steps_of_the_keeper();
+        worker_laws::words_of_stripes();
+        keeper_laws::laws_of_sweeps::<Traced>();
+        keeper_laws::laws_of_taking::<Traced>();
+        keeper_laws::laws_of_telling::<Traced>();
+        keeper_laws::laws_of_lives::<Traced>();
         Outcome::Stepped {
             made,
             end: end_of_sweep(swept),
@@ -83,12 +81,12 @@ impl Life {
         ensures goes_on { (walk : Walk) → self.old.keeper.capture ≡ Some walk → (w : World)
             → IsLife w self.old → Did w event.KeeperStep result self.new }
     {
-        laws_of_captures::<Traced>();
-        laws_of_telling::<Traced>();
-        laws_of_taking::<Traced>();
-        laws_of_lives::<Traced>();
-        words_of_stripes();
-        steps_of_the_keeper();
+        keeper_laws::laws_of_captures::<Traced>();
+        keeper_laws::laws_of_telling::<Traced>();
+        keeper_laws::laws_of_taking::<Traced>();
+        keeper_laws::laws_of_lives::<Traced>();
+        worker_laws::words_of_stripes();
+        worker_laws::steps_of_the_keeper();
         let mut steps = Watched {
             words: &mut self.words,
             pass: WORKERS,
@@ -112,7 +110,7 @@ impl Life {
         requires { (w : World) × IsLife w self.old }
         ensures { (w : World) → IsLife w self.old → Did w (event.Sweep) result self.new }
     {
-        laws_of_telling::<Traced>();
+        keeper_laws::laws_of_telling::<Traced>();
         if self.keeper.is_walking() {
             return Outcome::Skipped;
         }
@@ -124,7 +122,7 @@ impl Life {
         requires { (w : World) × IsLife w self.old }
         ensures { (w : World) → IsLife w self.old → Did w (event.KeeperStep) result self.new }
     {
-        laws_of_telling::<Traced>();
+        keeper_laws::laws_of_telling::<Traced>();
         if self.keeper.capture.is_some() {
             return self.step_capture(0);
         }
@@ -138,7 +136,7 @@ impl Life {
         requires { (w : World) × IsLife w self.old }
         ensures { (w : World) → IsLife w self.old → Did w (event.Capture stripe) result self.new }
     {
-        laws_of_telling::<Traced>();
+        keeper_laws::laws_of_telling::<Traced>();
         if self.keeper.is_walking() {
             return Outcome::Skipped;
         }

@@ -2,7 +2,7 @@
 ghost use Rattle.sim_keeper.specs.Laws.{AnswersAreMet, BeginAnswers, BrokenAnswers, CallsAreTold, CaptureAnswers, CaptureRefuses, CaptureStepAnswers, CaptureTakesNone, CheckpointAnswers, CheckpointCallIsTold, CheckpointFails, CountsAreTold, FailAnswers, FilesAreTold, FrontIsSeen, LogAnswers, LogCallIsTold, LogFails, OpeningStands, PublishAnswers, SealAnswers, StageAnswers, StagedIsTold, StripeIsTold, SweepAnswers, SweepStepAnswers, SweepTakesNone, SweepTakesOutbox, TooManyAreTooLarge, WalkIsTold, WorkersLeaveKeeper};
 
 use disk_model::Disk;
-use sim_rules::laws::laws_of_runs;
+use sim_rules::laws;
 
 /// A DURABLE gives the committed count, and a FAIL is remembered.
 pub fn laws_of_counts<D: Disk>()
@@ -87,5 +87,5 @@ pub fn laws_of_lives<D: Disk>()
 pub fn laws_of_answers<D: Disk>()
     ensures met { AnswersAreMet D.states }
 {
-    laws_of_runs();
+    laws::laws_of_runs();
 }

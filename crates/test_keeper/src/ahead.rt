@@ -1,7 +1,5 @@
 //! Stops of a log that is written ahead.
-ghost use Rattle.std.specs.Prelude.{List};
-ghost use Rattle.map_types.specs.declared.commands.Command.{Command};
-ghost use Rattle.flusher.specs.Fitting.{Fits};
+ghost use Rattle.flusher.specs.Fitting.{IsKept};
 
 use crate::batches::{longest, make_often};
 use crate::checkpoints::commit_most;
@@ -40,8 +38,8 @@ fn step_ninth<D: Disk, R: Wait, S: Steps>(
     ahead: usize,
     times: u32,
 ) -> Result<(), Refusal>
-    requires { (done : List Command)
-        × Fits D.states D.honest (S.stripe_count steps.old) done keeper.old (S.recorded steps.old) }
+    requires { IsKept D.states D.honest (S.stripe_count steps.old) keeper.old
+        (S.recorded steps.old) }
 {
     let _count = keeper.sweep(rt, steps)?;
     let _eight = commit_most(keeper, steps, 8)?;

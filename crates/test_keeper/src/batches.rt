@@ -1,8 +1,8 @@
 //! Batches at their limits, and where they begin.
-ghost use Rattle.std.specs.Prelude.{◌≡◌, ◌<◌, List, None};
+ghost use Rattle.std.specs.Prelude.{◌≡◌, ◌<◌, None};
 ghost use Rattle.map_types.specs.declared.commands.Command.{Command};
 ghost use Rattle.stripe_locks.specs.Passes.{recorded, IsPassOf};
-ghost use Rattle.flusher.specs.Fitting.{Fits};
+ghost use Rattle.flusher.specs.Fitting.{IsKept};
 
 use crate::stores::{MOST, join, join_as, make_once, put, put_by, sixteen, sweep_and_commit};
 use disk_model::{Disk, MemDisk};
@@ -80,8 +80,8 @@ fn stage_twice<D: Disk, R: Wait, S: Steps>(
     keeper: &mut Keeper<D>,
     steps: &mut S,
 ) -> Result<(u32, usize, u32), Refusal>
-    requires { (done : List Command)
-        × Fits D.states D.honest (S.stripe_count steps.old) done keeper.old (S.recorded steps.old) }
+    requires { IsKept D.states D.honest (S.stripe_count steps.old) keeper.old
+        (S.recorded steps.old) }
 {
     let first = sweep_and_commit(rt, keeper, steps)?;
     let gate = keeper.log.gate();
@@ -141,8 +141,8 @@ fn stage_one_stripe<D: Disk, S: Steps>(
     steps: &mut S,
     stripe: usize,
 ) -> Result<u32, Refusal>
-    requires kept { (done : List Command)
-        × Fits D.states D.honest (S.stripe_count steps.old) done keeper.old (S.recorded steps.old) }
+    requires kept { IsKept D.states D.honest (S.stripe_count steps.old) keeper.old
+        (S.recorded steps.old) }
     requires within { stripe < S.stripe_count steps.old }
 {
     if keeper.is_walking() {

@@ -1,9 +1,8 @@
 //! Checkpoints of a store in use, and what an opening finds after them.
-ghost use Rattle.std.specs.Prelude.{◌≡◌, ◌<◌, ℕ, List, None};
-ghost use Rattle.map_types.specs.declared.commands.Command.{Command};
-ghost use Rattle.ticket_order.specs.declared.record.Record.{Record};
+ghost use Rattle.std.specs.Prelude.{◌≡◌, ◌<◌, None};
+ghost use Rattle.ticket_order.specs.StepRules.{IsOfSamePass};
 ghost use Rattle.stripe_locks.specs.Passes.{recorded, IsPassOf};
-ghost use Rattle.flusher.specs.Fitting.{Fits};
+ghost use Rattle.flusher.specs.Fitting.{FitsFurther, IsFitting, IsKept};
 
 use crate::stores::{advance_times, join, put_by, rejoin};
 use atomic_methods::Part;
@@ -30,11 +29,8 @@ const CHECKPOINT: [u8; 84] = [
 
 // Makes `times` device calls of the checkpoint.
 pub(crate) fn write_times<D: Disk>(keeper: &mut Keeper<D>, times: u32)
-    requires { (n : ℕ) × (done : List Command) × (p : Record)
-        × Fits D.states D.honest n done keeper.old p }
-    ensures { (n : ℕ) (p : Record) (done : List Command)
-        → Fits D.states D.honest n done keeper.old p
-        → (more : List Command) × Fits D.states D.honest n more keeper.new p }
+    requires { IsFitting D.states D.honest keeper.old }
+    ensures { FitsFurther D.states D.honest keeper.old keeper.new }
 {
     for _ in 0..times {
         let _phase = checkpoint_walk::advance(keeper);
@@ -43,11 +39,8 @@ pub(crate) fn write_times<D: Disk>(keeper: &mut Keeper<D>, times: u32)
 
 // Begins a checkpoint, with its log, and makes its device calls up to the first section.
 fn begin_with_log<D: Disk>(keeper: &mut Keeper<D>) -> Result<(), Refusal>
-    requires { (n : ℕ) × (done : List Command) × (p : Record)
-        × Fits D.states D.honest n done keeper.old p }
-    ensures { (n : ℕ) (p : Record) (done : List Command)
-        → Fits D.states D.honest n done keeper.old p
-        → (more : List Command) × Fits D.states D.honest n more keeper.new p }
+    requires { IsFitting D.states D.honest keeper.old }
+    ensures { FitsFurther D.states D.honest keeper.old keeper.new }
 {
     begin(keeper)?;
     advance_times(keeper, 6);
@@ -62,11 +55,11 @@ pub(crate) fn capture_one<D: Disk, R: Wait, S: Steps>(
     steps: &mut S,
     stripe: usize,
 ) -> Result<u64, Refusal>
-    requires { (done : List Command)
-        × Fits D.states D.honest (S.stripe_count steps.old) done keeper.old (S.recorded steps.old) }
-    ensures kept { (done : List Command)
-        × Fits D.states D.honest (S.stripe_count steps.new) done keeper.new (S.recorded steps.new) }
-    ensures place { S.place steps.new ≡ S.place steps.old }
+    requires { IsKept D.states D.honest (S.stripe_count steps.old) keeper.old
+        (S.recorded steps.old) }
+    ensures kept { IsKept D.states D.honest (S.stripe_count steps.new) keeper.new
+        (S.recorded steps.new) }
+    ensures pass { IsOfSamePass S.place S.stripe_count steps.old steps.new }
 {
     if keeper.is_walking() {
         return Err(Refusal::WrongPhase);
@@ -82,11 +75,11 @@ pub(crate) fn commit_most<D: Disk, S: Steps>(
     steps: &mut S,
     most: u32,
 ) -> Result<u32, Refusal>
-    requires { (done : List Command)
-        × Fits D.states D.honest (S.stripe_count steps.old) done keeper.old (S.recorded steps.old) }
-    ensures kept { (done : List Command)
-        × Fits D.states D.honest (S.stripe_count steps.new) done keeper.new (S.recorded steps.new) }
-    ensures place { S.place steps.new ≡ S.place steps.old }
+    requires { IsKept D.states D.honest (S.stripe_count steps.old) keeper.old
+        (S.recorded steps.old) }
+    ensures kept { IsKept D.states D.honest (S.stripe_count steps.new) keeper.new
+        (S.recorded steps.new) }
+    ensures pass { IsOfSamePass S.place S.stripe_count steps.old steps.new }
 {
     let staged = keeper.stage_batch(most)?;
     advance_times(keeper, 4);
@@ -122,11 +115,11 @@ fn walk<D: Disk, R: Wait, S: Steps>(
     stripes: &Stripes,
     worker: &mut Pass,
 ) -> Result<Walked, Refusal>
-    requires kept { (done : List Command)
-        × Fits D.states D.honest (S.stripe_count steps.old) done keeper.old (S.recorded steps.old) }
+    requires kept { IsKept D.states D.honest (S.stripe_count steps.old) keeper.old
+        (S.recorded steps.old) }
     requires own { IsPassOf stripes.now worker.old }
     requires free { (recorded worker.old).holding ≡ None }
-    ensures place { S.place steps.new ≡ S.place steps.old }
+    ensures pass { IsOfSamePass S.place S.stripe_count steps.old steps.new }
 {
     begin_with_log(keeper)?;
     let first = capture_one(rt, keeper, steps, 0)?;
@@ -227,9 +220,9 @@ fn write_half<D: Disk, R: Wait, S: Steps>(
     keeper: &mut Keeper<D>,
     steps: &mut S,
 ) -> Result<u64, Refusal>
-    requires { (done : List Command)
-        × Fits D.states D.honest (S.stripe_count steps.old) done keeper.old (S.recorded steps.old) }
-    ensures place { S.place steps.new ≡ S.place steps.old }
+    requires { IsKept D.states D.honest (S.stripe_count steps.old) keeper.old
+        (S.recorded steps.old) }
+    ensures pass { IsOfSamePass S.place S.stripe_count steps.old steps.new }
 {
     begin_with_log(keeper)?;
     capture_one(rt, keeper, steps, 0)
@@ -266,8 +259,8 @@ fn refused_in_rotation<D: Disk, S: Steps>(
     keeper: &mut Keeper<D>,
     steps: &mut S,
 ) -> Result<[u8; 4], Refusal>
-    requires { (done : List Command)
-        × Fits D.states D.honest (S.stripe_count steps.old) done keeper.old (S.recorded steps.old) }
+    requires { IsKept D.states D.honest (S.stripe_count steps.old) keeper.old
+        (S.recorded steps.old) }
 {
     begin(keeper)?;
     let again = number_of(begin(keeper));

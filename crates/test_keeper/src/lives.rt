@@ -1,7 +1,7 @@
 //! A checkpoint over two lives of a store.
-ghost use Rattle.std.specs.Prelude.{◌≡◌, ◌<◌, List};
-ghost use Rattle.map_types.specs.declared.commands.Command.{Command};
-ghost use Rattle.flusher.specs.Fitting.{Fits};
+ghost use Rattle.std.specs.Prelude.{◌<◌};
+ghost use Rattle.flusher.specs.Fitting.{IsKept};
+ghost use Rattle.ticket_order.specs.StepRules.{IsOfSamePass};
 
 use crate::checkpoints::{capture_one, commit_most, reads, write_times};
 use crate::stores::{advance_times, put_by, rejoin};
@@ -22,11 +22,11 @@ fn sweep_one<D: Disk, R: Wait, S: Steps>(
     keeper: &mut Keeper<D>,
     steps: &mut S,
 ) -> Result<u32, Refusal>
-    requires { (done : List Command)
-        × Fits D.states D.honest (S.stripe_count steps.old) done keeper.old (S.recorded steps.old) }
-    ensures kept { (done : List Command)
-        × Fits D.states D.honest (S.stripe_count steps.new) done keeper.new (S.recorded steps.new) }
-    ensures place { S.place steps.new ≡ S.place steps.old }
+    requires { IsKept D.states D.honest (S.stripe_count steps.old) keeper.old
+        (S.recorded steps.old) }
+    ensures kept { IsKept D.states D.honest (S.stripe_count steps.new) keeper.new
+        (S.recorded steps.new) }
+    ensures pass { IsOfSamePass S.place S.stripe_count steps.old steps.new }
 {
     let _count = keeper.sweep(rt, steps)?;
     commit_most(keeper, steps, 1)
@@ -38,9 +38,9 @@ fn rotate<D: Disk, R: Wait, S: Steps>(
     keeper: &mut Keeper<D>,
     steps: &mut S,
 ) -> Result<(), Refusal>
-    requires { (done : List Command)
-        × Fits D.states D.honest (S.stripe_count steps.old) done keeper.old (S.recorded steps.old) }
-    ensures place { S.place steps.new ≡ S.place steps.old }
+    requires { IsKept D.states D.honest (S.stripe_count steps.old) keeper.old
+        (S.recorded steps.old) }
+    ensures pass { IsOfSamePass S.place S.stripe_count steps.old steps.new }
 {
     let _one = sweep_one(rt, keeper, steps)?;
     begin(keeper)?;
@@ -70,9 +70,9 @@ fn seal_one<D: Disk, R: Wait, S: Steps>(
     keeper: &mut Keeper<D>,
     steps: &mut S,
 ) -> Result<u64, Refusal>
-    requires { (done : List Command)
-        × Fits D.states D.honest (S.stripe_count steps.old) done keeper.old (S.recorded steps.old) }
-    ensures place { S.place steps.new ≡ S.place steps.old }
+    requires { IsKept D.states D.honest (S.stripe_count steps.old) keeper.old
+        (S.recorded steps.old) }
+    ensures pass { IsOfSamePass S.place S.stripe_count steps.old steps.new }
 {
     let _one = sweep_one(rt, keeper, steps)?;
     begin(keeper)?;

@@ -1,14 +1,14 @@
 //! Replies that wait, come, and fail.
-ghost use Rattle.std.specs.Prelude.{◌≡◌, List, None, IfOk};
+ghost use Rattle.std.specs.Prelude.{◌≡◌, None, IfOk};
 ghost use Rattle.std.specs.List.{All};
 ghost use Rattle.map_types.specs.declared.commands.Command.{Command};
 ghost use Rattle.stripe_locks.specs.Holding.{IsHeldOf};
 ghost use Rattle.stripe_locks.specs.Passes.{recorded, IsPassOf};
-ghost use Rattle.flusher.specs.Fitting.{Fits};
+ghost use Rattle.flusher.specs.Fitting.{IsKept};
 
 use crate::stores::{commit, join, make_once, put, put_by, sixteen, sweep_and_commit};
 use disk_model::{Disk, Failure, Fill, MemDisk};
-use flusher::{Keeper, committed_were_taken, stops_of_a_keeper};
+use flusher::{Keeper, laws};
 use java_hash::StripeCount;
 use map_types::{Command, Key, Question, Read, Refusal, Reply, Value};
 use std::alloc::Global;
@@ -96,10 +96,10 @@ fn publish_all<D: Disk, R: Wait, S: Steps>(
     keeper: &mut Keeper<D>,
     steps: &mut S,
 ) -> Result<u32, Refusal>
-    requires { (done : List Command)
-        × Fits D.states D.honest (S.stripe_count steps.old) done keeper.old (S.recorded steps.old) }
-    ensures { (done : List Command)
-        × Fits D.states D.honest (S.stripe_count steps.new) done keeper.new (S.recorded steps.new) }
+    requires { IsKept D.states D.honest (S.stripe_count steps.old) keeper.old
+        (S.recorded steps.old) }
+    ensures { IsKept D.states D.honest (S.stripe_count steps.new) keeper.new
+        (S.recorded steps.new) }
 {
     let count = sweep_and_commit(rt, keeper, steps);
     if keeper.is_walking() {
@@ -157,8 +157,8 @@ fn release_in_time<D: Disk, R: Wait, S: Steps>(
     worker: &mut Pass,
     held: Held,
 ) -> Result<Released, Refusal>
-    requires kept { (done : List Command)
-        × Fits D.states D.honest (S.stripe_count steps.old) done keeper.old (S.recorded steps.old) }
+    requires kept { IsKept D.states D.honest (S.stripe_count steps.old) keeper.old
+        (S.recorded steps.old) }
     requires own { IsPassOf stripes.now worker.old }
     requires held { IsHeldOf stripes.now held }
 {
@@ -248,8 +248,8 @@ fn release_all(
 
 // Commits a batch that fails, and makes a FAIL: whether a later commit is refused with 9.
 fn fail_in_commit<D: Disk, R: Wait, S: Steps>(rt: &R, keeper: &mut Keeper<D>, steps: &mut S) -> bool
-    requires { (done : List Command)
-        × Fits D.states D.honest (S.stripe_count steps.old) done keeper.old (S.recorded steps.old) }
+    requires { IsKept D.states D.honest (S.stripe_count steps.old) keeper.old
+        (S.recorded steps.old) }
 {
     let _staged = sweep_and_commit(rt, keeper, steps);
     let later = commit(keeper);
@@ -257,8 +257,8 @@ fn fail_in_commit<D: Disk, R: Wait, S: Steps>(rt: &R, keeper: &mut Keeper<D>, st
         return false;
     }
     keeper.fail(steps);
-    stops_of_a_keeper(keeper);
-    committed_were_taken(keeper);
+    laws::stops_of_a_keeper(keeper);
+    laws::committed_were_taken(keeper);
     matches!(later, Err(Refusal::Failed))
 }
 
@@ -273,8 +273,8 @@ fn make_ten<D: Disk, R: Wait, S: Steps>(
     all: &mut Vec<Held>,
 ) -> Result<(), Refusal>
     // The invariant holds, the worker is free, the replies are of its stripes.
-    requires kept { (done : List Command)
-        × Fits D.states D.honest (S.stripe_count steps.old) done keeper.old (S.recorded steps.old) }
+    requires kept { IsKept D.states D.honest (S.stripe_count steps.old) keeper.old
+        (S.recorded steps.old) }
     requires own { IsPassOf stripes.now worker.old }
     requires free { (recorded worker.old).holding ≡ None }
     requires all { All (IsHeldOf stripes.now) all.old.items }
@@ -282,8 +282,8 @@ fn make_ten<D: Disk, R: Wait, S: Steps>(
     // The invariant goes on, and the replies are of these stripes.
     ensures own { IsPassOf stripes.now worker.new }
     ensures all { All (IsHeldOf stripes.now) all.new.items }
-    ensures kept { (done : List Command)
-        × Fits D.states D.honest (S.stripe_count steps.new) done keeper.new (S.recorded steps.new) }
+    ensures kept { IsKept D.states D.honest (S.stripe_count steps.new) keeper.new
+        (S.recorded steps.new) }
 {
     make_times(stripes, worker, command, 5, all)?;
     let _count = publish_all(rt, keeper, steps)?;
@@ -309,8 +309,8 @@ fn release_twice<D: Disk, R: Wait, S: Steps>(
     worker: &mut Pass,
     all: Vec<Held>,
 ) -> Result<([usize; 3], bool), Refusal>
-    requires kept { (done : List Command)
-        × Fits D.states D.honest (S.stripe_count steps.old) done keeper.old (S.recorded steps.old) }
+    requires kept { IsKept D.states D.honest (S.stripe_count steps.old) keeper.old
+        (S.recorded steps.old) }
     requires own { IsPassOf stripes.now worker.old }
     requires all { All (IsHeldOf stripes.now) all.items }
 {
@@ -333,8 +333,8 @@ fn lose_five<D: Disk, R: Wait, S: Steps>(
     worker: &mut Pass,
     command: &Command,
 ) -> Result<([usize; 3], bool), Refusal>
-    requires kept { (done : List Command)
-        × Fits D.states D.honest (S.stripe_count steps.old) done keeper.old (S.recorded steps.old) }
+    requires kept { IsKept D.states D.honest (S.stripe_count steps.old) keeper.old
+        (S.recorded steps.old) }
     requires own { IsPassOf stripes.now worker.old }
     requires free { (recorded worker.old).holding ≡ None }
 {

@@ -1,10 +1,9 @@
 //! A keeper over shared stripes, on a disk in memory, and what tests have it do.
-ghost use Rattle.std.specs.Prelude.{◌≡◌, ℕ, List, None, [], IfOk};
+ghost use Rattle.std.specs.Prelude.{◌≡◌, None, [], IfOk};
 ghost use Rattle.map_types.specs.declared.commands.Command.{Command};
-ghost use Rattle.ticket_order.specs.declared.record.Record.{Record};
 ghost use Rattle.stripe_locks.specs.Holding.{IsHeldOf};
 ghost use Rattle.stripe_locks.specs.Passes.{begun_with, recorded, stripe_count, IsPassOf};
-ghost use Rattle.flusher.specs.Fitting.{Fits, IsUnused};
+ghost use Rattle.flusher.specs.Fitting.{Fits, FitsFurther, IsFitting, IsKept, IsUnused};
 
 use disk_model::{Disk, MemDisk};
 use flusher::Keeper;
@@ -151,11 +150,8 @@ pub(crate) const MOST: u32 = 100_000;
 
 // Makes `times` steps of the log.
 pub(crate) fn advance_times<D: Disk>(keeper: &mut Keeper<D>, times: u32)
-    requires { (n : ℕ) × (done : List Command) × (p : Record)
-        × Fits D.states D.honest n done keeper.old p }
-    ensures { (n : ℕ) (p : Record) (done : List Command)
-        → Fits D.states D.honest n done keeper.old p
-        → (more : List Command) × Fits D.states D.honest n more keeper.new p }
+    requires { IsFitting D.states D.honest keeper.old }
+    ensures { FitsFurther D.states D.honest keeper.old keeper.new }
 {
     for _ in 0..times {
         let _phase = keeper.advance();
@@ -164,11 +160,8 @@ pub(crate) fn advance_times<D: Disk>(keeper: &mut Keeper<D>, times: u32)
 
 // Stages a batch, and makes the four steps that commit it.
 pub(crate) fn commit<D: Disk>(keeper: &mut Keeper<D>) -> Result<u32, Refusal>
-    requires { (n : ℕ) × (done : List Command) × (p : Record)
-        × Fits D.states D.honest n done keeper.old p }
-    ensures { (n : ℕ) (p : Record) (done : List Command)
-        → Fits D.states D.honest n done keeper.old p
-        → (more : List Command) × Fits D.states D.honest n more keeper.new p }
+    requires { IsFitting D.states D.honest keeper.old }
+    ensures { FitsFurther D.states D.honest keeper.old keeper.new }
 {
     let staged = keeper.stage_batch(MOST);
     advance_times(keeper, 4);
@@ -181,10 +174,10 @@ pub(crate) fn sweep_and_commit<D: Disk, R: Wait, S: Steps>(
     keeper: &mut Keeper<D>,
     steps: &mut S,
 ) -> Result<u32, Refusal>
-    requires { (done : List Command)
-        × Fits D.states D.honest (S.stripe_count steps.old) done keeper.old (S.recorded steps.old) }
-    ensures { (done : List Command)
-        × Fits D.states D.honest (S.stripe_count steps.new) done keeper.new (S.recorded steps.new) }
+    requires { IsKept D.states D.honest (S.stripe_count steps.old) keeper.old
+        (S.recorded steps.old) }
+    ensures { IsKept D.states D.honest (S.stripe_count steps.new) keeper.new
+        (S.recorded steps.new) }
 {
     let _count = keeper.sweep(rt, steps)?;
     commit(keeper)

@@ -19,6 +19,11 @@ use Rattle.ticket_order.specs.declared.record.Record.{Record}
 use Rattle.ticket_order.specs.Records.{IsWithin, reach, past, missing, taking, looking, drawing, giving, answering, publishing, seeing, failing, living, part_held, last_held, sections_for, outbox_for}
 use Rattle.ticket_order.specs.Legality.{history_of, IsLegalCall, IsLegalSection, entries_from, entries_of, last_of}
 
+-- What made the steps between is the same pass, over as many stripes.
+abbrev pub IsOfSamePass : {S : Type 0} → (S → List ℕ) → (S → ℕ) → S → S → Type 0
+IsOfSamePass place stripe_count before after =
+    (place after ≡ place before) × (stripe_count after ≡ stripe_count before)
+
 -- the greatest position seen becomes n if it was less, and stays if it wasn't
 abbrev pub Rises : Record → ℕ → Record → Type 0
 Rises v n w = ((n ≤ reach v) × (reach w ≡ reach v)) ⊎ ((reach v ≤ n) × (reach w ≡ n))

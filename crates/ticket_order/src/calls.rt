@@ -4,7 +4,7 @@ ghost use Rattle.java_hash.specs.Hash.{hash_of, spread_of};
 ghost use Rattle.java_hash.specs.Stripes.{stripe_of};
 ghost use Rattle.ticket_order.specs.declared.record.Record.{Record};
 ghost use Rattle.ticket_order.specs.Records.{IsWithin, past};
-ghost use Rattle.ticket_order.specs.StepRules.{Rises, TakesStripe};
+ghost use Rattle.ticket_order.specs.StepRules.{IsOfSamePass, Rises, TakesStripe};
 ghost use Rattle.ticket_order.specs.Calls.{FindsAlive, GivesBack, HasFound, IsNotBusy, LeavesRead, MakesCall, MakesRead, ReadsAt, RefusesChange, RefusesRead, Releases, TurnsDown};
 ghost use Rattle.ticket_order.specs.Walks.{ToChange, FitsChange};
 
@@ -32,8 +32,7 @@ pub fn try_call<S: Steps>(steps: &mut S, alloc: Global, command: Command) -> Res
     ensures refused { IfErr result (λ refusal.
         TurnsDown (S.stripe_count steps.old) (S.recorded steps.old) command refusal
         (S.recorded steps.new)) }
-    ensures place { S.place steps.new ≡ S.place steps.old }
-    ensures stripes { S.stripe_count steps.new ≡ S.stripe_count steps.old }
+    ensures pass { IsOfSamePass S.place S.stripe_count steps.old steps.new }
 {
     if command.key.is_above(steps.key_limit()) {
         drop(command);
@@ -64,8 +63,7 @@ pub fn try_read<S: Steps>(steps: &mut S, read: Read) -> Result<Held, Refusal>
     ensures refused { IfErr result (λ refusal.
         RefusesRead (S.recorded steps.old) (stripe_of (S.stripe_count steps.old) read.key) refusal
         (S.recorded steps.new)) }
-    ensures place { S.place steps.new ≡ S.place steps.old }
-    ensures stripes { S.stripe_count steps.new ≡ S.stripe_count steps.old }
+    ensures pass { IsOfSamePass S.place S.stripe_count steps.old steps.new }
 {
     let spread = spread_of(read.key.as_str());
     let stripe = stripe_of_spread(spread, steps.stripes());
@@ -80,8 +78,7 @@ pub fn try_read<S: Steps>(steps: &mut S, read: Read) -> Result<Held, Refusal>
 pub fn release<S: Steps>(steps: &mut S, held: Held) -> Released
     ensures released { Releases held.position held.reply (S.recorded steps.old) result
         (S.recorded steps.new) }
-    ensures place { S.place steps.new ≡ S.place steps.old }
-    ensures stripes { S.stripe_count steps.new ≡ S.stripe_count steps.old }
+    ensures pass { IsOfSamePass S.place S.stripe_count steps.old steps.new }
 {
     if held.position.number() <= steps.see() {
         return Released::Reply(held.position, held.reply);
@@ -130,8 +127,7 @@ pub fn call_on<S: Steps>(
     ensures not_busy { IfErr result IsNotBusy }
 
     // It is the same pass, over as many stripes.
-    ensures place { S.place steps.new ≡ S.place steps.old }
-    ensures stripes { S.stripe_count steps.new ≡ S.stripe_count steps.old }
+    ensures pass { IsOfSamePass S.place S.stripe_count steps.old steps.new }
 {
     let stripe = stripe_of_spread(spread, steps.stripes());
     change_on(
@@ -182,8 +178,7 @@ pub fn read_on<S: Steps>(
     ensures not_busy { IfErr result IsNotBusy }
 
     // It is the same pass, over as many stripes.
-    ensures place { S.place steps.new ≡ S.place steps.old }
-    ensures stripes { S.stripe_count steps.new ≡ S.stripe_count steps.old }
+    ensures pass { IsOfSamePass S.place S.stripe_count steps.old steps.new }
 {
     let stripe = stripe_of_spread(spread, steps.stripes());
     read_from(steps, read, spread, Taken { stripe, content })
@@ -220,8 +215,7 @@ fn change_on<S: Steps>(
     ensures not_busy { IfErr result IsNotBusy }
 
     // It is the same pass, over as many stripes.
-    ensures place { S.place steps.new ≡ S.place steps.old }
-    ensures stripes { S.stripe_count steps.new ≡ S.stripe_count steps.old }
+    ensures pass { IsOfSamePass S.place S.stripe_count steps.old steps.new }
 {
     if !steps.alive() {
         drop(new);
@@ -248,8 +242,7 @@ fn change_ready<S: Steps>(steps: &mut S, new: NewChange, taken: Taken, prepared:
         (ChangeStage.IsReady new taken prepared) (S.recorded steps.old) →
         MakesCall (S.stripe_count steps.old) b new.command
         result.position result.reply (S.recorded steps.new) }
-    ensures place { S.place steps.new ≡ S.place steps.old }
-    ensures stripes { S.stripe_count steps.new ≡ S.stripe_count steps.old }
+    ensures pass { IsOfSamePass S.place S.stripe_count steps.old steps.new }
 {
     let ticket = steps.ticket(&new.command);
     let (taken, held) = new.drawn(taken, prepared, ticket);
@@ -290,8 +283,7 @@ fn read_from<S: Steps>(
     ensures not_busy { IfErr result IsNotBusy }
 
     // It is the same pass, over as many stripes.
-    ensures place { S.place steps.new ≡ S.place steps.old }
-    ensures stripes { S.stripe_count steps.new ≡ S.stripe_count steps.old }
+    ensures pass { IsOfSamePass S.place S.stripe_count steps.old steps.new }
 {
     if !steps.alive() {
         drop(read);

@@ -1,6 +1,7 @@
 //! The walk of a capture of one stripe: TAKE, LOOK, GIVE.
 ghost use Rattle.std.specs.Prelude.{◌≡◌, ℕ, Some, true, false};
 ghost use Rattle.ticket_order.specs.declared.record.Record.{Record};
+ghost use Rattle.ticket_order.specs.StepRules.{IsOfSamePass};
 ghost use Rattle.ticket_order.specs.Walks.{Task, FitsCapture, Next, MakesOne, next_of_capture, HasFewerLeft, left_of_capture, KeepsCaptured, captured_of_capture, FitsStage, holds_of_capture, refusal_of_stage};
 
 use crate::record::Purpose;
@@ -55,8 +56,7 @@ impl CaptureStage {
         ensures captured { KeepsCaptured (captured_of_capture self) result }
 
         // It is the same pass, over as many stripes.
-        ensures place { S.place steps.new ≡ S.place steps.old }
-        ensures stripes { S.stripe_count steps.new ≡ S.stripe_count steps.old }
+        ensures pass { IsOfSamePass S.place S.stripe_count steps.old steps.new }
     {
         match self {
             CaptureStage::Begins(stripe) => match steps.take(stripe) {

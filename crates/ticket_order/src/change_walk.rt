@@ -1,6 +1,7 @@
 //! The walk of a change: TAKE, ALIVE, LOOK, TICKET, GIVE.
 ghost use Rattle.std.specs.Prelude.{◌≡◌, ◌^◌, ◌<◌};
 ghost use Rattle.ticket_order.specs.declared.record.Record.{Record};
+ghost use Rattle.ticket_order.specs.StepRules.{IsOfSamePass};
 ghost use Rattle.ticket_order.specs.Memory.{HasMemory};
 ghost use Rattle.ticket_order.specs.Walks.{Task, FitsChange, Next, MakesOne, next_of_change, HasFewerLeft, left_of_change, HasChanged};
 
@@ -70,8 +71,7 @@ fn draw<S: Steps>(new: NewChange, taken: Taken, prepared: Prepared, steps: &mut 
         result }
 
     // It is the same pass, over as many stripes.
-    ensures place { S.place steps.new ≡ S.place steps.old }
-    ensures stripes { S.stripe_count steps.new ≡ S.stripe_count steps.old }
+    ensures pass { IsOfSamePass S.place S.stripe_count steps.old steps.new }
 {
     let ticket = steps.ticket(&new.command);
     let (taken, held) = new.drawn(taken, prepared, ticket);
@@ -101,8 +101,7 @@ impl ChangeStage {
         ensures shorter { HasFewerLeft (left_of_change self) result }
 
         // It is the same pass, over as many stripes.
-        ensures place { S.place steps.new ≡ S.place steps.old }
-        ensures stripes { S.stripe_count steps.new ≡ S.stripe_count steps.old }
+        ensures pass { IsOfSamePass S.place S.stripe_count steps.old steps.new }
     {
         match self {
             ChangeStage::Begins(new) => {

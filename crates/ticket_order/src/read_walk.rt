@@ -1,6 +1,7 @@
 //! The walk of a read: TAKE, ALIVE, GIVE.
 ghost use Rattle.std.specs.Prelude.{◌≡◌};
 ghost use Rattle.ticket_order.specs.declared.record.Record.{Record};
+ghost use Rattle.ticket_order.specs.StepRules.{IsOfSamePass};
 ghost use Rattle.ticket_order.specs.Walks.{Task, FitsRead, Next, MakesOne, next_of_read, HasFewerLeft, left_of_read};
 
 use crate::held::Held;
@@ -41,8 +42,7 @@ impl ReadStage {
         ensures shorter { HasFewerLeft (left_of_read self) result }
 
         // It is the same pass, over as many stripes.
-        ensures place { S.place steps.new ≡ S.place steps.old }
-        ensures stripes { S.stripe_count steps.new ≡ S.stripe_count steps.old }
+        ensures pass { IsOfSamePass S.place S.stripe_count steps.old steps.new }
     {
         match self {
             ReadStage::Begins(read) => {

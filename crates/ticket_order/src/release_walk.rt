@@ -2,6 +2,7 @@
 //! says no, a SEE once more.
 ghost use Rattle.std.specs.Prelude.{◌≡◌};
 ghost use Rattle.ticket_order.specs.declared.record.Record.{Record};
+ghost use Rattle.ticket_order.specs.StepRules.{IsOfSamePass};
 ghost use Rattle.ticket_order.specs.Walks.{Task, FitsRelease, Next, MakesOne, next_of_release, HasFewerLeft, left_of_release};
 
 use crate::held::{Held, Released};
@@ -36,8 +37,7 @@ impl ReleaseStage {
         ensures shorter { HasFewerLeft (left_of_release self) result }
 
         // It is the same pass, over as many stripes.
-        ensures place { S.place steps.new ≡ S.place steps.old }
-        ensures stripes { S.stripe_count steps.new ≡ S.stripe_count steps.old }
+        ensures pass { IsOfSamePass S.place S.stripe_count steps.old steps.new }
     {
         match self {
             ReleaseStage::Begins(held) => {

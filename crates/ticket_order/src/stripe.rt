@@ -92,9 +92,7 @@ impl Stripe {
     {
         let reply = self.part.act(&command.key, prepared);
         self.last = ticket.position().number();
-        if let Err(_) = self.outbox.push(Entry { ticket, command }) {
-            return reply;
-        }
+        self.outbox.push_reserved(Entry { ticket, command });
         reply
     }
 }

@@ -1,6 +1,7 @@
 //! The walk of a sweep of one stripe: TAKE, GIVE.
 ghost use Rattle.std.specs.Prelude.{◌≡◌, ℕ, Some, true, false};
 ghost use Rattle.ticket_order.specs.declared.record.Record.{Record};
+ghost use Rattle.ticket_order.specs.StepRules.{IsOfSamePass};
 ghost use Rattle.ticket_order.specs.Walks.{Task, FitsSweep, Next, MakesOne, next_of_sweep, HasFewerLeft, left_of_sweep, KeepsEntries, entries_of_sweep, FitsStage, holds_of_sweep, refusal_of_stage};
 
 use crate::record::Purpose;
@@ -43,8 +44,7 @@ impl SweepStage {
         ensures entries { KeepsEntries (entries_of_sweep self) result }
 
         // It is the same pass, over as many stripes.
-        ensures place { S.place steps.new ≡ S.place steps.old }
-        ensures stripes { S.stripe_count steps.new ≡ S.stripe_count steps.old }
+        ensures pass { IsOfSamePass S.place S.stripe_count steps.old steps.new }
     {
         match self {
             SweepStage::Begins(spare, stripe) => match steps.take(stripe) {

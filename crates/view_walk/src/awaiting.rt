@@ -2,6 +2,7 @@
 ghost use Rattle.std.specs.Prelude.{◌≡◌, List};
 ghost use Rattle.ticket_order.specs.declared.record.Record.{Record};
 ghost use Rattle.ticket_order.specs.declared.record.Section.{Section};
+ghost use Rattle.ticket_order.specs.StepRules.{IsOfSamePass};
 ghost use Rattle.ticket_order.specs.Walks.{MakesOne};
 ghost use Rattle.view_walk.specs.Walking.{Fits, Next, next_of_awaiting};
 
@@ -51,8 +52,7 @@ pub(crate) fn step<S: Steps>(
         → Next (S.stripe_count steps.old) b xs result (S.recorded steps.new) }
 
     // The step is made on the same words, by the same pass.
-    ensures place { S.place steps.new ≡ S.place steps.old }
-    ensures stripes { S.stripe_count steps.new ≡ S.stripe_count steps.old }
+    ensures pass { IsOfSamePass S.place S.stripe_count steps.old steps.new }
 {
     match awaiting {
         Awaiting::Seeing => {

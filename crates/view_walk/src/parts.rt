@@ -3,6 +3,7 @@ ghost use Rattle.std.specs.Prelude.{◌≡◌, ◌<◌, ◌++◌, ℕ, List, [],
 ghost use Rattle.std.specs.Option.{option_map};
 ghost use Rattle.ticket_order.specs.declared.record.Record.{Record};
 ghost use Rattle.ticket_order.specs.declared.record.Section.{Section};
+ghost use Rattle.ticket_order.specs.StepRules.{IsOfSamePass};
 ghost use Rattle.ticket_order.specs.Walks.{MakesOne};
 ghost use Rattle.view_walk.specs.Walking.{Fits, Next, given_back, given_back_at, lent_part, lent_sections, mark_awaited, next_kind, stripe_of_take};
 
@@ -147,8 +148,7 @@ impl PartsWalk {
             (S.recorded steps.new) }
 
         // The step is made on the same words, by the same pass.
-        ensures place { S.place steps.new ≡ S.place steps.old }
-        ensures stripes { S.stripe_count steps.new ≡ S.stripe_count steps.old }
+        ensures pass { IsOfSamePass S.place S.stripe_count steps.old steps.new }
     {
         let PartsWalk {
             count,

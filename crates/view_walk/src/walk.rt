@@ -2,6 +2,7 @@
 ghost use Rattle.std.specs.Prelude.{◌≡◌, ◌<◌, ◌++◌, ℕ, List, None, Some, IfOk, IfErr};
 ghost use Rattle.ticket_order.specs.declared.record.Record.{Record};
 ghost use Rattle.ticket_order.specs.declared.record.Section.{Section};
+ghost use Rattle.ticket_order.specs.StepRules.{IsOfSamePass};
 ghost use Rattle.ticket_order.specs.Walks.{MakesOne};
 ghost use Rattle.view_walk.specs.Walking as walking;
 ghost use Rattle.view_walk.specs.Walking.{lent_sections, sections_of, stripe_of_take};
@@ -120,8 +121,7 @@ impl ViewWalk {
             → Next (S.stripe_count steps.old) b result (S.recorded steps.new) }
 
         // The step is made on the same words, by the same pass.
-        ensures place { S.place steps.new ≡ S.place steps.old }
-        ensures stripes { S.stripe_count steps.new ≡ S.stripe_count steps.old }
+        ensures pass { IsOfSamePass S.place S.stripe_count steps.old steps.new }
     {
         let ViewWalk {
             alloc,

@@ -17,7 +17,7 @@ returns-in-Ok-clause-ok g c =
     record {
       begun = b;
       waited = i.waited;
-      gives = subst (λ (n : ℕ). GivesSection n b c.args.stripe c.in-Ok.mark c.args.keeper.now c.try_capture.new.keeper w) i.stripes
+      gives = subst (λ (n : ℕ). GivesSection n b c.args.stripe c.in-Ok.mark c.args.keeper.now c.try_capture.new.keeper w) i.pass.1
           (subst (λ (k : Keeper g.row.D.Denot). GivesSection (g.S.Steps.stripe_count c.loop-try.steps) b c.args.stripe c.in-Ok.mark k c.try_capture.new.keeper w) i.keeper c.in-Ok.ensures.ok);
     }
 
@@ -33,8 +33,7 @@ loop-try-preserved g c =
       first = inr (subst (λ (k : Keeper g.row.D.Denot). MayCapture c.args.stripe k) i.keeper (may_capture c.args.stripe c.loop-try.keeper c.in-Err.refusal c.in-Busy.stripe c.in-Busy.is
           (λ broken. same_refusal c.in-Err.refusal Failed (c.in-Err.ensures.failed.1 broken)) (λ wrong. same_refusal c.in-Err.refusal WrongPhase (c.in-Err.ensures.wrong_phase.1 wrong))));
       fits = λ done f. c.in-Err.ensures.fits done (i.fits done f);
-      place = c.in-Err.ensures.place ∙ i.place;
-      stripes = c.in-Err.ensures.stripes ∙ i.stripes;
+      pass = (c.in-Err.ensures.pass.0 ∙ i.pass.0, c.in-Err.ensures.pass.1 ∙ i.pass.1);
     }
 
 pub returns-in_default-clause-first : goal.returns-in_default-clause-first
@@ -70,7 +69,7 @@ returns-in-Ok-clause-given g c = λ done sections f h given.
     let w = g.S.Steps.recorded c.try_capture.new.steps in
     let there : HasGiven c.loop-try.keeper.checkpoint sections (now (states c.loop-try.keeper.disk)) = subst (λ (k : Keeper g.row.D.Denot). HasGiven k.checkpoint sections (now (states k.disk))) (sym i.keeper) given in
     let honest = subst (λ (k : Keeper g.row.D.Denot). g.D.Disk.honest k.disk) (sym i.keeper) h in
-    subst (λ (n : ℕ). GivesPart states n (history_of w) c.in-Ok.mark sections c.try_capture.new.keeper) i.stripes (c.in-Ok.ensures.given done sections (i.fits done f) honest there)
+    subst (λ (n : ℕ). GivesPart states n (history_of w) c.in-Ok.mark sections c.try_capture.new.keeper) i.pass.1 (c.in-Ok.ensures.given done sections (i.fits done f) honest there)
 
 pub returns-in-Ok-clause-failed : goal.returns-in-Ok-clause-failed
 returns-in-Ok-clause-failed g c = subst (λ (x : Keeper g.row.D.Denot). ◌≡◌ {A = Result ℕ Refusal} (Ok c.in-Ok.mark) (Err Failed) ↔ (x.is_broken ≡ true)) c.loop-try.invariant.keeper c.in-Ok.ensures.failed

@@ -1,7 +1,7 @@
-use Rattle.std.proofs.Common.{◌≡◌, ◌⊎◌, List}
-use Rattle.map_types.specs.declared.commands.Command.{Command}
-use Rattle.flusher.specs.Fitting.{Fits}
+use Rattle.std.proofs.Common.{◌≡◌, ◌⊎◌}
+use Rattle.flusher.specs.Fitting.{FitsOn}
 use Rattle.checkpoint_walk.specs.Walking.{HasWaited, MayCapture}
+use Rattle.ticket_order.specs.StepRules.{IsOfSamePass}
 use Rattle.checkpoint_walk.proofs.captures.capture.Given as goal
 
 abbrev pub invariant-loop-try : goal.invariant-loop-try
@@ -11,8 +11,6 @@ invariant-loop-try g l = record {
   keeper : l.keeper ≡ l.initial.keeper;
   waited : HasWaited l.stripe (g.S.Steps.recorded l.initial.steps) (g.S.Steps.recorded l.steps);
   first : (l.steps ≡ l.initial.steps) ⊎ MayCapture l.stripe l.initial.keeper;
-  fits : (done : List Command) → Fits g.D.Disk.states g.D.Disk.honest (g.S.Steps.stripe_count l.initial.steps) done l.initial.keeper (g.S.Steps.recorded l.initial.steps)
-      → Fits g.D.Disk.states g.D.Disk.honest (g.S.Steps.stripe_count l.steps) done l.keeper (g.S.Steps.recorded l.steps);
-  place : g.S.Steps.place l.steps ≡ g.S.Steps.place l.initial.steps;
-  stripes : g.S.Steps.stripe_count l.steps ≡ g.S.Steps.stripe_count l.initial.steps;
+  fits : FitsOn g.D.Disk.states g.D.Disk.honest g.S.Steps.stripe_count g.S.Steps.recorded l.initial.keeper l.initial.steps l.keeper l.steps;
+  pass : IsOfSamePass g.S.Steps.place g.S.Steps.stripe_count l.initial.steps l.steps;
 }

@@ -32,7 +32,7 @@ returns-in-Some-clause-fits g c = λ done f.
     let old = c.args.keeper.now in
     let is : old.capture ≡ Some c.in-Some.walk = sym c.take.ensures.value ∙ c.in-Some.is in
     let k = subst (λ (o : Option Walk). FitsBy o states honest n done old p) is f in
-    subst (λ (m : ℕ). FitsWalking states honest m done c.go_on.new.keeper w) (sym c.go_on.ensures.stripes)
+    subst (λ (m : ℕ). FitsWalking states honest m done c.go_on.new.keeper w) (sym c.go_on.ensures.pass.1)
     (walked_fits states honest n done old c.go_on.new.keeper p w c.in-Some.walk c.go_on.result c.steps_of_checkpoints.ensures.section c.pass_goes_on.ensures.fits c.pass_goes_on.ensures.free k
     (walk_moved n c.in-Some.walk old c.go_on.new.keeper c.take.new.self p w c.go_on.result c.go_on.ensures.after))
 

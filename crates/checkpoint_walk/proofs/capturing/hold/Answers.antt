@@ -19,6 +19,5 @@ returns-in_default g c = record {
   none = missed (g.S.Steps.stripe_count c.args.steps.now) (g.S.Steps.recorded c.args.steps.now) c.args.stripe (g.S.Steps.recorded c.step.new.steps) c.step.result
       (c.step.ensures.next (g.S.Steps.recorded c.args.steps.now) (ToCapture c.args.stripe) (c.capture.ensures.fits _ _ c.requires.free c.requires.within))
       c.in_default.not-More (ap length c.step.ensures.one.steps ∙ length_push (g.S.Steps.recorded c.args.steps.now).steps c.step.ensures.one.made);
-  place = c.step.ensures.place;
-  stripes = c.step.ensures.stripes;
+  pass = c.step.ensures.pass;
 }

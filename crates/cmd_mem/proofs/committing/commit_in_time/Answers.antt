@@ -22,8 +22,7 @@ loop-turn-preserved g c =
       kept = c.commit_some.ensures.kept (g.S.Steps.stripe_count c.sweep-swept.new.steps) (g.S.Steps.recorded c.sweep-swept.new.steps) (k.0, c.sweep-swept.ensures.fits k.0 k.1);
       quiet = quiet_then _ _ _ c.loop-turn.invariant.quiet c.sweep-swept.ensures.quiet;
       seen = sees_then _ _ _ c.loop-turn.invariant.seen c.sweep-swept.ensures.seen;
-      place = c.sweep-swept.ensures.place ∙ c.loop-turn.invariant.place;
-      stripes = c.sweep-swept.ensures.stripes ∙ c.loop-turn.invariant.stripes;
+      pass = (c.sweep-swept.ensures.pass.0 ∙ c.loop-turn.invariant.pass.0, c.sweep-swept.ensures.pass.1 ∙ c.loop-turn.invariant.pass.1);
     }
 
 pub returns-in_err-commit_some-clause-kept : goal.returns-in_err-commit_some-clause-kept

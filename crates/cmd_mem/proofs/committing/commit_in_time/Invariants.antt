@@ -1,6 +1,6 @@
-use Rattle.std.proofs.Common.{◌≡◌}
-use Rattle.flusher.specs.Fitting.{HasSeenMore, IsQuiet}
-use Rattle.cmd_mem.specs.Served.{IsIdle, IsKept}
+use Rattle.flusher.specs.Fitting.{HasSeenMore, IsKept, IsQuiet}
+use Rattle.cmd_mem.specs.Served.{IsIdle}
+use Rattle.ticket_order.specs.StepRules.{IsOfSamePass}
 use Rattle.cmd_mem.proofs.committing.commit_in_time.Given as goal
 
 abbrev pub invariant-loop-turn : goal.invariant-loop-turn
@@ -11,6 +11,5 @@ invariant-loop-turn g l = record {
   kept : IsKept g.D.Disk.states g.D.Disk.honest (g.S.Steps.stripe_count l.steps) l.keeper (g.S.Steps.recorded l.steps);
   quiet : IsQuiet (g.S.Steps.recorded l.initial.steps) (g.S.Steps.recorded l.steps);
   seen : HasSeenMore (g.S.Steps.recorded l.initial.steps) (g.S.Steps.recorded l.steps);
-  place : g.S.Steps.place l.steps ≡ g.S.Steps.place l.initial.steps;
-  stripes : g.S.Steps.stripe_count l.steps ≡ g.S.Steps.stripe_count l.initial.steps;
+  pass : IsOfSamePass g.S.Steps.place g.S.Steps.stripe_count l.initial.steps l.steps;
 }

@@ -3,7 +3,8 @@ use Rattle.std.proofs.lemmas.Result.{err_from_is_err_and}
 use Rattle.map_types.specs.declared.refusals.Refusal.TheVariants.{Failed}
 use Rattle.ticket_order.specs.declared.record.Record.{Record}
 use Rattle.connections.specs.Dialogue.{Answer}
-use Rattle.cmd_mem.specs.Served.{AreTaken, IsCommitted, IsKept, IsWithheld}
+use Rattle.flusher.specs.Fitting.{IsKept}
+use Rattle.cmd_mem.specs.Served.{AreTaken, IsCommitted, IsWithheld}
 use Rattle.flusher.proofs.OwnCalls.{sees}
 use Rattle.cmd_mem.proofs.Releasing.{found}
 use Rattle.cmd_mem.proofs.committing.give_out.Goals as goal
@@ -44,5 +45,5 @@ returns-clause-kept g c =
     let commits = subst (λ (q : ℕ). IsCommitted q made p c.make_durable.new.keeper.log) at done.1 in
     let out = found c.args.held.position made p w c.make_durable.new.keeper.log commits c.in-Reply.ensures.released.2 in
     let free = ap (λ (r : Record). r.holding) out.sees.is ∙ c.pass_goes_on.ensures.free n k.0 p k.1 done.0.still in
-    subst (λ (m : ℕ). IsKept g.D.Disk.states g.D.Disk.honest m c.make_durable.new.keeper w) (sym c.release.ensures.stripes)
+    subst (λ (m : ℕ). IsKept g.D.Disk.states g.D.Disk.honest m c.make_durable.new.keeper w) (sym c.release.ensures.pass.1)
     (k.0, c.pass_goes_on.ensures.fits n k.0 p k.1 done.0.still w (sees p out.durable w out.sees).beside free)

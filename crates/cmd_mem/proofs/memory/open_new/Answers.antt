@@ -1,14 +1,13 @@
 use Rattle.std.proofs.Common.{◌≡◌, [], subst, arith}
 use Rattle.ticket_order.specs.declared.record.Record.{Record}
 use Rattle.stripe_locks.specs.Passes.{begun_with}
-use Rattle.flusher.specs.Fitting.{Fits, IsUnused}
+use Rattle.flusher.specs.Fitting.{Fits, IsKept, IsUnused}
 use Rattle.recovery.specs.Formatting.{IsNew}
 use Rattle.recovery.specs.Opening.{OpensWith}
 use Rattle.recovery.specs.LogReading.{RefusesFor, contents_of}
 use Rattle.recovery.specs.Syncing.{Stopped}
 use Rattle.store_layout.specs.Opening.{Refuses, StandsFor}
 use Rattle.cmd_mem.specs.Maps.{CannotOpen, nothing_yet}
-use Rattle.cmd_mem.specs.Served.{IsKept}
 use Rattle.cmd_mem.proofs.NewMaps.{begins_new, both_ok, cannot_open, if_err, if_ok}
 use Rattle.cmd_mem.proofs.memory.open_new.Goals as goal
 

@@ -11,7 +11,7 @@ returns-clause-keeps g c =
     let p = g.S.Steps.recorded c.args.steps.now in
     let w = g.S.Steps.recorded t.new.steps in
     let b = failed g.D.Disk.states g.D.Disk.honest _ c.args.keeper.now t.new.self p w (record { still = k.still; over = k.over; captured = k.captured; sealed = k.sealed }) t.ensures.failed.0 t.ensures.failed.1 in
-    let legal = subst (λ (m : ℕ). AllLegalSections m w w.sections) (sym t.ensures.stripes) b.captured in
+    let legal = subst (λ (m : ℕ). AllLegalSections m w w.sections) (sym t.ensures.pass.1) b.captured in
     c.what_is_kept.ensures _ k.done _ (t.ensures.fits k.done k.fits) b.still b.over legal (λ broken. b.sealed)
 
 pub returns-clause-cause : goal.returns-clause-cause

@@ -29,6 +29,5 @@ returns-in_default g c =
       entries = tt;
       some = tt;
       none = back;
-      place = c.step.ensures.place;
-      stripes = c.step.ensures.stripes;
+      pass = c.step.ensures.pass;
     }

@@ -25,6 +25,5 @@ returns-in_default g c = record {
   none = missed (g.S.Steps.stripe_count c.args.steps.now) (g.S.Steps.recorded c.args.steps.now) c.args.stripe (g.S.Steps.recorded c.step.new.steps) c.step.result c.step.ensures.one.made
       (c.step.ensures.next (g.S.Steps.recorded c.args.steps.now) (ToSweep c.args.stripe) (c.sweep.ensures.fits _ _ c.requires.free c.requires.within c.requires.keeper))
       c.in_default.not-More c.step.ensures.one.steps;
-  place = c.step.ensures.place;
-  stripes = c.step.ensures.stripes;
+  pass = c.step.ensures.pass;
 }

@@ -66,6 +66,5 @@ loop-step-preserved g c =
       under_way = not_over _ _ _ _ c.in-Ok.swept c.in_default.not-Done (goes_on _ _ _ _ _ _ _ _ _ _ e.one.made e.one.steps e.one.kind_is c.in-Ok.ensures.steps_on i.under_way);
       seen = sees_then _ _ _ i.seen e.seen;
       same = e.same ∙ ap (λ (k : Keeper g.row.D.Denot). record k { sweeper = c.sweep_step.new.self.sweeper }) i.same;
-      place = e.place ∙ i.place;
-      stripes = e.stripes ∙ i.stripes;
+      pass = (e.pass.0 ∙ i.pass.0, e.pass.1 ∙ i.pass.1);
     }

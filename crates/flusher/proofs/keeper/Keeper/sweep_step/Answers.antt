@@ -13,9 +13,9 @@ returns-clause-fits g c = λ done f.
     let w = g.S.Steps.recorded c.step.new.steps in
     let gone = done ++ commands_of c.args.self.now.staged.items in
     let calm = calm_step n c.args.self.now.sweeper gone c.step.new.self (g.S.Steps.recorded c.args.steps.now) w c.step.result f.stands c.step.ensures.steps_on in
-    subst (λ (m : ℕ). Fits g.D.Disk.states g.D.Disk.honest m done (record c.args.self.now { sweeper = c.step.new.self }) w) (sym c.step.ensures.stripes)
+    subst (λ (m : ℕ). Fits g.D.Disk.states g.D.Disk.honest m done (record c.args.self.now { sweeper = c.step.new.self }) w) (sym c.step.ensures.pass.1)
     (fits_swept g.D.Disk.states g.D.Disk.honest n done c.args.self.now c.step.new.self (g.S.Steps.recorded c.args.steps.now) w c.beginnings_of_stores.ensures.stays c.laws_of_found.ensures.stays f
-    (subst (λ (m : ℕ). Stands m c.step.new.self gone w) c.step.ensures.stripes (c.step.ensures.stands gone f.stands)) calm.quiet
+    (subst (λ (m : ℕ). Stands m c.step.new.self gone w) c.step.ensures.pass.1 (c.step.ensures.stands gone f.stands)) calm.quiet
     (sees_more n c.args.self.now.sweeper gone c.step.new.self (g.S.Steps.recorded c.args.steps.now) w c.step.result f.stands c.step.ensures.steps_on) calm.next)
 
 pub returns-clause-quiet : goal.returns-clause-quiet

@@ -14,6 +14,6 @@ returns-clause-fits g c = λ done f.
     let p = g.S.Steps.recorded c.args.steps.now in
     let w = g.S.Steps.recorded c.sweep_stripe.new.steps in
     let k = is_free g.D.Disk.states g.D.Disk.honest n done c.args.self.now p f c.requires.rests in
-    subst (λ (m : ℕ). Fits g.D.Disk.states g.D.Disk.honest m done (record c.args.self.now { sweeper = c.sweep_stripe.new.self }) w) (sym c.sweep_stripe.ensures.stripes)
+    subst (λ (m : ℕ). Fits g.D.Disk.states g.D.Disk.honest m done (record c.args.self.now { sweeper = c.sweep_stripe.new.self }) w) (sym c.sweep_stripe.ensures.pass.1)
     (subst (λ (s : Sweeper). Fits g.D.Disk.states g.D.Disk.honest n done (record c.args.self.now { sweeper = s }) w) (sym c.sweep_stripe.ensures.same)
     (fits_tried g.D.Disk.states g.D.Disk.honest n c.args.stripe done c.args.self.now c.sweep_stripe.new.self.in_hand p w c.sweep_stripe.result c.beginnings_of_stores.ensures.stays c.laws_of_found.ensures.stays f c.requires.rests k.free c.sweep_stripe.ensures.ok c.sweep_stripe.ensures.err c.sweep_stripe.ensures.kept))

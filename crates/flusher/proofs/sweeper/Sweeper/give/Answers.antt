@@ -19,7 +19,7 @@ hand_out-requires g c = (c.requires.stands.1.begun, c.args.sweep.stripe, c.with_
 
 pub go_on-requires : goal.go_on-requires
 go_on-requires g c =
-    let same : c.get.result ≡ g.S.Steps.stripe_count c.args.steps.now = c.get.ensures.value ∙ c.stripes.ensures ∙ c.in-Some.ensures.stripes in
+    let same : c.get.result ≡ g.S.Steps.stripe_count c.args.steps.now = c.get.ensures.value ∙ c.stripes.ensures ∙ c.in-Some.ensures.pass.1 in
     subst (λ z. c.args.sweep.stripe < z) (sym same) c.requires.stands.1.between.within
 
 pub returns-in-Some-clause-one : goal.returns-in-Some-clause-one
@@ -40,7 +40,7 @@ returns-in-Some-clause-after g c =
     λ b k. sym (ready.entries c.in-Some.ensures.entries.1) ∙ outbox_handed n b i c.with_room-walk.result p (ready.swept n b i p k) c.in-Some.ensures.entries.1 in
     let collects : Collects c.args.self.now.in_hand (entries_of_walk c.args.walk) c.keep_in_hand.new.self.in_hand =
     ready.room c.in-Some.ensures.entries.1 c.keep_in_hand.new.self.in_hand (subst (λ (es : List Entry). Gains c.with_room-walk.new.in_hand es c.keep_in_hand.new.self.in_hand) is c.keep_in_hand.ensures.hand) in
-    let same : c.get.result ≡ n = c.get.ensures.value ∙ c.stripes.ensures ∙ c.in-Some.ensures.stripes in
+    let same : c.get.result ≡ n = c.get.ensures.value ∙ c.stripes.ensures ∙ c.in-Some.ensures.pass.1 in
     let next : IsNext n c.args.sweep c.keep_in_hand.new.self.in_hand c.go_on.new.self c.go_on.result =
     go_on_next n c.get.result c.args.sweep c.keep_in_hand.new.self c.go_on.new.self c.go_on.result same c.go_on.ensures.more c.go_on.ensures.last in
     after_drain n c.args.sweep c.args.walk c.keep_in_hand.new.self.in_hand c.args.self.now.in_hand c.go_on.new.self p w c.go_on.result next c.requires.stands.1.between.within swept outbox collects
@@ -58,10 +58,10 @@ returns-in-Some-clause-stands g c = λ gone k.
     λ b k. subst (λ (es : List Entry). SweepsStripe n b i es w) is (c.in-Some.ensures.some b i (ready.swept n b i p k)) in
     let collects : Collects c.args.self.now.in_hand (entries_of_walk c.args.walk) c.keep_in_hand.new.self.in_hand =
     ready.room c.in-Some.ensures.entries.1 c.keep_in_hand.new.self.in_hand (subst (λ (es : List Entry). Gains c.with_room-walk.new.in_hand es c.keep_in_hand.new.self.in_hand) is c.keep_in_hand.ensures.hand) in
-    let same : c.get.result ≡ n = c.get.ensures.value ∙ c.stripes.ensures ∙ c.in-Some.ensures.stripes in
+    let same : c.get.result ≡ n = c.get.ensures.value ∙ c.stripes.ensures ∙ c.in-Some.ensures.pass.1 in
     let next : IsNext n c.args.sweep c.keep_in_hand.new.self.in_hand c.go_on.new.self c.go_on.result =
     go_on_next n c.get.result c.args.sweep c.keep_in_hand.new.self c.go_on.new.self c.go_on.result same c.go_on.ensures.more c.go_on.ensures.last in
-    subst (λ (m : ℕ). Stands m c.go_on.new.self gone w) (sym c.in-Some.ensures.stripes) (stands_drained n c.args.sweep c.args.walk c.keep_in_hand.new.self.in_hand c.args.self.now.in_hand c.go_on.new.self p w c.go_on.result gone next k swept collects)
+    subst (λ (m : ℕ). Stands m c.go_on.new.self gone w) (sym c.in-Some.ensures.pass.1) (stands_drained n c.args.sweep c.args.walk c.keep_in_hand.new.self.in_hand c.args.self.now.in_hand c.go_on.new.self p w c.go_on.result gone next k swept collects)
 
 pub returns-in-Some-clause-done : goal.returns-in-Some-clause-done
 returns-in-Some-clause-done g c = λ gone k.
@@ -76,7 +76,7 @@ returns-in-Some-clause-done g c = λ gone k.
     λ b k. subst (λ (es : List Entry). SweepsStripe n b i es w) is (c.in-Some.ensures.some b i (ready.swept n b i p k)) in
     let collects : Collects c.args.self.now.in_hand (entries_of_walk c.args.walk) c.keep_in_hand.new.self.in_hand =
     ready.room c.in-Some.ensures.entries.1 c.keep_in_hand.new.self.in_hand (subst (λ (es : List Entry). Gains c.with_room-walk.new.in_hand es c.keep_in_hand.new.self.in_hand) is c.keep_in_hand.ensures.hand) in
-    let same : c.get.result ≡ n = c.get.ensures.value ∙ c.stripes.ensures ∙ c.in-Some.ensures.stripes in
+    let same : c.get.result ≡ n = c.get.ensures.value ∙ c.stripes.ensures ∙ c.in-Some.ensures.pass.1 in
     let next : IsNext n c.args.sweep c.keep_in_hand.new.self.in_hand c.go_on.new.self c.go_on.result =
     go_on_next n c.get.result c.args.sweep c.keep_in_hand.new.self c.go_on.new.self c.go_on.result same c.go_on.ensures.more c.go_on.ensures.last in
     done_drained n c.args.sweep c.args.walk c.keep_in_hand.new.self.in_hand c.args.self.now.in_hand c.go_on.new.self p w c.go_on.result gone next k swept collects
@@ -108,5 +108,5 @@ returns-in-None-clause-stands g c = λ gone k.
     let back : (b : Record) → IsSwept n b i c.args.walk p → RefusesSweep b i NoMemory w = λ b k. c.in-None.ensures.none b i (ready.swept n b i p k) in
     let sweep_is = ap (λ (s : Sweeper). s.sweep) c.set_walking.ensures ∙ c.requires.sweep in
     let walking_is = ap (λ (s : Sweeper). s.walking) c.set_walking.ensures in
-    subst (λ (m : ℕ). Stands m (record c.set_walking.new.self { in_hand = c.with_room-walk.new.in_hand }) gone w) (sym c.in-None.ensures.stripes)
+    subst (λ (m : ℕ). Stands m (record c.set_walking.new.self { in_hand = c.with_room-walk.new.in_hand }) gone w) (sym c.in-None.ensures.pass.1)
     (stands_put_back n c.args.sweep c.args.walk c.with_room-walk.new.in_hand c.args.self.now.in_hand (record c.set_walking.new.self { in_hand = c.with_room-walk.new.in_hand }) p w gone refl sweep_is walking_is k back ready.same)

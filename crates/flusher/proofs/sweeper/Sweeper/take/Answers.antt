@@ -20,7 +20,7 @@ returns-in-Some-clause-after g c = record {
 pub returns-in-Some-clause-stands : goal.returns-in-Some-clause-stands
 returns-in-Some-clause-stands g c = λ gone k.
     let w = g.S.Steps.recorded c.hold.new.steps in
-    subst (λ (n : ℕ). Stands n c.set_walking.new.self gone w) (sym c.in-Some.ensures.stripes)
+    subst (λ (n : ℕ). Stands n c.set_walking.new.self gone w) (sym c.in-Some.ensures.pass.1)
     (holding_stands (g.S.Steps.stripe_count c.args.steps.now) c.set_walking.new.self c.args.sweep c.in-Some.walk gone w
     (ap (λ (s : Sweeper). s.sweep) c.set_walking.ensures ∙ c.requires.sweep) (ap (λ (s : Sweeper). s.walking) c.set_walking.ensures)
     (subst (λ h. IsHolding (g.S.Steps.stripe_count c.args.steps.now) c.args.sweep c.in-Some.walk h gone w) (sym (ap (λ (s : Sweeper). s.in_hand) c.set_walking.ensures))
@@ -30,7 +30,7 @@ pub returns-in-None-clause-stands : goal.returns-in-None-clause-stands
 returns-in-None-clause-stands g c = λ gone k.
     let n = g.S.Steps.stripe_count c.args.steps.now in
     let w = g.S.Steps.recorded c.hold.new.steps in
-    subst (λ (m : ℕ). Stands m c.set_walking-in-None.new.self gone w) (sym c.in-None.ensures.stripes)
+    subst (λ (m : ℕ). Stands m c.set_walking-in-None.new.self gone w) (sym c.in-None.ensures.pass.1)
     (resting_stands n c.set_walking-in-None.new.self c.args.sweep gone w
     (ap (λ (s : Sweeper). s.sweep) c.set_walking-in-None.ensures ∙ c.requires.sweep) (ap (λ (s : Sweeper). s.walking) c.set_walking-in-None.ensures)
     (subst (λ h. IsBetween n c.args.sweep h gone w) (sym (ap (λ (s : Sweeper). s.in_hand) c.set_walking-in-None.ensures))

@@ -17,7 +17,7 @@ returns c w a =
     let lent = c.new-steps.result in
     let words = c.fail.new.steps.words.now in
     let is = c.new-steps.ensures.pass in
-    let stays = second_same c.fail.ensures.place in
+    let stays = second_same c.fail.ensures.pass.0 in
     let one = c.fail.ensures.one in
     let record_is = lent_record failing lent.pass c.fail.new.steps.pass lent.words.now life.words words c.new-steps.ensures.words is stays
     c.fail.ensures.failed.0 in

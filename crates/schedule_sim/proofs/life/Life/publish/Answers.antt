@@ -22,7 +22,7 @@ returns c w a =
     let lent = c.new-steps.result in
     let words = c.publish.new.steps.words.now in
     let is = c.new-steps.ensures.pass in
-    let stays = second_same c.publish.ensures.place in
+    let stays = second_same c.publish.ensures.pass.0 in
     let one = c.publish.ensures.one c.if-self.false in
     let record_is = lent_record (λ p. publishing p life.keeper.log.committed) lent.pass c.publish.new.steps.pass lent.words.now life.words words
     c.new-steps.ensures.words is stays (c.publish.ensures.published c.if-self.false).0 in

@@ -30,7 +30,7 @@ stepped c =
     let one = k.one (was_made _ _ _ _ _ _ _ k.first refl c.in-Some-default.is-0 (inl refl))
     (was_made _ _ _ _ _ _ _ k.first refl c.in-Some-default.is-0 (inr refl)) in
     steps_on c.args.stripe c.args.self.now.keeper c.capture_step-captured.new.keeper _ c.capture_step-captured.new.steps
-    c.capture_step-captured.result c.in-Some-default.made refl k.place
+    c.capture_step-captured.result c.in-Some-default.made refl k.pass.0
     (record { failed = k.failed; wrong_phase = k.wrong_phase; after = k.after; given = k.given }) one c.in-Some-default.is-0 k.fits
     c.keeps_one_history.ensures.one c.keeps_one_history.ensures.apart
 

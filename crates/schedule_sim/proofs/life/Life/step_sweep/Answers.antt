@@ -21,7 +21,7 @@ laws c = record {
 step : (c : goal.After-end_of_sweep) → Sweeps c.args.self.now.keeper c.sweep_step-swept.new.self c.args.self.now.words c.sweep_step-swept.new.steps.words.now c.sweep_step-swept.result c.in-Some.made
 step c =
     let k = c.sweep_step-swept.ensures in
-    sweeps _ _ _ _ _ _ refl c.requires.no_capture k.one k.steps_on k.fits k.same k.place c.in-Some.is c.keeps_one_history.ensures.one c.keeps_one_history.ensures.apart
+    sweeps _ _ _ _ _ _ refl c.requires.no_capture k.one k.steps_on k.fits k.same k.pass.0 c.in-Some.is c.keeps_one_history.ensures.one c.keeps_one_history.ensures.apart
 
 pub returns-clause-begins : goal.returns-clause-begins
 returns-clause-begins c rest w a =
