@@ -208,8 +208,8 @@ fn a_checkpoint_while_keys_change(rt: HostRuntime) -> Result<(), Refusal> {
         seals: (17, 0),
     };
     assert_eq!(rt; walked, expected);
-    assert!(rt; reads(&mut disk, 1, &CHECKPOINT));
-    assert!(rt; disk.stop(&Fill::Old).is_ok());
+    assert!(rt; reads(&mut disk, 1, &CHECKPOINT), "the checkpoint has other bytes");
+    assert!(rt; disk.stop(&Fill::Old).is_ok(), "no memory was found for the stop");
     assert_eq!(rt; opened(alloc, disk, two), Some((4, [3, 4])));
     Ok(())
 }
@@ -248,7 +248,7 @@ fn a_stop_in_the_second_checkpoint(rt: HostRuntime) -> Result<(), Refusal> {
     let two = StripeCount::new(2).ok_or(Refusal::WrongPhase)?;
     let (mark, mut disk) = half_on_two(&rt, alloc, two)?;
     assert_eq!(rt; mark, 4);
-    assert!(rt; disk.stop(&Fill::New).is_ok());
+    assert!(rt; disk.stop(&Fill::New).is_ok(), "no memory was found for the stop");
     assert_eq!(rt; opened(alloc, disk, two), Some((4, [3, 4])));
     Ok(())
 }

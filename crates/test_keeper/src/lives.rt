@@ -160,13 +160,13 @@ fn a_checkpoint_over_two_lives(rt: HostRuntime) -> Result<(), Refusal> {
     let one = StripeCount::new(1).ok_or(Refusal::WrongPhase)?;
     let mut disk = rotate_once(&rt, alloc, one, Version::Second)?;
     assert_eq!(rt; lengths(&mut disk), [0, 63, 18]);
-    assert!(rt; reads(&mut disk, 3, &SECOND_LOG));
-    assert!(rt; disk.stop(&Fill::Old).is_ok());
+    assert!(rt; reads(&mut disk, 3, &SECOND_LOG), "the second log has other bytes");
+    assert!(rt; disk.stop(&Fill::Old).is_ok(), "no memory was found for the stop");
     let (mark, mut disk) = seal_once(&rt, alloc, disk, one)?;
     assert_eq!(rt; mark, 2);
     assert_eq!(rt; lengths(&mut disk), [72, 63, 49]);
-    assert!(rt; begins(&mut disk, 1, &SEALED_HEADER));
-    assert!(rt; disk.stop(&Fill::Old).is_ok());
+    assert!(rt; begins(&mut disk, 1, &SEALED_HEADER), "the sealed checkpoint has another header");
+    assert!(rt; disk.stop(&Fill::Old).is_ok(), "no memory was found for the stop");
     assert_eq!(rt; counted(alloc, disk, one), Some((2, 2)));
     Ok(())
 }
@@ -225,8 +225,8 @@ fn a_checkpoint_on_a_directory_of_version_01(rt: HostRuntime) -> Result<(), Refu
     let one = StripeCount::new(1).ok_or(Refusal::WrongPhase)?;
     let mut disk = rotate_once(&rt, alloc, one, Version::First)?;
     assert_eq!(rt; lengths(&mut disk), [0, 62, 18]);
-    assert!(rt; reads(&mut disk, 3, &SECOND_LOG));
-    assert!(rt; disk.stop(&Fill::Old).is_ok());
+    assert!(rt; reads(&mut disk, 3, &SECOND_LOG), "the second log has other bytes");
+    assert!(rt; disk.stop(&Fill::Old).is_ok(), "no memory was found for the stop");
     let (mark, mut disk) = seal_once(&rt, alloc, disk, one)?;
     assert_eq!(rt; mark, 2);
     assert_eq!(rt; lengths(&mut disk), [72, 62, 49]);
@@ -242,7 +242,7 @@ fn a_directory_of_version_01_is_upgraded(rt: HostRuntime) -> Result<(), Refusal>
     assert_eq!(rt; lengths(&mut disk), [0, 48, 0]);
     let mut disk = upgraded(alloc, disk, one)?;
     assert_eq!(rt; lengths(&mut disk), [0, 62, 18]);
-    assert!(rt; reads(&mut disk, 3, &SECOND_LOG));
+    assert!(rt; reads(&mut disk, 3, &SECOND_LOG), "the second log has other bytes");
     let mut disk = upgraded(alloc, disk, one)?;
     assert_eq!(rt; lengths(&mut disk), [0, 62, 18]);
     let (_mark, mut disk) = seal_once(&rt, alloc, disk, one)?;

@@ -186,7 +186,7 @@ fn read_in_time<R: Wait>(rt: &R, alloc: Global, count: StripeCount) -> Result<Re
 #[test]
 fn a_reply_waits_until_it_is_durable(rt: HostRuntime) -> Result<(), Refusal> {
     let released = read_in_time(&rt, rt.alloc(), sixteen(&rt))?;
-    assert!(rt; is_one_at_one(&released));
+    assert!(rt; is_one_at_one(&released), "the reply that was released is not 1 at position 1");
     Ok(())
 }
 
@@ -371,7 +371,7 @@ fn replies_of_a_failed_batch_never_come(rt: HostRuntime) -> Result<(), Refusal> 
     let command = put(alloc, "a", 5)?;
     for after in [5, 7] {
         let outcome = five_and_five(&rt, alloc, sixteen(&rt), &command, after)?;
-        assert!(rt; outcome == ([5, 5, 5], true));
+        assert_eq!(rt; outcome, ([5, 5, 5], true), "the device fails after {after} calls");
     }
     Ok(())
 }

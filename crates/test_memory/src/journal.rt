@@ -159,7 +159,7 @@ fn memory_that_is_refused(rt: HostRuntime) {
     let seen = match begun(&rt, alloc, MemDisk::new(alloc)) {
         Ok(mut memory) => change_twice(&mut memory, alloc),
         Err(refusal) => {
-            assert!(rt; refusal.number() == 7 || refusal.number() == 9);
+            assert!(rt; refusal.number() == 7 || refusal.number() == 9, "{refusal:?}");
             return;
         }
     };

@@ -93,6 +93,6 @@ fn each_stripe_of_a_view_has_a_mark_of_its_own(rt: HostRuntime) -> Result<(), Re
     let alloc = rt.alloc();
     let map = open(alloc, 2)?;
     let view = between_puts(&rt, &map, alloc)?;
-    assert!(rt; is_as_worked(&rt, &view));
+    assert!(rt; is_as_worked(&rt, &view), "the view is not of b: 2 at mark 2 and a: 4 at mark 4");
     Ok(())
 }
