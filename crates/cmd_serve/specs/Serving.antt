@@ -23,8 +23,8 @@ use Rattle.cmd_serve.specs.WholeMap.{CompletesBulk}
 use Rattle.cmd_serve.specs.declared.begun.Begun.{Begun}
 use Rattle.cmd_serve.specs.declared.begun.Begun.TheVariants as begun
 use Rattle.cmd_serve.specs.declared.listening.Places.{Places}
-use Rattle.cmd_serve.specs.declared.server.ServerWords.{ServerWords}
-use Rattle.cmd_serve.specs.declared.server.Settings.{Settings}
+use Rattle.cmd_serve.specs.declared.settings.ServerWords.{ServerWords}
+use Rattle.cmd_serve.specs.declared.settings.Settings.{Settings}
 
 -- ---- a worker
 

@@ -3,8 +3,8 @@ use Rattle.std.specs.Prelude.{◌≡◌, ℕ, ◌<◌, ◌≤◌, ◌^◌, List,
 use Rattle.std.specs.Borrow.{Bor}
 use Rattle.socket_file.specs.Names.{SpellsOctal, IsMode, IsSocketPath}
 use Rattle.cmd_text.specs.Naming.{Spells, IsNamed, IsPort}
-use Rattle.cmd_serve.specs.declared.server.ServerWords.{ServerWords}
-use Rattle.cmd_serve.specs.declared.server.Settings.{Settings}
+use Rattle.cmd_serve.specs.declared.settings.ServerWords.{ServerWords}
+use Rattle.cmd_serve.specs.declared.settings.Settings.{Settings}
 use Rattle.cmd_serve.specs.declared.listening.Places.{Places}
 use Rattle.cmd_serve.specs.declared.listening.Places.TheVariants.{Port, Socket, Both}
 

@@ -6,7 +6,7 @@ use Rattle.clap.specs.Lexer.{usize_max}
 use Rattle.clap.specs.declared.builder.action.ArgAction.TheVariants.{Set, Append, SetTrue}
 use Rattle.std.specs.Borrow.{Bor}
 use Rattle.cmd_call.specs.declared.places.PlaceWords.{PlaceWords}
-use Rattle.cmd_serve.specs.declared.server.ServerWords.{ServerWords}
+use Rattle.cmd_serve.specs.declared.settings.ServerWords.{ServerWords}
 use Rattle.map_server.specs.declared.order.Order.{Order}
 use Rattle.map_server.specs.declared.order.Order.TheVariants.{Mem, Init, Check, Serve, Call, Sim}
 use Rattle.clap.specs.declared.error.kind.ErrorKind.{ErrorKind}
