@@ -1,5 +1,5 @@
 -- The command lines that are known, as the library that reads them sees them.
-use Rattle.std.specs.Prelude.{◌≡◌, ◌≢◌, ◌⊎◌, ℕ, Bool, true, false, List, [], map, Option, None, Some, codes, option_map, unwrap_or}
+use Rattle.std.specs.Prelude.{◌≡◌, ◌⊎◌, ℕ, Bool, true, false, List, [], map, Option, None, Some, codes, option_map, unwrap_or}
 use Rattle.clap.specs.Words.{App, Row, Rule, Text, IsAmong, Kinds, all_of, fault_of, first_of, new_app, new_rule, one_of, subcommand_of, with_rule, with_subcommand}
 use Rattle.clap.specs.Simple.{on_top}
 use Rattle.clap.specs.Lexer.{usize_max}
@@ -146,10 +146,7 @@ Names named name Given = (rows : List Row) × (named ≡ Some (name, rows)) × G
 
 -- the subcommand that is named, with what it is given, asks for this
 abbrev pub Asks : Option (Text × List Row) → Order → Type 0
-Asks named Mem =
-    (name_of named ≢ Some (codes "init")) × (name_of named ≢ Some (codes "check"))
-    × (name_of named ≢ Some (codes "serve"))
-    × (name_of named ≢ Some (codes "call")) × (name_of named ≢ Some (codes "sim"))
+Asks named Mem = Names named (codes "mem") (λ rows. Unit {0})
 Asks named (Init directory stripes) =
     Names named (codes "init") (λ rows. (directory.now ≡ directory_in rows) × (stripes.now ≡ stripes_in rows))
 Asks named (Check directory) = Names named (codes "check") (λ rows. directory.now ≡ directory_in rows)

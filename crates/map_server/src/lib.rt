@@ -1,6 +1,7 @@
 //! The program: what the words of its command line ask for is done; and what a server is made of.
 #![tactic(auto)]
 
+mod grammar;
 mod host;
 mod order;
 pub mod program;

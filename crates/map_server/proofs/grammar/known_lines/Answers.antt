@@ -4,7 +4,7 @@ use Rattle.clap.specs.Words.{Shape, app_of}
 use Rattle.clap.specs.Simple.{on_top}
 use Rattle.map_server.specs.CommandLine.{bare_line, call_line, check_line, init_line, mem_line, serve_line, sim_line}
 use Rattle.map_server.proofs.Lines.{with_line}
-use Rattle.map_server.proofs.order.known_lines.Goals as goal
+use Rattle.map_server.proofs.grammar.known_lines.Goals as goal
 
 pub returns : goal.returns
 returns c =

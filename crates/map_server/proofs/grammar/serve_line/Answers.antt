@@ -4,7 +4,7 @@ use Rattle.clap.specs.Words.{app_of, new_app}
 use Rattle.clap.specs.declared.builder.command.Command.TheViews.{out-Command as fields_of}
 use Rattle.map_server.specs.CommandLine.{directory_rule, flag_rule, option_rule, with_places}
 use Rattle.map_server.proofs.Lines.{stays_local, with_argument}
-use Rattle.map_server.proofs.order.serve_line.Goals as goal
+use Rattle.map_server.proofs.grammar.serve_line.Goals as goal
 
 pub returns-clause-app : goal.returns-clause-app
 returns-clause-app c =

@@ -2,7 +2,7 @@ use Rattle.std.proofs.Common.{codes, refl}
 use Rattle.std.proofs.lemmas.Result.{IfOk-weaker}
 use Rattle.map_server.specs.CommandLine.{option_rule}
 use Rattle.map_server.proofs.Lines.{stays_local, with_argument}
-use Rattle.map_server.proofs.order.with_places.Goals as goal
+use Rattle.map_server.proofs.grammar.with_places.Goals as goal
 
 pub returns-clause-app : goal.returns-clause-app
 returns-clause-app c =
