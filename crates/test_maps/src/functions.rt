@@ -9,10 +9,8 @@ use std::alloc::Global;
 fn is_too_long(alloc: Global, old: usize, arg: usize) -> Result<bool, Refusal> {
     let old = text_of(alloc, old)?;
     let arg = text_of(alloc, arg)?;
-    match apply(alloc, Func::Concat, Some(&old), Some(&arg)) {
-        Ok(joined) => Ok(matches!(joined, Err(FuncError::TooLong))),
-        Err(refusal) => Err(refusal),
-    }
+    let joined = apply(alloc, Func::Concat, Some(&old), Some(&arg))?;
+    Ok(matches!(joined, Err(FuncError::TooLong)))
 }
 
 /// The lengths of texts, and whether they are too long together.

@@ -55,14 +55,8 @@ fn reply_text(reply: &Reply) -> &'static str {
 }
 
 fn answer_text(answer: Result<Reply, Refusal>) -> Result<&'static str, Refusal> {
-    match answer {
-        Ok(reply) => {
-            let text = reply_text(&reply);
-            drop(reply);
-            Ok(text)
-        }
-        Err(refusal) => Err(refusal),
-    }
+    let reply = answer?;
+    Ok(reply_text(&reply))
 }
 
 fn changed(part: &mut Part, alloc: Global, command: &Command) -> Result<Reply, Refusal> {

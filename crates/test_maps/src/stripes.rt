@@ -43,13 +43,8 @@ pub(crate) fn sixteen_stripes<R: Abort>(rt: &R, alloc: Global) -> Stripes
 pub(crate) type Tried = Result<(), Refusal>;
 
 pub(crate) fn outcome_of(answer: Result<Held, Refusal>) -> Tried {
-    match answer {
-        Ok(held) => {
-            held.give_up();
-            Ok(())
-        }
-        Err(refusal) => Err(refusal),
-    }
+    answer?.give_up();
+    Ok(())
 }
 
 // What comes of a change of this key.
