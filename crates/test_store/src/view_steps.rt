@@ -50,10 +50,9 @@ fn ended(
     requires own { IsPassOf map.now pass.old }
     requires fits { (b : Record) × Fits (stripe_count map.now) b walk (recorded pass.old) }
 {
-    match map.view_step(pass, walk) {
-        Ok(Viewed::Done(captured)) => View::new(alloc, captured),
-        Ok(Viewed::More(_)) => Err(Refusal::TooEarly),
-        Err(refusal) => Err(refusal),
+    match map.view_step(pass, walk)? {
+        Viewed::Done(captured) => View::new(alloc, captured),
+        Viewed::More(_) => Err(Refusal::TooEarly),
     }
 }
 
