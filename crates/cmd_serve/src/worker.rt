@@ -95,15 +95,13 @@ impl<'a, D: Disk + Drop, O: Observer, R: Wait> Worker<'a, D, O, R> {
     {
         match request {
             Request::Change(command) => {
-                match self.map.begin_change(self.rt, &mut self.pass, command) {
-                    Ok(held) => Ok(Begun::Call(mark, held)),
-                    Err(refusal) => Err(refusal),
-                }
+                let held = self.map.begin_change(self.rt, &mut self.pass, command)?;
+                Ok(Begun::Call(mark, held))
             }
-            Request::Read(read) => match self.map.begin_read(self.rt, &mut self.pass, read) {
-                Ok(held) => Ok(Begun::Call(mark, held)),
-                Err(refusal) => Err(refusal),
-            },
+            Request::Read(read) => {
+                let held = self.map.begin_read(self.rt, &mut self.pass, read)?;
+                Ok(Begun::Call(mark, held))
+            }
             Request::Bulk(bulk) => Ok(Begun::View(mark, bulk)),
         }
     }
@@ -154,13 +152,11 @@ impl<D: Disk + Drop, O: Observer, R: Clock + Wait> Calls for Worker<'_, D, O, R>
 
     fn begin(&mut self, request: Request) -> Result<Begun, Refusal> {
         let mark = self.take_up();
-        match self.begin_as(mark, request) {
-            Ok(begun) => Ok(begun),
-            Err(refusal) => {
-                self.put_down(mark);
-                Err(refusal)
-            }
+        let begun = self.begin_as(mark, request);
+        if begun.is_err() {
+            self.put_down(mark);
         }
+        begun
     }
 
     fn may_finish(&self, begun: &Begun) -> bool {
