@@ -22,7 +22,7 @@ use Rattle.call_text.specs.declared.names.Method.TheVariants.{Read, Change as Ch
 use Rattle.call_text.specs.Names.{Text, method_named}
 use Rattle.call_text.specs.Values.{◌>>=◌, argument_of, value_of, value_word}
 use Rattle.call_text.specs.Calls.{asked_of, call_behind, change_of, func_and_argument, func_and_value, func_of, key_of, one_value, parse_call, question_of, two_values}
-use Rattle.call_text.specs.Agreement.{EachHasWords, IsArgument, IsChange, IsQuestion, IsValue, PrintedIsRead}
+use Rattle.call_text.specs.Agreement.{EachHasWords, HasValues, IsArgument, IsQuestion, IsValue, PrintedIsRead}
 use Rattle.call_text.proofs.ValueWords.{choose_yes, printed_number}
 
 below : (m n : ℕ) → m ≤ n → nat_le m n ≡ true
@@ -101,7 +101,7 @@ asks (question.GetOrDefault value) fits =
     record { name = codes "getOrDefault"; method = GetOrDefault; words = w.0; is_named = refl; is_made = ap (λ r. r >>= λ x. Ok (question.GetOrDefault x)) w.1 }
 asks question.ContainsKey fits = record { name = codes "containsKey"; method = ContainsKey; words = []; is_named = refl; is_made = refl }
 
-changes : (c : Change) → IsChange c → Named _ ChangeMethod Changes change_of (Ok c)
+changes : (c : Change) → HasValues c → Named _ ChangeMethod Changes change_of (Ok c)
 unfolding change_of
 changes (change.Put value) fits =
     let w = one value fits in

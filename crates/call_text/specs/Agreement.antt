@@ -26,17 +26,18 @@ abbrev pub IsArgument : Option Value → Type 0
 IsArgument None = Unit {0}
 IsArgument (Some value) = IsValue value
 
-abbrev pub IsChange : Change → Type 0
-IsChange (Put value) = IsValue value
-IsChange (PutIfAbsent value) = IsValue value
-IsChange Remove = Unit {0}
-IsChange (RemoveIf value) = IsValue value
-IsChange (Replace value) = IsValue value
-IsChange (ReplaceIf old new) = IsValue old × IsValue new
-IsChange (Compute func argument) = IsArgument argument
-IsChange (ComputeIfAbsent func argument) = IsArgument argument
-IsChange (ComputeIfPresent func argument) = IsArgument argument
-IsChange (Merge func value) = IsValue value
+-- each of its values is one; of a text the length alone is asked, not that it is UTF-8, as a record does
+abbrev pub HasValues : Change → Type 0
+HasValues (Put value) = IsValue value
+HasValues (PutIfAbsent value) = IsValue value
+HasValues Remove = Unit {0}
+HasValues (RemoveIf value) = IsValue value
+HasValues (Replace value) = IsValue value
+HasValues (ReplaceIf old new) = IsValue old × IsValue new
+HasValues (Compute func argument) = IsArgument argument
+HasValues (ComputeIfAbsent func argument) = IsArgument argument
+HasValues (ComputeIfPresent func argument) = IsArgument argument
+HasValues (Merge func value) = IsValue value
 
 abbrev pub IsQuestion : Question → Type 0
 IsQuestion Get = Unit {0}
@@ -46,7 +47,7 @@ IsQuestion ContainsKey = Unit {0}
 -- its key has at most 4,095 bytes, and its values are values
 abbrev pub IsAsked : Asked → Type 0
 IsAsked (asked.Read read) = (length read.key ≤ most_key_bytes) × IsQuestion read.question
-IsAsked (asked.Change command) = (length command.key ≤ most_key_bytes) × IsChange command.change
+IsAsked (asked.Change command) = (length command.key ≤ most_key_bytes) × HasValues command.change
 
 -- its threshold has 64 bits too, and a map is reduced by its function
 abbrev pub IsCalled : Called → Type 0
