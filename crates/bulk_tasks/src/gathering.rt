@@ -75,13 +75,12 @@ pub(crate) fn gather_all<D: Disk + Drop, R: Wait, G: Gathers>(
     let mut walk = PartsWalk::new();
     for _step in rt.forever() {
         let stripe = walk.stripe_to_take();
-        match map.parts_step(pass, walk) {
-            Ok(PartsWalked::More(next)) => {
+        match map.parts_step(pass, walk)? {
+            PartsWalked::More(next) => {
                 pause(rt, map, &backoff, stripe, &next);
                 walk = gather_lent(gathering, next);
             }
-            Ok(PartsWalked::Done) => return Ok(()),
-            Err(refusal) => return Err(refusal),
+            PartsWalked::Done => return Ok(()),
         }
     }
     unreachable!()

@@ -50,13 +50,12 @@ pub fn view<D: Disk + Drop, R: Wait>(
     let mut walk = ViewWalk::new(alloc);
     for _step in rt.forever() {
         let stripe = walk.stripe_to_take();
-        match map.view_step(pass, walk) {
-            Ok(Viewed::More(next)) => {
+        match map.view_step(pass, walk)? {
+            Viewed::More(next) => {
                 pause(rt, map, &backoff, stripe, next.parts());
                 walk = next;
             }
-            Ok(Viewed::Done(captured)) => return View::new(alloc, captured),
-            Err(refusal) => return Err(refusal),
+            Viewed::Done(captured) => return View::new(alloc, captured),
         }
     }
     unreachable!()

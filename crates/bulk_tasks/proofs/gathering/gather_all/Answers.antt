@@ -1,4 +1,5 @@
 use Rattle.std.proofs.Common.{[], ◌++◌, rules}
+use Rattle.std.proofs.lemmas.Result.{err_from_is_err_and}
 use Rattle.stripe_locks.specs.Passes.{recorded}
 use Rattle.view_walk.specs.Walking.{lent_sections}
 use Rattle.view_walk.proofs.Lending.{none_lent}
@@ -30,17 +31,18 @@ loop-step-preserved g c =
       same = search rules;
       stands = (
         k.0 ++ lent_sections c.loop-step.walk,
-        c.gather_lent-walk.ensures.fits _ _ _ _ (rw c.in-Ok-More.field-0-is at (c.in-Ok-More.ensures.next _ k.0 k.1)),
+        c.gather_lent-walk.ensures.fits _ _ _ _ (rw c.in-More.is at (c.in_ok-next.ensures.next _ k.0 k.1)),
         c.gather_lent-walk.ensures.gathers _ _ k.2,
       );
     }
 
-pub returns-in-Ok-Done-clause-done : goal.returns-in-Ok-Done-clause-done
-returns-in-Ok-Done-clause-done g c =
+pub returns-in-Done-clause-done : goal.returns-in-Done-clause-done
+returns-in-Done-clause-done g c =
     let k = c.loop-step.invariant.stands in
-    (k.0 ++ lent_sections c.loop-step.walk, rw c.in-Ok-Done.field-0-is at (c.in-Ok-Done.ensures.next _ k.0 k.1), k.2)
+    (k.0 ++ lent_sections c.loop-step.walk, rw c.in-Done.is at (c.in_ok-next.ensures.next _ k.0 k.1), k.2)
 
-pub returns-in-Err-clause-refused : goal.returns-in-Err-clause-refused
-returns-in-Err-clause-refused g c =
+pub returns-in_err-next-clause-refused : goal.returns-in_err-next-clause-refused
+returns-in_err-next-clause-refused g c =
+    let q = err_from_is_err_and c.from_residual.result c.from_residual.ensures.1 in
     let k = c.loop-step.invariant.stands in
-    (k.0 ++ lent_sections c.loop-step.walk, c.in-Err.ensures.next _ k.0 k.1)
+    rw (q.1, q.2) (k.0 ++ lent_sections c.loop-step.walk, c.in_err-next.ensures.next _ k.0 k.1)
