@@ -128,8 +128,8 @@ impl ViewWalk {
             mut captured,
             parts,
         } = self;
-        match parts.step(steps) {
-            Ok(PartsWalked::More(parts)) => {
+        match parts.step(steps)? {
+            PartsWalked::More(parts) => {
                 let parts = keep(alloc, &mut captured, parts);
                 Ok(Viewed::More(ViewWalk {
                     alloc,
@@ -137,8 +137,7 @@ impl ViewWalk {
                     parts,
                 }))
             }
-            Ok(PartsWalked::Done) => Ok(Viewed::Done(captured)),
-            Err(refusal) => Err(refusal),
+            PartsWalked::Done => Ok(Viewed::Done(captured)),
         }
     }
 }
