@@ -70,10 +70,8 @@ impl<T: Keyed<K> + Drop, K> KeyedLock<T, K> {
         ensures loan { IfSome result (λ taken. IsLoanOf self.now taken.1) }
     {
         let turn = self.turns.try_lock()?;
-        match self.take() {
-            Some((value, seat)) => Some((value, Loan { turn, seat })),
-            None => None,
-        }
+        let (value, seat) = self.take()?;
+        Some((value, Loan { turn, seat }))
     }
 
     /// Puts a value back, and lets the next thread have its turn.
