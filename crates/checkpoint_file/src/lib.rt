@@ -5,7 +5,7 @@
 mod front;
 mod gate;
 mod head;
-mod laws;
+pub mod laws;
 mod loading;
 mod marks;
 mod one_section;

@@ -13,7 +13,7 @@ use durable_map::DurableMap;
 use flusher::Keeper;
 use java_hash::StripeCount;
 use log::{Log, info};
-use map_model::laws::laws_of_parts;
+use map_model::laws;
 use map_types::Refusal;
 use recovery::{open_parts_with, upgrade};
 use std::alloc::Global;
@@ -117,7 +117,7 @@ pub(crate) fn open_map<D: Disk + Drop, L: Log + Threads + Sync>(
         × ((x.1 ≡ Refusal.NoMemory) ⊎ (x.1 ≡ Refusal.SeatsSpent)))
         ⊎ IsNotOpenedNewest D.states D.failures D.honest stripes.count old x.0 x.1) }
 {
-    laws_of_parts();
+    laws::laws_of_parts();
     let Found {
         keeper,
         parts,

@@ -18,8 +18,7 @@ use std::alloc::Global;
 use std::marker::Model;
 use std::sync::Wait;
 use std::time::Clock;
-use stripe_locks::laws::held_at_is_held_of;
-use stripe_locks::{Held, Pass};
+use stripe_locks::{Held, Pass, laws};
 use wire_frames::{Bulk, Request};
 
 /// A worker makes the call of each request with its own pass as it begins it, and gives the reply out as
@@ -112,7 +111,7 @@ impl<'a, D: Disk + Drop, O: Observer, R: Wait> Worker<'a, D, O, R> {
         ensures same { IsSameWorker self.old self.new }
         ensures finishes { Finishes self.old.pass held result self.new.pass }
     {
-        held_at_is_held_of();
+        laws::held_at_is_held_of();
         self.map.finish(self.rt, &mut self.pass, held)
     }
 

@@ -4,7 +4,7 @@
 mod ahead;
 mod commit;
 mod frames;
-mod laws;
+pub mod laws;
 mod log;
 mod parts;
 mod place;

@@ -2,7 +2,7 @@
 ghost use Rattle.sim_rules.specs.Laws.{BeginsEmpty, DrawsInside, EndsInside, EnteredAsFailed, FrontIsFound, KnownFolds, KnownIsLegal, KnownStands, LifeGoesOn, LongestRunInHand, NewIsRun, NextLifeBegins, OpensOutside, OutcomesAreMoves, OldIsRun, OldIsSkipped, QuietInside, QuietOutside, ReleasedStayLegal, ReleasesInside, RowsGoOn, RunsAnswerAsOneThread, RunsBegin, SkippedWhereUnfit, SoundAt, SoundBetweenIsRun, SoundIsRun, StandingFilesOpen, StopsOutside};
 ghost use Rattle.sim_rules.specs.World.{old_start, start};
 
-use store_layout::laws::{laws_of_new_stores, laws_of_opening};
+use store_layout::laws as layout_laws;
 
 /// In any run of the machine of one list each reply that was released is that of one thread at its
 /// position, however many lives came after it.
@@ -38,7 +38,7 @@ pub fn laws_of_files()
     ensures old { BeginsEmpty old_start }
     ensures entered { EnteredAsFailed }
 {
-    laws_of_new_stores();
+    layout_laws::laws_of_new_stores();
 }
 
 /// What the loop of a run keeps in a life, event by event.
@@ -66,7 +66,7 @@ pub fn steps_between_lives()
     ensures front { FrontIsFound }
     ensures well { StandingFilesOpen }
 {
-    laws_of_opening();
+    layout_laws::laws_of_opening();
 }
 
 /// What was kept to the end makes a run.

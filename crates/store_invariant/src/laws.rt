@@ -1,11 +1,9 @@
 //! Laws of stores, each as the contract of a function.
 ghost use Rattle.store_invariant.specs.Laws.{BatchIsStaged, CheckpointBegins, CheckpointIsSealed, CommittedAreFound, EndStepsOn, LogEnds, LogStays, LogStepsOn, LogStepsStop, NextIsReady, NextStepsOn, NextStepsStop, OpenedStands, RotationBegins, SealBegins, SectionIsGiven, StandingStays, StopsUseCheckpoint, StoresStop, WriterStepsOn, WriterStepsStop};
 
-use checkpoint_file::stops_of_a_checkpoint;
-use gate_log::stops_of_a_log;
-use store_layout::laws::{
-    laws_of_checkpoints, laws_of_found, laws_of_logs, laws_of_restoring, laws_of_sections,
-};
+use checkpoint_file::laws as checkpoint_laws;
+use gate_log::laws as log_laws;
+use store_layout::laws as layout_laws;
 
 /// Whatever a stop leaves of a store, now and at each moment of a step, stands for a front of its
 /// history. That front has the committed commands, and no more than the staged ones besides.
@@ -22,11 +20,11 @@ pub fn stops_of_a_store()
     // The committed count is that of what the files hold.
     ensures committed { CommittedAreFound }
 {
-    stops_of_a_log();
-    stops_of_a_checkpoint();
-    laws_of_checkpoints();
-    laws_of_restoring();
-    laws_of_found();
+    log_laws::stops_of_a_log();
+    checkpoint_laws::stops_of_a_checkpoint();
+    layout_laws::laws_of_checkpoints();
+    layout_laws::laws_of_restoring();
+    layout_laws::laws_of_found();
 }
 
 /// A store that was opened, and whose history grows.
@@ -34,10 +32,10 @@ pub fn beginnings_of_stores()
     ensures opened { OpenedStands }
     ensures stays { StandingStays }
 {
-    laws_of_restoring();
-    laws_of_logs();
-    laws_of_sections();
-    laws_of_found();
+    layout_laws::laws_of_restoring();
+    layout_laws::laws_of_logs();
+    layout_laws::laws_of_sections();
+    layout_laws::laws_of_found();
 }
 
 /// A store after a step of its logs.
@@ -57,9 +55,9 @@ pub fn steps_of_logs()
     ensures end { EndStepsOn }
     ensures ends { LogEnds }
 {
-    stops_of_a_log();
-    laws_of_restoring();
-    laws_of_logs();
+    log_laws::stops_of_a_log();
+    layout_laws::laws_of_restoring();
+    layout_laws::laws_of_logs();
 }
 
 /// A store after a step of its checkpoint.
@@ -76,8 +74,8 @@ pub fn steps_of_checkpoints()
     ensures steps { WriterStepsOn }
     ensures sealed { CheckpointIsSealed }
 {
-    laws_of_checkpoints();
-    laws_of_restoring();
-    laws_of_logs();
-    laws_of_sections();
+    layout_laws::laws_of_checkpoints();
+    layout_laws::laws_of_restoring();
+    layout_laws::laws_of_logs();
+    layout_laws::laws_of_sections();
 }

@@ -14,7 +14,7 @@ ghost use Rattle.wire_frames.specs.declared.answers.AnswerError.TheVariants.{NoM
 ghost use Rattle.wire_frames.specs.Answers.{Answer, AreParts, IsPlain, IsReply};
 
 use crate::replies::{DID, FAULT, NOW, REFUSED, WAS};
-use log_records::{fields_agree, value_at};
+use log_records::{laws, value_at};
 use map_types::{FuncError, Refusal, Reply, Value};
 use std::alloc::Global;
 use thiserror::Error;
@@ -46,7 +46,7 @@ fn value_of(alloc: Global, bytes: &[u8]) -> Result<Option<Value>, AnswerError>
     ensures only { (value : Option Value) → IsArgument value → bytes.now ≡ value_bytes value →
         MatchResult result (λ found. found ≡ value) (λ error. error ≡ NoMemory) }
 {
-    fields_agree();
+    laws::fields_agree();
     match value_at(alloc, bytes) {
         Ok((value, [])) => Ok(value),
         Ok(_) => Err(AnswerError::NotAReply),

@@ -4,9 +4,7 @@ ghost use Rattle.std.specs.Prelude.{◌≡◌, ◌↔◌, IsTrue};
 ghost use Rattle.log_records.specs.Reading.{Gives, Reads};
 ghost use Rattle.wire_frames.specs.Requests.{HasBulkMethod, IsBulkMethod, ReadIsSpelled, SpelledIsRead, change_at, get_or_default_at, question_at, reduce_at, reduces, reducing_at, request_at, request_of, search_at};
 
-use log_records::{
-    Version, fields_agree, func_at, key_at, number_at, record_agrees, record_at, some_value_at,
-};
+use log_records::{Version, func_at, key_at, laws, number_at, record_at, some_value_at};
 use map_types::{Command, Func, Question, Read, Refusal, Value};
 use std::alloc::Global;
 
@@ -180,6 +178,6 @@ pub fn requests_agree()
     ensures read { ReadIsSpelled }
     ensures spelled { SpelledIsRead }
 {
-    fields_agree();
-    record_agrees();
+    laws::fields_agree();
+    laws::record_agrees();
 }
