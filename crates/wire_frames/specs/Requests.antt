@@ -21,12 +21,32 @@ use Rattle.wire_frames.specs.declared.requests.Request.TheVariants as requests
 abbrev pub wire_layout : Layout
 wire_layout = second_layout
 
+-- ---- the methods of questions and of calls of the whole map; those of changes are the records' own
+
+abbrev pub get_method : ℕ
+get_method = 1
+
+abbrev pub get_or_default_method : ℕ
+get_or_default_method = 2
+
+abbrev pub contains_key_method : ℕ
+contains_key_method = 3
+
+abbrev pub count_method : ℕ
+count_method = 32
+
+abbrev pub reduce_method : ℕ
+reduce_method = 33
+
+abbrev pub search_method : ℕ
+search_method = 34
+
 -- ---- the one spelling of each request
 
 abbrev pub question_number : Question → ℕ
-question_number Get = 1
-question_number (GetOrDefault value) = 2
-question_number ContainsKey = 3
+question_number Get = get_method
+question_number (GetOrDefault value) = get_or_default_method
+question_number ContainsKey = contains_key_method
 
 -- the arguments of a question, behind its key
 abbrev pub argument_bytes : Question → List ℕ
@@ -35,9 +55,9 @@ argument_bytes (GetOrDefault value) = value_bytes (Some value)
 argument_bytes ContainsKey = []
 
 abbrev pub bulk_number : Bulk → ℕ
-bulk_number Count = 32
-bulk_number (Reduce func threshold) = 33
-bulk_number (Search threshold value) = 34
+bulk_number Count = count_method
+bulk_number (Reduce func threshold) = reduce_method
+bulk_number (Search threshold value) = search_method
 
 -- a threshold in eight bytes
 abbrev pub threshold_bytes : ℕ → List ℕ
@@ -141,12 +161,12 @@ search_at bytes = do
 unfoldable pub request_at : List ℕ → Result (Request × List ℕ) Refusal
 request_at [] = Err BadFrame
 request_at (method ∷ rest) =
-    if method == 1 then question_at Get rest
-    else if method == 2 then get_or_default_at rest
-    else if method == 3 then question_at ContainsKey rest
-    else if method == 32 then Ok (requests.Bulk Count, rest)
-    else if method == 33 then reduce_at rest
-    else if method == 34 then search_at rest
+    if method == get_method then question_at Get rest
+    else if method == get_or_default_method then get_or_default_at rest
+    else if method == contains_key_method then question_at ContainsKey rest
+    else if method == count_method then Ok (requests.Bulk Count, rest)
+    else if method == reduce_method then reduce_at rest
+    else if method == search_method then search_at rest
     else change_at (method ∷ rest)
 
 -- nothing may follow the last argument

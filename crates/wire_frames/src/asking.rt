@@ -5,7 +5,9 @@ ghost use Rattle.map_types.specs.declared.refusals.Refusal.TheVariants.{NoMemory
 ghost use Rattle.wire_frames.specs.Messages.{frame};
 ghost use Rattle.wire_frames.specs.Requests.{argument_bytes, question_number, request_bytes, wire_layout};
 
-use crate::requests::{Bulk, COUNT, REDUCE, Request, SEARCH, THRESHOLD_WIDTH};
+use crate::requests::{
+    Bulk, CONTAINS_KEY, COUNT, GET, GET_OR_DEFAULT, REDUCE, Request, SEARCH, THRESHOLD_WIDTH,
+};
 use log_records::{Version, encode, put_key, put_number, put_value, record_len};
 use map_types::{Question, Read, Refusal};
 use std::alloc::Global;
@@ -14,9 +16,9 @@ fn number_of(question: &Question) -> u8
     ensures { result ≡ question_number question.now }
 {
     match question {
-        Question::Get => 1,
-        Question::GetOrDefault(_) => 2,
-        Question::ContainsKey => 3,
+        Question::Get => GET,
+        Question::GetOrDefault(_) => GET_OR_DEFAULT,
+        Question::ContainsKey => CONTAINS_KEY,
     }
 }
 

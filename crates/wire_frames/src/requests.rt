@@ -11,6 +11,16 @@ use std::alloc::Global;
 /// How many bytes a threshold takes: it has 64 bits.
 pub(crate) const THRESHOLD_WIDTH: usize = 8;
 
+/// The method that asks for a key's value. The methods of a question have numbers below those of a
+/// record.
+pub(crate) const GET: u8 = 1;
+
+/// The method that asks for a key's value, or for a default value if the key is absent.
+pub(crate) const GET_OR_DEFAULT: u8 = 2;
+
+/// The method that asks whether a key is mapped.
+pub(crate) const CONTAINS_KEY: u8 = 3;
+
 /// The method that counts. The methods of the whole map have numbers from 32 on, above those of a
 /// record.
 pub(crate) const COUNT: u8 = 32;
@@ -117,20 +127,14 @@ fn request_at(alloc: Global, bytes: &[u8]) -> Result<(Request, &[u8]), Refusal>
     let Some((method, rest)) = bytes.split_first() else {
         return Err(Refusal::BadFrame);
     };
-    if *method == 1 {
-        question_at(alloc, Question::Get, rest)
-    } else if *method == 2 {
-        get_or_default_at(alloc, rest)
-    } else if *method == 3 {
-        question_at(alloc, Question::ContainsKey, rest)
-    } else if *method == COUNT {
-        Ok((Request::Bulk(Bulk::Count), rest))
-    } else if *method == REDUCE {
-        reduce_at(rest)
-    } else if *method == SEARCH {
-        search_at(alloc, rest)
-    } else {
-        change_at(alloc, bytes)
+    match *method {
+        GET => question_at(alloc, Question::Get, rest),
+        GET_OR_DEFAULT => get_or_default_at(alloc, rest),
+        CONTAINS_KEY => question_at(alloc, Question::ContainsKey, rest),
+        COUNT => Ok((Request::Bulk(Bulk::Count), rest)),
+        REDUCE => reduce_at(rest),
+        SEARCH => search_at(alloc, rest),
+        _ => change_at(alloc, bytes),
     }
 }
 
@@ -139,13 +143,7 @@ fn request_at(alloc: Global, bytes: &[u8]) -> Result<(Request, &[u8]), Refusal>
 fn is_bulk_method(method: u8) -> bool
     ensures { IsTrue result ↔ IsBulkMethod method }
 {
-    if method == COUNT {
-        return true;
-    }
-    if method == REDUCE {
-        return true;
-    }
-    method == SEARCH
+    matches!(method, COUNT | REDUCE | SEARCH)
 }
 
 /// Whether the bytes of a frame behind its length begin with the method of a request of the whole
