@@ -1,5 +1,5 @@
 //! A call that is under way, as a machine that makes one step at a time.
-ghost use Rattle.std.specs.Prelude.{◌≡◌, ◌<◌, ℕ, Some, None, true, false, length};
+ghost use Rattle.std.specs.Prelude.{◌≡◌, ◌<◌, ℕ, Some, None, true, false};
 ghost use Rattle.std.specs.Option.{option_map};
 ghost use Rattle.ticket_order.specs.declared.record.Record.{Record};
 ghost use Rattle.ticket_order.specs.Records.{IsWithin, giving};
@@ -142,16 +142,6 @@ impl Walk {
     {
         Walk {
             stage: Stage::Capture(CaptureStage::Begins(stripe)),
-        }
-    }
-
-    /// How many entries a sweep has taken that its GIVE will hand out.
-    pub fn entry_count(&self) -> usize
-        ensures { result ≡ length (entries_of_walk self.now) }
-    {
-        match &self.stage {
-            Stage::Sweep(SweepStage::HasTaken(_, taken)) => taken.content.outbox.len(),
-            _ => 0,
         }
     }
 
