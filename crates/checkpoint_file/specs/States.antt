@@ -121,9 +121,12 @@ state_after HeaderSynced w = record w { phase = Opened }
 state_after Opened w = record w { phase = Sealed }
 state_after Sealed w = w
 
+-- The most bytes of a section: its mark and its count, and fewer than 2^32 entries of fewer than 2^14 bytes each.
+abbrev pub most_section_bytes : ℕ
+most_section_bytes = 2 ^ 46
+
 -- its numbers fit their types, whatever the disk does
 pub record IsSound (w : CheckpointState) : Type 0 where
   pub few : w.count ≤ w.stripes
   pub allowed : is_stripe_count w.stripes ≡ true
-  -- a section has at most 2^46 bytes
-  pub room : w.body + length w.section ≤ w.count * 2 ^ 46
+  pub room : w.body + length w.section ≤ w.count * most_section_bytes

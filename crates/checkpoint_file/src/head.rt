@@ -16,6 +16,21 @@ use log_records::Version;
 use map_types::Refusal;
 use store_layout::{BODY_OFFSET, OPEN_GATE};
 
+/// Where the generation stands, behind the gate and the version.
+const GENERATION_OFFSET: usize = 2;
+
+/// Where the low ticket stands, behind the generation.
+const LOW_OFFSET: usize = 10;
+
+/// Where the greatest mark stands, behind the low ticket.
+pub(crate) const GREATEST_OFFSET: usize = 18;
+
+/// Where the number of stripes stands, behind the greatest mark.
+pub(crate) const STRIPES_OFFSET: usize = 26;
+
+/// Where the length of the body stands, behind the number of stripes.
+pub(crate) const BODY_LEN_OFFSET: usize = 28;
+
 /// What the header of a sealed checkpoint says.
 #[derive(Clone, Copy, Debug, PartialEq, Eq)]
 pub struct Head {
@@ -45,11 +60,11 @@ fn fields_of(version: Version, bytes: &[u8; BODY_OFFSET]) -> Head
 {
     Head {
         version,
-        generation: BigEndian::read_u64(&bytes[2..]),
-        low: BigEndian::read_u64(&bytes[10..]),
-        greatest_mark: BigEndian::read_u64(&bytes[18..]),
-        stripes: BigEndian::read_u16(&bytes[26..]),
-        body_len: BigEndian::read_u64(&bytes[28..]),
+        generation: BigEndian::read_u64(&bytes[GENERATION_OFFSET..]),
+        low: BigEndian::read_u64(&bytes[LOW_OFFSET..]),
+        greatest_mark: BigEndian::read_u64(&bytes[GREATEST_OFFSET..]),
+        stripes: BigEndian::read_u16(&bytes[STRIPES_OFFSET..]),
+        body_len: BigEndian::read_u64(&bytes[BODY_LEN_OFFSET..]),
     }
 }
 
@@ -88,8 +103,10 @@ pub fn read_head<D: Disk>(disk: &mut D, file: usize) -> Result<Option<Head>, Ref
     };
     let head = fields_of(version, &bytes);
     if head.generation % 2 != file as u64 {
-        let file = file as u8;
-        return Err(Refusal::Damaged { file, offset: 2 });
+        return Err(Refusal::Damaged {
+            file: file as u8,
+            offset: GENERATION_OFFSET as u64,
+        });
     }
     Ok(Some(head))
 }

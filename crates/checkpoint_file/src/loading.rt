@@ -6,7 +6,7 @@ ghost use Rattle.disk_model.specs.Files.{now};
 ghost use Rattle.file_pieces.specs.Counting.{Made, MadeAtMost, ReadsPieces, ReadsAtMost};
 ghost use Rattle.file_pieces.specs.Pieces.{Holds, end_of, pieces_in};
 ghost use Rattle.log_records.specs.Layout.{layout_of};
-ghost use Rattle.store_layout.specs.Checkpoints.{IsCheckpoint, sections_bytes, is_sealed};
+ghost use Rattle.store_layout.specs.Checkpoints.{IsCheckpoint, body_offset, sections_bytes, is_sealed};
 ghost use Rattle.store_layout.specs.Calls.{checkpoint_calls};
 ghost use Rattle.store_layout.specs.Failures.{IsFileFault, IsFileRefused};
 ghost use Rattle.store_layout.specs.Faults.{HasFault, IsBadCheckpoint, body_length_in, size_fault, version_in};
@@ -16,7 +16,7 @@ ghost use Rattle.checkpoint_file.specs.Loads.{checkpoint_of, sections_of, AreRis
 ghost use Rattle.checkpoint_file.specs.Front.{IsAt};
 
 use crate::front::{begin_file, reach_body};
-use crate::head::{Head, read_head};
+use crate::head::{BODY_LEN_OFFSET, GREATEST_OFFSET, Head, STRIPES_OFFSET, read_head};
 use crate::marks::{are_marked_from, greatest_mark};
 use crate::one_section::section;
 use crate::pieces::Stripe;
@@ -145,7 +145,7 @@ fn body_of(file: u8, head: &Head, len: usize) -> Result<(StripeCount, Unread), R
     // The count of stripes is allowed, and the body is inside the file.
     ensures place { IfOk result (λ x. (x.0.count ≡ head.now.stripes)
         × IsBodyAt file head.now x.1) }
-    ensures inside { OnOk result (36 + head.now.body_len ≤ len) }
+    ensures inside { OnOk result (body_offset + head.now.body_len ≤ len) }
     ensures ok { (content : List ℕ) → len ≡ length content → HasFields head.now content
         → OnOk result (size_fault file content ≡ None) }
 
@@ -156,10 +156,16 @@ fn body_of(file: u8, head: &Head, len: usize) -> Result<(StripeCount, Unread), R
     ensures unfailed { failed_in result ≡ 0 }
 {
     let Some(stripes) = StripeCount::new(head.stripes) else {
-        return Err(Refusal::Damaged { file, offset: 26 });
+        return Err(Refusal::Damaged {
+            file,
+            offset: STRIPES_OFFSET as u64,
+        });
     };
     if len < BODY_OFFSET || head.body_len > (len - BODY_OFFSET) as u64 {
-        return Err(Refusal::Damaged { file, offset: 28 });
+        return Err(Refusal::Damaged {
+            file,
+            offset: BODY_LEN_OFFSET as u64,
+        });
     }
     let body = Unread {
         file,
@@ -186,7 +192,7 @@ fn sized_body<D: Disk>(
     ensures called { IfOk result (λ x. Made D.states (1 + pieces_in (end_of x.2)) disk.old
         disk.new) }
     ensures tried { OnErr result
-        (MadeAtMost D.states (1 + pieces_in (36 + head.now.body_len)) disk.old disk.new) }
+        (MadeAtMost D.states (1 + pieces_in (body_offset + head.now.body_len)) disk.old disk.new) }
 
     // The reader has come to the body, whose length the header gives.
     ensures place { IfOk result (λ x. (x.0.count ≡ head.now.stripes)
@@ -197,7 +203,7 @@ fn sized_body<D: Disk>(
 
     // If the disk is honest: the stripes are allowed, and the body is in the file.
     ensures inside { D.honest disk.new
-        → OnOk result (36 + head.now.body_len ≤ length (seen_in D.states disk.old file)) }
+        → OnOk result (body_offset + head.now.body_len ≤ length (seen_in D.states disk.old file)) }
     ensures ok { D.honest disk.new → HasFields head.now (seen_in D.states disk.old file)
         → OnOk result (size_fault file (seen_in D.states disk.old file) ≡ None) }
 
@@ -227,9 +233,9 @@ fn load_body<D: Disk>(
     // The disk is only looked at: one call for the length, and one for each piece.
     ensures looks { Looks D.states D.failures D.honest (failed_in result) disk.old disk.new }
     ensures called { OnOk result
-        (Made D.states (1 + pieces_in (36 + head.now.body_len)) disk.old disk.new) }
+        (Made D.states (1 + pieces_in (body_offset + head.now.body_len)) disk.old disk.new) }
     ensures tried { OnErr result
-        (MadeAtMost D.states (1 + pieces_in (36 + head.now.body_len)) disk.old disk.new) }
+        (MadeAtMost D.states (1 + pieces_in (body_offset + head.now.body_len)) disk.old disk.new) }
 
     // If the disk is honest this is the file's checkpoint. Its keys stand in order.
     ensures ok { D.honest disk.new → IsHead head.now file (seen_in D.states disk.old file)
@@ -252,7 +258,10 @@ fn load_body<D: Disk>(
     let greatest = greatest_mark(&sections);
     let is_marked = are_marked_from(head.low, &sections);
     if greatest != head.greatest_mark || !is_marked {
-        return Err(Refusal::Damaged { file, offset: 18 });
+        return Err(Refusal::Damaged {
+            file,
+            offset: GREATEST_OFFSET as u64,
+        });
     }
     Ok(LoadedCheckpoint {
         version: head.version,

@@ -5,7 +5,7 @@ ghost use Rattle.disk_model.specs.Calls.{Looks};
 ghost use Rattle.file_pieces.specs.Counting.{ReadsPieces, ReadsAtMost};
 ghost use Rattle.file_pieces.specs.Pieces.{Holds, end_of};
 ghost use Rattle.log_records.specs.Layout.{layout_of};
-ghost use Rattle.store_layout.specs.Checkpoints.{entries_bytes, section_bytes};
+ghost use Rattle.store_layout.specs.Checkpoints.{entries_bytes, section_bytes, section_head_bytes};
 ghost use Rattle.store_layout.specs.Faults.{IsFault};
 ghost use Rattle.checkpoint_file.specs.Heads.{failed_in};
 ghost use Rattle.checkpoint_file.specs.Loads.{section_of, seen_in, ForRest, IsBehind, GoesOn, RefusesIn, HasNoNext, MayFollow, IsNext, HasFewer, AreSoMany, IsLoaded};
@@ -35,7 +35,7 @@ fn section_head<D: Disk>(
     // The disk is only looked at. The twelve bytes of mark and count were read.
     ensures looks { Looks D.states D.failures D.honest (failed_in result) disk.old disk.new }
     ensures at { OnOk result (IsAt reader.new unread) }
-    ensures reached { OnOk result (unread.at + 12 ≤ end_of reader.new) }
+    ensures reached { OnOk result (unread.at + section_head_bytes ≤ end_of reader.new) }
 
     // Device calls: one for each piece, and none for a piece behind the body.
     ensures called { OnOk result (ReadsPieces D.states disk.old disk.new reader.old reader.new) }
@@ -46,14 +46,15 @@ fn section_head<D: Disk>(
     ensures held { D.honest disk.new
         → OnOk result (Holds (seen_in D.states disk.new unread.file) reader.new) }
     ensures fits { IfOk result (λ head. (head.0 < 2 ^ 64) × (head.1 < 2 ^ 32)) }
-    ensures long { OnOk result (12 ≤ unread.left) }
+    ensures long { OnOk result (section_head_bytes ≤ unread.left) }
     ensures ok { D.honest disk.new → ForRest D.states disk.old unread (λ rest. IfOk result (λ head.
-        rest ≡ (big_bytes 8 head.0 ++ big_bytes 4 head.1) ++ drop 12 rest)) }
+        rest ≡ (big_bytes 8 head.0 ++ big_bytes 4 head.1) ++ drop section_head_bytes rest)) }
 
     // Refused: a failed call, no memory, or fewer than twelve bytes are left.
     ensures err { IfErr result
         (RefusesIn unread.file (λ offset. D.honest disk.new
-        → ForRest D.states disk.old unread (λ rest. (offset ≡ unread.at) × (length rest < 12)))) }
+        → ForRest D.states disk.old unread (λ rest. (offset ≡ unread.at)
+        × (length rest < section_head_bytes)))) }
 {
     if unread.left < SECTION_HEAD_BYTES {
         return Err(unread.damaged());

@@ -5,7 +5,7 @@ ghost use Rattle.log_records.specs.Layout.{layout_of};
 ghost use Rattle.log_records.specs.Reading.{Gives, both_at, key_at, some_value_at};
 ghost use Rattle.log_records.specs.Spelling.{IsText, IsValue};
 ghost use Rattle.map_types.specs.declared.texts.Value.{Value};
-ghost use Rattle.store_layout.specs.Checkpoints.{entry_bytes};
+ghost use Rattle.store_layout.specs.Checkpoints.{entry_bytes, section_head_bytes};
 ghost use Rattle.java_hash.specs.Stripes.{stripe_of};
 ghost use Rattle.checkpoint_file.specs.Loads.{IsAbove};
 
@@ -24,7 +24,7 @@ pub(crate) struct Stripe {
 
 /// The mark and the count at the front of a section.
 pub(crate) fn mark_and_count(head: &[u8]) -> (u64, usize)
-    requires { length head.now ≡ 12 }
+    requires { length head.now ≡ section_head_bytes }
     ensures spelled { head.now ≡ big_bytes 8 result.0 ++ big_bytes 4 result.1 }
     ensures fits { (result.0 < 2 ^ 64) × (result.1 < 2 ^ 32) }
 {

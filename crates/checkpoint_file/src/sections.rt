@@ -3,7 +3,7 @@ ghost use Rattle.std.specs.Prelude.{◌≡◌, ◌≤◌, ◌<◌, ◌^◌, ◌+
 ghost use Rattle.std.specs.List.{AllByRecursion};
 ghost use Rattle.store_layout.specs.Checkpoints.{checkpoint_header, entries_bytes, marked_bytes};
 ghost use Rattle.store_layout.specs.Logs.{new_layout};
-ghost use Rattle.checkpoint_file.specs.States.{AreWellFormed};
+ghost use Rattle.checkpoint_file.specs.States.{AreWellFormed, most_section_bytes};
 
 use bin_table::LentEntry;
 use java_hash::StripeCount;
@@ -58,7 +58,7 @@ pub(crate) fn section_bytes(
     requires { length entries.now < 2 ^ 32 }
     ensures ok { IfOk result (λ bytes. bytes.items ≡ marked_bytes new_layout mark entries.now) }
     ensures fits { OnOk result (AreWellFormed new_layout entries.now) }
-    ensures bound { IfOk result (λ bytes. length bytes.items ≤ 2 ^ 46) }
+    ensures bound { IfOk result (λ bytes. length bytes.items ≤ most_section_bytes) }
     ensures err { IfErr result (λ refusal. refusal ≡ Refusal.NoMemory) }
 {
     let mut bytes = Vec::new(alloc);

@@ -19,6 +19,27 @@ checkpoint_header_bytes = 35
 abbrev pub body_offset : ℕ
 body_offset = 36
 
+-- The places of the header's fields, behind the gate (1 byte) and the version (1). A refusal names that of the field
+-- which is at fault.
+abbrev pub generation_offset : ℕ
+generation_offset = 2
+
+abbrev pub low_offset : ℕ
+low_offset = 10
+
+abbrev pub greatest_offset : ℕ
+greatest_offset = 18
+
+abbrev pub stripes_offset : ℕ
+stripes_offset = 26
+
+abbrev pub body_length_offset : ℕ
+body_length_offset = 28
+
+-- how many bytes stand before the entries of a section: its mark (8) and its count (4)
+abbrev pub section_head_bytes : ℕ
+section_head_bytes = 12
+
 -- the number of the file that has the checkpoint of this generation
 abbrev pub checkpoint_file : ℕ → ℕ
 checkpoint_file generation = generation % 2

@@ -12,7 +12,7 @@ use Rattle.map_types.specs.declared.refusals.Refusal.{Refusal}
 use Rattle.map_types.specs.declared.refusals.Refusal.TheVariants.{Damaged, WrongVersion}
 use Rattle.log_records.specs.Layout.{Layout}
 use Rattle.store_layout.specs.Logs.{is_read}
-use Rattle.store_layout.specs.Checkpoints.{Section, Checkpoint, body_offset, entry_bytes, entries_bytes, sections_bytes, greatest_mark, IsEntryOf, AreSections, AreMarkedFrom, is_sealed}
+use Rattle.store_layout.specs.Checkpoints.{Section, Checkpoint, IsEntryOf, AreSections, AreMarkedFrom, body_length_offset, body_offset, entries_bytes, entry_bytes, generation_offset, greatest_mark, greatest_offset, is_sealed, low_offset, section_head_bytes, sections_bytes, stripes_offset}
 
 -- ---- the fields, each at its offset
 
@@ -24,19 +24,19 @@ abbrev pub version_in : List ℕ → ℕ
 version_in content = slice_index_or content 1 0
 
 abbrev pub generation_in : List ℕ → ℕ
-generation_in content = number_in 8 2 content
+generation_in content = number_in 8 generation_offset content
 
 abbrev pub low_in : List ℕ → ℕ
-low_in content = number_in 8 10 content
+low_in content = number_in 8 low_offset content
 
 abbrev pub greatest_in : List ℕ → ℕ
-greatest_in content = number_in 8 18 content
+greatest_in content = number_in 8 greatest_offset content
 
 abbrev pub stripes_in : List ℕ → ℕ
-stripes_in content = number_in 2 26 content
+stripes_in content = number_in 2 stripes_offset content
 
 abbrev pub body_length_in : List ℕ → ℕ
-body_length_in content = number_in 8 28 content
+body_length_in content = number_in 8 body_length_offset content
 
 -- the bytes that the sections are to fill
 abbrev pub body_in : List ℕ → List ℕ
@@ -54,14 +54,14 @@ abbrev pub head_fault : ℕ → List ℕ → Option Refusal
 head_fault file content =
     if not (is_sealed content) then None
     else if not (is_read (version_in content)) then Some WrongVersion
-    else if not (generation_in content % 2 == file) then Some (Damaged file 2)
+    else if not (generation_in content % 2 == file) then Some (Damaged file generation_offset)
     else None
 
 -- of the file that is used: no count of stripes, or a body that reaches past the file
 abbrev pub size_fault : ℕ → List ℕ → Option Refusal
 size_fault file content =
-    if not (is_stripe_count (stripes_in content)) then Some (Damaged file 26)
-    else if nat_lt (length content) (body_offset + body_length_in content) then Some (Damaged file 28)
+    if not (is_stripe_count (stripes_in content)) then Some (Damaged file stripes_offset)
+    else if nat_lt (length content) (body_offset + body_length_in content) then Some (Damaged file body_length_offset)
     else None
 
 -- ---- the sections
@@ -84,11 +84,12 @@ pub record HasBadEntry (layout : Layout) (stripes stripe : ℕ) (bytes : List �
   pub fewer : length before < count
   pub none_next : (entry : List ℕ × Value) (others : List ℕ) → rest ≡ entry_bytes layout entry ++ others
       → AreEntries layout stripes stripe (before ++ entry ∷ []) → ⊥
-  pub place : offset ≡ 12 + length (entries_bytes layout before)
+  pub place : offset ≡ section_head_bytes + length (entries_bytes layout before)
 
 -- What is wrong where the section of this stripe is to stand, or the body is to end, and how far from there.
 pub data IsFault (layout : Layout) (stripes stripe : ℕ) (bytes : List ℕ) (offset : ℕ) : Type 0 where
-  no_head : stripe < stripes → length bytes < 12 → offset ≡ 0 → IsFault layout stripes stripe bytes offset
+  no_head : stripe < stripes → length bytes < section_head_bytes → offset ≡ 0
+      → IsFault layout stripes stripe bytes offset
   bad_entry : stripe < stripes → HasBadEntry layout stripes stripe bytes offset
       → IsFault layout stripes stripe bytes offset
   left_over : stripe ≡ stripes → 0 < length bytes → offset ≡ 0 → IsFault layout stripes stripe bytes offset
@@ -117,5 +118,5 @@ pub data IsBadCheckpoint (layout : Layout) (file : ℕ) (content : List ℕ) (re
   bad_section : (offset : ℕ) → size_fault file content ≡ None
       → HasFault layout (stripes_in content) (body_in content) offset
       → refusal ≡ Damaged file (body_offset + offset) → IsBadCheckpoint layout file content refusal
-  bad_marks : size_fault file content ≡ None → HasBadMarks layout content → refusal ≡ Damaged file 18
+  bad_marks : size_fault file content ≡ None → HasBadMarks layout content → refusal ≡ Damaged file greatest_offset
       → IsBadCheckpoint layout file content refusal

@@ -10,7 +10,7 @@ use Rattle.map_model.specs.Histories.{History}
 use Rattle.log_records.specs.Layout.{Layout, IsLayout}
 use Rattle.log_records.specs.Agreement.{IsBytes}
 use Rattle.store_layout.specs.Logs.{is_read}
-use Rattle.store_layout.specs.Checkpoints.{Section, Checkpoint, AreSections, AreMarkedFrom, IsWhole, IsCheckpoint, checkpoint_bytes, checkpoint_header_bytes, sections_bytes, checkpoint_file, greatest_mark, is_sealed}
+use Rattle.store_layout.specs.Checkpoints.{Section, Checkpoint, AreSections, AreMarkedFrom, IsWhole, IsCheckpoint, checkpoint_bytes, checkpoint_header_bytes, sections_bytes, checkpoint_file, greatest_mark, is_sealed, section_head_bytes}
 use Rattle.store_layout.specs.SectionsAndLog.{grown, Restores}
 use Rattle.store_layout.specs.Faults.{version_in, generation_in, low_in, greatest_in, stripes_in, body_in, checkpoint_in, head_fault, size_fault, IsBadCheckpoint}
 use Rattle.store_layout.specs.Opening.{Contents, IsCheckpointIn, IsClosedIn, Opened, log_of, prefix_of, history_of, IsOlder, AreLogs, Holds, StandsFor, StandsForFront, first_checkpoint, heads_fault, newest_file, Refuses, Opens}
@@ -109,11 +109,11 @@ FrontStays = (h : History) (least most : ℕ) (contents : Contents) (more : List
 
 -- ---- a new store
 
--- it may stand in a file, with 12 bytes for each stripe
+-- it may stand in a file, with a mark and a count for each stripe
 abbrev pub FirstIsWhole : Type 0
 FirstIsWhole = (layout : Layout) (stripes : ℕ) → is_stripe_count stripes ≡ true →
     IsWhole layout (first_checkpoint stripes) × (length (checkpoint_bytes layout (first_checkpoint stripes))
-    ≡ checkpoint_header_bytes + 12 * stripes)
+    ≡ checkpoint_header_bytes + section_head_bytes * stripes)
 
 -- A new store stands for no command and the empty map.
 abbrev pub FirstStands : Type 0
