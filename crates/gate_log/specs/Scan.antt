@@ -9,7 +9,7 @@ use Rattle.map_types.specs.declared.refusals.Refusal.TheVariants.{Failed, NoMemo
 use Rattle.log_records.specs.declared.versions.Version.{Version}
 use Rattle.log_records.specs.Layout.{Layout}
 use Rattle.ticket_order.specs.declared.stripe.Entry.{Entry}
-use Rattle.store_layout.specs.Logs.{Batch, IsBatch, IsLog, IsClosed, IsEnded, commands_in, end_frame, frame, log_file, log_front}
+use Rattle.store_layout.specs.Logs.{Batch, IsBatch, IsLog, IsClosed, IsEnded, commands_in, end_distance, end_frame, frame, log_file, log_front}
 pub use Rattle.store_layout.specs.Failures.{failed_in}
 use Rattle.gate_log.specs.States.{AreFrom, batch_of}
 use Rattle.gate_log.specs.declared.scan.Found.{Found}
@@ -74,7 +74,7 @@ pub record IsStill (old new : ScanState) : Type 0 where
 -- the last gate that was read: behind a frame the next one, else the one that the scan is at
 abbrev pub last_gate : ScanState → ScanState → Found → ℕ
 last_gate old new (found_batch entries) = new.gate
-last_gate old new Ended = old.gate + 14
+last_gate old new Ended = old.gate + end_distance
 last_gate old new Closed = old.gate
 
 -- how the scan goes on

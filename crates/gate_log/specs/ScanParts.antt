@@ -9,7 +9,7 @@ use Rattle.map_types.specs.declared.commands.Command.{Command}
 use Rattle.log_records.specs.Layout.{Layout}
 use Rattle.log_records.specs.Spelling.{IsCommand}
 use Rattle.ticket_order.specs.declared.stripe.Entry.{Entry}
-use Rattle.store_layout.specs.Logs.{Batch, IsBatch, end_frame, frame, most_frame_bytes, records_bytes}
+use Rattle.store_layout.specs.Logs.{Batch, IsBatch, batch_kind, body_distance, end_bytes, end_distance, end_frame, end_kind, frame, head_bytes, most_frame_bytes, numbers_bytes, records_bytes}
 use Rattle.gate_log.specs.States.{AreFrom, batch_of}
 use Rattle.gate_log.specs.declared.parts.Ahead.{Ahead}
 use Rattle.gate_log.specs.declared.parts.Ahead.TheVariants as ahead
@@ -28,13 +28,13 @@ pub record AreEntries (layout : Layout) (first count : ℕ) (entries : List Entr
 pub record IsBody (layout : Layout) (expected : ℕ) (entries : List Entry) (body : List ℕ) : Type 0 where
   pub tickets : AreFrom expected entries
   pub fits : IsBatch layout (batch_of expected entries)
-  pub bytes : frame layout (batch_of expected entries) ≡ 1 ∷ (big_bytes 4 (length body) ++ body)
+  pub bytes : frame layout (batch_of expected entries) ≡ batch_kind ∷ (big_bytes 4 (length body) ++ body)
 
 -- these changes are a batch, and its frame has `len` bytes behind its length
 pub record FitsBatch (layout : Layout) (expected len : ℕ) (entries : List Entry) : Type 0 where
   pub tickets : AreFrom expected entries
   pub fits : IsBatch layout (batch_of expected entries)
-  pub size : length (frame layout (batch_of expected entries)) ≡ 5 + len
+  pub size : length (frame layout (batch_of expected entries)) ≡ head_bytes + len
 
 -- kind and length, as many bytes, and a byte behind them
 pub record HasFrame (kind len : ℕ) (rest : List ℕ) : Type 0 where
@@ -57,34 +57,37 @@ pub record IsAtEnd (next : ℕ) (rest : List ℕ) : Type 0 where
   pub bytes : rest ≡ end_frame next ++ after ∷ behind
   pub next_fits : next < 2 ^ 64
 
--- the most bytes that a batch's frame has behind its kind (1 byte) and its length (4 bytes)
+-- the most bytes that a batch's frame has behind its kind and its length
 abbrev pub most_body_bytes : ℕ
-most_body_bytes = most_frame_bytes - 5
+most_body_bytes = most_frame_bytes - head_bytes
 
 -- a frame of this kind and length is of that sort
 abbrev pub IsAheadOf : ℕ → ℕ → Option Ahead → Type 0
-IsAheadOf kind len None = ((kind ≡ 1) → 12 ≤ len → len ≤ most_body_bytes → ⊥) × ((kind ≡ 2) → (len ≡ 8) → ⊥)
+IsAheadOf kind len None = ((kind ≡ batch_kind) → numbers_bytes ≤ len → len ≤ most_body_bytes → ⊥)
+    × ((kind ≡ end_kind) → (len ≡ end_bytes) → ⊥)
 IsAheadOf kind len (Some ahead.Closed) = ⊥
-IsAheadOf kind len (Some (ahead.Batch size)) = (kind ≡ 1) × (size ≡ len) × (12 ≤ len) × (len ≤ most_body_bytes)
-IsAheadOf kind len (Some ahead.End) = (kind ≡ 2) × (len ≡ 8)
+IsAheadOf kind len (Some (ahead.Batch size)) =
+    (kind ≡ batch_kind) × (size ≡ len) × (numbers_bytes ≤ len) × (len ≤ most_body_bytes)
+IsAheadOf kind len (Some ahead.End) = (kind ≡ end_kind) × (len ≡ end_bytes)
 
 -- its bytes and the gate behind them have places of 64 bits
 abbrev pub FitsAhead : ℕ → Ahead → Type 0
 FitsAhead gate ahead.Closed = Unit {0}
-FitsAhead gate (ahead.Batch len) = (12 ≤ len) × (len ≤ most_body_bytes) × (gate + 7 + len < 2 ^ 64)
-FitsAhead gate ahead.End = gate + 15 < 2 ^ 64
+FitsAhead gate (ahead.Batch len) =
+    (numbers_bytes ≤ len) × (len ≤ most_body_bytes) × (gate + body_distance + len + 1 < 2 ^ 64)
+FitsAhead gate ahead.End = gate + end_distance + 1 < 2 ^ 64
 
 -- what this gate and these bytes behind it begin
 abbrev pub ComesAhead : ℕ → List ℕ → Ahead → Type 0
 ComesAhead byte rest ahead.Closed = byte ≢ open_gate
-ComesAhead byte rest (ahead.Batch len) = (byte ≡ open_gate) × HasFrame 1 len rest
-ComesAhead byte rest ahead.End = (byte ≡ open_gate) × HasFrame 2 8 rest
+ComesAhead byte rest (ahead.Batch len) = (byte ≡ open_gate) × HasFrame batch_kind len rest
+ComesAhead byte rest ahead.End = (byte ≡ open_gate) × HasFrame end_kind end_bytes rest
 
 -- where the gate behind this frame stands
 abbrev pub behind_frame : ℕ → Ahead → ℕ
 behind_frame gate ahead.Closed = gate
-behind_frame gate (ahead.Batch len) = gate + 6 + len
-behind_frame gate ahead.End = gate + 14
+behind_frame gate (ahead.Batch len) = gate + body_distance + len
+behind_frame gate ahead.End = gate + end_distance
 
 -- what a read gives of the reader's file
 abbrev pub bytes_of : {D : Type 0} → (D → List Files) → D → ReaderState → List ℕ

@@ -7,17 +7,26 @@ ghost use Rattle.ticket_order.specs.Records.{IsWithin};
 ghost use Rattle.store_layout.specs.Logs.{end_frame, frame, header, records_bytes, most_commands};
 ghost use Rattle.gate_log.specs.States.{batch_of, commands_of};
 
+use crate::parts::{END_BYTES, HEAD_BYTES};
 use log_records::{Version, encode, put_number, record_len};
 use map_types::Refusal;
 use std::alloc::Global;
-use store_layout::{BATCH_KIND, CLOSED_GATE, END_KIND, FRAME_HEAD_BYTES, NUMBERS_BYTES};
+use store_layout::{
+    BATCH_KIND, CLOSED_GATE, END_KIND, FRAME_HEAD_BYTES, HEADER_BYTES, NUMBERS_BYTES,
+};
 use ticket_order::Entry;
 
+/// How many bytes a log's header has, and the gate behind it.
+const HEADER_AND_GATE: usize = HEADER_BYTES + 1;
+
+/// How many bytes an end frame has, and the gate behind it.
+const END_AND_GATE: usize = HEAD_BYTES + END_BYTES + 1;
+
 /// A log's header, and a closed gate.
-pub(crate) fn header_and_gate(version: Version, generation: u64, low: u64) -> [u8; 18]
+pub(crate) fn header_and_gate(version: Version, generation: u64, low: u64) -> [u8; HEADER_AND_GATE]
     ensures { result ≡ header (layout_of version) generation low ++ 0 ∷ [] }
 {
-    let mut bytes = [CLOSED_GATE; 18];
+    let mut bytes = [CLOSED_GATE; HEADER_AND_GATE];
     bytes[0] = version.byte();
     bytes[1..9].copy_from_slice(&generation.to_be_bytes());
     bytes[9..17].copy_from_slice(&low.to_be_bytes());
@@ -25,11 +34,13 @@ pub(crate) fn header_and_gate(version: Version, generation: u64, low: u64) -> [u
 }
 
 /// The end frame, and a closed gate.
-pub(crate) fn end_frame_and_gate(next: u64) -> [u8; 14]
+pub(crate) fn end_frame_and_gate(next: u64) -> [u8; END_AND_GATE]
     ensures { result ≡ end_frame next ++ 0 ∷ [] }
 {
-    let mut bytes = [END_KIND, 0, 0, 0, 8, 0, 0, 0, 0, 0, 0, 0, 0, CLOSED_GATE];
-    bytes[5..13].copy_from_slice(&next.to_be_bytes());
+    let mut bytes = [CLOSED_GATE; END_AND_GATE];
+    bytes[0] = END_KIND;
+    bytes[1..HEAD_BYTES].copy_from_slice(&(END_BYTES as u32).to_be_bytes());
+    bytes[HEAD_BYTES..HEAD_BYTES + END_BYTES].copy_from_slice(&next.to_be_bytes());
     bytes
 }
 

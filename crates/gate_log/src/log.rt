@@ -33,6 +33,9 @@ use std::marker::Model;
 use store_layout::{HEADER_BYTES, MOST_LOG_BYTES, NEW_VERSION, OPEN_GATE, Phase, log_file};
 use ticket_order::Entry;
 
+/// A frame stands between two gates: its own, and the closed one behind it.
+const GATES: usize = 2;
+
 /// The log of one generation. It holds one staged frame, and nothing of what was committed; the disk
 /// is lent to it. After a device failure it makes no more device calls.
 #[derive(Drop)]
@@ -259,7 +262,7 @@ impl GateLog {
         if self.phase != Phase::Idle || self.ending.is_some() {
             return Err(Refusal::WrongPhase);
         }
-        if self.gate > MOST_LOG_BYTES - 2 - frame_len(self.version, entries) {
+        if self.gate > MOST_LOG_BYTES - GATES - frame_len(self.version, entries) {
             return Err(Refusal::LogFull);
         }
         self.frame = batch_frame(self.alloc, self.version, self.committed, entries)?;

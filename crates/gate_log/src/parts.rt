@@ -5,7 +5,7 @@ ghost use Rattle.byteorder.specs.Endian.{big_bytes};
 ghost use Rattle.log_records.specs.Layout.{layout_of};
 ghost use Rattle.log_records.specs.Spelling.{IsCommand, record_bytes};
 ghost use Rattle.map_types.specs.declared.commands.Command.{Command};
-ghost use Rattle.store_layout.specs.Logs.{Batch, IsBatch, frame, is_read, log_file, records_bytes};
+ghost use Rattle.store_layout.specs.Logs.{Batch, IsBatch, batch_kind, end_bytes, frame, head_bytes, is_read, log_file, numbers_bytes, records_bytes};
 ghost use Rattle.store_layout.specs.Readings.{HasHeader, IsBadHeader};
 ghost use Rattle.gate_log.specs.Scan.{failed_in};
 ghost use Rattle.gate_log.specs.ScanParts.{AreEntries, IsBody, IsAheadOf, most_body_bytes};
@@ -24,6 +24,12 @@ pub(crate) const HEAD_BYTES: usize = 5;
 
 /// The number of a generation stands behind the length of an end frame.
 pub(crate) const END_BYTES: usize = 8;
+
+/// Where the generation stands in a header, behind the version.
+const GENERATION_OFFSET: usize = 1;
+
+/// Where the low ticket stands, behind the generation.
+const LOW_OFFSET: usize = 9;
 
 /// What the gate, and the kind and the length behind it, say.
 #[derive(Drop)]
@@ -58,11 +64,17 @@ pub(crate) fn check_header(generation: u64, low: u64, bytes: &[u8]) -> Result<Ve
     let Some(version) = version_of_file(bytes[0]) else {
         return Err(Refusal::WrongVersion);
     };
-    if BigEndian::read_u64(&bytes[1..]) != generation {
-        return Err(Refusal::Damaged { file, offset: 1 });
+    if BigEndian::read_u64(&bytes[GENERATION_OFFSET..]) != generation {
+        return Err(Refusal::Damaged {
+            file,
+            offset: GENERATION_OFFSET as u64,
+        });
     }
-    if BigEndian::read_u64(&bytes[9..]) != low {
-        return Err(Refusal::Damaged { file, offset: 9 });
+    if BigEndian::read_u64(&bytes[LOW_OFFSET..]) != low {
+        return Err(Refusal::Damaged {
+            file,
+            offset: LOW_OFFSET as u64,
+        });
     }
     Ok(version)
 }
@@ -76,7 +88,7 @@ pub(crate) fn file_number(generation: u64) -> u8
 
 /// The kind and the length that stand before a frame's other bytes.
 pub(crate) fn kind_and_len(bytes: &[u8]) -> (u8, usize)
-    requires { length bytes.now ≡ 5 }
+    requires { length bytes.now ≡ head_bytes }
     ensures spelled { bytes.now ≡ result.0 ∷ big_bytes 4 result.1 }
     ensures fits { result.1 < 2 ^ 32 }
 {
@@ -85,7 +97,7 @@ pub(crate) fn kind_and_len(bytes: &[u8]) -> (u8, usize)
 
 /// The generation that an end frame names.
 pub(crate) fn next_generation(body: &[u8]) -> u64
-    requires { length body.now ≡ 8 }
+    requires { length body.now ≡ end_bytes }
     ensures { body.now ≡ big_bytes 8 result }
 {
     BigEndian::read_u64(body)
@@ -93,9 +105,9 @@ pub(crate) fn next_generation(body: &[u8]) -> u64
 
 /// The first ticket and the count that stand before a batch's records.
 fn first_and_count(body: &[u8]) -> (u64, usize)
-    requires { 12 ≤ length body.now }
+    requires { numbers_bytes ≤ length body.now }
     ensures spelled { body.now ≡ big_bytes 8 result.0
-        ++ (big_bytes 4 result.1 ++ drop 12 body.now) }
+        ++ (big_bytes 4 result.1 ++ drop numbers_bytes body.now) }
     ensures fits { result.1 < 2 ^ 32 }
 {
     let first = BigEndian::read_u64(body);
@@ -169,14 +181,15 @@ pub(crate) fn batch_at(
     expected: u64,
     body: &[u8],
 ) -> Result<Option<Vec<Entry>>, Refusal>
-    requires low { 12 ≤ length body.now }
+    requires low { numbers_bytes ≤ length body.now }
     requires high { length body.now ≤ most_body_bytes }
     ensures some { IfOk result (λ found. IfSome found (λ entries.
         IsBody (layout_of version) expected entries.items body.now)) }
     ensures none { IfOk result (λ found.
         IfNone found
         ((batch : Batch) → IsBatch (layout_of version) batch → batch.first ≡ expected
-        → frame (layout_of version) batch ≢ 1 ∷ (big_bytes 4 (length body.now) ++ body.now))) }
+        → frame (layout_of version) batch
+        ≢ batch_kind ∷ (big_bytes 4 (length body.now) ++ body.now))) }
     ensures err { IfErr result (λ refusal. refusal ≡ Refusal.NoMemory) }
 {
     let (first, count) = first_and_count(body);

@@ -5,7 +5,7 @@ ghost use Rattle.file_pieces.specs.Counting.{ReadsPieces, ReadsAtMost};
 ghost use Rattle.file_pieces.specs.Pieces.{Holds, IsSameFile, end_of, pieces_in};
 ghost use Rattle.log_records.specs.Layout.{layout_of};
 ghost use Rattle.disk_model.specs.Gates.{open_gate};
-ghost use Rattle.store_layout.specs.Logs.{log_file};
+ghost use Rattle.store_layout.specs.Logs.{batch_kind, body_distance, end_bytes, end_distance, end_kind, head_bytes, log_file, numbers_bytes};
 ghost use Rattle.store_layout.specs.Readings.{HasNoFrame};
 ghost use Rattle.gate_log.specs.States.{batch_of};
 ghost use Rattle.gate_log.specs.Scan.{ReadsAtGate, RefusesAt, failed_in};
@@ -87,14 +87,15 @@ impl Place {
     fn head(self, reader: &FileReader, behind: usize) -> Result<Ahead, Refusal>
         // The five bytes of kind and length are held, and a byte stands behind them.
         requires room { self.gate + 1 + behind < 2 ^ 64 }
-        requires long { 5 < behind }
+        requires long { head_bytes < behind }
         requires held { reader.now.from ≤ self.gate }
-        requires reached { self.gate + 6 ≤ end_of reader.now }
+        requires reached { self.gate + body_distance ≤ end_of reader.now }
 
         // The gate behind the frame is in the file, and behind kind and length.
         ensures fits { IfOk result (FitsAhead self.gate) }
         ensures inside { IfOk result (λ ahead. behind_frame self.gate ahead ≤ self.gate + behind) }
-        ensures some { IfOk result (λ ahead. self.gate + 6 ≤ behind_frame self.gate ahead) }
+        ensures some { IfOk result (λ ahead.
+            self.gate + body_distance ≤ behind_frame self.gate ahead) }
 
         // A frame of that kind and length stands behind the gate, whole.
         ensures ahead { (content rest : List ℕ) → Holds content reader.now
@@ -251,17 +252,18 @@ impl Place {
     pub(crate) fn check_end(self, reader: &FileReader) -> Result<(), Refusal>
         // The end frame behind the gate was read and is held.
         requires held { reader.now.from ≤ self.gate }
-        requires reached { self.gate + 14 ≤ end_of reader.now }
-        requires room { self.gate + 15 < 2 ^ 64 }
+        requires reached { self.gate + end_distance ≤ end_of reader.now }
+        requires room { self.gate + end_distance + 1 < 2 ^ 64 }
 
         // It names the next generation.
         ensures ok { (content rest : List ℕ) → Holds content reader.now
-            → drop (self.gate + 1) content ≡ rest → HasFrame 2 8 rest
+            → drop (self.gate + 1) content ≡ rest → HasFrame end_kind end_bytes rest
             → OnOk result (IsAtEnd (self.generation + 1) rest) }
 
         // Refused as damaged if it names another; never as Failed.
         ensures err { IfErr result (RefusesAt self.generation self.gate ((content rest : List ℕ)
-            → Holds content reader.now → drop (self.gate + 1) content ≡ rest → HasFrame 2 8 rest
+            → Holds content reader.now → drop (self.gate + 1) content ≡ rest
+            → HasFrame end_kind end_bytes rest
             → HasNoFrame (layout_of self.version) self.expected (self.generation + 1) rest)) }
         ensures unfailed { failed_in result ≡ 0 }
     {
@@ -282,23 +284,24 @@ impl Place {
         len: usize,
     ) -> Result<Vec<Entry>, Refusal>
         // The frame was read and is held, and its length is one that a batch may have.
-        requires low { 12 ≤ len }
+        requires low { numbers_bytes ≤ len }
         requires high { len ≤ most_body_bytes }
         requires held { reader.now.from ≤ self.gate }
-        requires reached { self.gate + 6 + len ≤ end_of reader.now }
-        requires room { self.gate + 7 + len < 2 ^ 64 }
+        requires reached { self.gate + body_distance + len ≤ end_of reader.now }
+        requires room { self.gate + body_distance + len + 1 < 2 ^ 64 }
 
         // The changes are a batch of the next tickets, and its frame stands there.
         ensures fits { IfOk result (λ entries.
             FitsBatch (layout_of self.version) self.expected len entries.items) }
         ensures ok { (content rest : List ℕ) → Holds content reader.now
-            → drop (self.gate + 1) content ≡ rest → HasFrame 1 len rest
+            → drop (self.gate + 1) content ≡ rest → HasFrame batch_kind len rest
             → IfOk result (λ entries.
             IsAtBatch (layout_of self.version) (batch_of self.expected entries.items) rest) }
 
         // Refused: no memory, or no batch that may come next; never as Failed.
         ensures err { IfErr result (RefusesAt self.generation self.gate ((content rest : List ℕ)
-            → Holds content reader.now → drop (self.gate + 1) content ≡ rest → HasFrame 1 len rest
+            → Holds content reader.now → drop (self.gate + 1) content ≡ rest
+            → HasFrame batch_kind len rest
             → HasNoFrame (layout_of self.version) self.expected (self.generation + 1) rest)) }
         ensures unfailed { failed_in result ≡ 0 }
     {

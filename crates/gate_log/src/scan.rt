@@ -7,7 +7,7 @@ ghost use Rattle.file_pieces.specs.Counting.{Made, MadeAtMost, ReadsPieces, Read
 ghost use Rattle.file_pieces.specs.Pieces.{Holds, end_of, pieces_in};
 ghost use Rattle.log_records.specs.Layout.{Layout, IsLayout, layout_of};
 ghost use Rattle.store_layout.specs.Failures.{IsFileRefused};
-ghost use Rattle.store_layout.specs.Logs.{Batch, IsClosed, IsEnded, log_file};
+ghost use Rattle.store_layout.specs.Logs.{Batch, IsClosed, IsEnded, log_file, log_header_bytes};
 ghost use Rattle.store_layout.specs.Readings.{IsBadHeader, IsBroken, Reading, Reads};
 ghost use Rattle.gate_log.specs.Scan.{ScanState, HasRead, IsFound, IsStill, GoesOn, ReadsAtGate, failed_in, last_gate, log_bytes, RefusesFor};
 
@@ -92,8 +92,8 @@ impl Scan {
     ) -> Result<Scan, Refusal>
         // The disk is only looked at, and the scan is at the first gate.
         ensures looks { Looks D.states D.failures D.honest (failed_in result) disk.old disk.new }
-        ensures ok { IfOk result (λ scan. (scan.generation ≡ generation) × (scan.gate ≡ 17)
-            × (scan.expected ≡ low)) }
+        ensures ok { IfOk result (λ scan. (scan.generation ≡ generation)
+            × (scan.gate ≡ log_header_bytes) × (scan.expected ≡ low)) }
 
         // Two device calls, for the length and the first piece; at most two if refused.
         ensures called { OnOk result (Made D.states 2 disk.old disk.new) }

@@ -1,7 +1,7 @@
 -- How many device calls an opening makes: a formula over lengths and places that the formats give.
 use Rattle.std.specs.Prelude.{ℕ, ◌+◌, List, length, Option, None, Some}
 use Rattle.file_pieces.specs.Pieces.{pieces_in}
-use Rattle.store_layout.specs.Logs.{Batch, log_file}
+use Rattle.store_layout.specs.Logs.{Batch, end_distance, log_file}
 use Rattle.store_layout.specs.Checkpoints.{Checkpoint, body_offset, checkpoint_file, sections_bytes}
 use Rattle.store_layout.specs.Opening.{Contents, FoundLog, Opened, checkpoint_layout, gate_in, newest_by}
 
@@ -17,11 +17,11 @@ log_calls gate = 1 + pieces_in (gate + 1)
 abbrev pub last_gate : Contents → FoundLog → ℕ
 last_gate contents log = gate_in (contents (log_file log.generation)) log
 
--- Both logs. An end frame is the last of its log, and has 13 bytes between its gate and the one behind it.
+-- Both logs. An end frame is the last of its log, and the gate behind it is read too.
 abbrev pub logs_calls : Contents → Checkpoint → List Batch → Option (List Batch) → ℕ
 logs_calls contents k first None = log_calls (last_gate contents (newest_by k first None))
 logs_calls contents k first (Some second) =
-    log_calls (last_gate contents (newest_by k first None) + 14)
+    log_calls (last_gate contents (newest_by k first None) + end_distance)
     + log_calls (last_gate contents (newest_by k first (Some second)))
 
 -- how many bytes the sections of the checkpoint that is used have

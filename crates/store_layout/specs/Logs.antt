@@ -28,6 +28,40 @@ new_layout = layout_of new_version
 abbrev pub log_header_bytes : ℕ
 log_header_bytes = 17
 
+-- The places of the header's numbers, behind the version (1 byte). A refusal names that of the one which is at fault.
+abbrev pub log_generation_offset : ℕ
+log_generation_offset = 1
+
+abbrev pub log_low_offset : ℕ
+log_low_offset = 9
+
+-- how many bytes stand at the front of a frame: its kind (1) and the length of what follows (4)
+abbrev pub head_bytes : ℕ
+head_bytes = 5
+
+-- how many bytes stand before the records of a batch: its first ticket (8) and its count (4)
+abbrev pub numbers_bytes : ℕ
+numbers_bytes = 12
+
+-- how many bytes an end frame has behind its length: the generation of the next log
+abbrev pub end_bytes : ℕ
+end_bytes = 8
+
+-- how far behind its gate a frame has its bytes behind the length: the gate (1 byte), the kind and the length
+abbrev pub body_distance : ℕ
+body_distance = 6
+
+-- how far behind the gate of an end frame the next gate stands
+abbrev pub end_distance : ℕ
+end_distance = 14
+
+-- the kind of a frame with records, and that of the frame that ends a log
+abbrev pub batch_kind : ℕ
+batch_kind = 1
+
+abbrev pub end_kind : ℕ
+end_kind = 2
+
 -- The most commands of one batch. An opening holds the commands of one batch at a time, so this bounds its memory.
 abbrev pub most_commands : ℕ
 most_commands = 65536
@@ -59,12 +93,12 @@ records_bytes layout (command ∷ commands) = record_bytes layout command ++ rec
 -- kind, length of what follows, first ticket, count, records
 unfoldable pub frame : Layout → Batch → List ℕ
 frame layout batch =
-    1 ∷ (big_bytes 4 (12 + length (records_bytes layout batch.commands))
+    batch_kind ∷ (big_bytes 4 (numbers_bytes + length (records_bytes layout batch.commands))
     ++ (big_bytes 8 batch.first ++ (big_bytes 4 (length batch.commands) ++ records_bytes layout batch.commands)))
 
 -- kind, length of what follows, the generation of the next log
 unfoldable pub end_frame : ℕ → List ℕ
-end_frame next = 2 ∷ (big_bytes 4 8 ++ big_bytes 8 next)
+end_frame next = end_kind ∷ (big_bytes 4 end_bytes ++ big_bytes 8 next)
 
 -- version, generation, low ticket
 unfoldable pub header : Layout → ℕ → ℕ → List ℕ

@@ -5,7 +5,7 @@ use Rattle.disk_model.specs.Gates.{open_gate}
 use Rattle.map_types.specs.declared.refusals.Refusal.{Refusal}
 use Rattle.map_types.specs.declared.refusals.Refusal.TheVariants.{Damaged, WrongVersion}
 use Rattle.log_records.specs.Layout.{Layout}
-use Rattle.store_layout.specs.Logs.{Batch, IsBatch, IsLog, IsClosed, IsEnded, commands_in, end_frame, frame, is_read, log_file, log_front, log_header_bytes}
+use Rattle.store_layout.specs.Logs.{Batch, IsBatch, IsLog, IsClosed, IsEnded, commands_in, end_frame, frame, is_read, log_file, log_front, log_generation_offset, log_header_bytes, log_low_offset}
 
 -- ---- the header
 
@@ -25,9 +25,9 @@ pub data IsBadHeader (generation low : ℕ) (content : List ℕ) (refusal : Refu
   wrong_version : (v g l : ℕ) → HasHeader v g l content → is_read v ≡ false → refusal ≡ WrongVersion
       → IsBadHeader generation low content refusal
   wrong_generation : (v g l : ℕ) → HasHeader v g l content → is_read v ≡ true → g ≢ generation
-      → refusal ≡ Damaged (log_file generation) 1 → IsBadHeader generation low content refusal
+      → refusal ≡ Damaged (log_file generation) log_generation_offset → IsBadHeader generation low content refusal
   wrong_low : (v l : ℕ) → HasHeader v generation l content → is_read v ≡ true → l ≢ low
-      → refusal ≡ Damaged (log_file generation) 9 → IsBadHeader generation low content refusal
+      → refusal ≡ Damaged (log_file generation) log_low_offset → IsBadHeader generation low content refusal
 
 -- ---- frames
 
