@@ -4,7 +4,7 @@ ghost use Rattle.disk_model.specs.Calls.{Looks};
 ghost use Rattle.disk_model.specs.Files.{now};
 ghost use Rattle.file_pieces.specs.Faults.{failed_in};
 ghost use Rattle.file_pieces.specs.Counting.{Made, MadeAtMost, ReadsPieces, ReadsAtMost};
-ghost use Rattle.file_pieces.specs.Pieces.{ReaderState, Holds, IsSameFile, end_of, pieces_in};
+ghost use Rattle.file_pieces.specs.Pieces.{ReaderState, Holds, IsSameFile, end_of, piece_bytes, pieces_in};
 
 use crate::buffer::Buffer;
 use crate::fault::ReadFault;
@@ -27,7 +27,7 @@ pub struct FileReader {
 }
 
 impl Model for FileReader {
-    ghost use Rattle.file_pieces.specs.Pieces.{ReaderState};
+    ghost use Rattle.file_pieces.specs.Pieces.{ReaderState, piece_bytes};
 
     ghost Value = { ReaderState };
 
@@ -40,7 +40,7 @@ impl Model for FileReader {
     ghost invariant = { λ r. (r.file < 4) × (r.len < 2 ^ 64)
         × (r.from + length (held_in r.buffer) ≤ r.len)
         × (r.from + length (held_in r.buffer) < r.len
-        → (r.from + length (held_in r.buffer)) % 65536 ≡ 0) };
+        → (r.from + length (held_in r.buffer)) % piece_bytes ≡ 0) };
 }
 
 impl FileReader {
@@ -84,7 +84,7 @@ impl FileReader {
     pub fn end(&self) -> usize
         ensures place { result ≡ end_of self.now }
         ensures within { result ≤ self.now.len }
-        ensures whole { result < self.now.len → result % 65536 ≡ 0 }
+        ensures whole { result < self.now.len → result % piece_bytes ≡ 0 }
     {
         self.from + self.buffer.len()
     }
@@ -112,7 +112,8 @@ impl FileReader {
         ensures from { self.new.from ≡ self.old.from }
 
         // One call reads the next piece. If refused the reader stays as it was.
-        ensures end { OnOk result (end_of self.new ≡ min self.old.len (end_of self.old + 65536)) }
+        ensures end { OnOk result
+            (end_of self.new ≡ min self.old.len (end_of self.old + piece_bytes)) }
         ensures called { OnOk result (Made D.states 1 disk.old disk.new) }
         ensures tried { OnErr result (MadeAtMost D.states 1 disk.old disk.new) }
         ensures same { OnErr result (self.new ≡ self.old) }
