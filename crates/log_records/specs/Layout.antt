@@ -26,3 +26,11 @@ layout_of Second = second_layout
 -- each length up to the limit fits its bytes
 abbrev pub IsLayout : Layout → Type 0
 IsLayout layout = layout.key_limit < 256 ^ layout.key_width
+
+-- the most bytes of a text
+abbrev pub most_text_bytes : ℕ
+most_text_bytes = 4096
+
+-- the most bytes of a value: the longest text, behind its kind (1 byte) and its length (2)
+abbrev pub most_value_bytes : ℕ
+most_value_bytes = 4099

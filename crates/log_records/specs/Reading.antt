@@ -15,7 +15,7 @@ use Rattle.map_types.specs.declared.commands.Change.TheVariants as change
 use Rattle.map_types.specs.declared.commands.Command.{Command}
 use Rattle.log_records.specs.declared.methods.Method.{Method}
 use Rattle.log_records.specs.declared.methods.Method.TheVariants.{Put, PutIfAbsent, Remove, RemoveIf, Replace, ReplaceIf, Compute, ComputeIfAbsent, ComputeIfPresent, Merge}
-use Rattle.log_records.specs.Layout.{Layout}
+use Rattle.log_records.specs.Layout.{Layout, most_text_bytes}
 use Rattle.log_records.specs.Methods.{method_number, all_methods, all_funcs}
 
 infixl 10 ◌>>=◌
@@ -85,7 +85,7 @@ unfoldable pub value_at : List ℕ → Result (Option Value × List ℕ) Refusal
 value_at [] = Err BadFrame
 value_at (zero ∷ rest) = Ok (None, rest)
 value_at (suc zero ∷ rest) = made (λ number. Some (Int number)) (int_at rest)
-value_at (suc (suc zero) ∷ rest) = made (λ text. Some (Text text)) (sized_at 2 4096 ValueTooLong rest)
+value_at (suc (suc zero) ∷ rest) = made (λ text. Some (Text text)) (sized_at 2 most_text_bytes ValueTooLong rest)
 value_at (suc (suc (suc kind)) ∷ rest) = Err BadFrame
 
 abbrev pub present : Option Value → Result Value Refusal

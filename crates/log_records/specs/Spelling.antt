@@ -9,7 +9,7 @@ use Rattle.map_types.specs.declared.texts.Value.TheVariants.{Int, Text}
 use Rattle.map_types.specs.declared.commands.Change.{Change}
 use Rattle.map_types.specs.declared.commands.Change.TheVariants.{Put, PutIfAbsent, Remove, RemoveIf, Replace, ReplaceIf, Compute, ComputeIfAbsent, ComputeIfPresent, Merge}
 use Rattle.map_types.specs.declared.commands.Command.{Command}
-use Rattle.log_records.specs.Layout.{Layout}
+use Rattle.log_records.specs.Layout.{Layout, most_text_bytes}
 use Rattle.log_records.specs.Methods.{method_number, method_of}
 
 -- a text behind its length of `width` bytes
@@ -53,7 +53,7 @@ IsText most text = (length text ≤ most) × IsUtf8 text
 -- a number of 64 bits with its sign, or a text of at most 4,096 bytes
 abbrev pub IsValue : Value → Type 0
 IsValue (Int number) = FitsSigned w64 number
-IsValue (Text text) = IsText 4096 text
+IsValue (Text text) = IsText most_text_bytes text
 
 abbrev pub IsArgument : Option Value → Type 0
 IsArgument None = Unit {0}

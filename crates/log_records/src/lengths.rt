@@ -1,25 +1,25 @@
 //! How many bytes a record takes.
-ghost use Rattle.std.specs.Prelude.{◌≡◌, ◌≤◌, ◌+◌, length, Some};
-ghost use Rattle.log_records.specs.Layout.{layout_of};
+ghost use Rattle.std.specs.Prelude.{◌≡◌, ◌≤◌, ◌+◌, ◌*◌, length, Some};
+ghost use Rattle.log_records.specs.Layout.{layout_of, most_value_bytes};
 ghost use Rattle.log_records.specs.Spelling.{value_bytes, argument_bytes, record_bytes};
 
-use crate::reading::TEXT_WIDTH;
+use crate::reading::{INT_WIDTH, TEXT_WIDTH};
 use crate::versions::Version;
 use map_types::{Change, Command, Value};
 
 fn value_len(value: &Value) -> usize
     ensures len { result ≡ length (value_bytes (Some value.now)) }
-    ensures bound { result ≤ 4099 }
+    ensures bound { result ≤ most_value_bytes }
 {
     match value {
-        Value::Int(_) => 9,
+        Value::Int(_) => 1 + INT_WIDTH,
         Value::Text(text) => 1 + TEXT_WIDTH + text.as_str().len(),
     }
 }
 
 fn argument_len(argument: &Option<Value>) -> usize
     ensures len { result ≡ length (value_bytes argument.now) }
-    ensures bound { result ≤ 4099 }
+    ensures bound { result ≤ most_value_bytes }
 {
     match argument {
         None => 1,
@@ -29,7 +29,7 @@ fn argument_len(argument: &Option<Value>) -> usize
 
 fn arguments_len(change: &Change) -> usize
     ensures len { result ≡ length (argument_bytes change.now) }
-    ensures bound { result ≤ 8198 }
+    ensures bound { result ≤ 2 * most_value_bytes }
 {
     match change {
         Change::Put(value) => value_len(value),
@@ -49,7 +49,7 @@ fn arguments_len(change: &Change) -> usize
 pub fn record_len(version: Version, command: &Command) -> usize
     ensures len { result ≡ length (record_bytes (layout_of version) command.now) }
     ensures bound { let layout = layout_of version in
-        result ≤ 1 + layout.key_width + length command.now.key + 8198 }
+        result ≤ 1 + layout.key_width + length command.now.key + 2 * most_value_bytes }
 {
     1 + version.key_width() + command.key.as_str().len() + arguments_len(&command.change)
 }

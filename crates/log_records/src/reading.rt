@@ -14,6 +14,9 @@ use byteorder::{BigEndian, ByteOrder};
 use map_types::{Change, Command, Func, Key, Refusal, Text, Value};
 use std::alloc::Global;
 
+/// How many bytes a number with its sign takes: it has 64 bits.
+pub(crate) const INT_WIDTH: usize = 8;
+
 /// How many bytes the length of a text takes.
 pub(crate) const TEXT_WIDTH: usize = 2;
 
@@ -95,7 +98,7 @@ pub fn key_at(version: Version, alloc: Global, bytes: &[u8]) -> Result<(Key, &[u
 fn int_at(bytes: &[u8]) -> Result<(i64, &[u8]), Refusal>
     ensures { Reads (λ x. (x.0, x.1.now)) result (int_at bytes.now) }
 {
-    let (bits, rest) = number_at(8, bytes)?;
+    let (bits, rest) = number_at(INT_WIDTH, bytes)?;
     Ok((bits.cast_signed(), rest))
 }
 

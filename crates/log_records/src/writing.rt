@@ -8,7 +8,7 @@ ghost use Rattle.log_records.specs.Layout.{layout_of};
 ghost use Rattle.log_records.specs.Spelling.{IsText, IsValue, IsArgument, IsChange, IsCommand, sized_bytes, key_bytes, value_bytes, argument_bytes, record_bytes};
 
 use crate::methods::Method;
-use crate::reading::TEXT_WIDTH;
+use crate::reading::{INT_WIDTH, TEXT_WIDTH};
 use crate::versions::Version;
 use byteorder::{BigEndian, ByteOrder};
 use map_types::{Change, Command, Func, Key, Refusal, Value};
@@ -49,7 +49,7 @@ fn append_value(value: &Value, out: &mut Vec<u8>) -> Result<(), AllocError>
     match value {
         Value::Int(number) => {
             out.push(1)?;
-            put_number(8, number.cast_unsigned(), out)
+            put_number(INT_WIDTH, number.cast_unsigned(), out)
         }
         Value::Text(text) => {
             out.push(2)?;

@@ -1,7 +1,8 @@
 //! Requests as frames.
 
-ghost use Rattle.std.specs.Prelude.{◌≡◌, ◌≤◌, ◌+◌, ◌++◌, length, OnOk, IfOk, IfErr};
+ghost use Rattle.std.specs.Prelude.{◌≡◌, ◌≤◌, ◌+◌, ◌*◌, ◌++◌, length, OnOk, IfOk, IfErr};
 ghost use Rattle.map_types.specs.declared.refusals.Refusal.TheVariants.{NoMemory};
+ghost use Rattle.log_records.specs.Layout.{most_value_bytes};
 ghost use Rattle.wire_frames.specs.Messages.{frame};
 ghost use Rattle.wire_frames.specs.Requests.{argument_bytes, question_number, request_bytes, wire_layout};
 
@@ -25,7 +26,7 @@ fn number_of(question: &Question) -> u8
 /// Puts what a question takes at the end.
 fn put_argument(question: &Question, out: &mut Vec<u8>) -> Result<(), Refusal>
     ensures ok { OnOk result (out.new.items ≡ out.old.items ++ argument_bytes question.now) }
-    ensures bound { OnOk result (length (argument_bytes question.now) ≤ 4099) }
+    ensures bound { OnOk result (length (argument_bytes question.now) ≤ most_value_bytes) }
     ensures err { IfErr result (λ refusal. refusal ≡ NoMemory) }
 {
     match question {
@@ -40,7 +41,7 @@ fn put_read(read: &Read, out: &mut Vec<u8>) -> Result<(), Refusal>
     ensures ok { OnOk result
         (out.new.items ≡ out.old.items ++ request_bytes (Request.Read read.now)) }
     ensures bound { OnOk result (length (request_bytes (Request.Read read.now))
-        ≤ 1 + wire_layout.key_width + wire_layout.key_limit + 4099) }
+        ≤ 1 + wire_layout.key_width + wire_layout.key_limit + most_value_bytes) }
     ensures err { IfErr result (λ refusal. refusal ≡ NoMemory) }
 {
     // Each key is within the limit of requests.
@@ -54,7 +55,8 @@ fn put_read(read: &Read, out: &mut Vec<u8>) -> Result<(), Refusal>
 fn put_bulk(bulk: &Bulk, out: &mut Vec<u8>) -> Result<(), Refusal>
     ensures ok { OnOk result
         (out.new.items ≡ out.old.items ++ request_bytes (Request.Bulk bulk.now)) }
-    ensures bound { OnOk result (length (request_bytes (Request.Bulk bulk.now)) ≤ 4108) }
+    ensures bound { OnOk result
+        (length (request_bytes (Request.Bulk bulk.now)) ≤ 9 + most_value_bytes) }
     ensures err { IfErr result (λ refusal. refusal ≡ NoMemory) }
 {
     match bulk {
@@ -76,7 +78,7 @@ fn put_bulk(bulk: &Bulk, out: &mut Vec<u8>) -> Result<(), Refusal>
 fn put_request(request: &Request, out: &mut Vec<u8>) -> Result<(), Refusal>
     ensures ok { OnOk result (out.new.items ≡ out.old.items ++ request_bytes request.now) }
     ensures bound { OnOk result (length (request_bytes request.now)
-        ≤ 1 + wire_layout.key_width + wire_layout.key_limit + 8198) }
+        ≤ 1 + wire_layout.key_width + wire_layout.key_limit + 2 * most_value_bytes) }
     ensures err { IfErr result (λ refusal. refusal ≡ NoMemory) }
 {
     match request {
