@@ -8,3 +8,6 @@ pub mod reference;
 
 pub use outcomes::{Outcome, answer_at};
 pub use reference::ReferenceMap;
+
+/// The most entries of a stripe of which a checkpoint has a section: their count has four bytes there.
+pub const MOST_ENTRIES: usize = u32::MAX as usize;

@@ -13,6 +13,7 @@ mod log_phase;
 pub use checkpoint_phase::CheckpointPhase;
 pub use log_phase::Phase;
 use log_records::Version;
+pub use map_model::MOST_ENTRIES;
 
 /// The version of each new generation.
 pub const NEW_VERSION: Version = Version::Second;
@@ -56,9 +57,6 @@ pub const BODY_OFFSET: usize = 36;
 
 /// Mark and count stand before the entries of a section.
 pub const SECTION_HEAD_BYTES: usize = 12;
-
-/// The most entries of a section.
-pub const MOST_ENTRIES: usize = u32::MAX as usize;
 
 /// The number of the file that has the checkpoint of this generation.
 pub fn checkpoint_file(generation: u64) -> usize

@@ -8,11 +8,9 @@ use crate::record::Purpose;
 use crate::steps::Steps;
 use crate::walk::{Stage, Stepped, Taken, Walk};
 use atomic_methods::Part;
+use map_model::MOST_ENTRIES;
 use map_types::Refusal;
 use std::snapshot::Snapshot;
-
-/// The most entries of a section.
-const MOST_ENTRIES: usize = (1 << 32) - 1;
 
 /// What a capture took of a stripe: the count of tickets while it was held, and its part as it was
 /// then, which contracts alone read.
