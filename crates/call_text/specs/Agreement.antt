@@ -5,7 +5,8 @@ use Rattle.map_types.specs.Limits.{most_key_bytes}
 use Rattle.map_types.specs.declared.texts.Value.{Value}
 use Rattle.map_types.specs.declared.texts.Value.TheVariants.{Int, Text as IsText}
 use Rattle.map_types.specs.declared.commands.Change.{Change}
-use Rattle.map_types.specs.declared.commands.Change.TheVariants.{Put, PutIfAbsent, Remove, RemoveIf, Replace, ReplaceIf, Compute, ComputeIfAbsent, ComputeIfPresent, Merge}
+use Rattle.map_types.specs.declared.commands.Change.TheVariants.{Put, PutIfAbsent, Remove, RemoveIf, Replace, ReplaceIf}
+use Rattle.map_types.specs.declared.commands.Change.TheVariants.{Compute, ComputeIfAbsent, ComputeIfPresent, Merge}
 use Rattle.map_types.specs.declared.commands.Question.{Question}
 use Rattle.map_types.specs.declared.commands.Question.TheVariants.{Get, GetOrDefault, ContainsKey}
 use Rattle.call_text.specs.declared.asked.Asked.{Asked}

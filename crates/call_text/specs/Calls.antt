@@ -11,11 +11,14 @@ use Rattle.map_types.specs.declared.texts.Value.{Value}
 use Rattle.call_text.specs.declared.asked.Asked.{Asked}
 use Rattle.call_text.specs.declared.asked.Asked.TheVariants as asked
 use Rattle.call_text.specs.declared.bad_word.BadWord.{BadWord}
-use Rattle.call_text.specs.declared.bad_word.BadWord.TheVariants.{Count, Function as NoFunction, KeyTooLong, Method as NoMethod}
+use Rattle.call_text.specs.declared.bad_word.BadWord.TheVariants.{Count, Function as NoFunction, KeyTooLong}
+use Rattle.call_text.specs.declared.bad_word.BadWord.TheVariants.{Method as NoMethod}
 use Rattle.call_text.specs.declared.names.ReadMethod.{ReadMethod}
 use Rattle.call_text.specs.declared.names.ReadMethod.TheVariants.{Get, GetOrDefault, ContainsKey}
 use Rattle.call_text.specs.declared.names.ChangeMethod.{ChangeMethod}
-use Rattle.call_text.specs.declared.names.ChangeMethod.TheVariants.{Put, PutIfAbsent, Remove, RemoveIf, Replace, ReplaceIf, Compute, ComputeIfAbsent, ComputeIfPresent, Merge}
+use Rattle.call_text.specs.declared.names.ChangeMethod.TheVariants.{Put, PutIfAbsent, Remove, RemoveIf, Replace}
+use Rattle.call_text.specs.declared.names.ChangeMethod.TheVariants.{ReplaceIf, Compute, ComputeIfAbsent}
+use Rattle.call_text.specs.declared.names.ChangeMethod.TheVariants.{ComputeIfPresent, Merge}
 use Rattle.call_text.specs.declared.names.Method.{Method}
 use Rattle.call_text.specs.declared.names.Method.TheVariants.{Read, Change as Changes}
 use Rattle.call_text.specs.Names.{Text, func_named, method_named}

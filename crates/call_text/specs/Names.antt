@@ -5,7 +5,9 @@ use Rattle.std.specs.Str.{bytes_eq}
 use Rattle.map_types.specs.declared.commands.Func.{Func}
 use Rattle.map_types.specs.declared.commands.Func.TheVariants as func
 use Rattle.call_text.specs.declared.names.ReadMethod.TheVariants.{Get, GetOrDefault, ContainsKey}
-use Rattle.call_text.specs.declared.names.ChangeMethod.TheVariants.{Put, PutIfAbsent, Remove, RemoveIf, Replace, ReplaceIf, Compute, ComputeIfAbsent, ComputeIfPresent, Merge}
+use Rattle.call_text.specs.declared.names.ChangeMethod.TheVariants.{Put, PutIfAbsent, Remove, RemoveIf, Replace}
+use Rattle.call_text.specs.declared.names.ChangeMethod.TheVariants.{ReplaceIf, Compute, ComputeIfAbsent}
+use Rattle.call_text.specs.declared.names.ChangeMethod.TheVariants.{ComputeIfPresent, Merge}
 use Rattle.call_text.specs.declared.names.BulkMethod.{BulkMethod}
 use Rattle.call_text.specs.declared.names.BulkMethod.TheVariants.{Count, Reduce, Search}
 use Rattle.call_text.specs.declared.names.Method.{Method}

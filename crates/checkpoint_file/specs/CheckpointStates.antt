@@ -4,9 +4,14 @@ use Rattle.disk_model.specs.Files.{File, Files, MayLeave, at_rest}
 use Rattle.disk_model.specs.Gates.{IsShut, IsOpening, open_gate}
 use Rattle.java_hash.specs.Stripes.{is_stripe_count}
 use Rattle.store_layout.specs.Logs.{new_layout}
-use Rattle.store_layout.specs.Checkpoints.{Section, Checkpoint, AreMarkedFrom, AreSections, IsCheckpoint, checkpoint_bytes, checkpoint_file, checkpoint_header_bytes, greatest_mark, is_sealed, is_to_close, section_bytes, sections_bytes}
+use Rattle.store_layout.specs.Checkpoints.{Section, Checkpoint, AreMarkedFrom, AreSections, IsCheckpoint}
+use Rattle.store_layout.specs.Checkpoints.{checkpoint_bytes, checkpoint_file, checkpoint_header_bytes, greatest_mark}
+use Rattle.store_layout.specs.Checkpoints.{is_sealed, is_to_close, section_bytes, sections_bytes}
 use Rattle.store_layout.specs.declared.checkpoint_phase.CheckpointPhase.{CheckpointPhase}
-use Rattle.store_layout.specs.declared.checkpoint_phase.CheckpointPhase.TheVariants.{Idle, Gate, GateWritten, GateSynced, Ready, Staged, Header, HeaderWritten, HeaderSynced, Opened, Sealed}
+use Rattle.store_layout.specs.declared.checkpoint_phase.CheckpointPhase.TheVariants.{Idle, Gate, GateWritten}
+use Rattle.store_layout.specs.declared.checkpoint_phase.CheckpointPhase.TheVariants.{GateSynced, Ready, Staged, Header}
+use Rattle.store_layout.specs.declared.checkpoint_phase.CheckpointPhase.TheVariants.{HeaderWritten, HeaderSynced}
+use Rattle.store_layout.specs.declared.checkpoint_phase.CheckpointPhase.TheVariants.{Opened, Sealed}
 use Rattle.checkpoint_file.specs.States.{CheckpointState}
 
 -- the checkpoint with these sections

@@ -3,7 +3,8 @@ use Rattle.std.specs.Prelude.{◌≡◌, ℕ, List, None, true}
 use Rattle.log_records.specs.Layout.{layout_of}
 use Rattle.store_layout.specs.Checkpoints.{is_sealed}
 pub use Rattle.store_layout.specs.Failures.{failed_in}
-use Rattle.store_layout.specs.Faults.{body_length_in, generation_in, greatest_in, head_fault, low_in, stripes_in, version_in}
+use Rattle.store_layout.specs.Faults.{body_length_in, generation_in, greatest_in, head_fault, low_in, stripes_in}
+use Rattle.store_layout.specs.Faults.{version_in}
 use Rattle.checkpoint_file.specs.declared.head.Head.{Head}
 
 -- these are the fields of the header

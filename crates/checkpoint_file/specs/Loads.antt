@@ -1,5 +1,6 @@
 -- What reading the file of a checkpoint finds, part by part.
-use Rattle.std.specs.Prelude.{◌≡◌, ◌⊎◌, ℕ, ◌+◌, ◌-◌, ◌<◌, ◌^◌, List, [], ◌∷◌, ◌++◌, length, map, None, true, Some, get_or}
+use Rattle.std.specs.Prelude.{◌≡◌, ◌⊎◌, ℕ, ◌+◌, ◌-◌, ◌<◌, ◌^◌, List, [], ◌∷◌, ◌++◌, length, map, None, true, Some}
+use Rattle.std.specs.Prelude.{get_or}
 use Rattle.std.specs.List.{AllByRecursion}
 use Rattle.std.specs.FinMap as finite
 use Rattle.std.specs.Ordering.{nat_cmp, is_lt}
@@ -9,7 +10,8 @@ use Rattle.map_types.specs.declared.texts.Value.{Value}
 use Rattle.map_types.specs.declared.refusals.Refusal.{Refusal}
 use Rattle.map_types.specs.declared.refusals.Refusal.TheVariants.{Failed, NoMemory, Damaged}
 use Rattle.log_records.specs.Layout.{Layout}
-use Rattle.store_layout.specs.Checkpoints.{Section, Checkpoint, IsSection, AreSections, body_offset, entry_bytes, entries_bytes, sections_bytes, is_sealed}
+use Rattle.store_layout.specs.Checkpoints.{Section, Checkpoint, IsSection, AreSections, body_offset, entry_bytes}
+use Rattle.store_layout.specs.Checkpoints.{entries_bytes, sections_bytes, is_sealed}
 use Rattle.store_layout.specs.Faults.{AreEntries, head_fault}
 use Rattle.store_layout.specs.Opening.{IsBadCheckpointIn}
 use Rattle.checkpoint_file.specs.declared.head.Head.{Head}

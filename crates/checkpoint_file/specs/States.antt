@@ -1,5 +1,6 @@
 -- A checkpoint that is being written, as its callers see it.
-use Rattle.std.specs.Prelude.{◌≡◌, ℕ, ◌+◌, ◌*◌, ◌<◌, ◌≤◌, ◌^◌, max, replicate, Bool, true, false, List, [], ◌∷◌, length, Option, None, Some}
+use Rattle.std.specs.Prelude.{◌≡◌, ℕ, ◌+◌, ◌*◌, ◌<◌, ◌≤◌, ◌^◌, max, replicate, Bool, true, false, List, [], ◌∷◌, length}
+use Rattle.std.specs.Prelude.{Option, None, Some}
 use Rattle.std.specs.List.{AllByRecursion}
 use Rattle.disk_model.specs.Gates.{Call, writes, syncs, open_gate}
 use Rattle.java_hash.specs.Stripes.{is_stripe_count, stripe_of}
@@ -9,7 +10,10 @@ use Rattle.log_records.specs.Spelling.{IsText, IsValue}
 use Rattle.store_layout.specs.Logs.{new_layout}
 use Rattle.store_layout.specs.Checkpoints.{body_offset, checkpoint_header, checkpoint_header_bytes, marked_bytes}
 use Rattle.store_layout.specs.declared.checkpoint_phase.CheckpointPhase.{CheckpointPhase}
-use Rattle.store_layout.specs.declared.checkpoint_phase.CheckpointPhase.TheVariants.{Idle, Gate, GateWritten, GateSynced, Ready, Staged, Header, HeaderWritten, HeaderSynced, Opened, Sealed}
+use Rattle.store_layout.specs.declared.checkpoint_phase.CheckpointPhase.TheVariants.{Idle, Gate, GateWritten}
+use Rattle.store_layout.specs.declared.checkpoint_phase.CheckpointPhase.TheVariants.{GateSynced, Ready, Staged, Header}
+use Rattle.store_layout.specs.declared.checkpoint_phase.CheckpointPhase.TheVariants.{HeaderWritten, HeaderSynced}
+use Rattle.store_layout.specs.declared.checkpoint_phase.CheckpointPhase.TheVariants.{Opened, Sealed}
 
 pub record CheckpointState : Type 0 where
   pub generation : ℕ

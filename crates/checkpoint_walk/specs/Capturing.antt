@@ -9,7 +9,8 @@ use Rattle.map_types.specs.declared.texts.Value.{Value}
 use Rattle.ticket_order.specs.declared.capture_walk.Captured.{Captured}
 use Rattle.ticket_order.specs.declared.record.Record.{Record}
 use Rattle.ticket_order.specs.declared.walk.Walk.{Walk}
-use Rattle.ticket_order.specs.Walks.{Fits, Give, Look, ToCapture, captured_of_walk, entries_captured, next_kind, refusal_of_walk}
+use Rattle.ticket_order.specs.Walks.{Fits, Give, Look, ToCapture, captured_of_walk, entries_captured, next_kind}
+use Rattle.ticket_order.specs.Walks.{refusal_of_walk}
 use Rattle.store_layout.specs.Checkpoints.{Section}
 use Rattle.checkpoint_file.specs.States.{AreKeysOf, CheckpointState, with_section}
 use Rattle.checkpoint_file.specs.CheckpointStates.{Stands}

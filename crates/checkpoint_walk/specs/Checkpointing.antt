@@ -1,5 +1,6 @@
 -- The checkpoint that a keeper writes, as its callers see it.
-use Rattle.std.specs.Prelude.{◌≡◌, ◌≢◌, ℕ, ◌+◌, ◌<◌, ◌^◌, Bool, true, List, Option, None, Some, Result, Ok, Err, IfOk, IfErr}
+use Rattle.std.specs.Prelude.{◌≡◌, ◌≢◌, ℕ, ◌+◌, ◌<◌, ◌^◌, Bool, true, List, Option, None, Some, Result, Ok, Err, IfOk}
+use Rattle.std.specs.Prelude.{IfErr}
 use Rattle.disk_model.specs.Calls.{Makes, Fails}
 use Rattle.disk_model.specs.Files.{Files}
 use Rattle.disk_model.specs.Gates.{Call}

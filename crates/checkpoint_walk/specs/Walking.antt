@@ -1,5 +1,6 @@
 -- Where a keeper stands between the steps of a capture.
-use Rattle.std.specs.Prelude.{◌≡◌, ◌⊎◌, ℕ, List, ◌++◌, replicate, Option, None, Some, true, false, Result, Ok, Err, [], ◌∷◌, length}
+use Rattle.std.specs.Prelude.{◌≡◌, ◌⊎◌, ℕ, List, ◌++◌, replicate, Option, None, Some, true, false, Result, Ok, Err, []}
+use Rattle.std.specs.Prelude.{◌∷◌, length}
 use Rattle.disk_model.specs.Files.{Files, now}
 use Rattle.map_types.specs.declared.commands.Command.{Command}
 use Rattle.map_types.specs.declared.refusals.Refusal.{Refusal}

@@ -1,5 +1,6 @@
 -- Lines of calls: what they ask, and what comes of them.
-use Rattle.std.specs.Prelude.{◌≡◌, ◌≢◌, ◌⊎◌, ℕ, List, [], ◌∷◌, ◌++◌, length, not, ◌==◌, if◌then◌else◌, codes, option_map, Option, None, Some, Result, Ok, Err}
+use Rattle.std.specs.Prelude.{◌≡◌, ◌≢◌, ◌⊎◌, ℕ, List, [], ◌∷◌, ◌++◌, length, not, ◌==◌, if◌then◌else◌, codes}
+use Rattle.std.specs.Prelude.{option_map, Option, None, Some, Result, Ok, Err}
 use Rattle.std.specs.List.{AllByRecursion, AllZip, filter, flat_map, slice_split}
 use Rattle.std.specs.Str.{is_utf8}
 use Rattle.std.specs.Io.KnownBytes.{Appends, Consumes}

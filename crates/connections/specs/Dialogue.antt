@@ -1,7 +1,12 @@
 -- The replies to messages, given what each call answered.
-use Rattle.std.specs.Prelude.{◌≡◌, ◌⊎◌, ℕ, Bool, true, false, cond, List, [], ◌∷◌, ◌++◌, length, map, Option, Some, None, Ok, Err}
+use Rattle.std.specs.Prelude.{◌≡◌, ◌⊎◌, ℕ, Bool, true, false, cond, List, [], ◌∷◌, ◌++◌, length, map, Option, Some}
+use Rattle.std.specs.Prelude.{None, Ok, Err}
 use Rattle.std.specs.List.{flat_map}
-use Rattle.map_types.specs.declared.refusals.Refusal.TheVariants.{NullValue, KeyTooLong, ValueTooLong, UnknownMethod, UnknownFunction, BadFrame, NoMemory, Busy, Failed, TicketsSpent, NotFormatted, Damaged, WrongVersion, LogFull, AlreadyFormatted, WrongPhase, TooEarly, NotText, SeatsSpent}
+use Rattle.map_types.specs.declared.refusals.Refusal.TheVariants.{NullValue, KeyTooLong, ValueTooLong, UnknownMethod}
+use Rattle.map_types.specs.declared.refusals.Refusal.TheVariants.{UnknownFunction, BadFrame, NoMemory, Busy, Failed}
+use Rattle.map_types.specs.declared.refusals.Refusal.TheVariants.{TicketsSpent, NotFormatted, Damaged, WrongVersion}
+use Rattle.map_types.specs.declared.refusals.Refusal.TheVariants.{LogFull, AlreadyFormatted, WrongPhase, TooEarly}
+use Rattle.map_types.specs.declared.refusals.Refusal.TheVariants.{NotText, SeatsSpent}
 use Rattle.wire_frames.specs.declared.requests.Request.{Request}
 pub use Rattle.wire_frames.specs.Answers.{Answer}
 use Rattle.wire_frames.specs.Messages.{Message}

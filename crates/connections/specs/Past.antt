@@ -16,7 +16,8 @@ use Rattle.connections.specs.declared.exchange.Answered.{Answered}
 use Rattle.connections.specs.declared.exchange.Answered.TheVariants.{All, Paused, Late}
 use Rattle.connections.specs.declared.exchange.Connection.{Connection}
 use Rattle.connections.specs.Dialogue.{Answer, Dialogue, ends}
-use Rattle.connections.specs.Moves.{Move, Starts, Answers, GivesUp, IsRow, Stops, Leads, messages_of, outcomes, calls_of}
+use Rattle.connections.specs.Moves.{Move, Starts, Answers, GivesUp, IsRow, Stops, Leads, messages_of, outcomes}
+use Rattle.connections.specs.Moves.{calls_of}
 
 -- what a connection has received, what was done with its messages, and what of its replies is written
 pub record Past (H : Type 0) : Type 0 where

@@ -1,5 +1,6 @@
 -- What a fill picks: of what a stop may leave, and of what a failed write may leave to be read.
-use Rattle.std.specs.Prelude.{ℕ, ◌+◌, ◌<◌, max, min, List, length, take, map, slice_index_or, nat_lt, if◌then◌else◌, sum}
+use Rattle.std.specs.Prelude.{ℕ, ◌+◌, ◌<◌, max, min, List, length, take, map, slice_index_or, nat_lt, if◌then◌else◌}
+use Rattle.std.specs.Prelude.{sum}
 use Rattle.std.specs.List.{filter, range_with_len}
 use Rattle.disk_model.specs.Files.{File, Files, Contents, AreBytes, byte_at, is_pending, overwritten, reached, at_rest}
 use Rattle.disk_model.specs.declared.fill.Fill.{Fill}

@@ -1,5 +1,6 @@
 -- What holds of a keeper between any two of its calls.
-use Rattle.std.specs.Prelude.{◌≡◌, ℕ, ◌+◌, ◌<◌, ◌≤◌, ◌^◌, Bool, true, false, List, [], ◌∷◌, ◌++◌, length, IfSome, None, Result, Ok}
+use Rattle.std.specs.Prelude.{◌≡◌, ℕ, ◌+◌, ◌<◌, ◌≤◌, ◌^◌, Bool, true, false, List, [], ◌∷◌, ◌++◌, length, IfSome, None}
+use Rattle.std.specs.Prelude.{Result, Ok}
 use Rattle.std.specs.List.{Contains}
 use Rattle.disk_model.specs.Files.{Contents, Files, at_rest, now}
 use Rattle.map_types.specs.declared.commands.Command.{Command}
@@ -14,7 +15,8 @@ use Rattle.store_layout.specs.Checkpoints.{checkpoint_file, is_to_close}
 use Rattle.store_layout.specs.Logs.{Batch, log_file}
 use Rattle.store_layout.specs.Opening.{Opened as FoundStore, Holds, map_of, newest_of, prefix_of}
 use Rattle.store_layout.specs.declared.log_phase.Phase.{Phase}
-use Rattle.store_layout.specs.declared.log_phase.Phase.TheVariants.{Idle, Header, HeaderWritten, Staged, Written, Synced, Opened}
+use Rattle.store_layout.specs.declared.log_phase.Phase.TheVariants.{Idle, Header, HeaderWritten, Staged, Written}
+use Rattle.store_layout.specs.declared.log_phase.Phase.TheVariants.{Synced, Opened}
 use Rattle.gate_log.specs.States.{LogState, batch_of, commands_of}
 use Rattle.gate_log.specs.LogStates as gate_log
 use Rattle.store_invariant.specs.States.{StoreState, Held}

@@ -10,7 +10,8 @@ use Rattle.ticket_order.specs.declared.record.Record.{Record}
 use Rattle.ticket_order.specs.Records.{missing, outbox_held}
 use Rattle.ticket_order.specs.StepRules.{Looks}
 use Rattle.ticket_order.specs.Calls.{SweepsStripe, RefusesSweep}
-use Rattle.ticket_order.specs.Walks.{Kind, Take, Give, Look, ToSweep, Fits, steps_left, entries_of_walk, refusal_of_walk}
+use Rattle.ticket_order.specs.Walks.{Kind, Take, Give, Look, ToSweep, Fits, steps_left, entries_of_walk}
+use Rattle.ticket_order.specs.Walks.{refusal_of_walk}
 use Rattle.flusher.specs.declared.sweeper.Sweep.{Sweep}
 use Rattle.flusher.specs.declared.sweeper.Walking.{Walking}
 use Rattle.flusher.specs.declared.sweeper.Walking.TheVariants.{Rests, SweepTakes, SweepGives}

@@ -3,9 +3,11 @@ use Rattle.std.specs.Prelude.{◌≡◌, ◌≢◌, ◌⊎◌, ℕ, ◌+◌, ◌
 use Rattle.disk_model.specs.Files.{File, Files, MayLeave}
 use Rattle.disk_model.specs.Gates.{IsShut, IsOpening, IsOpen, open_gate}
 use Rattle.log_records.specs.Layout.{layout_of}
-use Rattle.store_layout.specs.Logs.{Batch, IsBatch, IsLog, IsClosed, IsEnded, commands_in, end_frame, frame, header, log_file, log_front}
+use Rattle.store_layout.specs.Logs.{Batch, IsBatch, IsLog, IsClosed, IsEnded, commands_in, end_frame, frame, header}
+use Rattle.store_layout.specs.Logs.{log_file, log_front}
 use Rattle.store_layout.specs.declared.log_phase.Phase.{Phase}
-use Rattle.store_layout.specs.declared.log_phase.Phase.TheVariants.{Idle, Header, HeaderWritten, Staged, Written, Synced, Opened}
+use Rattle.store_layout.specs.declared.log_phase.Phase.TheVariants.{Idle, Header, HeaderWritten, Staged, Written}
+use Rattle.store_layout.specs.declared.log_phase.Phase.TheVariants.{Synced, Opened}
 use Rattle.gate_log.specs.States.{LogState, bytes_staged}
 
 abbrev pub front_of : LogState → List Batch → List ℕ

@@ -7,7 +7,8 @@ use Rattle.log_records.specs.Layout.{layout_of}
 use Rattle.ticket_order.specs.declared.stripe.Entry.{Entry}
 use Rattle.store_layout.specs.Logs.{Batch, end_frame, header, log_header_bytes, new_version}
 use Rattle.store_layout.specs.declared.log_phase.Phase.{Phase}
-use Rattle.store_layout.specs.declared.log_phase.Phase.TheVariants.{Idle, Header, HeaderWritten, Staged, Written, Synced, Opened}
+use Rattle.store_layout.specs.declared.log_phase.Phase.TheVariants.{Idle, Header, HeaderWritten, Staged, Written}
+use Rattle.store_layout.specs.declared.log_phase.Phase.TheVariants.{Synced, Opened}
 
 pub record LogState : Type 0 where
   pub version : Version

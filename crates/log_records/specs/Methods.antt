@@ -1,11 +1,14 @@
 -- The numbers of the methods that change the map.
 use Rattle.std.specs.Prelude.{ℕ, List, [], ◌∷◌}
 use Rattle.map_types.specs.declared.commands.Func.{Func}
-use Rattle.map_types.specs.declared.commands.Func.TheVariants.{Const, Drop, Keep, Sum, Max, Min, Concat, SumNonzero, SumExact}
+use Rattle.map_types.specs.declared.commands.Func.TheVariants.{Const, Drop, Keep, Sum, Max, Min, Concat, SumNonzero}
+use Rattle.map_types.specs.declared.commands.Func.TheVariants.{SumExact}
 use Rattle.map_types.specs.declared.commands.Change.{Change}
 use Rattle.map_types.specs.declared.commands.Change.TheVariants as change
 use Rattle.log_records.specs.declared.methods.Method.{Method}
-use Rattle.log_records.specs.declared.methods.Method.TheVariants.{Put, PutIfAbsent, Remove, RemoveIf, Replace, ReplaceIf, Compute, ComputeIfAbsent, ComputeIfPresent, Merge}
+use Rattle.log_records.specs.declared.methods.Method.TheVariants.{Put, PutIfAbsent, Remove, RemoveIf, Replace}
+use Rattle.log_records.specs.declared.methods.Method.TheVariants.{ReplaceIf, Compute, ComputeIfAbsent, ComputeIfPresent}
+use Rattle.log_records.specs.declared.methods.Method.TheVariants.{Merge}
 
 abbrev pub method_number : Method → ℕ
 method_number Put = 16

@@ -1,12 +1,14 @@
 -- Reading from left to right, with the first refusal that is met. Each reader gives what it read and the bytes behind
 -- it.
-use Rattle.std.specs.Prelude.{◌≡◌, ◌⊎◌, ◌<◌, ◌+◌, ◌^◌, ℕ, ℤ, zero, suc, List, [], ◌∷◌, length, take, drop, Option, Some, None, Result, Ok, Err, nat_lt, ◌==◌, if◌then◌else◌}
+use Rattle.std.specs.Prelude.{◌≡◌, ◌⊎◌, ◌<◌, ◌+◌, ◌^◌, ℕ, ℤ, zero, suc, List, [], ◌∷◌, length, take, drop, Option, Some}
+use Rattle.std.specs.Prelude.{None, Result, Ok, Err, nat_lt, ◌==◌, if◌then◌else◌}
 use Rattle.std.specs.Int.{w64, cast_signed}
 use Rattle.std.specs.Str.{is_utf8}
 use Rattle.byteorder.specs.Endian.{big_number}
 use Rattle.map_types.specs.Numbers.{func_number}
 use Rattle.map_types.specs.declared.refusals.Refusal.{Refusal}
-use Rattle.map_types.specs.declared.refusals.Refusal.TheVariants.{NullValue, KeyTooLong, ValueTooLong, UnknownMethod, UnknownFunction, BadFrame, NoMemory, NotText}
+use Rattle.map_types.specs.declared.refusals.Refusal.TheVariants.{NullValue, KeyTooLong, ValueTooLong, UnknownMethod}
+use Rattle.map_types.specs.declared.refusals.Refusal.TheVariants.{UnknownFunction, BadFrame, NoMemory, NotText}
 use Rattle.map_types.specs.declared.texts.Value.{Value}
 use Rattle.map_types.specs.declared.texts.Value.TheVariants.{Int, Text}
 use Rattle.map_types.specs.declared.commands.Func.{Func}

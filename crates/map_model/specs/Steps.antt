@@ -2,7 +2,8 @@
 use Rattle.std.specs.Prelude.{Bool, false, Option, None, Some, Result, Ok, Err, List, [], ◌∷◌, is_some, if◌then◌else◌}
 use Rattle.std.specs.FinMap as finite
 use Rattle.map_types.specs.declared.commands.Change.{Change}
-use Rattle.map_types.specs.declared.commands.Change.TheVariants.{Put, PutIfAbsent, Remove, RemoveIf, Replace, ReplaceIf, Compute, ComputeIfAbsent, ComputeIfPresent, Merge}
+use Rattle.map_types.specs.declared.commands.Change.TheVariants.{Put, PutIfAbsent, Remove, RemoveIf, Replace, ReplaceIf}
+use Rattle.map_types.specs.declared.commands.Change.TheVariants.{Compute, ComputeIfAbsent, ComputeIfPresent, Merge}
 use Rattle.map_types.specs.declared.commands.Command.{Command}
 use Rattle.map_types.specs.declared.commands.Question.{Question}
 use Rattle.map_types.specs.declared.commands.Question.TheVariants.{Get, GetOrDefault, ContainsKey}

@@ -1,7 +1,8 @@
 -- The number of each named function and of each fault.
 use Rattle.std.specs.Prelude.{ℕ}
 use Rattle.map_types.specs.declared.commands.Func.{Func}
-use Rattle.map_types.specs.declared.commands.Func.TheVariants.{Const, Drop, Keep, Sum, Max, Min, Concat, SumNonzero, SumExact}
+use Rattle.map_types.specs.declared.commands.Func.TheVariants.{Const, Drop, Keep, Sum, Max, Min, Concat, SumNonzero}
+use Rattle.map_types.specs.declared.commands.Func.TheVariants.{SumExact}
 use Rattle.map_types.specs.declared.commands.FuncError.{FuncError}
 use Rattle.map_types.specs.declared.commands.FuncError.TheVariants.{WrongKind, TooLong, Overflow}
 

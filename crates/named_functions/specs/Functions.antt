@@ -1,10 +1,12 @@
 -- The table of the nine named functions of an old value, or absent, and an argument, or absent.
-use Rattle.std.specs.Prelude.{ℕ, ◌^◌, Bool, ◌&&◌, Option, None, Some, Result, Ok, Err, List, ◌++◌, length, nat_le, ℤ, pos, neg_ℤ, ◌+ℤ◌, int_le, int_lt, if◌then◌else◌}
+use Rattle.std.specs.Prelude.{ℕ, ◌^◌, Bool, ◌&&◌, Option, None, Some, Result, Ok, Err, List, ◌++◌, length, nat_le, ℤ}
+use Rattle.std.specs.Prelude.{pos, neg_ℤ, ◌+ℤ◌, int_le, int_lt, if◌then◌else◌}
 use Rattle.std.specs.Int.{int_max, int_min, int_wrap}
 use Rattle.std.specs.Ordering.{int_eq}
 use mir.Syntax.{w64}
 use Rattle.map_types.specs.declared.commands.Func.{Func}
-use Rattle.map_types.specs.declared.commands.Func.TheVariants.{Const, Drop, Keep, Max, Min, Concat, SumNonzero, SumExact}
+use Rattle.map_types.specs.declared.commands.Func.TheVariants.{Const, Drop, Keep, Max, Min, Concat, SumNonzero}
+use Rattle.map_types.specs.declared.commands.Func.TheVariants.{SumExact}
 use Rattle.map_types.specs.declared.commands.FuncError.{FuncError}
 use Rattle.map_types.specs.declared.commands.FuncError.TheVariants.{WrongKind, TooLong, Overflow}
 use Rattle.map_types.specs.declared.texts.Value.{Value}

@@ -4,7 +4,8 @@ use Rattle.map_types.specs.declared.commands.Command.{Command}
 use Rattle.map_types.specs.declared.commands.Reply.{Reply}
 use Rattle.ticket_order.specs.declared.stripe.Entry.{Entry}
 use Rattle.ticket_order.specs.declared.record.StepMade.{StepMade}
-use Rattle.ticket_order.specs.declared.record.StepMade.TheVariants.{Took, FoundHeld, Gave, Drew, Looked, Published, Saw, Failed, FoundAlive}
+use Rattle.ticket_order.specs.declared.record.StepMade.TheVariants.{Took, FoundHeld, Gave, Drew, Looked, Published, Saw}
+use Rattle.ticket_order.specs.declared.record.StepMade.TheVariants.{Failed, FoundAlive}
 use Rattle.ticket_order.specs.declared.record.Asked.TheVariants.{Changing}
 use Rattle.ticket_order.specs.declared.record.Call.{Call}
 use Rattle.ticket_order.specs.declared.record.Record.{Record}

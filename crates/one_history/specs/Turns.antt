@@ -1,5 +1,6 @@
 -- What each step leaves of the book.
-use Rattle.std.specs.Prelude.{ℕ, ◌+◌, ◌-◌, max, List, [], ◌∷◌, ◌++◌, length, take, drop, map, true, false, not, slice_index_or, slice_set, replicate}
+use Rattle.std.specs.Prelude.{ℕ, ◌+◌, ◌-◌, max, List, [], ◌∷◌, ◌++◌, length, take, drop, map, true, false, not}
+use Rattle.std.specs.Prelude.{slice_index_or, slice_set, replicate}
 use Rattle.map_types.specs.declared.commands.Command.{Command}
 use Rattle.map_model.specs.Maps.{Map}
 use Rattle.map_model.specs.Parts.{union_of}
@@ -11,7 +12,9 @@ use Rattle.ticket_order.specs.declared.record.Purpose.TheVariants.{Answer}
 use Rattle.ticket_order.specs.declared.record.StepMade.{StepMade}
 use Rattle.ticket_order.specs.declared.record.StepMade.TheVariants as made
 use Rattle.ticket_order.specs.declared.record.Record.{Record}
-use Rattle.ticket_order.specs.Records.{past, stripe_held, newcomer, keeper_at_start, enrolling, missing, taking, looking, drawing, giving, answering, last_held, swept_by, publishing, seeing, failing, living}
+use Rattle.ticket_order.specs.Records.{past, stripe_held, newcomer, keeper_at_start, enrolling, missing, taking}
+use Rattle.ticket_order.specs.Records.{looking, drawing, giving, answering, last_held, swept_by, publishing, seeing}
+use Rattle.ticket_order.specs.Records.{failing, living}
 use Rattle.one_history.specs.declared.book.Book.{Book}
 use Rattle.one_history.specs.declared.book.PassStep.{PassStep}
 use Rattle.one_history.specs.Interleaving.{Words, words_at, words_after}

@@ -3,7 +3,8 @@ use Rattle.std.specs.Prelude.{ℕ}
 use Rattle.one_history.specs.declared.book.Book.{Book}
 use Rattle.one_history.specs.Turns.{took, found_held, gave, drew, looked, published, saw, failed, found_alive}
 use Rattle.plain_words.specs.declared.ghost_book.Turn.{Turn}
-use Rattle.plain_words.specs.declared.ghost_book.Turn.TheVariants.{Took, FoundHeld, Gave, Drew, Looked, Published, Saw, Failed, FoundAlive}
+use Rattle.plain_words.specs.declared.ghost_book.Turn.TheVariants.{Took, FoundHeld, Gave, Drew, Looked, Published, Saw}
+use Rattle.plain_words.specs.declared.ghost_book.Turn.TheVariants.{Failed, FoundAlive}
 
 abbrev pub after : ℕ → Turn → Book → Book
 after j (Took i content) b = took j i content.now b

@@ -1,6 +1,7 @@
 -- That no two entries are of one key has at most one proof, so a struct may hold it.
 use Rattle.std.specs.Prelude.{◌≡◌, ◌⊎◌, ℕ, ℤ, List, [], ◌∷◌}
-use Rattle.std.specs.Coded.{Coded, Coded-set, code_by, coded_list, coded_option, coded_ℕ, coded_ℤ, coded⊎, ×_prop, Unit-prop}
+use Rattle.std.specs.Coded.{Coded, Coded-set, code_by, coded_list, coded_option, coded_ℕ, coded_ℤ, coded⊎, ×_prop}
+use Rattle.std.specs.Coded.{Unit-prop}
 use Rattle.std.proofs.Common.{refl, inl, inr}
 use Rattle.map_types.specs.declared.texts.Value.{Value}
 use Rattle.map_types.specs.declared.texts.Value.TheVariants.{Int, Text}

@@ -12,7 +12,8 @@ use Rattle.store_layout.specs.Checkpoints.{Checkpoint, greatest_mark}
 use Rattle.store_layout.specs.Failures.{AreFilesRefused}
 use Rattle.store_layout.specs.Logs.{Batch}
 use Rattle.store_layout.specs.SectionsAndLog.{restored}
-use Rattle.store_layout.specs.Opening.{Contents, Opened, Holds, Refuses, AreLogs, key_limit_of, logged_by, map_of, newest_by, newest_of, prefix_of}
+use Rattle.store_layout.specs.Opening.{Contents, Opened, Holds, Refuses, AreLogs, key_limit_of, logged_by, map_of}
+use Rattle.store_layout.specs.Opening.{newest_by, newest_of, prefix_of}
 use Rattle.recovery.specs.declared.reading.Restored.{Restored}
 use Rattle.recovery.specs.Dividing.{IsDivided}
 use Rattle.recovery.specs.LogReading.{GoesOnIn, IsResumed, RefusesFor, contents_of}

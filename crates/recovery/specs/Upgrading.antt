@@ -1,6 +1,7 @@
 -- What bringing a directory to the newest version leaves.
 use Rattle.std.specs.FinMap as finite
-use Rattle.std.specs.Prelude.{◌≡◌, ◌≢◌, ◌⊎◌, ◌<◌, ◌≤◌, ◌+◌, ◌^◌, Bool, ℕ, suc, zero, false, List, [], Option, None, Some, Err, length}
+use Rattle.std.specs.Prelude.{◌≡◌, ◌≢◌, ◌⊎◌, ◌<◌, ◌≤◌, ◌+◌, ◌^◌, Bool, ℕ, suc, zero, false, List, [], Option, None}
+use Rattle.std.specs.Prelude.{Some, Err, length}
 use Rattle.disk_model.specs.Files.{Contents, Files}
 use Rattle.disk_model.specs.Moments.{AtEachMoment}
 use Rattle.map_types.specs.declared.refusals.Refusal.{Refusal}

@@ -1,5 +1,6 @@
 -- Laws of a keeper against its world: each event meets its case, and leaves the keeper as the world after it says.
-use Rattle.std.specs.Prelude.{◌≡◌, ◌≢◌, ◌⊎◌, ◌↔◌, ◌||◌, not, is_some, ℕ, ◌-◌, ◌^◌, ◌<◌, ◌≤◌, List, length, ◌++◌, Option, None, Some, true, false, Result, Ok, Err}
+use Rattle.std.specs.Prelude.{◌≡◌, ◌≢◌, ◌⊎◌, ◌↔◌, ◌||◌, not, is_some, ℕ, ◌-◌, ◌^◌, ◌<◌, ◌≤◌, List, length, ◌++◌, Option}
+use Rattle.std.specs.Prelude.{None, Some, true, false, Result, Ok, Err}
 use Rattle.std.specs.FinMap as finite
 use Rattle.map_types.specs.declared.commands.Command.{Command}
 use Rattle.map_model.specs.Histories.{fold_to}
@@ -52,9 +53,11 @@ use Rattle.sim_rules.specs.Due.{checkpoint_call, due_file, log_call}
 use Rattle.sim_rules.specs.Fitting.{fits_inside, has_call}
 use Rattle.sim_rules.specs.Runs.{staged_in}
 use Rattle.checkpoint_walk.specs.Walking.{FitsWalking}
-use Rattle.sim_keeper.specs.Promises.{IsLost, IsMade, StepsCapture, StepsSweep, TriesBegin, TriesCheckpoint, TriesLog, TriesSeal, TriesStage}
+use Rattle.sim_keeper.specs.Promises.{IsLost, IsMade, StepsCapture, StepsSweep, TriesBegin, TriesCheckpoint, TriesLog}
+use Rattle.sim_keeper.specs.Promises.{TriesSeal, TriesStage}
 use Rattle.sim_keeper.specs.Telling.{MakesStep, capture_end, sweep_end}
-use Rattle.sim_keeper.specs.KeeperInWorld.{Answers, FailsCall, HasKeeper, IsAtOpening, KeeperStands, SeesHistory, TellsPlaces}
+use Rattle.sim_keeper.specs.KeeperInWorld.{Answers, FailsCall, HasKeeper, IsAtOpening, KeeperStands, SeesHistory}
+use Rattle.sim_keeper.specs.KeeperInWorld.{TellsPlaces}
 
 -- ---- the counts
 

@@ -1,5 +1,6 @@
 -- What the keeper's functions promise, each as one fact.
-use Rattle.std.specs.Prelude.{◌≡◌, ◌⊎◌, ◌≢◌, ◌↔◌, ℕ, ◌+◌, ◌≤◌, List, [], length, Option, None, Some, true, false, Result, Err, IfOk, IfErr, OnOk, OnErr}
+use Rattle.std.specs.Prelude.{◌≡◌, ◌⊎◌, ◌≢◌, ◌↔◌, ℕ, ◌+◌, ◌≤◌, List, [], length, Option, None, Some, true, false}
+use Rattle.std.specs.Prelude.{Result, Err, IfOk, IfErr, OnOk, OnErr}
 use Rattle.map_types.specs.declared.commands.Command.{Command}
 use Rattle.map_types.specs.declared.refusals.Refusal.{Refusal}
 use Rattle.map_types.specs.declared.refusals.Refusal.TheVariants as refusal
@@ -27,7 +28,8 @@ use Rattle.flusher.specs.Rotating.{StepsLogs, due_of, logs_of}
 use Rattle.sim_rules.specs.declared.outcome.DeviceCall.{DeviceCall}
 use Rattle.sim_rules.specs.After.{called, failed}
 use Rattle.sim_rules.specs.Cases.{IsPossible}
-use Rattle.checkpoint_walk.specs.Checkpointing.{Begins, HasAllSections, HasGiven, IsMarkedAbove, MayBegin, StepsCheckpoint, IsNextStripe, call_due, sealing}
+use Rattle.checkpoint_walk.specs.Checkpointing.{Begins, HasAllSections, HasGiven, IsMarkedAbove, MayBegin}
+use Rattle.checkpoint_walk.specs.Checkpointing.{StepsCheckpoint, IsNextStripe, call_due, sealing}
 use Rattle.store_layout.specs.UsedCheckpoint.{UsesCheckpoint}
 use Rattle.checkpoint_walk.specs.Walking.{AfterStep, FitsWalking, GivesPartIn}
 

@@ -16,7 +16,8 @@ use Rattle.flusher.specs.declared.sweeper.Sweep as sweeper
 use Rattle.flusher.specs.declared.sweeper.Walking.{Walking}
 use Rattle.flusher.specs.declared.sweeper.Walking.TheVariants as walking
 use Rattle.flusher.specs.Rotating.{Logs, due_in}
-use Rattle.sim_rules.specs.World.{Sweep, KeeperWalk, Rests, SweepTakes, SweepGives, CaptureLooks, CaptureGives, LogWork, Resting, Committing, Rotating, Running}
+use Rattle.sim_rules.specs.World.{Sweep, KeeperWalk, Rests, SweepTakes, SweepGives, CaptureLooks, CaptureGives, LogWork}
+use Rattle.sim_rules.specs.World.{Resting, Committing, Rotating, Running}
 
 -- ---- its walk
 

@@ -1,5 +1,6 @@
 -- What each event, with what came of it, leaves of the world.
-use Rattle.std.specs.Prelude.{ℕ, ◌+◌, ◌-◌, max, List, [], ◌∷◌, ◌++◌, length, take, drop, slice_set, Option, Some, None, Bool, true, false, ◌==◌, nat_lt, if◌then◌else◌}
+use Rattle.std.specs.Prelude.{ℕ, ◌+◌, ◌-◌, max, List, [], ◌∷◌, ◌++◌, length, take, drop, slice_set, Option, Some, None}
+use Rattle.std.specs.Prelude.{Bool, true, false, ◌==◌, nat_lt, if◌then◌else◌}
 use Rattle.map_types.specs.declared.commands.Command.{Command}
 use Rattle.map_types.specs.declared.refusals.Refusal.{Refusal}
 use Rattle.map_types.specs.declared.refusals.Refusal.TheVariants as refusal
@@ -25,9 +26,10 @@ use Rattle.sim_rules.specs.declared.outcome.Made.{Made}
 use Rattle.sim_rules.specs.declared.outcome.Made.TheVariants as made
 use Rattle.sim_rules.specs.declared.outcome.Outcome.{Outcome}
 use Rattle.sim_rules.specs.declared.outcome.Outcome.TheVariants as outcome
-use Rattle.sim_rules.specs.World.{World, Life, Job, Idle, Walks, Keeps, Releasing, Stage, Begins, HasTaken, IsAlive, IsDead, HasLooked, HasDrawn}
-use Rattle.sim_rules.specs.World.{Asking, FirstSees, HasMissed, FoundFailure, Place, WithWorker, InOutbox, InHand, Sweep, KeeperWalk, Rests}
-use Rattle.sim_rules.specs.World.{SweepTakes, SweepGives, CaptureLooks, CaptureGives, LogWork, Resting, Committing, Rotating, Running, begun_by}
+use Rattle.sim_rules.specs.World.{World, Life, Job, Idle, Walks, Keeps, Releasing, Stage, Begins, HasTaken, IsAlive}
+use Rattle.sim_rules.specs.World.{IsDead, HasLooked, HasDrawn, Asking, FirstSees, HasMissed, FoundFailure, Place}
+use Rattle.sim_rules.specs.World.{WithWorker, InOutbox, InHand, Sweep, KeeperWalk, Rests, SweepTakes, SweepGives}
+use Rattle.sim_rules.specs.World.{CaptureLooks, CaptureGives, LogWork, Resting, Committing, Rotating, Running, begun_by}
 use Rattle.sim_rules.specs.World.{gate_after, job_of, needs_rotation, past_outbox, seen_by, seen_of, sweep_or}
 
 -- ---- the device calls that an outcome names

@@ -1,6 +1,6 @@
 -- What may come of each event, by what came before it. The clauses of one definition exclude each other.
-use Rattle.std.specs.Prelude.{◌≡◌, ℕ, ◌+◌, ◌-◌, ◌^◌, ◌<◌, ◌≤◌, length, Option, Some, None, Bool, true, false, ◌&&◌, ◌||◌, ◌==◌, not}
-use Rattle.std.specs.Prelude.{nat_lt, if◌then◌else◌, is_some, MatchBool}
+use Rattle.std.specs.Prelude.{◌≡◌, ℕ, ◌+◌, ◌-◌, ◌^◌, ◌<◌, ◌≤◌, length, Option, Some, None, Bool, true, false, ◌&&◌}
+use Rattle.std.specs.Prelude.{◌||◌, ◌==◌, not, nat_lt, if◌then◌else◌, is_some, MatchBool}
 use Rattle.std.specs.FinMap as finite
 use Rattle.map_types.specs.declared.refusals.Refusal.TheVariants as refusal
 use Rattle.disk_model.specs.Files.{AreBytes, Files}
@@ -28,8 +28,8 @@ use Rattle.sim_rules.specs.declared.outcome.Made.TheVariants as made
 use Rattle.sim_rules.specs.declared.outcome.Outcome.{Outcome}
 use Rattle.sim_rules.specs.declared.outcome.Outcome.TheVariants as outcome
 use Rattle.sim_rules.specs.World.{World, Life, InHand, Sweep, KeeperWalk, Rests, SweepTakes, SweepGives, CaptureLooks}
-use Rattle.sim_rules.specs.World.{CaptureGives, LogWork, Resting, Committing, Rotating, Running, gate_after, is_held, is_resting, job_of}
-use Rattle.sim_rules.specs.World.{needs_rotation, next_commands, next_section, place_of, sweep_or}
+use Rattle.sim_rules.specs.World.{CaptureGives, LogWork, Resting, Committing, Rotating, Running, gate_after, is_held}
+use Rattle.sim_rules.specs.World.{is_resting, job_of, needs_rotation, next_commands, next_section, place_of, sweep_or}
 use Rattle.sim_rules.specs.Fitting.{fits}
 use Rattle.sim_rules.specs.Due.{due_call, due_file}
 use Rattle.sim_rules.specs.After.{bytes_of, call_of, called, checkpoint_called, file_of, log_called, section_at}

@@ -1,7 +1,9 @@
 -- The device call that is due, by what the events and outcomes so far say.
-use Rattle.std.specs.Prelude.{ℕ, ◌+◌, ◌-◌, List, [], ◌∷◌, ◌++◌, length, take, drop, replicate, Option, Some, None, nat_lt, ◌==◌, if◌then◌else◌}
+use Rattle.std.specs.Prelude.{ℕ, ◌+◌, ◌-◌, List, [], ◌∷◌, ◌++◌, length, take, drop, replicate, Option, Some, None}
+use Rattle.std.specs.Prelude.{nat_lt, ◌==◌, if◌then◌else◌}
 use Rattle.disk_model.specs.Gates.{Call, writes, syncs, open_gate}
-use Rattle.store_layout.specs.Checkpoints.{Section, body_offset, checkpoint_file, checkpoint_header, checkpoint_header_bytes, greatest_mark, sections_bytes}
+use Rattle.store_layout.specs.Checkpoints.{Section, body_offset, checkpoint_file, checkpoint_header}
+use Rattle.store_layout.specs.Checkpoints.{checkpoint_header_bytes, greatest_mark, sections_bytes}
 use Rattle.store_layout.specs.Logs.{end_frame, frame, header, log_file, new_layout}
 use Rattle.sim_rules.specs.declared.event.Side.{Side}
 use Rattle.sim_rules.specs.declared.event.Side.TheVariants as side

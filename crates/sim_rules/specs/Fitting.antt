@@ -4,7 +4,8 @@ use Rattle.sim_rules.specs.declared.event.Event.{Event}
 use Rattle.sim_rules.specs.declared.event.Event.TheVariants as event
 use Rattle.sim_rules.specs.declared.event.Side.{Side}
 use Rattle.sim_rules.specs.declared.event.Side.TheVariants as side
-use Rattle.sim_rules.specs.World.{World, Life, has_checkpoint_call, is_idle, is_keeping, is_resting, is_rotating, is_walking, job_of, rests}
+use Rattle.sim_rules.specs.World.{World, Life, has_checkpoint_call, is_idle, is_keeping, is_resting, is_rotating}
+use Rattle.sim_rules.specs.World.{is_walking, job_of, rests}
 
 -- there are 64 workers
 abbrev pub is_worker : ℕ → Bool

@@ -25,7 +25,8 @@ use Rattle.sim_rules.specs.After.{after, entered, failed}
 use Rattle.sim_rules.specs.Cases.{IsLongestRun, IsPossible, Meets}
 use Rattle.sim_rules.specs.InHand.{IsHandOf}
 use Rattle.sim_rules.specs.Runs.{Row, Happens, IsMove, IsRun, IsRunFrom, LeadsTo, OpensWell, is_old, rows_of}
-use Rattle.sim_rules.specs.Sound.{AnswersLegally, IsFront, IsKnownOf, IsSound, IsSoundInside, IsSoundOutside, OpensFront, Stays, durable_or, released_by}
+use Rattle.sim_rules.specs.Sound.{AnswersLegally, IsFront, IsKnownOf, IsSound, IsSoundInside, IsSoundOutside}
+use Rattle.sim_rules.specs.Sound.{OpensFront, Stays, durable_or, released_by}
 
 -- ---- the machine
 

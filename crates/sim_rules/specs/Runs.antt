@@ -17,8 +17,10 @@ use Rattle.sim_rules.specs.declared.outcome.Made.{Made}
 use Rattle.sim_rules.specs.declared.outcome.Made.TheVariants as made
 use Rattle.sim_rules.specs.declared.outcome.Outcome.{Outcome}
 use Rattle.sim_rules.specs.declared.outcome.Outcome.TheVariants as outcome
-use Rattle.sim_rules.specs.Machine.{Machine, Move, Calls, Releases, Stops, Opens, AreReleasedTo, IsAllowed, begun, moved, whole}
-use Rattle.sim_rules.specs.World.{World, Life, Job, Idle, Walks, Releasing, LogWork, Committing, job_of, old_start, seen_of, start}
+use Rattle.sim_rules.specs.Machine.{Machine, Move, Calls, Releases, Stops, Opens, AreReleasedTo, IsAllowed, begun}
+use Rattle.sim_rules.specs.Machine.{moved, whole}
+use Rattle.sim_rules.specs.World.{World, Life, Job, Idle, Walks, Releasing, LogWork, Committing, job_of, old_start}
+use Rattle.sim_rules.specs.World.{seen_of, start}
 use Rattle.sim_rules.specs.After.{after, entered}
 use Rattle.sim_rules.specs.Cases.{Meets, entry_of}
 

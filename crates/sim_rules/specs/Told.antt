@@ -1,7 +1,8 @@
 -- A step of a pass, as it is told.
 use Rattle.std.specs.Prelude.{Option, None, Some}
 use Rattle.ticket_order.specs.declared.record.StepMade.{StepMade}
-use Rattle.ticket_order.specs.declared.record.StepMade.TheVariants.{Took, FoundHeld, Gave, Drew, Looked, Published, Saw, Failed, FoundAlive}
+use Rattle.ticket_order.specs.declared.record.StepMade.TheVariants.{Took, FoundHeld, Gave, Drew, Looked, Published, Saw}
+use Rattle.ticket_order.specs.declared.record.StepMade.TheVariants.{Failed, FoundAlive}
 use Rattle.sim_rules.specs.declared.outcome.Made.{Made}
 use Rattle.sim_rules.specs.declared.outcome.Made.TheVariants as told
 

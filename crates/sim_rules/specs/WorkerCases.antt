@@ -11,8 +11,9 @@ use Rattle.sim_rules.specs.declared.outcome.Made.{Made}
 use Rattle.sim_rules.specs.declared.outcome.Made.TheVariants as made
 use Rattle.sim_rules.specs.declared.outcome.Outcome.{Outcome}
 use Rattle.sim_rules.specs.declared.outcome.Outcome.TheVariants as outcome
-use Rattle.sim_rules.specs.World.{World, Life, Job, Idle, Walks, Keeps, Releasing, Stage, Begins, HasTaken, IsAlive, IsDead, HasLooked, HasDrawn}
-use Rattle.sim_rules.specs.World.{Asking, FirstSees, HasMissed, FoundFailure, count, is_held, last_on, seen_by, stripe_asked}
+use Rattle.sim_rules.specs.World.{World, Life, Job, Idle, Walks, Keeps, Releasing, Stage, Begins, HasTaken, IsAlive}
+use Rattle.sim_rules.specs.World.{IsDead, HasLooked, HasDrawn, Asking, FirstSees, HasMissed, FoundFailure, count}
+use Rattle.sim_rules.specs.World.{is_held, last_on, seen_by, stripe_asked}
 
 -- ---- a change begins
 

@@ -1,7 +1,7 @@
 -- What the events and outcomes so far say of a store: its files, its history, and in a life its workers, its keeper and
 -- its counts.
-use Rattle.std.specs.Prelude.{ℕ, ◌+◌, ◌-◌, max, List, [], ◌∷◌, length, take, drop, replicate, slice_index_or, Option, Some, None, Bool, true, false}
-use Rattle.std.specs.Prelude.{◌&&◌, ◌||◌, ◌==◌, nat_lt, if◌then◌else◌}
+use Rattle.std.specs.Prelude.{ℕ, ◌+◌, ◌-◌, max, List, [], ◌∷◌, length, take, drop, replicate, slice_index_or, Option}
+use Rattle.std.specs.Prelude.{Some, None, Bool, true, false, ◌&&◌, ◌||◌, ◌==◌, nat_lt, if◌then◌else◌}
 use Rattle.java_hash.specs.Stripes.{stripe_of}
 use Rattle.map_types.specs.declared.commands.Command.{Command}
 use Rattle.map_model.specs.Parts.{is_in_stripe}

@@ -28,8 +28,10 @@ use Rattle.sim_rules.specs.Fitting.{fits, is_worker}
 use Rattle.sim_rules.specs.After.{after}
 use Rattle.sim_rules.specs.Cases.{Meets}
 use Rattle.sim_rules.specs.Sound.{AnswersLegally}
-use Rattle.sim_workers.specs.Doings.{Doing, Rests, Calls, Waits, Releases, CallLeaves, ReleaseLeaves, is_resting, is_stepping, is_waiting}
-use Rattle.sim_workers.specs.Workers.{ConcernsNone, Gathers, IsNowDoing, KeeperMoves, MakesStep, Stand, StepsWalk, WorkersStand}
+use Rattle.sim_workers.specs.Doings.{Doing, Rests, Calls, Waits, Releases, CallLeaves, ReleaseLeaves, is_resting}
+use Rattle.sim_workers.specs.Doings.{is_stepping, is_waiting}
+use Rattle.sim_workers.specs.Workers.{ConcernsNone, Gathers, IsNowDoing, KeeperMoves, MakesStep, Stand, StepsWalk}
+use Rattle.sim_workers.specs.Workers.{WorkersStand}
 
 -- The outcome meets the case of the event, a reply that it releases is one thread's, and the workers stand as they
 -- should in the world after it.

@@ -18,7 +18,8 @@ use Rattle.gate_log.specs.LogStates as log
 use Rattle.gate_log.specs.States.{LogState, IsResting, begun, log_after}
 use Rattle.gate_log.specs.LogSteps.{committed_after, staged_after}
 use Rattle.store_layout.specs.declared.log_phase.Phase.{Phase}
-use Rattle.store_layout.specs.declared.log_phase.Phase.TheVariants.{Idle, Header, HeaderWritten, Staged, Written, Synced, Opened as log_opened}
+use Rattle.store_layout.specs.declared.log_phase.Phase.TheVariants.{Idle, Header, HeaderWritten, Staged, Written}
+use Rattle.store_layout.specs.declared.log_phase.Phase.TheVariants.{Synced, Opened as log_opened}
 use Rattle.store_invariant.specs.States.{StoreState, Held, newest_batches, next_batches, with_batches}
 use Rattle.store_invariant.specs.StoreStates.{Stands, StopsStand, staged_count}
 

@@ -13,7 +13,8 @@ use Rattle.store_layout.specs.declared.checkpoint_phase.CheckpointPhase.TheVaria
 use Rattle.gate_log.specs.LogStates as log
 use Rattle.gate_log.specs.States.{LogState, IsResting}
 use Rattle.store_layout.specs.declared.log_phase.Phase.{Phase}
-use Rattle.store_layout.specs.declared.log_phase.Phase.TheVariants.{Idle, Header, HeaderWritten, Staged, Written, Synced, Opened as log_opened}
+use Rattle.store_layout.specs.declared.log_phase.Phase.TheVariants.{Idle, Header, HeaderWritten, Staged, Written}
+use Rattle.store_layout.specs.declared.log_phase.Phase.TheVariants.{Synced, Opened as log_opened}
 use Rattle.store_invariant.specs.States.{StoreState, Held, low_after}
 
 -- ---- what a stop leaves

@@ -1,5 +1,6 @@
 -- The commands in hand, by their tickets, and which of them one batch may have.
-use Rattle.std.specs.Prelude.{◌≡◌, ℕ, ◌+◌, ◌-◌, ◌<◌, ◌≤◌, ◌^◌, List, ◌++◌, length, map, min, Option, Some, None, slice_index_or}
+use Rattle.std.specs.Prelude.{◌≡◌, ℕ, ◌+◌, ◌-◌, ◌<◌, ◌≤◌, ◌^◌, List, ◌++◌, length, map, min, Option, Some, None}
+use Rattle.std.specs.Prelude.{slice_index_or}
 use Rattle.map_types.specs.declared.commands.Command.{Command}
 use Rattle.log_records.specs.Layout.{Layout}
 use Rattle.store_layout.specs.Logs.{frame, most_commands, most_frame_bytes}

@@ -12,8 +12,11 @@ use Rattle.log_records.specs.Agreement.{IsBytes}
 use Rattle.store_layout.specs.Logs.{is_read}
 use Rattle.store_layout.specs.Checkpoints.{Section, Checkpoint, AreSections, AreMarkedFrom, IsWhole, IsCheckpoint, checkpoint_bytes, checkpoint_header_bytes, sections_bytes, checkpoint_file, greatest_mark, is_sealed, section_head_bytes}
 use Rattle.store_layout.specs.SectionsAndLog.{grown, Restores}
-use Rattle.store_layout.specs.Faults.{version_in, generation_in, low_in, greatest_in, stripes_in, body_in, checkpoint_in, head_fault, size_fault, IsBadCheckpoint}
-use Rattle.store_layout.specs.Opening.{Contents, IsCheckpointIn, IsClosedIn, Opened, log_of, prefix_of, history_of, IsOlder, AreLogs, Holds, StandsFor, StandsForFront, first_checkpoint, heads_fault, newest_file, Refuses, Opens}
+use Rattle.store_layout.specs.Faults.{version_in, generation_in, low_in, greatest_in, stripes_in, body_in}
+use Rattle.store_layout.specs.Faults.{checkpoint_in, head_fault, size_fault, IsBadCheckpoint}
+use Rattle.store_layout.specs.Opening.{Contents, IsCheckpointIn, IsClosedIn, Opened, log_of, prefix_of, history_of}
+use Rattle.store_layout.specs.Opening.{IsOlder, AreLogs, Holds, StandsFor, StandsForFront, first_checkpoint}
+use Rattle.store_layout.specs.Opening.{heads_fault, newest_file, Refuses, Opens}
 
 -- ---- one checkpoint file
 

@@ -1,7 +1,8 @@
 -- The rule of the shared words: between any two steps of any threads there is one history, which the words and the
 -- slots match. The words are the ticket count, the durable count, the failure word, the count of passes, and then one
 -- for each stripe. Each has a cache line of its own, of eight words.
-use Rattle.std.specs.Prelude.{◌≡◌, ℕ, ◌+◌, ◌*◌, ◌<◌, ◌≤◌, max, List, length, map, Option, Some, Bool, true, false, slice_index}
+use Rattle.std.specs.Prelude.{◌≡◌, ℕ, ◌+◌, ◌*◌, ◌<◌, ◌≤◌, max, List, length, map, Option, Some, Bool, true, false}
+use Rattle.std.specs.Prelude.{slice_index}
 use Rattle.std.specs.List.{All}
 use mathlib.Core.Option.{some}
 use mathlib.Core.Option as maybe

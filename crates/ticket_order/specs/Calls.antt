@@ -18,7 +18,8 @@ use Rattle.ticket_order.specs.declared.held.Released.TheVariants as released
 use Rattle.ticket_order.specs.declared.record.Purpose.TheVariants.{Nothing, Sweep, Capture}
 use Rattle.ticket_order.specs.declared.record.Asked.TheVariants.{Changing, Reading}
 use Rattle.ticket_order.specs.declared.record.Record.{Record}
-use Rattle.ticket_order.specs.Records.{IsWithin, ticket_limit, call, reach, past, missing, taking, looking, drawing, giving, answering, living}
+use Rattle.ticket_order.specs.Records.{IsWithin, ticket_limit, call, reach, past, missing, taking, looking, drawing}
+use Rattle.ticket_order.specs.Records.{giving, answering, living}
 use Rattle.ticket_order.specs.Legality.{history_of, IsLegalSection}
 use Rattle.ticket_order.specs.StepRules.{Rises, Collects, IsLast, Sees, Lives}
 

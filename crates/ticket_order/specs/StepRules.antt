@@ -1,5 +1,6 @@
 -- What each step asks of the record of its pass, and what it leaves.
-use Rattle.std.specs.Prelude.{◌≡◌, ℕ, ◌+◌, ◌^◌, ◌<◌, ◌≤◌, ◌⊎◌, List, [], ◌∷◌, ◌++◌, length, Option, Some, None, Bool, true, false, not}
+use Rattle.std.specs.Prelude.{◌≡◌, ℕ, ◌+◌, ◌^◌, ◌<◌, ◌≤◌, ◌⊎◌, List, [], ◌∷◌, ◌++◌, length, Option, Some, None, Bool}
+use Rattle.std.specs.Prelude.{true, false, not}
 use Rattle.std.specs.List.{All}
 use Rattle.java_hash.specs.Stripes.{stripe_of}
 use Rattle.map_types.specs.declared.commands.Command.{Command}
@@ -16,7 +17,9 @@ use Rattle.ticket_order.specs.declared.record.Call.{Call}
 use Rattle.ticket_order.specs.declared.record.Section.{Section}
 use Rattle.ticket_order.specs.declared.record.Holding.{Holding}
 use Rattle.ticket_order.specs.declared.record.Record.{Record}
-use Rattle.ticket_order.specs.Records.{IsWithin, reach, past, missing, taking, looking, drawing, giving, answering, publishing, seeing, failing, living, part_held, last_held, sections_for, outbox_for}
+use Rattle.ticket_order.specs.Records.{IsWithin, reach, past, missing, taking, looking, drawing, giving, answering}
+use Rattle.ticket_order.specs.Records.{publishing, seeing, failing, living, part_held, last_held, sections_for}
+use Rattle.ticket_order.specs.Records.{outbox_for}
 use Rattle.ticket_order.specs.Legality.{history_of, IsLegalCall, IsLegalSection, entries_from, entries_of, last_of}
 
 -- What made the steps between is the same pass, over as many stripes.

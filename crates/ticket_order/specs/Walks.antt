@@ -1,6 +1,7 @@
 -- Where a walk stands: what the record of its pass has gained since the walk began, and what its next step leaves.
 use Rattle.std.specs.FinMap as finite
-use Rattle.std.specs.Prelude.{length, ◌≡◌, ℕ, ◌+◌, ◌^◌, ◌<◌, max, List, [], ◌∷◌, ◌++◌, Option, Some, None, Bool, true, false}
+use Rattle.std.specs.Prelude.{length, ◌≡◌, ℕ, ◌+◌, ◌^◌, ◌<◌, max, List, [], ◌∷◌, ◌++◌, Option, Some, None, Bool, true}
+use Rattle.std.specs.Prelude.{false}
 use Rattle.atomic_methods.specs.PartState.{PartState}
 use Rattle.java_hash.specs.Stripes.{stripe_of}
 use Rattle.map_types.specs.declared.commands.Command.{Command}
@@ -14,7 +15,8 @@ use Rattle.ticket_order.specs.declared.stripe.Entry.{Entry}
 use Rattle.ticket_order.specs.declared.held.Held.{Held}
 use Rattle.ticket_order.specs.declared.record.Purpose.TheVariants.{Nothing}
 use Rattle.ticket_order.specs.declared.record.StepMade.{StepMade}
-use Rattle.ticket_order.specs.declared.record.StepMade.TheVariants.{Took, FoundHeld, Gave, Drew, Looked, Published, Saw, Failed, FoundAlive}
+use Rattle.ticket_order.specs.declared.record.StepMade.TheVariants.{Took, FoundHeld, Gave, Drew, Looked, Published, Saw}
+use Rattle.ticket_order.specs.declared.record.StepMade.TheVariants.{Failed, FoundAlive}
 use Rattle.ticket_order.specs.declared.record.Holding.{Holding}
 use Rattle.ticket_order.specs.declared.record.Record.{Record}
 use Rattle.ticket_order.specs.declared.change_walk.ChangeStage.{ChangeStage}
@@ -37,7 +39,9 @@ use Rattle.ticket_order.specs.declared.walk.Stepped.TheVariants as stepped
 use Rattle.ticket_order.specs.Records.{IsWithin, ticket_limit, entry, past, reach, taking, living, looking, giving}
 use Rattle.ticket_order.specs.Memory.{HasMemory}
 use Rattle.ticket_order.specs.StepRules.{Rises, TakesStripe}
-use Rattle.ticket_order.specs.Calls.{walked, MakesCall, MakesRead, RefusesChange, RefusesRead, RefusesSweep, RefusesCapture, HasTooMany, Misses, MissesAlive, Releases, SweepsStripe, CapturesStripe}
+use Rattle.ticket_order.specs.Calls.{walked, MakesCall, MakesRead, RefusesChange, RefusesRead, RefusesSweep}
+use Rattle.ticket_order.specs.Calls.{RefusesCapture, HasTooMany, Misses, MissesAlive, Releases, SweepsStripe}
+use Rattle.ticket_order.specs.Calls.{CapturesStripe}
 
 -- what a walk is for
 pub data Task : Type 0 where

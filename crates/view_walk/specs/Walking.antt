@@ -1,5 +1,6 @@
 -- Where a walk over the parts of all stripes stands: what the record of its pass has gained since the walk began.
-use Rattle.std.specs.Prelude.{◌≡◌, ℕ, ◌+◌, ◌≤◌, ◌<◌, List, [], ◌∷◌, ◌++◌, length, fold, max, Option, Some, None, false, Result, Ok, Err}
+use Rattle.std.specs.Prelude.{◌≡◌, ℕ, ◌+◌, ◌≤◌, ◌<◌, List, [], ◌∷◌, ◌++◌, length, fold, max, Option, Some, None, false}
+use Rattle.std.specs.Prelude.{Result, Ok, Err}
 use Rattle.atomic_methods.specs.PartState.{PartState}
 use Rattle.map_types.specs.declared.commands.Command.{Command}
 use Rattle.map_types.specs.declared.refusals.Refusal.{Refusal}
