@@ -30,7 +30,12 @@ sections_of reads = map (λ read. section_of read) reads
 
 abbrev pub checkpoint_of : LoadedCheckpoint → Checkpoint
 checkpoint_of loaded =
-    record { generation = loaded.generation; low = loaded.low; stripes = loaded.stripes.count; sections = sections_of loaded.sections.items }
+    record {
+      generation = loaded.generation;
+      low = loaded.low;
+      stripes = loaded.stripes.count;
+      sections = sections_of loaded.sections.items;
+    }
 
 -- the entries are those of a map, each key once, in rising byte order
 abbrev pub IsRising : LoadedSection → Type 0

@@ -150,8 +150,8 @@ pub record AreMisused (words : ServerWords) (w0 w1 : Option (List ℕ)) (status 
   pub status_is : status ≡ 2
 
 -- IsOpened says that a disk has the files of a directory, as they were when it was opened. IsRefused says that a
--- directory couldn't be opened, for an error. IsListener says that a listener was bound at a path, and its file has these
--- rights.
+-- directory couldn't be opened, for an error. IsListener says that a listener was bound at a path, and its file has
+-- these rights.
 module _ {D L : Type 0} (states : D → List Files) (failures : D → ℕ) (honest : D → Type 0)
     (IsOpened : List ℕ → D → Type 0) (IsRefused : List ℕ → Error → Type 0)
     (IsListener : List ℕ → ℕ → L → Type 0) where

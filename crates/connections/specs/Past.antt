@@ -61,7 +61,12 @@ module _ {H : Type 0} where
   -- what a connection is left with
   abbrev pub standing : Connection H → Standing H
   standing connection =
-      record { feed = connection.feeder; places = connection.row.items; stage = connection.stage; unsent = connection.out }
+      record {
+        feed = connection.feeder;
+        places = connection.row.items;
+        stage = connection.stage;
+        unsent = connection.out;
+      }
 
   -- what it is left with once this reply is written behind the others
   abbrev pub with_late : Standing H → Option Answer → Standing H

@@ -96,7 +96,12 @@ overwritten at bytes old = take at old ++ (bytes ++ drop (at + length bytes) old
 -- after a write of these bytes at this place, which left this to be read
 abbrev pub reached : ℕ → List ℕ → List ℕ → File → File
 reached at bytes seen file =
-    record { seen = seen; base = file.base; pending = record { at = at; bytes = bytes } ∷ file.pending; greatest = max file.greatest (at + length bytes) }
+    record {
+      seen = seen;
+      base = file.base;
+      pending = record { at = at; bytes = bytes } ∷ file.pending;
+      greatest = max file.greatest (at + length bytes);
+    }
 
 -- after a write
 abbrev pub written : ℕ → List ℕ → File → File
@@ -127,7 +132,13 @@ AllCoherent states = AllByRecursion AreCoherent states
 
 pub empty_coherent : AreCoherent empty_files
 empty_coherent n low =
-    record { no_shorter = omega arith; no_longer = omega arith; same = λ i h. refl; bytes = λ i. omega arith; base_bytes = λ i. omega arith }
+    record {
+      no_shorter = omega arith;
+      no_longer = omega arith;
+      same = λ i h. refl;
+      bytes = λ i. omega arith;
+      base_bytes = λ i. omega arith;
+    }
 
 pub AllCoherent-prop : (states : List Files) → IsProp (AllCoherent states)
 AllCoherent-prop states = AllByRecursion-prop AreCoherent (λ files. hlevel (le_prop, ℕ_set)) states

@@ -98,7 +98,13 @@ log_after Staged log = record log { phase = Written }
 log_after Written log = record log { phase = Synced }
 log_after Synced log = record log { phase = Opened }
 log_after Opened log =
-    record log { phase = Idle; gate = log.gate + length log.frame; committed = log.committed + log.count; count = 0; frame = [] }
+    record log {
+      phase = Idle;
+      gate = log.gate + length log.frame;
+      committed = log.committed + log.count;
+      count = 0;
+      frame = [];
+    }
 
 -- its numbers fit their types, whatever the disk does
 pub record IsSound (log : LogState) : Type 0 where

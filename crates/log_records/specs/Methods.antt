@@ -24,7 +24,8 @@ method_number Merge = 25
 
 abbrev pub all_methods : List Method
 all_methods =
-    Put ∷ PutIfAbsent ∷ Remove ∷ RemoveIf ∷ Replace ∷ ReplaceIf ∷ Compute ∷ ComputeIfAbsent ∷ ComputeIfPresent ∷ Merge ∷ []
+    Put ∷ PutIfAbsent ∷ Remove ∷ RemoveIf ∷ Replace ∷ ReplaceIf
+    ∷ Compute ∷ ComputeIfAbsent ∷ ComputeIfPresent ∷ Merge ∷ []
 
 abbrev pub all_funcs : List Func
 all_funcs = Const ∷ Drop ∷ Keep ∷ Sum ∷ Max ∷ Min ∷ Concat ∷ SumNonzero ∷ SumExact ∷ []

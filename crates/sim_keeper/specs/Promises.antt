@@ -79,8 +79,14 @@ pub record TriesLog {D : Type 0} (states : D → List Files) (failures : D → �
   pub hand : OnOk result (IsPast old.next old.log.phase old.sweeper old.staged.items new.sweeper new.staged.items)
   pub works : OnOk result (new.is_broken ≡ false)
   pub kept : OnErr result ((new.sweeper ≡ old.sweeper) × (new.staged ≡ old.staged) × (new.is_broken ≡ true))
-  pub same : new
-      ≡ record old { disk = new.disk; log = new.log; next = new.next; sweeper = new.sweeper; staged = new.staged; is_broken = new.is_broken }
+  pub same : new ≡ record old {
+    disk = new.disk;
+    log = new.log;
+    next = new.next;
+    sweeper = new.sweeper;
+    staged = new.staged;
+    is_broken = new.is_broken;
+  }
 
 -- the checkpoint was to go on
 pub record TriesCheckpoint {D : Type 0} (states : D → List Files) (failures : D → ℕ) (honest : D → Type 0)
@@ -97,8 +103,13 @@ pub record TriesCheckpoint {D : Type 0} (states : D → List Files) (failures : 
       → Fits states honest n done old p → honest new.disk → old.next ≡ None → old.checkpoint ≡ Some w
       → w.phase ≡ checkpoint_phase.Opened → HasGiven old.checkpoint sections (now (states old.disk))
       → OnOk result (UsesCheckpoint (checkpoint_of w sections) (now (states new.disk)))
-  pub same : new
-      ≡ record old { disk = new.disk; sealed = new.sealed; checkpoint = new.checkpoint; must_close = new.must_close; is_broken = new.is_broken }
+  pub same : new ≡ record old {
+    disk = new.disk;
+    sealed = new.sealed;
+    checkpoint = new.checkpoint;
+    must_close = new.must_close;
+    is_broken = new.is_broken;
+  }
 
 -- ---- a batch
 
@@ -116,8 +127,11 @@ pub record TriesStage {D : Type 0} (most : ℕ) (old new : Keeper D) (result : R
       (1 ≤ count → Stages commands old.log old.sweeper.in_hand new.log new.sweeper.in_hand new.staged.items))
   pub err : OnErr result ((new.log ≡ old.log) × (new.staged ≡ old.staged)
       × SameEntries old.sweeper.in_hand new.sweeper.in_hand)
-  pub same : new
-      ≡ record old { log = new.log; sweeper = record old.sweeper { in_hand = new.sweeper.in_hand }; staged = new.staged }
+  pub same : new ≡ record old {
+    log = new.log;
+    sweeper = record old.sweeper { in_hand = new.sweeper.in_hand };
+    staged = new.staged;
+  }
 
 -- ---- a sweep
 

@@ -126,7 +126,13 @@ seals_left checkpoint_phase.Sealed = 0
 -- in this phase, with the sections that the writer was given
 abbrev pub running_in : CheckpointPhase → CheckpointState → List Section → Running
 running_in phase w sections =
-    record { generation = w.generation; clears = clears_left phase; sections = sections; is_waiting = is_waiting_in phase; seals = seals_left phase }
+    record {
+      generation = w.generation;
+      clears = clears_left phase;
+      sections = sections;
+      is_waiting = is_waiting_in phase;
+      seals = seals_left phase;
+    }
 
 -- the writer, with the sections that it was given
 abbrev pub running_shown : CheckpointState → List Section → Running

@@ -286,7 +286,8 @@ BatchIsCommitted = (w : World) (l : Life) (n : ℕ) →
 abbrev pub RotationGoesOn : Type 0
 RotationGoesOn = (w : World) (l : Life) →
     map (λ left. phase_of_log (log_called w l (Rotating left)).log) (6 ∷ 5 ∷ 4 ∷ 3 ∷ 2 ∷ 1 ∷ [])
-    ≡ log_phase.HeaderWritten ∷ log_phase.Staged ∷ log_phase.Written ∷ log_phase.Synced ∷ log_phase.Opened ∷ log_phase.Idle ∷ []
+    ≡ log_phase.HeaderWritten ∷ log_phase.Staged ∷ log_phase.Written ∷ log_phase.Synced ∷ log_phase.Opened
+    ∷ log_phase.Idle ∷ []
 
 -- The newest log has its layout until the last call of a rotation; then it is one of the new version. The limit for
 -- keys stays.
@@ -307,4 +308,5 @@ CheckpointGoesOn = (l : Life) (running : Running) →
     ≡ checkpoint_phase.GateWritten ∷ checkpoint_phase.GateSynced ∷ checkpoint_phase.Ready ∷ [])
     × (next_phase l (record running { clears = 0; is_waiting = true; seals = 0 }) ≡ checkpoint_phase.Ready)
     × (map (λ left. next_phase l (record running { clears = 0; is_waiting = false; seals = left })) (4 ∷ 3 ∷ 2 ∷ 1 ∷ [])
-    ≡ checkpoint_phase.HeaderWritten ∷ checkpoint_phase.HeaderSynced ∷ checkpoint_phase.Opened ∷ checkpoint_phase.Sealed ∷ [])
+    ≡ checkpoint_phase.HeaderWritten ∷ checkpoint_phase.HeaderSynced ∷ checkpoint_phase.Opened
+    ∷ checkpoint_phase.Sealed ∷ [])

@@ -227,7 +227,11 @@ WriterStepsOn = (h : History) (store : StoreState) (held : Held) (w : Checkpoint
 -- what is held once this checkpoint is sealed, and the file of the one before has this content
 abbrev pub sealed_with : CheckpointState → Held → List ℕ → Held
 sealed_with w held other = record {
-  found = record { checkpoint = checkpoint.checkpoint_of w held.sections; first = next_batches held.found.second; second = None };
+  found = record {
+    checkpoint = checkpoint.checkpoint_of w held.sections;
+    first = next_batches held.found.second;
+    second = None;
+  };
   staged = held.staged;
   other = other;
   sections = [];

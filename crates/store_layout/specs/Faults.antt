@@ -46,7 +46,12 @@ body_in content = take (body_length_in content) (drop body_offset content)
 -- the checkpoint that the fields name, with these sections
 abbrev pub checkpoint_in : List ℕ → List Section → Checkpoint
 checkpoint_in content sections =
-    record { generation = generation_in content; low = low_in content; stripes = stripes_in content; sections = sections }
+    record {
+      generation = generation_in content;
+      low = low_in content;
+      stripes = stripes_in content;
+      sections = sections;
+    }
 
 -- ---- fields that may not be
 

@@ -47,7 +47,21 @@ past (e ∷ es) = max (e.ticket + 1) (past es)
 -- a pass that has made no step
 abbrev pub newcomer : Opening → Record
 newcomer o =
-    record { opening = o; steps = []; calls = []; sections = []; seen = []; holding = None; keeper = false; taken = []; published = o.first; failed = false; enrolled = false; fresh = false; passes = 0 }
+    record {
+      opening = o;
+      steps = [];
+      calls = [];
+      sections = [];
+      seen = [];
+      holding = None;
+      keeper = false;
+      taken = [];
+      published = o.first;
+      failed = false;
+      enrolled = false;
+      fresh = false;
+      passes = 0;
+    }
 
 -- the pass that sweeps, publishes and fails, at its start
 abbrev pub keeper_at_start : Opening → Record
