@@ -29,9 +29,6 @@ length_more : (xs : List Section) (i mark : ℕ) (part : PartState) → length (
 length_more xs i mark part = ap length (kept_more xs (of_part i mark part))
     ∙ (length-append (entries_kept xs) (finite.entries part.map) ∙ ap (λ (k : ℕ). length (entries_kept xs) + k) (sym (finite.len-entries part.map)))
 
-capped : (most first old more : ℕ) → min (min (first + old) most + min more most) most ≡ min (first + (old + more)) most
-capped most first old more = omega arith
-
 -- the number of entries, of which the greatest number stands for all that are greater
 pub count_more : (most first old more new : ℕ) (xs : List Section) (i mark : ℕ) (part : PartState) → old ≡ min (first + length (entries_kept xs)) most → more ≡ min (finite.len part.map) most → new ≡ min (old + more) most
     → new ≡ min (first + length (entries_kept (xs ++ sections_of i (Some (mark, part))))) most

@@ -6,7 +6,6 @@ use Rattle.std.proofs.lemmas.Bool.Decides.{nat_tests}
 use Rattle.disk_model.specs.Files.{File, Range, MayLeave, IsTorn, at_rest, byte_at, is_written, overwritten, written, synced}
 use Rattle.disk_model.specs.Gates.{IsShut}
 use Rattle.disk_model.proofs.GateLemmas.{kept_front, overwritten_at, sure_reached, sure_torn, sure_synced}
-use Rattle.disk_model.proofs.FileLemmas.{rest_leaves}
 use Rattle.store_layout.specs.Checkpoints.{is_sealed, is_to_close}
 use Rattle.checkpoint_file.specs.CheckpointStates.{IsClosing}
 
@@ -69,19 +68,6 @@ closed_written old opens = record {
 pub closed_torn : (old : List ℕ) (torn : File) → is_to_close old ≡ true → IsTorn 0 (0 ∷ []) (at_rest old) torn
     → (content : List ℕ) → MayLeave torn content → (content ≡ old) ⊎ (is_sealed content ≡ false)
 closed_torn old torn opens tears = closing_leaves old torn tears.after tears.pending tears.base tears.greatest opens
-
-pub closed_at_rest : (old : List ℕ) → is_to_close old ≡ false → IsClosing old (at_rest old)
-closed_at_rest [] shut = absurd (cc)
-closed_at_rest (gate ∷ rest) shut = record {
-  gate = gate;
-  rest = rest;
-  seen = refl;
-  closed = other gate shut;
-  leaves = λ content left. inl (rest_leaves (gate ∷ rest) content left);
-}
-  where
-    other : (n : ℕ) → (n == 165) ≡ false → n ≢ 165
-    other n h = grind (arith, nat_tests)
 
 pub closing_synced : (old : List ℕ) (file : File) → IsClosing old file → IsShut [] [] (synced file)
 closing_synced old file is = record {

@@ -1,7 +1,6 @@
 -- Bytes that stand at a place of a file, and what is behind them.
-use Rattle.std.proofs.Common.{◌≡◌, ◌≤◌, inl, inr, ℕ, ◌+◌, ◌-◌, min, List, ◌++◌, length, take, drop, sym, ap, ap₂, subst, ◌∙◌, append_assoc, arith}
-use Rattle.std.proofs.lemmas.List.{take-append-le, length-append}
-use Rattle.std.proofs.Math.Seq.{drop-append_seam}
+use Rattle.std.proofs.Common.{◌≡◌, inl, inr, ℕ, ◌+◌, ◌-◌, List, ◌++◌, length, sym, ap, subst, ◌∙◌, append_assoc, arith}
+use Rattle.std.proofs.lemmas.List.{length-append}
 use Rattle.disk_model.specs.Calls.{Looks}
 use Rattle.disk_model.specs.Files.{Files}
 use Rattle.map_types.specs.declared.refusals.Refusal.{Refusal}
@@ -11,18 +10,6 @@ use Rattle.checkpoint_file.specs.Loads.{StandsAt, ForRest, GoesOn, RefusesIn, se
 use Rattle.checkpoint_file.proofs.LookLemmas.{same_seen}
 
 module _ (content : List ℕ) (at : ℕ) (rest : List ℕ) (is : StandsAt content at rest) where
-  -- what a read of so many bytes gives
-  pub read_take : (n : ℕ) → n ≤ length rest → take n (drop at content) ≡ take n rest
-  read_take n few =
-      let tail : drop at content ≡ rest ++ is.behind = ap₂ (λ (k : ℕ) (l : List ℕ). drop k l) (sym is.offset) is.bytes ∙ drop-append_seam is.front (rest ++ is.behind) in
-      ap (λ (l : List ℕ). take n l) tail ∙ take-append-le n rest is.behind few
-
-  pub read_count : (n : ℕ) → n ≤ length rest → min n (length content - at) ≡ n
-  read_count n few =
-      let whole : length content ≡ length (is.front ++ (rest ++ is.behind)) = ap (λ (l : List ℕ). length l) is.bytes in
-      let place = is.offset in
-      omega (arith, whole, length-append is.front (rest ++ is.behind), length-append rest is.behind, place, few)
-
   -- what is behind the first bytes
   pub stands_behind : (bytes others : List ℕ) (place : ℕ) → rest ≡ bytes ++ others → place ≡ at + length bytes → StandsAt content place others
   stands_behind bytes others place spelled place_is =
@@ -33,10 +20,6 @@ module _ (content : List ℕ) (at : ℕ) (rest : List ℕ) (is : StandsAt conten
         bytes = is.bytes ∙ ap (λ (l : List ℕ). is.front ++ (l ++ is.behind)) spelled ∙ ap (λ (l : List ℕ). is.front ++ l) (append_assoc bytes others is.behind) ∙ sym (append_assoc is.front bytes (others ++ is.behind));
         offset = omega (arith, length-append is.front bytes, before, place_is);
       }
-
--- nothing is read yet
-pub begins : (content rest : List ℕ) (unread : Unread) → StandsAt content unread.at rest → length rest ≡ unread.left → (bytes : List ℕ) → length bytes ≡ 0 → rest ≡ bytes ++ rest → GoesOn content bytes rest unread
-begins content rest unread is size bytes none spelled = record { left = rest; spelled = spelled; stands = is; size = size }
 
 -- the first bytes are read
 pub goes_first : (content rest bytes others : List ℕ) (old new : Unread) → StandsAt content old.at rest → length rest ≡ old.left → rest ≡ bytes ++ others

@@ -1,5 +1,5 @@
 -- What a file holds whose body was read, or what is wrong with it.
-use Rattle.std.proofs.Common.{◌≡◌, ◌≢◌, ◌⊎◌, inl, inr, ◌≤◌, ◌<◌, ℕ, zero, suc, ◌+◌, Bool, true, false, not, cond, nat_lt, max, None, Some, List, [], ◌∷◌, ◌++◌, length, take, drop, get_or, refl, sym, ap, subst, ◌∙◌, arith}
+use Rattle.std.proofs.Common.{◌≡◌, ◌≢◌, ◌⊎◌, inl, inr, ◌≤◌, ◌<◌, ℕ, zero, suc, ◌+◌, true, not, cond, nat_lt, max, None, Some, List, [], ◌∷◌, ◌++◌, length, take, drop, get_or, refl, sym, ap, subst, ◌∙◌, arith}
 use Rattle.std.proofs.lemmas.Bool.Decides.{nat_tests}
 use Rattle.std.proofs.lemmas.List.{append-nil, length-drop, length-map, length-take-le, take-append-drop, take_more}
 use Rattle.disk_model.specs.Calls.{Looks}
@@ -13,7 +13,7 @@ use Rattle.log_records.specs.Agreement.{IsBytes}
 use Rattle.store_layout.specs.Checkpoints.{Section, AreMarkedFrom, AreSections, IsCheckpoint, greatest_mark, sections_bytes}
 use Rattle.store_layout.specs.Failures.{IsFileRefused}
 use Rattle.store_layout.specs.Faults.{HasFault, IsBadCheckpoint, bad_size, bad_section, bad_marks, body_in, body_length_in, greatest_in, low_in, left_over, size_fault, stripes_in, version_in}
-use Rattle.store_layout.proofs.CheckpointLemmas.{greatest_push, marks_push}
+use Rattle.store_layout.proofs.CheckpointLemmas.{greatest_push}
 use Rattle.store_layout.proofs.CheckpointReading.{fields_make}
 use Rattle.checkpoint_file.specs.declared.head.Head.{Head}
 use Rattle.checkpoint_file.specs.declared.loading.LoadedSection.{LoadedSection}
@@ -32,13 +32,6 @@ pub greatest_more : (reads : List LoadedSection) (i : ℕ) (read : LoadedSection
 greatest_more reads i read h is =
     ap (λ (l : List LoadedSection). greatest_mark (sections_of l)) (take_more reads i read h ∙ ap (λ (r : LoadedSection). take i reads ++ r ∷ []) (sym is))
     ∙ ap greatest_mark (sections_more (take i reads) read) ∙ greatest_push (sections_of (take i reads)) (section_of read)
-
-pub marks_more : (low : ℕ) (reads : List LoadedSection) (i : ℕ) (read : LoadedSection) → i < length reads → read ≡ get_or reads i read
-    → AreMarkedFrom low (sections_of (take i reads)) → low ≤ read.mark → AreMarkedFrom low (sections_of (take (i + 1) reads))
-marks_more low reads i read h is all one =
-    subst (λ (l : List Section). AreMarkedFrom low l)
-    (sym (sections_more (take i reads) read) ∙ ap sections_of (sym (take_more reads i read h ∙ ap (λ (r : LoadedSection). take i reads ++ r ∷ []) (sym is))))
-    (marks_push low (sections_of (take i reads)) (section_of read) all one)
 
 pub mark_at : (low : ℕ) (reads : List LoadedSection) (i : ℕ) (d : LoadedSection) → i < length reads → AreMarkedFrom low (sections_of reads) → low ≤ (get_or reads i d).mark
 mark_at low [] i d h all = absurd (omega (arith, h))
@@ -81,24 +74,11 @@ module _ (layout : Layout) (stripes : ℕ) (reads : List LoadedSection) (content
 
 -- ---- where the body stands
 
-pub size_whole : (file : ℕ) (content : List ℕ) → is_stripe_count (stripes_in content) ≡ true → 36 + body_length_in content ≤ length content → size_fault file content ≡ None
-size_whole file content stripes inside =
-    let fits : nat_lt (length content) (36 + body_length_in content) ≡ false = grind (arith, nat_tests) in
-    ap (λ b. cond (not b) (Some (Damaged file 26)) (cond (nat_lt (length content) (36 + body_length_in content)) (Some (Damaged file 28)) None)) stripes
-    ∙ ap (λ b. cond b (Some (Damaged file 28)) None) fits
-
-pub bad_stripes : (file : ℕ) (content : List ℕ) → is_stripe_count (stripes_in content) ≡ false → size_fault file content ≡ Some (Damaged file 26)
-bad_stripes file content stripes = ap (λ b. cond (not b) (Some (Damaged file 26)) (cond (nat_lt (length content) (36 + body_length_in content)) (Some (Damaged file 28)) None)) stripes
-
 pub body_past : (file : ℕ) (content : List ℕ) → is_stripe_count (stripes_in content) ≡ true → length content < 36 + body_length_in content → size_fault file content ≡ Some (Damaged file 28)
 body_past file content stripes past =
     let short : nat_lt (length content) (36 + body_length_in content) ≡ true = grind (arith, nat_tests) in
     ap (λ b. cond (not b) (Some (Damaged file 26)) (cond (nat_lt (length content) (36 + body_length_in content)) (Some (Damaged file 28)) None)) stripes
     ∙ ap (λ b. cond b (Some (Damaged file 28)) None) short
-
-pub stripes_told : (n : ℕ) (b : Bool) → is_stripe_count n ≡ b → (is_stripe_count n ≡ true → ⊥) → b ≡ false
-stripes_told n true e never = absurd (never e)
-stripes_told n false e never = refl
 
 body_stands : (content : List ℕ) (n : ℕ) → 36 + n ≤ length content → StandsAt content 36 (take n (drop 36 content))
 body_stands content n inside = record {

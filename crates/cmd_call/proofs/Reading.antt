@@ -21,13 +21,6 @@ asked_all whole answered waiting asked are is =
 pub divides_none : Divides [] [] []
 divides_none = record { parts = refl; each = tt; last = tt }
 
-divides_byte : (bytes : List ℕ) (whole : List Text) (part : Text) (byte : ℕ) → byte ≢ 10 → Divides bytes whole part → Divides (bytes ++ byte ∷ []) whole (part ++ byte ∷ [])
-divides_byte bytes whole part byte other d = record {
-  parts = ap (λ (xs : List ℕ). xs ++ byte ∷ []) d.parts ∙ append_assoc (flat_map ended whole) part (byte ∷ []);
-  each = d.each;
-  last = all_then (λ (b : ℕ). b ≢ 10) part (byte ∷ []) d.last (other, tt);
-}
-
 divides_line : (bytes : List ℕ) (whole : List Text) (part : Text) → Divides bytes whole part → Divides (bytes ++ 10 ∷ []) (whole ++ part ∷ []) []
 divides_line bytes whole part d = record {
   parts =
@@ -148,10 +141,6 @@ module _ (Fails : Known → Known → ReplyError → Type 0) where
       record { whole = []; divides = subst (Divides [] []) (sym empty) divides_none; underway = underway_none e o asked none }
 
   module _ (bytes : List ℕ) (part : Text) (e0 e1 : Ends) (o0 o1 : Known) (asked : List Asked) (status : ℕ) (r : Reads Fails bytes part e0 e1 o0 o1 asked status) where
-    pub reads_byte : (after : Text) (byte : ℕ) → byte ≢ 10 → after ≡ part ++ byte ∷ [] → Reads Fails (bytes ++ byte ∷ []) after e0 e1 o0 o1 asked status
-    reads_byte after byte other is =
-        record { whole = r.whole; divides = subst (Divides (bytes ++ byte ∷ []) r.whole) (sym is) (divides_byte bytes r.whole part byte other r.divides); underway = r.underway }
-
     pub reads_line : (after : Text) (byte : ℕ) (e2 : Ends) (o2 : Known) (left : List Asked) (s : ℕ) → byte ≡ 10 → after ≡ []
         → ((whole : List Text) (e : Ends) (o : Known) → Underway Fails e e1 o o1 whole asked status → Underway Fails e e2 o o2 (whole ++ part ∷ []) left s)
         → Reads Fails (bytes ++ byte ∷ []) after e0 e2 o0 o2 left s

@@ -8,12 +8,12 @@ use Rattle.map_model.specs.Parts.{parts_of}
 use Rattle.atomic_methods.specs.PartState.{PartState}
 use Rattle.disk_model.specs.Calls.{Looks}
 use Rattle.disk_model.specs.Files.{Files}
-use Rattle.log_records.specs.Layout.{Layout, IsLayout}
+use Rattle.log_records.specs.Layout.{Layout}
 use Rattle.store_layout.specs.Checkpoints.{Checkpoint, is_sealed}
 use Rattle.store_layout.specs.Faults.{head_fault, version_in}
 use Rattle.store_layout.specs.Opening.{Contents, Opened, Holds, IsCheckpointIn, checkpoint_layout}
 use Rattle.store_layout.proofs.CheckpointFields.{has_head, has_stripes, sealed}
-use Rattle.store_layout.proofs.Versions.{read_for, room_for}
+use Rattle.store_layout.proofs.Versions.{read_for}
 use Rattle.checkpoint_file.specs.declared.head.Head.{Head}
 use Rattle.checkpoint_file.specs.Heads.{HasFields}
 use Rattle.gate_log.proofs.Scanning.{looks_on, same_now}
@@ -44,9 +44,6 @@ module _ (contents : Contents) (found : Opened) (generation : ℕ) (same : found
   -- the layout that the file names
   abbrev layout : Layout
   layout = checkpoint_layout content
-
-  room : IsLayout layout
-  room = room_for (version_in content)
 
   checkpoint : IsCheckpointIn found.checkpoint content
   checkpoint = subst (λ (n : ℕ). IsCheckpointIn found.checkpoint (contents (n % 2))) same holds.checkpoint

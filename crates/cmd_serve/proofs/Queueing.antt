@@ -16,7 +16,3 @@ module _ {S : Type 0} (owns : S → Begun → Type 0) where
   -- one was put behind the others
   pub owns_queued : (state : S) (waiting all : List Waiting) (last : Waiting) → all ≡ waiting ++ last ∷ [] → OwnsWaiting state waiting → OwnsRow owns state last.connection.row.items → OwnsWaiting state all
   owns_queued state waiting all last e p q = subst (λ (x : List Waiting). OwnsWaiting state x) (sym e) (owns_one_more state waiting last p q)
-
-  -- the first was taken from the front
-  pub owns_taken : (state : S) (waiting rest : List Waiting) (first : Waiting) → waiting ≡ first ∷ rest → OwnsWaiting state waiting → OwnsRow owns state first.connection.row.items × OwnsWaiting state rest
-  owns_taken state waiting rest first e p = subst (λ (x : List Waiting). OwnsWaiting state x) e p

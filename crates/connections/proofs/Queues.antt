@@ -1,7 +1,5 @@
 -- A queue with no elements, and one with fewer.
-use Rattle.std.proofs.Common.{◌≡◌, ◌⊎◌, ◌<◌, ℕ, true, false, List, [], ◌∷◌, length, refl, sym, ap, subst, ◌∙◌, arith, inl, inr}
-use Rattle.std.specs.Prelude.{◌==◌}
-use Rattle.std.proofs.lemmas.Bool.{eq-eqb}
+use Rattle.std.proofs.Common.{◌≡◌, ◌⊎◌, ◌<◌, ℕ, List, [], ◌∷◌, length, refl, subst, arith, inl, inr}
 
 none_of_length : {X : Type 0} (items : List X) → length items ≡ 0 → items ≡ []
 none_of_length [] e = refl
@@ -9,13 +7,6 @@ none_of_length (x ∷ items) e = absurd (omega arith)
 
 pub empty_queue : {X : Type 0} (items : List X) (len : ℕ) → len ≡ length items → len ≡ 0 → items ≡ []
 empty_queue items len count none = none_of_length items (omega arith)
-
-pub not_empty : {X : Type 0} (items : List X) (len : ℕ) → len ≡ length items → (len == 0) ≡ false → items ≡ [] → ⊥
-not_empty {X} items len count some none =
-    let size = ap (λ (x : List X). length x) none in
-    let zero : len ≡ 0 = omega arith in
-    let no : true ≡ false = sym (eq-eqb len 0 zero) ∙ some in
-    cc
 
 -- fewer than in the middle is fewer than at first
 pub fewer_than : {X : Type 0} (first now after : X) (size : X → ℕ) → (now ≡ first) ⊎ (size now < size first) → size after < size now → size after < size first

@@ -1,7 +1,7 @@
 -- What comes of a connection, step by step.
-use Rattle.std.proofs.Common.{◌≡◌, ◌⊎◌, ◌<◌, ℕ, suc, true, false, List, [], ◌∷◌, ◌++◌, length, take, drop, Result, Ok, Err, refl, sym, ap, subst, ◌∙◌, append_assoc, arith, inl, inr}
+use Rattle.std.proofs.Common.{◌≡◌, ◌⊎◌, ◌<◌, ℕ, suc, true, false, List, [], ◌∷◌, ◌++◌, length, Result, Ok, Err, refl, sym, ap, subst, ◌∙◌, append_assoc, arith, inl, inr}
 use Rattle.std.specs.List.{AllByRecursion, AllZip, flat_map}
-use Rattle.std.proofs.lemmas.List.{append-nil, take-append-drop}
+use Rattle.std.proofs.lemmas.List.{append-nil}
 use Rattle.std.proofs.lemmas.List.Concat.{flat_map-append}
 use Rattle.map_types.specs.declared.refusals.Refusal.{Refusal}
 use Rattle.map_types.specs.declared.refusals.Refusal.TheVariants.{BadFrame}
@@ -52,16 +52,6 @@ module _ {H : Type 0} where
     refusals = p.refusals;
     stands = p.stands;
     text = p.text;
-  }
-
-  pub past_sent : (past : Past H) (left : Standing H) (count : ℕ) → IsPast past left → IsPast (record past { written = past.written ++ take count left.unsent }) (record left { unsent = drop count left.unsent })
-  past_sent past left count p = record {
-    taken = p.taken;
-    in_row = p.in_row;
-    stops = p.stops;
-    refusals = p.refusals;
-    stands = p.stands;
-    text = append_assoc past.written (take count left.unsent) (drop count left.unsent) ∙ ap (λ (x : List ℕ). past.written ++ x) (take-append-drop count left.unsent) ∙ p.text;
   }
 
   stage_open : (stage : Stage) (moves : List (Move H)) (places rest : List (Place H)) (place : Place H) → StandsAt stage moves places → places ≡ place ∷ rest → stage ≡ Open

@@ -13,26 +13,10 @@ pub Consumes-nil : (a : Option (List ℕ)) → Consumes a a []
 Consumes-nil None = tt
 Consumes-nil (Some xs) = refl
 
-pub Keeps-refl : (a : Option (List ℕ)) → Keeps a a
-Keeps-refl None = tt
-Keeps-refl (Some xs) = refl
-
-pub Keeps-then : (a b c : Option (List ℕ)) → Keeps a b → Keeps b c → Keeps a c
-Keeps-then None b c p q = tt
-Keeps-then (Some xs) None c p q = absurd p
-Keeps-then (Some xs) (Some ys) None p q = absurd q
-Keeps-then (Some xs) (Some ys) (Some zs) p q = q ∙ p
-
 pub Consumes-kept : (a b : Option (List ℕ)) → Keeps a b → Consumes a b []
 Consumes-kept None b k = tt
 Consumes-kept (Some xs) None k = absurd k
 Consumes-kept (Some xs) (Some ys) k = sym k
-
-pub kept_consumes : (a b c : Option (List ℕ)) (x : List ℕ) → Keeps a b → Consumes b c x → Consumes a c x
-kept_consumes None b c x k p = tt
-kept_consumes (Some xs) None c x k p = absurd k
-kept_consumes (Some xs) (Some ys) None x k p = absurd p
-kept_consumes (Some xs) (Some ys) (Some zs) x k p = sym k ∙ p
 
 -- ---- messages
 

@@ -7,9 +7,6 @@ use Rattle.disk_model.specs.Gates.{IsShut, IsOpening, IsOpen}
 
 -- ---- bytes that are on the disk
 
-pub sure_inside : (low high low' high' : ℕ) (file : File) → low ≤ low' → high' ≤ high → IsSure low high file → IsSure low' high' file
-sure_inside low high low' high' file l h sure = record { long = omega (arith, sure.long); clear = λ i from below. sure.clear i (omega arith) (omega arith) }
-
 outside_range : (i at size : ℕ) → (i < at) ⊎ (at + size ≤ i) → is_between i at size ≡ false
 outside_range i at size (inl below) = grind (arith, nat_tests)
 outside_range i at size (inr past) = grind (arith, nat_tests)

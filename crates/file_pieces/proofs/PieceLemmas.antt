@@ -12,10 +12,6 @@ one_more len place inside whole = omega arith
 pub later : (place end : ℕ) → place < end → place % 65536 ≡ 0 → pieces_in place + 1 ≤ pieces_in end
 later place end before whole = omega arith
 
--- more pieces for a place further on
-pub further : (a b : ℕ) → a ≤ b → pieces_in a ≤ pieces_in b
-further a b below = omega arith
-
 -- the held bytes with more behind them
 pub holds_more : (content : List ℕ) (r : ReaderState) (count : ℕ) (held : List ℕ) → Holds content r → r.from + length r.held + count ≤ r.len
     → held ≡ r.held ++ take count (drop (r.from + length r.held) content) → held ≡ take (length held) (drop r.from content)

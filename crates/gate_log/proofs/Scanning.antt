@@ -1,6 +1,6 @@
 -- What the parts of a scan rest on.
 use Rattle.std.proofs.Common.{◌≡◌, ◌⊎◌, ◌≤◌, ◌<◌, ℕ, ◌+◌, ◌-◌, ◌^◌, max, List, ◌∷◌, ◌++◌, length, take, drop, refl, sym, ap, ap₂, ◌∙◌, append_assoc, arith, inl, inr, get_or, Option, Some, None, IfNone}
-use Rattle.std.proofs.lemmas.List.{take_all, drop_all, append-nil, length-drop, take-append-drop, drop-drop}
+use Rattle.std.proofs.lemmas.List.{take_all, length-drop, take-append-drop, drop-drop}
 use Rattle.std.proofs.Math.Seq.{drop-cons, take-append_seam}
 use Rattle.byteorder.specs.Endian.{big_number, big_bytes}
 use Rattle.log_records.specs.Agreement.{IsBytes}
@@ -129,17 +129,10 @@ pub body_read : (content : List ℕ) (gate kind len : ℕ) (rest : List ℕ) →
 body_read content gate kind len rest is h =
     ap (take len) (behind_length content gate kind len rest is h) ∙ ap (λ (n : ℕ). take n (h.body ++ h.after ∷ h.behind)) (sym h.size) ∙ take-append_seam h.body (h.after ∷ h.behind)
 
-pub number_whole : (n : ℕ) (bytes : List ℕ) (x : ℕ) → length bytes ≡ n → IsBytes bytes → x ≡ big_number n bytes → bytes ≡ big_bytes n x
-number_whole n bytes x len fits e =
-    number_first n bytes x (omega arith) fits e ∙ ap (λ (l : List ℕ). big_bytes n x ++ l) (drop_all n bytes (omega arith)) ∙ append-nil (big_bytes n x)
-
 -- ---- what stands behind a gate
 
 pub rest_is : (content : List ℕ) (gate byte : ℕ) (rest : List ℕ) → drop gate content ≡ byte ∷ rest → drop (gate + 1) content ≡ rest
 rest_is content gate byte rest e = sym (drop-drop 1 gate content) ∙ ap (drop 1) e
-
-pub rest_length : (content : List ℕ) (gate byte : ℕ) (rest : List ℕ) → drop gate content ≡ byte ∷ rest → length rest ≡ length content - gate - 1
-rest_length content gate byte rest e = omega (arith, ap (λ (l : List ℕ). length l) e, length-drop gate content)
 
 pub byte_is : (content buf : List ℕ) (gate byte : ℕ) (rest : List ℕ) → drop gate content ≡ byte ∷ rest → buf ≡ take 1 (drop gate content) → get_or buf 0 0 ≡ byte
 byte_is content buf gate byte rest e read = ap (λ (l : List ℕ). get_or l 0 0) (read ∙ ap (take 1) e)

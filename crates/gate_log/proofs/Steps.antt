@@ -1,11 +1,11 @@
 -- What stands at the gate, as the scan's callers see it.
-use Rattle.std.proofs.Common.{◌≡◌, ◌≢◌, ℕ, ◌+◌, List, [], ◌∷◌, ◌++◌, length, drop, refl, sym, ap, ap₂, subst, ◌∙◌, append_assoc, arith}
+use Rattle.std.proofs.Common.{◌≡◌, ℕ, ◌+◌, List, [], ◌∷◌, ◌++◌, length, drop, refl, sym, ap, ap₂, subst, ◌∙◌, append_assoc, arith}
 use Rattle.std.proofs.lemmas.List.{length-append, append-nil}
 use Rattle.std.proofs.Math.Seq.{drop-append_seam}
 use Rattle.map_types.specs.declared.commands.Command.{Command}
 use Rattle.log_records.specs.Layout.{Layout}
 use Rattle.ticket_order.specs.declared.stripe.Entry.{Entry}
-use Rattle.store_layout.specs.Logs.{Batch, IsBatch, IsClosed, IsEnded, IsRun, commands_in, frame, header, log_front, opened}
+use Rattle.store_layout.specs.Logs.{Batch, IsBatch, IsEnded, IsRun, commands_in, frame, header, log_front, opened}
 use Rattle.gate_log.specs.States.{batch_of}
 use Rattle.store_layout.specs.Readings.{HasNoFrame, IsBroken}
 use Rattle.file_pieces.specs.Pieces.{ReaderState, Holds}
@@ -50,9 +50,6 @@ module _ (layout : Layout) (low : ℕ) (batches : List Batch) (scan : ScanState)
 
   open_bytes : read.byte ≡ 165 → content ≡ log_front layout scan.generation low batches ++ 165 ∷ read.rest
   open_bytes is_open = read.bytes ∙ ap (λ (b : ℕ). log_front layout scan.generation low batches ++ b ∷ read.rest) is_open
-
-  pub closed_here : read.byte ≢ 165 → IsClosed layout scan.generation low batches content
-  closed_here closed = record { gate = read.byte; rest = read.rest; bytes = read.bytes; closed = closed; log = read.log }
 
   pub broken_here : read.byte ≡ 165 → HasNoFrame layout scan.expected (scan.generation + 1) read.rest → IsBroken layout scan.generation low batches content
   broken_here is_open none = record {

@@ -27,14 +27,6 @@ use Rattle.recovery.specs.Restoring.{HasMap, IsSameFrame}
 pub take_next : {X : Type 0} (xs : List X) (i : ℕ) (x : X) → i < length xs → x ≡ get_or xs i x → take (i + 1) xs ≡ take i xs ++ x ∷ []
 take_next xs i x low is = take_more xs i x low ∙ ap (λ y. take i xs ++ y ∷ []) (sym is)
 
-marks_push : (reads : List LoadedSection) (read : LoadedSection) → marks_in (reads ++ read ∷ []) ≡ marks_in reads ++ read.mark ∷ []
-marks_push [] read = refl
-marks_push (r ∷ reads) read = ap (λ (l : List ℕ). r.mark ∷ l) (marks_push reads read)
-
-pub marks_more : (reads : List LoadedSection) (i : ℕ) (read : LoadedSection) → i < length reads → read ≡ get_or reads i read
-    → marks_in (take (i + 1) reads) ≡ marks_in (take i reads) ++ read.mark ∷ []
-marks_more reads i read low is = ap (λ (l : List LoadedSection). marks_in l) (take_next reads i read low is) ∙ marks_push (take i reads) read
-
 greatest_push : (marks : List ℕ) (mark : ℕ) → greatest_of (marks ++ mark ∷ []) ≡ max (greatest_of marks) mark
 greatest_push [] mark = omega arith
 greatest_push (m ∷ marks) mark = let rest = greatest_push marks mark in omega (arith, rest)

@@ -21,10 +21,6 @@ fault_by false rest r e = absurd (none_some r e)
 fault_sealed : (file : ℕ) (content : List ℕ) (r : Refusal) → head_fault file content ≡ Some r → is_sealed content ≡ true
 fault_sealed file content r e = fault_by (is_sealed content) _ r e
 
-first_by : (s t : Bool) (a b : Option Refusal) (r : Refusal) → s ≡ true → a ≡ Some r → heads_by s t a b ≡ Some r
-first_by true t a b r e f = ap (λ x. first_fault x b) f
-first_by false t a b r e f = absurd cc
-
 second_by : (s t : Bool) (a b : Option Refusal) (r : Refusal) → t ≡ true → a ≡ None → b ≡ Some r → heads_by s t a b ≡ Some r
 second_by true t a b r e f h = ap (λ x. first_fault x b) f ∙ h
 second_by false true a b r e f h = ap (λ x. first_fault x b) f ∙ h
@@ -43,9 +39,6 @@ module _ (contents : Contents) where
   -- what is known of a head that was read
   abbrev pub NoFault : ℕ → Type 0
   NoFault file = head_fault file (contents file) ≡ None
-
-  pub first_refused : (r : Refusal) → head_fault 0 (contents 0) ≡ Some r → heads_fault contents ≡ Some r
-  first_refused r e = first_by s t _ _ r (fault_sealed 0 (contents 0) r e) e
 
   pub second_refused : (r : Refusal) → NoFault 0 → head_fault 1 (contents 1) ≡ Some r → heads_fault contents ≡ Some r
   second_refused r first e = second_by s t _ _ r (fault_sealed 1 (contents 1) r e) first e

@@ -68,9 +68,6 @@ all_run n m old new size unrefused each are = record {
 
 -- ---- the parts
 
-pub none_taken : AreTaken [] []
-none_taken = record { maps = refl; laid = λ n laid. tt }
-
 pub one_taken : (lanes : List Lane) (parts : List PartState) (lane : Lane) (part : PartState) → AreTaken lanes parts → part.map ≡ content_map lane.content
     → (IsLaid lane.stripes.count lane.content → part.growth.stripes ≡ lane.stripes.count) → AreTaken (lanes ++ lane ∷ []) (parts ++ part ∷ [])
 one_taken lanes parts lane part taken map_is laid_is = record {

@@ -1,5 +1,5 @@
 -- The logs of a checkpoint, one after the other.
-use Rattle.std.proofs.Common.{◌≡◌, ◌⊎◌, inl, inr, ℕ, ◌+◌, ◌<◌, ◌^◌, List, [], ◌++◌, length, None, Some, refl, sym, ap, ap₂, subst, ◌∙◌}
+use Rattle.std.proofs.Common.{◌≡◌, ◌⊎◌, inl, inr, ℕ, ◌+◌, List, [], ◌++◌, length, Some, refl, sym, ap, ap₂, subst, ◌∙◌}
 use Rattle.map_types.specs.declared.commands.Command.{Command}
 use Rattle.map_types.specs.declared.refusals.Refusal.{Refusal}
 use Rattle.map_types.specs.declared.refusals.Refusal.TheVariants.{Damaged, Failed, NoMemory}
@@ -89,19 +89,11 @@ module _ (contents : Contents) (k : Checkpoint) (before mid after : Restoring) (
   abbrev content : ℕ → List ℕ
   content generation = contents (log_file generation)
 
-  -- the first log is closed
-  pub one_log : IsLogRead k.generation k.low (content k.generation) before Closed first mid → AreReplayed contents k before mid first
-  one_log read = record { first = read.batches; second = None; logs = read.ends; goes_on = read.goes_on; applied = read.applied }
-
   pub first_bad : (refusal : Refusal) → IsBadLog k.generation k.low (content k.generation) refusal → AreBadLogs contents k refusal
   first_bad refusal (inl bad) = bad_header bad
   first_bad refusal (inr bad) = bad_frame bad.batches bad.reads bad.damage
 
   module _ (read : IsLogRead k.generation k.low (content k.generation) before Ended first mid) where
-    -- an end frame names a generation of 64 bits
-    pub has_next : k.generation + 1 < 2 ^ 64
-    has_next = read.ends.next_fits
-
     pub next_bad : (next : ℕ) (refusal : Refusal) → next ≡ k.generation + 1 → IsBadLog next first.committed (content next) refusal → AreBadLogs contents k refusal
     next_bad next refusal e bad =
         go (subst (λ n. IsBadLog n (k.low + length (commands_in read.batches)) (content n) refusal) e (subst (λ l. IsBadLog next l (content next) refusal) read.goes_on.committed bad))

@@ -1,5 +1,5 @@
 -- A log that is read frame by frame.
-use Rattle.std.proofs.Common.{◌≡◌, ◌⊎◌, inl, inr, ℕ, suc, ◌+◌, ◌≤◌, ◌<◌, ◌^◌, List, [], ◌∷◌, ◌++◌, length, map, max, refl, sym, ap, ap₂, subst, ◌∙◌, arith, length-append}
+use Rattle.std.proofs.Common.{◌≡◌, ◌⊎◌, inl, inr, ℕ, suc, ◌+◌, ◌≤◌, ◌<◌, ◌^◌, List, [], ◌∷◌, ◌++◌, length, map, max, sym, ap, ap₂, subst, ◌∙◌, arith, length-append}
 use Rattle.std.proofs.lemmas.List.{append-nil}
 use Rattle.disk_model.specs.Calls.{Looks}
 use Rattle.disk_model.specs.Files.{Files}
@@ -47,19 +47,8 @@ commands_in-push : (batches : List Batch) (b : Batch) → commands_in (batches +
 commands_in-push [] b = append-nil b.commands
 commands_in-push (x ∷ batches) b = ap (λ (l : List Command). x.commands ++ l) (commands_in-push batches b) ∙ sym (Rattle.std.proofs.Common.append_assoc x.commands (commands_in batches) b.commands)
 
-pub no_batches : (layout : Layout) (low : ℕ) (content : List ℕ) (before : Restoring) (scan : ScanState) → HasRead layout low [] scan content → IsReading layout low content before scan 0 before
-no_batches layout low content before scan read = record {
-  batches = [];
-  read = read;
-  many = omega arith;
-  applied = λ sections m same has. has;
-}
-
 pub frame_on : (a b c : Restoring) → IsSameFrame a b → IsSameFrame b c → IsSameFrame a c
 frame_on a b c one two = record { stripes = two.stripes ∙ one.stripes; of = two.of ∙ one.of; marks = two.marks ∙ one.marks }
-
-pub no_frame : (a : Restoring) → IsSameFrame a a
-no_frame a = record { stripes = refl; of = refl; marks = refl }
 
 -- one batch more
 pub batch_more : (layout : Layout) (low : ℕ) (content : List ℕ) (before mid after : Restoring) (scan new : ScanState) (count : ℕ) (entries : List Entry) → IsSameFrame before mid

@@ -1,5 +1,5 @@
 -- The sections that the cases give.
-use Rattle.std.proofs.Common.{◌≡◌, ℕ, ◌≤◌, Bool, false, List, [], ◌∷◌, ◌++◌, T, refl, sym, ap, subst, ◌∙◌, arith}
+use Rattle.std.proofs.Common.{◌≡◌, ℕ, ◌≤◌, Bool, false, List, [], ◌∷◌, ◌++◌, T, sym, ap, subst, ◌∙◌}
 use Rattle.std.specs.FinMap as finite
 use Rattle.std.specs.FinMap.{entries-from_sorted}
 use Rattle.std.specs.FinMap.Entries.{is_sorted}
@@ -15,7 +15,7 @@ use Rattle.map_model.specs.Maps.{Map}
 use Rattle.store_layout.specs.Checkpoints.{Section, checkpoint_file, is_to_close}
 use Rattle.checkpoint_file.specs.CheckpointSteps.{MayAdvance}
 use Rattle.checkpoint_file.specs.CheckpointStates.{Stands}
-use Rattle.checkpoint_file.specs.States.{CheckpointState, AreKeysOf, idle, with_section}
+use Rattle.checkpoint_file.specs.States.{CheckpointState, AreKeysOf, with_section}
 
 -- two entries whose keys rise
 pub two_sorted : (a b : List ℕ × Value) → slice_cmp nat_cmp a.0 b.0 ≡ Less → T (is_sorted (slice_cmp nat_cmp) (a ∷ b ∷ []))
@@ -38,26 +38,6 @@ may_stage states honest w v disk mark entries may state staged sorted keys low =
       subst (λ n. Stands v old (sections ++ x ∷ []) (now (states disk) (checkpoint_file n))) (sym (ap (λ (s : CheckpointState). s.generation) state))
           (staged map old sections (now (states disk) (checkpoint_file w.generation)) entries_are keys low stands),
     )
-
--- nothing was begun
-pub idle_may : {D : Type 0} (states : D → List Files) (honest : D → Type 0) (w : CheckpointState) (disk : D) → w ≡ idle → MayAdvance states honest w disk
-idle_may states honest w disk is = λ works is_honest. ([], [], subst (λ v. Stands v [] [] (now (states disk) (checkpoint_file w.generation))) (sym is) (idle_stands (now (states disk) (checkpoint_file w.generation))))
-  where
-    idle_stands : (file : File) → Stands idle [] [] file
-    idle_stands file = record {
-      knows = record {
-        count = refl;
-        greatest = refl;
-        body = omega arith;
-        are = tt;
-        marks = tt;
-        generation_fits = omega arith;
-        low_fits = omega arith;
-        body_fits = omega arith;
-        allowed = refl;
-      };
-      stands = refl;
-    }
 
 -- the file was synced, and its gate looked at
 pub begun_may : {D : Type 0} (states : D → List Files) (failures : D → ℕ) (honest : D → Type 0) (first second third : D) (v : CheckpointState) (must : Bool)

@@ -12,9 +12,6 @@ use Rattle.ticket_order.specs.declared.walk.Stage.TheVariants as stage
 use Rattle.ticket_order.specs.declared.walk.Walk.{Walk}
 use Rattle.ticket_order.specs.Walks.{Kind, MakesOne, kind_of, next_kind, next_of_stage}
 use Rattle.flusher.specs.declared.sweeper.Sweep.{Sweep}
-use Rattle.flusher.specs.declared.sweeper.Walking.{Walking}
-use Rattle.flusher.specs.declared.sweeper.Walking.TheVariants.{Rests, SweepTakes, SweepGives}
-use Rattle.flusher.specs.Sweeping as sweeping
 use Rattle.checkpoint_walk.specs.Walking as capturing
 use Rattle.sim_rules.specs.declared.outcome.Made.{Made}
 use Rattle.one_history.specs.declared.book.Book.{Book}
@@ -57,19 +54,9 @@ told_stage n (stage.GivingBack t e) = tt
 pub told_walk : (n : ℕ) (w : Walk) → IsTold (next_kind n w)
 told_walk n w = told_stage n w.stage
 
-pub told_sweep : (o : Option Sweep) (w : Walking) → IsTold (sweeping.next_kind o w)
-told_sweep None w = tt
-told_sweep (Some sweep) Rests = tt
-told_sweep (Some sweep) SweepTakes = tt
-told_sweep (Some sweep) (SweepGives walk) = tt
-
 pub told_capture : (n i : ℕ) (o : Option Walk) → IsTold (capturing.kind_next n i o)
 told_capture n i None = tt
 told_capture n i (Some w) = told_walk n w
-
--- the parts of a place
-pub first_same : {a b c d : ℕ} → a ∷ b ∷ [] ≡ c ∷ d ∷ [] → a ≡ c
-first_same e = ap (λ xs. get_or xs 0 0) e
 
 pub second_same : {a b c d : ℕ} → a ∷ b ∷ [] ≡ c ∷ d ∷ [] → b ≡ d
 second_same e = ap (λ xs. get_or xs 1 0) e

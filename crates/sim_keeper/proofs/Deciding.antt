@@ -1,5 +1,5 @@
 -- Tests of the world, and what they decide.
-use Rattle.std.proofs.Common.{◌≡◌, ◌≢◌, ◌⊎◌, inl, inr, ℕ, ◌<◌, ◌≤◌, Option, Some, None, is_some, Bool, true, false, ◌&&◌, ◌==◌, not, nat_lt, refl, arith}
+use Rattle.std.proofs.Common.{◌≡◌, ◌≢◌, ◌⊎◌, inl, inr, ℕ, ◌<◌, ◌≤◌, Bool, true, false, ◌&&◌, ◌==◌, not, nat_lt, refl, arith}
 use Rattle.std.proofs.lemmas.Bool.Decides.{nat_tests}
 use Rattle.store_layout.specs.declared.log_phase.Phase.{Phase}
 use Rattle.store_layout.specs.declared.log_phase.Phase.TheVariants.{Idle, Header, HeaderWritten, Staged, Written, Synced, Opened}
@@ -46,10 +46,6 @@ other_is a b e = grind (arith, nat_tests)
 
 pub not_less : (a b : ℕ) → (a < b → ⊥) → b ≤ a
 not_less a b e = grind arith
-
-pub none_some : {A : Type 0} (o : Option A) → is_some o ≡ false → o ≡ None
-none_some None e = refl
-none_some (Some x) e = absurd cc
 
 -- a log that commits isn't idle
 pub resting_idle : (phase : Phase) (n : ℕ) → is_resting (committing phase n) ≡ true → phase ≡ Idle

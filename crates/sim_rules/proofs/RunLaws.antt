@@ -186,11 +186,6 @@ old_is_run [] outcomes old run = absurd (let no : false ≡ true = old in cc)
 old_is_run (event.Old ∷ events) outcomes old run = run
 old_is_run (e ∷ events) outcomes old run = absurd (let no : false ≡ true = old in cc)
 
--- the moves so far, and one more or none
-with_move : Option Move → List Move → List Move
-with_move None moves = moves
-with_move (Some move) moves = move ∷ moves
-
 MovesTo : Machine → Type 0
 MovesTo a = (moves : List Move) × AreAllowed moves × (machine_after moves ≡ a)
 

@@ -1,6 +1,6 @@
 -- A script is read line by line.
-use Rattle.std.proofs.Common.{◌≡◌, ℕ, ◌+◌, ◌<◌, List, [], ◌∷◌, ◌++◌, length, drop, map, Result, Ok, Err, Bor, refl, sym, ◌∙◌, ap, get_or, ◌≤◌, Bool, true, false, inl, inr}
-use Rattle.std.proofs.lemmas.List.{append-nil, append_assoc, at_drop_all, at_drop_more}
+use Rattle.std.proofs.Common.{◌≡◌, ℕ, ◌+◌, ◌<◌, List, ◌∷◌, ◌++◌, length, drop, map, Result, Ok, Err, Bor, sym, ◌∙◌, ap, get_or, ◌≤◌, Bool, true, false, inl, inr}
+use Rattle.std.proofs.lemmas.List.{append-nil, at_drop_all, at_drop_more}
 use Rattle.std.specs.Prelude.{filter, if◌then◌else◌}
 use Rattle.call_text.specs.Names.{Text}
 use Rattle.std.proofs.lemmas.Bool.{false≢true}
@@ -10,7 +10,7 @@ use Rattle.sim_script.specs.declared.bad_line.BadLine.TheVariants.{Unknown}
 use Rattle.sim_script.specs.declared.bad_line.LineError.{LineError}
 use Rattle.sim_script.specs.declared.bad_line.LineError.TheVariants.{Bad, NoMemory}
 use Rattle.sim_script.specs.declared.line.Line.{Line}
-use Rattle.sim_script.specs.Scripts.{Fault, followed, is_written, lines_from, lines_of, numbered, read_line, script_of}
+use Rattle.sim_script.specs.Scripts.{Fault, is_written, lines_from, lines_of, numbered, read_line, script_of}
 
 -- what is left, behind the lines that were read
 abbrev pub behind : List Line → Result (List Line) Fault → Result (List Line) Fault
@@ -19,10 +19,6 @@ behind lines (Err fault) = Err fault
 
 abbrev pub lines_left : ℕ → List (Bor Text) → Result (List Line) Fault
 lines_left number texts = lines_from number (filter is_written (map (λ text. text.now) texts))
-
-behind-followed : (lines : List Line) (line : Line) (left : Result (List Line) Fault) → behind lines (followed line left) ≡ behind (lines ++ line ∷ []) left
-behind-followed lines line (Ok others) = ap Ok (sym (append_assoc lines (line ∷ []) others))
-behind-followed lines line (Err fault) = refl
 
 -- an item is the next line
 line_at : (number i : ℕ) (texts : List (Bor Text)) (d : Bor Text) → i < length texts → is_written (get_or texts i d).now ≡ true
@@ -35,18 +31,6 @@ pub bad_line_at : (lines : List Line) (number i : ℕ) (texts : List (Bor Text))
     → behind lines (lines_left number (drop i texts)) ≡ Err (number, bad)
 bad_line_at lines number i texts d bad h some e =
     ap (behind lines) (line_at number i texts d h some ∙ ap (λ r. numbered number r (lines_left (number + 1) (drop (i + 1) texts))) e)
-
-pub good_line_at : (lines : List Line) (number i : ℕ) (texts : List (Bor Text)) (d : Bor Text) (line : Line) → i < length texts → is_written (get_or texts i d).now ≡ true → read_line (get_or texts i d).now ≡ Ok line
-    → behind lines (lines_left number (drop i texts)) ≡ behind (lines ++ line ∷ []) (lines_left (number + 1) (drop (i + 1) texts))
-good_line_at lines number i texts d line h some e =
-    ap (behind lines) (line_at number i texts d h some ∙ ap (λ r. numbered number r (lines_left (number + 1) (drop (i + 1) texts))) e)
-    ∙ behind-followed lines line (lines_left (number + 1) (drop (i + 1) texts))
-
-pub empty_line_at : (number i : ℕ) (texts : List (Bor Text)) (d : Bor Text) → i < length texts → is_written (get_or texts i d).now ≡ false
-    → lines_left number (drop i texts) ≡ lines_left number (drop (i + 1) texts)
-empty_line_at number i texts d h none =
-    at_drop_more (lines_left number) texts i d h
-    ∙ ap (λ b. lines_from number (if b then (get_or texts i d).now ∷ filter is_written (map (λ text. text.now) (drop (i + 1) texts)) else filter is_written (map (λ text. text.now) (drop (i + 1) texts)))) none
 
 pub all_lines : (lines : List Line) (number i : ℕ) (texts : List (Bor Text)) → length texts ≤ i → behind lines (lines_left number (drop i texts)) ≡ Ok lines
 all_lines lines number i texts h = at_drop_all (λ rest. behind lines (lines_left number rest)) texts i h ∙ ap Ok (append-nil lines)

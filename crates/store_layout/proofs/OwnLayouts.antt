@@ -1,9 +1,9 @@
 -- A file that is written in the layout of a version is read in it.
-use Rattle.std.proofs.Common.{◌≡◌, ℕ, ◌+◌, Bool, true, false, ◌==◌, cond, List, refl, sym, ap, ◌∙◌, subst}
+use Rattle.std.proofs.Common.{◌≡◌, ℕ, ◌+◌, List, refl, sym, ap, ◌∙◌, subst}
 use Rattle.std.specs.Prelude.{slice_index_or}
 use Rattle.log_records.specs.declared.versions.Version.{Version}
 use Rattle.log_records.specs.declared.versions.Version.TheVariants.{First, Second}
-use Rattle.log_records.specs.Layout.{Layout, first_layout, second_layout, layout_of}
+use Rattle.log_records.specs.Layout.{Layout, layout_of}
 use Rattle.store_layout.specs.Logs.{Batch, IsClosed, IsEnded, layout_for}
 use Rattle.store_layout.specs.Checkpoints.{Checkpoint, IsCheckpoint}
 use Rattle.store_layout.specs.Readings.{Reading, Reads, closed, ended}
@@ -20,13 +20,6 @@ IsOwn layout = layout_for layout.version ≡ layout
 pub own_of : (version : Version) → IsOwn (layout_of version)
 own_of First = refl
 own_of Second = refl
-
-pub own_for : (byte : ℕ) → IsOwn (layout_for byte)
-own_for byte = by (byte == 2)
-  where
-    by : (second : Bool) → IsOwn (cond second second_layout first_layout)
-    by true = refl
-    by false = refl
 
 module _ (layout : Layout) (own : IsOwn layout) where
   pub checkpoint_reads : (k : Checkpoint) (content : List ℕ) → IsCheckpoint layout k content → checkpoint_layout content ≡ layout

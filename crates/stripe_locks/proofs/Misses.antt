@@ -1,5 +1,5 @@
 -- A call that waited for its stripe.
-use Rattle.std.proofs.Common.{ℕ, ◌≡◌, ◌<◌, ◌≤◌, List, None, subst, ◌++◌, [], ◌∷◌, zero, suc, replicate, refl, arith, sym, ◌∙◌, ap, append_assoc, append-nil}
+use Rattle.std.proofs.Common.{ℕ, ◌≡◌, ◌<◌, ◌≤◌, List, None, subst, ◌++◌, [], ◌∷◌, zero, suc, replicate, refl, arith, sym, ◌∙◌, ap, append_assoc}
 use Rattle.std.specs.Prelude.{Result, Ok, Err, IfOk, IfErr}
 use Rattle.std.proofs.lemmas.Result.{IfErr-weaker}
 use Rattle.java_hash.specs.Stripes.{stripe_of}
@@ -29,9 +29,6 @@ use Rattle.stripe_locks.specs.Waits.{Waits, TakesInTime, MakesCallInTime, MakesR
 replicate_push : (k : ℕ) (x : StepMade) → replicate k x ++ x ∷ [] ≡ replicate (suc k) x
 replicate_push zero x = refl
 replicate_push (suc k) x = ap (λ w. x ∷ w) (replicate_push k x)
-
-pub waits_no_more : (i : ℕ) (v : Record) → Waits i v v
-waits_no_more i v = record { misses = 0; is = ap (λ w. record v { steps = w }) (sym (append-nil v.steps)) }
 
 pub waits_once_more : (i : ℕ) (v w u : Record) → Waits i v w → u ≡ missing w i → Waits i v u
 waits_once_more i v w u k e = record {

@@ -1,5 +1,5 @@
 -- What a writer has taken so far.
-use Rattle.std.proofs.Common.{◌≡◌, ◌<◌, ℕ, List, [], ◌∷◌, ◌++◌, length, take, drop, Option, Some, None, Result, Ok, Err, refl, sym, ap, subst, ◌∙◌, append_assoc, arith}
+use Rattle.std.proofs.Common.{◌≡◌, ◌<◌, ℕ, List, [], ◌∷◌, ◌++◌, length, take, drop, Option, Some, None, Result, Ok, Err, sym, ap, subst, ◌∙◌, append_assoc, arith}
 use Rattle.std.specs.Io.KnownBytes.{Appends, Keeps}
 use Rattle.std.proofs.lemmas.List.{append-nil, take-append-drop}
 use Rattle.wire_frames.specs.Replies.{Writes, IsCut}
@@ -24,20 +24,12 @@ keeps_appends None b k = tt
 keeps_appends (Some xs) None k = absurd k
 keeps_appends (Some xs) (Some ys) k = k ∙ sym (append-nil xs)
 
-pub sent_none : (a : Option (List ℕ)) (bytes : List ℕ) → Sent a a bytes bytes
-sent_none a bytes = record { front = []; parts = refl; grown = Appends-nil a }
-
 pub sent_next : (a b c : Option (List ℕ)) (bytes rest after : List ℕ) (n : ℕ) → Sent a b bytes rest → Appends b c (take n rest) → after ≡ drop n rest → Sent a c bytes after
 sent_next a b c bytes rest after n s p e = rw e (record {
   front = s.front ++ take n rest;
   parts = s.parts ∙ ap (λ (t : List ℕ). s.front ++ t) (sym (take-append-drop n rest)) ∙ sym (append_assoc s.front (take n rest) (drop n rest));
   grown = Appends-then a b c s.front (take n rest) s.grown p;
 })
-
-pub sent_all : (a b : Option (List ℕ)) (bytes rest : List ℕ) → Sent a b bytes rest → rest ≡ [] → Appends a b bytes
-sent_all a b bytes rest s e =
-    let whole : bytes ≡ s.front = s.parts ∙ ap (λ (t : List ℕ). s.front ++ t) e ∙ append-nil s.front in
-    rw whole s.grown
 
 abbrev Cut : Option (List ℕ) → Option (List ℕ) → List ℕ → Type 0
 Cut old new bytes = (front : List ℕ) × IsCut front bytes × Appends old new front
