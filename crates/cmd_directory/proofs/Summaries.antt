@@ -8,6 +8,7 @@ use Rattle.map_model.specs.Parts.{parts_of}
 use Rattle.atomic_methods.specs.PartState.{PartState}
 use Rattle.disk_model.specs.Calls.{Looks}
 use Rattle.disk_model.specs.Files.{Files}
+use Rattle.disk_model.proofs.LookLemmas.{looks_on, same_now}
 use Rattle.log_records.specs.Layout.{Layout}
 use Rattle.store_layout.specs.Checkpoints.{Checkpoint, is_sealed}
 use Rattle.store_layout.specs.Faults.{head_fault, version_in}
@@ -16,7 +17,6 @@ use Rattle.store_layout.proofs.CheckpointFields.{has_head, has_stripes, sealed}
 use Rattle.store_layout.proofs.Versions.{read_for}
 use Rattle.checkpoint_file.specs.declared.head.Head.{Head}
 use Rattle.checkpoint_file.specs.Heads.{HasFields}
-use Rattle.gate_log.proofs.Scanning.{looks_on, same_now}
 use Rattle.recovery.specs.Dividing.{IsDivided}
 use Rattle.recovery.specs.LogReading.{contents_of}
 use Rattle.recovery.specs.Syncing.{SyncsAndLooks, states_synced}

@@ -3,4 +3,5 @@ pub mod FillLemmas
 pub mod KeptLemmas
 pub mod MemoryLemmas
 pub mod MomentLemmas
+pub mod LookLemmas
 pub mod GateLemmas

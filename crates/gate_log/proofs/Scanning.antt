@@ -1,5 +1,5 @@
 -- What the parts of a scan rest on.
-use Rattle.std.proofs.Common.{◌≡◌, ◌⊎◌, ◌≤◌, ◌<◌, ℕ, ◌+◌, ◌-◌, ◌^◌, max, List, ◌∷◌, ◌++◌, length, take, drop, refl, sym, ap, ap₂, ◌∙◌, append_assoc, arith, inl, inr, get_or, Option, Some, None, IfNone}
+use Rattle.std.proofs.Common.{◌≡◌, ◌⊎◌, ◌≤◌, ◌<◌, ℕ, ◌+◌, ◌-◌, ◌^◌, max, List, ◌∷◌, ◌++◌, length, take, drop, sym, ap, ap₂, ◌∙◌, append_assoc, arith, inl, inr, get_or, Option, Some, None, IfNone}
 use Rattle.std.proofs.lemmas.List.{take_all, length-drop, take-append-drop, drop-drop}
 use Rattle.std.proofs.Math.Seq.{drop-cons, take-append_seam}
 use Rattle.byteorder.specs.Endian.{big_number, big_bytes}
@@ -7,9 +7,9 @@ use Rattle.log_records.specs.Agreement.{IsBytes}
 use Rattle.log_records.proofs.Digits.{IsBytes-drop, IsBytes-take, big_bytes-big_number}
 use Rattle.byteorder.specs.Numbers.{big_from-lt}
 use Rattle.disk_model.specs.Calls.{Looks}
-use Rattle.disk_model.specs.Files.{Files, now}
+use Rattle.disk_model.specs.Files.{Files}
+use Rattle.disk_model.proofs.LookLemmas.{same_now}
 use Rattle.file_pieces.specs.Pieces.{ReaderState, IsSameFile, pieces_in}
-use Rattle.disk_model.proofs.MomentLemmas.{one_call, goes_on, in_the_end, weaker}
 use Rattle.store_layout.specs.Readings.{HasHeader}
 use Rattle.store_layout.specs.Failures.{IsFileRefused}
 use Rattle.gate_log.specs.Scan.{RefusesAt, log_bytes}
@@ -21,31 +21,12 @@ use Rattle.map_types.specs.declared.refusals.Refusal.TheVariants.{Failed, NoMemo
 -- ---- looks
 
 module _ {D : Type 0} (states : D → List Files) (failures : D → ℕ) (honest : D → Type 0) where
-  pub one_look : (failed : ℕ) (old new : D) → states new ≡ now (states old) ∷ states old → failures new ≡ failures old + failed → (honest new → honest old)
-      → Looks states failures honest failed old new
-  one_look failed old new is count was = record {
-    same = one_call states old new (now (states old)) (λ files. files ≡ now (states old)) is refl refl;
-    failed_so = count;
-    was_honest = was;
-  }
-
-  pub same_now : (failed : ℕ) (old new : D) → Looks states failures honest failed old new → now (states new) ≡ now (states old)
-  same_now failed old new look = in_the_end states old new (λ files. files ≡ now (states old)) look.same
-
   pub same_bytes : (failed : ℕ) (old new : D) (generation : ℕ) → Looks states failures honest failed old new → log_bytes states new generation ≡ log_bytes states old generation
-  same_bytes failed old new generation look = ap (λ (files : Files). (files (log_file generation)).seen) (same_now failed old new look)
+  same_bytes failed old new generation look = ap (λ (files : Files). (files (log_file generation)).seen) (same_now states failures honest failed old new look)
 
   -- the reader's file reads as it did
   pub same_read : (failed : ℕ) (old new : D) (a b : ReaderState) → Looks states failures honest failed old new → IsSameFile a b → bytes_of states new b ≡ bytes_of states old a
-  same_read failed old new a b look same = ap₂ (λ (files : Files) (n : ℕ). (files n).seen) (same_now failed old new look) same.file
-
-  pub looks_on : (failed : ℕ) (old mid new : D) → Looks states failures honest 0 old mid → Looks states failures honest failed mid new → Looks states failures honest failed old new
-  looks_on failed old mid new one two = record {
-    same = goes_on states old mid new (λ files. files ≡ now (states old)) one.same
-        (weaker states mid new (λ files. files ≡ now (states mid)) (λ files. files ≡ now (states old)) (λ files e. e ∙ same_now 0 old mid one) two.same);
-    failed_so = let a = one.failed_so in let b = two.failed_so in omega arith;
-    was_honest = λ h. one.was_honest (two.was_honest h);
-  }
+  same_read failed old new a b look same = ap₂ (λ (files : Files) (n : ℕ). (files n).seen) (same_now states failures honest failed old new look) same.file
 
 -- ---- bytes
 

@@ -7,8 +7,8 @@ use Rattle.disk_model.specs.Files.{AllCoherent, AreCoherent, Contents, File, Fil
 use Rattle.disk_model.specs.Moments.{AtEachMoment}
 use Rattle.disk_model.proofs.FileLemmas.{coherent_at_rest, coherent_with, now_coherent, seen_may_stay, rest_leaves}
 use Rattle.disk_model.proofs.MomentLemmas.{goes_on, in_the_end, weaker}
+use Rattle.disk_model.proofs.LookLemmas.{same_now}
 use Rattle.store_layout.specs.Checkpoints.{is_sealed}
-use Rattle.gate_log.proofs.Scanning.{same_now}
 use Rattle.recovery.specs.Formatting.{AtStops, IsClear, IsNewOrUnformatted, IsUnformatted}
 use Rattle.recovery.specs.LogReading.{contents_of}
 use Rattle.recovery.specs.Syncing.{AfterSyncs, StoppedSyncing, states_synced}

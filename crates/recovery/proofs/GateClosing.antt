@@ -4,9 +4,9 @@ use Rattle.disk_model.specs.Calls.{Fails, Looks, Makes}
 use Rattle.disk_model.specs.Files.{File, Files, at_rest, now, synced, written}
 use Rattle.disk_model.specs.Gates.{IsShut, MayFailTo, syncs, writes}
 use Rattle.disk_model.specs.Moments.{AtEachMoment}
+use Rattle.disk_model.proofs.LookLemmas.{same_now}
 use Rattle.map_types.specs.declared.refusals.Refusal.{Refusal}
 use Rattle.store_layout.specs.Checkpoints.{is_to_close}
-use Rattle.gate_log.proofs.Scanning.{same_now}
 use Rattle.recovery.specs.Formatting.{OneFile}
 use Rattle.recovery.proofs.OneFileLemmas.{Leave, looked, next, now_made, tried}
 use Rattle.recovery.proofs.NewStoreLemmas.{Unsealed, closed_shut, closing_synced, closing_torn, closing_written, kept_shut, rest_unsealed}

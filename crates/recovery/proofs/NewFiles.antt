@@ -7,8 +7,8 @@ use Rattle.disk_model.specs.Calls.{Looks, Makes}
 use Rattle.disk_model.specs.Files.{File, Files, at_rest, empty_files, now, synced, with_file, written}
 use Rattle.disk_model.specs.Gates.{Call, called, syncs, writes}
 use Rattle.disk_model.proofs.FileLemmas.{with_other}
+use Rattle.disk_model.proofs.LookLemmas.{same_now}
 use Rattle.store_layout.specs.Checkpoints.{is_to_close, checkpoint_bytes}
-use Rattle.gate_log.proofs.Scanning.{same_now}
 use Rattle.log_records.specs.Layout.{Layout}
 use Rattle.store_layout.specs.Opening.{first_checkpoint}
 use Rattle.recovery.specs.Formatting.{Becomes}

@@ -5,9 +5,9 @@ use Rattle.std.proofs.lemmas.Bool.Decides.{nat_tests}
 use mathlib.Core.Path.{fun_ext}
 use Rattle.disk_model.specs.Files.{AllCoherent, File, Files, Leaves, MayLeave, at_rest, now, synced, with_file}
 use Rattle.disk_model.proofs.FileLemmas.{rest_leaves}
+use Rattle.disk_model.proofs.LookLemmas.{same_now}
 use Rattle.file_pieces.specs.Counting.{Made, MadeAtMost}
 use Rattle.store_layout.specs.Opening.{Contents}
-use Rattle.gate_log.proofs.Scanning.{same_now}
 use Rattle.recovery.specs.LogReading.{contents_of}
 use Rattle.recovery.specs.Syncing.{AfterSyncs, LeavesOnly, StoppedSyncing, SyncsAndLooks, states_synced}
 

@@ -1,5 +1,5 @@
 use Rattle.std.proofs.Common.{arith}
-use Rattle.checkpoint_file.proofs.LookLemmas.{one_look}
+use Rattle.disk_model.proofs.LookLemmas.{one_look}
 use Rattle.checkpoint_file.proofs.gate.must_close.Goals as goal
 
 pub returns-in-Ok-eq0-clause-looks : goal.returns-in-Ok-eq0-clause-looks

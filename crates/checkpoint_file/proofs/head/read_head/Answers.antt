@@ -1,10 +1,10 @@
 use Rattle.std.proofs.Common.{◌≡◌, ◌≢◌, ◌≤◌, ◌%◌, List, ℕ, length, slice_index_or, inr, refl, sym, ap, subst, ◌∙◌, arith, true}
 use Rattle.disk_model.specs.Files.{now}
+use Rattle.disk_model.proofs.LookLemmas.{one_look}
 use Rattle.store_layout.specs.Checkpoints.{is_sealed}
 use Rattle.log_records.specs.Layout.{layout_of}
 use Rattle.store_layout.specs.Faults.{generation_in}
 use Rattle.store_layout.specs.Logs.{is_read}
-use Rattle.checkpoint_file.proofs.LookLemmas.{one_look}
 use Rattle.checkpoint_file.proofs.HeadLemmas.{byte_kept, number_kept, fields_kept, whole_read, opened, faultless, misplaced}
 use Rattle.checkpoint_file.proofs.head.read_head.Goals as goal
 

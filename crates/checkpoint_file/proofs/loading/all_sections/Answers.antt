@@ -7,7 +7,8 @@ use Rattle.store_layout.specs.Faults.{IsFault}
 use Rattle.checkpoint_file.specs.declared.loading.LoadedSection.{LoadedSection}
 use Rattle.checkpoint_file.specs.Loads.{section_of, sections_of, seen_in, GoesOn, IsLoaded}
 use Rattle.file_pieces.specs.Pieces.{Holds}
-use Rattle.checkpoint_file.proofs.LookLemmas.{no_look, looks_on, same_seen}
+use Rattle.disk_model.proofs.LookLemmas.{no_look, looks_on}
+use Rattle.checkpoint_file.proofs.LookLemmas.{same_seen}
 use Rattle.checkpoint_file.proofs.PlaceLemmas.{at_rest_of, refuses_more}
 use Rattle.checkpoint_file.proofs.SectionReading.{no_sections, no_section_bytes, sections_step, section_bytes_more, sections_fault}
 use Rattle.checkpoint_file.proofs.loading.all_sections.Goals as goal

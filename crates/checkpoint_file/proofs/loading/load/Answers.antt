@@ -6,7 +6,8 @@ use Rattle.store_layout.specs.Faults.{version_in}
 use Rattle.store_layout.proofs.Refused.{at_fault}
 use Rattle.checkpoint_file.specs.Heads.{IsHead}
 use Rattle.checkpoint_file.specs.Loads.{checkpoint_of, seen_in}
-use Rattle.checkpoint_file.proofs.LookLemmas.{looks_on, same_seen}
+use Rattle.disk_model.proofs.LookLemmas.{looks_on}
+use Rattle.checkpoint_file.proofs.LookLemmas.{same_seen}
 use Rattle.checkpoint_file.proofs.Versions.{layout_for_byte}
 use Rattle.checkpoint_file.proofs.WholeFiles.{file_refused}
 use Rattle.checkpoint_file.proofs.loading.load.Goals as goal

@@ -7,7 +7,7 @@ use Rattle.store_layout.specs.Faults.{body_in}
 use Rattle.checkpoint_file.specs.declared.loading.LoadedSection.{LoadedSection}
 use Rattle.checkpoint_file.specs.declared.loading.LoadedCheckpoint.{LoadedCheckpoint}
 use Rattle.checkpoint_file.specs.Loads.{sections_of, seen_in, IsBodyOf}
-use Rattle.checkpoint_file.proofs.LookLemmas.{looks_on}
+use Rattle.disk_model.proofs.LookLemmas.{looks_on}
 use Rattle.checkpoint_file.proofs.WholeFiles.{all_bytes, place_refused, size_refused, sections_refused, of_file, has_bad_marks, is_checkpoint}
 use Rattle.checkpoint_file.proofs.loading.load_body.Goals as goal
 

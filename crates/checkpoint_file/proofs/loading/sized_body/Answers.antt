@@ -1,7 +1,8 @@
 use Rattle.std.proofs.Common.{inr, ℕ, List, sym, subst}
 use Rattle.std.proofs.lemmas.Result.{err_from_is_err_and}
 use Rattle.file_pieces.specs.Pieces.{Holds}
-use Rattle.checkpoint_file.proofs.LookLemmas.{looks_on, same_seen}
+use Rattle.disk_model.proofs.LookLemmas.{looks_on}
+use Rattle.checkpoint_file.proofs.LookLemmas.{same_seen}
 use Rattle.checkpoint_file.proofs.loading.sized_body.Goals as goal
 
 pub reach_body-requires-clause-held : goal.reach_body-requires-clause-held

@@ -6,7 +6,7 @@ use Rattle.log_records.specs.Layout.{layout_of}
 use Rattle.store_layout.specs.Checkpoints.{entries_bytes}
 use Rattle.checkpoint_file.specs.Loads.{seen_in, HasNoNext, IsNext, MayFollow}
 use Rattle.file_pieces.specs.Pieces.{Holds}
-use Rattle.checkpoint_file.proofs.LookLemmas.{no_look, looks_on}
+use Rattle.disk_model.proofs.LookLemmas.{no_look, looks_on}
 use Rattle.checkpoint_file.proofs.FrontLemmas.{goes_to}
 use Rattle.checkpoint_file.proofs.PlaceLemmas.{at_rest_of, refuses_more}
 use Rattle.checkpoint_file.proofs.SectionReading.{no_entries, no_entry_bytes, entries_push_one, entry_bytes_more, fewer_entries}

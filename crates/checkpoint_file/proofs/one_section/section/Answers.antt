@@ -5,7 +5,8 @@ use Rattle.log_records.specs.Layout.{layout_of}
 use Rattle.store_layout.specs.Checkpoints.{entries_bytes}
 use Rattle.checkpoint_file.specs.declared.loading.LoadedSection.{LoadedSection}
 use Rattle.checkpoint_file.specs.Loads.{seen_in, AreSoMany, GoesOn, HasFewer}
-use Rattle.checkpoint_file.proofs.LookLemmas.{looks_on, same_seen}
+use Rattle.disk_model.proofs.LookLemmas.{looks_on}
+use Rattle.checkpoint_file.proofs.LookLemmas.{same_seen}
 use Rattle.checkpoint_file.proofs.PlaceLemmas.{at_rest_of, refuses_more}
 use Rattle.checkpoint_file.proofs.SectionReading.{section_begins, section_loaded, section_whole, no_section, bad_section}
 use Rattle.checkpoint_file.proofs.one_section.section.Goals as goal

@@ -1,8 +1,8 @@
 use Rattle.std.proofs.Common.{◌||◌, Bool, ap, sym, ◌∙◌}
 use Rattle.std.proofs.lemmas.Result.{err_from_is_err_and}
 use Rattle.disk_model.specs.Files.{Files}
+use Rattle.disk_model.proofs.LookLemmas.{looks_on, same_now}
 use Rattle.store_layout.specs.Checkpoints.{is_sealed}
-use Rattle.gate_log.proofs.Scanning.{looks_on, same_now}
 use Rattle.recovery.specs.LogReading.{contents_of}
 use Rattle.recovery.proofs.formatting.is_formatted.Goals as goal
 

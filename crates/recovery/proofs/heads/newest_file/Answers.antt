@@ -1,11 +1,11 @@
 use Rattle.std.proofs.Common.{◌≡◌, inr, ℕ, List, true, false, ap, subst, arith}
 use Rattle.std.proofs.lemmas.Result.{err_from_is_err_and}
 use Rattle.disk_model.specs.Files.{Files}
+use Rattle.disk_model.proofs.LookLemmas.{looks_on, same_now}
 use Rattle.store_layout.specs.Checkpoints.{is_sealed}
 use Rattle.store_layout.specs.Opening.{Contents}
 use Rattle.store_layout.proofs.Refused.{at_fault, of_files}
 use Rattle.checkpoint_file.specs.Heads.{IsHead}
-use Rattle.gate_log.proofs.Scanning.{looks_on, same_now}
 use Rattle.recovery.specs.LogReading.{contents_of}
 use Rattle.recovery.proofs.HeadsLemmas.{both_sealed, first_alone, is_older, is_younger, none_sealed, second_after, second_alone}
 use Rattle.recovery.proofs.heads.newest_file.Goals as goal

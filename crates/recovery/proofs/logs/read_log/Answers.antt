@@ -8,7 +8,8 @@ use Rattle.store_layout.proofs.OwnLayouts.{own_of}
 use Rattle.gate_log.specs.Scan.{HasRead, log_bytes}
 use Rattle.gate_log.specs.States.{LogState, resumed}
 use Rattle.recovery.specs.LogReading.{EndsAt, end_gate}
-use Rattle.gate_log.proofs.Scanning.{looks_on, same_bytes}
+use Rattle.disk_model.proofs.LookLemmas.{looks_on}
+use Rattle.gate_log.proofs.Scanning.{same_bytes}
 use Rattle.recovery.proofs.LogReadingLemmas.{frames_refused, header_refused, log_read}
 use Rattle.recovery.proofs.logs.read_log.Goals as goal
 

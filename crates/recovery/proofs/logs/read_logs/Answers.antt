@@ -3,7 +3,8 @@ use Rattle.std.proofs.lemmas.Result.{err_from_is_err_and}
 use Rattle.store_layout.specs.Opening.{Contents, log_layout}
 use Rattle.store_layout.specs.Logs.{log_file}
 use Rattle.store_layout.proofs.Refused.{of_files}
-use Rattle.gate_log.proofs.Scanning.{looks_on, same_bytes}
+use Rattle.disk_model.proofs.LookLemmas.{looks_on}
+use Rattle.gate_log.proofs.Scanning.{same_bytes}
 use Rattle.gate_log.specs.States.{begun}
 use Rattle.file_pieces.specs.Counting.{Made}
 use Rattle.store_layout.specs.Calls.{log_calls}

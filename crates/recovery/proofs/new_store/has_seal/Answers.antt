@@ -1,5 +1,5 @@
 use Rattle.std.proofs.Common.{arith}
-use Rattle.gate_log.proofs.Scanning.{one_look}
+use Rattle.disk_model.proofs.LookLemmas.{one_look}
 use Rattle.recovery.proofs.new_store.has_seal.Goals as goal
 
 pub returns-then-count-eq-BODY_OFFSET-clause-looks : goal.returns-then-count-eq-BODY_OFFSET-clause-looks

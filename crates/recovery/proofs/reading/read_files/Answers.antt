@@ -1,10 +1,10 @@
 use Rattle.std.proofs.Common.{◌≡◌, inl, ◌+◌, ◌-◌, ap, ◌∙◌, arith}
 use Rattle.std.proofs.lemmas.Result.{err_from_is_err_and}
 use Rattle.disk_model.specs.Files.{Files}
+use Rattle.disk_model.proofs.LookLemmas.{looks_on, same_now}
 use Rattle.store_layout.specs.Checkpoints.{is_to_close, checkpoint_file}
 use Rattle.store_layout.proofs.Refused.{of_files}
 use Rattle.recovery.specs.LogReading.{contents_of}
-use Rattle.gate_log.proofs.Scanning.{looks_on, same_now}
 use Rattle.recovery.proofs.reading.read_files.Goals as goal
 
 pub returns-in_err-must_close-clause-looks : goal.returns-in_err-must_close-clause-looks

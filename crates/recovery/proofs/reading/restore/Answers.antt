@@ -5,13 +5,13 @@ use Rattle.store_layout.specs.Calls.{checkpoint_calls, logs_calls}
 use Rattle.store_layout.specs.Faults.{body_length_in}
 use Rattle.disk_model.specs.Calls.{Looks}
 use Rattle.disk_model.specs.Files.{Files}
+use Rattle.disk_model.proofs.LookLemmas.{looks_on, same_now}
 use Rattle.store_layout.specs.Checkpoints.{is_sealed}
 use Rattle.store_layout.proofs.Refused.{of_files}
 use Rattle.store_layout.specs.Opening.{Contents, AreBadLogs, AreLogs, IsCheckpointIn, Refuses}
 use Rattle.recovery.proofs.CallLemmas.{body_found, checkpoint_found}
 use Rattle.checkpoint_file.specs.declared.loading.LoadedCheckpoint.{LoadedCheckpoint}
 use Rattle.checkpoint_file.specs.Loads.{IsUnloadable, checkpoint_of}
-use Rattle.gate_log.proofs.Scanning.{looks_on, same_now}
 use Rattle.recovery.specs.declared.reading.Restored.{Restored}
 use Rattle.recovery.specs.LogReading.{RefusesFor, contents_of}
 use Rattle.recovery.specs.Opening.{IsOpened, IsRestored}

@@ -9,7 +9,8 @@ use Rattle.recovery.specs.declared.replay.End.TheVariants.{Closed, Ended}
 use Rattle.recovery.specs.LogReading.{EndsAt, IsReading, IsReplayed}
 use Rattle.gate_log.specs.Scan.{HasRead, IsNextBatch, ReadsAtGate, log_bytes}
 use Rattle.gate_log.specs.States.{batch_of}
-use Rattle.gate_log.proofs.Scanning.{gate_refused, looks_on, max_pieces}
+use Rattle.disk_model.proofs.LookLemmas.{looks_on}
+use Rattle.gate_log.proofs.Scanning.{gate_refused, max_pieces}
 use Rattle.file_pieces.specs.Pieces.{end_of, pieces_in}
 use Rattle.recovery.proofs.PrefixLemmas.{reads_inside}
 use Rattle.recovery.proofs.ReplayLemmas.{batch_more, broken_for, few_batches, frame_on, pieces_further, pieces_upto, same_log}

@@ -3,7 +3,7 @@ use Rattle.std.proofs.lemmas.List.{with_items_is}
 use Rattle.disk_model.specs.Files.{now}
 use borrow.Rule.Slice.PartMut.{put_mid}
 use Rattle.file_pieces.proofs.BufferLemmas.{grown, kept, put_length}
-use Rattle.file_pieces.proofs.LookLemmas.{one_look}
+use Rattle.disk_model.proofs.LookLemmas.{one_look}
 use Rattle.file_pieces.proofs.buffer.Buffer.read_more.Goals as goal
 
 pub returns-in-Ok-clause-looks : goal.returns-in-Ok-clause-looks

@@ -1,5 +1,5 @@
 use Rattle.std.proofs.Common.{arith}
-use Rattle.file_pieces.proofs.LookLemmas.{one_look}
+use Rattle.disk_model.proofs.LookLemmas.{one_look}
 use Rattle.file_pieces.proofs.reader.FileReader.begin.Goals as goal
 
 pub returns-in_default-clause-looks : goal.returns-in_default-clause-looks

@@ -2,7 +2,7 @@ use Rattle.std.proofs.Common.{◌≡◌, ◌+◌, ◌*◌, ◌%◌, ◌<◌, ◌
 use Rattle.std.proofs.lemmas.Result.{err_from_is_err_and}
 use Rattle.disk_model.specs.Files.{now}
 use Rattle.file_pieces.specs.Pieces.{ReaderState, Holds, end_of, pieces_in}
-use Rattle.file_pieces.proofs.LookLemmas.{looks_on, same_file}
+use Rattle.disk_model.proofs.LookLemmas.{looks_on, same_file}
 use Rattle.file_pieces.proofs.PieceLemmas.{one_more, later}
 use Rattle.file_pieces.proofs.reader.FileReader.reach.Goals as goal
 

@@ -6,7 +6,8 @@ use Rattle.log_records.specs.Layout.{layout_of}
 use Rattle.gate_log.specs.ScanParts.{behind_frame, bytes_of}
 use Rattle.gate_log.proofs.GateReads.{ends_there, long_enough}
 use Rattle.gate_log.proofs.Heads.{none_short}
-use Rattle.gate_log.proofs.Scanning.{refuses_more, looks_on, max_pieces, same_read}
+use Rattle.disk_model.proofs.LookLemmas.{looks_on}
+use Rattle.gate_log.proofs.Scanning.{refuses_more, max_pieces, same_read}
 use Rattle.gate_log.proofs.place.Place.read_frame.Goals as goal
 
 pub returns-then-behind-le-HEAD_BYTES-clause-err : goal.returns-then-behind-le-HEAD_BYTES-clause-err

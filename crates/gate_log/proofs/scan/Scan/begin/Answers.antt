@@ -2,13 +2,14 @@ use Rattle.std.proofs.Common.{◌≡◌, ℕ, List, length, sym, ap, ap₂, subs
 use Rattle.std.proofs.lemmas.Result.{err_from_is_err_and}
 use Rattle.disk_model.specs.Calls.{Looks}
 use Rattle.disk_model.specs.Files.{Files, now}
+use Rattle.disk_model.proofs.LookLemmas.{looks_on, same_now}
 use Rattle.file_pieces.specs.Pieces.{Holds}
 use Rattle.log_records.specs.Layout.{layout_of}
 use Rattle.store_layout.specs.Readings.{HasHeader, IsBadHeader}
 use Rattle.gate_log.specs.Scan.{log_bytes}
 use Rattle.gate_log.specs.ScanParts.{bytes_of}
 use Rattle.gate_log.proofs.Headers.{bad_header, header_bytes, header_fault, header_read, version_first}
-use Rattle.gate_log.proofs.Scanning.{gate_refused, looks_on, never_damaged, same_now}
+use Rattle.gate_log.proofs.Scanning.{gate_refused, never_damaged}
 use Rattle.gate_log.proofs.scan.Scan.begin.Goals as goal
 
 pub returns-in_err-reach-clause-looks : goal.returns-in_err-reach-clause-looks

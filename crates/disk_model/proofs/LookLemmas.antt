@@ -5,6 +5,7 @@ use Rattle.disk_model.specs.Files.{Files, now}
 use Rattle.disk_model.proofs.MomentLemmas.{one_call, no_call, goes_on, in_the_end, weaker}
 
 module _ {D : Type 0} (states : D → List Files) (failures : D → ℕ) (honest : D → Type 0) where
+  -- one device call
   pub one_look : (failed : ℕ) (old new : D) → states new ≡ now (states old) ∷ states old → failures new ≡ failures old + failed → (honest new → honest old)
       → Looks states failures honest failed old new
   one_look failed old new is count was = record {
@@ -13,6 +14,7 @@ module _ {D : Type 0} (states : D → List Files) (failures : D → ℕ) (honest
     was_honest = was;
   }
 
+  -- no call at all
   pub no_look : (disk : D) → Looks states failures honest 0 disk disk
   no_look disk = record {
     same = no_call states disk disk (λ files. files ≡ now (states disk)) refl refl;
@@ -20,13 +22,15 @@ module _ {D : Type 0} (states : D → List Files) (failures : D → ℕ) (honest
     was_honest = λ h. h;
   }
 
-  same_now : (failed : ℕ) (old new : D) → Looks states failures honest failed old new → now (states new) ≡ now (states old)
+  -- the files are as they were
+  pub same_now : (failed : ℕ) (old new : D) → Looks states failures honest failed old new → now (states new) ≡ now (states old)
   same_now failed old new look = in_the_end states old new (λ files. files ≡ now (states old)) look.same
 
   -- a file reads as it did
   pub same_file : (failed : ℕ) (old new : D) (file : ℕ) → Looks states failures honest failed old new → (now (states new) file).seen ≡ (now (states old) file).seen
   same_file failed old new file look = ap (λ (files : Files). (files file).seen) (same_now failed old new look)
 
+  -- a look after others
   pub looks_on : (failed : ℕ) (old mid new : D) → Looks states failures honest 0 old mid → Looks states failures honest failed mid new → Looks states failures honest failed old new
   looks_on failed old mid new one two = record {
     same = goes_on states old mid new (λ files. files ≡ now (states old)) one.same
