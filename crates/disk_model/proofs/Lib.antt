@@ -4,4 +4,5 @@ pub mod KeptLemmas
 pub mod MemoryLemmas
 pub mod MomentLemmas
 pub mod LookLemmas
+pub mod CallLemmas
 pub mod GateLemmas

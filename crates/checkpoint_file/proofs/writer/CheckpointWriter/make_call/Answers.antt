@@ -1,9 +1,10 @@
 use Rattle.std.proofs.Common.{◌≡◌, ◌⊎◌, ◌≤◌, ◌+◌, length, sym, ap, subst, ◌∙◌}
 use Rattle.disk_model.specs.Files.{now}
+use Rattle.disk_model.proofs.CallLemmas.{sync_fails}
 use Rattle.store_layout.specs.Checkpoints.{checkpoint_file}
 use Rattle.checkpoint_file.specs.States.{CheckpointState, call_in}
 use Rattle.store_layout.specs.declared.checkpoint_phase.CheckpointPhase.TheVariants.{GateWritten, GateSynced, Staged, Header, HeaderWritten, Opened}
-use Rattle.checkpoint_file.proofs.CallLemmas.{sync_fails}
+use Rattle.checkpoint_file.proofs.CallLemmas.{sync_due}
 use Rattle.checkpoint_file.proofs.writer.CheckpointWriter.make_call.Goals as goal
 
 pub write_at-requires-in-GateSynced-clause-place : goal.write_at-requires-in-GateSynced-clause-place
@@ -32,4 +33,4 @@ pub returns-in-GateWritten-clause-err : goal.returns-in-GateWritten-clause-err
 returns-in-GateWritten-clause-err g c =
     let w = c.args.self.now in
     let phase = subst (λ (v : CheckpointState). (v.phase ≡ GateWritten) ⊎ ((v.phase ≡ HeaderWritten) ⊎ (v.phase ≡ Opened))) c.self.view_is c.in-GateWritten.is in
-    sync_fails g.D.Disk.states g.D.Disk.failures (checkpoint_file w.generation) c.args.disk.now c.sync.new.self c.sync.result w phase c.sync.ensures.same c.sync.ensures.err
+    sync_fails g.D.Disk.states g.D.Disk.failures (checkpoint_file w.generation) c.args.disk.now c.sync.new.self c.sync.result (call_in w.phase w) (sync_due w phase) c.sync.ensures.same c.sync.ensures.err

@@ -1,9 +1,10 @@
 use Rattle.std.proofs.Common.{◌≡◌, ◌⊎◌, ◌≤◌, length, sym, ap, subst, ◌∙◌}
 use Rattle.disk_model.specs.Files.{now}
+use Rattle.disk_model.proofs.CallLemmas.{sync_fails}
 use Rattle.store_layout.specs.Logs.{log_file}
 use Rattle.gate_log.specs.States.{LogState, call_in}
 use Rattle.store_layout.specs.declared.log_phase.Phase.TheVariants.{HeaderWritten, Staged, Written, Synced, Opened}
-use Rattle.gate_log.proofs.CallLemmas.{sync_fails}
+use Rattle.gate_log.proofs.CallLemmas.{sync_due}
 use Rattle.gate_log.proofs.log.GateLog.make_call.Goals as goal
 
 pub write_staged-requires : goal.write_staged-requires
@@ -24,4 +25,4 @@ pub returns-in-HeaderWritten-clause-err : goal.returns-in-HeaderWritten-clause-e
 returns-in-HeaderWritten-clause-err g c =
     let log = c.args.self.now in
     let phase = subst (λ (l : LogState). (l.phase ≡ HeaderWritten) ⊎ ((l.phase ≡ Written) ⊎ (l.phase ≡ Opened))) c.self.view_is c.in-HeaderWritten.is in
-    sync_fails g.D.Disk.states g.D.Disk.failures (log_file log.generation) c.args.disk.now c.sync.new.self c.sync.result log phase c.sync.ensures.same c.sync.ensures.err
+    sync_fails g.D.Disk.states g.D.Disk.failures (log_file log.generation) c.args.disk.now c.sync.new.self c.sync.result (call_in log.phase log) (sync_due log phase) c.sync.ensures.same c.sync.ensures.err
