@@ -1,12 +1,10 @@
 -- No key stands in the parts of two stripes.
-use Rattle.std.proofs.Common.{◌≡◌, ℕ, ◌+◌, ◌<◌, Bool, true, false, cond, None, Some, List, [], ◌∷◌, ◌++◌, ◌&&◌, refl, sym, ap, subst, ◌∙◌, arith, Ordering, Less, Equal, Greater}
-use Rattle.std.specs.Prelude.{T}
+use Rattle.std.proofs.Common.{◌≡◌, ℕ, ◌+◌, ◌<◌, Bool, true, false, cond, None, Some, List, [], ◌∷◌, ◌++◌, refl, sym, ap, subst, ◌∙◌, arith}
 use Rattle.std.specs.List.{flat_map}
-use Rattle.std.specs.Ordering.{nat_cmp, eq_by_cmp, is_lt, is_eq}
+use Rattle.std.specs.Ordering.{nat_cmp, eq_by_cmp, is_eq}
 use Rattle.std.specs.Cmp.{tied_itself}
 use Rattle.std.specs.Cmp.Lexicographic.{slice_cmp, nat_list_cmp_total}
 use Rattle.std.specs.FinMap as finite
-use Rattle.std.specs.FinMap.Entries.{below_all}
 use Rattle.std.proofs.lemmas.Bool.{ne_eqb, eqb-true}
 use Rattle.java_hash.specs.Stripes.{stripe_of}
 use Rattle.map_types.specs.declared.texts.Value.{Value}
@@ -14,30 +12,9 @@ use Rattle.map_model.specs.Maps.{Map}
 use Rattle.map_model.specs.Parts.{part_of, is_in_stripe}
 use Rattle.map_model.proofs.MapLaws.{get-part_of}
 use Rattle.bin_table.specs.Chains.{Entries, find_in, HasDistinctKeys}
-use Rattle.bin_table.proofs.SortLaws.{head_differs, none_behind}
+use Rattle.bin_table.proofs.SortLaws.{distinct_sorted, head_differs, none_behind}
 use Rattle.view_walk.specs.declared.walk.Captured.{Captured}
 use Rattle.bulk_tasks.specs.Parts.{entries_of, AreParts, parts_from}
-
-first : (a b : Bool) → T (a && b) → T a
-first true b p = tt
-first false b p = p
-
-second : (a b : Bool) → T (a && b) → T b
-second true b p = p
-second false b p = absurd p
-
-apart_from : (o : Ordering) → T (is_lt o) → is_eq o ≡ false
-apart_from Less l = refl
-apart_from Equal l = absurd l
-apart_from Greater l = refl
-
-not_below : (k : List ℕ) (es : Entries) → T (below_all (slice_cmp nat_cmp) k es) → find_in k es ≡ None
-not_below k [] below = refl
-not_below k (e ∷ es) below = ap (λ b. cond b (Some e.1) (find_in k es)) (apart_from (slice_cmp nat_cmp k e.0) (first _ _ below)) ∙ not_below k es (second _ _ below)
-
-sorted_distinct : (es : Entries) → T (finite.is_sorted (slice_cmp nat_cmp) es) → HasDistinctKeys es
-sorted_distinct [] sorted = tt
-sorted_distinct (e ∷ es) sorted = (not_below e.0 es (first _ _ sorted), sorted_distinct es (second _ _ sorted))
 
 -- a key of another stripe isn't found
 none_of_others : (n i : ℕ) (m : Map) (q : List ℕ) → is_in_stripe n i q ≡ false → find_in q (finite.entries (part_of n i m)) ≡ None
@@ -82,7 +59,7 @@ pub distinct_parts : (n i : ℕ) (ms : List Map) → HasDistinctKeys (flat_map f
 distinct_parts n i [] = tt
 distinct_parts n i (m ∷ ms) =
     let es : Entries = finite.entries (part_of n i m) in
-    let one : HasDistinctKeys es = sorted_distinct es (finite.entries_sorted (part_of n i m)) in
+    let one : HasDistinctKeys es = distinct_sorted es (finite.entries_sorted (part_of n i m)) in
     distinct_both n i es (flat_map finite.entries (parts_from n (i + 1) ms)) (λ q other. none_of_others n i m q other) (λ q at. none_later n i (i + 1) ms q (omega arith) at) one (distinct_parts n (i + 1) ms)
 
 -- the entries of all stripes make the union of the parts

@@ -1,5 +1,5 @@
 -- The least key with a value is the first one in byte order.
-use Rattle.std.proofs.Common.{◌≡◌, ℕ, Bool, true, false, cond, ◌&&◌, Option, None, Some, List, [], ◌∷◌, fold, refl, sym, ap, ◌∙◌, Ordering, Less, Equal, Greater}
+use Rattle.std.proofs.Common.{◌≡◌, ℕ, Bool, true, false, cond, Option, None, Some, List, [], ◌∷◌, fold, refl, sym, ap, ◌∙◌, Ordering, Less, Equal, Greater}
 use Rattle.std.specs.Prelude.{T}
 use Rattle.std.specs.Option.{option_map}
 use Rattle.std.specs.List as lists
@@ -11,6 +11,7 @@ use Rattle.rayon.proofs.Order.{pick_min-associative}
 use Rattle.map_types.specs.declared.texts.Value.{Value}
 use Rattle.map_types.specs.ValueEq.{value_eq}
 use Rattle.map_model.specs.Maps.{Map}
+use Rattle.map_model.proofs.EntryLaws.{first_holds, second_holds}
 use Rattle.map_model.proofs.MapLaws.{same_from_ties}
 use Rattle.bin_table.specs.Chains.{Entries, HasDistinctKeys}
 use Rattle.bulk_tasks.specs.Nearest.{lesser, nearer, candidate, approached, nearest_of}
@@ -48,14 +49,6 @@ approached_swaps : (sought : Value) (a : Option (List ℕ)) (d e : List ℕ × V
 approached_swaps sought a d e =
     nearer_assoc a (candidate sought d) (candidate sought e) ∙ ap (nearer a) (nearer_comm (candidate sought d) (candidate sought e)) ∙ sym (nearer_assoc a (candidate sought e) (candidate sought d))
 
-first : (a b : Bool) → T (a && b) → T a
-first true b p = tt
-first false b p = p
-
-second : (a b : Bool) → T (a && b) → T b
-second true b p = p
-second false b p = absurd p
-
 below_keeps : (k q : List ℕ) (o : Ordering) → slice_cmp nat_cmp k q ≡ o → T (is_lt o) → lesser k q ≡ k
 below_keeps k q Less is below = ap (λ o. min_by_ordering o k q) is
 below_keeps k q Equal is below = absurd below
@@ -69,7 +62,7 @@ one_above k q false below = refl
 all_above : (sought : Value) (k : List ℕ) (es : Entries) → T (below_all (slice_cmp nat_cmp) k es) → fold (approached sought) (Some k) es ≡ Some k
 all_above sought k [] below = refl
 all_above sought k (e ∷ es) below =
-    ap (λ a. fold (approached sought) a es) (one_above k e.0 (value_eq e.1 sought) (first _ _ below)) ∙ all_above sought k es (second _ _ below)
+    ap (λ a. fold (approached sought) a es) (one_above k e.0 (value_eq e.1 sought) (first_holds _ _ below)) ∙ all_above sought k es (second_holds _ _ below)
 
 at_head : (sought : Value) (e : List ℕ × Value) (es : Entries) (b : Bool) → T (below_all (slice_cmp nat_cmp) e.0 es)
     → fold (approached sought) None es ≡ option_map (λ (e : List ℕ × Value). e.0) (lists.find (λ (e : List ℕ × Value). value_eq e.1 sought) es)
@@ -79,7 +72,7 @@ at_head sought e es false below rest = rest
 
 first_is_least : (sought : Value) (es : Entries) → T (finite.is_sorted (slice_cmp nat_cmp) es) → nearest_of sought es ≡ option_map (λ (e : List ℕ × Value). e.0) (lists.find (λ (e : List ℕ × Value). value_eq e.1 sought) es)
 first_is_least sought [] sorted = refl
-first_is_least sought (e ∷ es) sorted = at_head sought e es (value_eq e.1 sought) (first _ _ sorted) (first_is_least sought es (second _ _ sorted))
+first_is_least sought (e ∷ es) sorted = at_head sought e es (value_eq e.1 sought) (first_holds _ _ sorted) (first_is_least sought es (second_holds _ _ sorted))
 
 -- the least key among the entries, in whatever order they stand, is the first one in byte order
 pub finds : (sought : Value) (es : Entries) → HasDistinctKeys es → nearest_of sought es ≡ key_of_value sought (finite.from_entries es)

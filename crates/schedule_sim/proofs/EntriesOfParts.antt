@@ -1,24 +1,23 @@
 -- The entries of all parts, sorted by their keys, are those of the whole map.
-use Rattle.std.proofs.Common.{◌≡◌, ℕ, zero, suc, ◌+◌, ◌<◌, ◌≤◌, Bool, true, false, Option, None, Some, List, [], ◌∷◌, ◌++◌, length, map, refl, sym, ap, subst, ◌∙◌, arith}
+use Rattle.std.proofs.Common.{◌≡◌, ℕ, zero, suc, ◌+◌, ◌<◌, ◌≤◌, true, false, List, [], ◌∷◌, ◌++◌, length, map, refl, sym, ap, subst, ◌∙◌, arith}
 use Rattle.std.specs.Prelude.{pos}
 use lib.ListN.{get_or}
-use Rattle.std.specs.Ordering.{nat_cmp, eq_by_cmp, is_lt}
+use Rattle.std.specs.Ordering.{nat_cmp, is_lt}
 use Rattle.std.specs.Cmp.Lexicographic.{slice_cmp, nat_list_cmp_total}
 use Rattle.std.specs.FinMap as finite
-use Rattle.std.specs.List.{IsDistinct, AllByRecursion, Contains, flat_map, range_with_len}
+use Rattle.std.specs.List.{IsDistinct, AllByRecursion, flat_map, range_with_len}
 use Rattle.std.specs.List.Sorted.{IsPermutation, IsSortedByKey, IsStrictlySortedBy}
-use Rattle.std.specs.Map.{keys_of, lookup}
+use Rattle.std.specs.Map.{keys_of}
 use Rattle.std.proofs.lemmas.Cmp.{eq_by_cmp_equiv}
-use Rattle.std.proofs.lemmas.List.Sorted.{IsPermutation-map, IsPermutation-sym, Contains-permutation}
+use Rattle.std.proofs.lemmas.List.Sorted.{IsPermutation-map}
 use Rattle.std.proofs.lemmas.Map.Keys.{IsDistinct-from_sorted, IsDistinct-IsPermutation, apart_from_distinct, sorted_from_all_adjacent}
-use Rattle.std.proofs.lemmas.Map.Views.{Contains-from_lookup, lookup-from_Contains, tells_apart}
 use Rattle.java_hash.specs.Stripes.{stripe_of}
 use Rattle.map_types.specs.declared.texts.Value.{Value}
 use Rattle.map_types.specs.declared.texts.Value.TheVariants.{Int}
 use Rattle.map_model.specs.Maps.{Map, Entries}
 use Rattle.map_model.specs.Parts.{part_of, parts_of, union_of}
-use Rattle.map_model.proofs.EntryLaws.{map_of, get-map_of, entries-map_of}
-use Rattle.map_model.proofs.MapLaws.{same_gets}
+use Rattle.map_model.proofs.EntryLaws.{map_of, get-map_of, entries-map_of, lookup-permutation}
+use Rattle.map_model.proofs.MapLaws.{ties, same_from_ties, same_gets}
 use Rattle.map_model.proofs.KeyLaws.{less_from}
 use Rattle.store_layout.proofs.EntryRows.{rising_from_sorted}
 use Rattle.checkpoint_file.specs.States.{AreKeysOf}
@@ -26,25 +25,19 @@ use Rattle.checkpoint_walk.proofs.Keys.{keys_of_part}
 use Rattle.sim_rules.specs.declared.outcome.MapEntry.{MapEntry}
 use Rattle.sim_rules.specs.Cases.{entry_of}
 
-abbrev is_same_key : List ℕ → List ℕ → Bool
-is_same_key q k = eq_by_cmp (slice_cmp nat_cmp) q k
-
-same_from_is_same : (q k : List ℕ) → is_same_key q k ≡ true → q ≡ k
-same_from_is_same q k e = tells_apart (finite.slice_cmp-IsAntisymmetric finite.nat_cmp-IsAntisymmetric) q k e
-
 -- ---- the keys of different parts differ
 
 -- no key of the entries is q
 abbrev Differ : List ℕ → Entries → Type 0
-Differ q es = AllByRecursion (λ k. is_same_key q k ≡ false) (keys_of es)
+Differ q es = AllByRecursion (λ k. ties q k ≡ false) (keys_of es)
 
 -- the stripes of the keys are from a on
 abbrev AreFrom : ℕ → ℕ → Entries → Type 0
 AreFrom n a es = AllByRecursion (λ (e : List ℕ × Value). a ≤ stripe_of n e.0) es
 
-differ_by_stripe : (n : ℕ) (q k : List ℕ) → (stripe_of n q ≡ stripe_of n k → ⊥) → is_same_key q k ≡ false
-differ_by_stripe n q k apart = elim (is_same_key q k) as (λ b. is_same_key q k ≡ b → b ≡ false) [
-  | true ↦ λ e. absurd (apart (ap (stripe_of n) (same_from_is_same q k e)))
+differ_by_stripe : (n : ℕ) (q k : List ℕ) → (stripe_of n q ≡ stripe_of n k → ⊥) → ties q k ≡ false
+differ_by_stripe n q k apart = elim (ties q k) as (λ b. ties q k ≡ b → b ≡ false) [
+  | true ↦ λ e. absurd (apart (ap (stripe_of n) (same_from_ties q k e)))
   | false ↦ λ e. refl
 ] refl
 
@@ -58,8 +51,8 @@ differ_append : (q : List ℕ) (es fs : Entries) → Differ q es → Differ q fs
 differ_append q [] fs here there = there
 differ_append q (e ∷ es) fs here there = (here.0, differ_append q es fs here.1 there)
 
-distinct_append : (n a : ℕ) (es fs : Entries) → AreKeysOf n a es → IsDistinct is_same_key (keys_of es) → AreFrom n (a + 1) fs → IsDistinct is_same_key (keys_of fs)
-    → IsDistinct is_same_key (keys_of (es ++ fs))
+distinct_append : (n a : ℕ) (es fs : Entries) → AreKeysOf n a es → IsDistinct ties (keys_of es) → AreFrom n (a + 1) fs → IsDistinct ties (keys_of fs)
+    → IsDistinct ties (keys_of (es ++ fs))
 unfolding IsDistinct
 distinct_append n a [] fs own one above other = other
 distinct_append n a (e ∷ es) fs own one above other =
@@ -83,7 +76,7 @@ unfolding entries_from
 from_a n a zero m = tt
 from_a n a (suc k) m = from_append n a (finite.entries (part_of n a m)) (entries_from n (a + 1) k m) (keys_of_part n a m) (from_a n (a + 1) k m)
 
-distinct_from : (n a k : ℕ) (m : Map) → IsDistinct is_same_key (keys_of (entries_from n a k m))
+distinct_from : (n a k : ℕ) (m : Map) → IsDistinct ties (keys_of (entries_from n a k m))
 unfolding entries_from IsDistinct
 distinct_from n a zero m = tt
 distinct_from n a (suc k) m =
@@ -92,37 +85,17 @@ distinct_from n a (suc k) m =
     (IsDistinct-from_sorted (slice_cmp nat_cmp) (keys_of (finite.entries part)) (rising_from_sorted (finite.entries part) (finite.entries_sorted part)))
     (from_a n (a + 1) k m) (distinct_from n (a + 1) k m)
 
-distinct_parts : (n : ℕ) (m : Map) → IsDistinct is_same_key (keys_of (flat_map finite.entries (parts_of n m)))
+distinct_parts : (n : ℕ) (m : Map) → IsDistinct ties (keys_of (flat_map finite.entries (parts_of n m)))
 unfolding entries_from
 distinct_parts n m = distinct_from n 0 n m
 
 -- ---- entries with distinct keys, sorted, are those of their map
 
-abbrev found : List ℕ → Entries → Option Value
-found q es = lookup (is_same_key q) es
-
-found_is : (q : List ℕ) (v : Value) (es : Entries) → IsDistinct is_same_key (keys_of es) → Contains es (q, v) → found q es ≡ Some v
-found_is q v es one has = lookup-from_Contains (eq_by_cmp_equiv nat_list_cmp_total) q v es one has
-
-has_found : (q : List ℕ) (v : Value) (es : Entries) → found q es ≡ Some v → Contains es (q, v)
-has_found q v es is = Contains-from_lookup same_from_is_same q v es is
-
--- a look-up finds the same in any order of the entries
-found-permutation : (q : List ℕ) (es fs : Entries) → IsDistinct is_same_key (keys_of es) → IsDistinct is_same_key (keys_of fs) → IsPermutation es fs → found q es ≡ found q fs
-found-permutation q es fs one two moved =
-    elim (found q es) as (λ o. found q es ≡ o → o ≡ found q fs) [
-      | Some v ↦ λ is. sym (found_is q v fs two (Contains-permutation es fs (q, v) moved (has_found q v es is)))
-      | None ↦ λ none. elim (found q fs) as (λ o. found q fs ≡ o → None ≡ o) [
-        | Some v ↦ λ is. sym none ∙ found_is q v es one (Contains-permutation fs es (q, v) (IsPermutation-sym es fs moved) (has_found q v fs is))
-        | None ↦ λ is. refl
-      ] refl
-    ] refl
-
 no_entry : MapEntry
 no_entry = record { key = []; value = Int (pos 0) }
 
 -- keys that don't fall and differ rise
-keys_rise : (es : List MapEntry) → IsSortedByKey (λ (e : MapEntry). e.key) (slice_cmp nat_cmp) es → IsDistinct is_same_key (keys_of (map entry_of es))
+keys_rise : (es : List MapEntry) → IsSortedByKey (λ (e : MapEntry). e.key) (slice_cmp nat_cmp) es → IsDistinct ties (keys_of (map entry_of es))
     → IsStrictlySortedBy (slice_cmp nat_cmp) (keys_of (map entry_of es))
 keys_rise es sorted one = sorted_from_all_adjacent nat_list_cmp_total (keys_of (map entry_of es)) [] (λ k within.
     let keys = keys_of (map entry_of es) in
@@ -132,7 +105,7 @@ keys_rise es sorted one = sorted_from_all_adjacent nat_list_cmp_total (keys_of (
     let next = get_or es (k + 1) no_entry in
     let here_is : get_or keys k [] ≡ here.key = key_at es k (omega (arith, shorter)) in
     let next_is : get_or keys (k + 1) [] ≡ next.key = key_at es (k + 1) shorter in
-    let apart : is_same_key (get_or keys k []) (get_or keys (k + 1) []) ≡ false = apart_from_distinct is_same_key keys k (k + 1) [] one (omega arith) within in
+    let apart : ties (get_or keys k []) (get_or keys (k + 1) []) ≡ false = apart_from_distinct ties keys k (k + 1) [] one (omega arith) within in
     let below : is_lt (slice_cmp nat_cmp (get_or keys (k + 1) []) (get_or keys k [])) ≡ false = rw (here_is, next_is) (sorted k no_entry (omega arith) shorter) in
     less_from (slice_cmp nat_cmp (get_or keys k []) (get_or keys (k + 1) [])) (slice_cmp nat_cmp (get_or keys (k + 1) []) (get_or keys k []))
     (nat_list_cmp_total.antisymm (get_or keys (k + 1) []) (get_or keys k [])) below apart)
@@ -152,9 +125,9 @@ pub sorted_is_union : (n : ℕ) (m : Map) (es fs : List MapEntry) → map entry_
 sorted_is_union n m es fs are moved sorted =
     let whole = flat_map finite.entries (parts_of n m) in
     let last = map entry_of fs in
-    let before : IsDistinct is_same_key (keys_of whole) = distinct_parts n m in
+    let before : IsDistinct ties (keys_of whole) = distinct_parts n m in
     let turned : IsPermutation whole last = subst (λ xs. IsPermutation xs last) are (IsPermutation-map entry_of es fs moved) in
-    let after : IsDistinct is_same_key (keys_of last) =
-    IsDistinct-IsPermutation is_same_key (λ x y. (eq_by_cmp_equiv nat_list_cmp_total).symm x y) (keys_of whole) (keys_of last) (IsPermutation-map (λ (e : List ℕ × Value). e.0) whole last turned) before in
+    let after : IsDistinct ties (keys_of last) =
+    IsDistinct-IsPermutation ties (λ x y. (eq_by_cmp_equiv nat_list_cmp_total).symm x y) (keys_of whole) (keys_of last) (IsPermutation-map (λ (e : List ℕ × Value). e.0) whole last turned) before in
     sym (entries-map_of last (keys_rise fs sorted after))
-    ∙ ap finite.entries (same_gets (map_of last) (map_of whole) (λ q. get-map_of last q ∙ sym (found-permutation q whole last before after turned) ∙ sym (get-map_of whole q)))
+    ∙ ap finite.entries (same_gets (map_of last) (map_of whole) (λ q. get-map_of last q ∙ sym (lookup-permutation q whole last before after turned) ∙ sym (get-map_of whole q)))

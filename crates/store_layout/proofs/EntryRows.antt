@@ -1,5 +1,5 @@
 -- Entries of a section: one way to read them.
-use Rattle.std.proofs.Common.{◌≡◌, ◌≤◌, ◌<◌, ℕ, ◌+◌, Bool, true, false, ◌&&◌, inl, inr, Ordering, Less, Equal, Greater, List, [], ◌∷◌, ◌++◌, length, Some, Result, refl, sym, ap, ap₂, subst, ◌∙◌, append_assoc, arith}
+use Rattle.std.proofs.Common.{◌≡◌, ◌≤◌, ◌<◌, ℕ, ◌+◌, inl, inr, Ordering, Less, Equal, Greater, List, [], ◌∷◌, ◌++◌, length, Some, Result, refl, sym, ap, ap₂, subst, ◌∙◌, append_assoc, arith}
 use Rattle.std.proofs.lemmas.List.{length-append, append-nil}
 use Rattle.std.proofs.lemmas.Bool.{cases_lt}
 use Rattle.std.specs.Prelude.{T}
@@ -13,6 +13,7 @@ use Rattle.std.specs.FinMap.Entries.{below_all}
 use Rattle.byteorder.specs.Endian.{big_bytes}
 use Rattle.map_types.specs.declared.refusals.Refusal.{Refusal}
 use Rattle.map_types.specs.declared.texts.Value.{Value}
+use Rattle.map_model.proofs.EntryLaws.{first_holds, second_holds}
 use Rattle.log_records.specs.Layout.{Layout, IsLayout}
 use Rattle.log_records.specs.Spelling.{IsText, IsValue, key_bytes, value_bytes}
 use Rattle.log_records.specs.Reading.{key_at, some_value_at}
@@ -73,22 +74,14 @@ less_from_is_lt Less h = refl
 less_from_is_lt Equal h = absurd h
 less_from_is_lt Greater h = absurd h
 
-left : (a b : Bool) → T (a && b) → T a
-left true b h = tt
-left false b h = h
-
-right : (a b : Bool) → T (a && b) → T b
-right true b h = h
-right false b h = absurd h
-
 above_all : (k : List ℕ) (es : List (List ℕ × Value)) → T (below_all (slice_cmp nat_cmp) k es) → AllByRecursion (λ q. slice_cmp nat_cmp k q ≡ Less) (keys_of es)
 above_all k [] h = tt
-above_all k (e ∷ es) h = (less_from_is_lt _ (left _ _ h), above_all k es (right _ _ h))
+above_all k (e ∷ es) h = (less_from_is_lt _ (first_holds _ _ h), above_all k es (second_holds _ _ h))
 
 pub rising_from_sorted : (es : List (List ℕ × Value)) → T (finite.is_sorted (slice_cmp nat_cmp) es) → IsStrictlySortedBy (slice_cmp nat_cmp) (keys_of es)
 unfolding IsStrictlySortedBy
 rising_from_sorted [] h = tt
-rising_from_sorted (e ∷ es) h = (above_all e.0 es (left _ _ h), rising_from_sorted es (right _ _ h))
+rising_from_sorted (e ∷ es) h = (above_all e.0 es (first_holds _ _ h), rising_from_sorted es (second_holds _ _ h))
 
 -- the entries of a map rise
 pub rising_entries : (layout : Layout) (stripes stripe : ℕ) (section : Section) → IsSection layout stripes stripe section → AreEntries layout stripes stripe (finite.entries section.map)
