@@ -30,7 +30,7 @@ abbrev pub OpeningRestores : Type 0
 OpeningRestores = (stripes low : ℕ) (sections : List Section) (log : List Command)
     → AreMarks low (low + length log) sections → length sections ≡ stripes → 0 < stripes →
     Restores (record { first = low + length log; opening = restored stripes sections low log; commands = [] })
-        stripes sections low log
+    stripes sections low log
 
 -- a log that is begun where the history is known
 abbrev pub LogsBegin : Type 0
