@@ -9,7 +9,8 @@ use Rattle.map_types.specs.declared.refusals.Refusal.TheVariants.{Failed, NoMemo
 use Rattle.log_records.specs.declared.versions.Version.{Version}
 use Rattle.log_records.specs.Layout.{Layout}
 use Rattle.ticket_order.specs.declared.stripe.Entry.{Entry}
-use Rattle.store_layout.specs.Logs.{Batch, IsBatch, IsLog, IsClosed, IsEnded, commands_in, end_distance, end_frame, frame, log_file, log_front}
+use Rattle.store_layout.specs.Logs.{Batch, IsBatch, IsLog, IsClosed, IsEnded, commands_in, end_distance, end_frame}
+use Rattle.store_layout.specs.Logs.{frame, log_file, log_front}
 pub use Rattle.store_layout.specs.Failures.{failed_in}
 use Rattle.gate_log.specs.States.{AreFrom, batch_of}
 use Rattle.gate_log.specs.declared.scan.Found.{Found}

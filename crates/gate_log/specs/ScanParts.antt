@@ -9,7 +9,8 @@ use Rattle.map_types.specs.declared.commands.Command.{Command}
 use Rattle.log_records.specs.Layout.{Layout}
 use Rattle.log_records.specs.Spelling.{IsCommand}
 use Rattle.ticket_order.specs.declared.stripe.Entry.{Entry}
-use Rattle.store_layout.specs.Logs.{Batch, IsBatch, batch_kind, body_distance, end_bytes, end_distance, end_frame, end_kind, frame, head_bytes, most_frame_bytes, numbers_bytes, records_bytes}
+use Rattle.store_layout.specs.Logs.{Batch, IsBatch, batch_kind, body_distance, end_bytes, end_distance, end_frame}
+use Rattle.store_layout.specs.Logs.{end_kind, frame, head_bytes, most_frame_bytes, numbers_bytes, records_bytes}
 use Rattle.gate_log.specs.States.{AreFrom, batch_of}
 use Rattle.gate_log.specs.declared.parts.Ahead.{Ahead}
 use Rattle.gate_log.specs.declared.parts.Ahead.TheVariants as ahead

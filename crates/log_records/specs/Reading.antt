@@ -16,7 +16,9 @@ use Rattle.map_types.specs.declared.commands.Change.{Change}
 use Rattle.map_types.specs.declared.commands.Change.TheVariants as change
 use Rattle.map_types.specs.declared.commands.Command.{Command}
 use Rattle.log_records.specs.declared.methods.Method.{Method}
-use Rattle.log_records.specs.declared.methods.Method.TheVariants.{Put, PutIfAbsent, Remove, RemoveIf, Replace, ReplaceIf, Compute, ComputeIfAbsent, ComputeIfPresent, Merge}
+use Rattle.log_records.specs.declared.methods.Method.TheVariants.{Put, PutIfAbsent, Remove, RemoveIf, Replace}
+use Rattle.log_records.specs.declared.methods.Method.TheVariants.{ReplaceIf, Compute, ComputeIfAbsent, ComputeIfPresent}
+use Rattle.log_records.specs.declared.methods.Method.TheVariants.{Merge}
 use Rattle.log_records.specs.Layout.{Layout, most_text_bytes}
 use Rattle.log_records.specs.Methods.{method_number, all_methods, all_funcs}
 

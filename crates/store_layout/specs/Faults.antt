@@ -13,7 +13,10 @@ use Rattle.map_types.specs.declared.refusals.Refusal.{Refusal}
 use Rattle.map_types.specs.declared.refusals.Refusal.TheVariants.{Damaged, WrongVersion}
 use Rattle.log_records.specs.Layout.{Layout}
 use Rattle.store_layout.specs.Logs.{is_read}
-use Rattle.store_layout.specs.Checkpoints.{Section, Checkpoint, IsEntryOf, AreSections, AreMarkedFrom, body_length_offset, body_offset, entries_bytes, entry_bytes, generation_offset, greatest_mark, greatest_offset, is_sealed, low_offset, section_head_bytes, sections_bytes, stripes_offset}
+use Rattle.store_layout.specs.Checkpoints.{Section, Checkpoint, IsEntryOf, AreSections, AreMarkedFrom}
+use Rattle.store_layout.specs.Checkpoints.{body_length_offset, body_offset, entries_bytes, entry_bytes}
+use Rattle.store_layout.specs.Checkpoints.{generation_offset, greatest_mark, greatest_offset, is_sealed, low_offset}
+use Rattle.store_layout.specs.Checkpoints.{section_head_bytes, sections_bytes, stripes_offset}
 
 -- ---- the fields, each at its offset
 

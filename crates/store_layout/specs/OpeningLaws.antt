@@ -10,7 +10,9 @@ use Rattle.map_model.specs.Histories.{History}
 use Rattle.log_records.specs.Layout.{Layout, IsLayout}
 use Rattle.log_records.specs.Agreement.{IsBytes}
 use Rattle.store_layout.specs.Logs.{is_read}
-use Rattle.store_layout.specs.Checkpoints.{Section, Checkpoint, AreSections, AreMarkedFrom, IsWhole, IsCheckpoint, checkpoint_bytes, checkpoint_header_bytes, sections_bytes, checkpoint_file, greatest_mark, is_sealed, section_head_bytes}
+use Rattle.store_layout.specs.Checkpoints.{Section, Checkpoint, AreSections, AreMarkedFrom, IsWhole, IsCheckpoint}
+use Rattle.store_layout.specs.Checkpoints.{checkpoint_bytes, checkpoint_header_bytes, sections_bytes, checkpoint_file}
+use Rattle.store_layout.specs.Checkpoints.{greatest_mark, is_sealed, section_head_bytes}
 use Rattle.store_layout.specs.SectionsAndLog.{grown, Restores}
 use Rattle.store_layout.specs.Faults.{version_in, generation_in, low_in, greatest_in, stripes_in, body_in}
 use Rattle.store_layout.specs.Faults.{checkpoint_in, head_fault, size_fault, IsBadCheckpoint}

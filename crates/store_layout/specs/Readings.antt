@@ -5,7 +5,8 @@ use Rattle.disk_model.specs.Gates.{open_gate}
 use Rattle.map_types.specs.declared.refusals.Refusal.{Refusal}
 use Rattle.map_types.specs.declared.refusals.Refusal.TheVariants.{Damaged, WrongVersion}
 use Rattle.log_records.specs.Layout.{Layout}
-use Rattle.store_layout.specs.Logs.{Batch, IsBatch, IsLog, IsClosed, IsEnded, commands_in, end_frame, frame, is_read, log_file, log_front, log_generation_offset, log_header_bytes, log_low_offset}
+use Rattle.store_layout.specs.Logs.{Batch, IsBatch, IsLog, IsClosed, IsEnded, commands_in, end_frame, frame, is_read}
+use Rattle.store_layout.specs.Logs.{log_file, log_front, log_generation_offset, log_header_bytes, log_low_offset}
 
 -- ---- the header
 
