@@ -4,3 +4,5 @@ pub mod Calls
 pub mod Whole
 pub mod Answers
 pub mod Agreement
+pub mod Naming
+pub mod Printing

@@ -9,6 +9,7 @@ use Rattle.call_text.specs.declared.bad_word.BadWord.{BadWord}
 use Rattle.call_text.specs.declared.called.Called.{Called}
 use Rattle.call_text.specs.declared.called.Called.TheVariants as called
 use Rattle.call_text.specs.Answers.{IsReplyText}
+use Rattle.call_text.specs.Printing.{Prints, PrintsNothing}
 use Rattle.wire_frames.specs.declared.requests.Bulk.TheVariants as bulk
 use Rattle.wire_frames.specs.declared.requests.Request.{Request}
 use Rattle.wire_frames.specs.declared.requests.Request.TheVariants as request
@@ -21,7 +22,6 @@ use Rattle.wire_frames.specs.Answers.{Answer}
 use Rattle.wire_frames.specs.Receiving.{ReadsReply}
 use Rattle.cmd_call.specs.declared.client.Unanswered.{Unanswered}
 use Rattle.cmd_call.specs.declared.client.Unanswered.TheVariants.{NoReply, NoMemory}
-use Rattle.cmd_text.specs.Printing.{Prints, PrintsNothing}
 use Rattle.cmd_call.specs.declared.places.PlaceWords.{PlaceWords}
 use Rattle.cmd_call.specs.declared.servers.Place.{Place}
 use Rattle.cmd_call.specs.Places.{NamesNoPlace, NamesPlace}

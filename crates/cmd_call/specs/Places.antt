@@ -1,7 +1,7 @@
 -- Where the words of a call say that a server is.
 use Rattle.std.specs.Prelude.{◌≡◌, ℕ, List, Option, None, Some}
 use Rattle.std.specs.Borrow.{Bor}
-use Rattle.cmd_text.specs.Naming.{IsNamed, IsPort}
+use Rattle.call_text.specs.Naming.{IsNamed, IsPort}
 use Rattle.socket_file.specs.Names.{IsSocketPath}
 use Rattle.cmd_call.specs.declared.places.PlaceWords.{PlaceWords}
 use Rattle.cmd_call.specs.declared.servers.Place.{Place}

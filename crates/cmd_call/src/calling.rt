@@ -7,7 +7,7 @@ use crate::input::answer_input;
 use crate::places::{PlaceWords, place_named};
 use crate::rounds::Stop;
 use crate::servers::Servers;
-use cmd_text::{MISUSED, refuse, say, stream_failed};
+use call_text::{MISUSED, refuse, say, stream_failed};
 use log::Log;
 use map_types::Refusal;
 use std::alloc::Global;

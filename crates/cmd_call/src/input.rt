@@ -9,7 +9,7 @@ ghost use Rattle.cmd_call.specs.Inputs.{AnswersInput, Breaks, Gave, Reads, Stops
 use crate::lines::LINE_END;
 use crate::rounds::{MOST_ASKED, Round, Stop, answer_round};
 use crate::servers::Replies;
-use cmd_text::DONE;
+use call_text::DONE;
 use std::alloc::{AllocError, Global};
 use std::io;
 use std::io::{Read, Write};

@@ -4,8 +4,7 @@ ghost use Rattle.cmd_call.specs.Lines.{first_of, status_of};
 ghost use Rattle.cmd_call.specs.Rounds.{TellsNext};
 
 use crate::lines::BadLine;
-use call_text::reply_text;
-use cmd_text::{DONE, MISUSED, REFUSED};
+use call_text::{DONE, MISUSED, REFUSED, reply_text};
 use map_types::{Refusal, Reply};
 use std::alloc::{AllocError, Global};
 

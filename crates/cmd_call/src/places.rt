@@ -4,7 +4,7 @@ ghost use Rattle.cmd_call.specs.declared.servers.Place.{Place};
 ghost use Rattle.cmd_call.specs.Places.{NamesPlace};
 
 use crate::servers::Place;
-use cmd_text::port_named;
+use call_text::port_named;
 use socket_file::is_socket_path;
 
 /// The words that say where a server is: a port or a path, one of them.

@@ -15,8 +15,8 @@ use Rattle.recovery.specs.Formatting.{AtStops, IsFormatted, IsNew, IsNewOrUnform
 use Rattle.recovery.specs.Opening.{IsNotOpened}
 use Rattle.recovery.specs.LogReading.{contents_of}
 use Rattle.recovery.specs.Syncing.{SyncsAndLooks}
-use Rattle.cmd_text.specs.Naming.{IsNamed, IsStripeCount}
-use Rattle.cmd_text.specs.Printing.{Prints, PrintsNothing}
+use Rattle.call_text.specs.Naming.{IsNamed, IsStripeCount}
+use Rattle.call_text.specs.Printing.{Prints, PrintsNothing}
 use Rattle.cmd_directory.specs.declared.summary.Summary.{Summary}
 use Rattle.cmd_directory.specs.declared.summary.Counts.{Counts}
 

@@ -4,7 +4,7 @@ ghost use Rattle.cmd_directory.specs.Directory.{Checks, Formats, Inits, Inspects
 
 use crate::opening::Directories;
 use crate::summary::summarize;
-use cmd_text::{MISUSED, cannot_open, print, refuse, say, stripes_named};
+use call_text::{MISUSED, cannot_open, print, refuse, say, stripes_named};
 use disk_model::{Disk, FirstError};
 use java_hash::StripeCount;
 use log::{Log, error};

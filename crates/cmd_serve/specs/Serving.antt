@@ -15,7 +15,7 @@ use Rattle.wire_frames.specs.declared.requests.Bulk.{Bulk}
 use Rattle.wire_frames.specs.declared.requests.Request.{Request}
 use Rattle.wire_frames.specs.declared.requests.Request.TheVariants as request
 use Rattle.connections.specs.Dialogue.{Answer}
-use Rattle.cmd_text.specs.Printing.{PrintsAtMost, PrintsNothing}
+use Rattle.call_text.specs.Printing.{PrintsAtMost, PrintsNothing}
 use Rattle.cmd_serve.specs.Opening.{IsNotOpenedNewest, IsOnlyOpened, IsOpenedNewest}
 use Rattle.cmd_serve.specs.Listening.{HaveListener, listening_lines}
 use Rattle.cmd_serve.specs.Settings.{AreNamed}

@@ -2,7 +2,7 @@
 use Rattle.std.specs.Prelude.{◌≡◌, ℕ, ◌<◌, ◌≤◌, ◌^◌, List, Option, None, Some}
 use Rattle.std.specs.Borrow.{Bor}
 use Rattle.socket_file.specs.Names.{SpellsOctal, IsMode, IsSocketPath}
-use Rattle.cmd_text.specs.Naming.{Spells, IsNamed, IsPort}
+use Rattle.call_text.specs.Naming.{Spells, IsNamed, IsPort}
 use Rattle.cmd_serve.specs.declared.settings.ServerWords.{ServerWords}
 use Rattle.cmd_serve.specs.declared.settings.Settings.{Settings}
 use Rattle.cmd_serve.specs.declared.listening.Places.{Places}

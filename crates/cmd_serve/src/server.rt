@@ -1,7 +1,7 @@
 //! The server: the map of a directory is served at a port of this machine, at a Unix socket, or at
 //! both.
 ghost use Rattle.std.specs.Prelude.{◌≡◌, IfOk};
-ghost use Rattle.cmd_text.specs.Printing.{PrintsAtMost};
+ghost use Rattle.call_text.specs.Printing.{PrintsAtMost};
 ghost use Rattle.cmd_serve.specs.Serving.{EndsAt, ServesDisk, ServesOn};
 ghost use Rattle.cmd_serve.specs.Listening.{HaveSocketPath};
 ghost use Rattle.socket_file.specs.Binding.{Binds};
@@ -15,7 +15,7 @@ use crate::reporting::Reporter;
 use crate::service::{Service, serve_map};
 use crate::settings::{ServerWords, Settings, settings_named};
 use cmd_directory::Directories;
-use cmd_text::{MISUSED, break_off, cannot_open, refuse, say};
+use call_text::{MISUSED, break_off, cannot_open, refuse, say};
 use disk_model::{Disk, FirstError};
 use durable_map::DurableMap;
 use log::{Log, error, info};

@@ -1,11 +1,11 @@
 //! The words of a server's command line, and the settings that they name.
 ghost use Rattle.std.specs.Prelude.{IfOk, IfErr};
-ghost use Rattle.cmd_text.specs.Naming.{IsNamed};
+ghost use Rattle.call_text.specs.Naming.{IsNamed};
 ghost use Rattle.cmd_serve.specs.Settings.{AreNamed, ArePlacesOf, IsConnectionCount, IsReportInterval, IsReportOf, IsWorkerCount};
 ghost use Rattle.cmd_serve.specs.declared.listening.Places.{Places};
 
 use crate::listening::Places;
-use cmd_text::{port_named, stripes_named};
+use call_text::{port_named, stripes_named};
 use java_hash::StripeCount;
 use socket_file::{is_socket_path, mode_named};
 

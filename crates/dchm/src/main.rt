@@ -1,7 +1,7 @@
 //! The program `dchm`.
 #![tactic(auto)]
 
-use cmd_text::{MISUSED, say};
+use call_text::{MISUSED, say};
 use map_server::dchm;
 use std::io::ErrorKind;
 use std::net::{TcpListener, TcpStream};

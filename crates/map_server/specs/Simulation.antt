@@ -11,7 +11,7 @@ use Rattle.sim_script.specs.declared.script.Span.{Span}
 use Rattle.sim_script.specs.Scripts.{Fault, script_of}
 use Rattle.sim_script.specs.Spans.{TakesBack, events_of, most_stripes, span_of, stray_steps}
 use Rattle.sim_script.specs.Texts.{IsScriptText}
-use Rattle.cmd_text.specs.Printing.{Prints, PrintsNothing}
+use Rattle.call_text.specs.Printing.{Prints, PrintsNothing}
 
 abbrev pub Text : Type 0
 Text = List ℕ

@@ -4,7 +4,7 @@ ghost use Rattle.sim_rules.specs.Runs.{IsRun};
 ghost use Rattle.sim_script.specs.Scripts.{script_of, Reads};
 ghost use Rattle.map_server.specs.Simulation.{ComesOf, IsTold, Simulates, SimulatesText, TellsOrFails};
 
-use cmd_text::{MISUSED, cannot_open, print, refuse, say};
+use call_text::{MISUSED, cannot_open, print, refuse, say};
 use log::{Log, error};
 use map_types::Refusal;
 use schedule_sim::run;

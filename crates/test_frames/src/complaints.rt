@@ -1,5 +1,5 @@
 //! What is printed, and the numbers that words name.
-use cmd_text::{break_off, cannot_open, port_named, print, refuse, stripes_named};
+use call_text::{break_off, cannot_open, port_named, print, refuse, stripes_named};
 use log::Log;
 use map_types::Refusal;
 use std::alloc::Global;

@@ -1,5 +1,5 @@
 use Rattle.std.proofs.Common.{◌≡◌, ◌∙◌, ℕ, List, inl, subst}
-use Rattle.cmd_text.specs.Printing.{Prints}
+use Rattle.call_text.specs.Printing.{Prints}
 use Rattle.cmd_directory.specs.Directory.{summary_text}
 use Rattle.cmd_directory.proofs.directory.check_disk.Goals as goal
 

@@ -2,7 +2,7 @@ use Rattle.std.proofs.Common.{◌≡◌, ◌∙◌, ◌+◌, ℕ, Err, List, [],
 use Rattle.map_types.specs.declared.refusals.Refusal.{Refusal}
 use Rattle.map_types.specs.declared.refusals.Refusal.TheVariants as refusal
 use Rattle.gate_log.specs.Scan.{failed_in}
-use Rattle.cmd_text.specs.Printing.{Prints}
+use Rattle.call_text.specs.Printing.{Prints}
 use Rattle.cmd_directory.specs.Directory.{CannotFormat, formatted_line}
 use Rattle.cmd_directory.proofs.directory.init_disk.Goals as goal
 

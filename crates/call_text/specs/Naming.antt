@@ -1,10 +1,8 @@
 -- What a word of a command line names.
-use Rattle.std.specs.Prelude.{◌≡◌, ℕ, ◌≤◌, true, List, Option, None, Some}
+use Rattle.std.specs.Prelude.{◌≡◌, ℕ, ◌≤◌, true, Option, None, Some}
 use Rattle.std.specs.Str.Parse.{IsNumeral, digits_value, without_leading_plus}
 use Rattle.java_hash.specs.Stripes.{is_stripe_count}
-
-abbrev pub Text : Type 0
-Text = List ℕ
+use Rattle.call_text.specs.Names.{Text}
 
 -- the word is a decimal of this number; a plus may stand first
 pub record Spells (word : Text) (number : ℕ) : Type 0 where

@@ -1,8 +1,8 @@
 //! How the program ends: its exit status, and what it says on standard error.
 ghost use Rattle.std.specs.Prelude.{◌≡◌};
-ghost use Rattle.cmd_text.specs.Printing.{Prints, PrintsAtMost};
+ghost use Rattle.call_text.specs.Printing.{Prints, PrintsAtMost};
 
-use call_text::refusal_text;
+use crate::answers::refusal_text;
 use log::{Log, error};
 use map_types::Refusal;
 use std::alloc::Global;

@@ -1,6 +1,6 @@
 //! The numbers that words of the command line name.
 ghost use Rattle.std.specs.Prelude.{option_map};
-ghost use Rattle.cmd_text.specs.Naming.{IsNamed, IsPort, IsStripeCount};
+ghost use Rattle.call_text.specs.Naming.{IsNamed, IsPort, IsStripeCount};
 
 use java_hash::StripeCount;
 
