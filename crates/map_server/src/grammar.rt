@@ -4,8 +4,8 @@ ghost use Rattle.clap.specs.Words.{app_of, rule_of};
 ghost use Rattle.clap.specs.declared.builder.command.Command.TheViews.{out-Command as fields_of};
 ghost use Rattle.map_server.specs.CommandLine.{call_line, check_line, command_line, directory_rule, file_rule, flag_rule, init_line, mem_line, option_rule, serve_line, sim_line, with_places, words_rule};
 
-use clap::{Arg, ArgAction, Command};
 use call_text::VERSION;
+use clap::{Arg, ArgAction, Command};
 use std::alloc::{AllocError, Global};
 
 /// The argument that names a directory.
