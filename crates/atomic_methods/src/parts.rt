@@ -208,7 +208,7 @@ impl Part {
     }
 }
 
-// What is done to the table at the key of the command, with the memory for it.
+/// What is done to the table at the key of the command, with the memory for it.
 #[derive(Drop)]
 enum Action {
     Keep,
@@ -244,7 +244,7 @@ impl Model for Prepared {
     ghost invariant = { λ prepared. IsHashed prepared.key.value prepared.action prepared.spread };
 }
 
-// Only an entry that wasn't there takes a node, and with it a copy of the key.
+/// Only an entry that wasn't there takes a node, and with it a copy of the key.
 fn prepare_action(
     alloc: Global,
     key: &Key,
@@ -306,7 +306,7 @@ mod tests {
         change(part, alloc, key(alloc, number)?, Change::Put(value))
     }
 
-    // A part into which `keys` new keys were put, one after another.
+    /// A part into which `keys` new keys were put, one after another.
     fn filled(alloc: Global, keys: u32) -> Result<Part, Refusal> {
         let stripes = StripeCount::new(1).ok_or(Refusal::WrongPhase)?;
         let mut part = Part::new(alloc, stripes)?;
@@ -324,7 +324,7 @@ mod tests {
         Ok(matches!(reply, Reply::Now(Some(Value::Int(found))) if found == i64::from(number)))
     }
 
-    // Whether each of the first `keys` keys is mapped to its number.
+    /// Whether each of the first `keys` keys is mapped to its number.
     fn has_all(part: &Part, alloc: Global, keys: u32) -> Result<bool, Refusal> {
         for number in 0..keys {
             if !has(part, alloc, number)? {
@@ -334,7 +334,7 @@ mod tests {
         Ok(true)
     }
 
-    // Whether all that the row does went well.
+    /// Whether all that the row does went well.
     fn follow(part: &mut Part, alloc: Global, keys: u32, then: Then) -> Result<bool, Refusal> {
         match then {
             Then::Nothing => {}
@@ -346,7 +346,7 @@ mod tests {
         Ok(true)
     }
 
-    // Whether all went well, the bins then, and whether a growth runs.
+    /// Whether all went well, the bins then, and whether a growth runs.
     fn seen(alloc: Global, keys: u32, then: Then) -> Result<(bool, usize, bool), Refusal> {
         let mut part = filled(alloc, keys)?;
         let is_well = follow(&mut part, alloc, keys, then)?;

@@ -58,7 +58,7 @@ fn greatest_mark(sections: &[Captured]) -> u64 {
     greatest
 }
 
-// Takes a view and compares its answers.
+/// Takes a view and compares its answers.
 fn compare<R: Threads + Wait + Sync>(
     rt: &R,
     alloc: Global,
@@ -76,7 +76,7 @@ fn compare<R: Threads + Wait + Sync>(
     Ok(Compared { mark, difference })
 }
 
-// Takes `views` views, each behind changes that the one before hasn't seen.
+/// Takes `views` views, each behind changes that the one before hasn't seen.
 fn compare_all<R: Threads + Wait + Sync>(
     rt: &R,
     alloc: Global,
@@ -102,7 +102,7 @@ fn compare_all<R: Threads + Wait + Sync>(
     Ok(Outcome::Quiet)
 }
 
-// The views beside the writers, which end then.
+/// The views beside the writers, which end then.
 fn beside_writers<R: Threads + Wait + Sync>(
     rt: &R,
     alloc: Global,
@@ -130,7 +130,7 @@ fn beside_writers<R: Threads + Wait + Sync>(
     Ok(outcome)
 }
 
-// The same beside the loop that commits, which ends then.
+/// The same beside the loop that commits, which ends then.
 fn beside_loop<R: Threads + Wait + Sync>(
     rt: &R,
     alloc: Global,
@@ -165,7 +165,7 @@ fn compare_beside<R: Threads + Wait + Sync>(
     beside_loop(rt, alloc, &map, size)
 }
 
-// A line with what the views came to. Says whether they agree.
+/// A line with what the views came to. Says whether they agree.
 fn print_outcome<R: Print>(rt: &R, size: Size, outcome: Outcome) -> io::Result<bool> {
     match outcome {
         Outcome::Agree => println!(rt; "{} views agree", size.views)?,

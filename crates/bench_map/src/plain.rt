@@ -35,7 +35,7 @@ pub(crate) struct Difference {
     pub threshold: u64,
 }
 
-// Adds the entries of a section.
+/// Adds the entries of a section.
 fn add_section<'a>(
     entries: &mut Vec<&'a (Key, Value)>,
     section: &'a Captured,
@@ -46,7 +46,7 @@ fn add_section<'a>(
     Ok(())
 }
 
-// The entries of all sections, in rising byte order of their keys.
+/// The entries of all sections, in rising byte order of their keys.
 fn sorted(alloc: Global, sections: &[Captured]) -> Result<Vec<&(Key, Value)>, Refusal> {
     let mut entries = Vec::new(alloc);
     for section in sections {
@@ -63,7 +63,7 @@ fn number_of(entry: &(Key, Value)) -> Option<i64> {
     }
 }
 
-// The left fold of SUM, which wraps, over entries whose values are numbers.
+/// The left fold of SUM, which wraps, over entries whose values are numbers.
 fn sum_of(entries: &[&(Key, Value)]) -> Option<i64> {
     let mut sum: Option<i64> = None;
     for entry in entries {
@@ -76,7 +76,7 @@ fn sum_of(entries: &[&(Key, Value)]) -> Option<i64> {
     sum
 }
 
-// The first of the entries that has the number.
+/// The first of the entries that has the number.
 fn first_with(entries: &[&(Key, Value)], number: i64) -> Result<Found, Refusal> {
     for entry in entries {
         if number_of(entry) == Some(number) {
@@ -88,7 +88,7 @@ fn first_with(entries: &[&(Key, Value)], number: i64) -> Result<Found, Refusal> 
 }
 
 impl Found {
-    // Whether a search of the view finds the same key.
+    /// Whether a search of the view finds the same key.
     fn is_found<R: Threads + Sync>(&self, rt: &R, view: &View, threshold: u64) -> bool {
         match (
             view.search(rt, &Value::Int(self.number), threshold),
@@ -118,7 +118,7 @@ impl Plain {
         })
     }
 
-    // The call that differs with this threshold, if any.
+    /// The call that differs with this threshold, if any.
     fn call_that_differs<R: Threads + Sync>(
         &self,
         rt: &R,

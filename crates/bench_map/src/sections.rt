@@ -12,7 +12,7 @@ use std::alloc::Global;
 use std::sync::Wait;
 use stripe_locks::Pass;
 
-// Waits a moment if the step before found this stripe held, or the greatest mark not durable yet.
+/// Waits a moment if the step before found this stripe held, or the greatest mark not durable yet.
 fn pause<R: Wait>(
     rt: &R,
     map: &DurableMap<MemDisk>,

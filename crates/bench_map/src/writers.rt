@@ -59,7 +59,7 @@ impl Writing {
     }
 }
 
-// Adds to the values of random keys. Each change is durable before the one that follows.
+/// Adds to the values of random keys. Each change is durable before the one that follows.
 fn merge_on<R: Wait>(
     rt: &R,
     alloc: Global,

@@ -9,7 +9,7 @@ use crate::chains::Chain;
 use crate::lent_entries::LentEntry;
 use std::alloc::AllocError;
 
-// Lends the entries of a chain, behind those that are there, or some if memory is refused.
+/// Lends the entries of a chain, behind those that are there, or some if memory is refused.
 fn lend_chain<'a>(chain: &'a Chain, entries: &mut Vec<LentEntry<'a>>) -> Result<(), AllocError>
     ensures { OnOk result (entries.new.items ≡ entries.old.items ++ chain_entries chain.now) }
 {
@@ -21,7 +21,7 @@ fn lend_chain<'a>(chain: &'a Chain, entries: &mut Vec<LentEntry<'a>>) -> Result<
     Ok(())
 }
 
-// Lends the entries of all chains, behind those that are there, or some if memory is refused.
+/// Lends the entries of all chains, behind those that are there, or some if memory is refused.
 fn lend_all<'a>(chains: &'a Vec<Chain>, entries: &mut Vec<LentEntry<'a>>) -> Result<(), AllocError>
     ensures { OnOk result (entries.new.items ≡ entries.old.items ++ all_entries chains.now.items) }
 {

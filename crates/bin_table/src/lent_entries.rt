@@ -33,7 +33,7 @@ impl<'a> Model for LentEntry<'a> {
         × HasDigits 16 entry.key.now };
 }
 
-// The first bytes of the text as one number.
+/// The first bytes of the text as one number.
 fn rank_of(text: &str) -> u128
     ensures value { result ≡ rank 16 text.now }
     ensures digits { HasDigits 16 text.now }

@@ -8,7 +8,7 @@ use bin_table::{LentEntry, sort_lent};
 use std::alloc::{AllocError, Global};
 
 impl Growing {
-    // Lends each entry, behind those that are there.
+    /// Lends each entry, behind those that are there.
     fn lend_entries<'a>(&'a self, entries: &mut Vec<LentEntry<'a>>) -> Result<(), AllocError>
         ensures { OnOk result (IsCopied self.now.map entries.old.items entries.new.items) }
     {

@@ -44,7 +44,7 @@ impl Model for View {
     ghost invariant = { λ v. HasDistinctKeys v.entries.items };
 }
 
-// The marks, and the entries of all stripes, one after another.
+/// The marks, and the entries of all stripes, one after another.
 fn in_one(alloc: Global, captured: Vec<Captured>) -> Result<(Vec<u64>, Vec<(Key, Value)>), Refusal>
     ensures marks { IfOk result (λ found. found.0.items ≡ marks_of captured.items) }
     ensures entries { IfOk result (λ found. found.1.items ≡ entries_of captured.items) }

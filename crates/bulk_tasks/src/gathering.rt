@@ -30,8 +30,8 @@ pub(crate) trait Gathers {
             → gathered first self.old xs → gathered first self.new xs)) };
 }
 
-// The walk, once what is made of the part that it lends is added. If no memory is found for that, the
-// stripe is to go back as it was taken.
+/// The walk, once what is made of the part that it lends is added. If no memory is found for that, the
+/// stripe is to go back as it was taken.
 fn gather_lent<G: Gathers>(gathering: &mut G, walk: PartsWalk) -> PartsWalk
     ensures gathers { (first : G) (xs : List Section) → G.gathered first gathering.old xs
         → G.gathered first gathering.new (xs ++ lent_sections result) }

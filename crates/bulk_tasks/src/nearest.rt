@@ -8,7 +8,7 @@ use rayon::prelude::*;
 use std::cmp::Ordering;
 use std::thread::Threads;
 
-// The lesser of two keys that may be missing.
+/// The lesser of two keys that may be missing.
 pub(crate) fn nearer<'a>(a: Option<&'a Key>, b: Option<&'a Key>) -> Option<&'a Key>
     ensures { option_copied result
         ≡ nearest.nearer (option_copied a.entry) (option_copied b.entry) }
@@ -20,7 +20,7 @@ pub(crate) fn nearer<'a>(a: Option<&'a Key>, b: Option<&'a Key>) -> Option<&'a K
     }
 }
 
-// The lesser of two keys by bytes.
+/// The lesser of two keys by bytes.
 fn lesser<'a>(a: &'a Key, b: &'a Key) -> &'a Key
     ensures { result.now ≡ nearest.lesser a.now b.now }
 {
@@ -30,7 +30,7 @@ fn lesser<'a>(a: &'a Key, b: &'a Key) -> &'a Key
     }
 }
 
-// The key of the entry, if its value is the one sought.
+/// The key of the entry, if its value is the one sought.
 fn candidate<'a>(sought: &Value, entry: &'a (Key, Value)) -> Option<&'a Key>
     ensures { option_copied result ≡ nearest.candidate sought.now entry.now }
 {
@@ -41,7 +41,7 @@ fn candidate<'a>(sought: &Value, entry: &'a (Key, Value)) -> Option<&'a Key>
     }
 }
 
-// The least key with the value, by one thread.
+/// The least key with the value, by one thread.
 fn nearest_in_one<'a>(sought: &Value, entries: &'a [(Key, Value)]) -> Option<&'a Key>
     ensures { option_copied result ≡ nearest.nearest_of sought.now entries.now }
 {
@@ -52,7 +52,7 @@ fn nearest_in_one<'a>(sought: &Value, entries: &'a [(Key, Value)]) -> Option<&'a
     near
 }
 
-// The same key, by as many threads as there are processors.
+/// The same key, by as many threads as there are processors.
 fn nearest_in_many<'a>(
     rt: &(impl Threads + Sync),
     sought: &Value,

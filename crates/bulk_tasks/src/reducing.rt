@@ -26,7 +26,7 @@ struct Reducing {
     tally: Tally,
 }
 
-// The tally, and then that of the entries.
+/// The tally, and then that of the entries.
 fn tally_on(func: Func, start: Tally, entries: &[LentEntry<'_>]) -> Tally
     ensures { result ≡ fold (counted func) start entries.now }
 {

@@ -27,7 +27,7 @@ struct Searching<'a> {
     near: Option<Key>,
 }
 
-// The key of the entry, if its value is the one sought.
+/// The key of the entry, if its value is the one sought.
 fn candidate<'a>(sought: &Value, entry: &LentEntry<'a>) -> Option<&'a Key>
     ensures { option_copied result ≡ nearest.candidate sought.now entry.now }
 {
@@ -38,7 +38,7 @@ fn candidate<'a>(sought: &Value, entry: &LentEntry<'a>) -> Option<&'a Key>
     }
 }
 
-// The lesser of this key and of the least key of the entries with the value.
+/// The lesser of this key and of the least key of the entries with the value.
 fn nearest_on<'a>(
     sought: &Value,
     start: Option<&'a Key>,

@@ -31,7 +31,7 @@ impl Tally {
     }
 }
 
-// The function of two numbers.
+/// The function of two numbers.
 fn combined(func: Func, a: i64, b: i64) -> i64
     ensures { result ≡ functions.combine_of func a b }
 {
@@ -42,14 +42,14 @@ fn combined(func: Func, a: i64, b: i64) -> i64
     }
 }
 
-// The sum, which wraps in 64 bits.
+/// The sum, which wraps in 64 bits.
 fn wrapping_sum(a: i64, b: i64) -> i64
     ensures { result ≡ functions.wrapping_sum a b }
 {
     a.wrapping_add(b)
 }
 
-// The tally of two parts.
+/// The tally of two parts.
 pub(crate) fn joined(func: Func, a: Tally, b: Tally) -> Tally
     ensures { result ≡ tallies.joined func a b }
 {
@@ -61,7 +61,7 @@ pub(crate) fn joined(func: Func, a: Tally, b: Tally) -> Tally
     }
 }
 
-// The tally of one value.
+/// The tally of one value.
 pub(crate) fn tally_of(value: &Value) -> Tally
     ensures { result ≡ tallies.tally_of value.now }
 {
@@ -71,7 +71,7 @@ pub(crate) fn tally_of(value: &Value) -> Tally
     }
 }
 
-// The tally of the entries, by one thread.
+/// The tally of the entries, by one thread.
 fn tally_in_one(func: Func, entries: &[(Key, Value)]) -> Tally
     ensures { result ≡ tallies.tally_of_entries func entries.now }
 {
@@ -82,7 +82,7 @@ fn tally_in_one(func: Func, entries: &[(Key, Value)]) -> Tally
     tally
 }
 
-// The same tally, by as many threads as there are processors.
+/// The same tally, by as many threads as there are processors.
 fn tally_in_many(rt: &(impl Threads + Sync), func: Func, entries: &[(Key, Value)]) -> Tally
     ensures { result ≡ tallies.tally_of_entries func entries.now }
 {

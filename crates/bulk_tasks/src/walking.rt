@@ -12,8 +12,8 @@ use std::alloc::Global;
 use std::sync::Wait;
 use stripe_locks::Pass;
 
-// Waits a moment if the step that was made found its stripe held, or the greatest mark not durable yet.
-// Before it the stripe that follows was this one, if any.
+/// Waits a moment if the step that was made found its stripe held, or the greatest mark not durable yet.
+/// Before it the stripe that follows was this one, if any.
 pub(crate) fn pause<D: Disk + Drop, R: Wait>(
     rt: &R,
     map: &DurableMap<D>,

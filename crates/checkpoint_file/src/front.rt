@@ -45,8 +45,8 @@ pub(crate) fn begin_file<D: Disk>(
     }
 }
 
-// Reads on, as far as `count` bytes of the body. A device that gives fewer than its own length says
-// is reported as damage.
+/// Reads on, as far as `count` bytes of the body. A device that gives fewer than its own length says
+/// is reported as damage.
 fn read_on<D: Disk>(
     disk: &mut D,
     reader: &mut FileReader,

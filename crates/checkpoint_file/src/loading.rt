@@ -46,7 +46,7 @@ pub struct LoadedCheckpoint {
     pub sections: Vec<LoadedSection>,
 }
 
-// The sections of all stripes, and what is unread behind them.
+/// The sections of all stripes, and what is unread behind them.
 fn all_sections<D: Disk>(
     alloc: Global,
     disk: &mut D,
@@ -97,7 +97,7 @@ fn all_sections<D: Disk>(
     Ok((sections, rest))
 }
 
-// The sections of all stripes, which are to fill the body.
+/// The sections of all stripes, which are to fill the body.
 fn whole_body<D: Disk>(
     alloc: Global,
     disk: &mut D,
@@ -137,7 +137,7 @@ fn whole_body<D: Disk>(
     Ok(sections)
 }
 
-// How many stripes there are, and where the body stands in a file of `len` bytes.
+/// How many stripes there are, and where the body stands in a file of `len` bytes.
 fn body_of(file: u8, head: &Head, len: usize) -> Result<(StripeCount, Unread), Refusal>
     // One of the four files.
     requires { file < 4 }
@@ -176,8 +176,8 @@ fn body_of(file: u8, head: &Head, len: usize) -> Result<(StripeCount, Unread), R
     Ok((stripes, body))
 }
 
-// How many stripes there are, where the body stands that the sections are to fill, and a reader that has
-// come to it.
+/// How many stripes there are, where the body stands that the sections are to fill, and a reader that has
+/// come to it.
 fn sized_body<D: Disk>(
     alloc: Global,
     disk: &mut D,
@@ -220,7 +220,7 @@ fn sized_body<D: Disk>(
     Ok((stripes, body, reader))
 }
 
-// The checkpoint of which the file has this head.
+/// The checkpoint of which the file has this head.
 fn load_body<D: Disk>(
     alloc: Global,
     disk: &mut D,

@@ -21,7 +21,7 @@ use map_types::{Key, Refusal, Value};
 use std::alloc::Global;
 use store_layout::SECTION_HEAD_BYTES;
 
-// The mark and the count of the section that begins here.
+/// The mark and the count of the section that begins here.
 fn section_head<D: Disk>(
     disk: &mut D,
     reader: &mut FileReader,
@@ -64,7 +64,7 @@ fn section_head<D: Disk>(
     Ok(mark_and_count(&bytes[..SECTION_HEAD_BYTES]))
 }
 
-// The entry that comes next behind these, and how many bytes it takes.
+/// The entry that comes next behind these, and how many bytes it takes.
 fn next_entry<D: Disk>(
     alloc: Global,
     disk: &mut D,
@@ -115,7 +115,7 @@ fn next_entry<D: Disk>(
     Ok((entry, used))
 }
 
-// `count` entries of the stripe, and what is unread behind them.
+/// `count` entries of the stripe, and what is unread behind them.
 fn entries<D: Disk>(
     alloc: Global,
     disk: &mut D,

@@ -33,7 +33,7 @@ pub(crate) fn mark_and_count(head: &[u8]) -> (u64, usize)
     (mark, count as usize)
 }
 
-// The key and the value at the front.
+/// The key and the value at the front.
 fn key_and_value(
     version: Version,
     alloc: Global,

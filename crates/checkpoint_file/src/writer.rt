@@ -234,7 +234,7 @@ impl CheckpointWriter {
         Ok(())
     }
 
-    // Writes the header.
+    /// Writes the header.
     fn write_header<D: Disk>(&self, disk: &mut D) -> Result<(), DeviceError>
         requires place { D.honest disk.old
             → 1 ≤ length (now (D.states disk.old) (checkpoint_file self.now.generation)).seen }
@@ -260,7 +260,7 @@ impl CheckpointWriter {
         disk.write_at(checkpoint_file(self.generation), 1, &bytes)
     }
 
-    // Makes the device call that is due. If none is due, it makes none.
+    /// Makes the device call that is due. If none is due, it makes none.
     fn make_call<D: Disk>(&self, disk: &mut D) -> Result<(), DeviceError>
         requires place { D.honest disk.old → (call : Call)
             → call_in self.now.phase self.now ≡ Some call
@@ -291,7 +291,7 @@ impl CheckpointWriter {
         }
     }
 
-    // The device call that was due has succeeded.
+    /// The device call that was due has succeeded.
     fn go_on(&mut self)
         ensures { self.new ≡ state_after self.old.phase self.old }
     {

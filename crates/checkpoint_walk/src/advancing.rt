@@ -87,7 +87,7 @@ pub fn advance<D: Disk>(keeper: &mut Keeper<D>) -> Result<CheckpointPhase, Refus
     step(keeper, writer)
 }
 
-// Makes the device call that is due in the file of this checkpoint, which the keeper writes.
+/// Makes the device call that is due in the file of this checkpoint, which the keeper writes.
 fn step<D: Disk>(
     keeper: &mut Keeper<D>,
     mut writer: CheckpointWriter,

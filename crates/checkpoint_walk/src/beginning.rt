@@ -69,7 +69,7 @@ pub fn begin<D: Disk>(keeper: &mut Keeper<D>) -> Result<(), Refusal>
     Ok(())
 }
 
-// The writer of the checkpoint that follows the sealed one, whose log has this low ticket.
+/// The writer of the checkpoint that follows the sealed one, whose log has this low ticket.
 fn writer_from<D: Disk>(keeper: &Keeper<D>, low: u64) -> CheckpointWriter
     requires { keeper.now.sealed + 1 < 2 ^ 64 }
     ensures state { result ≡ begun (keeper.now.sealed + 1) low keeper.now.stripes.count

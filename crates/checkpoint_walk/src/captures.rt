@@ -82,14 +82,14 @@ pub fn capture_step<D: Disk, S: Steps>(
     }
 }
 
-// The walk of a capture is under way, where none was.
+/// The walk of a capture is under way, where none was.
 fn go_under_way<D: Disk>(keeper: &mut Keeper<D>, walk: Walk)
     ensures { keeper.new ≡ record keeper.old { capture = Some walk } }
 {
     drop(mem::replace(&mut keeper.capture, Some(walk)));
 }
 
-// The first step.
+/// The first step.
 fn take<D: Disk, S: Steps>(
     keeper: &mut Keeper<D>,
     stripe: usize,
@@ -136,7 +136,7 @@ fn take<D: Disk, S: Steps>(
     }
 }
 
-// LOOK or GIVE.
+/// LOOK or GIVE.
 fn go_on<D: Disk, S: Steps>(
     keeper: &mut Keeper<D>,
     walk: Walk,

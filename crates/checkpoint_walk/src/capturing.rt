@@ -10,7 +10,7 @@ ghost use Rattle.checkpoint_walk.specs.Capturing.{HasLooked, HasTaken};
 use map_types::Refusal;
 use ticket_order::{Captured, Stepped, Steps, Walk};
 
-// TAKE of the stripe; `None` if another holds it.
+/// TAKE of the stripe; `None` if another holds it.
 pub(crate) fn hold<S: Steps>(stripe: usize, steps: &mut S) -> Option<Walk>
     // The pass holds no stripe, and there is this one.
     requires free { (S.recorded steps.old).holding ≡ None }
@@ -35,8 +35,8 @@ pub(crate) fn hold<S: Steps>(stripe: usize, steps: &mut S) -> Option<Walk>
     }
 }
 
-// LOOK, and the stripe is held on. The walk has then only its GIVE left, which hands out its mark, or
-// puts the stripe back.
+/// LOOK, and the stripe is held on. The walk has then only its GIVE left, which hands out its mark, or
+/// puts the stripe back.
 pub(crate) fn look<S: Steps>(walk: Walk, steps: &mut S) -> Walk
     requires { (b : Record) × (i : ℕ)
         × HasTaken (S.stripe_count steps.old) b i walk (S.recorded steps.old) }
@@ -56,7 +56,7 @@ pub(crate) fn look<S: Steps>(walk: Walk, steps: &mut S) -> Walk
     }
 }
 
-// GIVE: what was captured, or the refusal for which the stripe is put back.
+/// GIVE: what was captured, or the refusal for which the stripe is put back.
 pub(crate) fn hand_out<S: Steps>(walk: Walk, steps: &mut S) -> Result<Captured, Refusal>
     // The walk of a capture has looked, and has its GIVE left.
     requires { (b : Record) × (i : ℕ)

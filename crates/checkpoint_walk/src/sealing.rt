@@ -52,7 +52,7 @@ pub fn seal<D: Disk>(keeper: &mut Keeper<D>) -> Result<(), Refusal>
     }
 }
 
-// The same, when `published` commands are published.
+/// The same, when `published` commands are published.
 fn seal_by(writer: &mut CheckpointWriter, published: u64) -> Result<(), Refusal>
     // Refused: if no seal is due, or with a mark unpublished.
     ensures wrong_phase { (result ≡ Err Refusal.WrongPhase) ↔ (TakesSeal writer.old → ⊥) }

@@ -18,7 +18,7 @@ use map_types::Refusal;
 use std::alloc::Global;
 use ticket_order::{Steps, Walk};
 
-// Whether the section of this stripe is the next.
+/// Whether the section of this stripe is the next.
 pub(crate) fn is_next<D: Disk>(keeper: &Keeper<D>, stripe: usize) -> bool
     ensures { (result ≡ true) ↔ IsNextStripe stripe keeper.now.next keeper.now.checkpoint }
 {
@@ -31,7 +31,7 @@ pub(crate) fn is_next<D: Disk>(keeper: &Keeper<D>, stripe: usize) -> bool
         && writer.count() as usize == stripe
 }
 
-// The refusals that come before the first step of a capture.
+/// The refusals that come before the first step of a capture.
 pub(crate) fn check<D: Disk>(keeper: &Keeper<D>, stripe: usize) -> Result<(), Refusal>
     ensures failed { (result ≡ Err Refusal.Failed) ↔ (keeper.now.is_broken ≡ true) }
     ensures wrong_phase { (result ≡ Err Refusal.WrongPhase)
@@ -52,8 +52,8 @@ pub(crate) fn check<D: Disk>(keeper: &Keeper<D>, stripe: usize) -> Result<(), Re
     Ok(())
 }
 
-// Gives the part to the checkpoint as the section of the next stripe, with this mark. No key and no
-// value is copied but into the bytes of the section.
+/// Gives the part to the checkpoint as the section of the next stripe, with this mark. No key and no
+/// value is copied but into the bytes of the section.
 fn stage_part(
     alloc: Global,
     writer: &mut CheckpointWriter,
@@ -70,8 +70,8 @@ fn stage_part(
     writer.section(mark, &entries)
 }
 
-// Gives the part that the walk holds to the checkpoint. If no memory is found for that, the walk puts
-// the stripe back.
+/// Gives the part that the walk holds to the checkpoint. If no memory is found for that, the walk puts
+/// the stripe back.
 fn stage(alloc: Global, writer: &mut CheckpointWriter, walk: Walk) -> Walk
     requires section { TakesSection writer.old }
     requires looked { (n : ℕ) × (b : Record) × (i : ℕ) × (p : Record) × HasLooked n b i walk p }
@@ -87,7 +87,7 @@ fn stage(alloc: Global, writer: &mut CheckpointWriter, walk: Walk) -> Walk
     }
 }
 
-// The section of the stripe is given to the checkpoint, and then GIVE; or the stripe is put back.
+/// The section of the stripe is given to the checkpoint, and then GIVE; or the stripe is put back.
 pub(crate) fn give<D: Disk, S: Steps>(
     keeper: &mut Keeper<D>,
     walk: Walk,

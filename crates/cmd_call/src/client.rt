@@ -5,8 +5,10 @@ ghost use Rattle.cmd_call.specs.Client.{AsksServer, CallsAt, CallsServer, Exchan
 
 use crate::places::{PlaceWords, place_named};
 use crate::servers::{Place, Servers};
-use call_text::{Asked, BadWord, CallError, Called, parse_words, reply_text};
-use call_text::{MISUSED, REFUSED, print, refuse, say};
+use call_text::{
+    Asked, BadWord, CallError, Called, MISUSED, REFUSED, parse_words, print, refuse, reply_text,
+    say,
+};
 use log::Log;
 use map_types::{Refusal, Reply};
 use std::alloc::{AllocError, Global};

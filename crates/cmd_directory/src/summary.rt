@@ -48,7 +48,7 @@ impl Summary {
     }
 }
 
-// How many entries the parts have together.
+/// How many entries the parts have together.
 fn count_entries(parts: &[Part]) -> usize
     ensures { result ≡ min (sum_by (λ part. finite.len part.map) parts.now) (2 ^ 64 - 1) }
 {
@@ -59,7 +59,7 @@ fn count_entries(parts: &[Part]) -> usize
     count
 }
 
-// What opening counts.
+/// What opening counts.
 #[derive(Drop)]
 struct Counts {
     generation: u64,
@@ -67,7 +67,7 @@ struct Counts {
     entries: usize,
 }
 
-// How many stripes the map is divided into while it is counted.
+/// How many stripes the map is divided into while it is counted.
 fn sixteen() -> StripeCount
     ensures { result.count ≡ 16 }
 {
@@ -77,7 +77,7 @@ fn sixteen() -> StripeCount
     count
 }
 
-// Opens the disk, and counts what it stands for. The map is given up.
+/// Opens the disk, and counts what it stands for. The map is given up.
 fn count<R: Threads + Sync, D: Disk>(
     rt: &R,
     alloc: Global,
@@ -96,7 +96,7 @@ fn count<R: Threads + Sync, D: Disk>(
     Ok((disk, counts))
 }
 
-// The number of stripes of the checkpoint of this generation.
+/// The number of stripes of the checkpoint of this generation.
 fn stripes_of<D: Disk>(disk: &mut D, generation: u64) -> Result<usize, Refusal>
     ensures looks { Looks D.states D.failures D.honest (failed_in result) disk.old disk.new }
     ensures ok { D.honest disk.new → (found : Opened) → found.checkpoint.generation ≡ generation

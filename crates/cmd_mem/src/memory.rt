@@ -241,7 +241,7 @@ impl<D: Disk + Drop, R: Wait> Calls for Memory<'_, D, R> {
 
     ghost owns = { Owns };
 
-    // The call is made, and its reply is held until its position is committed.
+    /// The call is made, and its reply is held until its position is committed.
     fn begin(&mut self, request: Request) -> Result<Held, Refusal> {
         if self.has_failed {
             return Err(Refusal::Failed);
@@ -252,7 +252,7 @@ impl<D: Disk + Drop, R: Wait> Calls for Memory<'_, D, R> {
         begun
     }
 
-    // The first call of a row that is finished commits all that were begun.
+    /// The first call of a row that is finished commits all that were begun.
     fn may_finish(&self, held: &Held) -> bool {
         held.position().number() <= self.keeper.committed()
     }

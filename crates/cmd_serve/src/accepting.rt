@@ -30,7 +30,7 @@ enum Listener {
 }
 
 impl Listener {
-    // The next connection.
+    /// The next connection.
     fn accept(&self) -> io::Result<Stream> {
         match self {
             Listener::Port(listener) => {
@@ -91,7 +91,7 @@ impl<'a, R: Clock + Log + Net + Wait> Acceptor<'a, R> {
         Ok(acceptor)
     }
 
-    // The token of the next entrance.
+    /// The token of the next entrance.
     fn next_token(&self) -> Token {
         Token(self.entrances.len())
     }
@@ -127,7 +127,7 @@ impl<'a, R: Clock + Log + Net + Wait> Acceptor<'a, R> {
 }
 
 impl<R: Clock + Log + Wait> Acceptor<'_, R> {
-    // The entrance whose turn it is. The turn of the next one comes next.
+    /// The entrance whose turn it is. The turn of the next one comes next.
     fn take_turn(&mut self) -> usize {
         if self.turn >= self.entrances.len() {
             self.turn = 0;
@@ -137,7 +137,7 @@ impl<R: Clock + Log + Wait> Acceptor<'_, R> {
         place
     }
 
-    // The next connection, or why it can't be had; nothing if none has come.
+    /// The next connection, or why it can't be had; nothing if none has come.
     fn accept(&mut self) -> Option<io::Result<Stream>> {
         for _ in 0..self.entrances.len() {
             let place = self.take_turn();
@@ -153,7 +153,7 @@ impl<R: Clock + Log + Wait> Acceptor<'_, R> {
         None
     }
 
-    // Waits for a connection at some entrance.
+    /// Waits for a connection at some entrance.
     fn wait(&mut self) {
         if self.poll.poll(&mut self.events, None).is_err() {
             self.pause();
@@ -170,7 +170,7 @@ impl<R: Clock + Log + Wait> Acceptor<'_, R> {
         thread::sleep(self.rt, Duration::from_millis(ACCEPT_PAUSE));
     }
 
-    // Says that none can be accepted, unless it has said so.
+    /// Says that none can be accepted, unless it has said so.
     fn complain(&mut self, cause: &io::Error) {
         if !self.has_said {
             warn!(self.rt; "no connection can be accepted: {cause}");
@@ -180,8 +180,8 @@ impl<R: Clock + Log + Wait> Acceptor<'_, R> {
 }
 
 impl<R: Clock + Log + Wait> Arrivals for Acceptor<'_, R> {
-    // If none can be accepted, it tries again after a pause, and the log has one record of it for as
-    // long as it lasts.
+    /// If none can be accepted, it tries again after a pause, and the log has one record of it for as
+    /// long as it lasts.
     fn next(&mut self) -> Option<Stream> {
         let mut has_failed = false;
         for _ in self.rt.forever() {

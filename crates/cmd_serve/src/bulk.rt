@@ -11,7 +11,7 @@ use std::sync::Wait;
 use stripe_locks::Pass;
 use wire_frames::Bulk;
 
-// The reply of a count.
+/// The reply of a count.
 fn count<D: Disk + Drop, R: Wait>(
     rt: &R,
     map: &DurableMap<D>,
@@ -27,7 +27,7 @@ fn count<D: Disk + Drop, R: Wait>(
     Ok(Reply::Now(Some(Value::Int(count as i64))))
 }
 
-// The reply of a reduction. The threshold changes nothing.
+/// The reply of a reduction. The threshold changes nothing.
 fn reduce<D: Disk + Drop, R: Wait>(
     rt: &R,
     alloc: Global,
@@ -48,7 +48,7 @@ fn reduce<D: Disk + Drop, R: Wait>(
     }
 }
 
-// The reply of a search. The threshold changes nothing.
+/// The reply of a search. The threshold changes nothing.
 fn search<D: Disk + Drop, R: Wait>(
     rt: &R,
     alloc: Global,

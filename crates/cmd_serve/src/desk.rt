@@ -112,7 +112,7 @@ impl<'a, D: Disk + Drop, R: Clock + Wait, C: Calls<Held = Begun> + Drop> Desk<'a
 
     // ---- clients that come and go
 
-    // Takes a connection up. It says whether it could.
+    /// Takes a connection up. It says whether it could.
     fn welcome(&mut self, stream: Stream, now: Option<Instant>) -> bool {
         let mut socket = stream;
         let token = Token(self.clients.vacant_key());
@@ -131,7 +131,7 @@ impl<'a, D: Disk + Drop, R: Clock + Wait, C: Calls<Held = Begun> + Drop> Desk<'a
         true
     }
 
-    // One of the clients that were handed to this worker is gone.
+    /// One of the clients that were handed to this worker is gone.
     fn count_out(&self) {
         self.bell.client_left();
         let _ = self.open.fetch_sub(1, Ordering::SeqCst);

@@ -110,7 +110,7 @@ impl<'a, D: Disk + Drop, R: Clock + Wait, C: Calls<Held = Begun> + Drop> Desk<'a
         }
     }
 
-    // Sends the next connection on its errand.
+    /// Sends the next connection on its errand.
     fn send_next_errand(&mut self) {
         for _ in 0..self.bulks.len() {
             let Some(key) = self.bulks.pop_front() else {

@@ -26,7 +26,7 @@ const LONGEST_SLEEP: u64 = 100;
 impl<'a, D: Disk + Drop, R: Clock + Wait, C: Calls<Held = Begun> + Drop> Desk<'a, D, R, C> {
     // ---- turns
 
-    // Gives a client its turn.
+    /// Gives a client its turn.
     fn take_turn(&mut self, key: usize, now: Option<Instant>) {
         let Some(client) = self.clients.get_mut(key) else {
             return;
@@ -54,7 +54,7 @@ impl<'a, D: Disk + Drop, R: Clock + Wait, C: Calls<Held = Begun> + Drop> Desk<'a
         self.follow(key, turned);
     }
 
-    // Begins the calls of each client that is due. What need not wait is answered.
+    /// Begins the calls of each client that is due. What need not wait is answered.
     fn begin_all(&mut self) {
         let now = self.now();
         for _ in 0..self.queue.len() {
@@ -64,7 +64,7 @@ impl<'a, D: Disk + Drop, R: Clock + Wait, C: Calls<Held = Begun> + Drop> Desk<'a
         }
     }
 
-    // Goes on with the connection that has waited longest.
+    /// Goes on with the connection that has waited longest.
     fn resume_front(&mut self, now: Option<Instant>) {
         let Some(key) = self.turns.front() else {
             return;
@@ -81,7 +81,7 @@ impl<'a, D: Disk + Drop, R: Clock + Wait, C: Calls<Held = Begun> + Drop> Desk<'a
         }
     }
 
-    // Whether some connection that waits may be answered.
+    /// Whether some connection that waits may be answered.
     fn may_answer(&self) -> bool {
         match self.turns.first() {
             Some(first) => self.map.may_finish_at(Position::new(first)),
@@ -89,7 +89,7 @@ impl<'a, D: Disk + Drop, R: Clock + Wait, C: Calls<Held = Begun> + Drop> Desk<'a
         }
     }
 
-    // Answers what waits no longer, in the order in which it began to wait.
+    /// Answers what waits no longer, in the order in which it began to wait.
     fn answer_all(&mut self) {
         if !self.must_look && !self.may_answer() {
             return;
@@ -104,8 +104,8 @@ impl<'a, D: Disk + Drop, R: Clock + Wait, C: Calls<Held = Begun> + Drop> Desk<'a
 
     // ---- rounds
 
-    // What was seen at the socket of a client. One that was reset is gone. One that was closed may have
-    // sent something before: of a Unix socket the system says then that it is closed both ways.
+    /// What was seen at the socket of a client. One that was reset is gone. One that was closed may have
+    /// sent something before: of a Unix socket the system says then that it is closed both ways.
     fn note(&mut self, key: usize, event: &Event, now: Option<Instant>) {
         if event.is_error() {
             self.lose(key);
@@ -131,7 +131,7 @@ impl<'a, D: Disk + Drop, R: Clock + Wait, C: Calls<Held = Begun> + Drop> Desk<'a
         self.queue_up(key);
     }
 
-    // For how long the worker may sleep at most. It is woken once what it awaits is durable.
+    /// For how long the worker may sleep at most. It is woken once what it awaits is durable.
     fn longest_sleep(&self) -> Option<Duration> {
         if self.must_look || self.looks > 0 || !self.queue.is_empty() {
             return Some(Duration::from_secs(0));
@@ -150,7 +150,7 @@ impl<'a, D: Disk + Drop, R: Clock + Wait, C: Calls<Held = Begun> + Drop> Desk<'a
         }
     }
 
-    // Waits until a socket is ready, or until it is rung, and notes what was seen.
+    /// Waits until a socket is ready, or until it is rung, and notes what was seen.
     fn wait(&mut self, events: &mut Events<Global>) {
         let timeout = self.longest_sleep();
         let has_looked = self.seat.poll.poll(events, timeout).is_ok();
@@ -171,13 +171,13 @@ impl<'a, D: Disk + Drop, R: Clock + Wait, C: Calls<Held = Begun> + Drop> Desk<'a
         }
     }
 
-    // Whether each client waits, so that nothing else can be done.
+    /// Whether each client waits, so that nothing else can be done.
     fn must_wait(&self) -> bool {
         !self.must_look && self.queue.is_empty() && self.turns.len() == self.clients.len()
     }
 
-    // Makes the turns of the log until what is awaited first is durable. It says whether there was
-    // nothing in the way.
+    /// Makes the turns of the log until what is awaited first is durable. It says whether there was
+    /// nothing in the way.
     fn lead(&mut self, first: u64) -> bool {
         let chime = Chime {
             map: self.map,
@@ -190,8 +190,8 @@ impl<'a, D: Disk + Drop, R: Clock + Wait, C: Calls<Held = Begun> + Drop> Desk<'a
         true
     }
 
-    // Has what is awaited committed: by itself if each client waits, else by the thread of the log. If
-    // clients are expected whose changes share the batch, it looks for them first.
+    /// Has what is awaited committed: by itself if each client waits, else by the thread of the log. If
+    /// clients are expected whose changes share the batch, it looks for them first.
     fn commit(&mut self) {
         let looks = mem::take(&mut self.looks);
         let Some(first) = self.turns.first() else {
@@ -211,7 +211,7 @@ impl<'a, D: Disk + Drop, R: Clock + Wait, C: Calls<Held = Begun> + Drop> Desk<'a
         self.map.wake_log();
     }
 
-    // Whether no more connections come and each that came has ended.
+    /// Whether no more connections come and each that came has ended.
     fn is_done(&self) -> bool {
         self.has_ended && self.clients.is_empty()
     }

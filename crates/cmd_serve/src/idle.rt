@@ -16,7 +16,7 @@ impl<'a, D: Disk + Drop, R: Clock + Wait, C: Calls<Held = Begun> + Drop> Desk<'a
         }
     }
 
-    // Lets go of a client that was idle for too long. Else it returns when its time is up.
+    /// Lets go of a client that was idle for too long. Else it returns when its time is up.
     fn sweep_one(&mut self, key: usize, now: Instant) -> Option<Instant> {
         let client = self.clients.get_mut(key)?;
         if client.resting.is_none() && !client.line.is_blocked {

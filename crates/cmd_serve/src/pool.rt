@@ -56,7 +56,7 @@ enum Job {
 }
 
 impl Job {
-    // The number of its worker. The last one answers the requests of the whole map.
+    /// The number of its worker. The last one answers the requests of the whole map.
     fn place(&self) -> usize {
         match self {
             Job::Serve(seat) => seat.place,
@@ -65,7 +65,7 @@ impl Job {
     }
 }
 
-// Serves the clients of a seat until no more come.
+/// Serves the clients of a seat until no more come.
 fn serve_at<'a, D: Disk + Drop, O: Observer, R: Clock + Wait, C: Calls<Held = Begun> + Drop>(
     rt: &'a R,
     pool: &'a Pool<'a, D, O>,
@@ -83,7 +83,7 @@ fn serve_at<'a, D: Disk + Drop, O: Observer, R: Clock + Wait, C: Calls<Held = Be
     }
 }
 
-// Does a job with these calls.
+/// Does a job with these calls.
 fn do_job_with<'a, D: Disk + Drop, O: Observer, R: Clock + Wait, C: Calls<Held = Begun> + Drop>(
     rt: &'a R,
     pool: &'a Pool<'a, D, O>,
@@ -99,7 +99,7 @@ fn do_job_with<'a, D: Disk + Drop, O: Observer, R: Clock + Wait, C: Calls<Held =
     }
 }
 
-// A thread of the pool, which does a job with a pass of its own.
+/// A thread of the pool, which does a job with a pass of its own.
 fn work<D: Disk + Drop, O: Observer, R: Clock + Wait>(rt: &R, pool: &Pool<'_, D, O>, job: Job) {
     let made = Worker::new(rt, pool.alloc, pool.map, pool.observer, job.place());
     if let Ok(worker) = made {
@@ -125,13 +125,13 @@ fn has_room<D: Disk + Drop, O: Observer, L: Log>(
     false
 }
 
-// How many clients a worker gets before the next one gets any. Those of one worker share its batches
-// without a wake. An observer that may hold a request up holds up its worker's other clients with it.
+/// How many clients a worker gets before the next one gets any. Those of one worker share its batches
+/// without a wake. An observer that may hold a request up holds up its worker's other clients with it.
 fn share_of<O: Observer>(observer: &O) -> usize {
     if observer.may_hold_up() { 1 } else { SHARE }
 }
 
-// Hands each connection to a worker. One above the limit is closed at once.
+/// Hands each connection to a worker. One above the limit is closed at once.
 fn hand_out<D: Disk + Drop, O: Observer, C: Arrivals, R: Log + Wait>(
     rt: &R,
     pool: &Pool<'_, D, O>,
@@ -154,7 +154,7 @@ fn hand_out<D: Disk + Drop, O: Observer, C: Arrivals, R: Log + Wait>(
     unreachable!()
 }
 
-// Starts the threads, and hands the connections out. The threads end once the doors are closed.
+/// Starts the threads, and hands the connections out. The threads end once the doors are closed.
 fn employ<
     D: Disk + Drop + Send,
     O: Observer + Sync,

@@ -65,13 +65,13 @@ impl<'a> Reporter<'a> {
         })
     }
 
-    // How many nanoseconds have gone since it was made, if the clock tells.
+    /// How many nanoseconds have gone since it was made, if the clock tells.
     fn nanos<R: Clock>(&self, rt: &R) -> Option<u64> {
         let elapsed = self.start?.elapsed(rt).ok()?;
         u64::try_from(elapsed.as_nanos()).ok()
     }
 
-    // How many whole seconds have, if the clock tells.
+    /// How many whole seconds have, if the clock tells.
     fn seconds_gone<R: Clock>(&self, rt: &R) -> Option<u64> {
         let elapsed = self.start?.elapsed(rt).ok()?;
         Some(elapsed.as_secs())
@@ -104,7 +104,7 @@ impl Last {
 }
 
 impl Reporter<'_> {
-    // Writes the record of the time since the last one, and returns how the map stands.
+    /// Writes the record of the time since the last one, and returns how the map stands.
     fn report<R: Clock + Figures + Log + Wait, D: Disk + Drop>(
         &self,
         rt: &R,
@@ -137,8 +137,8 @@ impl Reporter<'_> {
         Last::of(&standing)
     }
 
-    // Sleeps until so many seconds have gone since the start, and returns how many have. It returns
-    // nothing once the server has ended.
+    /// Sleeps until so many seconds have gone since the start, and returns how many have. It returns
+    /// nothing once the server has ended.
     fn sleep_until<R: Clock + Wait, E: Ends>(&self, rt: &R, seconds: u64, ends: &E) -> Option<u64> {
         for _turn in rt.forever() {
             if ends.has_ended() {
@@ -152,7 +152,7 @@ impl Reporter<'_> {
         unreachable!()
     }
 
-    // Writes a record each time that so many seconds have gone, until the server ends.
+    /// Writes a record each time that so many seconds have gone, until the server ends.
     fn report_all<R: Clock + Figures + Log + Wait, D: Disk + Drop, E: Ends>(
         &self,
         rt: &R,

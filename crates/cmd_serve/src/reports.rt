@@ -66,7 +66,7 @@ pub(crate) struct Report {
 }
 
 impl Report {
-    // The calls since the last record.
+    /// The calls since the last record.
     fn fmt_calls<W: Write>(&self, f: &mut Formatter<W>) -> fmt::Result {
         let calls = self.totals.calls;
         let mean = self.totals.mean();
@@ -80,7 +80,7 @@ impl Report {
         write!(f, " max_us={longest}")
     }
 
-    // The changes since the last record, and the batches in which they were committed.
+    /// The changes since the last record, and the batches in which they were committed.
     fn fmt_changes<W: Write>(&self, f: &mut Formatter<W>) -> fmt::Result {
         let changes = self.changes;
         let batches = self.batches;

@@ -23,8 +23,8 @@ pub struct Doors {
     turn: usize,
 }
 
-// The place of the first worker that has fewer clients than this share. If none has, it is that of one
-// that has the fewest.
+/// The place of the first worker that has fewer clients than this share. If none has, it is that of one
+/// that has the fewest.
 fn least_busy(bells: &[Bell], share: usize) -> usize {
     let mut found = 0;
     let mut fewest = usize::MAX;
@@ -42,7 +42,7 @@ fn least_busy(bells: &[Bell], share: usize) -> usize {
 }
 
 impl Doors {
-    // The place of the worker whose turn it is. The turn of the next one comes next.
+    /// The place of the worker whose turn it is. The turn of the next one comes next.
     fn take_turn(&mut self) -> usize {
         if self.turn >= self.senders.len() {
             self.turn = 0;
@@ -52,7 +52,7 @@ impl Doors {
         place
     }
 
-    // Leaves a connection with the next worker, if it has a place. Else it is handed back.
+    /// Leaves a connection with the next worker, if it has a place. Else it is handed back.
     fn offer<R: Wait>(&mut self, rt: &R, bells: &[Bell], stream: Stream) -> Result<(), Stream> {
         let place = self.take_turn();
         let (Some(sender), Some(bell)) = (self.senders.get(place), bells.get(place)) else {
@@ -67,7 +67,7 @@ impl Doors {
         }
     }
 
-    // The same, and it waits until that worker has a place. One that has ended hands it back.
+    /// The same, and it waits until that worker has a place. One that has ended hands it back.
     fn wait_for_place<R: Wait>(
         &mut self,
         rt: &R,
@@ -87,7 +87,7 @@ impl Doors {
         }
     }
 
-    // Leaves a connection with the first worker from the next one on that has a place.
+    /// Leaves a connection with the first worker from the next one on that has a place.
     fn offer_all<R: Wait>(&mut self, rt: &R, bells: &[Bell], stream: Stream) -> Result<(), Stream> {
         let mut offered = stream;
         for _ in 0..self.senders.len() {

@@ -32,7 +32,7 @@ use std::thread::Threads;
 use std::time::Clock;
 use wire_frames::write_whole;
 
-// Says by the lines on `output` that the server listens.
+/// Says by the lines on `output` that the server listens.
 fn announce<W: Write>(lines: &str, output: &mut W) -> io::Result<()>
     ensures { PrintsAtMost lines.now (W.contents output.old) (W.contents output.new) }
 {

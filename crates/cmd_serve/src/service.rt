@@ -83,20 +83,20 @@ impl<'a, D: Disk + Drop, O: Observer, R> Ending<'a, D, O, R> {
         }
     }
 
-    // Makes the loops end.
+    /// Makes the loops end.
     fn end(&self) {
         self.has_ended.store(true, Ordering::SeqCst);
     }
 
-    // Wakes the workers that wait for what is durable by now.
+    /// Wakes the workers that wait for what is durable by now.
     fn ring(&self) {
         for bell in self.bells {
             bell.ring_for(self.map);
         }
     }
 
-    // Wakes the workers, and writes a record of why a loop ended, if it is the first that says that the
-    // store has failed.
+    /// Wakes the workers, and writes a record of why a loop ended, if it is the first that says that the
+    /// store has failed.
     fn tell<L: Log>(&self, rt: &L, first_error: &FirstError, ended: Result<(), Refusal>) {
         self.ring();
         let Err(refusal) = ended else {

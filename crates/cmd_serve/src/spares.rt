@@ -71,7 +71,7 @@ impl Spares {
         }
     }
 
-    // Keeps a row that no connection has, or lets go of it.
+    /// Keeps a row that no connection has, or lets go of it.
     fn keep_row(&mut self, row: Row<Begun>) {
         if self.rows.len() < MOST_ROWS {
             let _ = self.rows.push(row);

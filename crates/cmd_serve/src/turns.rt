@@ -151,7 +151,7 @@ impl<C: Calls<Held = Begun> + Drop> Turns<C> {
         }
     }
 
-    // Gives up what a connection holds, whose client is gone.
+    /// Gives up what a connection holds, whose client is gone.
     fn give_up(&mut self, connection: Connection<Begun>) -> Turned
         requires { OwnsRow C.owns self.old connection.row.items }
     {
@@ -161,7 +161,7 @@ impl<C: Calls<Held = Begun> + Drop> Turns<C> {
         Turned::Ends
     }
 
-    // Keeps a connection whose calls wait.
+    /// Keeps a connection whose calls wait.
     fn keep(&mut self, key: usize, connection: Connection<Begun>) -> Turned
         requires { OwnsRow C.owns self.old connection.row.items }
     {
@@ -173,7 +173,7 @@ impl<C: Calls<Held = Begun> + Drop> Turns<C> {
         Turned::Waits
     }
 
-    // Answers what need not wait, and writes it.
+    /// Answers what need not wait, and writes it.
     fn go_on(
         &mut self,
         key: usize,
@@ -195,7 +195,7 @@ impl<C: Calls<Held = Begun> + Drop> Turns<C> {
         }
     }
 
-    // Begins what is whole, and goes on.
+    /// Begins what is whole, and goes on.
     fn begin(
         &mut self,
         key: usize,

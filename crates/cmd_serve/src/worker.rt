@@ -86,7 +86,7 @@ impl<'a, D: Disk + Drop, O: Observer, R: Wait> Worker<'a, D, O, R> {
         })
     }
 
-    // Makes the call of a change or a read. A request of the whole map is held as it is.
+    /// Makes the call of a change or a read. A request of the whole map is held as it is.
     #[tactic(auto, using(crate::proofs::Owning::held_at))]
     fn begin_as(&mut self, mark: Option<u64>, request: Request) -> Result<Begun, Refusal>
         ensures began { Began self.old request result self.new }
@@ -105,7 +105,7 @@ impl<'a, D: Disk + Drop, O: Observer, R: Wait> Worker<'a, D, O, R> {
         }
     }
 
-    // Waits for the position of a call, and gives its reply out.
+    /// Waits for the position of a call, and gives its reply out.
     fn finish_call(&mut self, held: Held) -> Result<Reply, Refusal>
         requires owned { IsHeldAt self.old.words held }
         ensures same { IsSameWorker self.old self.new }
@@ -115,7 +115,7 @@ impl<'a, D: Disk + Drop, O: Observer, R: Wait> Worker<'a, D, O, R> {
         self.map.finish(self.rt, &mut self.pass, held)
     }
 
-    // Takes a view of the map, and answers by it.
+    /// Takes a view of the map, and answers by it.
     fn answer_bulk(&mut self, bulk: Bulk) -> Result<Reply, Refusal>
         ensures same { IsSameWorker self.old self.new }
         ensures completes { CompletesBulk self.old.stripes self.old.pass bulk result self.new.pass }
@@ -125,12 +125,12 @@ impl<'a, D: Disk + Drop, O: Observer, R: Wait> Worker<'a, D, O, R> {
 }
 
 impl<D: Disk + Drop, O: Observer, R: Clock + Wait> Worker<'_, D, O, R> {
-    // Tells the observer of the next request, and gives its mark, if it is to be told of its end.
+    /// Tells the observer of the next request, and gives its mark, if it is to be told of its end.
     fn take_up(&self) -> Option<u64> {
         self.observer.request_begins(self.rt, self.place)
     }
 
-    // Tells the observer of the end of the request with this mark, if it has one.
+    /// Tells the observer of the end of the request with this mark, if it has one.
     fn put_down(&self, mark: Option<u64>) {
         if let Some(mark) = mark {
             self.observer.request_ended(self.rt, self.place, mark);

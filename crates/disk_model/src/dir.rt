@@ -119,7 +119,7 @@ fn open_files<R: FileSystem<File = File>, S: Start>(
     })
 }
 
-// The four files, each locked, of which some may be absent.
+/// The four files, each locked, of which some may be absent.
 fn open_four<R: FileSystem<File = File>>(
     rt: &R,
     alloc: Global,
@@ -133,14 +133,14 @@ fn open_four<R: FileSystem<File = File>>(
     Ok(files)
 }
 
-// The file that stands for the directory, which is made if it is absent.
+/// The file that stands for the directory, which is made if it is absent.
 fn lock_directory<R: FileSystem<File = File>>(rt: &R, path: String) -> io::Result<File> {
     let mut how = OpenOptions::new();
     how.read(true).write(true).create(true);
     open_locked(rt, &how, path)
 }
 
-// Opens the file, and locks it. The lock lasts until the file is closed.
+/// Opens the file, and locks it. The lock lasts until the file is closed.
 fn open_locked<R: FileSystem<File = File>>(
     rt: &R,
     how: &OpenOptions,

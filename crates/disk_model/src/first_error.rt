@@ -44,7 +44,7 @@ impl FirstError {
         self.cell.get()
     }
 
-    // Keeps the error, if it is the first.
+    /// Keeps the error, if it is the first.
     pub(crate) fn note(&self, file: usize, error: io::Error)
         requires { file < 4 }
     {

@@ -40,7 +40,7 @@ impl Kept {
         }
     }
 
-    // A file that has this content on the disk.
+    /// A file that has this content on the disk.
     pub(crate) fn at_rest(alloc: Global, content: Vec<u8>) -> Result<Kept, AllocError>
         ensures { IfOk result (λ kept. IsKept kept (at_rest content.items)) }
     {
@@ -56,7 +56,7 @@ impl Kept {
         })
     }
 
-    // Notes that a write of these bytes was made there.
+    /// Notes that a write of these bytes was made there.
     pub(crate) fn touch(&mut self, at: usize, bytes: &[u8])
         ensures kept { (file : File) → IsKept self.old file
             → IsKept self.new (reached at bytes.now file.seen file) }
@@ -79,7 +79,7 @@ impl Kept {
         overwrite(&mut self.seen, at, bytes)
     }
 
-    // A write that fails, and leaves what the fill picks.
+    /// A write that fails, and leaves what the fill picks.
     pub(crate) fn tear(
         &mut self,
         alloc: Global,
@@ -105,7 +105,7 @@ impl Kept {
         Ok(())
     }
 
-    // What a failed write of these bytes leaves to be read in its range.
+    /// What a failed write of these bytes leaves to be read in its range.
     fn bytes_torn(
         &self,
         alloc: Global,
@@ -138,7 +138,7 @@ impl Kept {
         }
     }
 
-    // Takes what is read as what is on the disk. It writes again only what stands from `clean` on.
+    /// Takes what is read as what is on the disk. It writes again only what stands from `clean` on.
     pub(crate) fn settle(&mut self, alloc: Global) -> Result<(), AllocError>
         ensures ok { OnOk result
             ((file : File) → IsKept self.old file → IsKept self.new (synced file)) }
@@ -161,7 +161,7 @@ impl Kept {
         self.reached.get(place).copied().unwrap_or(true)
     }
 
-    // How many bytes are pending.
+    /// How many bytes are pending.
     pub(crate) fn pending_count(&self) -> u128
         ensures bounded { result < 2 ^ 66 }
         ensures exact { (file : File) → IsKept self.now file → length file.base ≤ file.greatest
@@ -174,7 +174,7 @@ impl Kept {
         count + self.greatest.saturating_sub(self.reached.len() as u128)
     }
 
-    // What a stop leaves, if `before` pending bytes stand in the files before this one.
+    /// What a stop leaves, if `before` pending bytes stand in the files before this one.
     pub(crate) fn left(
         &self,
         alloc: Global,
@@ -267,7 +267,7 @@ fn truncated(mut bytes: Vec<u8>, len: usize) -> Vec<u8>
     bytes
 }
 
-// Marks `size` places from `at` on.
+/// Marks `size` places from `at` on.
 fn mark(marks: &mut [bool], at: usize, size: usize)
     ensures { (i : ℕ) → i < length marks.old
         → slice_index_or marks.new i true
@@ -279,7 +279,7 @@ fn mark(marks: &mut [bool], at: usize, size: usize)
     }
 }
 
-// Writes these bytes over the content from `at` on.
+/// Writes these bytes over the content from `at` on.
 fn overwrite(content: &mut Vec<u8>, at: usize, bytes: &[u8]) -> Result<(), AllocError>
     requires { at ≤ length content.old.items }
     ensures ok { OnOk result (content.new.items ≡ overwritten at bytes.now content.old.items) }
@@ -292,7 +292,7 @@ fn overwrite(content: &mut Vec<u8>, at: usize, bytes: &[u8]) -> Result<(), Alloc
     Ok(())
 }
 
-// Gets the memory for `len` items in all.
+/// Gets the memory for `len` items in all.
 fn make_room<T>(items: &mut Vec<T>, len: usize) -> Result<(), AllocError>
     ensures items { items.new.items ≡ items.old.items }
     ensures room { OnOk result (len ≤ vec_capacity items.new) }
@@ -300,7 +300,7 @@ fn make_room<T>(items: &mut Vec<T>, len: usize) -> Result<(), AllocError>
     items.reserve(len.saturating_sub(items.len()))
 }
 
-// Puts these items in the place of those from `at` on. There is memory for them.
+/// Puts these items in the place of those from `at` on. There is memory for them.
 fn replace_from<T: Copy + Drop>(items: &mut Vec<T>, at: usize, rest: &[T])
     requires { at + length rest.now ≤ vec_capacity items.old }
     ensures { items.new.items ≡ take at items.old.items ++ rest.now }

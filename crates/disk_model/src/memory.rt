@@ -91,7 +91,7 @@ impl MemDisk {
         Ok(())
     }
 
-    // A write that is not to fail by plan.
+    /// A write that is not to fail by plan.
     fn write(&mut self, file: usize, at: usize, bytes: &[u8]) -> Result<(), DeviceError>
         // One of the four files, and no gap between its end and the bytes.
         requires file { file < 4 }
@@ -124,7 +124,7 @@ impl MemDisk {
         }
     }
 
-    // A write that fails by plan.
+    /// A write that fails by plan.
     fn tear(&mut self, file: usize, at: usize, bytes: &[u8], fill: &Fill)
         requires file { file < 4 }
         requires place { at ≤ length (now (memory_states self.old) file).seen }
@@ -143,7 +143,7 @@ impl MemDisk {
         }
     }
 
-    // A write that found no memory.
+    /// A write that found no memory.
     fn lose(&mut self, file: usize, at: usize, bytes: &[u8])
         requires file { file < 4 }
         requires place { at ≤ length (now (memory_states self.old) file).seen }
@@ -156,7 +156,7 @@ impl MemDisk {
         self.past = tore(&self.past, &self.files, file, at, bytes);
     }
 
-    // A call that reads.
+    /// A call that reads.
     fn look(&mut self) -> Result<(), DeviceError>
         ensures state { memory_states self.new ≡ now (memory_states self.old)
             ∷ memory_states self.old }
@@ -302,7 +302,7 @@ impl Disk for MemDisk {
     ghost are_coherent = { λ disk. disk.coherent };
 }
 
-// What a stop leaves of the four files.
+/// What a stop leaves of the four files.
 fn left_files(alloc: Global, files: &[Kept; 4], fill: &Fill) -> Result<[Kept; 4], AllocError>
     ensures { IfOk result (λ left. (states : Files) → AreKept files.now states → AreCoherent states
         → AreKept left (after_stop fill.now states)) }
@@ -318,7 +318,7 @@ fn left_files(alloc: Global, files: &[Kept; 4], fill: &Fill) -> Result<[Kept; 4]
     ])
 }
 
-// Notes a failed write of these bytes, after which a read gives what is kept.
+/// Notes a failed write of these bytes, after which a read gives what is kept.
 fn tore(past: &Past, files: &[Kept; 4], file: usize, at: usize, bytes: &[u8]) -> Past
     requires { file < 4 }
     ensures { (other : Kept) → result.events ≡ tore file at bytes.now
@@ -334,7 +334,7 @@ fn tore(past: &Past, files: &[Kept; 4], file: usize, at: usize, bytes: &[u8]) ->
     })
 }
 
-// Copies what there is from `at` on, as much as there is room for.
+/// Copies what there is from `at` on, as much as there is room for.
 fn copied(from: &[u8], at: usize, buf: &mut [u8]) -> usize
     ensures count { result ≡ min (length buf.old) (length from.now - at) }
     ensures bytes { take result buf.new ≡ take result (drop at from.now) }

@@ -6,7 +6,7 @@ ghost use Rattle.disk_model.specs.Events.{Event, event_of};
 use crate::Fill;
 use std::marker::Model;
 
-// What a device call, or a stop, did.
+/// What a device call, or a stop, did.
 #[derive(Drop)]
 pub(crate) enum Note<'a> {
     Looked,

@@ -12,7 +12,7 @@ pub struct Failure {
     pub fill: Fill,
 }
 
-// Counts one call, and takes the fill with which it fails.
+/// Counts one call, and takes the fill with which it fails.
 pub(crate) fn take_due(failure: &mut Option<Failure>) -> Option<Fill>
     ensures due { result ≡ due_of failure.old }
     ensures passed { failure.new ≡ passed failure.old }

@@ -38,7 +38,7 @@ impl Gathering {
         }
     }
 
-    // The ticket count that is expected after a batch of so many changes, or 0.
+    /// The ticket count that is expected after a batch of so many changes, or 0.
     fn expected_after(&self, tickets: u64, committed: u64, count: u64) -> u64 {
         let skips = self.skips.load(Ordering::SeqCst);
         if skips > 0 {
@@ -74,7 +74,7 @@ impl Gathering {
         stripes.ticket_count().saturating_sub(committed)
     }
 
-    // Waits a moment, and says whether so many tickets were drawn.
+    /// Waits a moment, and says whether so many tickets were drawn.
     fn wait(stripes: &Stripes, expected: u64) -> bool {
         for _look in 0..MOST_LOOKS {
             if stripes.ticket_count() >= expected {

@@ -17,8 +17,8 @@ const MOST_TURNS: u32 = 16;
 const MOST_WAITING: u64 = 16;
 
 impl<D: Disk + Drop> DurableMap<D> {
-    // A turn of the log, with the count that is committed after it, unless another thread has the keeper.
-    // If the store can't go on, a FAIL is made.
+    /// A turn of the log, with the count that is committed after it, unless another thread has the keeper.
+    /// If the store can't go on, a FAIL is made.
     fn try_turn(&self) -> Option<(Result<Turn, Refusal>, u64)> {
         let (mut locked, loan) = self.try_take_keeper()?;
         let before = locked.committed();
@@ -34,8 +34,8 @@ impl<D: Disk + Drop> DurableMap<D> {
         Some((turn, committed))
     }
 
-    // Makes turns until the position is durable, and returns how many commands are committed then. It
-    // returns nothing if what is left is another thread's.
+    /// Makes turns until the position is durable, and returns how many commands are committed then. It
+    /// returns nothing if what is left is another thread's.
     fn make_turns<E: Ends>(&self, position: Position, ends: &E) -> Result<Option<u64>, Refusal>
         ensures { IfErr result (λ refusal. (refusal ≡ Refusal.Failed) ⊎ (refusal ≡ Refusal.LogFull)) }
     {

@@ -58,20 +58,20 @@ impl Done {
         }
     }
 
-    // A batch was committed, if so.
+    /// A batch was committed, if so.
     fn note_batch(&mut self, is_batch: bool) {
         if is_batch {
             self.batches = self.batches.saturating_add(1);
         }
     }
 
-    // A checkpoint was begun.
+    /// A checkpoint was begun.
     fn note_begun(&mut self, now: Option<Instant>) {
         self.begun = now;
         self.captured = 0;
     }
 
-    // A stripe with so many entries was captured.
+    /// A stripe with so many entries was captured.
     fn note_captured(&mut self, entries: usize) {
         self.captured = self.captured.saturating_add(entries as u64);
     }
@@ -174,7 +174,7 @@ impl<D: Disk> LockedKeeper<D> {
         }
     }
 
-    // Takes the entries of a stripe, unless another pass holds it or no memory is found.
+    /// Takes the entries of a stripe, unless another pass holds it or no memory is found.
     fn sweep(&mut self, stripe: usize)
         ensures words { self.new.words ≡ self.old.words }
     {
@@ -185,7 +185,7 @@ impl<D: Disk> LockedKeeper<D> {
         keeping::sweep(&mut self.keeper, stripe, &mut steps);
     }
 
-    // Takes the entries of each stripe that is marked, or of each at all, unless another pass holds it.
+    /// Takes the entries of each stripe that is marked, or of each at all, unless another pass holds it.
     fn gather(&mut self, sweeps_all: bool)
         ensures words { self.new.words ≡ self.old.words }
     {
@@ -197,7 +197,7 @@ impl<D: Disk> LockedKeeper<D> {
         }
     }
 
-    // Stages the longest batch of what is in hand, and returns its length.
+    /// Stages the longest batch of what is in hand, and returns its length.
     fn stage(&mut self) -> Result<u32, Refusal>
         ensures words { self.new.words ≡ self.old.words }
     {
@@ -208,14 +208,14 @@ impl<D: Disk> LockedKeeper<D> {
         staged
     }
 
-    // Writes zeros ahead of the staged batch, if that is due.
+    /// Writes zeros ahead of the staged batch, if that is due.
     fn write_ahead(&mut self) -> Result<(), Refusal>
         ensures words { self.new.words ≡ self.old.words }
     {
         keeping::write_ahead(&mut self.keeper)
     }
 
-    // Makes the device call that is due in the logs.
+    /// Makes the device call that is due in the logs.
     fn advance_logs(&mut self) -> Result<(), Refusal>
         ensures words { self.new.words ≡ self.old.words }
     {
@@ -223,12 +223,12 @@ impl<D: Disk> LockedKeeper<D> {
         Ok(())
     }
 
-    // Whether no device call is due in the logs.
+    /// Whether no device call is due in the logs.
     fn is_resting(&self) -> bool {
         self.keeper.log.is_resting() && self.keeper.next.is_none()
     }
 
-    // DURABLE with the committed count, and wakes those who wait for it, if any do.
+    /// DURABLE with the committed count, and wakes those who wait for it, if any do.
     fn publish(&mut self)
         ensures words { self.new.words ≡ self.old.words }
     {
@@ -276,8 +276,8 @@ impl<D: Disk> LockedKeeper<D> {
         Ok(Turn::Worked)
     }
 
-    // Begins a checkpoint if the newest log has at least `bytes` bytes, and wakes the loop of the
-    // log, which begins another log.
+    /// Begins a checkpoint if the newest log has at least `bytes` bytes, and wakes the loop of the
+    /// log, which begins another log.
     fn begin_checkpoint(&mut self, bytes: u64, now: Option<Instant>) -> Result<Turn, Refusal>
         ensures words { self.new.words ≡ self.old.words }
     {
@@ -291,7 +291,7 @@ impl<D: Disk> LockedKeeper<D> {
         Ok(Turn::Worked)
     }
 
-    // Gives the checkpoint the section of this stripe, which is the next.
+    /// Gives the checkpoint the section of this stripe, which is the next.
     fn capture(&mut self, stripe: usize) -> Result<Turn, Refusal>
         ensures words { self.new.words ≡ self.old.words }
     {
@@ -312,7 +312,7 @@ impl<D: Disk> LockedKeeper<D> {
         Ok(Turn::Worked)
     }
 
-    // Makes the device call that is due in the file of the checkpoint.
+    /// Makes the device call that is due in the file of the checkpoint.
     fn advance_checkpoint(&mut self) -> Result<Turn, Refusal>
         ensures words { self.new.words ≡ self.old.words }
     {

@@ -51,7 +51,7 @@ struct CheckpointTurn {
     sealed: Option<SealedCheckpoint>,
 }
 
-// Whether the store can't go on after this refusal: a device call failed, or a file is full.
+/// Whether the store can't go on after this refusal: a device call failed, or a file is full.
 pub(crate) fn is_final(refusal: Refusal) -> bool
     ensures { IsTrue result → (refusal ≡ Refusal.Failed) ⊎ (refusal ≡ Refusal.LogFull) }
 {
@@ -98,7 +98,7 @@ impl<D: Disk + Drop> DurableMap<D> {
         self.give_keeper(locked, loan);
     }
 
-    // A turn of the log, with the count that is committed after it.
+    /// A turn of the log, with the count that is committed after it.
     pub(crate) fn flush<R: Wait>(&self, rt: &R, sweeps_all: bool) -> (Result<Turn, Refusal>, u64) {
         let (mut locked, loan) = self.take_keeper(rt);
         let before = locked.committed();
@@ -109,7 +109,7 @@ impl<D: Disk + Drop> DurableMap<D> {
         (turn, committed)
     }
 
-    // A turn of the checkpoints.
+    /// A turn of the checkpoints.
     fn checkpoint<R: Clock + Wait>(&self, rt: &R, bytes: u64) -> CheckpointTurn {
         let (mut locked, loan) = self.take_keeper(rt);
         let start = Instant::now(rt).ok();
@@ -133,8 +133,8 @@ impl<D: Disk + Drop> DurableMap<D> {
         }
     }
 
-    // Lets the loop of the log have the lock, if a change is still to be committed, for some times as
-    // long as the turn held it. The lock by itself serves nobody in turn.
+    /// Lets the loop of the log have the lock, if a change is still to be committed, for some times as
+    /// long as the turn held it. The lock by itself serves nobody in turn.
     fn rest_behind<R: Wait>(&self, rt: &R, committed: u64, spent: Option<Duration>) {
         if self.stripes.has_changed(committed) {
             let spent = spent.unwrap_or(Duration::from_millis(SHORT_SLEEP));
@@ -144,14 +144,14 @@ impl<D: Disk + Drop> DurableMap<D> {
         }
     }
 
-    // Waits a moment for those that are expected, if others have come since so many were committed.
+    /// Waits a moment for those that are expected, if others have come since so many were committed.
     fn gather(&self, committed: u64) {
         if self.stripes.has_changed(committed) {
             self.gathering.gather(&self.stripes);
         }
     }
 
-    // Returns after a moment, which grows with the number of turns in which nothing was done.
+    /// Returns after a moment, which grows with the number of turns in which nothing was done.
     pub(crate) fn wait_a_moment<R: Wait>(&self, rt: &R, backoff: &Backoff) {
         if backoff.is_completed() {
             let moment = Duration::from_millis(SHORT_SLEEP);
@@ -161,8 +161,8 @@ impl<D: Disk + Drop> DurableMap<D> {
         }
     }
 
-    // Waits for changes behind the committed ones: sleeps if none has a ticket, else waits for a moment,
-    // since it may be about to come.
+    /// Waits for changes behind the committed ones: sleeps if none has a ticket, else waits for a moment,
+    /// since it may be about to come.
     fn rest<R: Wait>(&self, rt: &R, backoff: &Backoff, committed: u64) {
         if self.stripes.has_changed(committed) {
             self.wait_a_moment(rt, backoff);
@@ -172,7 +172,7 @@ impl<D: Disk + Drop> DurableMap<D> {
         }
     }
 
-    // Waits until there may be something to write.
+    /// Waits until there may be something to write.
     fn rest_long<R: Wait>(&self, rt: &R) {
         let moment = Duration::from_millis(LONG_SLEEP);
         self.stripes.sleep_until_failed(rt, moment);

@@ -54,7 +54,7 @@ impl Buffer {
         self.start += count;
     }
 
-    // The bytes that were let go make room for more.
+    /// The bytes that were let go make room for more.
     fn move_to_front(&mut self)
         ensures held { held_in self.new ≡ held_in self.old }
         ensures room { room_in self.new + length (held_in self.new) ≡ length self.new.bytes.items }

@@ -101,7 +101,7 @@ impl FileReader {
         self.from += count;
     }
 
-    // Reads the next piece.
+    /// Reads the next piece.
     fn read_piece<D: Disk>(&mut self, disk: &mut D) -> Result<(), ReadFault>
         // Something of the file is unread.
         requires { end_of self.old < self.old.len }

@@ -27,7 +27,7 @@ impl<D: Disk> Keeper<D> {
         Ok(())
     }
 
-    // Has the newest log write the zeros, and notes whether the device call failed.
+    /// Has the newest log write the zeros, and notes whether the device call failed.
     fn write_zeros(&mut self) -> Result<(), Refusal>
         // Nothing has failed, and an honest disk holds what the log says.
         requires stands { MayAdvance D.states D.honest self.old.log self.old.disk }

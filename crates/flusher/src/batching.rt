@@ -21,7 +21,7 @@ use store_invariant::laws;
 use store_layout::MOST_LOG_BYTES;
 
 impl<D: Disk> Keeper<D> {
-    // Stages the first `count` commands. If that is refused, the same entries are in hand.
+    /// Stages the first `count` commands. If that is refused, the same entries are in hand.
     fn stage_run(&mut self, count: u32) -> Result<(), Refusal>
         // `count` commands in hand may be the next batch, of keys that the log
         // allows, and the log rests.

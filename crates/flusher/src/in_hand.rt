@@ -53,7 +53,7 @@ impl InHand {
         }
     }
 
-    // Makes places up to this one.
+    /// Makes places up to this one.
     fn lengthen(&mut self, len: usize) -> Result<(), AllocError>
         ensures ok { OnOk result
             ((more : ℕ)
@@ -83,7 +83,7 @@ impl InHand {
         }
     }
 
-    // Puts the command into the place of its ticket, if it has one.
+    /// Puts the command into the place of its ticket, if it has one.
     fn put(&mut self, entry: Entry)
         ensures { Gains self.old (entry ∷ []) self.new }
     {
@@ -118,7 +118,7 @@ impl InHand {
         self.append(&mut entries);
     }
 
-    // The command in this place.
+    /// The command in this place.
     fn command_at(&self, index: usize) -> Option<&Command>
         ensures { option_copied result ≡ slice_index_or self.now.slots index None }
     {
@@ -128,7 +128,7 @@ impl InHand {
         }
     }
 
-    // How many commands one batch may have, by their number and by their tickets.
+    /// How many commands one batch may have, by their number and by their tickets.
     fn most_of(&self, most: u32) -> u32
         ensures limit { result ≡ most_from self.now.next most }
         ensures number { self.now.next < 2 ^ 64 }
@@ -199,7 +199,7 @@ impl InHand {
     }
 }
 
-// The run of `count` commands, whose records leave `room` bytes in a frame.
+/// The run of `count` commands, whose records leave `room` bytes in a frame.
 fn run_of(count: u32, room: usize) -> Run
     requires { room ≤ 1048559 }
     ensures count { result.count ≡ count }
@@ -211,8 +211,8 @@ fn run_of(count: u32, room: usize) -> Run
     }
 }
 
-// The least number of places from this ticket on among which each of the entries has one; `None` if
-// a `usize` doesn't hold that number.
+/// The least number of places from this ticket on among which each of the entries has one; `None` if
+/// a `usize` doesn't hold that number.
 fn places_for(next: u64, entries: &[Entry]) -> Option<usize>
     ensures { IfSome result (λ len.
         All (λ e. next ≤ e.ticket → e.ticket < next + len) entries.now) }

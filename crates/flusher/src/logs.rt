@@ -20,7 +20,7 @@ use map_types::Refusal;
 use store_invariant::laws;
 
 impl<D: Disk> Keeper<D> {
-    // The staged batch is committed, and no longer in hand.
+    /// The staged batch is committed, and no longer in hand.
     fn let_go(&mut self)
         requires fits { self.old.sweeper.in_hand.next + length self.old.staged.items < 2 ^ 64 }
         ensures hand { self.new.sweeper ≡ record self.old.sweeper {
@@ -37,7 +37,7 @@ impl<D: Disk> Keeper<D> {
         self.staged.clear();
     }
 
-    // Notes whether the device call failed: after that no other is made.
+    /// Notes whether the device call failed: after that no other is made.
     fn noted(&mut self, stepped: Result<Phase, Refusal>) -> Result<Phase, Refusal>
         ensures result { result ≡ stepped }
         ensures ok { OnOk stepped (self.new ≡ self.old) }
@@ -49,7 +49,7 @@ impl<D: Disk> Keeper<D> {
         stepped
     }
 
-    // Makes the device call that is due in the newest log.
+    /// Makes the device call that is due in the newest log.
     fn step_newest(&mut self) -> Result<Phase, Refusal>
         // Nothing has failed, and an honest disk holds what the log says.
         requires stands { MayAdvance D.states D.honest self.old.log self.old.disk }
@@ -77,7 +77,7 @@ impl<D: Disk> Keeper<D> {
         self.noted(stepped)
     }
 
-    // Makes the device call that is due in the log, and lets the batch go that it commits.
+    /// Makes the device call that is due in the log, and lets the batch go that it commits.
     fn step_log(&mut self) -> Result<Phase, Refusal>
         // Nothing has failed, an honest disk holds the log, the tickets fit.
         requires stands { MayAdvance D.states D.honest self.old.log self.old.disk }
@@ -119,8 +119,8 @@ impl<D: Disk> Keeper<D> {
         Ok(after)
     }
 
-    // Makes the device call that is due in the end of the newest log. After the last one this log is
-    // the newest.
+    /// Makes the device call that is due in the end of the newest log. After the last one this log is
+    /// the newest.
     fn step_end(&mut self, next: GateLog) -> Result<Phase, Refusal>
         // Nothing has failed, a call is due, and the keeper has no other log.
         requires stands { MayAdvance D.states D.honest self.old.log self.old.disk }
@@ -160,7 +160,7 @@ impl<D: Disk> Keeper<D> {
         stepped
     }
 
-    // Stages the end frame of the newest log, which names this generation.
+    /// Stages the end frame of the newest log, which names this generation.
     fn end_newest(&mut self, generation: u64) -> Result<Phase, Refusal>
         requires { IsResting self.old.log }
         ensures ok { result ≡ Ok Phase.Staged }
@@ -179,8 +179,8 @@ impl<D: Disk> Keeper<D> {
         Ok(Phase::Staged)
     }
 
-    // Makes the device call that is due in this log, which is to follow the newest one. Once its
-    // header is on the disk, the newest one is told to end.
+    /// Makes the device call that is due in this log, which is to follow the newest one. Once its
+    /// header is on the disk, the newest one is told to end.
     fn step_next(&mut self, mut next: GateLog) -> Result<Phase, Refusal>
         // Nothing has failed, `next` has a call due, and the newest log rests.
         requires stands { MayAdvance D.states D.honest next self.old.disk }

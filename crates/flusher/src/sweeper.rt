@@ -141,7 +141,7 @@ impl Sweeper {
         }
     }
 
-    // Puts the entries in hand, and keeps their vector for a stripe that is swept later.
+    /// Puts the entries in hand, and keeps their vector for a stripe that is swept later.
     fn keep_in_hand(&mut self, entries: Vec<Entry>)
         ensures hand { Gains self.old.in_hand entries.items self.new.in_hand }
         ensures same { self.new ≡ record self.old { in_hand = self.new.in_hand } }
@@ -240,7 +240,7 @@ impl Sweeper {
         }
     }
 
-    // The stripe is done.
+    /// The stripe is done.
     fn go_on(&mut self, sweep: Sweep, stripes: usize) -> Swept
         requires { sweep.stripe < stripes }
         ensures more { sweep.stripe + 1 < stripes
@@ -269,8 +269,8 @@ impl Sweeper {
     }
 }
 
-// The walk, once there is a place for each entry that it hands out. If no memory is found, it puts
-// the stripe back.
+/// The walk, once there is a place for each entry that it hands out. If no memory is found, it puts
+/// the stripe back.
 fn with_room(in_hand: &mut InHand, walk: Walk) -> Walk
     ensures { IsReady in_hand.old in_hand.new walk result }
 {
@@ -280,8 +280,8 @@ fn with_room(in_hand: &mut InHand, walk: Walk) -> Walk
     }
 }
 
-// TAKE of a stripe for a sweep; `None` if another holds it. The sweep has then only its GIVE left,
-// and gives the stripe this vector for its outbox.
+/// TAKE of a stripe for a sweep; `None` if another holds it. The sweep has then only its GIVE left,
+/// and gives the stripe this vector for its outbox.
 fn hold<S: Steps>(spare: Vec<Entry>, stripe: usize, steps: &mut S) -> Option<Walk>
     // The keeper's pass holds no stripe, and there is this one.
     requires free { (S.recorded steps.old).holding ≡ None }
@@ -307,8 +307,8 @@ fn hold<S: Steps>(spare: Vec<Entry>, stripe: usize, steps: &mut S) -> Option<Wal
     }
 }
 
-// GIVE of that stripe: the entries that were in its outbox, or `None` if it is put back as it was
-// taken.
+/// GIVE of that stripe: the entries that were in its outbox, or `None` if it is put back as it was
+/// taken.
 fn hand_out<S: Steps>(walk: Walk, steps: &mut S) -> Option<Vec<Entry>>
     // The walk of a sweep holds its stripe, and has its GIVE left.
     requires { (b : Record) × (i : ℕ)

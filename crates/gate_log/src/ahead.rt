@@ -17,8 +17,8 @@ use store_layout::{MOST_LOG_BYTES, Phase, log_file};
 const LONG_LOG_BYTES: usize = 65_536;
 
 impl GateLog {
-    // Whether `count` zeros are to be written ahead: what is staged reaches past those written so
-    // far, and would not reach past these.
+    /// Whether `count` zeros are to be written ahead: what is staged reaches past those written so
+    /// far, and would not reach past these.
     fn is_ahead_due(&self, count: usize) -> bool
         ensures { IsTrue result → IsAheadDue count self.now }
     {
@@ -31,7 +31,7 @@ impl GateLog {
             && self.gate < MOST_LOG_BYTES - count
     }
 
-    // Writes the zeros behind the gate.
+    /// Writes the zeros behind the gate.
     fn write_zeros<D: Disk>(&self, zeros: &Zeros, disk: &mut D) -> Result<(), DeviceError>
         requires place { D.honest disk.old → self.now.gate + 1 ≤ length
             (now (D.states disk.old) (log_file self.now.generation)).seen }

@@ -291,7 +291,7 @@ impl GateLog {
         Ok(())
     }
 
-    // Writes what is staged, and a closed gate.
+    /// Writes what is staged, and a closed gate.
     fn write_staged<D: Disk>(&self, disk: &mut D) -> Result<(), DeviceError>
         requires place { D.honest disk.old → self.now.gate + 1 ≤ length
             (now (D.states disk.old) (log_file self.now.generation)).seen }
@@ -312,7 +312,7 @@ impl GateLog {
         }
     }
 
-    // Makes the device call that is due; in `Idle` it makes none.
+    /// Makes the device call that is due; in `Idle` it makes none.
     fn make_call<D: Disk>(&self, disk: &mut D) -> Result<(), DeviceError>
         requires place { D.honest disk.old → (call : Call)
             → call_in self.now.phase self.now ≡ Some call
@@ -340,7 +340,7 @@ impl GateLog {
         }
     }
 
-    // The device call that was due has succeeded.
+    /// The device call that was due has succeeded.
     fn go_on(&mut self)
         ensures { self.new ≡ log_after self.old.phase self.old }
     {

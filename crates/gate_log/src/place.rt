@@ -83,7 +83,7 @@ impl Place {
         }
     }
 
-    // The kind and the length behind an open gate, behind which the file has `behind` bytes.
+    /// The kind and the length behind an open gate, behind which the file has `behind` bytes.
     fn head(self, reader: &FileReader, behind: usize) -> Result<Ahead, Refusal>
         // The five bytes of kind and length are held, and a byte stands behind them.
         requires room { self.gate + 1 + behind < 2 ^ 64 }
@@ -119,7 +119,7 @@ impl Place {
         }
     }
 
-    // Where the gate behind this frame stands.
+    /// Where the gate behind this frame stands.
     fn next_gate(self, ahead: &Ahead) -> usize
         requires { FitsAhead self.gate ahead.now }
         ensures { result ≡ behind_frame self.gate ahead.now }
@@ -131,7 +131,7 @@ impl Place {
         }
     }
 
-    // Reads the frame behind an open gate, with the gate behind it.
+    /// Reads the frame behind an open gate, with the gate behind it.
     fn read_frame<D: Disk>(self, disk: &mut D, reader: &mut FileReader) -> Result<Ahead, Refusal>
         // The gate is in the file, and the reader has not let go of it.
         requires held { reader.old.from ≤ self.gate }

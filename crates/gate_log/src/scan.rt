@@ -58,7 +58,7 @@ impl Model for Scan {
         × (scan.place.gate < scan.reader.len) × (scan.reader.len < 2 ^ 64) };
 }
 
-// Begins to read the file.
+/// Begins to read the file.
 fn begin_file<D: Disk>(alloc: Global, disk: &mut D, file: usize) -> Result<FileReader, Refusal>
     // One of the four files.
     requires { file < 4 }

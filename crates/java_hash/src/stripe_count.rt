@@ -32,7 +32,7 @@ impl StripeCount {
         usize::from(self.count)
     }
 
-    // By how many bits a number is shifted in place of a division by the number of stripes.
+    /// By how many bits a number is shifted in place of a division by the number of stripes.
     fn shift(self) -> u32
         ensures power { 2 ^ result ≡ self.count }
         ensures within { result < 64 }

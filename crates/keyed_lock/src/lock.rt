@@ -33,7 +33,7 @@ impl<T: Keyed<K> + Drop, K> KeyedLock<T, K> {
         }
     }
 
-    // Takes the value, if it stands in the slot.
+    /// Takes the value, if it stands in the slot.
     fn take(&self) -> Option<(T, Seat<Option<T>, Snapshot<K>>)>
         ensures { IfSome result (λ taken. T.fits (key_of self.now) taken.0
             × IsOutOf self.now taken.1) }

@@ -19,7 +19,7 @@ pub struct Key {
     text: KeyText,
 }
 
-// A short text lies in the key itself, so that a key of few bytes takes no memory of its own.
+/// A short text lies in the key itself, so that a key of few bytes takes no memory of its own.
 #[derive(Clone, Debug, Drop)]
 enum KeyText {
     Short(ShortText),

@@ -5,8 +5,8 @@ use std::alloc::AllocError;
 use std::marker::Model;
 use std::str;
 
-// The most bytes of a short text. With its length and the tag of the key that it lies in, it takes
-// as much as a `String`.
+/// The most bytes of a short text. With its length and the tag of the key that it lies in, it takes
+/// as much as a `String`.
 const ROOM: usize = 22;
 
 /// A text of at most 22 bytes, which contracts see as its UTF-8 bytes.

@@ -55,7 +55,7 @@ impl Model for PlainWords {
         × (words.ghost_book.book.opening.key_limit ≡ words.key_limit) };
 }
 
-// The stripes with these parts, at home. They begin with `first` tickets.
+/// The stripes with these parts, at home. They begin with `first` tickets.
 fn place_all(alloc: Global, parts: Vec<Part>, first: u64) -> Result<Vec<Slot>, Refusal>
     ensures ok { IfOk result (λ slots. ArePlaced first parts.items slots.items) }
     ensures err { IfErr result (λ refusal. refusal ≡ Refusal.NoMemory) }
@@ -67,7 +67,7 @@ fn place_all(alloc: Global, parts: Vec<Part>, first: u64) -> Result<Vec<Slot>, R
     Ok(slots)
 }
 
-// The pass has seen up to `number`, or further.
+/// The pass has seen up to `number`, or further.
 fn raise(seen: &mut Vec<u64>, pass: usize, number: u64)
     requires { pass < vec_len seen.old }
     ensures { seen.new.items ≡ raised pass number seen.old.items }
@@ -75,7 +75,7 @@ fn raise(seen: &mut Vec<u64>, pass: usize, number: u64)
     seen[pass] = seen[pass].max(number);
 }
 
-// The pass has seen the changes that wait in the outbox of the stripe that it takes.
+/// The pass has seen the changes that wait in the outbox of the stripe that it takes.
 fn raise_to_outbox(seen: &mut Vec<u64>, pass: usize, content: &Stripe)
     requires within { pass < vec_len seen.old }
     requires ends { EndsAt content.now.outbox.items content.now.last }
@@ -86,7 +86,7 @@ fn raise_to_outbox(seen: &mut Vec<u64>, pass: usize, content: &Stripe)
     }
 }
 
-// The pass has seen the changes of the stripe that it gives back, if that answers a read.
+/// The pass has seen the changes of the stripe that it gives back, if that answers a read.
 fn raise_by(seen: &mut Vec<u64>, pass: usize, last: u64, purpose: &Purpose)
     requires { pass < vec_len seen.old }
     ensures { seen.new.items ≡ raised_by purpose.now pass last seen.old.items }

@@ -21,7 +21,7 @@ const SECTION_CALLS: usize = 1;
 /// The calls of a seal: the header is written and synced, the gate opened and synced.
 const SEALING_CALLS: usize = 4;
 
-// Makes the next `calls` calls of the checkpoint, or as many as are due.
+/// Makes the next `calls` calls of the checkpoint, or as many as are due.
 fn advance<D: Disk>(keeper: &mut Keeper<D>, calls: usize) -> Result<(), Refusal>
     requires unmoved { (n : ℕ) × (o : Opening) × (p : Record)
         × IsUnmoved D.states D.honest n o keeper.old p }
@@ -56,7 +56,7 @@ fn advance<D: Disk>(keeper: &mut Keeper<D>, calls: usize) -> Result<(), Refusal>
     Ok(())
 }
 
-// Captures the stripe whose section is the next, by TAKE, LOOK and GIVE. No other pass holds it.
+/// Captures the stripe whose section is the next, by TAKE, LOOK and GIVE. No other pass holds it.
 fn capture<D: Disk>(
     keeper: &mut Keeper<D>,
     steps: &mut At<'_>,
@@ -98,7 +98,7 @@ fn capture<D: Disk>(
     Ok(())
 }
 
-// Captures each stripe, and writes its section.
+/// Captures each stripe, and writes its section.
 fn capture_all<D: Disk>(keeper: &mut Keeper<D>, steps: &mut At<'_>) -> Result<(), Refusal>
     requires begun { (o : Opening) × (generation : ℕ)
         × IsUnmovedWith D.states D.honest o keeper.old steps.old.pass steps.old.words.now

@@ -15,7 +15,7 @@ use store_layout::{CLOSED_GATE, HEADER_BYTES};
 /// The first log's header and the gate behind it.
 const FIRST_LOG_BYTES: usize = HEADER_BYTES + 1;
 
-// The sections, none of which has an entry, in any version.
+/// The sections, none of which has an entry, in any version.
 fn empty_sections(alloc: Global, stripes: StripeCount) -> Result<Vec<u8>, Refusal>
     ensures ok { IfOk result (λ bytes. (layout : Layout)
         → bytes.items ≡ sections_bytes layout (first_checkpoint stripes.count).sections) }

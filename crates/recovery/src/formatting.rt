@@ -24,7 +24,7 @@ use map_types::Refusal;
 use std::alloc::Global;
 use store_layout::NEW_VERSION;
 
-// Whether a checkpoint is sealed.
+/// Whether a checkpoint is sealed.
 fn is_formatted<D: Disk>(disk: &mut D) -> Result<bool, Refusal>
     ensures looks { Looks D.states D.failures D.honest (failed_in result) disk.old disk.new }
     ensures value { D.honest disk.new → IfOk result (λ is. is ≡ is_sealed
@@ -36,8 +36,8 @@ fn is_formatted<D: Disk>(disk: &mut D) -> Result<bool, Refusal>
     Ok(first || second)
 }
 
-// Makes the files those of a new store of this version, with these bytes behind the gate of its
-// checkpoint.
+/// Makes the files those of a new store of this version, with these bytes behind the gate of its
+/// checkpoint.
 fn make_store<D: Disk>(disk: &mut D, version: Version, bytes: &[u8]) -> Result<(), Refusal>
     // An honest disk was so before. The only error is one failed call.
     ensures was_honest { D.honest disk.new → D.honest disk.old }

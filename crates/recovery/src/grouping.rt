@@ -21,7 +21,7 @@ pub(crate) struct Groups {
 }
 
 impl Groups {
-    // Empty lists.
+    /// Empty lists.
     fn new(alloc: Global, stripes: StripeCount) -> Result<Groups, Refusal>
         ensures ok { IfOk result (λ groups.
             AreGroups stripes.count finite.empty (lists_of groups.lists)) }
@@ -35,7 +35,7 @@ impl Groups {
         Ok(Groups { stripes, lists })
     }
 
-    // Puts the entry into the list of its key's stripe.
+    /// Puts the entry into the list of its key's stripe.
     fn add(&mut self, entry: (Key, Value)) -> Result<(), Refusal>
         ensures stripes { self.new.stripes ≡ self.old.stripes }
         ensures ok { OnOk result
@@ -51,7 +51,7 @@ impl Groups {
         Ok(())
     }
 
-    // Puts each entry into the list of its key's stripe.
+    /// Puts each entry into the list of its key's stripe.
     fn add_all(&mut self, mut entries: Vec<(Key, Value)>) -> Result<(), Refusal>
         ensures stripes { self.new.stripes ≡ self.old.stripes }
         ensures ok { OnOk result
@@ -68,7 +68,7 @@ impl Groups {
         Ok(())
     }
 
-    // The entries of the sections of a checkpoint that has these stripes.
+    /// The entries of the sections of a checkpoint that has these stripes.
     fn as_they_stand(
         alloc: Global,
         stripes: StripeCount,
@@ -87,7 +87,7 @@ impl Groups {
         Ok(Groups { stripes, lists })
     }
 
-    // The entries of the sections, whose keys are distinct. Each entry is moved, and none copied.
+    /// The entries of the sections, whose keys are distinct. Each entry is moved, and none copied.
     fn divided_anew(
         alloc: Global,
         stripes: StripeCount,

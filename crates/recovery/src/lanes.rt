@@ -34,7 +34,7 @@ pub(crate) struct Lane {
     pub is_refused: bool,
 }
 
-// The part with this content.
+/// The part with this content.
 fn part_of(alloc: Global, stripes: StripeCount, content: Content) -> Result<Part, Refusal>
     ensures map { IfOk result (λ part. part.map ≡ content_map content) }
     ensures laid { IsLaid stripes.count content
@@ -50,7 +50,7 @@ fn part_of(alloc: Global, stripes: StripeCount, content: Content) -> Result<Part
     }
 }
 
-// Makes the changes in the part of their keys, in their order.
+/// Makes the changes in the part of their keys, in their order.
 fn make_changes(alloc: Global, part: &mut Part, changes: &[Due]) -> Result<(), Refusal>
     ensures map { OnOk result (part.new.map ≡ map_after part.old.map (commands_due changes.now)) }
     ensures stripes { part.new.growth.stripes ≡ part.old.growth.stripes }
@@ -91,7 +91,7 @@ impl Lane {
         Ok(())
     }
 
-    // Makes the part, and what is due in it.
+    /// Makes the part, and what is due in it.
     fn make(&mut self, alloc: Global) -> Result<(), Refusal>
         ensures ok { OnOk result (HasRun self.old self.new) }
         ensures err { IfErr result (λ refusal. refusal ≡ Refusal.NoMemory) }

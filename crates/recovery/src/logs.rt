@@ -31,7 +31,7 @@ pub(crate) fn damaged(log: &GateLog) -> Refusal
     }
 }
 
-// Makes the changes of one log.
+/// Makes the changes of one log.
 fn read_log<D: Disk, F: Fn(&mut [Lane])>(
     run_each: &F,
     alloc: Global,

@@ -33,7 +33,7 @@ pub(crate) fn has_seal<D: Disk>(disk: &mut D, file: usize) -> Result<bool, Refus
     }
 }
 
-// Writes to the file.
+/// Writes to the file.
 fn write<D: Disk>(disk: &mut D, file: usize, at: usize, bytes: &[u8]) -> Result<(), Refusal>
     requires low { file < 4 }
     requires place { D.honest disk.old → at ≤ length (now (D.states disk.old) file).seen }
@@ -50,7 +50,7 @@ fn write<D: Disk>(disk: &mut D, file: usize, at: usize, bytes: &[u8]) -> Result<
     }
 }
 
-// Syncs the file.
+/// Syncs the file.
 fn sync<D: Disk>(disk: &mut D, file: usize) -> Result<(), Refusal>
     requires { file < 4 }
     ensures was_honest { D.honest disk.new → D.honest disk.old }

@@ -29,7 +29,7 @@ use std::alloc::Global;
 use std::thread::Threads;
 use stripe_locks::Stripes;
 
-// Opens the directory as `open_parts` says. What is due in the lanes is made by `run_each`.
+/// Opens the directory as `open_parts` says. What is due in the lanes is made by `run_each`.
 fn open_parts_by<D: Disk, F: Fn(&mut [Lane])>(
     run_each: &F,
     alloc: Global,

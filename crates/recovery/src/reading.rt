@@ -42,7 +42,7 @@ pub(crate) struct Restored {
     pub log: GateLog,
 }
 
-// The map of this checkpoint and its logs.
+/// The map of this checkpoint and its logs.
 fn restore_from<D: Disk, F: Fn(&mut [Lane])>(
     run_each: &F,
     alloc: Global,
@@ -98,8 +98,8 @@ fn restore_from<D: Disk, F: Fn(&mut [Lane])>(
     })
 }
 
-// Restores the map that the files stand for, divided for `stripes` stripes, and looks at the files
-// alone.
+/// Restores the map that the files stand for, divided for `stripes` stripes, and looks at the files
+/// alone.
 fn restore<D: Disk, F: Fn(&mut [Lane])>(
     run_each: &F,
     alloc: Global,
@@ -138,8 +138,8 @@ fn restore<D: Disk, F: Fn(&mut [Lane])>(
     restore_from(run_each, alloc, disk, stripes, loaded)
 }
 
-// Restores the map that the files stand for, and says whether the gate of the file that the next
-// checkpoint goes to is to be closed. It looks at the files alone.
+/// Restores the map that the files stand for, and says whether the gate of the file that the next
+/// checkpoint goes to is to be closed. It looks at the files alone.
 fn read_files<D: Disk, F: Fn(&mut [Lane])>(
     run_each: &F,
     alloc: Global,

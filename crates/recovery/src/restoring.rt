@@ -30,7 +30,7 @@ pub(crate) struct Restoring {
     pub marks: Vec<u64>,
 }
 
-// The marks of the sections.
+/// The marks of the sections.
 fn marks_of(alloc: Global, sections: &[LoadedSection]) -> Result<Vec<u64>, Refusal>
     ensures ok { IfOk result (λ marks. marks.items ≡ marks_in sections.now) }
     ensures err { IfErr result (λ refusal. refusal ≡ Refusal.NoMemory) }
@@ -53,7 +53,7 @@ pub(crate) fn greatest_of(marks: &[u64]) -> u64
     greatest
 }
 
-// The command of the change.
+/// The command of the change.
 fn command_of(entry: Entry) -> Command
     ensures { result ≡ entry.command }
 {
@@ -88,7 +88,7 @@ impl Restoring {
         Ok(Restoring { divided, of, marks })
     }
 
-    // Whether the change is in no section. Its key's hash has this spread.
+    /// Whether the change is in no section. Its key's hash has this spread.
     fn counts(&self, entry: &Entry, spread: u32) -> bool
         requires { spread ≡ spread_of_key entry.now.command.key }
         ensures { result ≡ nat_le (slice_index_or self.now.marks.items
@@ -101,7 +101,7 @@ impl Restoring {
         }
     }
 
-    // Those of the changes that are in no section are due, in their order.
+    /// Those of the changes that are in no section are due, in their order.
     fn queue(&mut self, entries: Vec<Entry>) -> Result<(), Refusal>
         ensures same { IsSameFrame self.old self.new }
         ensures ok { OnOk result

@@ -37,7 +37,7 @@ use store_layout::{NEW_VERSION, laws as layout_laws};
 /// newest one committed by four.
 const ROTATION_CALLS: usize = 6;
 
-// Makes the next `calls` calls of the logs, or as many as are due.
+/// Makes the next `calls` calls of the logs, or as many as are due.
 fn advance<D: Disk>(keeper: &mut Keeper<D>, calls: usize) -> Result<(), Refusal>
     requires { (n : ℕ) × (o : Opening) × (p : Record)
         × IsUnmoved D.states D.honest n o keeper.old p }
@@ -67,7 +67,7 @@ fn advance<D: Disk>(keeper: &mut Keeper<D>, calls: usize) -> Result<(), Refusal>
     Ok(())
 }
 
-// Commits a rotation: the next log is begun, and the newest one ends.
+/// Commits a rotation: the next log is begun, and the newest one ends.
 fn rotate<D: Disk>(keeper: &mut Keeper<D>) -> Result<(), Refusal>
     requires { (n : ℕ) × (o : Opening) × (p : Record)
         × IsUnmoved D.states D.honest n o keeper.old p }
@@ -99,7 +99,7 @@ fn rotate<D: Disk>(keeper: &mut Keeper<D>) -> Result<(), Refusal>
     advance(keeper, ROTATION_CALLS)
 }
 
-// The same, once the checkpoint of the newest log is sealed.
+/// The same, once the checkpoint of the newest log is sealed.
 fn rotate_sealed<D: Disk>(keeper: &mut Keeper<D>, steps: &mut At<'_>) -> Result<(), Refusal>
     // No change was made, and neither a rotation nor a checkpoint is begun.
     requires unmoved { (o : Opening)
@@ -151,7 +151,7 @@ fn rotate_sealed<D: Disk>(keeper: &mut Keeper<D>, steps: &mut At<'_>) -> Result<
     rotate(keeper)
 }
 
-// Brings the directory of this keeper to the newest version, with a pass of its own over the parts.
+/// Brings the directory of this keeper to the newest version, with a pass of its own over the parts.
 fn upgrade_keeper<D: Disk>(
     alloc: Global,
     keeper: &mut Keeper<D>,
@@ -202,7 +202,7 @@ fn upgrade_keeper<D: Disk>(
     rotate_sealed(keeper, &mut steps)
 }
 
-// Whether this is the newest version.
+/// Whether this is the newest version.
 fn is_newest(version: Version) -> bool
     ensures newest { result ≡ true → version ≡ new_version }
     ensures earlier { result ≡ false → version ≢ new_version }

@@ -47,7 +47,7 @@ fn line_of(line: &str) -> Line<'_> {
     })
 }
 
-// What comes of the input, or the text of its refusal.
+/// What comes of the input, or the text of its refusal.
 fn come_of<P: Plays>(
     alloc: Global,
     plays: &P,

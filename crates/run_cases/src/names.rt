@@ -16,8 +16,8 @@ pub struct Names {
     all: Vec<Named>,
 }
 
-// Makes one change of the bytes: `+` and bytes that follow, a place with `=` and the byte that is to stand
-// there, or how many bytes are kept.
+/// Makes one change of the bytes: `+` and bytes that follow, a place with `=` and the byte that is to stand
+/// there, or how many bytes are kept.
 fn change(alloc: Global, bytes: &mut Vec<u8>, edit: &str) -> Result<(), Refusal> {
     if let Some(more) = edit.strip_prefix('+') {
         return add(alloc, bytes, more);
@@ -78,7 +78,7 @@ impl Names {
         Ok(())
     }
 
-    // The bytes of this name, or else those that are spelled so; `-` stands for none.
+    /// The bytes of this name, or else those that are spelled so; `-` stands for none.
     fn named(&self, alloc: Global, word: &str) -> Result<Vec<u8>, Refusal> {
         if word == "-" {
             return Ok(Vec::new(alloc));

@@ -41,8 +41,8 @@ fn advance_times<D: Disk>(
     Ok(())
 }
 
-// Begins a checkpoint in a file that may hold an older one, and goes on until the first section may be
-// given.
+/// Begins a checkpoint in a file that may hold an older one, and goes on until the first section may be
+/// given.
 fn clear<D: Disk>(
     writer: &mut CheckpointWriter,
     disk: &mut D,
@@ -62,7 +62,7 @@ fn clear<D: Disk>(
     advance_times(writer, disk, if must_close { 3 } else { 2 })
 }
 
-// Gives a section without entries, and writes it.
+/// Gives a section without entries, and writes it.
 fn write_none<D: Disk>(
     writer: &mut CheckpointWriter,
     disk: &mut D,
@@ -78,7 +78,7 @@ fn write_none<D: Disk>(
     advance_times(writer, disk, 1)
 }
 
-// Gives a section with one entry of its stripe, and writes it.
+/// Gives a section with one entry of its stripe, and writes it.
 fn write_one<D: Disk>(
     writer: &mut CheckpointWriter,
     disk: &mut D,
@@ -96,7 +96,7 @@ fn write_one<D: Disk>(
     advance_times(writer, disk, 1)
 }
 
-// Lends two entries.
+/// Lends two entries.
 fn lent_two(entries: &((Key, Value), (Key, Value))) -> [LentEntry<'_>; 2]
     ensures { result ≡ entries.now.0 ∷ entries.now.1 ∷ [] }
 {
@@ -107,7 +107,7 @@ fn lent_two(entries: &((Key, Value), (Key, Value))) -> [LentEntry<'_>; 2]
     ]
 }
 
-// Gives a section with two entries of its stripe, and writes it.
+/// Gives a section with two entries of its stripe, and writes it.
 fn write_two<D: Disk>(
     writer: &mut CheckpointWriter,
     disk: &mut D,
@@ -207,7 +207,7 @@ fn form_of(word: &str) -> Result<Form, Refusal> {
     }
 }
 
-// A writer that has failed makes no call: the failure that is planned next is met by another.
+/// A writer that has failed makes no call: the failure that is planned next is met by another.
 fn is_silent(writer: &mut CheckpointWriter, disk: &mut MemDisk) -> bool
     requires { MayAdvance memory_states (λ _. Unit {0}) writer.old disk.old }
 {
@@ -216,7 +216,7 @@ fn is_silent(writer: &mut CheckpointWriter, disk: &mut MemDisk) -> bool
     matches!(writer.advance(disk), Err(Refusal::Failed)) && disk.len(1).is_err()
 }
 
-// Writes the checkpoint, of which a call is to fail.
+/// Writes the checkpoint, of which a call is to fail.
 fn break_off(alloc: Global, disk: &mut MemDisk, form: Form) -> Result<(), Refusal> {
     let mut writer = CheckpointWriter::new(alloc);
     let has_failed = write(alloc, &mut writer, disk, form) == Err(Refusal::Failed);
@@ -226,8 +226,8 @@ fn break_off(alloc: Global, disk: &mut MemDisk, form: Form) -> Result<(), Refusa
     Err(Refusal::WrongPhase)
 }
 
-// What is left if a checkpoint of this form is written and the device fails after `after` calls. A
-// write that fails leaves what the third word says, and a stop what the fourth does.
+/// What is left if a checkpoint of this form is written and the device fails after `after` calls. A
+/// write that fails leaves what the third word says, and a stop what the fourth does.
 fn left(alloc: Global, words: &[&str]) -> Result<String, Refusal> {
     let [form, after, failing, stopping] = words else {
         return Err(Refusal::WrongPhase);
@@ -253,7 +253,7 @@ pub(crate) fn seal_left(alloc: Global, words: &[&str]) -> Result<String, Refusal
     Ok(String::from_str(alloc, "not sealed")?)
 }
 
-// How many stripes the sealed checkpoint of the file has; 0 if none is sealed.
+/// How many stripes the sealed checkpoint of the file has; 0 if none is sealed.
 fn stripes_read(disk: &mut MemDisk, file: usize) -> Result<u16, Refusal>
     requires { file < 2 }
 {

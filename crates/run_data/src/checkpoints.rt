@@ -60,7 +60,7 @@ pub(crate) fn loaded(alloc: Global, names: &Names, words: &[&str]) -> Result<Str
     }
 }
 
-// How this front is refused, or what it holds.
+/// How this front is refused, or what it holds.
 fn front_text(alloc: Global, bytes: &[u8]) -> Result<String, Refusal> {
     let mut disk = MemDisk::new(alloc);
     if disk.write_at(1, 0, bytes).is_err() || disk.sync(1).is_err() {

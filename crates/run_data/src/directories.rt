@@ -22,7 +22,7 @@ fn stripes_of(word: &str) -> Result<StripeCount, Refusal> {
     }
 }
 
-// The numbers, and then the keys and values, part by part.
+/// The numbers, and then the keys and values, part by part.
 fn opened_text(
     alloc: Global,
     keeper: &Keeper<MemDisk>,
@@ -43,7 +43,7 @@ fn opened_text(
     Ok(told)
 }
 
-// The refusal, and how long file 1 is on the disk that was handed back.
+/// The refusal, and how long file 1 is on the disk that was handed back.
 fn refused_text(alloc: Global, mut disk: MemDisk, refusal: Refusal) -> Result<String, Refusal> {
     let text = refusal_text(alloc, refusal)?;
     match disk.len(1) {
@@ -71,7 +71,7 @@ pub(crate) fn opened(alloc: Global, names: &Names, words: &[&str]) -> Result<Str
     open(alloc, disk, stripes)
 }
 
-// The four files that are left of a disk that is formatted in this version.
+/// The four files that are left of a disk that is formatted in this version.
 fn format_text(
     alloc: Global,
     disk: &mut MemDisk,
@@ -105,8 +105,8 @@ pub(crate) fn formatted(
     Ok(format!(in alloc; "{files}; {then}")?)
 }
 
-// What is opened of new files, if the device fails after `after` calls that format them for `stripes`
-// stripes. A write that fails leaves what `failing` says, and a stop what `stopping` does.
+/// What is opened of new files, if the device fails after `after` calls that format them for `stripes`
+/// stripes. A write that fails leaves what `failing` says, and a stop what `stopping` does.
 fn opened_left(
     alloc: Global,
     stripes: StripeCount,
@@ -123,7 +123,7 @@ fn opened_left(
     open(alloc, disk, stripes)
 }
 
-// Adds the text to what was told, unless it is just that.
+/// Adds the text to what was told, unless it is just that.
 fn tell(text: &str, told: &mut String) -> Result<(), AllocError> {
     if told.as_str() == text {
         return Ok(());
@@ -134,7 +134,7 @@ fn tell(text: &str, told: &mut String) -> Result<(), AllocError> {
     told.push_str(text)
 }
 
-// Tells what is opened after each of the stops that `stoppings` says.
+/// Tells what is opened after each of the stops that `stoppings` says.
 fn tell_stops(
     alloc: Global,
     stripes: StripeCount,

@@ -20,7 +20,7 @@ fn file_of(word: &str) -> Result<usize, Refusal>
     }
 }
 
-// Writes at the end of the file or before it, and returns whether it was written.
+/// Writes at the end of the file or before it, and returns whether it was written.
 fn is_put(disk: &mut MemDisk, file: usize, at: usize, bytes: &[u8]) -> bool
     requires { file < 4 }
 {
@@ -46,7 +46,7 @@ fn read(alloc: Global, disk: &mut MemDisk, file: usize, told: &mut String) -> Re
     Ok(())
 }
 
-// Makes the step of these words, and tells what a read gives and which call fails.
+/// Makes the step of these words, and tells what a read gives and which call fails.
 fn step(
     alloc: Global,
     names: &Names,

@@ -11,7 +11,7 @@ fn function_in(change: Change) -> Result<(Func, Option<Value>), Refusal> {
     }
 }
 
-// The function of this name, and its argument.
+/// The function of this name, and its argument.
 fn function_of<'x>(
     alloc: Global,
     name: &'x str,

@@ -113,7 +113,7 @@ fn stage_two(log: &mut GateLog, one: Command, other: Command) -> Result<(), Refu
     ])
 }
 
-// Stages a batch of puts.
+/// Stages a batch of puts.
 fn stage(alloc: Global, log: &mut GateLog, size: BatchSize) -> Result<(), Refusal>
     ensures stands { (batches : List Batch) (staged : List Batch) (file : File)
         → Stands log.old batches staged file
@@ -138,7 +138,7 @@ fn advance_times<D: Disk>(log: &mut GateLog, disk: &mut D, times: u32) -> Result
     Ok(())
 }
 
-// Stages a batch, and makes `calls` calls for it.
+/// Stages a batch, and makes `calls` calls for it.
 fn write_batch<D: Disk>(
     alloc: Global,
     log: &mut GateLog,
@@ -171,7 +171,7 @@ fn write_batches<D: Disk>(
     Ok(())
 }
 
-// Writes the header of a new log, and what stands behind it.
+/// Writes the header of a new log, and what stands behind it.
 fn write_log<D: Disk>(
     alloc: Global,
     log: &mut GateLog,
@@ -186,7 +186,7 @@ fn write_log<D: Disk>(
     write_batch(alloc, log, disk, form.size, form.calls)
 }
 
-// How many changes the log holds, as it is read.
+/// How many changes the log holds, as it is read.
 fn count_read(alloc: Global, disk: &mut MemDisk) -> Result<u64, Refusal> {
     let mut scan = Scan::begin(alloc, disk, 0, 0)?;
     for _frame in 0..MOST_FRAMES {
@@ -197,7 +197,7 @@ fn count_read(alloc: Global, disk: &mut MemDisk) -> Result<u64, Refusal> {
     Err(Refusal::WrongPhase)
 }
 
-// What is left after a stop, and what is read of it.
+/// What is left after a stop, and what is read of it.
 fn left(alloc: Global, disk: &mut MemDisk, fill: &str) -> Result<String, Refusal> {
     stop(alloc, disk, fill)?;
     let bytes = content(alloc, disk, 2)?;
@@ -205,8 +205,8 @@ fn left(alloc: Global, disk: &mut MemDisk, fill: &str) -> Result<String, Refusal
     Ok(format!(in alloc; "{bytes}, {count} read")?)
 }
 
-// Makes one more call, which fails and leaves what the fill says. If the word is `-`, it makes
-// none.
+/// Makes one more call, which fails and leaves what the fill says. If the word is `-`, it makes
+/// none.
 fn fail_next(
     alloc: Global,
     log: &mut GateLog,
@@ -225,7 +225,7 @@ fn fail_next(
     }
 }
 
-// A log that has failed makes no call: the failure that is planned next is met by another.
+/// A log that has failed makes no call: the failure that is planned next is met by another.
 fn is_silent(log: &mut GateLog, disk: &mut MemDisk) -> bool
     requires { MayAdvance memory_states (λ _. Unit {0}) log.old disk.old }
 {
@@ -309,7 +309,7 @@ pub(crate) fn log_written(alloc: Global, words: &[&str]) -> Result<String, Refus
     }
 }
 
-// A log whose header is on the disk.
+/// A log whose header is on the disk.
 fn begun<D: Disk>(alloc: Global, disk: &mut D) -> Result<GateLog, Refusal>
     ensures may { IfOk result (λ log. MayAdvance D.states D.honest log disk.new) }
     ensures works { IfOk result (λ log. log.is_broken ≡ false) }
@@ -320,7 +320,7 @@ fn begun<D: Disk>(alloc: Global, disk: &mut D) -> Result<GateLog, Refusal>
     Ok(log)
 }
 
-// Ends the log of generation 0. It can't be begun anew before.
+/// Ends the log of generation 0. It can't be begun anew before.
 fn end_log<D: Disk>(log: &mut GateLog, disk: &mut D) -> Result<(), Refusal>
     requires may { MayAdvance D.states D.honest log.old disk.old }
     requires works { log.old.is_broken ≡ false }
@@ -332,7 +332,7 @@ fn end_log<D: Disk>(log: &mut GateLog, disk: &mut D) -> Result<(), Refusal>
     commit_staged(log, disk)
 }
 
-// What a log says of a call.
+/// What a log says of a call.
 fn said(alloc: Global, answer: Result<(), Refusal>) -> Result<String, Refusal> {
     match answer {
         Ok(()) => Ok(String::from_str(alloc, "done")?),
@@ -340,7 +340,7 @@ fn said(alloc: Global, answer: Result<(), Refusal>) -> Result<String, Refusal> {
     }
 }
 
-// What a log that has ended says of another end, of a batch, and of its beginning anew.
+/// What a log that has ended says of another end, of a batch, and of its beginning anew.
 fn ended_text(alloc: Global, log: &mut GateLog) -> Result<String, Refusal> {
     let ended = said(alloc, log.end_with(1))?;
     let staged = said(alloc, stage(alloc, log, BatchSize::One))?;

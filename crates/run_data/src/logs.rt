@@ -11,7 +11,7 @@ use ticket_order::Entry;
 /// How many frames are read, at most.
 const MOST_FRAMES: u32 = 10;
 
-// The tickets and the records of a batch, in the form of a request, whatever the version of the log.
+/// The tickets and the records of a batch, in the form of a request, whatever the version of the log.
 fn records(alloc: Global, entries: &[Entry]) -> Result<String, Refusal> {
     let mut bytes = Vec::new(alloc);
     for entry in entries {
@@ -22,7 +22,7 @@ fn records(alloc: Global, entries: &[Entry]) -> Result<String, Refusal> {
     Ok(hexadecimal(alloc, &bytes)?)
 }
 
-// Tells what was found, and returns whether more may follow.
+/// Tells what was found, and returns whether more may follow.
 fn tell(alloc: Global, found: &Found, told: &mut String) -> Result<bool, Refusal> {
     match found {
         Found::Batch(entries) => {
@@ -41,8 +41,8 @@ fn tell(alloc: Global, found: &Found, told: &mut String) -> Result<bool, Refusal
     }
 }
 
-// Reads what stands at the gate, and returns whether more may follow. A failure of the device is
-// told, and then it is read again.
+/// Reads what stands at the gate, and returns whether more may follow. A failure of the device is
+/// told, and then it is read again.
 fn read_frame(
     alloc: Global,
     scan: &mut Scan,

@@ -7,7 +7,7 @@ use map_types::{Command, Read, Refusal, Reply};
 use run_cases::put_entries;
 use std::alloc::Global;
 
-// The reply of both maps.
+/// The reply of both maps.
 fn reply_of(alloc: Global, reference: &Reply, reply: &Reply) -> Result<String, Refusal> {
     let text = reply_text(alloc, reply)?;
     if reply == reference {
@@ -53,7 +53,7 @@ fn made(
     }
 }
 
-// The reply to the call of these words.
+/// The reply to the call of these words.
 fn answered(
     alloc: Global,
     reference: &mut ReferenceMap,
@@ -67,7 +67,7 @@ fn answered(
     told
 }
 
-// How many entries there are, and then the keys and values.
+/// How many entries there are, and then the keys and values.
 fn put_part(alloc: Global, part: &Part, told: &mut String) -> Result<(), Refusal> {
     let count = part.len();
     if part.is_empty() != (count == 0) {

@@ -16,7 +16,7 @@ use run_cases::{Names, Plays};
 use std::alloc::Global;
 use store_layout::NEW_VERSION;
 
-// What comes of a case of maps, records and frames, whose input has these words.
+/// What comes of a case of maps, records and frames, whose input has these words.
 fn come_of_calls(
     alloc: Global,
     kind: &str,
@@ -43,7 +43,7 @@ fn come_of_calls(
     }
 }
 
-// What comes of a case of disks, logs, checkpoints and directories, or of another one.
+/// What comes of a case of disks, logs, checkpoints and directories, or of another one.
 fn come_of(
     alloc: Global,
     kind: &str,

@@ -8,7 +8,7 @@ use map_types::{Command, Key, Refusal, Value};
 use run_cases::{Names, hexadecimal, number};
 use std::alloc::Global;
 
-// Whether the record of this length was read as this command to its end.
+/// Whether the record of this length was read as this command to its end.
 fn is_same(
     version: Version,
     read: &Result<(Command, usize), Refusal>,
@@ -23,7 +23,7 @@ fn is_same(
     }
 }
 
-// Whether a record is read as this command to its end, whatever follows it.
+/// Whether a record is read as this command to its end, whatever follows it.
 fn is_read(
     version: Version,
     alloc: Global,
@@ -82,7 +82,7 @@ pub(crate) fn record(version: Version, alloc: Global, words: &[&str]) -> Result<
     }
 }
 
-// How many bytes the record has that these begin with.
+/// How many bytes the record has that these begin with.
 fn length_read(version: Version, alloc: Global, bytes: &[u8]) -> Result<usize, Refusal> {
     let read = decode(version, alloc, bytes);
     let length = match &read {
@@ -108,7 +108,7 @@ pub(crate) fn read_record(
     Ok(format!(in alloc; "a record of {used} bytes")?)
 }
 
-// What follows the key, if it is this one.
+/// What follows the key, if it is this one.
 fn after_key<'a>(
     version: Version,
     alloc: Global,
@@ -121,7 +121,7 @@ fn after_key<'a>(
     }
 }
 
-// Whether nothing follows the value, and it is this one.
+/// Whether nothing follows the value, and it is this one.
 fn is_value(alloc: Global, bytes: &[u8], expected: &Value) -> bool {
     match some_value_at(alloc, bytes) {
         Ok((value, rest)) => value == *expected && rest.is_empty(),
@@ -146,7 +146,7 @@ fn are_read(
     }
 }
 
-// A number in two bytes, a key and a value, which are read again.
+/// A number in two bytes, a key and a value, which are read again.
 fn spelled(
     version: Version,
     alloc: Global,

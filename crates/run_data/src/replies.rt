@@ -16,7 +16,7 @@ fn answer_text(alloc: Global, answer: &Answer) -> Result<String, AllocError> {
     }
 }
 
-// The answer that is read of these bytes, if it takes all of them.
+/// The answer that is read of these bytes, if it takes all of them.
 fn whole_answer(alloc: Global, bytes: &[u8]) -> Option<Answer> {
     let mut reader = bytes;
     match read_reply(alloc, &mut reader) {
@@ -30,8 +30,8 @@ fn is_written(alloc: Global, answer: &Answer, bytes: &[u8]) -> bool {
     write_reply(&mut written, answer).is_ok() && written.as_slice() == bytes
 }
 
-// Whether a writer that has no room for the rest has taken this front, and succeeds exactly if
-// there is no rest.
+/// Whether a writer that has no room for the rest has taken this front, and succeeds exactly if
+/// there is no rest.
 fn takes(alloc: Global, answer: &Answer, front: &[u8], is_whole: bool) -> bool {
     let mut writer = Halting {
         interrupts: false,
@@ -42,7 +42,7 @@ fn takes(alloc: Global, answer: &Answer, front: &[u8], is_whole: bool) -> bool {
     is_ok == is_whole && writer.taken.as_slice() == front
 }
 
-// Whether a front that is followed by nothing is no reply.
+/// Whether a front that is followed by nothing is no reply.
 fn ends_early(alloc: Global, front: &[u8]) -> bool {
     let mut reader = front;
     matches!(read_reply(alloc, &mut reader), Err(ReplyError::Ended))
@@ -59,8 +59,8 @@ fn has_failed(read: Result<Answer, ReplyError>) -> bool {
     matches!(read, Err(ReplyError::Reader(_)))
 }
 
-// Whether a reply is read of a reader that gives these bytes and then fails, if it is whole; else
-// whether the failure is told. All of it is asked for.
+/// Whether a reply is read of a reader that gives these bytes and then fails, if it is whole; else
+/// whether the failure is told. All of it is asked for.
 fn drips(alloc: Global, front: &[u8], is_whole: bool) -> bool {
     let mut reader = Dripping {
         interrupts: false,
@@ -75,7 +75,7 @@ fn drips(alloc: Global, front: &[u8], is_whole: bool) -> bool {
     }
 }
 
-// Each front of a reply is written and read as a front.
+/// Each front of a reply is written and read as a front.
 fn are_fronts(alloc: Global, answer: &Answer, bytes: &[u8]) -> bool {
     for len in 0..bytes.len() {
         let front = &bytes[..len];

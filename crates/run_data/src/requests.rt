@@ -36,7 +36,7 @@ fn gives_nothing(feeder: &mut Feeder) -> bool {
     is_none
 }
 
-// Whether the request comes once both parts are there, and no sooner.
+/// Whether the request comes once both parts are there, and no sooner.
 fn comes_once_whole(alloc: Global, frame: &[u8], cut: usize) -> Result<bool, Refusal> {
     let Some((front, rest)) = frame.split_at_checked(cut) else {
         return Ok(false);
@@ -57,7 +57,7 @@ fn comes_in_every_cutting(alloc: Global, frame: &[u8]) -> Result<bool, Refusal> 
     Ok(true)
 }
 
-// Whether the request comes with its last byte, if it is fed a byte at a time.
+/// Whether the request comes with its last byte, if it is fed a byte at a time.
 fn comes_at_its_end(alloc: Global, feeder: &mut Feeder, frame: &[u8]) -> Result<bool, Refusal> {
     for byte in frame {
         if !gives_nothing(feeder) {
@@ -88,7 +88,7 @@ fn frame_of(alloc: Global, request: Request) -> Result<Vec<u8>, Refusal> {
     frame
 }
 
-// The frame of the request that the words ask for.
+/// The frame of the request that the words ask for.
 fn frame_asked(alloc: Global, words: &[&str]) -> Result<Vec<u8>, Refusal> {
     match parse_words(alloc, words) {
         Ok(Called::Keyed(Asked::Change(command))) => frame_of(alloc, Request::Change(command)),
@@ -114,7 +114,7 @@ pub(crate) fn request(alloc: Global, words: &[&str]) -> Result<String, Refusal> 
     Ok(String::from_str(alloc, "cut otherwise")?)
 }
 
-// A message as it is told: the frame of a request, or the refusal.
+/// A message as it is told: the frame of a request, or the refusal.
 fn message_text(alloc: Global, message: Result<Request, Refusal>) -> Result<String, Refusal> {
     match message {
         Ok(request) => {

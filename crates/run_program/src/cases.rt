@@ -61,7 +61,7 @@ fn from_digits(high: u8, low: u8) -> Option<u8> {
     Some(high * 16 + low)
 }
 
-// The byte that stands behind a backslash, and how many bytes of the text name it.
+/// The byte that stands behind a backslash, and how many bytes of the text name it.
 fn escaped(piece: &[u8]) -> Option<(u8, &[u8])> {
     match piece {
         [b'n', rest @ ..] => Some((b'\n', rest)),

@@ -41,7 +41,7 @@ pub fn is_absent<R: Host + AllocGlobal + Print>(rt: &R, path: &str) -> Result<bo
     Ok(is_absent)
 }
 
-// How many changes are committed, how many parts there are, and how many entries they have.
+/// How many changes are committed, how many parts there are, and how many entries they have.
 fn opened<R: Host + AllocGlobal>(
     rt: &R,
     directory: &str,
@@ -65,7 +65,7 @@ fn count_of(text: &str) -> Option<StripeCount> {
     StripeCount::new(text.parse::<u16>().ok()?)
 }
 
-// Whether this is the one line.
+/// Whether this is the one line.
 fn is_line(lines: &[&str], came: &str) -> bool {
     match lines {
         [line] => *line == came,

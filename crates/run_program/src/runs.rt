@@ -92,7 +92,7 @@ struct Ended {
     is_unread: bool,
 }
 
-// The words, which one space separates; `""` is the empty one.
+/// The words, which one space separates; `""` is the empty one.
 fn words_of(alloc: Global, text: &str) -> Result<Vec<String>, AllocError> {
     let mut words = Vec::new(alloc);
     for word in text.split(' ') {
@@ -123,7 +123,7 @@ fn end<R: Host + AllocGlobal>(rt: &R, words: &[String], run: &Run) -> Ended {
     }
 }
 
-// The bytes as text in quotes, or as numbers if they aren't text.
+/// The bytes as text in quotes, or as numbers if they aren't text.
 fn shown(alloc: Global, bytes: &[u8]) -> Result<String> {
     match str::from_utf8(bytes) {
         Ok(text) => Ok(format!(in alloc; "{text:?}")?),

@@ -14,7 +14,7 @@ struct Script {
     count: u64,
 }
 
-// Adds a line, with what it prints behind its number.
+/// Adds a line, with what it prints behind its number.
 fn add_line(alloc: Global, script: &mut Script, line: &str) -> Result<()> {
     let Some((event, printed)) = line.split_once(" -> ") else {
         bail!("a line of a script that prints nothing: {line}");
@@ -36,7 +36,7 @@ fn add_lines(alloc: Global, script: &mut Script, lines: &[&str]) -> Result<()> {
     Ok(())
 }
 
-// The lines of a part of the file.
+/// The lines of a part of the file.
 fn part<'b, 'a>(blocks: &'b [Block<'a>], name: &str) -> Option<&'b [&'a str]> {
     for block in blocks {
         if block.word == "part" && block.rest == name {

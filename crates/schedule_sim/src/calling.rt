@@ -22,7 +22,7 @@ use std::alloc::AllocError;
 use store_layout::{checkpoint_file, log_file};
 
 impl Life {
-    // Whether a device call of this side is to be made.
+    /// Whether a device call of this side is to be made.
     fn has_call(&self, side: Side) -> bool
         ensures { result ≡ is_due side self.now.keeper }
     {
@@ -63,7 +63,7 @@ impl Life {
         !self.keeper.is_walking() && !self.keeper.is_broken && self.has_call(side)
     }
 
-    // The file of the next device call of this side.
+    /// The file of the next device call of this side.
     fn number_due(&self, side: Side) -> usize
         ensures { result ≡ number_due side self.now.keeper }
     {
@@ -93,8 +93,8 @@ impl Life {
         }
     }
 
-    // The logs make their next device call. No contract of a keeper tells with which fill it failed,
-    // so this asks the disk's note. The paths with no note are taken only if memory was missing.
+    /// The logs make their next device call. No contract of a keeper tells with which fill it failed,
+    /// so this asks the disk's note. The paths with no note are taken only if memory was missing.
     fn call_log(&mut self, ending: &Ending) -> Result<Outcome, AllocError>
         requires life { (w : World) × IsLife w self.old }
         requires may { MayCall sides.Log self.old.keeper }
@@ -125,7 +125,7 @@ impl Life {
         }
     }
 
-    // The checkpoint makes its next device call, with the disk's note as there.
+    /// The checkpoint makes its next device call, with the disk's note as there.
     fn call_checkpoint(&mut self, ending: &Ending) -> Result<Outcome, AllocError>
         requires life { (w : World) × IsLife w self.old }
         requires may { MayCall sides.Checkpoint self.old.keeper }
@@ -179,7 +179,7 @@ impl Life {
         }
     }
 
-    // Whether the next device call of this side is a sync.
+    /// Whether the next device call of this side is a sync.
     fn is_sync_due(&self, side: Side) -> bool
         ensures { result ≡ is_sync (call_on side self.now.keeper) }
     {
@@ -216,7 +216,7 @@ impl Life {
         }
     }
 
-    // The write that is due on this side is made.
+    /// The write that is due on this side is made.
     fn write(&mut self, side: Side) -> Result<DeviceCall, AllocError>
         requires life { (w : World) × IsLife w self.old }
         requires may { MayCall side self.old.keeper }

@@ -10,7 +10,7 @@ use atomic_methods::Part;
 use sim_rules::MapEntry;
 use std::alloc::{AllocError, Global};
 
-// Puts the entries of the part behind the others.
+/// Puts the entries of the part behind the others.
 fn add_part(alloc: Global, part: &Part, entries: &mut Vec<MapEntry>) -> Result<(), AllocError>
     ensures { OnOk result
         (map entry_of entries.new.items ≡ map entry_of entries.old.items

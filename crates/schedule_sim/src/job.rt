@@ -32,7 +32,7 @@ pub(crate) fn called(stepped: Stepped) -> (Job, End)
     }
 }
 
-// What the answer of a release leaves to the worker.
+/// What the answer of a release leaves to the worker.
 fn answered(released: Released) -> (Job, End)
     ensures { result ≡ answered_of released }
 {

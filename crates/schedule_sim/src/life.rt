@@ -18,11 +18,11 @@ ghost use Rattle.sim_rules.specs.World.{World};
 ghost use Rattle.schedule_sim.specs.Living.{Did, IsLife, IsLifeBut, is_of_life};
 ghost use Rattle.schedule_sim.specs.Workers.{job_of};
 
-use checkpoint_walk::laws as walk_laws;
 use crate::job::{Job, called, released};
 use crate::traced::Traced;
 use crate::watched::Watched;
 use atomic_methods::Part;
+use checkpoint_walk::laws as walk_laws;
 use flusher::Keeper;
 use java_hash::StripeCount;
 use map_model::laws as map_laws;
@@ -45,7 +45,7 @@ pub(crate) struct Life {
     pub jobs: Vec<Job>,
 }
 
-// All workers are idle.
+/// All workers are idle.
 fn idle_workers(alloc: Global) -> Result<Vec<Job>, AllocError>
     ensures { IfOk result (λ jobs. jobs.items ≡ replicate 64 Job.Idle) }
 {
@@ -56,21 +56,21 @@ fn idle_workers(alloc: Global) -> Result<Vec<Job>, AllocError>
     Ok(jobs)
 }
 
-// The same command.
+/// The same command.
 fn copied_command(command: &Command) -> Result<Command, AllocError>
     ensures { IfOk result (λ copy. copy ≡ command.now) }
 {
     command.clone()
 }
 
-// The same read.
+/// The same read.
 fn copied_read(read: &Read) -> Result<Read, AllocError>
     ensures { IfOk result (λ copy. copy ≡ read.now) }
 {
     read.clone()
 }
 
-// The pass makes the next step of its walk: which it was, and what it left.
+/// The pass makes the next step of its walk: which it was, and what it left.
 fn step_walk(words: &mut PlainWords, pass: usize, walk: Walk) -> (Made, Stepped)
     requires pass { pass < length words.old.passes }
     requires under_way { IsUnderWay words.old.stripes walk (record_of pass words.old) }

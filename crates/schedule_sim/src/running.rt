@@ -15,7 +15,7 @@ pub struct Trace {
     pub outcomes: Vec<Outcome>,
 }
 
-// Plays these events on the store: the outcome of each.
+/// Plays these events on the store: the outcome of each.
 fn play(alloc: Global, mut store: Store, events: &[Event]) -> Result<Vec<Outcome>, AllocError>
     requires { (from : World) × IsBeginning from store }
     ensures { IfOk result (λ outcomes. (from : World) → IsBeginning from store
@@ -38,14 +38,14 @@ fn play(alloc: Global, mut store: Store, events: &[Event]) -> Result<Vec<Outcome
     Ok(outcomes)
 }
 
-// Whether the schedule begins with an Old.
+/// Whether the schedule begins with an Old.
 fn begins_old(events: &[Event]) -> bool
     ensures { result ≡ is_old events.now }
 {
     matches!(events.first(), Some(Event::Old))
 }
 
-// The events behind the first.
+/// The events behind the first.
 fn behind_first(events: &[Event]) -> &[Event]
     ensures { result.now ≡ drop 1 events.now }
 {

@@ -23,11 +23,11 @@ ghost use Rattle.schedule_sim.specs.Opening.{LastFails, TellsCalls};
 ghost use Rattle.schedule_sim.specs.Storing.{DidStore, IsClosed, IsStore, LiesOn, StandsNow};
 ghost use Rattle.schedule_sim.specs.Tracing.{traced_states, traced_honest};
 
-use checkpoint_walk::laws as walk_laws;
 use crate::entries::entries_of;
 use crate::life::Life;
 use crate::traced::Traced;
 use atomic_methods::Part;
+use checkpoint_walk::laws as walk_laws;
 use disk_model::Fill;
 use flusher::Keeper;
 use java_hash::StripeCount;
@@ -44,8 +44,8 @@ pub(crate) enum Store {
     Open(Life),
 }
 
-// Has the call with this number fail, counted from 1; or none. A failing call of an opening reads or
-// syncs, and the fill has no effect.
+/// Has the call with this number fail, counted from 1; or none. A failing call of an opening reads or
+/// syncs, and the fill has no effect.
 fn plan_opening(disk: &mut Traced, fails_at: Option<u64>) -> Result<(), AllocError>
     ensures { traced_states disk.new ≡ traced_states disk.old }
 {
@@ -58,7 +58,7 @@ fn plan_opening(disk: &mut Traced, fails_at: Option<u64>) -> Result<(), AllocErr
     }
 }
 
-// How many calls were made since there were `before` of them.
+/// How many calls were made since there were `before` of them.
 fn calls_since(disk: &Traced, before: Option<u64>) -> Result<u64, AllocError>
     ensures { (old : List Files) → IfSome before (λ n. n ≡ length old)
         → IfOk result (λ n. length old + n ≡ length (traced_states disk.now)) }
@@ -68,7 +68,7 @@ fn calls_since(disk: &Traced, before: Option<u64>) -> Result<u64, AllocError>
     now.checked_sub(before).ok_or(AllocError)
 }
 
-// Whether the event names one of the first `calls` calls.
+/// Whether the event names one of the first `calls` calls.
 fn names_within(fails_at: Option<u64>, calls: u64) -> bool
     ensures { result ≡ cases.names_within fails_at calls }
 {
@@ -78,8 +78,8 @@ fn names_within(fails_at: Option<u64>, calls: u64) -> bool
     }
 }
 
-// Whether an opening that failed did so at the call that its event names, as the last of `calls`
-// calls.
+/// Whether an opening that failed did so at the call that its event names, as the last of `calls`
+/// calls.
 fn is_last(disk: &Traced, fails_at: Option<u64>, calls: u64) -> bool
     ensures { result ≡ true → (fails_at ≡ Some calls) × LastFails calls (traced_states disk.now) }
 {
@@ -89,8 +89,8 @@ fn is_last(disk: &Traced, fails_at: Option<u64>, calls: u64) -> bool
     }
 }
 
-// The store stays closed. No contract of a disk tells which of its calls failed, so this counts
-// them. If they aren't as the event has it, memory was missing.
+/// The store stays closed. No contract of a disk tells which of its calls failed, so this counts
+/// them. If they aren't as the event has it, memory was missing.
 fn refused(
     disk: Traced,
     refusal: Refusal,
@@ -119,7 +119,7 @@ fn refused(
     }
 }
 
-// A life begins with what the opening found.
+/// A life begins with what the opening found.
 fn begun(
     alloc: Global,
     keeper: Keeper<Traced>,
@@ -157,8 +157,8 @@ fn begun(
     Ok((Store::Open(life), outcome))
 }
 
-// Opens the store that is on the disk. If an opening went past the call that its event names,
-// memory was missing.
+/// Opens the store that is on the disk. If an opening went past the call that its event names,
+/// memory was missing.
 fn opened(
     alloc: Global,
     mut disk: Traced,
@@ -186,7 +186,7 @@ fn opened(
     }
 }
 
-// The machine stops, within this device call if one is named.
+/// The machine stops, within this device call if one is named.
 fn stopped(
     mut disk: Traced,
     within: Option<DeviceCall>,
@@ -200,7 +200,7 @@ fn stopped(
     Ok((Store::Closed(disk), Outcome::Stopped { within }))
 }
 
-// The machine stops within the next device call of this side.
+/// The machine stops within the next device call of this side.
 fn stopped_within(mut life: Life, side: Side, fill: &Fill) -> Result<(Store, Outcome), AllocError>
     requires { (w : World) × IsLife w life }
     ensures { IfOk result (λ x. (w : World) (least : ℕ) → IsStore w least (Store.Open life)

@@ -33,7 +33,7 @@ pub(crate) struct Traced {
     ghost counted: { IsCounted calls (memory_states disk) } by { counted_prop calls (memory_states disk) },
 }
 
-// The same fill.
+/// The same fill.
 fn copied_fill(alloc: Global, fill: &Fill) -> Result<Fill, AllocError>
     ensures { IfOk result (λ copy. IsSameFill copy fill.now) }
 {
@@ -48,7 +48,7 @@ fn copied_fill(alloc: Global, fill: &Fill) -> Result<Fill, AllocError>
     }
 }
 
-// Whether they are the same.
+/// Whether they are the same.
 fn is_same_fill(one: &Fill, other: &Fill) -> bool
     ensures { result ≡ true → IsSameFill one.now other.now }
 {
@@ -66,8 +66,8 @@ fn is_same_fill(one: &Fill, other: &Fill) -> bool
     }
 }
 
-// The note of a write or a sync; of one that failed, with the fill of the plan. None is made if
-// memory was missing, as the call may then have failed without a plan.
+/// The note of a write or a sync; of one that failed, with the fill of the plan. None is made if
+/// memory was missing, as the call may then have failed without a plan.
 fn note(
     call: DeviceCall,
     answer: &Result<(), DeviceError>,
@@ -91,7 +91,7 @@ fn note(
     }
 }
 
-// Whether it is a call of this file.
+/// Whether it is a call of this file.
 fn is_of(call: &DeviceCall, file: usize) -> bool
     ensures { result ≡ true → file_of call.now ≡ file }
 {
@@ -102,7 +102,7 @@ fn is_of(call: &DeviceCall, file: usize) -> bool
     }
 }
 
-// One call more.
+/// One call more.
 fn one_more(calls: Option<u64>) -> Option<u64>
     ensures { (files : Files) (states : List Files) → IsCounted calls states
         → IsCounted result (files ∷ states) }

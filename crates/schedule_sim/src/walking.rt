@@ -18,7 +18,7 @@ use sim_keeper::laws as keeper_laws;
 use sim_rules::{End, Outcome};
 use sim_workers::laws as worker_laws;
 
-// What a step of a sweep leaves of it.
+/// What a step of a sweep leaves of it.
 fn end_of_sweep(swept: Result<Swept, Refusal>) -> End
     ensures { result ≡ sweep_end swept }
 {
@@ -30,7 +30,7 @@ fn end_of_sweep(swept: Result<Swept, Refusal>) -> End
     }
 }
 
-// What a step of a capture leaves of it.
+/// What a step of a capture leaves of it.
 fn end_of_capture(captured: Result<Option<u64>, Refusal>) -> End
     ensures { result ≡ capture_end captured }
 {
@@ -72,7 +72,7 @@ impl Life {
         }
     }
 
-    // A capture that is under way goes on, whatever stripe is named.
+    /// A capture that is under way goes on, whatever stripe is named.
     fn step_capture(&mut self, stripe: usize) -> Outcome
         requires life { (w : World) × IsLife w self.old }
         requires no_sweep { is_walking self.old.keeper.sweeper.walking ≡ false }

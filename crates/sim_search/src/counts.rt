@@ -103,7 +103,7 @@ fn one_more(count: &mut u64) {
     *count = count.saturating_add(1);
 }
 
-// The place of the event's name.
+/// The place of the event's name.
 fn event_place(event: &Event) -> usize {
     match event {
         Event::Open { fails_at: None, .. } => 0,
@@ -164,7 +164,7 @@ impl Counts {
         }
     }
 
-    // Counts a device call of this kind.
+    /// Counts a device call of this kind.
     fn note_call(&mut self, call: PlainCall, way: Way) {
         let Some(place) = CALLS.iter().position(|(kind, _)| *kind == call.kind) else {
             return;
@@ -178,7 +178,7 @@ impl Counts {
         }
     }
 
-    // Counts a refusal of an event, or at the end of a walk.
+    /// Counts a refusal of an event, or at the end of a walk.
     fn note_refusal(&mut self, refusal: Refusal) {
         match refusal {
             Refusal::Busy { .. } => one_more(&mut self.busy),

@@ -28,7 +28,7 @@ enum Tried {
     Wrong(String),
 }
 
-// Plays one case. Gives what was wrong.
+/// Plays one case. Gives what was wrong.
 fn try_case(
     alloc: Global,
     run: FixedRun,
@@ -46,7 +46,7 @@ fn try_case(
     }
 }
 
-// Tries the device call at this place of the run in both ways, with each fill.
+/// Tries the device call at this place of the run in both ways, with each fill.
 fn try_call(
     alloc: Global,
     run: FixedRun,
@@ -69,7 +69,7 @@ fn try_call(
     Ok(None)
 }
 
-// Tries each device call of the run. In each case one call is to be cut.
+/// Tries each device call of the run. In each case one call is to be cut.
 fn try_run(alloc: Global, run: FixedRun) -> Result<Tried, AllocError> {
     let mut counts = Counts::new();
     let mut calls = 0u64;

@@ -5,7 +5,7 @@ use disk_model::Fill;
 use store_layout::CheckpointPhase;
 
 impl Guess {
-    // Whether the next gate that is to be opened in the file of the checkpoint is that of its seal.
+    /// Whether the next gate that is to be opened in the file of the checkpoint is that of its seal.
     fn seals(self) -> bool {
         match self.checkpoint {
             Some(written) => matches!(
@@ -16,7 +16,7 @@ impl Guess {
         }
     }
 
-    // The files after a life that left the two gates so.
+    /// The files after a life that left the two gates so.
     fn with_gates(self, log_open: bool, other_open: bool) -> Guess {
         let mut next = Guess::first();
         next.committed = self.committed;

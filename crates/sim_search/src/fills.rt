@@ -16,7 +16,7 @@ fn push_number(bytes: &mut Vec<u8>, number: u64) -> Result<(), AllocError> {
     bytes.extend_from_slice(&number.to_be_bytes())
 }
 
-// A well-formed batch of `count` such records, with this first ticket.
+/// A well-formed batch of `count` such records, with this first ticket.
 fn push_frame(
     bytes: &mut Vec<u8>,
     record: &[u8],
@@ -35,7 +35,7 @@ fn push_frame(
     Ok(())
 }
 
-// A batch with this first ticket, well-formed in one of the versions, and a gate behind it.
+/// A batch with this first ticket, well-formed in one of the versions, and a gate behind it.
 fn push_batch(bytes: &mut Vec<u8>, random: &mut Random, first: u64) -> Result<(), AllocError> {
     let count: u32 = if random.one_in(2) { 1 } else { 2 };
     if random.one_in(2) {
@@ -47,7 +47,7 @@ fn push_batch(bytes: &mut Vec<u8>, random: &mut Random, first: u64) -> Result<()
     Ok(())
 }
 
-// An end frame that names this generation, and a gate.
+/// An end frame that names this generation, and a gate.
 fn push_end(bytes: &mut Vec<u8>, next: u64) -> Result<(), AllocError> {
     bytes.extend_from_slice(&[2, 0, 0, 0, 8])?;
     push_number(bytes, next)?;
@@ -55,7 +55,7 @@ fn push_end(bytes: &mut Vec<u8>, next: u64) -> Result<(), AllocError> {
     Ok(())
 }
 
-// The header of a log of this version, and a gate.
+/// The header of a log of this version, and a gate.
 fn push_log(bytes: &mut Vec<u8>, version: u8, generation: u64, low: u64) -> Result<(), AllocError> {
     bytes.push(version)?;
     push_number(bytes, generation)?;
@@ -64,7 +64,7 @@ fn push_log(bytes: &mut Vec<u8>, version: u8, generation: u64, low: u64) -> Resu
     Ok(())
 }
 
-// The gate and the header of a checkpoint of this version and of one stripe, and its empty section.
+/// The gate and the header of a checkpoint of this version and of one stripe, and its empty section.
 fn push_checkpoint(
     bytes: &mut Vec<u8>,
     version: u8,

@@ -108,7 +108,7 @@ pub(crate) fn side_of(letter: u8) -> Option<Side> {
     }
 }
 
-// A put under the key that is this letter.
+/// A put under the key that is this letter.
 fn put(alloc: Global, letter: u8) -> Result<Command, AllocError> {
     let name = match letter {
         b'a' => "a",

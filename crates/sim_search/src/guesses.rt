@@ -155,7 +155,7 @@ impl Guess {
         }
     }
 
-    // The next call of the log was made.
+    /// The next call of the log was made.
     fn log_called(self) -> Guess {
         let mut next = self;
         match self.phase {
@@ -173,7 +173,7 @@ impl Guess {
         next
     }
 
-    // The frame is committed, and a closed gate is behind it.
+    /// The frame is committed, and a closed gate is behind it.
     fn frame_committed(self) -> Guess {
         let mut next = self;
         next.phase = Phase::Idle;
@@ -189,7 +189,7 @@ impl Guess {
         next
     }
 
-    // The next call of the checkpoint was made.
+    /// The next call of the checkpoint was made.
     fn checkpoint_called(self) -> Guess {
         let mut next = self;
         let Some(mut written) = self.checkpoint else {
@@ -215,7 +215,7 @@ impl Guess {
         next
     }
 
-    // The checkpoint is sealed. The next one goes to the file of the one before, whose gate is open.
+    /// The checkpoint is sealed. The next one goes to the file of the one before, whose gate is open.
     fn checkpoint_sealed(self) -> Guess {
         let mut next = self;
         next.sealed = self.sealed.wrapping_add(1);
@@ -239,7 +239,7 @@ impl Guess {
         next.answers(PlainOutcome::Checkpointed { call, phase })
     }
 
-    // A call of this kind failed with this fill.
+    /// A call of this kind failed with this fill.
     fn failed(self, kind: CallKind, fill: &Fill) -> Guess {
         let mut next = self;
         match kind {
@@ -251,7 +251,7 @@ impl Guess {
         next
     }
 
-    // The machine stops within a call of this kind: a write counts as made, a sync as not made.
+    /// The machine stops within a call of this kind: a write counts as made, a sync as not made.
     fn interrupted(self, kind: CallKind) -> Guess {
         self.failed(kind, &Fill::New)
     }

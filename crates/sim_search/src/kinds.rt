@@ -26,7 +26,7 @@ pub(crate) struct PlainCall {
     pub file: usize,
 }
 
-// What a write to a log is. Its header stands at its beginning, and a gate is one byte.
+/// What a write to a log is. Its header stands at its beginning, and a gate is one byte.
 fn log_write(at: usize, bytes: &[u8]) -> CallKind {
     match bytes {
         [1 | 2, ..] if at == 0 && bytes.len() == 18 => CallKind::LogHeader,
@@ -37,7 +37,7 @@ fn log_write(at: usize, bytes: &[u8]) -> CallKind {
     }
 }
 
-// What a write to a checkpoint is. Its gate is at 0, its header from 1 to 35.
+/// What a write to a checkpoint is. Its gate is at 0, its header from 1 to 35.
 fn checkpoint_write(at: usize, bytes: &[u8]) -> CallKind {
     match bytes {
         [0] if at == 0 => CallKind::GateClose,

@@ -198,14 +198,14 @@ impl<'a> Life<'a> {
         }
     }
 
-    // The worker has seen this position from now on.
+    /// The worker has seen this position from now on.
     fn see(&mut self, worker: usize, position: u64) {
         if let Some(seen) = self.seen.get_mut(worker) {
             *seen = (*seen).max(position);
         }
     }
 
-    // One past the greatest ticket that lies in the stripe's outbox, or 0.
+    /// One past the greatest ticket that lies in the stripe's outbox, or 0.
     fn past_outbox(&self, stripe: usize) -> u64 {
         let mut number = self.first;
         let mut past = 0;
@@ -218,7 +218,7 @@ impl<'a> Life<'a> {
         past
     }
 
-    // The greater of what the worker has seen and of one past the last ticket of the stripe.
+    /// The greater of what the worker has seen and of one past the last ticket of the stripe.
     fn read_position(&self, worker: usize, stripe: usize) -> u64 {
         let seen = self.seen.get(worker).copied().unwrap_or(0);
         let last = self.lasts.get(stripe).copied().unwrap_or(0);
@@ -314,8 +314,8 @@ impl<'a> Life<'a> {
         (Job::Idle, stepped(Made::FoundHeld(stripe), end))
     }
 
-    // ALIVE of a call: a change goes on with its LOOK, and a read with its GIVE. The reply of a read
-    // is that of the map now, as nobody else changes the stripe.
+    /// ALIVE of a call: a change goes on with its LOOK, and a read with its GIVE. The reply of a read
+    /// is that of the map now, as nobody else changes the stripe.
     fn step_alive(
         &self,
         past: &Past<'a>,
@@ -384,7 +384,7 @@ impl<'a> Life<'a> {
         (Job::Releasing(held, ReleaseStep::Alive), outcome)
     }
 
-    // ALIVE of a release.
+    /// ALIVE of a release.
     fn ask_alive(&self, held: Held) -> (Job<'a>, PlainOutcome) {
         if self.has_failed {
             let outcome = stepped(Made::FoundAlive(false), PlainEnd::Goes);

@@ -28,7 +28,7 @@ struct Maker {
     tickets: u64,
 }
 
-// One of the three counts of stripes.
+/// One of the three counts of stripes.
 fn stripe_count(random: &mut Random) -> StripeCount {
     match random.below(3) {
         0 => StripeCount { count: 1 },
@@ -88,7 +88,7 @@ impl Maker {
         fill(self.alloc, &mut self.random, self.tickets)
     }
 
-    // A worker, or now and then one that there isn't.
+    /// A worker, or now and then one that there isn't.
     fn any_worker(&mut self) -> usize {
         if self.random.one_in(10) {
             return self.random.place(70);
@@ -149,7 +149,7 @@ impl Maker {
         self.stop(Some(within))
     }
 
-    // Any event, whether it fits or not.
+    /// Any event, whether it fits or not.
     fn any(&mut self) -> Result<Event, AllocError> {
         let worker = self.any_worker();
         match self.random.below(50) {
@@ -189,7 +189,7 @@ impl Maker {
         }
     }
 
-    // The worker makes a step.
+    /// The worker makes a step.
     fn step(&mut self, worker: usize) -> Event {
         let mut hand = self.hands.of(worker);
         hand.left = hand.left.saturating_sub(1);
@@ -197,7 +197,7 @@ impl Maker {
         Event::Step { worker }
     }
 
-    // The worker begins a change, or a read.
+    /// The worker begins a change, or a read.
     fn call(&mut self, worker: usize) -> Result<Event, AllocError> {
         let is_change = !self.random.one_in(3);
         let left = if is_change { 5 } else { 4 };
@@ -216,7 +216,7 @@ impl Maker {
         self.read(worker)
     }
 
-    // The worker begins a release: it takes one step if the reply is durable.
+    /// The worker begins a release: it takes one step if the reply is durable.
     fn release(&mut self, worker: usize, hand: Hand) -> Event {
         self.hands.set(
             worker,
@@ -229,7 +229,7 @@ impl Maker {
         Event::Release { worker }
     }
 
-    // What a worker does next; nothing, mostly, if its reply isn't durable yet.
+    /// What a worker does next; nothing, mostly, if its reply isn't durable yet.
     fn work(&mut self, worker: usize) -> Result<Option<Event>, AllocError> {
         let hand = self.hands.of(worker);
         if hand.left > 0 {
@@ -244,7 +244,7 @@ impl Maker {
         Ok(None)
     }
 
-    // The next device call of this side, which may fail or be stopped within.
+    /// The next device call of this side, which may fail or be stopped within.
     fn device(&mut self, side: Side) -> Result<Event, AllocError> {
         if self.random.one_in(self.danger) {
             return self.stop(Some(side));
@@ -276,7 +276,7 @@ impl Maker {
         }))
     }
 
-    // What the keeper does next, if it isn't at rest.
+    /// What the keeper does next, if it isn't at rest.
     fn keep(&mut self) -> Result<Option<Event>, AllocError> {
         let Some(part) = self.story.part(self.at, self.stripes) else {
             self.story = Story::random(&mut self.random);
@@ -288,7 +288,7 @@ impl Maker {
         self.event_of(part)
     }
 
-    // The life ends, or the store fails.
+    /// The life ends, or the store fails.
     fn end(&mut self) -> Result<Option<Event>, AllocError> {
         let times = if self.is_broken {
             10
@@ -306,7 +306,7 @@ impl Maker {
         }
     }
 
-    // What the workers and the keeper do next.
+    /// What the workers and the keeper do next.
     fn go_on(&mut self) -> Result<Event, AllocError> {
         if let Some(event) = self.end()? {
             return Ok(event);
@@ -332,7 +332,7 @@ impl Maker {
         }
     }
 
-    // What is thought of the store after the event.
+    /// What is thought of the store after the event.
     fn note(&mut self, event: &Event) {
         match event {
             Event::Open { stripes, fails_at } if !self.is_open && fails_at.is_none() => {

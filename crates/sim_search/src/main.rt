@@ -48,7 +48,7 @@ enum Task {
     Lists(Search),
 }
 
-// Reads two numbers.
+/// Reads two numbers.
 fn lists_of(seed: &str, lists: &str) -> Option<Task> {
     let (Ok(seed), Ok(lists)) = (seed.parse::<u64>(), lists.parse::<u64>()) else {
         return None;
@@ -56,7 +56,7 @@ fn lists_of(seed: &str, lists: &str) -> Option<Task> {
     Some(Task::Lists(Search { seed, lists }))
 }
 
-// Reads the words.
+/// Reads the words.
 fn task_of(rt: &HostRuntime) -> io::Result<Option<Task>> {
     let mut words = env::args(rt)?.skip(1);
     let (Some(first), second, None) = (words.next(), words.next(), words.next()) else {
@@ -69,7 +69,7 @@ fn task_of(rt: &HostRuntime) -> io::Result<Option<Task>> {
     }
 }
 
-// Plays the lists up to the first wrong outcome; whether there was none.
+/// Plays the lists up to the first wrong outcome; whether there was none.
 fn play_lists<R: AllocGlobal + Print>(rt: &R, search: Search) -> io::Result<bool> {
     let alloc = rt.alloc();
     let mut counts = Counts::new();
@@ -86,7 +86,7 @@ fn play_lists<R: AllocGlobal + Print>(rt: &R, search: Search) -> io::Result<bool
     Ok(true)
 }
 
-// Does what is to be done; whether nothing was wrong.
+/// Does what is to be done; whether nothing was wrong.
 fn play<R: AllocGlobal + Print>(rt: &R, task: Task) -> io::Result<bool> {
     match task {
         Task::Calls => try_runs(rt),

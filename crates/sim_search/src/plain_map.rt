@@ -36,7 +36,7 @@ fn copy(value: Option<&Value>) -> Result<Option<Value>, AllocError> {
     }
 }
 
-// One of the functions of two numbers.
+/// One of the functions of two numbers.
 fn numbers(func: Func, old: i64, new: i64) -> Option<Value> {
     let sum = old.wrapping_add(new);
     match func {
@@ -47,7 +47,7 @@ fn numbers(func: Func, old: i64, new: i64) -> Option<Value> {
     }
 }
 
-// The sum of two numbers, if it has 64 bits.
+/// The sum of two numbers, if it has 64 bits.
 fn exact(old: i64, new: i64) -> Result<Option<Value>, FuncError> {
     let sum = i128::from(old) + i128::from(new);
     match i64::try_from(sum) {
@@ -56,7 +56,7 @@ fn exact(old: i64, new: i64) -> Result<Option<Value>, FuncError> {
     }
 }
 
-// What a function of numbers gives.
+/// What a function of numbers gives.
 fn number_of(
     func: Func,
     old: Option<&Value>,
@@ -81,7 +81,7 @@ fn joined(alloc: Global, old: &Text, tail: &Text) -> Result<Option<Value>, Alloc
     }
 }
 
-// What the function of texts gives.
+/// What the function of texts gives.
 fn text_of(
     alloc: Global,
     old: Option<&Value>,
@@ -100,7 +100,7 @@ fn text_of(
     }
 }
 
-// What the function gives of the old value and the argument.
+/// What the function gives of the old value and the argument.
 fn applied(
     alloc: Global,
     func: Func,
@@ -118,7 +118,7 @@ fn applied(
     }
 }
 
-// The value becomes `value`, and the reply is the one before.
+/// The value becomes `value`, and the reply is the one before.
 fn was(old: Option<&Value>, value: Option<&Value>) -> Result<Effect, AllocError> {
     Ok(Effect {
         value: copy(value)?,
@@ -126,7 +126,7 @@ fn was(old: Option<&Value>, value: Option<&Value>) -> Result<Effect, AllocError>
     })
 }
 
-// The value becomes `value`, and the reply is that.
+/// The value becomes `value`, and the reply is that.
 fn now(value: Option<&Value>) -> Result<Effect, AllocError> {
     Ok(Effect {
         value: copy(value)?,
@@ -134,7 +134,7 @@ fn now(value: Option<&Value>) -> Result<Effect, AllocError> {
     })
 }
 
-// The value becomes `value` if the old one is the expected one, and the reply is whether it was.
+/// The value becomes `value` if the old one is the expected one, and the reply is whether it was.
 fn did(old: Option<&Value>, expected: &Value, value: Option<&Value>) -> Result<Effect, AllocError> {
     let is_expected = is_same_value(old, expected);
     Ok(Effect {
@@ -143,7 +143,7 @@ fn did(old: Option<&Value>, expected: &Value, value: Option<&Value>) -> Result<E
     })
 }
 
-// The value becomes what the function gives, if it has no fault.
+/// The value becomes what the function gives, if it has no fault.
 fn computed(
     alloc: Global,
     func: Func,
@@ -159,7 +159,7 @@ fn computed(
     }
 }
 
-// What the change makes of the old value.
+/// What the change makes of the old value.
 fn changed(alloc: Global, old: Option<&Value>, change: &Change) -> Result<Effect, AllocError> {
     let is_mapped = old.is_some();
     match change {

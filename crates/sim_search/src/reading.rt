@@ -24,7 +24,7 @@ pub(crate) struct Reading<'a> {
     is_first: bool,
 }
 
-// Nothing if it was found; else what was wanted.
+/// Nothing if it was found; else what was wanted.
 fn compared(
     alloc: Global,
     wanted: &PlainOutcome,
@@ -71,7 +71,7 @@ impl<'a> Reading<'a> {
         }
     }
 
-    // The store is a directory of version 01.
+    /// The store is a directory of version 01.
     fn begin_old(&mut self, found: &PlainOutcome) -> Result<Option<String>, AllocError> {
         for guess in self.guesses.iter_mut() {
             *guess = guess.as_old();
@@ -79,7 +79,7 @@ impl<'a> Reading<'a> {
         compared(self.alloc, &PlainOutcome::Old, found)
     }
 
-    // An event of a life, or one that needs a life.
+    /// An event of a life, or one that needs a life.
     fn go_on(
         &mut self,
         event: &'a Event,
@@ -115,8 +115,8 @@ impl<'a> Reading<'a> {
         compared(self.alloc, &wanted, found)
     }
 
-    // A worker begins a change, if its key isn't too long. The guesses that are left are those of
-    // which it is wanted.
+    /// A worker begins a change, if its key isn't too long. The guesses that are left are those of
+    /// which it is wanted.
     fn change(
         &mut self,
         life: &mut Life<'a>,
@@ -139,7 +139,7 @@ impl<'a> Reading<'a> {
         Ok(wrong)
     }
 
-    // A worker makes a step. A reply is released only at a position that is committed.
+    /// A worker makes a step. A reply is released only at a position that is committed.
     fn step(
         &mut self,
         life: &mut Life<'a>,
@@ -162,7 +162,7 @@ impl<'a> Reading<'a> {
         compared(self.alloc, &wanted, found)
     }
 
-    // The keeper's walk makes a step.
+    /// The keeper's walk makes a step.
     fn step_keeper(
         &mut self,
         life: &mut Life<'a>,
@@ -181,7 +181,7 @@ impl<'a> Reading<'a> {
         compared(self.alloc, &wanted, found)
     }
 
-    // How many commands are committed in this life, on which all guesses agree.
+    /// How many commands are committed in this life, on which all guesses agree.
     fn committed(&self) -> u64 {
         match self.guesses.first() {
             Some(guess) => guess.committed,
@@ -189,7 +189,7 @@ impl<'a> Reading<'a> {
         }
     }
 
-    // An event of the keeper that is no step of its walk.
+    /// An event of the keeper that is no step of its walk.
     fn keep(
         &mut self,
         life: &mut Life<'a>,
@@ -217,8 +217,8 @@ impl<'a> Reading<'a> {
         compared(self.alloc, &wanted, found)
     }
 
-    // An event of the keeper that depends on its files. The guesses that are left are those of which
-    // it is wanted.
+    /// An event of the keeper that depends on its files. The guesses that are left are those of which
+    /// it is wanted.
     fn keep_files(
         &mut self,
         life: &mut Life<'a>,
@@ -243,7 +243,7 @@ impl<'a> Reading<'a> {
         Ok(wrong)
     }
 
-    // Keeps the guesses by which this was to be found, if there are any.
+    /// Keeps the guesses by which this was to be found, if there are any.
     fn choose(
         &mut self,
         steps: Vec<Step>,
@@ -264,7 +264,7 @@ impl<'a> Reading<'a> {
         Ok(None)
     }
 
-    // Whether the machine may stop within a device call, if one is due.
+    /// Whether the machine may stop within a device call, if one is due.
     fn may_call(&self) -> bool {
         match &self.life {
             Some(life) => !life.is_walking() && !life.is_broken,
@@ -272,7 +272,7 @@ impl<'a> Reading<'a> {
         }
     }
 
-    // The machine stops.
+    /// The machine stops.
     fn stop(
         &mut self,
         within: Option<Side>,
@@ -303,7 +303,7 @@ impl<'a> Reading<'a> {
         Ok(wrong)
     }
 
-    // The machine has stopped, and the fill decides what is left.
+    /// The machine has stopped, and the fill decides what is left.
     fn stopped(&mut self, fill: &Fill) -> Result<(), AllocError> {
         self.life = None;
         let guesses = mem::replace(&mut self.guesses, Vec::new(self.alloc));
@@ -313,7 +313,7 @@ impl<'a> Reading<'a> {
         Ok(())
     }
 
-    // The life is left.
+    /// The life is left.
     fn leave(&mut self, found: &PlainOutcome) -> Result<Option<String>, AllocError> {
         let wanted = match self.life.take() {
             Some(_life) => PlainOutcome::Left,
@@ -322,7 +322,7 @@ impl<'a> Reading<'a> {
         compared(self.alloc, &wanted, found)
     }
 
-    // The store is opened.
+    /// The store is opened.
     fn open(
         &mut self,
         stripes: usize,
@@ -353,7 +353,7 @@ impl<'a> Reading<'a> {
         }
     }
 
-    // The store was opened with `calls` calls, after `prefix` commands.
+    /// The store was opened with `calls` calls, after `prefix` commands.
     fn opened(
         &mut self,
         calls: u64,

@@ -25,7 +25,7 @@ impl fmt::Display for Wrong {
     }
 }
 
-// The first wrong outcome, if there is one.
+/// The first wrong outcome, if there is one.
 fn first_wrong(
     alloc: Global,
     events: &[Event],

@@ -33,7 +33,7 @@ const REST: usize = 12;
 /// The parts of a checkpoint before its sections, each of which has four.
 const BEGINNING: usize = 10;
 
-// This part of a commit on `stripes` stripes.
+/// This part of a commit on `stripes` stripes.
 fn commit_part(at: usize, stripes: usize) -> Option<Part> {
     let walks = stripes.saturating_mul(2);
     if at == 0 {
@@ -50,7 +50,7 @@ fn commit_part(at: usize, stripes: usize) -> Option<Part> {
     }
 }
 
-// This part of the section of a stripe: its capture, and the write.
+/// This part of the section of a stripe: its capture, and the write.
 fn section_part(at: usize) -> Part {
     match at % 4 {
         0 => Part::Capture(at / 4),
@@ -59,7 +59,7 @@ fn section_part(at: usize) -> Part {
     }
 }
 
-// This part of a seal, which is tried before a commit and after it.
+/// This part of a seal, which is tried before a commit and after it.
 fn seal_part(at: usize, stripes: usize) -> Option<Part> {
     if at == 0 {
         return Some(Part::Seal);
@@ -76,7 +76,7 @@ fn seal_part(at: usize, stripes: usize) -> Option<Part> {
     }
 }
 
-// This part of a checkpoint of `stripes` stripes.
+/// This part of a checkpoint of `stripes` stripes.
 fn checkpoint_part(at: usize, stripes: usize) -> Option<Part> {
     match at {
         0 => return Some(Part::Begin),

@@ -176,7 +176,7 @@ impl<R: Files<File = File> + Net> SocketFiles for R {
         }
     }
 
-    // The directory of a socket whose own path is too long for an address is named by its descriptor.
+    /// The directory of a socket whose own path is too long for an address is named by its descriptor.
     fn listen(
         &self,
         alloc: Global,

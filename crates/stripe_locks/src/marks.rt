@@ -16,7 +16,7 @@ pub struct Marks {
     words: [u64; MARK_WORDS],
 }
 
-// The bit of a stripe in its word.
+/// The bit of a stripe in its word.
 fn bit_of(stripe: usize) -> u64 {
     1 << (stripe % WORD_BITS)
 }
@@ -42,7 +42,7 @@ impl Marks {
 }
 
 impl Stripes {
-    // Marks the stripe. If it is marked already, that costs a look.
+    /// Marks the stripe. If it is marked already, that costs a look.
     pub(crate) fn mark(&self, stripe: usize) {
         if let Some(word) = self.marks.get(stripe / WORD_BITS) {
             let bit = bit_of(stripe);

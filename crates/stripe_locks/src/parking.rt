@@ -10,7 +10,7 @@ use ticket_order::Position;
 /// For how many milliseconds a thread sleeps at most before it looks again.
 const LONGEST_SLEEP: u64 = 100;
 
-// What the kernel compares before it lets a thread sleep: the low 32 bits of the word.
+/// What the kernel compares before it lets a thread sleep: the low 32 bits of the word.
 fn low_bits(word: u64) -> u32 {
     (word % (1 << 32)) as u32
 }

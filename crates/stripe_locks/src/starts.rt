@@ -25,7 +25,7 @@ use ticket_order::Stripe;
 /// The most passes of a `Stripes`.
 const MOST_PASSES: u64 = 4096;
 
-// The stripes with these parts, at home. They begin with `first` tickets.
+/// The stripes with these parts, at home. They begin with `first` tickets.
 fn store_all(alloc: Global, parts: Vec<Part>, first: u64) -> Result<Vec<Option<Stripe>>, Refusal>
     ensures ok { IfOk result (λ slots. AreStored first parts.items slots.items) }
     ensures err { IfErr result (λ refusal. refusal ≡ Refusal.NoMemory) }

@@ -21,13 +21,13 @@ use std::alloc::Global;
 use std::sync::atomic::AtomicU64;
 use ticket_order::Stripe;
 
-// Each word that is used has a cache line of its own, of eight words: a thread that changes one
-// then takes no other from the rest. Those between them stay 0.
+/// Each word that is used has a cache line of its own, of eight words: a thread that changes one
+/// then takes no other from the rest. Those between them stay 0.
 pub(crate) const WORDS_APART: usize = 8;
 
-// The words: the ticket count, the durable count, the failure word, the count of passes, and then
-// one for each stripe. The word of a stripe is 0 if the stripe is free, else the number of its
-// holder.
+/// The words: the ticket count, the durable count, the failure word, the count of passes, and then
+/// one for each stripe. The word of a stripe is 0 if the stripe is free, else the number of its
+/// holder.
 pub(crate) const TICKETS: usize = 0;
 
 pub(crate) const DURABLE: usize = 8;

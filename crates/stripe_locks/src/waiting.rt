@@ -27,8 +27,8 @@ use ticket_order::Stripe;
 const MOST_LOOKS: u32 = 16;
 
 impl Stripes {
-    // Returns when the stripe was seen free, or after a sleep. Whoever gives a stripe back wakes
-    // all who sleep for it, if anybody sleeps at all.
+    /// Returns when the stripe was seen free, or after a sleep. Whoever gives a stripe back wakes
+    /// all who sleep for it, if anybody sleeps at all.
     fn wait_for<R: Wait>(&self, rt: &R, stripe: usize)
         requires { stripe < stripe_count self.now }
     {

@@ -10,7 +10,7 @@ const PAIRS: u32 = 9;
 
 const KEYS: u32 = 512;
 
-// The text of nine pairs that the lowest nine bits of the number choose.
+/// The text of nine pairs that the lowest nine bits of the number choose.
 fn pairs(alloc: Global, number: u32) -> Result<String, Refusal> {
     let mut text = String::new(alloc);
     for bit in 0..PAIRS {
@@ -32,7 +32,7 @@ fn full(alloc: Global) -> Result<Growing, Refusal> {
     Ok(growing)
 }
 
-// Whether each key with an even or an odd number is mapped to its number, or none.
+/// Whether each key with an even or an odd number is mapped to its number, or none.
 fn are_found(
     growing: &Growing,
     alloc: Global,
@@ -66,7 +66,7 @@ fn have_one_hash(alloc: Global) -> Result<bool, Refusal> {
     Ok(true)
 }
 
-// Whether all keys are found in a full map.
+/// Whether all keys are found in a full map.
 fn all_are_found(alloc: Global) -> Result<bool, Refusal> {
     let growing = full(alloc)?;
     Ok(
@@ -76,7 +76,7 @@ fn all_are_found(alloc: Global) -> Result<bool, Refusal> {
     )
 }
 
-// Whether those of the even numbers are left after the others were taken out.
+/// Whether those of the even numbers are left after the others were taken out.
 fn even_are_left(alloc: Global) -> Result<bool, Refusal> {
     let mut growing = full(alloc)?;
     remove_odd(&mut growing, alloc)?;

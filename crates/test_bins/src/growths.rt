@@ -11,7 +11,7 @@ fn grown(alloc: Global, keys: u32) -> Result<Growing, Refusal> {
     Ok(growing)
 }
 
-// The bins, and whether a growth runs, after `keys` new keys.
+/// The bins, and whether a growth runs, after `keys` new keys.
 fn seen(alloc: Global, keys: u32) -> Result<(usize, bool), Refusal> {
     let growing = grown(alloc, keys)?;
     Ok((growing.bins(), growing.is_growing()))
@@ -47,7 +47,7 @@ fn growth_by_new_keys(rt: HostRuntime) {
     }
 }
 
-// The bins, and whether a growth runs, after 25 new keys and a change that maps no new one.
+/// The bins, and whether a growth runs, after 25 new keys and a change that maps no new one.
 fn seen_after_remove(alloc: Global) -> Result<(usize, bool), Refusal> {
     let mut growing = grown(alloc, 25)?;
     remove(&mut growing, alloc, "k00007")?;
@@ -59,7 +59,7 @@ fn remove_helps(rt: HostRuntime) {
     assert_eq!(rt; seen_after_remove(rt.alloc()), Ok((64, false)));
 }
 
-// Whether each key is found after the 25th, and the reads leave the growth as it was.
+/// Whether each key is found after the 25th, and the reads leave the growth as it was.
 fn reads_leave_the_growth(alloc: Global) -> Result<bool, Refusal> {
     let growing = grown(alloc, 25)?;
     Ok(has_all(&growing, alloc, 25)? && growing.bins() == 32 && growing.is_growing())
@@ -70,7 +70,7 @@ fn reads_find_each_key_and_move_none(rt: HostRuntime) {
     assert_eq!(rt; reads_leave_the_growth(rt.alloc()), Ok(true));
 }
 
-// Whether a key that was moved, and one that wasn't, are changed where they stand.
+/// Whether a key that was moved, and one that wasn't, are changed where they stand.
 fn changes_reach_both_tables(alloc: Global) -> Result<bool, Refusal> {
     let mut growing = grown(alloc, 49)?;
     for number in 0..3 {
@@ -87,7 +87,7 @@ fn changes_while_a_growth_runs(rt: HostRuntime) {
     assert_eq!(rt; changes_reach_both_tables(rt.alloc()), Ok(true));
 }
 
-// How many old bins each of five helps moves, of a growth that starts after `keys` new keys.
+/// How many old bins each of five helps moves, of a growth that starts after `keys` new keys.
 fn helped(alloc: Global, keys: u32) -> Result<[usize; 5], Refusal> {
     let mut growing = grown(alloc, keys)?;
     if growing.is_growing() || growing.bins() >= MOST_BINS {

@@ -29,7 +29,7 @@ impl Numbers {
     }
 }
 
-// Makes one call, and tells whether its answer is what the vector has.
+/// Makes one call, and tells whether its answer is what the vector has.
 fn is_alike(
     growing: &mut Growing,
     plain: &mut Vec<Option<i64>>,
@@ -100,7 +100,7 @@ fn is_entry(
     }
 }
 
-// Whether the entries, in order, are those of the vector.
+/// Whether the entries, in order, are those of the vector.
 fn has_entries(
     growing: &Growing,
     plain: &Vec<Option<i64>>,
@@ -125,13 +125,16 @@ fn called(alloc: Global) -> Result<(Counts, bool), Refusal> {
     Ok((counts, has_entries(&growing, &plain, alloc)?))
 }
 
-// A growth from 32, 64 and so on up to 2,048 bins is left running by all its changes but the last:
-// 1 + 3 + 7 + 15 + 31 + 63 + 127.
+/// A growth from 32, 64 and so on up to 2,048 bins is left running by all its changes but the last:
+/// 1 + 3 + 7 + 15 + 31 + 63 + 127.
 #[test]
 fn calls_beside_a_vector(rt: HostRuntime) -> Result<(), Refusal> {
     let (counts, has_entries) = called(rt.alloc())?;
     assert_eq!(rt; counts.alike, CALLS);
     assert!(rt; counts.growing >= 247, "{} calls", counts.growing);
-    assert!(rt; has_entries, "the growing map has other entries than the vector");
+    assert!(rt;
+        has_entries,
+        "the growing map has other entries than the vector"
+    );
     Ok(())
 }

@@ -13,7 +13,7 @@ fn eight_bins(alloc: Global) -> Result<Bins, Refusal> {
     Ok(Bins::new(alloc, stripes(16)?, 8)?)
 }
 
-// The stripe of the key among 16, and its bin among 8 of that stripe.
+/// The stripe of the key among 16, and its bin among 8 of that stripe.
 fn place_of(alloc: Global, text: &str) -> Result<(usize, usize), Refusal> {
     let table = eight_bins(alloc)?;
     let key = Key::new(alloc, text)?;
@@ -48,7 +48,7 @@ fn take(table: &mut Bins, alloc: Global, text: &str) -> Result<Option<i64>, Refu
     }
 }
 
-// The number of the entry that is popped from the bin.
+/// The number of the entry that is popped from the bin.
 fn pop(table: &mut Bins, bin: usize) -> Option<i64> {
     if bin >= table.bins() {
         return None;
@@ -56,7 +56,7 @@ fn pop(table: &mut Bins, bin: usize) -> Option<i64> {
     number_of(Some(&table.pop(bin)?.value))
 }
 
-// What "Aa" had before each of two changes of it, once "BB" stands in its bin too.
+/// What "Aa" had before each of two changes of it, once "BB" stands in its bin too.
 fn replaced(alloc: Global, table: &mut Bins) -> Result<[Option<i64>; 3], Refusal> {
     Ok([
         set(table, alloc, "Aa", 1)?,
@@ -65,7 +65,7 @@ fn replaced(alloc: Global, table: &mut Bins) -> Result<[Option<i64>; 3], Refusal
     ])
 }
 
-// What "Aa" had, what it has once it was taken out, and what is then popped from its bin, twice.
+/// What "Aa" had, what it has once it was taken out, and what is then popped from its bin, twice.
 fn emptied(alloc: Global, table: &mut Bins) -> Result<[Option<i64>; 4], Refusal> {
     Ok([
         take(table, alloc, "Aa")?,
@@ -91,7 +91,7 @@ fn two_keys_of_one_bin(rt: HostRuntime) {
     );
 }
 
-// The entry at the place has this key and this number.
+/// The entry at the place has this key and this number.
 fn stands_at(entries: &[(Key, Value)], place: usize, text: &str, number: i64) -> bool {
     match entries.get(place) {
         Some(entry) => entry.0.as_str() == text && number_of(Some(&entry.1)) == Some(number),
@@ -119,7 +119,7 @@ fn entries_in_byte_order(rt: HostRuntime) {
     assert_eq!(rt; sorted(rt.alloc()), Ok(true));
 }
 
-// The lent entry at the place has this key and this number.
+/// The lent entry at the place has this key and this number.
 fn is_lent_at(entries: &[LentEntry<'_>], place: usize, text: &str, number: i64) -> bool {
     match entries.get(place) {
         Some(entry) => {
@@ -158,14 +158,14 @@ fn made_again(alloc: Global, keys: u32) -> Result<Growing, Refusal> {
     Ok(Growing::with_entries(alloc, stripes(1)?, entries)?)
 }
 
-// The bins of a map of `keys` entries, whether a growth runs, and whether all are found.
+/// The bins of a map of `keys` entries, whether a growth runs, and whether all are found.
 fn made_bins(alloc: Global, keys: u32) -> Result<(usize, bool, bool), Refusal> {
     let growing = made_again(alloc, keys)?;
     let has_all = growing.len() == keys as usize && has_all(&growing, alloc, keys)?;
     Ok((growing.bins(), growing.is_growing(), has_all))
 }
 
-// The least number of bins m with fewer entries than m - m / 4.
+/// The least number of bins m with fewer entries than m - m / 4.
 #[test]
 fn bins_of_entries(rt: HostRuntime) {
     for (keys, bins) in [

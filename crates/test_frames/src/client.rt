@@ -13,7 +13,7 @@ fn get_a(alloc: Global) -> Result<Request, Refusal> {
     }))
 }
 
-// Whether the request asks for `a`, and this is printed if it's answered with these bytes.
+/// Whether the request asks for `a`, and this is printed if it's answered with these bytes.
 fn is_asked<L: Log>(
     rt: &L,
     alloc: Global,
@@ -57,7 +57,7 @@ static ANSWERS: [(&[u8], (u8, &[u8], &[u8])); 5] = [
     (b"\x00\x0A\x01\x01\x00", (1, b"", b"no reply\n")),
 ];
 
-// The number of the first of these answers that is printed otherwise, if any.
+/// The number of the first of these answers that is printed otherwise, if any.
 fn first_misprinted<L: Log>(rt: &L, alloc: Global, request: &Request) -> Option<usize> {
     for number in 0..ANSWERS.len() {
         let (answer, printed) = ANSWERS[number];
@@ -68,7 +68,7 @@ fn first_misprinted<L: Log>(rt: &L, alloc: Global, request: &Request) -> Option<
     None
 }
 
-// The same for a get of `a`.
+/// The same for a get of `a`.
 fn first_misprinted_get<L: Log>(rt: &L, alloc: Global) -> Result<Option<usize>, Refusal> {
     let request = get_a(alloc)?;
     let misprinted = first_misprinted(rt, alloc, &request);
@@ -81,7 +81,7 @@ fn answers_as_they_are_printed(rt: HostRuntime) {
     assert_eq!(rt; first_misprinted_get(&rt, rt.alloc()), Ok(None));
 }
 
-// Whether a call of these words at this place has no answer, and this is said of it.
+/// Whether a call of these words at this place has no answer, and this is said of it.
 fn is_unanswered<M: Servers + Log>(
     machine: &M,
     alloc: Global,
@@ -205,7 +205,7 @@ static CALLS: [(Option<&str>, Option<&str>, &[&str], u8, &[u8]); 19] = [
     (None, Some("absent"), GET, 1, b"no reply\n"),
 ];
 
-// The number of the first of these calls that comes out otherwise, if any.
+/// The number of the first of these calls that comes out otherwise, if any.
 fn first_answered<M: Servers + Log>(machine: &M, alloc: Global) -> Option<usize> {
     for number in 0..CALLS.len() {
         let (port, socket, words, status, error) = CALLS[number];

@@ -6,13 +6,13 @@ use std::alloc::Global;
 use std::io;
 use std::io::ErrorKind;
 
-// Whether a printed line is all that there is.
+/// Whether a printed line is all that there is.
 fn is_printed_alone<L: Log>(rt: &L, output: &mut Vec<u8>, error: &mut Vec<u8>) -> bool {
     let status = print(rt, "did yes\n", output, error);
     status == 0 && output.as_slice() == b"did yes\n".as_slice() && error.is_empty()
 }
 
-// The statuses of a refusal, of a text that breaks off, and of two files that cannot be opened.
+/// The statuses of a refusal, of a text that breaks off, and of two files that cannot be opened.
 fn complaints(alloc: Global, error: &mut Vec<u8>) -> [u8; 4] {
     [
         refuse(alloc, Refusal::Failed, error),
@@ -40,7 +40,7 @@ fn what_is_said(rt: HostRuntime) {
     drop(error);
 }
 
-// Whether a line that is too long for an output of five bytes is cut short, and this is said.
+/// Whether a line that is too long for an output of five bytes is cut short, and this is said.
 fn is_cut_short<L: Log>(rt: &L, error: &mut Vec<u8>) -> bool {
     let mut room = [0u8; 5];
     let mut output = room.as_mut_slice();
@@ -74,7 +74,7 @@ static WORDS: [(&str, Option<u16>, Option<usize>); 15] = [
     ("-2", None, None),
 ];
 
-// Whether the word names this port, and this count of stripes.
+/// Whether the word names this port, and this count of stripes.
 fn names(word: &str, port: Option<u16>, count: Option<usize>) -> bool {
     let stripes = match stripes_named(word) {
         Some(stripes) => Some(stripes.get()),

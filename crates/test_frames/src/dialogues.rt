@@ -16,7 +16,7 @@ enum Call {
     Fail,
 }
 
-// Every change but `Put` fails, and every search.
+/// Every change but `Put` fails, and every search.
 fn call_of(request: &Request) -> Call {
     match request {
         Request::Read(_) | Request::Bulk(Bulk::Reduce(..)) => Call::Now,
@@ -211,7 +211,7 @@ fn end_of(served: &Result<(), ConnectionError>) -> End {
     }
 }
 
-// How a connection ends, and how many calls are held then.
+/// How a connection ends, and how many calls are held then.
 fn serve<R: Read, W: Write>(alloc: Global, reader: &mut R, writer: &mut W) -> (End, u64) {
     let mut calls = OneValue {
         value: None,
@@ -240,14 +240,14 @@ impl Read for Cut<'_> {
     }
 }
 
-// Whether the reader's requests are answered with these replies, and nothing is held any more.
+/// Whether the reader's requests are answered with these replies, and nothing is held any more.
 fn is_answered<R: Read>(alloc: Global, reader: &mut R, replies: &[u8]) -> bool {
     let mut writer = Vec::new(alloc);
     let served = serve(alloc, reader, &mut writer);
     matches!(served, (End::Served, 0)) && writer.as_slice() == replies
 }
 
-// The same for equal pieces, of each length.
+/// The same for equal pieces, of each length.
 fn is_answered_in_equal_pieces(alloc: Global, requests: &[u8], replies: &[u8]) -> bool {
     for most in 1..=requests.len() {
         let mut reader = Pieces {
@@ -263,7 +263,7 @@ fn is_answered_in_equal_pieces(alloc: Global, requests: &[u8], replies: &[u8]) -
     true
 }
 
-// The same for pieces that end at these places.
+/// The same for pieces that end at these places.
 fn is_answered_if_cut(alloc: Global, requests: &[u8], replies: &[u8], cuts: u64) -> bool {
     let mut reader = Cut {
         left: requests,
@@ -272,8 +272,8 @@ fn is_answered_if_cut(alloc: Global, requests: &[u8], replies: &[u8], cuts: u64)
     is_answered(alloc, &mut reader, replies)
 }
 
-// The same for each pair of places among the first 64 bytes. With no cut but behind the last of
-// these the requests come whole.
+/// The same for each pair of places among the first 64 bytes. With no cut but behind the last of
+/// these the requests come whole.
 fn is_answered_in_three_pieces(alloc: Global, requests: &[u8], replies: &[u8]) -> bool {
     for pair in 0..64 * 64u32 {
         let cuts = 1 << (pair / 64) | 1 << (pair % 64);
@@ -301,8 +301,8 @@ fn a_put_in_every_cutting(rt: HostRuntime) {
     }
 }
 
-// Whether a reader that fails behind `len` bytes is told, this front of the replies was written,
-// and nothing is held any more.
+/// Whether a reader that fails behind `len` bytes is told, this front of the replies was written,
+/// and nothing is held any more.
 fn fails_behind(alloc: Global, len: usize, replies: &[u8]) -> bool {
     let mut reader = Pieces {
         left: PUT_GET.get(..len).unwrap_or(PUT_GET),
@@ -330,8 +330,8 @@ fn a_reader_that_fails(rt: HostRuntime) {
     }
 }
 
-// Whether a writer that has room for this front of the replies alone is told, and has got it, and
-// nothing is held any more.
+/// Whether a writer that has room for this front of the replies alone is told, and has got it, and
+/// nothing is held any more.
 fn fails_with_room_for(alloc: Global, replies: &[u8]) -> bool {
     let mut reader = PUT_GET;
     let mut writer = Room::of(replies.len());
@@ -347,7 +347,7 @@ fn a_writer_that_fails(rt: HostRuntime) {
     }
 }
 
-// Whether a connection of a put and a get may end so, if any one allocation is refused.
+/// Whether a connection of a put and a get may end so, if any one allocation is refused.
 fn is_allowed(end: &End, written: &[u8]) -> bool {
     match end {
         End::Served => {

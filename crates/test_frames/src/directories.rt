@@ -6,7 +6,7 @@ use std::alloc::Global;
 use std::fs;
 use std::test::Fail;
 
-// Writes at the end of the file or before it.
+/// Writes at the end of the file or before it.
 fn put<D: Disk>(disk: &mut D, file: usize, at: usize, bytes: &[u8]) -> Result<(), DeviceError>
     requires { file < 4 }
 {
@@ -66,16 +66,22 @@ fn absent_files_have_length_0(rt: HostRuntime) -> Result<(), Fail> {
         DirDisk::create(&rt, rt.alloc(), "no_such_directory", Unknown).is_err(),
         "a disk was made in a directory that is absent"
     );
-    assert!(rt; fs::metadata(&rt, "no_such_directory").is_err(), "the directory was made");
+    assert!(rt;
+        fs::metadata(&rt, "no_such_directory").is_err(),
+        "the directory was made"
+    );
     make_directory(&rt, "empty")?;
     let mut disk = DirDisk::open(&rt, rt.alloc(), "empty", Unknown)?;
-    assert!(rt; put(&mut disk, 3, 0, b"lost").is_err(), "an absent file was written to");
+    assert!(rt;
+        put(&mut disk, 3, 0, b"lost").is_err(),
+        "an absent file was written to"
+    );
     assert_eq!(rt; disk.len(3)?, 0);
     fs::remove_dir_all(&rt, "empty")?;
     Ok(())
 }
 
-// The lock is held as long as the first disk lives.
+/// The lock is held as long as the first disk lives.
 fn open_beside(rt: &HostRuntime, directory: &str) -> Result<bool, Fail> {
     let _first = DirDisk::open(rt, rt.alloc(), directory, Unknown)?;
     Ok(DirDisk::create(rt, rt.alloc(), directory, Unknown).is_ok())
@@ -84,13 +90,22 @@ fn open_beside(rt: &HostRuntime, directory: &str) -> Result<bool, Fail> {
 #[test]
 fn a_directory_is_open_once(rt: HostRuntime) -> Result<(), Fail> {
     make_directory(&rt, "locked")?;
-    assert!(rt; !open_beside(&rt, "locked")?, "a directory was opened twice");
-    assert!(rt; fs::metadata(&rt, "locked/ckpt-a").is_err(), "a file was made without the lock");
+    assert!(rt;
+        !open_beside(&rt, "locked")?,
+        "a directory was opened twice"
+    );
+    assert!(rt;
+        fs::metadata(&rt, "locked/ckpt-a").is_err(),
+        "a file was made without the lock"
+    );
     assert!(rt;
         DirDisk::create(&rt, rt.alloc(), "locked", Unknown).is_ok(),
         "the lock was not given back"
     );
-    assert!(rt; fs::metadata(&rt, "locked/ckpt-a").is_ok(), "the file was not made with the lock");
+    assert!(rt;
+        fs::metadata(&rt, "locked/ckpt-a").is_ok(),
+        "the file was not made with the lock"
+    );
     fs::remove_dir_all(&rt, "locked")?;
     Ok(())
 }

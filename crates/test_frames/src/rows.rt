@@ -15,7 +15,7 @@ struct Noted<'a> {
 }
 
 impl Calls for Noted<'_> {
-    // whether the request is of the whole map
+    /// whether the request is of the whole map
     type Held = bool;
 
     ghost began = { λ _ _ _ _. Unit {0} };
@@ -74,7 +74,7 @@ impl Write for Lengths {
     }
 }
 
-// Whether a connection of these bytes is served to their end.
+/// Whether a connection of these bytes is served to their end.
 fn serve(alloc: Global, calls: &mut Noted<'_>, writer: &mut Lengths, bytes: &[u8]) -> bool {
     let mut reader = bytes;
     serve_connection(alloc, &mut reader, writer, calls).is_ok()
@@ -104,7 +104,7 @@ static ROWS: [(&[u8], &str, &[usize]); 2] = [
     ),
 ];
 
-// Whether this is done with the calls of these bytes, and the writes are so long.
+/// Whether this is done with the calls of these bytes, and the writes are so long.
 fn is_served(alloc: Global, bytes: &[u8], done: &str, written: &[usize]) -> bool {
     let value = Value::Int(5);
     let mut calls = Noted {
@@ -127,7 +127,7 @@ fn calls_in_their_order(rt: HostRuntime) {
     }
 }
 
-// How long the writes are if 64 puts are answered with a text of 4,096 bytes.
+/// How long the writes are if 64 puts are answered with a text of 4,096 bytes.
 fn written_with_text(alloc: Global) -> Result<Vec<usize>, Refusal> {
     let text = "v".repeat(alloc, 4096)?;
     let value = Value::text(alloc, text.as_str())?;

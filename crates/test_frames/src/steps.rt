@@ -89,7 +89,7 @@ pub(crate) fn frames(
     Ok(bytes)
 }
 
-// Whether these are the replies to so many puts from a byte on.
+/// Whether these are the replies to so many puts from a byte on.
 fn are_replies(
     alloc: Global,
     bytes: &[u8],
@@ -114,7 +114,7 @@ impl Peer {
         self.connection.receive(&puts)
     }
 
-    // How many calls are begun.
+    /// How many calls are begun.
     fn begin(&mut self, calls: &mut Numbered) -> u64 {
         let before = calls.begun;
         self.connection.begin(calls);
@@ -129,7 +129,7 @@ impl Peer {
         is_all
     }
 
-    // Sends so many bytes, if as many are unsent.
+    /// Sends so many bytes, if as many are unsent.
     fn send(&mut self, count: usize) -> Result<bool, AllocError> {
         let Some(bytes) = self.connection.unsent().get(..count) else {
             return Ok(false);
@@ -145,7 +145,7 @@ impl Peer {
         Ok(())
     }
 
-    // Gives its calls up.
+    /// Gives its calls up.
     #[tactic(auto, using(crate::proofs::Owned::owns_all))]
     fn give_up(&mut self, calls: &mut Numbered) {
         self.connection.give_up(calls);
@@ -167,7 +167,7 @@ impl Peer {
         self.connection.give_buffer().is_some()
     }
 
-    // Receives a piece at rest, if it may rest, and is woken. Whether it may.
+    /// Receives a piece at rest, if it may rest, and is woken. Whether it may.
     fn rests(&mut self, alloc: Global, piece: &[u8]) -> Result<bool, AllocError> {
         let connection = mem::replace(&mut self.connection, Connection::new(alloc));
         match Resting::of(connection) {
@@ -186,7 +186,7 @@ impl Peer {
         }
     }
 
-    // Takes turns until no whole message is in hand. It has a row only meanwhile.
+    /// Takes turns until no whole message is in hand. It has a row only meanwhile.
     fn serve(&mut self, alloc: Global, calls: &mut Numbered) -> Result<(), AllocError> {
         for _ in 0..64u32 {
             if !self.connection.has_message() {
@@ -213,7 +213,7 @@ impl Peer {
         Ok(rested && self.connection.is_idle())
     }
 
-    // Whether it stands so.
+    /// Whether it stands so.
     fn is(&self, alloc: Global, calls: &Numbered, state: &State) -> Result<bool, AllocError> {
         let connection = &self.connection;
         match state {
@@ -230,7 +230,7 @@ impl Peer {
         }
     }
 
-    // Whether what is done comes out so.
+    /// Whether what is done comes out so.
     fn takes(
         &mut self,
         alloc: Global,
@@ -289,7 +289,7 @@ impl Peers {
     }
 }
 
-// The number of the first step that comes out otherwise, if any.
+/// The number of the first step that comes out otherwise, if any.
 fn first_wrong(
     alloc: Global,
     peers: &mut Peers,
@@ -305,7 +305,7 @@ fn first_wrong(
     Ok(None)
 }
 
-// The same of new connections.
+/// The same of new connections.
 fn wrong_step(alloc: Global, steps: &[(Who, Step)]) -> Result<Option<usize>, AllocError> {
     let mut calls = Numbered::new(alloc);
     let mut peers = Peers {

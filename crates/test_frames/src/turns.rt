@@ -135,8 +135,8 @@ fn a_turn_has_at_most_64_calls(rt: HostRuntime) {
     assert_steps(&rt, rt.alloc(), &FULL);
 }
 
-// Serves requests that end a piece behind each byte whose bit in `cuts` is 1, the first byte's
-// lowest. Whether the connection rests between them.
+/// Serves requests that end a piece behind each byte whose bit in `cuts` is 1, the first byte's
+/// lowest. Whether the connection rests between them.
 fn serve_cut(
     alloc: Global,
     peer: &mut Peer,
@@ -161,7 +161,7 @@ fn serve_cut(
     Ok(true)
 }
 
-// Whether these requests are answered with these replies, if they come in such pieces.
+/// Whether these requests are answered with these replies, if they come in such pieces.
 fn is_replied_if_cut(
     alloc: Global,
     requests: &[u8],

@@ -29,8 +29,8 @@ const FOUND: [(u32, [u64; 5]); 5] = [
     (4, [9; 5]),
 ];
 
-// Commits eight commands, stages the ninth, and makes `times` of its device calls, behind the zeros
-// that are written ahead of it.
+/// Commits eight commands, stages the ninth, and makes `times` of its device calls, behind the zeros
+/// that are written ahead of it.
 fn step_ninth<D: Disk, R: Wait, S: Steps>(
     rt: &R,
     keeper: &mut Keeper<D>,
@@ -50,7 +50,7 @@ fn step_ninth<D: Disk, R: Wait, S: Steps>(
     Ok(())
 }
 
-// Makes nine commands, and `times` device calls of the ninth one's batch.
+/// Makes nine commands, and `times` device calls of the ninth one's batch.
 fn write_nine<R: Abort + Wait>(
     rt: &R,
     alloc: Global,
@@ -66,7 +66,7 @@ fn write_nine<R: Abort + Wait>(
     Ok(joined.keeper.into_disk())
 }
 
-// How many commands are found on the disk after a stop.
+/// How many commands are found on the disk after a stop.
 fn found<R: Abort>(rt: &R, alloc: Global, disk: MemDisk, fill: &Fill) -> Result<u64, Refusal> {
     let mut disk = disk;
     disk.stop(fill)?;
@@ -76,7 +76,7 @@ fn found<R: Abort>(rt: &R, alloc: Global, disk: MemDisk, fill: &Fill) -> Result<
     }
 }
 
-// The same for each fill, after `times` device calls.
+/// The same for each fill, after `times` device calls.
 fn found_by_fills<R: Abort + Wait>(rt: &R, alloc: Global, times: u32) -> Result<[u64; 5], Refusal> {
     let fills = [
         Fill::Old,

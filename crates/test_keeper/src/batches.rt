@@ -15,7 +15,7 @@ use std::sync::Wait;
 use stripe_locks::{Pass, Stripes};
 use ticket_order::Steps;
 
-// The text of these bytes.
+/// The text of these bytes.
 fn text_of(bytes: &[u8]) -> Result<&str, Refusal> {
     match str::from_utf8(bytes) {
         Ok(text) => Ok(text),
@@ -41,21 +41,21 @@ fn longest_change(alloc: Global) -> Result<Change, Refusal> {
     Ok(Change::ReplaceIf { old, new })
 }
 
-// A change whose record takes 12,296 bytes, the most that there is.
+/// A change whose record takes 12,296 bytes, the most that there is.
 pub(crate) fn longest(alloc: Global) -> Result<Command, Refusal> {
     let key = longest_key(alloc)?;
     let change = longest_change(alloc)?;
     Ok(Command { key, change })
 }
 
-// A change whose record in version 01 takes 8,455 bytes, the most that there is.
+/// A change whose record in version 01 takes 8,455 bytes, the most that there is.
 fn longest_of_version_01(alloc: Global) -> Result<Command, Refusal> {
     let key = longest_key_of_version_01(alloc)?;
     let change = longest_change(alloc)?;
     Ok(Command { key, change })
 }
 
-// Makes the change `times` times.
+/// Makes the change `times` times.
 pub(crate) fn make_often(
     stripes: &Stripes,
     worker: &mut Pass,
@@ -73,8 +73,8 @@ pub(crate) fn make_often(
     Ok(())
 }
 
-// Two batches: the length of the first, the gate behind it, and the length of the second, which is
-// staged alone.
+/// Two batches: the length of the first, the gate behind it, and the length of the second, which is
+/// staged alone.
 fn stage_twice<D: Disk, R: Wait, S: Steps>(
     rt: &R,
     keeper: &mut Keeper<D>,
@@ -89,7 +89,7 @@ fn stage_twice<D: Disk, R: Wait, S: Steps>(
     Ok((first, gate, second))
 }
 
-// Two batches of a change that was made `times` times, on a log of this version.
+/// Two batches of a change that was made `times` times, on a log of this version.
 fn stage_times<R: Wait>(
     rt: &R,
     alloc: Global,
@@ -135,7 +135,7 @@ fn a_frame_of_version_01_has_1048576_bytes(rt: HostRuntime) -> Result<(), Refusa
     Ok(())
 }
 
-// Stages what this stripe alone has.
+/// Stages what this stripe alone has.
 fn stage_one_stripe<D: Disk, S: Steps>(
     keeper: &mut Keeper<D>,
     steps: &mut S,
@@ -152,7 +152,7 @@ fn stage_one_stripe<D: Disk, S: Steps>(
     keeper.stage_batch(MOST)
 }
 
-// The first change goes to stripe 0 and takes ticket 0, the others go to stripe 1.
+/// The first change goes to stripe 0 and takes ticket 0, the others go to stripe 1.
 fn make_three(stripes: &Stripes, worker: &mut Pass, alloc: Global) -> Result<(), Refusal>
     requires own { IsPassOf stripes.now worker.old }
     requires free { (recorded worker.old).holding ≡ None }

@@ -27,7 +27,7 @@ const CHECKPOINT: [u8; 84] = [
     0, 0, 0, 0, 0, 0, 4, 0, 0, 0, 1, 0, 1, 0x61, 1, 0, 0, 0, 0, 0, 0, 0, 4,
 ];
 
-// Makes `times` device calls of the checkpoint.
+/// Makes `times` device calls of the checkpoint.
 pub(crate) fn write_times<D: Disk>(keeper: &mut Keeper<D>, times: u32)
     requires { IsFitting D.states D.honest keeper.old }
     ensures { FitsFurther D.states D.honest keeper.old keeper.new }
@@ -37,7 +37,7 @@ pub(crate) fn write_times<D: Disk>(keeper: &mut Keeper<D>, times: u32)
     }
 }
 
-// Begins a checkpoint, with its log, and makes its device calls up to the first section.
+/// Begins a checkpoint, with its log, and makes its device calls up to the first section.
 fn begin_with_log<D: Disk>(keeper: &mut Keeper<D>) -> Result<(), Refusal>
     requires { IsFitting D.states D.honest keeper.old }
     ensures { FitsFurther D.states D.honest keeper.old keeper.new }
@@ -48,7 +48,7 @@ fn begin_with_log<D: Disk>(keeper: &mut Keeper<D>) -> Result<(), Refusal>
     Ok(())
 }
 
-// Captures the stripe, and writes its section.
+/// Captures the stripe, and writes its section.
 pub(crate) fn capture_one<D: Disk, R: Wait, S: Steps>(
     rt: &R,
     keeper: &mut Keeper<D>,
@@ -69,7 +69,7 @@ pub(crate) fn capture_one<D: Disk, R: Wait, S: Steps>(
     Ok(mark)
 }
 
-// Commits at most `most` commands of what is in hand, and publishes the count.
+/// Commits at most `most` commands of what is in hand, and publishes the count.
 pub(crate) fn commit_most<D: Disk, S: Steps>(
     keeper: &mut Keeper<D>,
     steps: &mut S,
@@ -90,7 +90,7 @@ pub(crate) fn commit_most<D: Disk, S: Steps>(
     Ok(staged)
 }
 
-// The number of the refusal, or 0.
+/// The number of the refusal, or 0.
 fn number_of(answer: Result<(), Refusal>) -> u8 {
     match answer {
         Ok(()) => 0,
@@ -106,7 +106,7 @@ struct Walked {
     seals: (u8, u8),
 }
 
-// Captures both stripes, with two changes between, and seals once all four commands are published.
+/// Captures both stripes, with two changes between, and seals once all four commands are published.
 fn walk<D: Disk, R: Wait, S: Steps>(
     rt: &R,
     alloc: Global,
@@ -138,7 +138,7 @@ fn walk<D: Disk, R: Wait, S: Steps>(
     })
 }
 
-// The walk on a new store of two stripes, in which `a` and `b` were put; and its disk.
+/// The walk on a new store of two stripes, in which `a` and `b` were put; and its disk.
 fn walk_on_two<R: Wait>(
     rt: &R,
     alloc: Global,
@@ -159,7 +159,7 @@ fn walk_on_two<R: Wait>(
     Ok((walked, joined.keeper.into_disk()))
 }
 
-// Whether the file reads so.
+/// Whether the file reads so.
 pub(crate) fn reads(disk: &mut MemDisk, file: usize, expected: &[u8]) -> bool
     requires { file < 4 }
 {
@@ -177,7 +177,7 @@ fn number_in(entries: &[(Key, Value)]) -> Option<i64> {
     }
 }
 
-// The number that the first of the part's keys is mapped to.
+/// The number that the first of the part's keys is mapped to.
 fn first_number(alloc: Global, part: &Part) -> Option<i64> {
     match part.entries_sorted(alloc) {
         Ok(entries) => number_in(entries.as_slice()),
@@ -185,8 +185,8 @@ fn first_number(alloc: Global, part: &Part) -> Option<i64> {
     }
 }
 
-// What is opened after a stop: how many commands, and the number that `b` and `a` are mapped to, which
-// are the only keys of their stripes.
+/// What is opened after a stop: how many commands, and the number that `b` and `a` are mapped to, which
+/// are the only keys of their stripes.
 fn opened(alloc: Global, disk: MemDisk, stripes: StripeCount) -> Option<(u64, [i64; 2])> {
     let Ok((_, parts, first, _)) = open_parts(alloc, disk, stripes) else {
         return None;
@@ -208,13 +208,19 @@ fn a_checkpoint_while_keys_change(rt: HostRuntime) -> Result<(), Refusal> {
         seals: (17, 0),
     };
     assert_eq!(rt; walked, expected);
-    assert!(rt; reads(&mut disk, 1, &CHECKPOINT), "the checkpoint has other bytes");
-    assert!(rt; disk.stop(&Fill::Old).is_ok(), "no memory was found for the stop");
+    assert!(rt;
+        reads(&mut disk, 1, &CHECKPOINT),
+        "the checkpoint has other bytes"
+    );
+    assert!(rt;
+        disk.stop(&Fill::Old).is_ok(),
+        "no memory was found for the stop"
+    );
     assert_eq!(rt; opened(alloc, disk, two), Some((4, [3, 4])));
     Ok(())
 }
 
-// Begins the next checkpoint, and writes the section of its first stripe alone.
+/// Begins the next checkpoint, and writes the section of its first stripe alone.
 fn write_half<D: Disk, R: Wait, S: Steps>(
     rt: &R,
     keeper: &mut Keeper<D>,
@@ -228,7 +234,7 @@ fn write_half<D: Disk, R: Wait, S: Steps>(
     capture_one(rt, keeper, steps, 0)
 }
 
-// The mark of the one section that was written of a second checkpoint, and the disk.
+/// The mark of the one section that was written of a second checkpoint, and the disk.
 fn half_on_two<R: Wait>(
     rt: &R,
     alloc: Global,
@@ -241,20 +247,23 @@ fn half_on_two<R: Wait>(
     Ok((mark, joined.keeper.into_disk()))
 }
 
-// The first checkpoint is used, with both logs.
+/// The first checkpoint is used, with both logs.
 #[test]
 fn a_stop_in_the_second_checkpoint(rt: HostRuntime) -> Result<(), Refusal> {
     let alloc = rt.alloc();
     let two = StripeCount::new(2).ok_or(Refusal::WrongPhase)?;
     let (mark, mut disk) = half_on_two(&rt, alloc, two)?;
     assert_eq!(rt; mark, 4);
-    assert!(rt; disk.stop(&Fill::New).is_ok(), "no memory was found for the stop");
+    assert!(rt;
+        disk.stop(&Fill::New).is_ok(),
+        "no memory was found for the stop"
+    );
     assert_eq!(rt; opened(alloc, disk, two), Some((4, [3, 4])));
     Ok(())
 }
 
-// What the calls of a checkpoint return before its first section may be given: a second one, a
-// section while its log is begun, a batch, and a seal.
+/// What the calls of a checkpoint return before its first section may be given: a second one, a
+/// section while its log is begun, a batch, and a seal.
 fn refused_in_rotation<D: Disk, S: Steps>(
     keeper: &mut Keeper<D>,
     steps: &mut S,

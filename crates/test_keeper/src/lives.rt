@@ -16,7 +16,7 @@ use std::alloc::Global;
 use std::sync::Wait;
 use ticket_order::Steps;
 
-// Sweeps, commits and publishes one command.
+/// Sweeps, commits and publishes one command.
 fn sweep_one<D: Disk, R: Wait, S: Steps>(
     rt: &R,
     keeper: &mut Keeper<D>,
@@ -32,7 +32,7 @@ fn sweep_one<D: Disk, R: Wait, S: Steps>(
     commit_most(keeper, steps, 1)
 }
 
-// Commits one command, and begins a checkpoint with its log.
+/// Commits one command, and begins a checkpoint with its log.
 fn rotate<D: Disk, R: Wait, S: Steps>(
     rt: &R,
     keeper: &mut Keeper<D>,
@@ -48,7 +48,7 @@ fn rotate<D: Disk, R: Wait, S: Steps>(
     Ok(())
 }
 
-// The first life of a store of one stripe, which is formatted in this version.
+/// The first life of a store of one stripe, which is formatted in this version.
 fn rotate_once<R: Wait>(
     rt: &R,
     alloc: Global,
@@ -64,7 +64,7 @@ fn rotate_once<R: Wait>(
     Ok(joined.keeper.into_disk())
 }
 
-// Commits one command, writes a checkpoint of one stripe, whose log is there, and returns its mark.
+/// Commits one command, writes a checkpoint of one stripe, whose log is there, and returns its mark.
 fn seal_one<D: Disk, R: Wait, S: Steps>(
     rt: &R,
     keeper: &mut Keeper<D>,
@@ -83,7 +83,7 @@ fn seal_one<D: Disk, R: Wait, S: Steps>(
     Ok(mark)
 }
 
-// A life of a directory of version 01 with one stripe, in which one command is committed.
+/// A life of a directory of version 01 with one stripe, in which one command is committed.
 fn commit_old<R: Wait>(rt: &R, alloc: Global, one: StripeCount) -> Result<MemDisk, Refusal> {
     let mut disk = MemDisk::new(alloc);
     format_as(alloc, &mut disk, one, Version::First)?;
@@ -94,7 +94,7 @@ fn commit_old<R: Wait>(rt: &R, alloc: Global, one: StripeCount) -> Result<MemDis
     Ok(joined.keeper.into_disk())
 }
 
-// The same directory, in the newest version.
+/// The same directory, in the newest version.
 fn upgraded(alloc: Global, disk: MemDisk, one: StripeCount) -> Result<MemDisk, Refusal> {
     match upgrade(alloc, disk, one) {
         Ok(disk) => Ok(disk),
@@ -102,7 +102,7 @@ fn upgraded(alloc: Global, disk: MemDisk, one: StripeCount) -> Result<MemDisk, R
     }
 }
 
-// The second life: one command more, and the checkpoint is sealed.
+/// The second life: one command more, and the checkpoint is sealed.
 fn seal_once<R: Wait>(
     rt: &R,
     alloc: Global,
@@ -116,7 +116,7 @@ fn seal_once<R: Wait>(
     Ok((mark, joined.keeper.into_disk()))
 }
 
-// How long the files are: the second checkpoint and the two logs.
+/// How long the files are: the second checkpoint and the two logs.
 fn lengths(disk: &mut MemDisk) -> [usize; 3] {
     let mut lengths = [0; 3];
     for (index, len) in lengths.iter_mut().enumerate() {
@@ -134,7 +134,7 @@ const SEALED_HEADER: [u8; 36] = [
     0, 0, 0, 0, 0x24,
 ];
 
-// Whether the file begins so.
+/// Whether the file begins so.
 fn begins(disk: &mut MemDisk, file: usize, expected: &[u8; 36]) -> bool
     requires { file < 4 }
 {
@@ -142,7 +142,7 @@ fn begins(disk: &mut MemDisk, file: usize, expected: &[u8; 36]) -> bool
     disk.read(file, 0, &mut bytes) == Ok(36) && &bytes == expected
 }
 
-// How many commands are opened, and how many entries.
+/// How many commands are opened, and how many entries.
 fn counted(alloc: Global, disk: MemDisk, stripes: StripeCount) -> Option<(u64, usize)> {
     let Ok((_, parts, first, _)) = open_parts(alloc, disk, stripes) else {
         return None;
@@ -160,18 +160,30 @@ fn a_checkpoint_over_two_lives(rt: HostRuntime) -> Result<(), Refusal> {
     let one = StripeCount::new(1).ok_or(Refusal::WrongPhase)?;
     let mut disk = rotate_once(&rt, alloc, one, Version::Second)?;
     assert_eq!(rt; lengths(&mut disk), [0, 63, 18]);
-    assert!(rt; reads(&mut disk, 3, &SECOND_LOG), "the second log has other bytes");
-    assert!(rt; disk.stop(&Fill::Old).is_ok(), "no memory was found for the stop");
+    assert!(rt;
+        reads(&mut disk, 3, &SECOND_LOG),
+        "the second log has other bytes"
+    );
+    assert!(rt;
+        disk.stop(&Fill::Old).is_ok(),
+        "no memory was found for the stop"
+    );
     let (mark, mut disk) = seal_once(&rt, alloc, disk, one)?;
     assert_eq!(rt; mark, 2);
     assert_eq!(rt; lengths(&mut disk), [72, 63, 49]);
-    assert!(rt; begins(&mut disk, 1, &SEALED_HEADER), "the sealed checkpoint has another header");
-    assert!(rt; disk.stop(&Fill::Old).is_ok(), "no memory was found for the stop");
+    assert!(rt;
+        begins(&mut disk, 1, &SEALED_HEADER),
+        "the sealed checkpoint has another header"
+    );
+    assert!(rt;
+        disk.stop(&Fill::Old).is_ok(),
+        "no memory was found for the stop"
+    );
     assert_eq!(rt; counted(alloc, disk, one), Some((2, 2)));
     Ok(())
 }
 
-// What is opened of the first life after a stop.
+/// What is opened of the first life after a stop.
 fn counted_after_rotation<R: Wait>(
     rt: &R,
     alloc: Global,
@@ -196,7 +208,7 @@ fn a_stop_behind_a_rotation(rt: HostRuntime) -> Result<(), Refusal> {
     Ok(())
 }
 
-// The limit of keys with which the disk is opened.
+/// The limit of keys with which the disk is opened.
 fn limit_of(alloc: Global, disk: MemDisk, stripes: StripeCount) -> Option<u16> {
     let Ok((_, _, _, limit)) = open_parts(alloc, disk, stripes) else {
         return None;
@@ -204,7 +216,7 @@ fn limit_of(alloc: Global, disk: MemDisk, stripes: StripeCount) -> Option<u16> {
     Some(limit)
 }
 
-// The newest log decides it, which is of the newest version behind a rotation.
+/// The newest log decides it, which is of the newest version behind a rotation.
 #[test]
 fn limits_of_keys(rt: HostRuntime) -> Result<(), Refusal> {
     let alloc = rt.alloc();
@@ -225,8 +237,14 @@ fn a_checkpoint_on_a_directory_of_version_01(rt: HostRuntime) -> Result<(), Refu
     let one = StripeCount::new(1).ok_or(Refusal::WrongPhase)?;
     let mut disk = rotate_once(&rt, alloc, one, Version::First)?;
     assert_eq!(rt; lengths(&mut disk), [0, 62, 18]);
-    assert!(rt; reads(&mut disk, 3, &SECOND_LOG), "the second log has other bytes");
-    assert!(rt; disk.stop(&Fill::Old).is_ok(), "no memory was found for the stop");
+    assert!(rt;
+        reads(&mut disk, 3, &SECOND_LOG),
+        "the second log has other bytes"
+    );
+    assert!(rt;
+        disk.stop(&Fill::Old).is_ok(),
+        "no memory was found for the stop"
+    );
     let (mark, mut disk) = seal_once(&rt, alloc, disk, one)?;
     assert_eq!(rt; mark, 2);
     assert_eq!(rt; lengths(&mut disk), [72, 62, 49]);
@@ -242,7 +260,10 @@ fn a_directory_of_version_01_is_upgraded(rt: HostRuntime) -> Result<(), Refusal>
     assert_eq!(rt; lengths(&mut disk), [0, 48, 0]);
     let mut disk = upgraded(alloc, disk, one)?;
     assert_eq!(rt; lengths(&mut disk), [0, 62, 18]);
-    assert!(rt; reads(&mut disk, 3, &SECOND_LOG), "the second log has other bytes");
+    assert!(rt;
+        reads(&mut disk, 3, &SECOND_LOG),
+        "the second log has other bytes"
+    );
     let mut disk = upgraded(alloc, disk, one)?;
     assert_eq!(rt; lengths(&mut disk), [0, 62, 18]);
     let (_mark, mut disk) = seal_once(&rt, alloc, disk, one)?;

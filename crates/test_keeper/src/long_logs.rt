@@ -34,7 +34,7 @@ fn append_put(alloc: Global, number: u32, log: &mut Vec<u8>) -> Result<(), Refus
     Ok(())
 }
 
-// An open gate, and the batch of the Puts of the numbers from `first` on.
+/// An open gate, and the batch of the Puts of the numbers from `first` on.
 fn append_batch(alloc: Global, first: u32, log: &mut Vec<u8>) -> Result<(), Refusal> {
     log.extend_from_slice(&[0xA5, 1])?;
     log.extend_from_slice(&(12 + RECORD_BYTES * BATCH).to_be_bytes())?;
@@ -46,7 +46,7 @@ fn append_batch(alloc: Global, first: u32, log: &mut Vec<u8>) -> Result<(), Refu
     Ok(())
 }
 
-// The log of generation 0 with all batches.
+/// The log of generation 0 with all batches.
 fn long_log(alloc: Global) -> Result<Vec<u8>, Refusal> {
     let mut log = Vec::new(alloc);
     log.extend_from_slice(&[2])?;
@@ -58,7 +58,7 @@ fn long_log(alloc: Global) -> Result<Vec<u8>, Refusal> {
     Ok(log)
 }
 
-// Whether the key of the number is mapped to the one that was put last.
+/// Whether the key of the number is mapped to the one that was put last.
 fn is_last(
     alloc: Global,
     parts: &[Part],
@@ -77,7 +77,7 @@ fn is_last(
     Ok(reply == Reply::Now(Some(Value::Int(last))))
 }
 
-// A disk with all batches in its log.
+/// A disk with all batches in its log.
 fn disk_of(alloc: Global, stripes: StripeCount) -> Result<MemDisk, Refusal> {
     let mut disk = MemDisk::new(alloc);
     format(alloc, &mut disk, stripes)?;
@@ -88,7 +88,7 @@ fn disk_of(alloc: Global, stripes: StripeCount) -> Result<MemDisk, Refusal> {
     Ok(disk)
 }
 
-// How many commands were found, and how many keys are mapped to what was put last.
+/// How many commands were found, and how many keys are mapped to what was put last.
 fn found_in(
     alloc: Global,
     opened: Result<(Keeper<MemDisk>, Vec<Part>, u64, u16), (MemDisk, Refusal)>,

@@ -16,7 +16,7 @@ use std::sync::Wait;
 use stripe_locks::{Held, Pass, Released, Stripes};
 use ticket_order::Steps;
 
-// A disk whose call behind the first `after` calls fails.
+/// A disk whose call behind the first `after` calls fails.
 fn failing_disk(alloc: Global, after: u64) -> MemDisk {
     let mut disk = MemDisk::new(alloc);
     disk.plan(Some(Failure {
@@ -29,12 +29,12 @@ fn failing_disk(alloc: Global, after: u64) -> MemDisk {
 /// More device calls than are made before the first batch.
 const MANY: u64 = 100;
 
-// Whether a store begins if the device call behind the first `after` calls fails.
+/// Whether a store begins if the device call behind the first `after` calls fails.
 fn is_joined(alloc: Global, count: StripeCount, after: u64) -> bool {
     join(alloc, failing_disk(alloc, after), count).is_ok()
 }
 
-// How many device calls are made before the first batch.
+/// How many device calls are made before the first batch.
 fn first_calls(alloc: Global, count: StripeCount) -> u64 {
     for after in 0..MANY {
         if is_joined(alloc, count, after) {
@@ -44,7 +44,7 @@ fn first_calls(alloc: Global, count: StripeCount) -> u64 {
     MANY
 }
 
-// Makes the change once, and holds the reply besides.
+/// Makes the change once, and holds the reply besides.
 fn hold_once(
     stripes: &Stripes,
     worker: &mut Pass,
@@ -66,7 +66,7 @@ fn hold_once(
     Ok(())
 }
 
-// Makes the change `times` times, and holds the replies besides.
+/// Makes the change `times` times, and holds the replies besides.
 fn make_times(
     stripes: &Stripes,
     worker: &mut Pass,
@@ -90,7 +90,7 @@ fn make_times(
     Ok(())
 }
 
-// Commits what the stripes have, and publishes the count.
+/// Commits what the stripes have, and publishes the count.
 fn publish_all<D: Disk, R: Wait, S: Steps>(
     rt: &R,
     keeper: &mut Keeper<D>,
@@ -109,7 +109,7 @@ fn publish_all<D: Disk, R: Wait, S: Steps>(
     count
 }
 
-// Reads what the key is mapped to.
+/// Reads what the key is mapped to.
 fn read_by(stripes: &Stripes, worker: &mut Pass, alloc: Global, key: &str) -> Result<Held, Refusal>
     requires own { IsPassOf stripes.now worker.old }
     requires free { (recorded worker.old).holding ≡ None }
@@ -123,7 +123,7 @@ fn read_by(stripes: &Stripes, worker: &mut Pass, alloc: Global, key: &str) -> Re
     stripes.try_read(worker, read)
 }
 
-// Makes a put of 1 and a read, and holds the read's reply.
+/// Makes a put of 1 and a read, and holds the read's reply.
 fn put_and_read(
     stripes: &Stripes,
     worker: &mut Pass,
@@ -148,7 +148,7 @@ fn is_one_at_one(released: &Released) -> bool {
     }
 }
 
-// Releases a reply before and after all that the stripes have is published.
+/// Releases a reply before and after all that the stripes have is published.
 fn release_in_time<D: Disk, R: Wait, S: Steps>(
     rt: &R,
     keeper: &mut Keeper<D>,
@@ -186,7 +186,10 @@ fn read_in_time<R: Wait>(rt: &R, alloc: Global, count: StripeCount) -> Result<Re
 #[test]
 fn a_reply_waits_until_it_is_durable(rt: HostRuntime) -> Result<(), Refusal> {
     let released = read_in_time(&rt, rt.alloc(), sixteen(&rt))?;
-    assert!(rt; is_one_at_one(&released), "the reply that was released is not 1 at position 1");
+    assert!(rt;
+        is_one_at_one(&released),
+        "the reply that was released is not 1 at position 1"
+    );
     Ok(())
 }
 
@@ -198,7 +201,7 @@ struct Ends {
     waiting: Vec<Held>,
 }
 
-// Releases one reply, and counts what came.
+/// Releases one reply, and counts what came.
 fn release_one(
     stripes: &Stripes,
     worker: &mut Pass,
@@ -246,7 +249,7 @@ fn release_all(
     Ok(ends)
 }
 
-// Commits a batch that fails, and makes a FAIL: whether a later commit is refused with 9.
+/// Commits a batch that fails, and makes a FAIL: whether a later commit is refused with 9.
 fn fail_in_commit<D: Disk, R: Wait, S: Steps>(rt: &R, keeper: &mut Keeper<D>, steps: &mut S) -> bool
     requires { IsKept D.states D.honest (S.stripe_count steps.old) keeper.old
         (S.recorded steps.old) }
@@ -262,7 +265,7 @@ fn fail_in_commit<D: Disk, R: Wait, S: Steps>(rt: &R, keeper: &mut Keeper<D>, st
     matches!(later, Err(Refusal::Failed))
 }
 
-// Five changes that are committed and published, and five that are not.
+/// Five changes that are committed and published, and five that are not.
 fn make_ten<D: Disk, R: Wait, S: Steps>(
     rt: &R,
     keeper: &mut Keeper<D>,
@@ -290,7 +293,7 @@ fn make_ten<D: Disk, R: Wait, S: Steps>(
     make_times(stripes, worker, command, 5, all)
 }
 
-// Whether a new pass of the stripes is refused with 9.
+/// Whether a new pass of the stripes is refused with 9.
 fn refuses_calls(stripes: &Stripes, alloc: Global) -> Result<bool, Refusal> {
     let mut worker = stripes.pass()?;
     let command = put(alloc, "b", 5)?;
@@ -298,8 +301,8 @@ fn refuses_calls(stripes: &Stripes, alloc: Global) -> Result<bool, Refusal> {
     Ok(matches!(answer, Err(Refusal::Failed)))
 }
 
-// How many of the replies come, how many wait before a FAIL and how many fail after it; and whether
-// later calls are refused with 9.
+/// How many of the replies come, how many wait before a FAIL and how many fail after it; and whether
+/// later calls are refused with 9.
 fn release_twice<D: Disk, R: Wait, S: Steps>(
     rt: &R,
     alloc: Global,
@@ -323,7 +326,7 @@ fn release_twice<D: Disk, R: Wait, S: Steps>(
     Ok((counts, is_over && refuses_calls(stripes, alloc)?))
 }
 
-// What becomes of ten changes; and whether later calls are refused with 9.
+/// What becomes of ten changes; and whether later calls are refused with 9.
 fn lose_five<D: Disk, R: Wait, S: Steps>(
     rt: &R,
     alloc: Global,
@@ -343,7 +346,7 @@ fn lose_five<D: Disk, R: Wait, S: Steps>(
     release_twice(rt, alloc, keeper, steps, stripes, worker, all)
 }
 
-// The same, if the device call fails that comes after `after` calls since the opening.
+/// The same, if the device call fails that comes after `after` calls since the opening.
 fn five_and_five<R: Wait>(
     rt: &R,
     alloc: Global,
@@ -371,7 +374,11 @@ fn replies_of_a_failed_batch_never_come(rt: HostRuntime) -> Result<(), Refusal> 
     let command = put(alloc, "a", 5)?;
     for after in [5, 7] {
         let outcome = five_and_five(&rt, alloc, sixteen(&rt), &command, after)?;
-        assert_eq!(rt; outcome, ([5, 5, 5], true), "the device fails after {after} calls");
+        assert_eq!(rt;
+            outcome,
+            ([5, 5, 5], true),
+            "the device fails after {after} calls"
+        );
     }
     Ok(())
 }

@@ -23,7 +23,7 @@ pub(crate) fn sixteen<R: Abort>(rt: &R) -> StripeCount
     StripeCount::new(16).expect(rt, "16 is a count of stripes")
 }
 
-// The first pass of the stripes, which is the keeper's.
+/// The first pass of the stripes, which is the keeper's.
 fn keepers_pass(stripes: &Stripes) -> Result<Pass, Refusal>
     ensures own { IfOk result (λ pass. IsPassOf stripes.now pass) }
     ensures opening { IfOk result (λ pass. (recorded pass).opening ≡ begun_with stripes.now) }
@@ -46,7 +46,7 @@ pub(crate) struct Joined {
     pub worker: Pass,
 }
 
-// Opens the disk, and takes two passes of its stripes.
+/// Opens the disk, and takes two passes of its stripes.
 pub(crate) fn rejoin(alloc: Global, disk: MemDisk, count: StripeCount) -> Result<Joined, Refusal>
     ensures count { IfOk result (λ joined. stripe_count joined.stripes ≡ count.count) }
     ensures own { IfOk result (λ joined. IsPassOf joined.stripes joined.pass
@@ -70,7 +70,7 @@ pub(crate) fn rejoin(alloc: Global, disk: MemDisk, count: StripeCount) -> Result
     })
 }
 
-// Makes the disk that of an empty map, and opens it.
+/// Makes the disk that of an empty map, and opens it.
 pub(crate) fn join(alloc: Global, disk: MemDisk, count: StripeCount) -> Result<Joined, Refusal>
     ensures count { IfOk result (λ joined. stripe_count joined.stripes ≡ count.count) }
     ensures own { IfOk result (λ joined. IsPassOf joined.stripes joined.pass
@@ -85,7 +85,7 @@ pub(crate) fn join(alloc: Global, disk: MemDisk, count: StripeCount) -> Result<J
     rejoin(alloc, disk, count)
 }
 
-// The same in this version.
+/// The same in this version.
 pub(crate) fn join_as(
     alloc: Global,
     disk: MemDisk,
@@ -111,7 +111,7 @@ pub(crate) fn put(alloc: Global, key: &str, number: i64) -> Result<Command, Refu
     })
 }
 
-// Makes the change once by the worker.
+/// Makes the change once by the worker.
 pub(crate) fn make_once(
     stripes: &Stripes,
     worker: &mut Pass,
@@ -127,7 +127,7 @@ pub(crate) fn make_once(
     stripes.try_call(worker, command)
 }
 
-// Makes one put by the worker.
+/// Makes one put by the worker.
 pub(crate) fn put_by(
     stripes: &Stripes,
     worker: &mut Pass,
@@ -148,7 +148,7 @@ pub(crate) fn put_by(
 /// More than a batch may have.
 pub(crate) const MOST: u32 = 100_000;
 
-// Makes `times` steps of the log.
+/// Makes `times` steps of the log.
 pub(crate) fn advance_times<D: Disk>(keeper: &mut Keeper<D>, times: u32)
     requires { IsFitting D.states D.honest keeper.old }
     ensures { FitsFurther D.states D.honest keeper.old keeper.new }
@@ -158,7 +158,7 @@ pub(crate) fn advance_times<D: Disk>(keeper: &mut Keeper<D>, times: u32)
     }
 }
 
-// Stages a batch, and makes the four steps that commit it.
+/// Stages a batch, and makes the four steps that commit it.
 pub(crate) fn commit<D: Disk>(keeper: &mut Keeper<D>) -> Result<u32, Refusal>
     requires { IsFitting D.states D.honest keeper.old }
     ensures { FitsFurther D.states D.honest keeper.old keeper.new }
@@ -168,7 +168,7 @@ pub(crate) fn commit<D: Disk>(keeper: &mut Keeper<D>) -> Result<u32, Refusal>
     staged
 }
 
-// Commits one batch of what the stripes have.
+/// Commits one batch of what the stripes have.
 pub(crate) fn sweep_and_commit<D: Disk, R: Wait, S: Steps>(
     rt: &R,
     keeper: &mut Keeper<D>,

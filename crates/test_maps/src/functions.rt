@@ -5,7 +5,7 @@ use map_types::{Func, FuncError, Refusal};
 use named_functions::apply;
 use std::alloc::Global;
 
-// Whether CONCAT of texts of these lengths is too long.
+/// Whether CONCAT of texts of these lengths is too long.
 fn is_too_long(alloc: Global, old: usize, arg: usize) -> Result<bool, Refusal> {
     let old = text_of(alloc, old)?;
     let arg = text_of(alloc, arg)?;
@@ -21,7 +21,7 @@ static TEXTS: [(usize, usize, bool); 4] = [
     (4096, 0, false),
 ];
 
-// The first of these lengths that come out otherwise, if any.
+/// The first of these lengths that come out otherwise, if any.
 fn first_wrong(alloc: Global) -> Result<Option<(usize, usize)>, Refusal> {
     for (old, arg, is_long) in &TEXTS {
         if is_too_long(alloc, *old, *arg)? != *is_long {

@@ -42,7 +42,7 @@ static KNOWN: [(&str, i32, u32, usize, Option<usize>); 11] = [
     ),
 ];
 
-// Whether texts whose hash is spread to this one are in this bin of eight, if it's known.
+/// Whether texts whose hash is spread to this one are in this bin of eight, if it's known.
 fn is_in_bin(spread_out: u32, stripes: StripeCount, bin: Option<usize>) -> bool {
     match bin {
         Some(bin) => bin_of(spread_out, stripes, 8) == bin,
@@ -50,7 +50,7 @@ fn is_in_bin(spread_out: u32, stripes: StripeCount, bin: Option<usize>) -> bool 
     }
 }
 
-// The first of these texts that comes out otherwise, if any.
+/// The first of these texts that comes out otherwise, if any.
 fn first_wrong(stripes: StripeCount) -> Option<&'static str> {
     for (text, wanted, spread_out, stripe, bin) in &KNOWN {
         let is_known = hash(text) == *wanted

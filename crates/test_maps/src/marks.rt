@@ -12,7 +12,7 @@ use stripe_locks::{Marks, Pass, Stripes};
 /// More numbers than there are stripes.
 const NUMBERS: usize = 300;
 
-// Whether these stripes are marked, and no others.
+/// Whether these stripes are marked, and no others.
 fn are_exactly(marks: &Marks, wanted: &[usize]) -> bool {
     for stripe in 0..NUMBERS {
         if marks.contains(stripe) != wanted.contains(&stripe) {
@@ -22,7 +22,7 @@ fn are_exactly(marks: &Marks, wanted: &[usize]) -> bool {
     true
 }
 
-// What comes of a change in each of the stripes 64, 255, 0 and 63.
+/// What comes of a change in each of the stripes 64, 255, 0 and 63.
 fn change_four(stripes: &Stripes, pass: &mut Pass, alloc: Global) -> [Tried; 4]
     requires own { IsPassOf stripes.now pass.old }
     requires empty_handed { (recorded pass.old).holding ≡ None }
@@ -37,8 +37,8 @@ fn change_four(stripes: &Stripes, pass: &mut Pass, alloc: Global) -> [Tried; 4]
     ]
 }
 
-// What comes of the four changes, and whether the marks before them, behind them and behind these
-// are right.
+/// What comes of the four changes, and whether the marks before them, behind them and behind these
+/// are right.
 fn mark_by_changes(stripes: &Stripes, alloc: Global) -> Result<([Tried; 4], [bool; 3]), Refusal> {
     let mut pass = stripes.pass()?;
     let before = are_exactly(&stripes.take_marks(), &[]);
@@ -49,8 +49,8 @@ fn mark_by_changes(stripes: &Stripes, alloc: Global) -> Result<([Tried; 4], [boo
     Ok((tried, [before, behind, then]))
 }
 
-// What comes of a put of `a`, a read of `b` and a read of `a`, and whether the marks behind each
-// are right.
+/// What comes of a put of `a`, a read of `b` and a read of `a`, and whether the marks behind each
+/// are right.
 fn mark_by_reads(stripes: &Stripes, alloc: Global) -> Result<([Tried; 3], [bool; 3]), Refusal> {
     let mut pass = stripes.pass()?;
     let put = try_put(stripes, &mut pass, alloc, "a");
@@ -63,7 +63,7 @@ fn mark_by_reads(stripes: &Stripes, alloc: Global) -> Result<([Tried; 3], [bool;
     Ok(([put, other, get], [by_put, by_other, by_get]))
 }
 
-// No sweep has taken the entry, so that whoever gives the stripe back marks it.
+/// No sweep has taken the entry, so that whoever gives the stripe back marks it.
 #[test]
 fn stripes_with_entries_are_marked(rt: HostRuntime) {
     let alloc = rt.alloc();

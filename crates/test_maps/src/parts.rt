@@ -42,7 +42,7 @@ fn command(alloc: Global, key: &str, step: &Step) -> Result<Command, Refusal> {
     Ok(Command { key, change })
 }
 
-// What is replied, in short.
+/// What is replied, in short.
 fn reply_text(reply: &Reply) -> &'static str {
     match reply {
         Reply::Was(None) => "was nothing",
@@ -64,7 +64,7 @@ fn changed(part: &mut Part, alloc: Global, command: &Command) -> Result<Reply, R
     Ok(part.act(&command.key, prepared))
 }
 
-// Makes the change of the key "k". What is replied.
+/// Makes the change of the key "k". What is replied.
 fn change(part: &mut Part, alloc: Global, step: &Step) -> Result<&'static str, Refusal> {
     let command = command(alloc, "k", step)?;
     let reply = changed(part, alloc, &command);
@@ -83,7 +83,7 @@ static LONGEST: [(Step, &str); 6] = [
     (Step::RemoveText(4096), "did"),
 ];
 
-// The number of the first of these changes that comes out otherwise, if any.
+/// The number of the first of these changes that comes out otherwise, if any.
 fn first_wrong(alloc: Global, part: &mut Part) -> Result<Option<usize>, Refusal> {
     for number in 0..LONGEST.len() {
         let (step, reply) = &LONGEST[number];
@@ -102,7 +102,7 @@ fn longest_text(rt: HostRuntime) {
     assert_same(&rt, &wrong, &Ok(None));
 }
 
-// What is replied to a change that was ready, and how many entries it leaves.
+/// What is replied to a change that was ready, and how many entries it leaves.
 fn left_by(acted: &Acted) -> (&'static str, usize) {
     (reply_text(&acted.reply), acted.part.len())
 }
@@ -135,7 +135,7 @@ fn act_on_empty(alloc: Global, command: Command) -> Result<(&'static str, usize)
     }
 }
 
-// What comes of a put in an empty part.
+/// What comes of a put in an empty part.
 fn acted(alloc: Global) -> Result<(&'static str, usize), Refusal> {
     let command = command(alloc, "a", &Step::Put(5))?;
     act_on_empty(alloc, command)
@@ -146,7 +146,7 @@ fn ready_change(rt: HostRuntime) {
     assert_same(&rt, &acted(rt.alloc()), &Ok(("was nothing", 1)));
 }
 
-// What the key "k" has, and how many entries there are.
+/// What the key "k" has, and how many entries there are.
 fn content(alloc: Global, part: &Part) -> Result<(&'static str, usize), Refusal> {
     let read = Read {
         key: Key::new(alloc, "k")?,
@@ -164,7 +164,7 @@ fn is_ready(part: &mut Part, alloc: Global, command: &Command) -> bool {
     is_ready
 }
 
-// Prepares the change of a key, which may be refused. The content behind it.
+/// Prepares the change of a key, which may be refused. The content behind it.
 fn content_behind(
     alloc: Global,
     part: &mut Part,
@@ -184,8 +184,8 @@ static PREPARED: [(&str, Step); 3] = [
     ("b", Step::Put(7)),
 ];
 
-// Maps the key "k" to 5. The number of the first prepared change that leaves another content, if
-// any.
+/// Maps the key "k" to 5. The number of the first prepared change that leaves another content, if
+/// any.
 fn first_unkept(alloc: Global, part: &mut Part) -> Result<Option<usize>, Refusal> {
     change(part, alloc, &Step::Put(5))?;
     for number in 0..PREPARED.len() {

@@ -47,7 +47,7 @@ pub(crate) fn outcome_of(answer: Result<Held, Refusal>) -> Tried {
     Ok(())
 }
 
-// What comes of a change of this key.
+/// What comes of a change of this key.
 pub(crate) fn try_put(stripes: &Stripes, pass: &mut Pass, alloc: Global, key: &str) -> Tried
     requires own { IsPassOf stripes.now pass.old }
     requires empty_handed { (recorded pass.old).holding ≡ None }
@@ -58,7 +58,7 @@ pub(crate) fn try_put(stripes: &Stripes, pass: &mut Pass, alloc: Global, key: &s
     outcome_of(stripes.try_call(pass, command))
 }
 
-// What comes of a read of this key.
+/// What comes of a read of this key.
 pub(crate) fn try_get(stripes: &Stripes, pass: &mut Pass, alloc: Global, key: &str) -> Tried
     requires own { IsPassOf stripes.now pass.old }
     requires empty_handed { (recorded pass.old).holding ≡ None }
@@ -69,7 +69,7 @@ pub(crate) fn try_get(stripes: &Stripes, pass: &mut Pass, alloc: Global, key: &s
     outcome_of(stripes.try_read(pass, read))
 }
 
-// Takes a stripe, and keeps it.
+/// Takes a stripe, and keeps it.
 pub(crate) fn hold(stripes: &Stripes, pass: &mut Pass, stripe: usize) -> bool
     requires own { IsPassOf stripes.now pass.old }
     requires empty_handed { (recorded pass.old).holding ≡ None }
@@ -78,7 +78,7 @@ pub(crate) fn hold(stripes: &Stripes, pass: &mut Pass, stripe: usize) -> bool
     stripes.at(pass).take(stripe).is_some()
 }
 
-// What comes of calls of two keys of stripe 0, and of a key of another.
+/// What comes of calls of two keys of stripe 0, and of a key of another.
 fn try_four(stripes: &Stripes, pass: &mut Pass, alloc: Global) -> [Tried; 4]
     requires own { IsPassOf stripes.now pass.old }
     requires empty_handed { (recorded pass.old).holding ≡ None }
@@ -91,8 +91,8 @@ fn try_four(stripes: &Stripes, pass: &mut Pass, alloc: Global) -> [Tried; 4]
     ]
 }
 
-// Whether the first of two passes alone is the keeper and gets stripe 0, and what comes of the
-// other's calls meanwhile.
+/// Whether the first of two passes alone is the keeper and gets stripe 0, and what comes of the
+/// other's calls meanwhile.
 fn try_beside_holder(stripes: &Stripes, alloc: Global) -> Result<(bool, [Tried; 4]), Refusal>
     requires { 0 < stripe_count stripes.now }
 {
@@ -115,7 +115,7 @@ fn a_held_stripe_is_busy_and_others_are_not(rt: HostRuntime) {
     assert_same(&rt, &tried, &Ok((true, [busy, busy, Ok(()), Ok(())])));
 }
 
-// Whether the one pass learns of a position once the other has made its change, and not before.
+/// Whether the one pass learns of a position once the other has made its change, and not before.
 fn learns(stripes: &Stripes, one: &mut Pass, two: &mut Pass, alloc: Global) -> bool
     requires own { IsPassOf stripes.now one.old }
     requires empty_handed { (recorded one.old).holding ≡ None }
@@ -129,7 +129,7 @@ fn learns(stripes: &Stripes, one: &mut Pass, two: &mut Pass, alloc: Global) -> b
     count == 0 && !before && tried.is_ok() && after
 }
 
-// Whether the second of two passes learns of the first's change, and how many changes it counts.
+/// Whether the second of two passes learns of the first's change, and how many changes it counts.
 fn learn_of_change(stripes: &Stripes, alloc: Global) -> Result<(bool, u64), Refusal> {
     let mut one = stripes.pass()?;
     let mut two = stripes.pass()?;
@@ -149,7 +149,7 @@ fn a_pass_learns_of_positions(rt: HostRuntime) {
     assert_same(&rt, &learned, &Ok((true, 1)));
 }
 
-// Stripes of an empty map after `first` changes, whose keys have at most `limit` bytes.
+/// Stripes of an empty map after `first` changes, whose keys have at most `limit` bytes.
 fn empty_after(
     alloc: Global,
     count: StripeCount,
@@ -167,7 +167,7 @@ fn is_absent_at(released: &Released, number: u64) -> bool {
     }
 }
 
-// Whether a read of an absent key is held at this position, and is released.
+/// Whether a read of an absent key is held at this position, and is released.
 fn reads_at(stripes: &Stripes, pass: &mut Pass, read: Read, number: u64) -> bool
     requires own { IsPassOf stripes.now pass.old }
     requires empty_handed { (recorded pass.old).holding ≡ None }
@@ -184,7 +184,7 @@ fn reads_at(stripes: &Stripes, pass: &mut Pass, read: Read, number: u64) -> bool
     }
 }
 
-// What comes of a change of this key, which may wait.
+/// What comes of a change of this key, which may wait.
 pub(crate) fn call_put<R: Wait>(
     rt: &R,
     stripes: &Stripes,
@@ -201,7 +201,7 @@ pub(crate) fn call_put<R: Wait>(
     outcome_of(stripes.call(rt, pass, command))
 }
 
-// What two changes and a read of this key come to, and how many tickets are drawn then.
+/// What two changes and a read of this key come to, and how many tickets are drawn then.
 fn call_with<R: Wait>(
     rt: &R,
     stripes: &Stripes,
@@ -217,7 +217,7 @@ fn call_with<R: Wait>(
     Ok(([tried, called, read], count))
 }
 
-// The same for the key of this many bytes.
+/// The same for the key of this many bytes.
 fn call_with_bytes<R: Wait>(
     rt: &R,
     stripes: &Stripes,
@@ -230,7 +230,7 @@ fn call_with_bytes<R: Wait>(
     called
 }
 
-// A change of a longer key is refused before it takes its stripe; a read is served.
+/// A change of a longer key is refused before it takes its stripe; a read is served.
 #[test]
 fn keys_above_the_limit(rt: HostRuntime) {
     let alloc = rt.alloc();
@@ -251,7 +251,7 @@ fn keys_above_the_limit(rt: HostRuntime) {
     );
 }
 
-// What comes of puts of `a` and `b`, and whether a read of `a` is released at this position.
+/// What comes of puts of `a` and `b`, and whether a read of `a` is released at this position.
 fn try_without_tickets(
     stripes: &Stripes,
     alloc: Global,
@@ -278,7 +278,7 @@ fn tickets_are_spent_and_reads_are_not(rt: HostRuntime) {
     assert_same(&rt, &calls, &Ok(([Err(Refusal::TicketsSpent); 2], true)));
 }
 
-// How many passes there are, and how the next is refused.
+/// How many passes there are, and how the next is refused.
 fn count_passes(stripes: &Stripes) -> (usize, Option<Refusal>) {
     for count in 0..5000 {
         if let Err(refusal) = stripes.pass() {

@@ -17,7 +17,7 @@ const CALLS: u64 = 1000;
 
 const ADDITIONS: u64 = 200;
 
-// The position of a put, unless the key's stripe is held.
+/// The position of a put, unless the key's stripe is held.
 fn put_if_free(stripes: &Stripes, pass: &mut Pass, put: Command) -> Result<Option<u64>, Refusal>
     requires own { IsPassOf stripes.now pass.old }
     requires empty_handed { (recorded pass.old).holding ≡ None }
@@ -72,7 +72,7 @@ fn put_often(stripes: &Stripes, alloc: Global, side: usize) -> Result<Vec<u64>, 
     Ok(positions)
 }
 
-// Whether these are the positions from 1 on, each once and in any order.
+/// Whether these are the positions from 1 on, each once and in any order.
 fn are_each_once(mut all: Vec<u64>) -> Result<bool, Refusal> {
     all.sort()?;
     for i in 0..all.len() {
@@ -140,7 +140,7 @@ fn add_often<R: Wait>(rt: &R, stripes: &Stripes, alloc: Global) -> Result<Held, 
     add_once(rt, stripes, &mut pass, alloc)
 }
 
-// The reply's number, if its position is the same.
+/// The reply's number, if its position is the same.
 fn number_at_position(released: &Released) -> Option<u64> {
     match released {
         Released::Reply(position, Reply::Now(Some(Value::Int(number)))) => {
@@ -167,7 +167,7 @@ fn publish_all(stripes: &Stripes, keeper: &mut Pass) -> u64
     count
 }
 
-// The sum that is held, if it stands at the position of the same number.
+/// The sum that is held, if it stands at the position of the same number.
 fn sum_of(stripes: &Stripes, pass: &mut Pass, held: Result<Held, Refusal>) -> Option<u64>
     requires own { IsPassOf stripes.now pass.old }
     requires held { IfOk held (IsHeldOf stripes.now) }
@@ -184,7 +184,7 @@ fn sum_of(stripes: &Stripes, pass: &mut Pass, held: Result<Held, Refusal>) -> Op
     }
 }
 
-// The greatest of the sums, each of which stands at the position of the same number.
+/// The greatest of the sums, each of which stands at the position of the same number.
 fn greatest_of(stripes: &Stripes, pass: Pass, all: Vec<Result<Held, Refusal>>) -> Option<u64>
     requires own { IsPassOf stripes.now pass }
     requires all { All (λ answer. IfOk answer (IsHeldOf stripes.now)) all.items }
@@ -197,7 +197,7 @@ fn greatest_of(stripes: &Stripes, pass: Pass, all: Vec<Result<Held, Refusal>>) -
     Some(greatest)
 }
 
-// How many changes the keeper publishes, and the greatest of the sums.
+/// How many changes the keeper publishes, and the greatest of the sums.
 fn published_sum(
     stripes: &Stripes,
     keeper: Pass,
@@ -231,7 +231,7 @@ fn eight_threads_add_to_one_key(rt: HostRuntime) {
     assert_same(&rt, &published, &Some((1600, 1600)));
 }
 
-// Takes a stripe and leaves with it.
+/// Takes a stripe and leaves with it.
 fn leave_with(stripes: &Stripes, stripe: usize) -> bool
     requires { stripe < stripe_count stripes.now }
 {
@@ -241,7 +241,7 @@ fn leave_with(stripes: &Stripes, stripe: usize) -> bool
     }
 }
 
-// What comes of a change and a read.
+/// What comes of a change and a read.
 fn call_and_read<R: Wait>(rt: &R, stripes: &Stripes, pass: &mut Pass, alloc: Global) -> Tried
     requires own { IsPassOf stripes.now pass.old }
     requires empty_handed { (recorded pass.old).holding ≡ None }
@@ -251,7 +251,7 @@ fn call_and_read<R: Wait>(rt: &R, stripes: &Stripes, pass: &mut Pass, alloc: Glo
     outcome_of(stripes.read(rt, pass, read))
 }
 
-// What comes of a change in stripe 11, and of a change and a read in another.
+/// What comes of a change in stripe 11, and of a change and a read in another.
 fn work<R: Wait>(rt: &R, stripes: &Stripes, alloc: Global) -> Result<[Tried; 2], Refusal> {
     let mut pass = stripes.pass()?;
     let tried = try_put(stripes, &mut pass, alloc, "hello");

@@ -3,21 +3,21 @@ use crate::checks::assert_same;
 use map_types::{Func, Key, Refusal, Text, Value};
 use std::alloc::Global;
 
-// The length of the key of `len` bytes.
+/// The length of the key of `len` bytes.
 fn key_of(alloc: Global, len: usize) -> Result<usize, Refusal> {
     let text = "k".repeat(alloc, len)?;
     let key = Key::new(alloc, text.as_str())?;
     Ok(key.as_str().len())
 }
 
-// The length of the text of `len` bytes.
+/// The length of the text of `len` bytes.
 fn text_of(alloc: Global, len: usize) -> Result<usize, Refusal> {
     let text = "v".repeat(alloc, len)?;
     let text = Text::new(alloc, text.as_str())?;
     Ok(text.as_str().len())
 }
 
-// The same of a value; 0 if it's none of a text.
+/// The same of a value; 0 if it's none of a text.
 fn value_of(alloc: Global, len: usize) -> Result<usize, Refusal> {
     let text = "v".repeat(alloc, len)?;
     match Value::text(alloc, text.as_str())? {
@@ -47,7 +47,7 @@ fn lengths_up_to_their_limit(rt: HostRuntime) {
     assert_same(&rt, &(longest, longer), &wanted);
 }
 
-// Whether `a` is before `aa`, and is its clone.
+/// Whether `a` is before `aa`, and is its clone.
 fn compared(alloc: Global) -> Result<(bool, bool), Refusal> {
     let key = Key::new(alloc, "a")?;
     let longer = Key::new(alloc, "aa")?;
@@ -55,14 +55,14 @@ fn compared(alloc: Global) -> Result<(bool, bool), Refusal> {
     Ok((key < longer, key == clone))
 }
 
-// Whether `ab`, followed by `c`, is `abc`.
+/// Whether `ab`, followed by `c`, is `abc`.
 fn is_joined(alloc: Global) -> Result<bool, Refusal> {
     let tail = Text::new(alloc, "c")?;
     let both = Text::new(alloc, "ab")?.followed_by(alloc, &tail)?;
     Ok(both.as_str() == "abc")
 }
 
-// Whether the text `1` is the same as another `1`, and as the number 1.
+/// Whether the text `1` is the same as another `1`, and as the number 1.
 fn are_same(alloc: Global) -> Result<(bool, bool), Refusal> {
     let text = Value::text(alloc, "1")?;
     let other = Value::text(alloc, "1")?;
@@ -80,7 +80,7 @@ fn keys_and_values_are_compared(rt: HostRuntime) {
     );
 }
 
-// Whether there is a function of this number.
+/// Whether there is a function of this number.
 fn is_known(number: u8) -> bool {
     match Func::of(number) {
         Some(func) => func.number() == number,
@@ -88,7 +88,7 @@ fn is_known(number: u8) -> bool {
     }
 }
 
-// The first number that comes out otherwise, if any: there are functions of 1 to 9 alone.
+/// The first number that comes out otherwise, if any: there are functions of 1 to 9 alone.
 fn first_wrong() -> Option<u8> {
     for number in 0..=255u8 {
         if is_known(number) != (number >= 1 && number <= 9) {
@@ -123,7 +123,7 @@ static REFUSALS: [(Refusal, u8, &str); 4] = [
     (Refusal::SeatsSpent, 19, "19 SeatsSpent"),
 ];
 
-// The text of the first refusal that has another number, or is printed otherwise, if any.
+/// The text of the first refusal that has another number, or is printed otherwise, if any.
 fn first_misprinted(alloc: Global) -> Result<Option<&'static str>, Refusal> {
     for (refusal, number, text) in &REFUSALS {
         if !is_printed(alloc, *refusal, text)? || refusal.number() != *number {

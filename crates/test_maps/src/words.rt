@@ -15,7 +15,7 @@ fn position_of(held: &Held) -> u64
     held.position().number()
 }
 
-// Whether the number 1 is there at position 1.
+/// Whether the number 1 is there at position 1.
 fn is_one_at_one(released: &Released) -> bool {
     match released {
         Released::Reply(position, Reply::Now(Some(Value::Int(number)))) => {
@@ -25,8 +25,8 @@ fn is_one_at_one(released: &Released) -> bool {
     }
 }
 
-// Makes a put whose reply is given up, and a read that is published. Their positions, and whether
-// the number 1 is read at position 1.
+/// Makes a put whose reply is given up, and a read that is published. Their positions, and whether
+/// the number 1 is read at position 1.
 fn put_and_read<S: Steps>(steps: &mut S, alloc: Global) -> Result<(u64, u64, bool), Refusal>
     requires empty_handed { (S.recorded steps.old).holding ≡ None }
     requires by_keeper { (S.recorded steps.old).keeper ≡ true }
@@ -53,7 +53,7 @@ fn one_pass_puts_and_reads(rt: HostRuntime) {
     assert_same(&rt, &made, &Ok((1, 1, true)));
 }
 
-// Makes a put, and gives its reply up. Its position.
+/// Makes a put, and gives its reply up. Its position.
 fn give_up_put<S: Steps>(steps: &mut S, alloc: Global) -> Result<u64, Refusal>
     requires { (S.recorded steps.old).holding ≡ None }
 {
@@ -72,7 +72,7 @@ fn a_held_reply_is_given_up(rt: HostRuntime) {
     assert_same(&rt, &position, &Ok(1));
 }
 
-// Makes a put. Whether its reply has to wait.
+/// Makes a put. Whether its reply has to wait.
 fn waits<S: Steps>(steps: &mut S, alloc: Global) -> Result<bool, Refusal>
     requires { (S.recorded steps.old).holding ≡ None }
 {
@@ -92,8 +92,8 @@ fn a_reply_waits_until_its_position_is_durable(rt: HostRuntime) {
     assert_same(&rt, &waits, &Ok(true));
 }
 
-// How many stripes there are, whether pass 0 is alive before the keeper fails and behind it, and
-// whether it gets stripe 3 then, and pass 1 too.
+/// How many stripes there are, whether pass 0 is alive before the keeper fails and behind it, and
+/// whether it gets stripe 3 then, and pass 1 too.
 fn shared(alloc: Global, count: StripeCount) -> Result<(usize, [bool; 4]), Refusal>
     requires { count.count ≡ 16 }
 {

@@ -67,8 +67,8 @@ fn put_status<R: Wait>(memory: &mut Memory<MemDisk, R>, alloc: Global, number: i
     }
 }
 
-// How many device calls are made before the first change. If one of them fails, the map is not
-// begun, and the refusal is 9: else it returns `MANY`.
+/// How many device calls are made before the first change. If one of them fails, the map is not
+/// begun, and the refusal is 9: else it returns `MANY`.
 pub(crate) fn first_calls<R: Wait>(rt: &R, alloc: Global) -> u64 {
     for after in 0..MANY {
         match status(begun(rt, alloc, failing_disk(alloc, after))) {
@@ -80,14 +80,14 @@ pub(crate) fn first_calls<R: Wait>(rt: &R, alloc: Global) -> u64 {
     MANY
 }
 
-// A directory is formatted by 13 calls, and opened by 4 syncs and reads.
+/// A directory is formatted by 13 calls, and opened by 4 syncs and reads.
 #[test]
 fn a_failure_before_the_first_change(rt: HostRuntime) {
     let calls = first_calls(&rt, rt.alloc());
     assert!(rt; calls > 17 && calls < MANY, "{calls}");
 }
 
-// Whether the first of three changes is made, and the others are refused with 9.
+/// Whether the first of three changes is made, and the others are refused with 9.
 fn fails_behind_one<R: Wait>(memory: &mut Memory<MemDisk, R>, alloc: Global) -> bool {
     let first = put_status(memory, alloc, 5);
     let second = put_status(memory, alloc, 6);
@@ -144,7 +144,7 @@ fn value_of<R: Wait>(memory: &mut Memory<MemDisk, R>, alloc: Global) -> i64 {
     }
 }
 
-// Two changes and a read: the numbers of the refusals of the changes, and what the read found.
+/// Two changes and a read: the numbers of the refusals of the changes, and what the read found.
 fn change_twice<R: Wait>(memory: &mut Memory<MemDisk, R>, alloc: Global) -> (u8, u8, i64) {
     let first = put_status(memory, alloc, 5);
     let second = put_status(memory, alloc, 6);
@@ -159,7 +159,10 @@ fn memory_that_is_refused(rt: HostRuntime) {
     let seen = match begun(&rt, alloc, MemDisk::new(alloc)) {
         Ok(mut memory) => change_twice(&mut memory, alloc),
         Err(refusal) => {
-            assert!(rt; refusal.number() == 7 || refusal.number() == 9, "{refusal:?}");
+            assert!(rt;
+                refusal.number() == 7 || refusal.number() == 9,
+                "{refusal:?}"
+            );
             return;
         }
     };

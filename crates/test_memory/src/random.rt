@@ -55,7 +55,7 @@ fn act_on(part: &mut Part, alloc: Global, command: &Command) -> Result<Reply, Re
     Ok(part.act(&command.key, prepared))
 }
 
-// Whether both are replies, and the same one.
+/// Whether both are replies, and the same one.
 fn are_same(came: Result<Reply, Refusal>, wanted: Result<Reply, Refusal>) -> bool {
     match (came, wanted) {
         (Ok(came), Ok(wanted)) => came == wanted,

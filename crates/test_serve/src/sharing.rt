@@ -54,7 +54,7 @@ impl HoldsFirst {
 }
 
 impl Observer for HoldsFirst {
-    // The mark is the number of the request.
+    /// The mark is the number of the request.
     fn request_begins<R: Clock>(&self, rt: &R, _worker: usize) -> Option<u64> {
         let n = self.taken_up.fetch_add(1, Ordering::SeqCst);
         if n == 0 {

@@ -28,7 +28,7 @@ pub(crate) fn begin_put<R: Wait>(
     map.begin_change(rt, pass, Command { key, change })
 }
 
-// Begins a get of `a`.
+/// Begins a get of `a`.
 fn begin_get<R: Wait>(
     rt: &R,
     map: &DurableMap<MemDisk>,
@@ -44,7 +44,7 @@ fn begin_get<R: Wait>(
     map.begin_read(rt, pass, Read { key, question })
 }
 
-// Which of the three may be finished.
+/// Which of the three may be finished.
 fn may_finish(map: &DurableMap<MemDisk>, first: &Held, second: &Held, last: &Held) -> [bool; 3] {
     [
         map.may_finish(first),
@@ -53,7 +53,7 @@ fn may_finish(map: &DurableMap<MemDisk>, first: &Held, second: &Held, last: &Hel
     ]
 }
 
-// Finishes a put of 1 over nothing, a put of 2, and a get, and whether each replies as it should.
+/// Finishes a put of 1 over nothing, a put of 2, and a get, and whether each replies as it should.
 fn finish_three<R: Wait>(
     rt: &R,
     map: &DurableMap<MemDisk>,
@@ -73,7 +73,7 @@ fn finish_three<R: Wait>(
     put && again && got
 }
 
-// Begins three calls of one key, commits one batch, and then finishes them.
+/// Begins three calls of one key, commits one batch, and then finishes them.
 fn share_a_batch<R: Wait>(
     rt: &R,
     map: &DurableMap<MemDisk>,
@@ -103,7 +103,7 @@ fn begun_calls_share_a_batch(rt: HostRuntime) -> Result<(), Refusal> {
     Ok(())
 }
 
-// Whether a pass gets the absent `b` while another's put of `a`, on another stripe, isn't committed.
+/// Whether a pass gets the absent `b` while another's put of `a`, on another stripe, isn't committed.
 fn gets_beside_a_put<R: Wait>(
     rt: &R,
     map: &DurableMap<MemDisk>,

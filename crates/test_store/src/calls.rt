@@ -15,12 +15,12 @@ pub(crate) fn key(alloc: Global, text: &str) -> Result<Key, Refusal> {
     Key::new(alloc, text)
 }
 
-// Whether nothing was there before.
+/// Whether nothing was there before.
 pub(crate) fn was_absent(reply: Result<Reply, Refusal>) -> bool {
     matches!(reply, Ok(Reply::Was(None)))
 }
 
-// Whether this number was there before.
+/// Whether this number was there before.
 pub(crate) fn was(reply: Result<Reply, Refusal>, wanted: i64) -> bool {
     match reply {
         Ok(Reply::Was(Some(Value::Int(number)))) => number == wanted,
@@ -28,7 +28,7 @@ pub(crate) fn was(reply: Result<Reply, Refusal>, wanted: i64) -> bool {
     }
 }
 
-// Whether this number is there now.
+/// Whether this number is there now.
 pub(crate) fn is_now(reply: Result<Reply, Refusal>, wanted: i64) -> bool {
     match reply {
         Ok(Reply::Now(Some(Value::Int(number)))) => number == wanted,
@@ -36,12 +36,12 @@ pub(crate) fn is_now(reply: Result<Reply, Refusal>, wanted: i64) -> bool {
     }
 }
 
-// Whether nothing is there now.
+/// Whether nothing is there now.
 pub(crate) fn is_absent_now(reply: Result<Reply, Refusal>) -> bool {
     matches!(reply, Ok(Reply::Now(None)))
 }
 
-// Whether a call answered so.
+/// Whether a call answered so.
 fn did(reply: Result<Reply, Refusal>, wanted: bool) -> bool {
     match reply {
         Ok(Reply::Did(done)) => done == wanted,
@@ -49,7 +49,7 @@ fn did(reply: Result<Reply, Refusal>, wanted: bool) -> bool {
     }
 }
 
-// Changes of one key, and whether each returns what it should.
+/// Changes of one key, and whether each returns what it should.
 fn change_often<R: Wait>(
     rt: &R,
     map: &DurableMap<MemDisk>,
@@ -77,7 +77,7 @@ fn change_often<R: Wait>(
     Ok(put && added && replaced && swapped && removed)
 }
 
-// Functions of one key, whose value is 8, and whether each returns what it should.
+/// Functions of one key, whose value is 8, and whether each returns what it should.
 fn compute_often<R: Wait>(
     rt: &R,
     map: &DurableMap<MemDisk>,
@@ -106,7 +106,7 @@ fn compute_often<R: Wait>(
     Ok(merged && least && kept && most && removed)
 }
 
-// Reads of an absent key, and whether each returns what it should.
+/// Reads of an absent key, and whether each returns what it should.
 fn read_often<R: Wait>(
     rt: &R,
     map: &DurableMap<MemDisk>,
@@ -125,7 +125,7 @@ fn read_often<R: Wait>(
     Ok(got && default && contained)
 }
 
-// Makes all thirteen calls, and ends the loops.
+/// Makes all thirteen calls, and ends the loops.
 fn call_all<R: Wait>(
     rt: &R,
     map: &DurableMap<MemDisk>,
@@ -150,11 +150,14 @@ fn thirteen_calls_answer_once_they_are_durable(rt: HostRuntime) -> Result<(), Re
         || flush_loop(&rt, &map, &flag),
         || call_all(&rt, &map, alloc, &flag),
     );
-    assert!(rt; called?, "a call has another reply, or the position is not 10");
+    assert!(rt;
+        called?,
+        "a call has another reply, or the position is not 10"
+    );
     Ok(())
 }
 
-// Whether what is held is durable, and the reply is this number, which is there now.
+/// Whether what is held is durable, and the reply is this number, which is there now.
 fn gives(map: &DurableMap<MemDisk>, pass: &mut Pass, held: Held, wanted: i64) -> bool
     requires ready { IsReady map.now pass.old }
     requires held { IsHeldOf map.now held }
@@ -170,7 +173,7 @@ pub(crate) fn position(held: Held) -> u64 {
     held.position().number()
 }
 
-// Makes a call of each `try_` form; the keys that are used are in stripes of their own.
+/// Makes a call of each `try_` form; the keys that are used are in stripes of their own.
 fn try_changes(map: &DurableMap<MemDisk>, pass: &mut Pass, alloc: Global) -> Result<u64, Refusal>
     requires { IsReady map.now pass.old }
     ensures { IsReady map.now pass.new }
@@ -199,7 +202,7 @@ fn try_functions(map: &DurableMap<MemDisk>, pass: &mut Pass, alloc: Global) -> R
     Ok(last)
 }
 
-// A read of each kind; what the last two give is held.
+/// A read of each kind; what the last two give is held.
 fn try_reads(
     map: &DurableMap<MemDisk>,
     pass: &mut Pass,
@@ -214,7 +217,7 @@ fn try_reads(
     Ok((map.try_get(pass, key(alloc, "a")?)?, default))
 }
 
-// What is held, which isn't durable.
+/// What is held, which isn't durable.
 fn still_held(map: &DurableMap<MemDisk>, pass: &mut Pass, held: Held) -> Result<Held, Refusal>
     requires ready { IsReady map.now pass.old }
     requires held { IsHeldOf map.now held }
@@ -227,7 +230,7 @@ fn still_held(map: &DurableMap<MemDisk>, pass: &mut Pass, held: Held) -> Result<
     }
 }
 
-// Makes all tries, and releases what two reads gave: first before it is durable, and then behind it.
+/// Makes all tries, and releases what two reads gave: first before it is durable, and then behind it.
 fn try_all<R: Wait>(rt: &R, map: &DurableMap<MemDisk>, alloc: Global) -> Result<bool, Refusal> {
     let mut pass = map.pass()?;
     let changed = try_changes(map, &mut pass, alloc)? == 6;
@@ -244,6 +247,9 @@ fn try_all<R: Wait>(rt: &R, map: &DurableMap<MemDisk>, alloc: Global) -> Result<
 fn tries_are_held_until_they_are_durable(rt: HostRuntime) -> Result<(), Refusal> {
     let alloc = rt.alloc();
     let map = open(alloc, 16)?;
-    assert!(rt; try_all(&rt, &map, alloc)?, "a try has another reply or another position");
+    assert!(rt;
+        try_all(&rt, &map, alloc)?,
+        "a try has another reply or another position"
+    );
     Ok(())
 }

@@ -25,7 +25,7 @@ const MOST_TURNS: u32 = 10_000;
 /// The length of the log of one put, so that the put begins a checkpoint.
 const LOG_BYTES: u64 = 48;
 
-// The map of a directory, which is made that of an empty map.
+/// The map of a directory, which is made that of an empty map.
 fn new_map(rt: &HostRuntime, directory: &str) -> Result<DurableMap<DirDisk<Unknown>>, Fail> {
     let alloc = rt.alloc();
     let count = StripeCount::new(16).ok_or(Refusal::WrongPhase)?;
@@ -34,7 +34,7 @@ fn new_map(rt: &HostRuntime, directory: &str) -> Result<DurableMap<DirDisk<Unkno
     Ok(map_over(alloc, disk, count)?)
 }
 
-// The position and the reply, once the position is durable.
+/// The position and the reply, once the position is durable.
 fn released_in_time<D: Disk + Drop, C: Clock>(
     clock: &C,
     map: &DurableMap<D>,
@@ -56,7 +56,7 @@ fn released_in_time<D: Disk + Drop, C: Clock>(
     None
 }
 
-// Whether the file begins with an open gate.
+/// Whether the file begins with an open gate.
 fn is_sealed<R: Files<File = File>>(rt: &R, path: &str) -> bool {
     let Ok(mut file) = File::open(rt, path) else {
         return false;
@@ -65,7 +65,7 @@ fn is_sealed<R: Files<File = File>>(rt: &R, path: &str) -> bool {
     file.read_exact(&mut gate).is_ok() && gate[0] == 0xA5
 }
 
-// The same, in time.
+/// The same, in time.
 fn is_sealed_in_time<R: Clock + Files<File = File>>(rt: &R, path: &str) -> bool {
     for _turn in 0..MOST_TURNS {
         if is_sealed(rt, path) {
@@ -76,7 +76,7 @@ fn is_sealed_in_time<R: Clock + Files<File = File>>(rt: &R, path: &str) -> bool 
     false
 }
 
-// A put and a get of one key, whose reply isn't released before the put is durable.
+/// A put and a get of one key, whose reply isn't released before the put is durable.
 fn put_and_get(
     map: &DurableMap<DirDisk<Unknown>>,
     pass: &mut Pass,
@@ -94,7 +94,7 @@ fn put_and_get(
     }
 }
 
-// Each loop runs on a thread of its own until the read is released and a checkpoint is sealed.
+/// Each loop runs on a thread of its own until the read is released and a checkpoint is sealed.
 fn run_both<D: Disk + Drop + Send, R: Clock + Files<File = File> + Threads + Wait + Sync>(
     rt: &R,
     map: &DurableMap<D>,

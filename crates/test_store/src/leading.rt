@@ -29,7 +29,7 @@ impl Ends for Endless {
     }
 }
 
-// Whether what is held becomes durable, though nobody asks for it.
+/// Whether what is held becomes durable, though nobody asks for it.
 fn comes<R: Clock>(rt: &R, map: &DurableMap<MemDisk>, held: &Held) -> bool {
     for _look in 0..MOST_LOOKS {
         if map.may_finish(held) {
@@ -40,7 +40,7 @@ fn comes<R: Clock>(rt: &R, map: &DurableMap<MemDisk>, held: &Held) -> bool {
     false
 }
 
-// Begins a put while the loop of the log sleeps. It says whether it becomes durable.
+/// Begins a put while the loop of the log sleeps. It says whether it becomes durable.
 fn put_and_leave<R: Clock + Wait>(
     rt: &R,
     map: &DurableMap<MemDisk>,
@@ -53,7 +53,7 @@ fn put_and_leave<R: Clock + Wait>(
     Ok(comes(rt, map, &left))
 }
 
-// The same, and then the loop is to end.
+/// The same, and then the loop is to end.
 fn leave_and_end<R: Clock + Wait>(
     rt: &R,
     map: &DurableMap<MemDisk>,
@@ -79,8 +79,8 @@ fn a_change_that_nobody_finishes_is_committed(rt: HostRuntime) -> Result<(), Ref
     Ok(())
 }
 
-// Begins a put with a pass of its own, and makes the turns of the log if its loop rests. It says whether
-// it made them, and the put is finished in any case.
+/// Begins a put with a pass of its own, and makes the turns of the log if its loop rests. It says whether
+/// it made them, and the put is finished in any case.
 fn put_and_lead<R: Wait>(
     rt: &R,
     map: &DurableMap<MemDisk>,
@@ -94,7 +94,7 @@ fn put_and_lead<R: Wait>(
     Ok(is_led)
 }
 
-// Puts until the turns of one were made without the loop.
+/// Puts until the turns of one were made without the loop.
 fn lead_once<R: Wait>(rt: &R, map: &DurableMap<MemDisk>, alloc: Global) -> Result<bool, Refusal> {
     for _put in 0..MOST_PUTS {
         if put_and_lead(rt, map, alloc)? {
@@ -104,7 +104,7 @@ fn lead_once<R: Wait>(rt: &R, map: &DurableMap<MemDisk>, alloc: Global) -> Resul
     Ok(false)
 }
 
-// The same, and then the loop is to end.
+/// The same, and then the loop is to end.
 fn lead_and_end<R: Wait>(
     rt: &R,
     map: &DurableMap<MemDisk>,

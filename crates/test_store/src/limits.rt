@@ -20,7 +20,7 @@ fn open_old(alloc: Global) -> Result<DurableMap<MemDisk>, Refusal> {
     map_over(alloc, disk, count)
 }
 
-// The key of this many bytes, each an `x`.
+/// The key of this many bytes, each an `x`.
 fn key_of(alloc: Global, bytes: usize) -> Result<Key, Refusal> {
     let mut text = String::new(alloc);
     for _ in 0..bytes {
@@ -29,7 +29,7 @@ fn key_of(alloc: Global, bytes: usize) -> Result<Key, Refusal> {
     Key::new(alloc, text.as_str())
 }
 
-// The number of the refusal, or 0.
+/// The number of the refusal, or 0.
 fn number_of<T: Drop>(answer: Result<T, Refusal>) -> u8 {
     match answer {
         Ok(_) => 0,
@@ -37,7 +37,7 @@ fn number_of<T: Drop>(answer: Result<T, Refusal>) -> u8 {
     }
 }
 
-// What a put of a key of this many bytes comes to, tried and waited for, and then a get of it.
+/// What a put of a key of this many bytes comes to, tried and waited for, and then a get of it.
 fn call_with<R: Wait>(
     rt: &R,
     map: &DurableMap<MemDisk>,
@@ -54,7 +54,7 @@ fn call_with<R: Wait>(
     Ok([tried, put, got])
 }
 
-// What comes of calls with keys of 256 and of 255 bytes, and how many tickets are drawn.
+/// What comes of calls with keys of 256 and of 255 bytes, and how many tickets are drawn.
 fn call_with_both<R: Wait>(
     rt: &R,
     map: &DurableMap<MemDisk>,
@@ -66,7 +66,7 @@ fn call_with_both<R: Wait>(
     Ok((longer, longest, map.look(&mut pass)))
 }
 
-// The same; then the loop ends.
+/// The same; then the loop ends.
 fn call_and_end<R: Wait>(
     rt: &R,
     map: &DurableMap<MemDisk>,
@@ -78,7 +78,7 @@ fn call_and_end<R: Wait>(
     called
 }
 
-// A change of a key that is too long is refused and draws no ticket; a read of it is served.
+/// A change of a key that is too long is refused and draws no ticket; a read of it is served.
 #[test]
 fn keys_above_the_limit(rt: HostRuntime) -> Result<(), Refusal> {
     let alloc = rt.alloc();

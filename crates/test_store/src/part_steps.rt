@@ -12,7 +12,7 @@ use durable_map::{DurableMap, PartsWalk, PartsWalked};
 use map_types::{Refusal, Value};
 use stripe_locks::Pass;
 
-// The walk behind one more step, which isn't its last.
+/// The walk behind one more step, which isn't its last.
 fn stepped(
     map: &DurableMap<MemDisk>,
     pass: &mut Pass,
@@ -31,7 +31,7 @@ fn stepped(
     }
 }
 
-// How many entries the part that is lent has, and its mark.
+/// How many entries the part that is lent has, and its mark.
 fn lent_count(walk: &PartsWalk) -> Option<(u64, usize)> {
     match walk.lent() {
         Some((mark, part)) => Some((mark, part.len())),
@@ -39,8 +39,8 @@ fn lent_count(walk: &PartsWalk) -> Option<(u64, usize)> {
     }
 }
 
-// Of two stripes `a` belongs to the second one. Behind TAKE, LOOK and GIVE of the first, and TAKE and
-// LOOK of the second, its part is lent.
+/// Of two stripes `a` belongs to the second one. Behind TAKE, LOOK and GIVE of the first, and TAKE and
+/// LOOK of the second, its part is lent.
 #[test]
 fn a_part_is_lent_and_given_back(rt: HostRuntime) -> Result<(), Refusal> {
     let alloc = rt.alloc();
@@ -52,7 +52,10 @@ fn a_part_is_lent_and_given_back(rt: HostRuntime) -> Result<(), Refusal> {
     let walk = stepped(&map, &mut pass, walk)?;
     assert_eq!(rt; lent_count(&walk), Some((1, 0)));
     let walk = stepped(&map, &mut pass, walk)?;
-    assert!(rt; lent_count(&walk).is_none(), "a part is lent behind its GIVE");
+    assert!(rt;
+        lent_count(&walk).is_none(),
+        "a part is lent behind its GIVE"
+    );
     let walk = stepped(&map, &mut pass, walk)?;
     let walk = stepped(&map, &mut pass, walk)?;
     assert_eq!(rt; lent_count(&walk), Some((1, 1)));
@@ -61,7 +64,10 @@ fn a_part_is_lent_and_given_back(rt: HostRuntime) -> Result<(), Refusal> {
         "a put was made on a stripe that is held"
     );
     let walk = walk.give_back();
-    assert!(rt; lent_count(&walk).is_none(), "a part that was given back is lent");
+    assert!(rt;
+        lent_count(&walk).is_none(),
+        "a part that was given back is lent"
+    );
     let ended = map.parts_step(&mut pass, walk);
     assert!(rt;
         matches!(ended, Err(Refusal::NoMemory)),

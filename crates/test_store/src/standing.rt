@@ -32,7 +32,7 @@ impl Ends for UntilSealed {
     }
 }
 
-// Puts two keys, and removes one of them.
+/// Puts two keys, and removes one of them.
 fn change(map: &DurableMap<MemDisk>, pass: &mut Pass, alloc: Global) -> Result<u64, Refusal>
     requires { IsReady map.now pass.old }
     ensures { IsReady map.now pass.new }

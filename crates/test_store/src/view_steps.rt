@@ -16,7 +16,7 @@ use std::sync::Wait;
 use std::thread::Threads;
 use stripe_locks::Pass;
 
-// The view behind `steps` steps, none of which is its last.
+/// The view behind `steps` steps, none of which is its last.
 fn advanced(
     map: &DurableMap<MemDisk>,
     pass: &mut Pass,
@@ -40,7 +40,7 @@ fn advanced(
     Ok(walk)
 }
 
-// The view that ends with this step.
+/// The view that ends with this step.
 fn ended(
     map: &DurableMap<MemDisk>,
     pass: &mut Pass,
@@ -56,7 +56,7 @@ fn ended(
     }
 }
 
-// Of two stripes, `b` belongs to the first and `a` to the second. Each is looked at behind two puts.
+/// Of two stripes, `b` belongs to the first and `a` to the second. Each is looked at behind two puts.
 fn between_puts<R: Wait>(
     rt: &R,
     map: &DurableMap<MemDisk>,
@@ -76,7 +76,7 @@ fn between_puts<R: Wait>(
     ended(map, &mut pass, alloc, walk)
 }
 
-// Whether the view has {a: 4, b: 2}, at the marks 2 and 4.
+/// Whether the view has {a: 4, b: 2}, at the marks 2 and 4.
 fn is_as_worked<R: Threads + Sync>(rt: &R, view: &View) -> bool {
     view.mark(0) == Some(2)
         && view.mark(1) == Some(4)
@@ -92,6 +92,9 @@ fn each_stripe_of_a_view_has_a_mark_of_its_own(rt: HostRuntime) -> Result<(), Re
     let alloc = rt.alloc();
     let map = open(alloc, 2)?;
     let view = between_puts(&rt, &map, alloc)?;
-    assert!(rt; is_as_worked(&rt, &view), "the view is not of b: 2 at mark 2 and a: 4 at mark 4");
+    assert!(rt;
+        is_as_worked(&rt, &view),
+        "the view is not of b: 2 at mark 2 and a: 4 at mark 4"
+    );
     Ok(())
 }

@@ -13,7 +13,7 @@ use std::thread::{Threads, join};
 /// The device calls of opening a new directory. The next one writes the first batch.
 const OPENING_CALLS: u64 = 12;
 
-// Whether a view, which waits until it is durable, has the one entry of the map.
+/// Whether a view, which waits until it is durable, has the one entry of the map.
 fn has_the_entry<R: Threads + Wait + Sync>(
     rt: &R,
     map: &DurableMap<MemDisk>,
@@ -24,7 +24,7 @@ fn has_the_entry<R: Threads + Wait + Sync>(
     Ok(view.mark(1) == Some(1) && gives(rt, &view, Func::Sum, 0, 5))
 }
 
-// The same, and then the loop ends.
+/// The same, and then the loop ends.
 fn view_at_last<R: Threads + Wait + Sync>(
     rt: &R,
     map: &DurableMap<MemDisk>,
@@ -36,7 +36,7 @@ fn view_at_last<R: Threads + Wait + Sync>(
     has
 }
 
-// Nothing is committed before both begin.
+/// Nothing is committed before both begin.
 #[test]
 fn a_view_waits_until_it_is_durable(rt: HostRuntime) -> Result<(), Refusal> {
     let alloc = rt.alloc();
@@ -53,7 +53,7 @@ fn a_view_waits_until_it_is_durable(rt: HostRuntime) -> Result<(), Refusal> {
     Ok(())
 }
 
-// It saw a change that can't be committed any more, so it is refused, and doesn't wait.
+/// It saw a change that can't be committed any more, so it is refused, and doesn't wait.
 #[test]
 fn a_view_of_a_failed_store(rt: HostRuntime) -> Result<(), Refusal> {
     let alloc = rt.alloc();

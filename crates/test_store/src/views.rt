@@ -69,7 +69,7 @@ pub(crate) fn finds<R: Threads + Sync>(
     }
 }
 
-// Whether no key has the number.
+/// Whether no key has the number.
 fn finds_none<R: Threads + Sync>(rt: &R, view: &View, number: i64, threshold: u64) -> bool {
     matches!(view.search(rt, &Value::Int(number), threshold), Ok(None))
 }
@@ -87,14 +87,14 @@ fn put_number(
     put(map, pass, alloc, key, Value::Int(number))
 }
 
-// Whether a view of no entries returns what it should.
+/// Whether a view of no entries returns what it should.
 fn answers_of_none<R: Threads + Sync>(rt: &R, view: &View, threshold: u64) -> bool {
     view.count() == 0
         && view.reduce(rt, Func::Sum, threshold) == Ok(Ok(None))
         && finds_none(rt, view, 9, threshold)
 }
 
-// Whether a view of a: 5 and b: 7 does.
+/// Whether a view of a: 5 and b: 7 does.
 fn answers_of_two<R: Threads + Sync>(rt: &R, view: &View, threshold: u64) -> bool {
     view.count() == 2
         && gives(rt, view, Func::Sum, threshold, 12)
@@ -104,7 +104,7 @@ fn answers_of_two<R: Threads + Sync>(rt: &R, view: &View, threshold: u64) -> boo
         && view.reduce(rt, Func::SumExact, threshold) == Err(Refusal::UnknownFunction)
 }
 
-// Whether a view of a: 1, b: 2 and c: a text does.
+/// Whether a view of a: 1, b: 2 and c: a text does.
 fn answers_of_three<R: Threads + Sync>(rt: &R, view: &View, threshold: u64) -> bool {
     view.count() == 3
         && view.reduce(rt, Func::Sum, threshold) == Ok(Err(FuncError::WrongKind))
@@ -154,7 +154,7 @@ fn answers_of_no_entries_of_numbers_and_of_a_text(rt: HostRuntime) -> Result<(),
     Ok(())
 }
 
-// Puts the entries from this place on, up to that one.
+/// Puts the entries from this place on, up to that one.
 fn put_in_twos(
     map: &DurableMap<MemDisk>,
     pass: &mut Pass,
@@ -172,7 +172,7 @@ fn put_in_twos(
     Ok(())
 }
 
-// Whether a view returns what is wanted with each threshold.
+/// Whether a view returns what is wanted with each threshold.
 fn answers_so<R: Threads + Sync>(rt: &R, view: &View, wanted: &Wanted) -> bool {
     THRESHOLDS.iter().all(|threshold| {
         gives(rt, view, Func::Sum, *threshold, wanted.sum)

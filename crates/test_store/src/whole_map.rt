@@ -10,7 +10,7 @@ use std::alloc::Global;
 use std::sync::Wait;
 use stripe_locks::Pass;
 
-// Whether a reduction gives this number.
+/// Whether a reduction gives this number.
 fn gives<R: Wait>(
     rt: &R,
     alloc: Global,
@@ -25,7 +25,7 @@ fn gives<R: Wait>(
     reduce(rt, alloc, map, pass, func) == Ok(Ok(Some(Value::Int(number))))
 }
 
-// Whether this is the least key with the number, or there is none.
+/// Whether this is the least key with the number, or there is none.
 fn finds<R: Wait>(
     rt: &R,
     alloc: Global,
@@ -52,7 +52,10 @@ fn a_map_of_no_entries(rt: HostRuntime) -> Result<(), Refusal> {
     assert!(rt; count(&rt, &map, &mut pass) == Ok(0), "the count is not 0");
     let sum = reduce(&rt, alloc, &map, &mut pass, Func::Sum);
     assert!(rt; sum == Ok(Ok(None)), "{sum:?}");
-    assert!(rt; finds(&rt, alloc, &map, &mut pass, 9, None), "a key of the value 9 was found");
+    assert!(rt;
+        finds(&rt, alloc, &map, &mut pass, 9, None),
+        "a key of the value 9 was found"
+    );
     Ok(())
 }
 
@@ -66,14 +69,26 @@ fn a_map_of_numbers(rt: HostRuntime) -> Result<(), Refusal> {
     put(&map, &mut pass, alloc, "a", Value::Int(5))?;
     commit(&rt, &map);
     assert!(rt; count(&rt, &map, &mut pass) == Ok(3), "the count is not 3");
-    assert!(rt; gives(&rt, alloc, &map, &mut pass, Func::Sum, 19), "the sum is not 19");
-    assert!(rt; gives(&rt, alloc, &map, &mut pass, Func::Max, 7), "the greatest value is not 7");
-    assert!(rt; gives(&rt, alloc, &map, &mut pass, Func::Min, 5), "the least value is not 5");
+    assert!(rt;
+        gives(&rt, alloc, &map, &mut pass, Func::Sum, 19),
+        "the sum is not 19"
+    );
+    assert!(rt;
+        gives(&rt, alloc, &map, &mut pass, Func::Max, 7),
+        "the greatest value is not 7"
+    );
+    assert!(rt;
+        gives(&rt, alloc, &map, &mut pass, Func::Min, 5),
+        "the least value is not 5"
+    );
     assert!(rt;
         finds(&rt, alloc, &map, &mut pass, 7, Some("b")),
         "b is not the least key of the value 7"
     );
-    assert!(rt; finds(&rt, alloc, &map, &mut pass, 9, None), "a key of the value 9 was found");
+    assert!(rt;
+        finds(&rt, alloc, &map, &mut pass, 9, None),
+        "a key of the value 9 was found"
+    );
     let unknown = reduce(&rt, alloc, &map, &mut pass, Func::Concat);
     assert!(rt; unknown == Err(Refusal::UnknownFunction), "{unknown:?}");
     Ok(())

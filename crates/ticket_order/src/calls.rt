@@ -184,7 +184,7 @@ pub fn read_on<S: Steps>(
     read_from(steps, read, spread, Taken { stripe, content })
 }
 
-// Makes a change on its stripe, of which the TAKE was made: ALIVE, LOOK, TICKET, GIVE.
+/// Makes a change on its stripe, of which the TAKE was made: ALIVE, LOOK, TICKET, GIVE.
 fn change_on<S: Steps>(
     steps: &mut S,
     new: NewChange,
@@ -234,7 +234,7 @@ fn change_on<S: Steps>(
     }
 }
 
-// Makes a change that has all its memory: TICKET, GIVE.
+/// Makes a change that has all its memory: TICKET, GIVE.
 fn change_ready<S: Steps>(steps: &mut S, new: NewChange, taken: Taken, prepared: Prepared) -> Held
     requires { (b : Record) × FitsChange (S.stripe_count steps.old) b (ToChange new.command)
         (ChangeStage.IsReady new taken prepared) (S.recorded steps.old) }
@@ -250,7 +250,7 @@ fn change_ready<S: Steps>(steps: &mut S, new: NewChange, taken: Taken, prepared:
     held
 }
 
-// Makes a read of its stripe, of which the TAKE was made: ALIVE, GIVE.
+/// Makes a read of its stripe, of which the TAKE was made: ALIVE, GIVE.
 fn read_from<S: Steps>(
     steps: &mut S,
     read: Read,

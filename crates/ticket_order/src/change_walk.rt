@@ -37,7 +37,7 @@ pub(crate) enum ChangeStage {
 }
 
 impl NewChange {
-    // Makes the change that drew this ticket, which takes no memory.
+    /// Makes the change that drew this ticket, which takes no memory.
     pub(crate) fn drawn(self, taken: Taken, prepared: Prepared, ticket: Ticket) -> (Taken, Held)
         requires memory { HasMemory self.command taken.content prepared }
         requires small { ticket < 2 ^ 63 }
@@ -56,7 +56,7 @@ impl NewChange {
     }
 }
 
-// Makes the step of a change that has all its memory: TICKET.
+/// Makes the step of a change that has all its memory: TICKET.
 fn draw<S: Steps>(new: NewChange, taken: Taken, prepared: Prepared, steps: &mut S) -> Stepped
     requires { (b : Record) × (task : Task) × FitsChange (S.stripe_count steps.old) b task
         (ChangeStage.IsReady new taken prepared) (S.recorded steps.old) }

@@ -44,16 +44,16 @@ impl Stripe {
         }
     }
 
-    // The position of a read by a pass that has seen the position `seen`: the greater of that and
-    // of one past the last ticket of the stripe.
+    /// The position of a read by a pass that has seen the position `seen`: the greater of that and
+    /// of one past the last ticket of the stripe.
     pub(crate) fn read_position(&self, seen: u64) -> Position
         ensures { result ≡ max seen self.now.last }
     {
         Position::new(seen.max(self.last))
     }
 
-    // Gets the memory that the change needs, for whose key the hash has this spread. The content
-    // stays. A growth that is due begins or is put off, and the one that runs is helped once.
+    /// Gets the memory that the change needs, for whose key the hash has this spread. The content
+    /// stays. A growth that is due begins or is put off, and the one that runs is helped once.
     pub(crate) fn prepare(
         &mut self,
         alloc: Global,
@@ -79,7 +79,7 @@ impl Stripe {
         self.part.prepare_hashed(alloc, command, spread)
     }
 
-    // Makes the change, and puts it into the outbox with its ticket. It takes no memory.
+    /// Makes the change, and puts it into the outbox with its ticket. It takes no memory.
     pub(crate) fn act(&mut self, command: Command, prepared: Prepared, ticket: Ticket) -> Reply
         requires memory { HasMemory command self.old prepared }
         requires small { ticket < 2 ^ 63 }

@@ -67,7 +67,7 @@ impl Taken {
         })
     }
 
-    // Gives the stripe back as it was taken, since the call is refused.
+    /// Gives the stripe back as it was taken, since the call is refused.
     pub(crate) fn give_back<S: Steps>(self, refusal: Refusal, steps: &mut S) -> Refusal
         // The stripe is held, with this content.
         requires { HasContent (S.recorded steps.old) self }

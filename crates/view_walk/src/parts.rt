@@ -38,7 +38,7 @@ pub(crate) enum Stage {
 }
 
 impl Stage {
-    // The same, but a stripe whose part is lent is to go back as it was taken.
+    /// The same, but a stripe whose part is lent is to go back as it was taken.
     fn given_back(self) -> Stage
         ensures { result ≡ given_back_at self }
     {

@@ -39,7 +39,7 @@ pub enum Viewed {
     Done(Vec<Captured>),
 }
 
-// The entries of the part, at the end of the captured ones. `NoMemory` leaves those as they were.
+/// The entries of the part, at the end of the captured ones. `NoMemory` leaves those as they were.
 fn capture(
     alloc: Global,
     captured: &mut Vec<Captured>,
@@ -56,8 +56,8 @@ fn capture(
     Ok(())
 }
 
-// The walk, once the part that it lends is captured. If no memory is found for that, the stripe is to
-// go back as it was taken.
+/// The walk, once the part that it lends is captured. If no memory is found for that, the stripe is to
+/// go back as it was taken.
 fn keep(alloc: Global, captured: &mut Vec<Captured>, parts: PartsWalk) -> PartsWalk
     ensures shows { (xs : List Section) → Shows captured.old.items xs
         → Shows captured.new.items (xs ++ lent_sections result) }
