@@ -1,5 +1,5 @@
 //! Checkpoints of a store in use, and what an opening finds after them.
-ghost use Rattle.std.specs.Prelude.{◌≡◌, ◌<◌, None};
+ghost use Rattle.std.specs.Prelude.{◌≡◌, ◌<◌, None, IfOk};
 ghost use Rattle.ticket_order.specs.StepRules.{IsOfSamePass};
 ghost use Rattle.stripe_locks.specs.Passes.{recorded, IsPassOf};
 ghost use Rattle.flusher.specs.Fitting.{FitsFurther, IsFitting, IsKept};
@@ -91,9 +91,9 @@ pub(crate) fn commit_most<D: Disk, S: Steps>(
 }
 
 /// The number of the refusal, or 0.
-fn number_of(answer: Result<(), Refusal>) -> u8 {
+fn number_of<T: Copy>(answer: Result<T, Refusal>) -> u8 {
     match answer {
-        Ok(()) => 0,
+        Ok(_) => 0,
         Err(refusal) => refusal.number(),
     }
 }
@@ -106,7 +106,45 @@ struct Walked {
     seals: (u8, u8),
 }
 
-/// Captures both stripes, with two changes between, and seals once all four commands are published.
+/// Begins a checkpoint, and captures both stripes with two changes between: their marks.
+fn capture_both<D: Disk, R: Wait, S: Steps>(
+    rt: &R,
+    alloc: Global,
+    keeper: &mut Keeper<D>,
+    steps: &mut S,
+    stripes: &Stripes,
+    worker: &mut Pass,
+) -> Result<(u64, u64), Refusal>
+    requires kept { IsKept D.states D.honest (S.stripe_count steps.old) keeper.old
+        (S.recorded steps.old) }
+    requires own { IsPassOf stripes.now worker.old }
+    requires free { (recorded worker.old).holding ≡ None }
+    ensures kept { IfOk result (λ marks.
+        IsKept D.states D.honest (S.stripe_count steps.new) keeper.new (S.recorded steps.new)) }
+    ensures pass { IsOfSamePass S.place S.stripe_count steps.old steps.new }
+{
+    begin_with_log(keeper)?;
+    let first = capture_one(rt, keeper, steps, 0)?;
+    put_by(stripes, worker, alloc, "b", 3)?;
+    put_by(stripes, worker, alloc, "a", 4)?;
+    let second = capture_one(rt, keeper, steps, 1)?;
+    Ok((first, second))
+}
+
+/// Commits three commands and one, and seals behind each: the numbers of the refusals.
+fn seal_twice<D: Disk, S: Steps>(keeper: &mut Keeper<D>, steps: &mut S) -> Result<(u8, u8), Refusal>
+    requires { IsKept D.states D.honest (S.stripe_count steps.old) keeper.old (S.recorded steps.old) }
+    ensures pass { IsOfSamePass S.place S.stripe_count steps.old steps.new }
+{
+    let _three = commit_most(keeper, steps, 3)?;
+    let early = number_of(seal(keeper));
+    let _one = commit_most(keeper, steps, 1)?;
+    let late = number_of(seal(keeper));
+    write_times(keeper, 4);
+    Ok((early, late))
+}
+
+/// Puts `a` and `b`, captures both stripes, and seals once all four commands are published.
 fn walk<D: Disk, R: Wait, S: Steps>(
     rt: &R,
     alloc: Global,
@@ -121,32 +159,32 @@ fn walk<D: Disk, R: Wait, S: Steps>(
     requires free { (recorded worker.old).holding ≡ None }
     ensures pass { IsOfSamePass S.place S.stripe_count steps.old steps.new }
 {
-    begin_with_log(keeper)?;
-    let first = capture_one(rt, keeper, steps, 0)?;
-    put_by(stripes, worker, alloc, "b", 3)?;
-    put_by(stripes, worker, alloc, "a", 4)?;
-    let second = capture_one(rt, keeper, steps, 1)?;
+    put_by(stripes, worker, alloc, "a", 1)?;
+    put_by(stripes, worker, alloc, "b", 2)?;
+    let marks = capture_both(rt, alloc, keeper, steps, stripes, worker)?;
     let _count = keeper.sweep(rt, steps)?;
-    let _three = commit_most(keeper, steps, 3)?;
-    let early = number_of(seal(keeper));
-    let _one = commit_most(keeper, steps, 1)?;
-    let late = number_of(seal(keeper));
-    write_times(keeper, 4);
-    Ok(Walked {
-        marks: (first, second),
-        seals: (early, late),
-    })
+    let seals = seal_twice(keeper, steps)?;
+    Ok(Walked { marks, seals })
 }
 
-/// The walk on a new store of two stripes, in which `a` and `b` were put; and its disk.
+/// What was answered, with the disk.
+fn beside<T: Copy>(answer: Result<T, Refusal>, disk: MemDisk) -> Result<(T, MemDisk), Refusal> {
+    match answer {
+        Ok(found) => Ok((found, disk)),
+        Err(refusal) => {
+            drop(disk);
+            Err(refusal)
+        }
+    }
+}
+
+/// The walk on a new store of two stripes, and its disk.
 fn walk_on_two<R: Wait>(
     rt: &R,
     alloc: Global,
     two: StripeCount,
 ) -> Result<(Walked, MemDisk), Refusal> {
     let mut joined = join(alloc, MemDisk::new(alloc), two)?;
-    put_by(&joined.stripes, &mut joined.worker, alloc, "a", 1)?;
-    put_by(&joined.stripes, &mut joined.worker, alloc, "b", 2)?;
     let mut steps = joined.stripes.at(&mut joined.pass);
     let walked = walk(
         rt,
@@ -155,8 +193,8 @@ fn walk_on_two<R: Wait>(
         &mut steps,
         &joined.stripes,
         &mut joined.worker,
-    )?;
-    Ok((walked, joined.keeper.into_disk()))
+    );
+    beside(walked, joined.keeper.into_disk())
 }
 
 /// Whether the file reads so.
@@ -185,17 +223,30 @@ fn first_number(alloc: Global, part: &Part) -> Option<i64> {
     }
 }
 
+/// The numbers that the first keys of two parts are mapped to.
+fn numbers_of(alloc: Global, parts: &[Part]) -> Option<[i64; 2]> {
+    let mut numbers = [0; 2];
+    for (number, part) in numbers.iter_mut().zip(parts) {
+        *number = first_number(alloc, part)?;
+    }
+    Some(numbers)
+}
+
 /// What is opened after a stop: how many commands, and the number that `b` and `a` are mapped to, which
 /// are the only keys of their stripes.
 fn opened(alloc: Global, disk: MemDisk, stripes: StripeCount) -> Option<(u64, [i64; 2])> {
-    let Ok((_, parts, first, _)) = open_parts(alloc, disk, stripes) else {
-        return None;
-    };
-    let mut numbers = [0; 2];
-    for (number, part) in numbers.iter_mut().zip(parts.iter()) {
-        *number = first_number(alloc, part)?;
+    match open_parts(alloc, disk, stripes) {
+        Ok((keeper, parts, first, _limit)) => {
+            drop(keeper);
+            let numbers = numbers_of(alloc, parts.as_slice());
+            drop(parts);
+            Some((first, numbers?))
+        }
+        Err((disk, _refusal)) => {
+            drop(disk);
+            None
+        }
     }
-    Some((first, numbers))
 }
 
 #[test]
@@ -243,8 +294,8 @@ fn half_on_two<R: Wait>(
     let (_walked, disk) = walk_on_two(rt, alloc, two)?;
     let mut joined = rejoin(alloc, disk, two)?;
     let mut steps = joined.stripes.at(&mut joined.pass);
-    let mark = write_half(rt, &mut joined.keeper, &mut steps)?;
-    Ok((mark, joined.keeper.into_disk()))
+    let mark = write_half(rt, &mut joined.keeper, &mut steps);
+    beside(mark, joined.keeper.into_disk())
 }
 
 /// The first checkpoint is used, with both logs.
@@ -276,14 +327,8 @@ fn refused_in_rotation<D: Disk, S: Steps>(
     if keeper.is_walking() {
         return Err(Refusal::WrongPhase);
     }
-    let section = match try_capture(keeper, 0, steps) {
-        Ok(_) => 0,
-        Err(refusal) => refusal.number(),
-    };
-    let batch = match keeper.stage_batch(1) {
-        Ok(_) => 0,
-        Err(refusal) => refusal.number(),
-    };
+    let section = number_of(try_capture(keeper, 0, steps));
+    let batch = number_of(keeper.stage_batch(1));
     Ok([again, section, batch, number_of(seal(keeper))])
 }
 

@@ -25,13 +25,19 @@ fn name_of(alloc: Global, number: u32) -> Result<String, Refusal> {
     Ok(format!(in alloc; "key{key:05}")?)
 }
 
-fn append_put(alloc: Global, number: u32, log: &mut Vec<u8>) -> Result<(), Refusal> {
-    let name = name_of(alloc, number)?;
+fn append_record(name: &str, number: u32, log: &mut Vec<u8>) -> Result<(), Refusal> {
     log.extend_from_slice(&[16, 0, 8])?;
     log.extend_from_slice(name.as_bytes())?;
     log.extend_from_slice(&[1])?;
     log.extend_from_slice(&u64::from(number).to_be_bytes())?;
     Ok(())
+}
+
+fn append_put(alloc: Global, number: u32, log: &mut Vec<u8>) -> Result<(), Refusal> {
+    let name = name_of(alloc, number)?;
+    let appended = append_record(name.as_str(), number, log);
+    drop(name);
+    appended
 }
 
 /// An open gate, and the batch of the Puts of the numbers from `first` on.
@@ -47,15 +53,54 @@ fn append_batch(alloc: Global, first: u32, log: &mut Vec<u8>) -> Result<(), Refu
 }
 
 /// The log of generation 0 with all batches.
-fn long_log(alloc: Global) -> Result<Vec<u8>, Refusal> {
-    let mut log = Vec::new(alloc);
+fn append_log(alloc: Global, log: &mut Vec<u8>) -> Result<(), Refusal> {
     log.extend_from_slice(&[2])?;
     log.extend_from_slice(&[0; 16])?;
     for batch in 0..BATCHES {
-        append_batch(alloc, batch.wrapping_mul(BATCH), &mut log)?;
+        append_batch(alloc, batch.wrapping_mul(BATCH), log)?;
     }
     log.push(0)?;
+    Ok(())
+}
+
+fn long_log(alloc: Global) -> Result<Vec<u8>, Refusal> {
+    let mut log = Vec::new(alloc);
+    append_log(alloc, &mut log)?;
     Ok(log)
+}
+
+/// A read of the key of the number.
+fn read_of(alloc: Global, number: u32) -> Result<Read, Refusal> {
+    let name = name_of(alloc, number)?;
+    let key = Key::new(alloc, name.as_str());
+    drop(name);
+    Ok(Read {
+        key: key?,
+        question: Question::Get,
+    })
+}
+
+fn number_in(reply: &Reply) -> Option<i64> {
+    match reply {
+        Reply::Now(Some(Value::Int(number))) => Some(*number),
+        _ => None,
+    }
+}
+
+/// The number that a part has for a key.
+fn number_at(part: &Part, read: &Read) -> Result<Option<i64>, Refusal> {
+    let reply = part.read(read)?;
+    let number = number_in(&reply);
+    drop(reply);
+    Ok(number)
+}
+
+/// The number that the parts have for a key.
+fn number_of(parts: &[Part], stripes: StripeCount, read: &Read) -> Result<Option<i64>, Refusal> {
+    match parts.get(stripe_of(read.key.as_str(), stripes)) {
+        Some(part) => number_at(part, read),
+        None => Ok(None),
+    }
 }
 
 /// Whether the key of the number is mapped to the one that was put last.
@@ -65,27 +110,46 @@ fn is_last(
     stripes: StripeCount,
     number: u32,
 ) -> Result<bool, Refusal> {
-    let name = name_of(alloc, number)?;
-    let Some(part) = parts.get(stripe_of(name.as_str(), stripes)) else {
-        return Ok(false);
-    };
-    let reply = part.read(&Read {
-        key: Key::new(alloc, name.as_str())?,
-        question: Question::Get,
-    })?;
+    let read = read_of(alloc, number)?;
+    let found = number_of(parts, stripes, &read);
+    drop(read);
     let last = i64::from(number) + i64::from(KEYS);
-    Ok(reply == Reply::Now(Some(Value::Int(last))))
+    Ok(found? == Some(last))
+}
+
+/// How many keys are mapped to what was put last.
+fn last_ones(alloc: Global, parts: &[Part], stripes: StripeCount) -> Result<u32, Refusal> {
+    let mut found = 0u32;
+    for number in 0..KEYS {
+        if is_last(alloc, parts, stripes, number)? {
+            found = found.wrapping_add(1);
+        }
+    }
+    Ok(found)
+}
+
+/// Formats the disk, and writes all batches into its log.
+fn fill(alloc: Global, disk: &mut MemDisk, stripes: StripeCount) -> Result<(), Refusal> {
+    format(alloc, disk, stripes)?;
+    let log = long_log(alloc)?;
+    let is_written = disk.write_at(2, 0, &log).is_ok();
+    drop(log);
+    if is_written {
+        return Ok(());
+    }
+    Err(Refusal::Failed)
 }
 
 /// A disk with all batches in its log.
 fn disk_of(alloc: Global, stripes: StripeCount) -> Result<MemDisk, Refusal> {
     let mut disk = MemDisk::new(alloc);
-    format(alloc, &mut disk, stripes)?;
-    let log = long_log(alloc)?;
-    if disk.write_at(2, 0, &log).is_err() {
-        return Err(Refusal::Failed);
+    match fill(alloc, &mut disk, stripes) {
+        Ok(()) => Ok(disk),
+        Err(refusal) => {
+            drop(disk);
+            Err(refusal)
+        }
     }
-    Ok(disk)
 }
 
 /// How many commands were found, and how many keys are mapped to what was put last.
@@ -94,17 +158,18 @@ fn found_in(
     opened: Result<(Keeper<MemDisk>, Vec<Part>, u64, u16), (MemDisk, Refusal)>,
     stripes: StripeCount,
 ) -> Result<(u64, u32), Refusal> {
-    let (_keeper, parts, first, _limit) = match opened {
-        Ok(opened) => opened,
-        Err((_disk, refusal)) => return Err(refusal),
-    };
-    let mut found = 0u32;
-    for number in 0..KEYS {
-        if is_last(alloc, &parts, stripes, number)? {
-            found = found.wrapping_add(1);
+    match opened {
+        Ok((keeper, parts, first, _limit)) => {
+            drop(keeper);
+            let found = last_ones(alloc, parts.as_slice(), stripes);
+            drop(parts);
+            Ok((first, found?))
+        }
+        Err((disk, refusal)) => {
+            drop(disk);
+            Err(refusal)
         }
     }
-    Ok((first, found))
 }
 
 #[test]
