@@ -129,25 +129,9 @@ failed n b xs w k = record {
 
 -- a view that was refused
 pub refused : (n : ℕ) (b : Record) (xs : List Section) (e : Refusal) (w : Record) → Refuses n b xs e w → CompletesView n b (Err e) w
-refused n b xs refusal.NullValue w k = absurd k
-refused n b xs refusal.KeyTooLong w k = absurd k
-refused n b xs refusal.ValueTooLong w k = absurd k
-refused n b xs refusal.UnknownMethod w k = absurd k
-refused n b xs refusal.UnknownFunction w k = absurd k
-refused n b xs refusal.BadFrame w k = absurd k
 refused n b xs refusal.NoMemory w k = starved n b xs w k
-refused n b xs (refusal.Busy j) w k = absurd k
 refused n b xs refusal.Failed w k = failed n b xs w k
-refused n b xs refusal.TicketsSpent w k = absurd k
-refused n b xs refusal.NotFormatted w k = absurd k
-refused n b xs (refusal.Damaged file offset) w k = absurd k
-refused n b xs refusal.WrongVersion w k = absurd k
-refused n b xs refusal.LogFull w k = absurd k
-refused n b xs refusal.AlreadyFormatted w k = absurd k
-refused n b xs refusal.WrongPhase w k = absurd k
-refused n b xs refusal.TooEarly w k = absurd k
-refused n b xs refusal.NotText w k = absurd k
-refused n b xs refusal.SeatsSpent w k = absurd k
+refused n b xs e w k = absurd k
 
 -- a view of all that was copied, or none
 adds : (n : ℕ) (b : Record) (zs : List Captured) (xs : List Section) (w : Record) → Shows zs xs → IsDone n b xs w → (result : Result ViewState Refusal) → IfOk result (λ view. view.marks ≡ marks_of zs)

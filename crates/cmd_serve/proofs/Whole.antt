@@ -2,7 +2,7 @@
 use Rattle.std.proofs.Common.{◌≡◌, ◌⊎◌, ℕ, List, inl, inr, pos, Option, Some, Result, Ok, Err, refl, sym, ap, subst, ◌∙◌}
 use Rattle.std.specs.Option.{option_map}
 use Rattle.map_types.specs.declared.commands.Func.{Func}
-use Rattle.map_types.specs.declared.commands.Func.TheVariants.{Const, Drop, Keep, Sum, Max, Min, Concat, SumNonzero, SumExact}
+use Rattle.map_types.specs.declared.commands.Func.TheVariants.{Sum, Max, Min}
 use Rattle.map_types.specs.declared.commands.FuncError.{FuncError}
 use Rattle.map_types.specs.declared.commands.Reply.{Reply}
 use Rattle.map_types.specs.declared.commands.Reply.TheVariants.{Now}
@@ -55,12 +55,7 @@ is_reducing : (f : Func) → IsReducing f ⊎ (IsReducing f → ⊥)
 is_reducing Sum = inl tt
 is_reducing Max = inl tt
 is_reducing Min = inl tt
-is_reducing Const = inr (λ k. k)
-is_reducing Drop = inr (λ k. k)
-is_reducing Keep = inr (λ k. k)
-is_reducing Concat = inr (λ k. k)
-is_reducing SumNonzero = inr (λ k. k)
-is_reducing SumExact = inr (λ k. k)
+is_reducing other = inr (λ k. k)
 
 module _ (n : ℕ) (v w : Record) (func : Func) (threshold : ℕ) where
   -- by a function that reduces nothing it is refused at once

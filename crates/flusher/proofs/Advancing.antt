@@ -12,6 +12,7 @@ use Rattle.store_layout.specs.declared.log_phase.Phase.{Phase}
 use Rattle.store_layout.specs.declared.log_phase.Phase.TheVariants.{Idle, Header, HeaderWritten, Staged, Written, Synced, Opened}
 use Rattle.gate_log.specs.States.{LogState, commands_of}
 use Rattle.gate_log.specs.LogSteps.{Advances}
+use Rattle.gate_log.proofs.AdvanceLemmas.{cases_idle}
 use Rattle.store_invariant.specs.Laws.{LogStepsStop, StoresStop}
 use Rattle.flusher.specs.declared.keeper.Keeper.{Keeper}
 use Rattle.flusher.specs.declared.sweeper.Sweeper.{Sweeper}
@@ -19,7 +20,7 @@ use Rattle.flusher.specs.KeeperSteps.{committed_by}
 use Rattle.flusher.specs.Rotating.{IsTold}
 use Rattle.flusher.specs.Fitting.{Fits, StopsFit, done_after}
 use Rattle.flusher.proofs.Committing.{IsSame, stops_by}
-use Rattle.flusher.proofs.NewestSteps.{log_at_moments, idle_or_not}
+use Rattle.flusher.proofs.NewestSteps.{log_at_moments}
 
 -- ---- how many commands are committed
 
@@ -46,7 +47,7 @@ still_moments {D} states old new P is k = subst (λ (d : D). AtEachMoment states
 pub logged_moments : {D : Type 0} (states : D → List Files) (failures : D → ℕ) (honest : D → Type 0) (n : ℕ) (done : List Command) (old new : Keeper D) (p : Record) (result : Result Phase Refusal) → StoresStop → LogStepsStop → Fits states honest n done old p
     → old.is_broken ≡ false → honest old.disk → (old.log.phase ≡ Idle → (result ≡ Ok Idle) × (new.disk ≡ old.disk)) → (old.log.phase ≢ Idle → Advances states failures honest old.log new.log old.disk new.disk result)
     → AtEachMoment states old.disk new.disk (StopsFit (history_of p) old)
-logged_moments {D} states failures honest n done old new p result now_law law f works h rests moves = elim (idle_or_not old.log.phase) [
+logged_moments {D} states failures honest n done old new p result now_law law f works h rests moves = elim (cases_idle old.log.phase) [
   | inl is ↦ still_moments states old.disk new.disk (StopsFit (history_of p) old) (rests is).1 (stops_by states honest n done old p now_law f h)
   | inr is ↦ log_at_moments states failures honest n done old new.log new.disk p result law f works h (moves is)
 ]

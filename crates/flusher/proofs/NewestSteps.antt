@@ -1,5 +1,5 @@
 -- A step of the newest log, if no log follows it.
-use Rattle.std.proofs.Common.{◌≡◌, ◌≢◌, ◌⊎◌, inl, inr, ℕ, List, [], Option, None, Bool, true, false, Result, Ok, Err, OnOk, OnErr, refl, sym, ◌∙◌, ap, subst}
+use Rattle.std.proofs.Common.{◌≡◌, ◌≢◌, inl, inr, ℕ, List, [], Option, None, Bool, true, false, Result, Ok, Err, OnOk, OnErr, refl, sym, ◌∙◌, ap, subst}
 use Rattle.disk_model.specs.Files.{Files, now}
 use Rattle.disk_model.specs.Moments.{AtEachMoment}
 use Rattle.map_types.specs.declared.commands.Command.{Command}
@@ -11,6 +11,7 @@ use Rattle.store_layout.specs.declared.log_phase.Phase.{Phase}
 use Rattle.store_layout.specs.declared.log_phase.Phase.TheVariants.{Idle, Header, HeaderWritten, Staged, Written, Synced, Opened}
 use Rattle.gate_log.specs.States.{LogState, log_after}
 use Rattle.gate_log.specs.LogSteps.{Advances, MayAdvance}
+use Rattle.gate_log.proofs.AdvanceLemmas.{cases_idle}
 use Rattle.store_invariant.specs.States.{StoreState}
 use Rattle.store_invariant.specs.Laws.{LogStepsOn, LogStepsStop}
 use Rattle.flusher.specs.declared.keeper.Keeper.{Keeper}
@@ -142,15 +143,6 @@ log_in_phase {D} states failures honest n done old new p phase Opened law f is s
       stores = logged_stores states failures honest n done old new p phase law f l;
     })
 
-pub idle_or_not : (ph : Phase) → (ph ≡ Idle) ⊎ (ph ≢ Idle)
-idle_or_not Idle = inl refl
-idle_or_not Header = inr (λ e. cc)
-idle_or_not HeaderWritten = inr (λ e. cc)
-idle_or_not Staged = inr (λ e. cc)
-idle_or_not Written = inr (λ e. cc)
-idle_or_not Synced = inr (λ e. cc)
-idle_or_not Opened = inr (λ e. cc)
-
 ok_not_err : (x : Phase) (e : Refusal) → Ok x ≡ Err e → ⊥
 ok_not_err x e h = cc
 
@@ -176,7 +168,7 @@ log_fails {D} states failures honest n done old new p e law f same works failed 
 pub fits_logged : {D : Type 0} (states : D → List Files) (failures : D → ℕ) (honest : D → Type 0) (n : ℕ) (done : List Command) (old new : Keeper D) (p : Record) (result : Result Phase Refusal) → LogStepsOn → LogStepsStop → Fits states honest n done old p
     → StepsLog states failures honest old new result → Fits states honest n (done_after result old.log.phase done old.staged.items) new p
 fits_logged {D} states failures honest n done old new p (Ok phase) law stop f s = log_in_phase states failures honest n done old new p phase old.log.phase law f refl s s.hand
-fits_logged {D} states failures honest n done old new p (Err e) law stop f s = elim (idle_or_not old.log.phase) [
+fits_logged {D} states failures honest n done old new p (Err e) law stop f s = elim (cases_idle old.log.phase) [
   | inl rests ↦ absurd (ok_not_err Idle e (sym (s.rests rests).0))
   | inr moves ↦ (
       let a = s.advances moves in

@@ -15,14 +15,9 @@ use Rattle.gate_log.specs.LogStates.{Stands, IsReady, IsKept, MayRead}
 use Rattle.gate_log.specs.LogSteps.{Advances, MayAdvance, committed_after, staged_after}
 use Rattle.gate_log.proofs.StandingLemmas.{reads_in, placed, goes_to, called_reads, failed_reads}
 
-cases_idle : (phase : Phase) → (phase ≡ Idle) ⊎ (phase ≢ Idle)
+pub cases_idle : (phase : Phase) → (phase ≡ Idle) ⊎ (phase ≢ Idle)
 cases_idle Idle = inl refl
-cases_idle Header = inr (λ e. cc)
-cases_idle HeaderWritten = inr (λ e. cc)
-cases_idle Staged = inr (λ e. cc)
-cases_idle Written = inr (λ e. cc)
-cases_idle Synced = inr (λ e. cc)
-cases_idle Opened = inr (λ e. cc)
+cases_idle phase = inr (λ e. cc)
 
 -- in each phase but Idle a call is due
 pub some_due : (phase : Phase) (log : LogState) → phase ≢ Idle → (call : Call) × (call_in phase log ≡ Some call)

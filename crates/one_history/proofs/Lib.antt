@@ -15,3 +15,4 @@ pub mod GivenParts
 pub mod Joining
 pub mod Staying
 pub mod Ends
+pub mod Undrawn

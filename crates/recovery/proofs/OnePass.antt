@@ -24,6 +24,7 @@ use Rattle.one_history.specs.declared.book.Book.{Book}
 use Rattle.one_history.specs.Turns.{record_of}
 use Rattle.one_history.specs.Moves.{BookMoves, Raises, WordsMove}
 use Rattle.one_history.specs.OneHistory.{IsOneHistory}
+use Rattle.one_history.proofs.Undrawn.{history_stays}
 use Rattle.plain_words.specs.declared.at.At.{At}
 use Rattle.checkpoint_file.specs.States.{CheckpointState, with_section}
 use Rattle.flusher.specs.declared.keeper.Keeper.{Keeper}
@@ -33,18 +34,6 @@ use Rattle.checkpoint_walk.specs.Walking.{AfterStep, AfterTake, AfterWalk, FitsB
 use Rattle.recovery.specs.Upgrading.{HasLargeStripe, IsGivenAt, IsSectionRefused, IsUnmovedWith}
 
 -- ---- the words
-
--- only a TICKET makes a change
-same_history : (j : ℕ) (made : StepMade) (b b' : Book) → kind_of made ≢ Ticket → WordsMove j made b b' → b'.history ≡ b.history
-same_history j (Took i es last) b b' other h = h.0.same.history
-same_history j (FoundHeld i) b b' other h = h.0.same.history
-same_history j (Gave i) b b' other h = h.0.history
-same_history j (Drew t) b b' other h = absurd (other refl)
-same_history j (Looked q) b b' other h = h.0.same.history
-same_history j (Published x) b b' other h = h.0.history
-same_history j (Saw d) b b' other h = h.0.same.history
-same_history j Failed b b' other h = h.0.history
-same_history j (FoundAlive is_alive) b b' other h = h.0.same.history
 
 -- a LOOK finds all tickets, and has then seen them
 looks_at : (j : ℕ) (made : StepMade) (b b' : Book) → kind_of made ≡ Look → WordsMove j made b b' → Raises j made b b' → reach (record_of j b') ≡ b.opening.first + length b.history
@@ -136,7 +125,7 @@ module _ {T D : Type 0} (book : T → Book) (pass : T → ℕ) (states : D → L
     stripes = one.moved.stripes;
     opening = one.moved.opening;
     passes = one.moved.passes;
-    history = same_history (pass a) one.made (book a) (book b) (λ e. other (sym one.kind_is ∙ e)) one.moved.words;
+    history = history_stays (pass a) one.made (book a) (book b) (λ t e. other (sym one.kind_is ∙ ap kind_of e)) one.moved.words;
   }
 
   module _ (k k1 : Keeper D) (a a1 : T) (r : Result (Option ℕ) Refusal) (free : k.capture ≡ None)

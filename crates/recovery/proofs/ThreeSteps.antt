@@ -49,22 +49,7 @@ take_refused : {D : Type 0} (n i : ℕ) (k k1 : Keeper D) (p w : Record) (e : Re
 take_refused n i k k1 p w Failed h = inl refl
 take_refused n i k k1 p w WrongPhase h = inr (inl refl)
 take_refused n i k k1 p w (refusal.Busy j) h = inr (inr h.missed)
-take_refused n i k k1 p w (refusal.Damaged file offset) h = absurd h
-take_refused n i k k1 p w refusal.NullValue h = absurd h
-take_refused n i k k1 p w refusal.KeyTooLong h = absurd h
-take_refused n i k k1 p w refusal.ValueTooLong h = absurd h
-take_refused n i k k1 p w refusal.UnknownMethod h = absurd h
-take_refused n i k k1 p w refusal.UnknownFunction h = absurd h
-take_refused n i k k1 p w refusal.BadFrame h = absurd h
-take_refused n i k k1 p w refusal.NoMemory h = absurd h
-take_refused n i k k1 p w refusal.TicketsSpent h = absurd h
-take_refused n i k k1 p w refusal.NotFormatted h = absurd h
-take_refused n i k k1 p w refusal.WrongVersion h = absurd h
-take_refused n i k k1 p w refusal.LogFull h = absurd h
-take_refused n i k k1 p w refusal.AlreadyFormatted h = absurd h
-take_refused n i k k1 p w refusal.TooEarly h = absurd h
-take_refused n i k k1 p w refusal.NotText h = absurd h
-take_refused n i k k1 p w refusal.SeatsSpent h = absurd h
+take_refused n i k k1 p w e h = absurd h
 
 same_step : (x y : StepMade) → ◌≡◌ {A = List StepMade} (x ∷ []) (y ∷ []) → x ≡ y
 same_step x y e = cc

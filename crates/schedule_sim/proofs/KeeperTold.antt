@@ -20,6 +20,7 @@ use Rattle.sim_workers.specs.Doings.{Doing}
 use Rattle.sim_workers.specs.Laws.{FreeIsTold, HeldIsTold}
 use Rattle.sim_workers.specs.WordsInWorld.{WordsStand}
 use Rattle.sim_workers.specs.Workers.{DrawsNone, KeeperMoves, WorkersStand}
+use Rattle.sim_workers.proofs.Sweeping.{same_history}
 use Rattle.sim_keeper.specs.Laws.{CountsAreTold, FrontIsSeen, PassHolds, StripeIsTold}
 use Rattle.sim_keeper.specs.KeeperInWorld.{KeeperStands, SeesHistory}
 use Rattle.sim_keeper.specs.Telling as telling
@@ -47,17 +48,6 @@ undrawn_step (FoundAlive is_alive) is = tt
 
 pub undrawn : (s : StepMade) (kind : Kind) → kind_of s ≡ kind → DrawsNoTicket kind → DrawsNone s
 undrawn s kind e is = undrawn_step s (subst DrawsNoTicket (sym e) is)
-
-pub history_kept : (s : StepMade) (b b' : Book) → DrawsNone s → WordsMove 64 s b b' → b'.history ≡ b.history
-history_kept (Took i outbox last) b b' none moved = moved.0.same.history
-history_kept (FoundHeld i) b b' none moved = moved.0.same.history
-history_kept (Gave i) b b' none moved = moved.0.history
-history_kept (Drew t) b b' none moved = absurd none
-history_kept (Looked q) b b' none moved = moved.0.same.history
-history_kept (Published x) b b' none moved = moved.0.history
-history_kept (Saw d) b b' none moved = moved.0.same.history
-history_kept Failed b b' none moved = moved.0.history
-history_kept (FoundAlive is_alive) b b' none moved = moved.0.same.history
 
 -- ---- as it is told
 
@@ -90,7 +80,7 @@ pub sees_after : FrontIsSeen → (b b' : Book) (w : World) (l : Life) (doings : 
 sees_after sees b b' w l doings kind m stand made none one =
     let words = stand.words in
     let knows : Knows b'.opening b'.stripes b'.history b'.authors b'.effects 64 (record_of 64 b') = one.passes 64 (omega (arith, stand.passes, made.moved.passes)) in
-    let kept : b'.history ≡ b.history = history_kept made.step b b' (undrawn made.step kind made.kind_is none) made.moved.words in
+    let kept : b'.history ≡ b.history = same_history made.step b b' (undrawn made.step kind made.kind_is none) made.moved.words in
     sees (record_of 64 b') w l words.before b.history knows.front.rest words.history (words.count ∙ sym words.first)
     (ap (λ o. o.first) (knows.opening ∙ made.moved.opening) ∙ sym words.first) (ap (λ o. o.map) (knows.opening ∙ made.moved.opening) ∙ words.map)
     (sym kept ∙ knows.front.is)

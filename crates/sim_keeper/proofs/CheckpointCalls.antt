@@ -86,17 +86,8 @@ due w sections Sealed has = never has
 
 last_opened : (w : CheckpointState) (sections : List Section) (ph : CheckpointPhase)
     → is_last_call (running_in ph w sections) ≡ true → ph ≡ Opened
-last_opened w sections Idle last = never last
-last_opened w sections Gate last = never last
-last_opened w sections GateWritten last = never last
-last_opened w sections GateSynced last = never last
-last_opened w sections Ready last = never last
-last_opened w sections Staged last = never last
-last_opened w sections Header last = never last
-last_opened w sections HeaderWritten last = never last
-last_opened w sections HeaderSynced last = never last
 last_opened w sections Opened last = refl
-last_opened w sections Sealed last = never last
+last_opened w sections ph last = never last
 
 -- ---- where one is due
 

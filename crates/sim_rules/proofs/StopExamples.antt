@@ -1,49 +1,38 @@
 -- Stops within the commit of one change.
-use Rattle.std.proofs.Common.{◌≡◌, ◌≢◌, ℕ, inl, pos, Bool, false, List, [], ◌∷◌, ◌++◌, length, None, refl, sym, ap, ap₂, ◌∙◌, subst, FitsSigned, arith}
+use Rattle.std.proofs.Common.{◌≡◌, ◌≢◌, ℕ, inl, Bool, false, List, [], ◌∷◌, ◌++◌, length, None, refl, sym, ap, ap₂, ◌∙◌, subst, arith}
 use Rattle.std.proofs.lemmas.Bool.Decides.{nat_tests}
 use Rattle.std.proofs.lemmas.List.{ext_get_or}
 use Rattle.std.proofs.lemmas.List.FromFn.{get_or-map-range_with_len, length-map-range_with_len}
 use Rattle.std.specs.FinMap as finite
-use Rattle.std.specs.Int.{w64}
 use Rattle.std.specs.Prelude.{nat_le, if◌then◌else◌}
-use Rattle.std.specs.Str.{IsUtf8, chars}
+use Rattle.std.specs.Str.{chars}
 use Rattle.java_hash.specs.Hash.{hash_of, weighted_sum}
 use Rattle.java_hash.specs.Stripes.{stripe_of}
 use Rattle.java_hash.specs.Units.{units_of}
 use Rattle.map_model.specs.Maps.{Map}
-use Rattle.log_records.specs.Spelling.{IsCommand}
 use Rattle.disk_model.specs.declared.fill.Fill.{Fill}
 use Rattle.disk_model.specs.declared.fill.Fill.TheVariants.{Old, New, Byte}
 use Rattle.disk_model.specs.Files.{File, at_rest, byte_at, synced, written}
 use Rattle.disk_model.specs.Fills.{byte_left, bytes_by, length_left}
 use Rattle.store_layout.specs.Checkpoints.{is_sealed}
 use Rattle.store_layout.specs.Examples.{a, number}
-use Rattle.store_layout.specs.Logs.{Batch, frame, header, log_front, new_layout, new_version}
+use Rattle.store_layout.specs.Logs.{frame, header, log_front, new_layout, new_version}
 use Rattle.store_layout.specs.Opening.{Contents, IsCheckpointIn, IsClosedIn, StandsFor, first_checkpoint}
 use Rattle.store_layout.specs.OpeningLaws.{FirstIsWhole, FirstStands, OneStanding}
+use Rattle.store_layout.proofs.FirstExamples.{five, second_closed}
 use Rattle.store_layout.proofs.OwnLayouts.{closed_in_own, own_of}
 use Rattle.store_layout.specs.FirstFiles.{new_contents}
 use Rattle.sim_rules.specs.World.{begun_by, start}
 use Rattle.sim_rules.specs.After.{after}
-use Rattle.sim_rules.specs.Examples.{StoppedBefore, StoppedOpen, StoppedShut, frame_bytes, put_a}
+use Rattle.sim_rules.specs.Examples.{StoppedBefore, StoppedOpen, StoppedShut, frame_bytes}
 use Rattle.sim_rules.proofs.FileLaws.{all_bytes, first_sealed}
 use Rattle.sim_rules.proofs.OpeningExamples.{new_map}
 
 -- ---- what the files stand for, by the gate before the frame
 
-five : Batch
-five = record { first = 0; commands = put_a ∷ [] }
-
 -- the new log, its gate, the frame, and the closed gate behind it
 abbrev pub log_with_five : ℕ → List ℕ
 log_with_five gate = log_front new_layout 0 0 [] ++ gate ∷ frame_bytes
-
-a_is_text : IsUtf8 a
-unfolding lib.Utf8.encode
-a_is_text = (97 ∷ [], (refl, refl))
-
-put_a_fits : IsCommand new_layout put_a
-put_a_fits = ((omega arith, a_is_text), (let fits : FitsSigned w64 (pos 5) = omega arith in fits))
 
 shut_closed : (gate : ℕ) → gate ≢ 165 → IsClosedIn 0 0 [] (log_with_five gate)
 unfolding header
@@ -57,17 +46,7 @@ shut_closed gate shut = closed_in_own new_layout (own_of new_version) 0 0 [] (lo
 
 open_closed : IsClosedIn 0 0 (five ∷ []) (log_with_five 165)
 unfolding header frame five
-open_closed = closed_in_own new_layout (own_of new_version) 0 0 (five ∷ []) (log_with_five 165) (record {
-  gate = 0;
-  rest = [];
-  bytes = refl;
-  closed = λ e. omega (arith, e);
-  log = record {
-    generation_fits = omega arith;
-    low_fits = omega arith;
-    in_order = (record { fits = omega arith; some = omega arith; few = omega arith; short = omega arith; well_formed = (put_a_fits, tt) }, refl, tt);
-  };
-})
+open_closed = closed_in_own new_layout (own_of new_version) 0 0 (five ∷ []) (log_with_five 165) second_closed
 
 module _ (whole : FirstIsWhole) (stands : FirstStands) (one : OneStanding) (contents : Contents) (first : contents 0 ≡ new_contents 16 0) (second : is_sealed (contents 1) ≡ false) where
   sealed_there : IsCheckpointIn (first_checkpoint 16) (contents 0)

@@ -17,6 +17,7 @@ use Rattle.one_history.specs.declared.book.KeeperEffects.{KeeperEffects}
 use Rattle.one_history.specs.Turns.{record_of}
 use Rattle.one_history.specs.OneHistory.{HasDone, Holds, HoldsStripe, IsOneHistory, Knows, stripe_in}
 use Rattle.one_history.specs.Moves.{IsOutbox, WordsMove}
+use Rattle.one_history.proofs.Undrawn.{history_stays}
 use Rattle.sim_rules.specs.World.{World, Life, Idle, Place, WithWorker, InOutbox, InHand, job_of, place_of}
 use Rattle.sim_rules.specs.After.{swept_places}
 use Rattle.sim_workers.specs.Doings.{Doing}
@@ -89,15 +90,7 @@ swept_length n i (x ∷ cs) (InHand ∷ places) = ap (λ k. suc k) (swept_length
 -- ---- the words
 
 pub same_history : (step : StepMade) (b b' : Book) → DrawsNone step → WordsMove 64 step b b' → b'.history ≡ b.history
-same_history (Took i es last) b b' none words = words.0.same.history
-same_history (FoundHeld i) b b' none words = words.0.same.history
-same_history (Gave i) b b' none words = words.0.history
-same_history (Drew t) b b' none words = absurd none
-same_history (Looked q) b b' none words = words.0.same.history
-same_history (Published x) b b' none words = words.0.history
-same_history (Saw d) b b' none words = words.0.same.history
-same_history Failed b b' none words = words.0.history
-same_history (FoundAlive is_alive) b b' none words = words.0.same.history
+same_history step b b' none words = history_stays 64 step b b' (λ t e. subst DrawsNone e none) words
 
 same_keeper : (step : StepMade) (b b' : Book) → DrawsNone step → WordsMove 64 step b b' → b'.effects.keeper ≡ b.effects.keeper
 same_keeper (Took i es last) b b' none words = ap (λ (k : KeeperEffects). k.keeper) words.0.effects

@@ -70,7 +70,8 @@ small_fits n small = omega (arith, small)
 pub is_command : (key : List ℕ) (n : ℕ) → length key ≤ 255 → n ≤ 255 → IsUtf8 key → IsCommand first_layout (put_at key n)
 is_command key n short small text = ((short, text), small_fits n small)
 
-five : Batch
+-- the batch of its first change
+unfoldable pub five : Batch
 five = record { first = 0; commands = put_at a 5 ∷ [] }
 
 first_closed : IsClosed first_layout 0 0 (five ∷ []) (log_with_five 165)
@@ -101,7 +102,7 @@ first_change = record {
   map = ap (λ (m : Map). finite.insert m a (number 5)) (no_map 1);
 }
 
-second_closed : IsClosed second_layout 0 0 (five ∷ []) second_log
+pub second_closed : IsClosed second_layout 0 0 (five ∷ []) second_log
 unfolding header frame five
 second_closed = record {
   gate = 0;

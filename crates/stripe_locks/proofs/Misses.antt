@@ -76,46 +76,17 @@ err_both (Ok x) P Q Z f a b = tt
 err_both (Err e) P Q Z f a b = f e a b
 
 pub change_refused : (b w : Record) (i : ℕ) (e : Refusal) → RefusesChange b i e w → IsNotBusy e → w.holding ≡ None
-change_refused b w i refusal.NullValue k free = absurd k
-change_refused b w i refusal.KeyTooLong k free = absurd k
-change_refused b w i refusal.ValueTooLong k free = absurd k
-change_refused b w i refusal.UnknownMethod k free = absurd k
-change_refused b w i refusal.UnknownFunction k free = absurd k
-change_refused b w i refusal.BadFrame k free = absurd k
 change_refused b w i refusal.NoMemory k free = ap (λ (r : Record). r.holding) k.0.is
 change_refused b w i (refusal.Busy x0) k free = absurd (free x0 refl)
 change_refused b w i refusal.Failed k free = ap (λ (r : Record). r.holding) k.is
 change_refused b w i refusal.TicketsSpent k free = ap (λ (r : Record). r.holding) k.0.is
-change_refused b w i refusal.NotFormatted k free = absurd k
-change_refused b w i (refusal.Damaged x0 x1) k free = absurd k
-change_refused b w i refusal.WrongVersion k free = absurd k
-change_refused b w i refusal.LogFull k free = absurd k
-change_refused b w i refusal.AlreadyFormatted k free = absurd k
-change_refused b w i refusal.WrongPhase k free = absurd k
-change_refused b w i refusal.TooEarly k free = absurd k
-change_refused b w i refusal.NotText k free = absurd k
-change_refused b w i refusal.SeatsSpent k free = absurd k
+change_refused b w i e k free = absurd k
 
 pub read_refused : (b w : Record) (i : ℕ) (e : Refusal) → RefusesRead b i e w → IsNotBusy e → w.holding ≡ None
-read_refused b w i refusal.NullValue k free = absurd k
-read_refused b w i refusal.KeyTooLong k free = absurd k
-read_refused b w i refusal.ValueTooLong k free = absurd k
-read_refused b w i refusal.UnknownMethod k free = absurd k
-read_refused b w i refusal.UnknownFunction k free = absurd k
-read_refused b w i refusal.BadFrame k free = absurd k
 read_refused b w i refusal.NoMemory k free = ap (λ (r : Record). r.holding) k.is
 read_refused b w i (refusal.Busy x0) k free = absurd (free x0 refl)
 read_refused b w i refusal.Failed k free = ap (λ (r : Record). r.holding) k.is
-read_refused b w i refusal.TicketsSpent k free = absurd k
-read_refused b w i refusal.NotFormatted k free = absurd k
-read_refused b w i (refusal.Damaged x0 x1) k free = absurd k
-read_refused b w i refusal.WrongVersion k free = absurd k
-read_refused b w i refusal.LogFull k free = absurd k
-read_refused b w i refusal.AlreadyFormatted k free = absurd k
-read_refused b w i refusal.WrongPhase k free = absurd k
-read_refused b w i refusal.TooEarly k free = absurd k
-read_refused b w i refusal.NotText k free = absurd k
-read_refused b w i refusal.SeatsSpent k free = absurd k
+read_refused b w i e k free = absurd k
 
 pub change_over : (n i : ℕ) (b w : Record) (c : Command) (r : Result Held Refusal) → IfOk r (λ h. MakesCall n b c (position_of h) (reply_of h) w) → IfErr r (λ e. RefusesChange b i e w) → IfErr r IsNotBusy → w.holding ≡ None
 change_over n i b w c (Ok h) k f g = ap (λ (x : Record). x.holding) k.is

@@ -30,22 +30,6 @@ free_between n b xs walk p k none = free_at n b xs walk.stage p _ k.stands none
 
 -- behind a refusal
 pub free_after_refusal : (n : ℕ) (b : Record) (xs : List Section) (e : Refusal) (w : Record) → Refuses n b xs e w → w.holding ≡ None
-free_after_refusal n b xs refusal.NullValue w k = absurd k
-free_after_refusal n b xs refusal.KeyTooLong w k = absurd k
-free_after_refusal n b xs refusal.ValueTooLong w k = absurd k
-free_after_refusal n b xs refusal.UnknownMethod w k = absurd k
-free_after_refusal n b xs refusal.UnknownFunction w k = absurd k
-free_after_refusal n b xs refusal.BadFrame w k = absurd k
 free_after_refusal n b xs refusal.NoMemory w k = k.empty_handed
-free_after_refusal n b xs (refusal.Busy j) w k = absurd k
 free_after_refusal n b xs refusal.Failed w k = k.all.empty_handed
-free_after_refusal n b xs refusal.TicketsSpent w k = absurd k
-free_after_refusal n b xs refusal.NotFormatted w k = absurd k
-free_after_refusal n b xs (refusal.Damaged file offset) w k = absurd k
-free_after_refusal n b xs refusal.WrongVersion w k = absurd k
-free_after_refusal n b xs refusal.LogFull w k = absurd k
-free_after_refusal n b xs refusal.AlreadyFormatted w k = absurd k
-free_after_refusal n b xs refusal.WrongPhase w k = absurd k
-free_after_refusal n b xs refusal.TooEarly w k = absurd k
-free_after_refusal n b xs refusal.NotText w k = absurd k
-free_after_refusal n b xs refusal.SeatsSpent w k = absurd k
+free_after_refusal n b xs e w k = absurd k
