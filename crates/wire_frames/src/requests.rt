@@ -143,7 +143,7 @@ fn request_at(alloc: Global, bytes: &[u8]) -> Result<(Request, &[u8]), Refusal>
 fn is_bulk_method(method: u8) -> bool
     ensures { IsTrue result ↔ IsBulkMethod method }
 {
-    matches!(method, COUNT | REDUCE | SEARCH)
+    method == COUNT || method == REDUCE || method == SEARCH
 }
 
 /// Whether the bytes of a frame behind its length begin with the method of a request of the whole
