@@ -51,8 +51,8 @@ returns-in_err-_given g c =
     let q = err_from_is_err_and c.from_residual-in_err-_given.result c.from_residual-in_err-_given.ensures.1 in
     record {
       disk = ap (λ (x : Keeper _). x.disk) back;
-      unmoved = rw (q.1, q.2) tt;
-      given = rw (q.1, q.2) tt;
+      unmoved = rw q.1 tt;
+      given = rw q.1 tt;
       same = same_frame k k3 k.checkpoint None back;
       err = rw (q.1, q.2) (refused states honest i k k1 k2 a a1 a2 c.capture_step.result c.capture_step-2.result c.requires.unmoved.1.unmoved.over c.in_ok-_taken._taken c.in_ok-_taken.was s1 s2 k3 a3 c.capture_step-3.result c.in_ok-_looked._looked c.in_ok-_looked.was s3 c.in_err-_given.field-0.0 c.in_err-_given.was
           three.cause c.keeps_one_history.ensures.one c.keeps_one_history.ensures.within);
