@@ -86,14 +86,18 @@ fn count<R: Threads + Sync, D: Disk>(
     ensures ok { IfOk result (λ x. IsCounted D.states D.failures D.honest disk x.0 x.1) }
     ensures err { IfErr result (λ x. IsNotOpened D.states D.failures D.honest disk x.0 x.1) }
 {
-    let (keeper, parts, prefix, _limit) = open_parts_with(rt, alloc, disk, sixteen())?;
-    let counts = Counts {
-        generation: keeper.sealed,
-        prefix,
-        entries: count_entries(&parts),
-    };
-    let disk = keeper.into_disk();
-    Ok((disk, counts))
+    match open_parts_with(rt, alloc, disk, sixteen()) {
+        Ok((keeper, parts, prefix, _limit)) => {
+            let counts = Counts {
+                generation: keeper.sealed,
+                prefix,
+                entries: count_entries(&parts),
+            };
+            let disk = keeper.into_disk();
+            Ok((disk, counts))
+        }
+        Err(refused) => Err(refused),
+    }
 }
 
 /// The number of stripes of the checkpoint of this generation.

@@ -5,11 +5,11 @@ use Rattle.store_layout.specs.Opening.{map_of}
 use Rattle.cmd_directory.proofs.Summaries.{entries_are}
 use Rattle.cmd_directory.proofs.summary.count.Goals as goal
 
-pub returns-clause-ok : goal.returns-clause-ok
-returns-clause-ok g c = rw c.into_disk-disk.ensures (record {
-  looks = c.in_ok-keeper.ensures.calls;
+pub returns-in-Ok-clause-ok : goal.returns-in-Ok-clause-ok
+returns-in-Ok-clause-ok g c = rw c.into_disk-disk.ensures (record {
+  looks = c.in-Ok.ensures.calls;
   counted = λ honest.
-      let opened = c.in_ok-keeper.ensures.ok honest in
+      let opened = c.in-Ok.ensures.ok honest in
       let is = opened.1 in (
         opened.0,
         (
@@ -19,7 +19,7 @@ returns-clause-ok g c = rw c.into_disk-disk.ensures (record {
             generation = is.sealed;
             prefix = is.first_is;
             entries = c.count_entries.ensures ∙ ap (λ (parts : List PartState). min (sum_by (λ (part : PartState). finite.len part.map) parts) (2 ^ 64 - 1)) c.deref.ensures.value
-                ∙ ap (λ (n : ℕ). min n (2 ^ 64 - 1)) (entries_are _ c.sixteen.ensures (map_of is.found) c.in_ok-keeper.parts.items is.divided);
+                ∙ ap (λ (n : ℕ). min n (2 ^ 64 - 1)) (entries_are _ c.sixteen.ensures (map_of is.found) c.in-Ok.parts.items is.divided);
           },
         ),
       );
