@@ -94,13 +94,15 @@ impl<'a, D: Disk + Drop, O: Observer, R: Wait> Worker<'a, D, O, R> {
     {
         match request {
             Request::Change(command) => {
-                let held = self.map.begin_change(self.rt, &mut self.pass, command)?;
-                Ok(Begun::Call(mark, held))
+                match self.map.begin_change(self.rt, &mut self.pass, command) {
+                    Ok(held) => Ok(Begun::Call(mark, held)),
+                    Err(refusal) => Err(refusal),
+                }
             }
-            Request::Read(read) => {
-                let held = self.map.begin_read(self.rt, &mut self.pass, read)?;
-                Ok(Begun::Call(mark, held))
-            }
+            Request::Read(read) => match self.map.begin_read(self.rt, &mut self.pass, read) {
+                Ok(held) => Ok(Begun::Call(mark, held)),
+                Err(refusal) => Err(refusal),
+            },
             Request::Bulk(bulk) => Ok(Begun::View(mark, bulk)),
         }
     }
@@ -151,11 +153,13 @@ impl<D: Disk + Drop, O: Observer, R: Clock + Wait> Calls for Worker<'_, D, O, R>
 
     fn begin(&mut self, request: Request) -> Result<Begun, Refusal> {
         let mark = self.take_up();
-        let begun = self.begin_as(mark, request);
-        if begun.is_err() {
-            self.put_down(mark);
+        match self.begin_as(mark, request) {
+            Ok(begun) => Ok(begun),
+            Err(refusal) => {
+                self.put_down(mark);
+                Err(refusal)
+            }
         }
-        begun
     }
 
     fn may_finish(&self, begun: &Begun) -> bool {
