@@ -44,12 +44,13 @@ pub(crate) fn sections<R: Wait>(
     let mut walk = ViewWalk::new(alloc);
     for _step in rt.forever() {
         let stripe = walk.stripe_to_take();
-        match map.view_step(pass, walk)? {
-            Viewed::More(next) => {
+        match map.view_step(pass, walk) {
+            Ok(Viewed::More(next)) => {
                 pause(rt, map, &backoff, stripe, &next);
                 walk = next;
             }
-            Viewed::Done(captured) => return Ok(captured),
+            Ok(Viewed::Done(captured)) => return Ok(captured),
+            Err(refusal) => return Err(refusal),
         }
     }
     unreachable!()
