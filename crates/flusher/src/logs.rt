@@ -42,39 +42,12 @@ impl<D: Disk> Keeper<D> {
         ensures result { result ≡ stepped }
         ensures ok { OnOk stepped (self.new ≡ self.old) }
         ensures err { OnErr stepped (self.new ≡ record self.old { is_broken = true }) }
+        ensures same { self.new ≡ record self.old { is_broken = self.new.is_broken } }
     {
         if stepped.is_err() {
             self.is_broken = true;
         }
         stepped
-    }
-
-    /// Makes the device call that is due in the newest log.
-    fn step_newest(&mut self) -> Result<Phase, Refusal>
-        // Nothing has failed, and an honest disk holds what the log says.
-        requires stands { MayAdvance D.states D.honest self.old.log self.old.disk }
-        requires works { (self.old.is_broken ≡ false) × (self.old.log.is_broken ≡ false) }
-
-        // At rest no call is made.
-        ensures rests { self.old.log.phase ≡ Phase.Idle
-            → (result ≡ Ok Phase.Idle) × (self.new ≡ self.old) }
-
-        // Else the newest log makes the call that is due, and no other.
-        ensures advances { self.old.log.phase ≢ Phase.Idle
-            → Advances D.states D.failures D.honest self.old.log self.new.log self.old.disk
-            self.new.disk result }
-
-        // A failed call is noted, and no other field changes.
-        ensures ok { OnOk result (self.new.is_broken ≡ false) }
-        ensures err { OnErr result (self.new.is_broken ≡ true) }
-        ensures same { self.new ≡ record self.old {
-          disk = self.new.disk;
-          log = self.new.log;
-          is_broken = self.new.is_broken;
-        } }
-    {
-        let stepped = self.log.advance(&mut self.disk);
-        self.noted(stepped)
     }
 
     /// Makes the device call that is due in the log, and lets the batch go that it commits.
@@ -112,7 +85,8 @@ impl<D: Disk> Keeper<D> {
         } }
     {
         let phase = self.log.phase();
-        let after = self.step_newest()?;
+        let stepped = self.log.advance(&mut self.disk);
+        let after = self.noted(stepped)?;
         if phase == Phase::Opened {
             self.let_go();
         }
@@ -151,7 +125,8 @@ impl<D: Disk> Keeper<D> {
         } }
     {
         let is_last = self.log.phase() == Phase::Opened;
-        let stepped = self.step_newest();
+        let called = self.log.advance(&mut self.disk);
+        let stepped = self.noted(called);
         if is_last && stepped.is_ok() {
             self.log = next;
         } else {

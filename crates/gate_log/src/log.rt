@@ -291,27 +291,6 @@ impl GateLog {
         Ok(())
     }
 
-    /// Writes what is staged, and a closed gate.
-    fn write_staged<D: Disk>(&self, disk: &mut D) -> Result<(), DeviceError>
-        requires place { D.honest disk.old → self.now.gate + 1 ≤ length
-            (now (D.states disk.old) (log_file self.now.generation)).seen }
-        ensures was_honest { D.honest disk.new → D.honest disk.old }
-        ensures ok { OnOk result
-            (Makes D.states D.failures (log_file self.now.generation)
-            (Call.writes (self.now.gate + 1) (bytes_staged self.now.ending self.now.frame)) disk.old
-            disk.new) }
-        ensures err { OnErr result
-            (Fails D.states D.failures (log_file self.now.generation)
-            (Call.writes (self.now.gate + 1) (bytes_staged self.now.ending self.now.frame)) disk.old
-            disk.new) }
-    {
-        let file = log_file(self.generation);
-        match self.ending {
-            Some(next) => disk.write_at(file, self.gate + 1, &end_frame_and_gate(next)),
-            None => disk.write_at(file, self.gate + 1, &self.frame),
-        }
-    }
-
     /// Makes the device call that is due; in `Idle` it makes none.
     fn make_call<D: Disk>(&self, disk: &mut D) -> Result<(), DeviceError>
         requires place { D.honest disk.old → (call : Call)
@@ -334,7 +313,10 @@ impl GateLog {
                 0,
                 &header_and_gate(self.version, self.generation, self.low),
             ),
-            Phase::Staged => self.write_staged(disk),
+            Phase::Staged => match self.ending {
+                Some(next) => disk.write_at(file, self.gate + 1, &end_frame_and_gate(next)),
+                None => disk.write_at(file, self.gate + 1, &self.frame),
+            },
             Phase::Synced => disk.write_at(file, self.gate, &[OPEN_GATE]),
             Phase::HeaderWritten | Phase::Written | Phase::Opened => disk.sync(file),
         }

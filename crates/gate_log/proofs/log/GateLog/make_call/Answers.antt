@@ -1,4 +1,4 @@
-use Rattle.std.proofs.Common.{◌≡◌, ◌⊎◌, ◌≤◌, length, sym, ap, subst, ◌∙◌}
+use Rattle.std.proofs.Common.{◌≡◌, ◌⊎◌, ◌+◌, ◌≤◌, length, sym, ap, subst, ◌∙◌}
 use Rattle.disk_model.specs.Files.{now}
 use Rattle.disk_model.proofs.CallLemmas.{sync_fails}
 use Rattle.store_layout.specs.Logs.{log_file}
@@ -7,11 +7,21 @@ use Rattle.store_layout.specs.declared.log_phase.Phase.TheVariants.{HeaderWritte
 use Rattle.gate_log.proofs.CallLemmas.{sync_due}
 use Rattle.gate_log.proofs.log.GateLog.make_call.Goals as goal
 
-pub write_staged-requires : goal.write_staged-requires
-write_staged-requires g c =
+pub write_at-requires-in-Some-clause-place : goal.write_at-requires-in-Some-clause-place
+write_at-requires-in-Some-clause-place g c =
     let log = c.args.self.now in
     let is : log.phase ≡ Staged = ap (λ (l : LogState). l.phase) (sym c.self.view_is) ∙ c.in-Staged.is in
-    record { place = λ honest. c.requires.place honest _ (ap (λ p. call_in p log) is) }
+    λ honest. subst (λ n. c.self.inside.gate + 1 ≤ length (now (g.D.Disk.states c.args.disk.now) n).seen) (sym c.log_file-file.ensures)
+    (subst (λ (l : LogState). l.gate + 1 ≤ length (now (g.D.Disk.states c.args.disk.now) (log_file l.generation)).seen) (sym c.self.view_is)
+    (c.requires.place honest _ (ap (λ p. call_in p log) is)))
+
+pub write_at-requires-in-None-clause-place : goal.write_at-requires-in-None-clause-place
+write_at-requires-in-None-clause-place g c =
+    let log = c.args.self.now in
+    let is : log.phase ≡ Staged = ap (λ (l : LogState). l.phase) (sym c.self.view_is) ∙ c.in-Staged.is in
+    λ honest. subst (λ n. c.self.inside.gate + 1 ≤ length (now (g.D.Disk.states c.args.disk.now) n).seen) (sym c.log_file-file.ensures)
+    (subst (λ (l : LogState). l.gate + 1 ≤ length (now (g.D.Disk.states c.args.disk.now) (log_file l.generation)).seen) (sym c.self.view_is)
+    (c.requires.place honest _ (ap (λ p. call_in p log) is)))
 
 pub write_at-requires-in-Synced-clause-place : goal.write_at-requires-in-Synced-clause-place
 write_at-requires-in-Synced-clause-place g c =
