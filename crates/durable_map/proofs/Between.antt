@@ -16,7 +16,7 @@ use Rattle.flusher.specs.declared.sweeper.Sweeper.{Sweeper}
 use Rattle.flusher.specs.KeeperSteps.{IsPast, SweepsOnce, is_walking}
 use Rattle.checkpoint_walk.specs.Checkpointing.{sealing}
 use Rattle.checkpoint_walk.specs.Walking.{AfterRefusal, GivesSection, MissesStripe, PutsBack, StaysAt}
-use Rattle.durable_map.specs.LockedKeepers.{KeepsSealed}
+use Rattle.durable_map.specs.LockedKeepers.{Keeps, KeepsSealed}
 use Rattle.durable_map.proofs.Sections.{CapturesNone, missed, not_captured, not_swept, stay_legal}
 use Rattle.durable_map.proofs.Sections as sections
 
@@ -26,6 +26,9 @@ pub record IsBetween {D : Type 0} (states : D → List Files) (honest : D → Ty
   pub over : keeper.capture ≡ None
   pub captured : AllLegalSections n p p.sections
   pub sealed : KeepsSealed states honest keeper
+
+pub of_kept : {D : Type 0} (states : D → List Files) (honest : D → Type 0) (n : ℕ) (keeper : Keeper D) (p : Record) → Keeps states honest n keeper p → IsBetween states honest n keeper p
+of_kept states honest n keeper p k = record { still = k.still; over = k.over; captured = k.captured; sealed = k.sealed }
 
 module _ {D : Type 0} (states : D → List Files) (honest : D → Type 0) (n stripe : ℕ) (old new : Keeper D) (p w : Record) (b : IsBetween states honest n old p) where
   gives : (mark : ℕ) → GivesSection n p stripe mark old new w → IsBetween states honest n new w

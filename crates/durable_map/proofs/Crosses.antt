@@ -15,9 +15,10 @@ use Rattle.stripe_locks.proofs.Crosses.{stripe_send, stripes_sync}
 use Rattle.durable_map.specs.contracts.locked_keeper.LockedKeeper as LockedKeeper
 use Rattle.durable_map.specs.contracts.locked_keeper.LockedKeeper.TheInside as Inside
 use Rattle.durable_map.specs.contracts.locked_keeper.LockedKeeperKeyedStripes.TheImpl as fitting
+use Rattle.durable_map.specs.contracts.own_steps.OwnSteps as OwnSteps
 use Rattle.durable_map.specs.contracts.map.DurableMap as DurableMap
 use Rattle.durable_map.proofs.gathering.Gathering.TheSendSync as gathering
-use Rattle.durable_map.proofs.locked_keeper.Done.TheSendSync as done
+use Rattle.durable_map.proofs.telling.Done.TheSendSync as done
 use Rattle.atomic_methods.proofs.Crosses.{prepared_send}
 use Rattle.map_types.proofs.commands.Reply.TheSendSync as reply
 use Rattle.map_types.proofs.commands.Read.TheSendSync as read
@@ -85,13 +86,19 @@ pass = search (stripe_send, seat.the_send, sendable) depth 20
 stripes_send : IsSend (Stripes.the_row)
 stripes_send = search (stripe_send, shared.the_send, lease.the_send, heap.frees, count.the_field_send, leaves, crosses, sendable) depth 20
 
+steps_fields : AllSend (shape OwnSteps.the_type).fields
+steps_fields = (heap.Arc-send Stripes.the_row stripes_send stripes_sync, (pass, ((search sendable), tt)))
+
+own_steps : IsSend (OwnSteps.the_field).row
+own_steps = struct_send (shape OwnSteps.the_type) steps_fields
+
 module _ (D : RattleType) where
   keeper : IsSend D → IsSend (Keeper.the_field D).row
   keeper s = search (walk, sweeper, log.the_send, zeros.the_send, writer.the_send, count.the_field_send, leaves, sendable) depth 20
 
   module _ (g : Ghosts D.Denot) where
     fields : IsSend D → AllSend (shape (Inside.the_type D g)).fields
-    fields s = (heap.Arc-send Stripes.the_row stripes_send stripes_sync, (keeper s, (pass, ((search sendable), (search (done.the_field_send, crosses, sendable) depth 20, tt)))))
+    fields s = (keeper s, (own_steps, ((search sendable), (search (done.the_field_send, crosses, sendable) depth 20, tt))))
 
     inside : IsSend D → IsSend (Inside.the_row D g)
     inside s = recorded_send _ _ _ (Inside.the_type D g).to_one (struct_send (shape (Inside.the_type D g)) (fields s))

@@ -3,14 +3,13 @@
 
 mod calls;
 mod changes;
-mod counting;
 mod gathering;
-mod keeping;
 pub mod laws;
 mod leading;
 mod locked_keeper;
 mod loops;
 mod map;
+mod own_steps;
 mod reads;
 mod starts;
 mod telling;

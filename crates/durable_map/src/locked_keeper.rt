@@ -1,17 +1,23 @@
-//! The keeper, its pass and the shared stripes, one value under one lock.
-ghost use Rattle.std.specs.Prelude.{◌≡◌, ◌<◌, ◌≤◌, ℕ, List, None, Some, false, IfErr};
+//! The keeper with the steps of its pass, one value under one lock. Between any two of its calls it
+//! keeps what a stop is to leave, neither sweeps nor captures, and holds no stripe.
+ghost use Rattle.std.specs.Prelude.{◌≡◌, ◌<◌, ◌≤◌, ℕ, List, None, Some, true, false, IfErr};
 ghost use Rattle.std.specs.Arc.{arc_value};
 ghost use Rattle.map_types.specs.declared.commands.Command.{Command};
 ghost use Rattle.ticket_order.specs.declared.record.Record.{Record};
+ghost use Rattle.ticket_order.specs.StepRules.{AllLegalSections};
 ghost use Rattle.stripe_locks.specs.Holding.{name_of_words};
 ghost use Rattle.stripe_locks.specs.Passes.{recorded, stripe_count, IsPassOf};
-ghost use Rattle.durable_map.specs.LockedKeepers.{HasCause, Keeps};
+ghost use Rattle.flusher.specs.Fitting.{Fits};
+ghost use Rattle.flusher.specs.KeeperSteps.{is_walking};
+ghost use Rattle.durable_map.specs.LockedKeepers.{HasCause, Keeps, KeepsSealed};
 
-use crate::keeping;
-use crate::telling::{SealedCheckpoint, Standing};
+use crate::own_steps::OwnSteps;
+use crate::telling::{Done, SealedCheckpoint, Standing};
 use checkpoint_file::CheckpointPhase;
+use checkpoint_walk::{advance, begin, seal, try_capture};
 use disk_model::Disk;
-use flusher::Keeper;
+use flusher::{Keeper, laws};
+use gate_log::Phase;
 use keyed_lock::Keyed;
 use map_types::Refusal;
 use std::alloc::Global;
@@ -19,6 +25,7 @@ use std::marker::Model;
 use std::sync::Arc;
 use std::time::Instant;
 use stripe_locks::{Pass, Stripes};
+use ticket_order::Steps;
 
 /// The longest batch.
 const MOST_COMMANDS: u32 = 65_536;
@@ -36,54 +43,24 @@ pub(crate) enum Turn {
     Awaited,
 }
 
-/// What is told of the work that was done in this life.
-#[derive(Clone, Copy)]
-struct Done {
-    // how many batches were committed
-    batches: u64,
-    // when the checkpoint under way was begun, and how many entries of it were captured
-    begun: Option<Instant>,
-    captured: u64,
-    // the checkpoint that was sealed last
-    sealed: Option<SealedCheckpoint>,
+/// Its sweeps took what is committed, no more is published, and what a stop leaves stands for that.
+/// Until a device call fails, the marks of the sealed checkpoint are committed.
+pub(crate) fn what_is_kept<D: Disk>(keeper: &Keeper<D>)
+    ensures { (n : ℕ) (done : List Command) (p : Record)
+        → Fits D.states D.honest n done keeper.now p → is_walking keeper.now.sweeper.walking ≡ false
+        → keeper.now.capture ≡ None → AllLegalSections n p p.sections
+        → (keeper.now.is_broken ≡ true → KeepsSealed D.states D.honest keeper.now)
+        → Keeps D.states D.honest n keeper.now p }
+{
+    laws::committed_were_taken(keeper);
+    laws::stops_of_a_keeper(keeper);
 }
 
-impl Done {
-    fn new() -> Done {
-        Done {
-            batches: 0,
-            begun: None,
-            captured: 0,
-            sealed: None,
-        }
-    }
-
-    /// A batch was committed, if so.
-    fn note_batch(&mut self, is_batch: bool) {
-        if is_batch {
-            self.batches = self.batches.saturating_add(1);
-        }
-    }
-
-    /// A checkpoint was begun.
-    fn note_begun(&mut self, now: Option<Instant>) {
-        self.begun = now;
-        self.captured = 0;
-    }
-
-    /// A stripe with so many entries was captured.
-    fn note_captured(&mut self, entries: usize) {
-        self.captured = self.captured.saturating_add(entries as u64);
-    }
-}
-
-/// The keeper with its pass. It holds no stripe between its calls; each of them makes at most one
-/// device call.
+/// The keeper with the steps of its pass. Each of its calls makes at most one device call.
 #[derive(Drop)]
 pub(crate) struct LockedKeeper<D: Disk> {
-    stripes: Arc<Stripes, Global>,
     keeper: Keeper<D>,
-    pass: Pass,
+    steps: OwnSteps,
     // A file was found full: a batch would have carried the log past its greatest length, or a stripe has
     // too many entries for a checkpoint.
     is_full: bool,
@@ -96,7 +73,7 @@ impl<D: Disk> Model for LockedKeeper<D> {
     ghost use Rattle.std.specs.Prelude.{refl};
     ghost use Rattle.ticket_order.specs.contracts.record.Record as record_type;
     ghost use Rattle.stripe_locks.specs.Holding.{name_of_words};
-    ghost use Rattle.stripe_locks.specs.Passes.{recorded, stripe_count, IsPassOf};
+    ghost use Rattle.stripe_locks.specs.Passes.{recorded, stripe_count};
     ghost use Rattle.durable_map.specs.LockedKeepers.{HasCause, Keeps, Locked};
 
     ghost Value = { Locked D };
@@ -106,15 +83,14 @@ impl<D: Disk> Model for LockedKeeper<D> {
         (λ p. record { pass = p.0; words = p.1.0; disk = p.1.1 }) (λ _. refl) };
 
     ghost view = { λ locked. record {
-      pass = recorded locked.pass;
-      words = name_of_words (arc_value locked.stripes);
+      pass = recorded locked.steps.pass;
+      words = name_of_words (arc_value locked.steps.stripes);
       disk = locked.keeper.disk;
     } };
 
-    ghost invariant = { λ locked. IsPassOf (arc_value locked.stripes) locked.pass
-        × Keeps D.states D.honest (stripe_count (arc_value locked.stripes)) locked.keeper
-        (recorded locked.pass)
-        × HasCause locked.is_full locked.keeper };
+    ghost invariant = { λ locked.
+        Keeps D.states D.honest (stripe_count (arc_value locked.steps.stripes)) locked.keeper
+        (recorded locked.steps.pass) × HasCause locked.is_full locked.keeper };
 }
 
 /// The pass under the lock makes its steps on the words of the stripes that are the lock's key.
@@ -141,9 +117,8 @@ impl<D: Disk> LockedKeeper<D> {
         ensures disk { result.disk ≡ keeper.disk }
     {
         LockedKeeper {
-            stripes,
             keeper,
-            pass,
+            steps: OwnSteps::new(stripes, pass),
             is_full: false,
             done: Done::new(),
         }
@@ -178,19 +153,19 @@ impl<D: Disk> LockedKeeper<D> {
     fn sweep(&mut self, stripe: usize)
         ensures words { self.new.words ≡ self.old.words }
     {
-        if stripe >= self.stripes.stripes().get() {
+        if stripe >= self.steps.stripes().get() {
             return;
         }
-        let mut steps = self.stripes.at(&mut self.pass);
-        keeping::sweep(&mut self.keeper, stripe, &mut steps);
+        let _swept = self.keeper.try_sweep(stripe, &mut self.steps);
+        what_is_kept(&self.keeper);
     }
 
     /// Takes the entries of each stripe that is marked, or of each at all, unless another pass holds it.
     fn gather(&mut self, sweeps_all: bool)
         ensures words { self.new.words ≡ self.old.words }
     {
-        let marks = self.stripes.take_marks();
-        for stripe in 0..self.stripes.stripes().get() {
+        let marks = self.steps.stripes.take_marks();
+        for stripe in 0..self.steps.stripes().get() {
             if sweeps_all || marks.contains(stripe) {
                 self.sweep(stripe);
             }
@@ -201,7 +176,8 @@ impl<D: Disk> LockedKeeper<D> {
     fn stage(&mut self) -> Result<u32, Refusal>
         ensures words { self.new.words ≡ self.old.words }
     {
-        let staged = keeping::stage(&mut self.keeper, MOST_COMMANDS);
+        let staged = self.keeper.stage_batch(MOST_COMMANDS);
+        what_is_kept(&self.keeper);
         if matches!(staged, Err(Refusal::LogFull)) {
             self.is_full = true;
         }
@@ -212,15 +188,18 @@ impl<D: Disk> LockedKeeper<D> {
     fn write_ahead(&mut self) -> Result<(), Refusal>
         ensures words { self.new.words ≡ self.old.words }
     {
-        keeping::write_ahead(&mut self.keeper)
+        let written = self.keeper.write_ahead();
+        what_is_kept(&self.keeper);
+        written
     }
 
     /// Makes the device call that is due in the logs.
-    fn advance_logs(&mut self) -> Result<(), Refusal>
+    fn advance_logs(&mut self) -> Result<Phase, Refusal>
         ensures words { self.new.words ≡ self.old.words }
     {
-        let _phase = keeping::advance_logs(&mut self.keeper)?;
-        Ok(())
+        let stepped = self.keeper.advance();
+        what_is_kept(&self.keeper);
+        stepped
     }
 
     /// Whether no device call is due in the logs.
@@ -234,9 +213,9 @@ impl<D: Disk> LockedKeeper<D> {
     {
         self.done
             .note_batch(self.keeper.published < self.keeper.committed());
-        let mut steps = self.stripes.at(&mut self.pass);
-        keeping::publish(&mut self.keeper, &mut steps);
-        self.stripes.wake_released();
+        self.keeper.publish(&mut self.steps);
+        what_is_kept(&self.keeper);
+        self.steps.stripes.wake_released();
     }
 
     /// FAIL, and wakes all who wait for it or for their positions. If no device call has failed and no
@@ -245,9 +224,9 @@ impl<D: Disk> LockedKeeper<D> {
         ensures words { self.new.words ≡ self.old.words }
     {
         if self.keeper.is_broken || self.is_full {
-            let mut steps = self.stripes.at(&mut self.pass);
-            keeping::fail(&mut self.keeper, &mut steps);
-            self.stripes.wake_failed();
+            self.keeper.fail(&mut self.steps);
+            what_is_kept(&self.keeper);
+            self.steps.stripes.wake_failed();
         }
     }
 
@@ -269,7 +248,7 @@ impl<D: Disk> LockedKeeper<D> {
             self.write_ahead()?;
             return Ok(Turn::Worked);
         }
-        self.advance_logs()?;
+        let _phase = self.advance_logs()?;
         if self.is_resting() {
             self.publish();
         }
@@ -285,30 +264,42 @@ impl<D: Disk> LockedKeeper<D> {
         if length < bytes {
             return Ok(Turn::Rested);
         }
-        keeping::begin(&mut self.keeper)?;
+        let begun = begin(&mut self.keeper);
+        what_is_kept(&self.keeper);
+        begun?;
         self.done.note_begun(now);
-        self.stripes.wake_keeper();
+        self.steps.stripes.wake_keeper();
         Ok(Turn::Worked)
     }
 
-    /// Gives the checkpoint the section of this stripe, which is the next.
+    /// Gives the checkpoint the section of this stripe, unless another pass holds it.
+    fn capture_section(&mut self, stripe: usize) -> Result<u64, Refusal>
+        ensures words { self.new.words ≡ self.old.words }
+    {
+        let captured = try_capture(&mut self.keeper, stripe, &mut self.steps);
+        what_is_kept(&self.keeper);
+        captured
+    }
+
+    /// The same of the stripe that is next, and notes how many entries it has.
     fn capture(&mut self, stripe: usize) -> Result<Turn, Refusal>
         ensures words { self.new.words ≡ self.old.words }
     {
-        let mut steps = self.stripes.at(&mut self.pass);
-        let (captured, entries) = keeping::capture_counted(&mut self.keeper, stripe, &mut steps);
+        let captured = self.capture_section(stripe);
         if matches!(captured, Err(Refusal::LogFull)) {
             self.is_full = true;
         }
         let _mark = captured?;
-        self.done.note_captured(entries);
+        self.done.note_captured(self.steps.entries());
         Ok(Turn::Worked)
     }
 
     fn seal_checkpoint(&mut self) -> Result<Turn, Refusal>
         ensures words { self.new.words ≡ self.old.words }
     {
-        keeping::seal(&mut self.keeper)?;
+        let sealed = seal(&mut self.keeper);
+        what_is_kept(&self.keeper);
+        sealed?;
         Ok(Turn::Worked)
     }
 
@@ -316,7 +307,9 @@ impl<D: Disk> LockedKeeper<D> {
     fn advance_checkpoint(&mut self) -> Result<Turn, Refusal>
         ensures words { self.new.words ≡ self.old.words }
     {
-        match keeping::advance_checkpoint(&mut self.keeper)? {
+        let stepped = advance(&mut self.keeper);
+        what_is_kept(&self.keeper);
+        match stepped? {
             CheckpointPhase::Sealed => Ok(Turn::Sealed),
             _ => Ok(Turn::Worked),
         }
@@ -367,6 +360,8 @@ impl<D: Disk> LockedKeeper<D> {
         ensures words { self.new.words ≡ self.old.words }
         ensures err { IfErr result (λ refusal. refusal ≡ Refusal.NoMemory) }
     {
-        keeping::set_ahead(&mut self.keeper, count)
+        let set = self.keeper.set_ahead(count);
+        what_is_kept(&self.keeper);
+        set
     }
 }

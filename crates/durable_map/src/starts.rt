@@ -14,8 +14,7 @@ ghost use Rattle.recovery.specs.Dividing.{ArePartsOf};
 ghost use Rattle.durable_map.specs.Maps.{IsHeldOf, IsPassOf, IsReady, opening_of, stripe_count, StaysHeldOf};
 
 use crate::gathering::Gathering;
-use crate::keeping::what_is_kept;
-use crate::locked_keeper::LockedKeeper;
+use crate::locked_keeper::{LockedKeeper, what_is_kept};
 use crate::map::DurableMap;
 use atomic_methods::Part;
 use disk_model::Disk;

@@ -52,3 +52,44 @@ impl<D: Disk + Drop> DurableMap<D> {
         standing
     }
 }
+
+/// What is told of the work that was done in this life.
+#[derive(Clone, Copy)]
+pub(crate) struct Done {
+    // how many batches were committed
+    pub(crate) batches: u64,
+    // when the checkpoint under way was begun, and how many entries of it were captured
+    pub(crate) begun: Option<Instant>,
+    pub(crate) captured: u64,
+    // the checkpoint that was sealed last
+    pub(crate) sealed: Option<SealedCheckpoint>,
+}
+
+impl Done {
+    pub(crate) fn new() -> Done {
+        Done {
+            batches: 0,
+            begun: None,
+            captured: 0,
+            sealed: None,
+        }
+    }
+
+    /// A batch was committed, if so.
+    pub(crate) fn note_batch(&mut self, is_batch: bool) {
+        if is_batch {
+            self.batches = self.batches.saturating_add(1);
+        }
+    }
+
+    /// A checkpoint was begun.
+    pub(crate) fn note_begun(&mut self, now: Option<Instant>) {
+        self.begun = now;
+        self.captured = 0;
+    }
+
+    /// A stripe with so many entries was captured.
+    pub(crate) fn note_captured(&mut self, entries: usize) {
+        self.captured = self.captured.saturating_add(entries as u64);
+    }
+}

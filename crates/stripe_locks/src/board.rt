@@ -36,11 +36,11 @@ impl Steps for Board<'_> {
     }
 
     fn seen(&self) -> u64 {
-        self.pass.seen
+        self.pass.seen()
     }
 
     fn key_limit(&self) -> u16 {
-        self.pass.key_limit
+        self.pass.key_limit()
     }
 
     fn take(&mut self, stripe: usize) -> Option<Stripe> {

@@ -2,6 +2,7 @@
 ghost use Rattle.std.specs.Prelude.{◌≡◌, ◌+◌, ◌*◌, length, IfOk, IfErr, replicate, slice_set};
 ghost use Rattle.std.specs.FinMap as finite;
 ghost use Rattle.map_types.specs.Limits.{most_key_bytes};
+ghost use Rattle.ticket_order.specs.Records.{reach};
 ghost use Rattle.one_history.specs.Turns.{opening_of};
 ghost use Rattle.one_history.specs.OneHistory.{AreParts};
 ghost use Rattle.stripe_locks.specs.Placed.{AreStored};
@@ -159,5 +160,19 @@ impl Pass {
         ensures { result ≡ (recorded self.now).keeper }
     {
         self.number == 1
+    }
+
+    /// The greatest position that the pass has seen.
+    pub fn seen(&self) -> u64
+        ensures { result ≡ reach (recorded self.now) }
+    {
+        self.seen
+    }
+
+    /// The most bytes that the key of a change may have.
+    pub fn key_limit(&self) -> u16
+        ensures { result ≡ (recorded self.now).opening.key_limit }
+    {
+        self.key_limit
     }
 }

@@ -1,5 +1,5 @@
 use Rattle.durable_map.proofs.KeeperLaws.{keeps}
-use Rattle.durable_map.proofs.keeping.what_is_kept.Goals as goal
+use Rattle.durable_map.proofs.locked_keeper.what_is_kept.Goals as goal
 
 pub returns : goal.returns
 returns g c = λ n done p fits still over captured sealed.

@@ -1,0 +1,20 @@
+use Rattle.std.proofs.Common.{inl, inr, ℕ, sym, subst}
+use Rattle.stripe_locks.specs.Passes.{recorded}
+use Rattle.ticket_order.specs.StepRules.{AllLegalSections}
+use Rattle.durable_map.proofs.Causes.{fails}
+use Rattle.durable_map.proofs.Between.{of_kept, failed}
+use Rattle.durable_map.proofs.locked_keeper.LockedKeeper.fail.Goals as goal
+use Rattle.durable_map.proofs.locked_keeper.LockedKeeper.fail.Goals.{then-self-via-then-self, then-self-via-else-self+then-self-2}
+
+pub invariant_of-self : goal.invariant_of-self
+invariant_of-self g c =
+    let old = c.self.inside in
+    let k = c.self.invariant.0 in
+    let t = c.fail in
+    let w = recorded t.new.steps.pass in
+    let b = failed g.D.Disk.states g.D.Disk.honest _ old.keeper t.new.self (recorded old.steps.pass) w (of_kept g.D.Disk.states g.D.Disk.honest _ _ _ k) t.ensures.failed.0 t.ensures.failed.1 in
+    let legal = subst (λ (m : ℕ). AllLegalSections m w w.sections) (sym t.ensures.pass.1) b.captured in (
+      c.what_is_kept.ensures _ k.done _ (t.ensures.fits k.done k.fits) b.still b.over legal (λ broken. b.sealed),
+      fails old.keeper t.new.self old.is_full t.ensures.failed.1
+          (elim c.then-self.branch [ then-self-via-then-self w ↦ inl w.if-self.true | then-self-via-else-self+then-self-2 w ↦ inr w.if-self-2.true ]),
+    )
