@@ -1,5 +1,5 @@
--- A call that was refused before it was made.
-use Rattle.std.proofs.Common.{◌≡◌, ℕ, Err, inl, inr, ap, subst, sym, ◌∙◌}
+-- A call that was refused before it was made, and what a begun call comes to.
+use Rattle.std.proofs.Common.{◌≡◌, ℕ, Result, Ok, Err, IfOk, IfErr, inl, inr, ap, subst, sym, ◌∙◌}
 use Rattle.java_hash.specs.Stripes.{stripe_of}
 use Rattle.map_types.specs.declared.commands.Command.{Command}
 use Rattle.map_types.specs.declared.commands.Read.{Read}
@@ -8,11 +8,13 @@ use Rattle.map_types.specs.declared.refusals.Refusal.TheVariants as refusal
 use Rattle.ticket_order.specs.declared.record.Asked.TheVariants.{Changing, Reading}
 use Rattle.ticket_order.specs.declared.record.Record.{Record}
 use Rattle.ticket_order.specs.Calls.{RefusesChange, RefusesRead}
-use Rattle.stripe_locks.specs.Waits.{RefusesReadInTime, TurnsDownInTime}
+use Rattle.stripe_locks.specs.Holding.{position_of, reply_of}
+use Rattle.stripe_locks.specs.declared.held.Held.{Held}
+use Rattle.stripe_locks.specs.Waits.{MakesCallInTime, MakesReadInTime, RefusesReadInTime, TurnsDownInTime}
 use Rattle.flusher.specs.Fitting.{GoesOnByCalls}
 use Rattle.flusher.proofs.OwnCalls.{none_goes_on, refused_change_goes_on, refused_read_goes_on, then}
 use Rattle.durable_map.specs.Durable.{Begins}
-use Rattle.durable_map.proofs.Answering.{waited}
+use Rattle.durable_map.proofs.Answering.{change_begun, read_begun, waited}
 
 -- no call was added
 change_adds_none : (v : Record) (i : ℕ) (e : Refusal) (w : Record) → RefusesChange v i e w → w.calls ≡ v.calls
@@ -43,3 +45,13 @@ read_refused n v r w e k = record {
   goes_on = then v k.waited w (waited _ v k.waited k.waits) (refused_read_goes_on k.waited _ e w k.refused);
   adds = record { refused = k; calls = read_adds_none k.waited _ e w k.refused ∙ ap (λ (z : Record). z.calls) k.waits.is };
 }
+
+-- ---- a call that was begun, by what came of it
+
+pub change_ends_so : (n : ℕ) (v : Record) (c : Command) (w : Record) (result : Result Held Refusal) → IfOk result (λ held. MakesCallInTime n v c (position_of held) (reply_of held) w) → IfErr result (λ e. TurnsDownInTime n v c e w) → Begins n v (Changing c) result w
+change_ends_so n v c w (Ok held) made refused = change_begun n v c held w made
+change_ends_so n v c w (Err e) made refused = change_refused n v c w e refused
+
+pub read_ends_so : (n : ℕ) (v : Record) (r : Read) (w : Record) (result : Result Held Refusal) → IfOk result (λ held. MakesReadInTime n v r (position_of held) (reply_of held) w) → IfErr result (λ e. RefusesReadInTime v (stripe_of n r.key) e w) → Begins n v (Reading r) result w
+read_ends_so n v r w (Ok held) made refused = read_begun n v r held w made
+read_ends_so n v r w (Err e) made refused = read_refused n v r w e refused

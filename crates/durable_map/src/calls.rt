@@ -34,10 +34,7 @@ impl<D: Disk + Drop> DurableMap<D> {
         ensures ready { IsReady self.now pass.new }
         ensures same { IsSamePass pass.old pass.new }
     {
-        match self.stripes.call(rt, pass, command) {
-            Ok(held) => Ok(held),
-            Err(refusal) => Err(refusal),
-        }
+        self.stripes.call(rt, pass, command)
     }
 
     /// Makes a read, whose reply is held until `finish` gives it out. It waits for the stripe of its
@@ -52,10 +49,7 @@ impl<D: Disk + Drop> DurableMap<D> {
         ensures ready { IsReady self.now pass.new }
         ensures same { IsSamePass pass.old pass.new }
     {
-        match self.stripes.read(rt, pass, read) {
-            Ok(held) => Ok(held),
-            Err(refusal) => Err(refusal),
-        }
+        self.stripes.read(rt, pass, read)
     }
 
     /// Whether `finish` will likely return without a wait. It is a hint, and makes no step.
@@ -113,10 +107,8 @@ impl<D: Disk + Drop> DurableMap<D> {
         ensures ready { IsReady self.now pass.new }
         ensures same { IsSamePass pass.old pass.new }
     {
-        match self.begin_change(rt, pass, command) {
-            Ok(held) => self.finish(rt, pass, held),
-            Err(refusal) => Err(refusal),
-        }
+        let held = self.begin_change(rt, pass, command)?;
+        self.finish(rt, pass, held)
     }
 
     /// Makes a read, and returns once each change that it has seen is durable.
@@ -129,9 +121,7 @@ impl<D: Disk + Drop> DurableMap<D> {
         ensures ready { IsReady self.now pass.new }
         ensures same { IsSamePass pass.old pass.new }
     {
-        match self.begin_read(rt, pass, read) {
-            Ok(held) => self.finish(rt, pass, held),
-            Err(refusal) => Err(refusal),
-        }
+        let held = self.begin_read(rt, pass, read)?;
+        self.finish(rt, pass, held)
     }
 }
