@@ -3,7 +3,7 @@ use crate::kinds::{CallKind, PlainCall};
 use crate::outcomes::{PlainEnd, PlainOutcome};
 use map_types::Refusal;
 use sim_rules::{Ending, Event, Side};
-use std::alloc::{AllocError, Global};
+use std::fmt;
 use store_layout::CheckpointPhase;
 
 /// The names of the kinds of events.
@@ -74,7 +74,7 @@ struct CallCount {
 }
 
 /// All counts.
-#[derive(Drop)]
+#[derive(Clone, Copy)]
 pub(crate) struct Counts {
     events: [EventCount; 23],
     calls: [CallCount; 12],
@@ -190,33 +190,33 @@ impl Counts {
         }
     }
 
-    fn note_outcome(&mut self, found: &PlainOutcome) {
+    fn note_outcome(&mut self, found: PlainOutcome) {
         match found {
-            PlainOutcome::Refused(refusal) => self.note_refusal(*refusal),
+            PlainOutcome::Refused(refusal) => self.note_refusal(refusal),
             PlainOutcome::Opened { .. } => one_more(&mut self.opened),
             PlainOutcome::NotOpened { .. } => one_more(&mut self.not_opened),
             PlainOutcome::Stepped { end, .. } => match end {
                 PlainEnd::Replied { .. } => one_more(&mut self.replied),
                 PlainEnd::NotYet => one_more(&mut self.not_yet),
                 PlainEnd::Failed => one_more(&mut self.given_up),
-                PlainEnd::Refused(refusal) => self.note_refusal(*refusal),
+                PlainEnd::Refused(refusal) => self.note_refusal(refusal),
                 _ => {}
             },
-            PlainOutcome::Logged { call, .. } => self.note_call(*call, Way::Done),
+            PlainOutcome::Logged { call, .. } => self.note_call(call, Way::Done),
             PlainOutcome::Checkpointed { call, phase } => {
-                self.note_call(*call, Way::Done);
-                if *phase == CheckpointPhase::Sealed {
+                self.note_call(call, Way::Done);
+                if phase == CheckpointPhase::Sealed {
                     one_more(&mut self.sealed);
                 }
             }
-            PlainOutcome::CallFailed(call) => self.note_call(*call, Way::Failed),
-            PlainOutcome::Stopped(Some(call)) => self.note_call(*call, Way::Stopped),
+            PlainOutcome::CallFailed(call) => self.note_call(call, Way::Failed),
+            PlainOutcome::Stopped(Some(call)) => self.note_call(call, Way::Stopped),
             _ => {}
         }
     }
 
     /// Counts the event, and what came of it.
-    pub(crate) fn note(&mut self, event: &Event, found: &PlainOutcome) {
+    pub(crate) fn note(&mut self, event: &Event, found: PlainOutcome) {
         if let Some(count) = self.events.get_mut(event_place(event)) {
             one_more(&mut count.made);
             if !matches!(found, PlainOutcome::Skipped) {
@@ -237,63 +237,60 @@ impl Counts {
         cut
     }
 
-    fn events_table(&self, alloc: Global) -> Result<String, AllocError> {
-        let mut table = String::new(alloc);
-        for (name, count) in EVENTS.iter().zip(&self.events) {
-            let made = count.made;
-            let fitted = count.fitted;
-            let line = format!(in alloc; "{name}: {made} events, {fitted} of them not skipped\n")?;
-            table.push_str(line.as_str())?;
-        }
-        Ok(table)
-    }
-
-    fn calls_table(&self, alloc: Global) -> Result<String, AllocError> {
-        let mut table = String::new(alloc);
+    fn write_calls<W: fmt::Write>(&self, f: &mut fmt::Formatter<W>) -> fmt::Result {
         for ((_, name), count) in CALLS.iter().zip(&self.calls) {
-            let done = count.done;
-            let failed = count.failed;
-            let stops = count.stopped;
-            let line = format!(in alloc;
-                "{name}: {done} made, {failed} failed, {stops} stops within\n"
+            let CallCount {
+                done,
+                failed,
+                stopped,
+            } = *count;
+            writeln!(
+                f,
+                "{name}: {done} made, {failed} failed, {stopped} stops within"
             )?;
-            table.push_str(line.as_str())?;
         }
-        Ok(table)
+        Ok(())
     }
 
-    fn outcomes_table(&self, alloc: Global) -> Result<String, AllocError> {
-        let opened = self.opened;
-        let not_opened = self.not_opened;
-        let replied = self.replied;
-        let not_yet = self.not_yet;
-        let given_up = self.given_up;
-        let sealed = self.sealed;
-        let openings = format!(in alloc;
-            "openings: {opened} gave a map, {not_opened} met their failing call\n"
+    fn write_outcomes<W: fmt::Write>(&self, f: &mut fmt::Formatter<W>) -> fmt::Result {
+        let Counts {
+            opened,
+            not_opened,
+            replied,
+            not_yet,
+            given_up,
+            busy,
+            failed,
+            wrong_phase,
+            too_early,
+            too_long,
+            sealed,
+            ..
+        } = *self;
+        writeln!(
+            f,
+            "openings: {opened} gave a map, {not_opened} met their failing call"
         )?;
-        let replies = format!(in alloc;
-            "replies: {replied} released, {not_yet} not yet, {given_up} given up\n"
+        writeln!(
+            f,
+            "replies: {replied} released, {not_yet} not yet, {given_up} given up"
         )?;
-        format!(in alloc; "{openings}{replies}checkpoints: {sealed} sealed\n")
+        writeln!(f, "checkpoints: {sealed} sealed")?;
+        write!(
+            f,
+            "refusals: {busy} busy, {failed} failed, {wrong_phase} wrong phase, "
+        )?;
+        writeln!(f, "{too_early} too early, {too_long} key too long")
     }
+}
 
-    fn refusals_table(&self, alloc: Global) -> Result<String, AllocError> {
-        let busy = self.busy;
-        let failed = self.failed;
-        let wrong = self.wrong_phase;
-        let early = self.too_early;
-        let long = self.too_long;
-        let files = format!(in alloc; "{failed} failed, {wrong} wrong phase, {early} too early")?;
-        format!(in alloc; "refusals: {busy} busy, {files}, {long} key too long\n")
-    }
-
-    /// The counts, each kind in a line.
-    pub(crate) fn table(&self, alloc: Global) -> Result<String, AllocError> {
-        let events = self.events_table(alloc)?;
-        let calls = self.calls_table(alloc)?;
-        let outcomes = self.outcomes_table(alloc)?;
-        let refusals = self.refusals_table(alloc)?;
-        format!(in alloc; "{events}{calls}{outcomes}{refusals}")
+impl fmt::Display for Counts {
+    fn fmt<W: fmt::Write>(&self, f: &mut fmt::Formatter<W>) -> fmt::Result {
+        for (name, count) in EVENTS.iter().zip(&self.events) {
+            let EventCount { made, fitted } = *count;
+            writeln!(f, "{name}: {made} events, {fitted} of them not skipped")?;
+        }
+        self.write_calls(f)?;
+        self.write_outcomes(f)
     }
 }

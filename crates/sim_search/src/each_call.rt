@@ -2,7 +2,7 @@
 //! Then the store is opened again.
 use crate::counts::Counts;
 use crate::fixed_runs::{Cut, FixedRun, Left, RUNS, Way, events_of, side_of};
-use crate::searching::search_events;
+use crate::searching::{Wrong, search_events};
 use sim_rules::Side;
 use std::alloc::{AllocError, Global};
 use std::io;
@@ -19,93 +19,80 @@ const LEFT: [Left; 7] = [
 ];
 
 /// The cases of a device call: two ways and seven fills.
-const CASES: u64 = 14;
+const CASES: usize = 14;
 
-/// What came of all cases of a run.
-#[derive(Drop)]
-enum Tried {
-    Right { calls: u64, cases: u64 },
-    Wrong(String),
-}
-
-/// Plays one case. Gives what was wrong.
-fn try_case(
-    alloc: Global,
-    run: FixedRun,
-    upto: usize,
+/// A case that came out wrong.
+#[derive(Clone, Copy, Debug)]
+struct WrongCase {
+    place: usize,
     cut: Cut,
-    counts: &mut Counts,
-) -> Result<Option<String>, AllocError> {
-    let events = events_of(alloc, run, upto, cut)?;
-    match search_events(alloc, &events, counts)? {
-        None => Ok(None),
-        Some(wrong) => {
-            let name = run.name;
-            Ok(Some(format!(in alloc; "{name}, place {upto}, {cut:?}, {wrong}")?))
-        }
-    }
+    wrong: Wrong,
 }
 
 /// Tries the device call at this place of the run in both ways, with each fill.
 fn try_call(
     alloc: Global,
     run: FixedRun,
-    upto: usize,
+    place: usize,
     side: Side,
     counts: &mut Counts,
-) -> Result<Option<String>, AllocError> {
-    for left in LEFT {
-        let way = Way::StoppedWithin;
-        let wrong = try_case(alloc, run, upto, Cut { side, way, left }, counts)?;
-        if wrong.is_some() {
-            return Ok(wrong);
-        }
-        let way = Way::FailedBeforeStop;
-        let wrong = try_case(alloc, run, upto, Cut { side, way, left }, counts)?;
-        if wrong.is_some() {
-            return Ok(wrong);
+) -> Result<Option<WrongCase>, AllocError> {
+    for case in 0..CASES {
+        let cut = Cut {
+            side,
+            way: if case % 2 == 0 {
+                Way::StoppedWithin
+            } else {
+                Way::FailedBeforeStop
+            },
+            left: LEFT.get(case / 2).copied().unwrap_or(Left::Old),
+        };
+        let events = events_of(alloc, run, place, cut)?;
+        if let Some(wrong) = search_events(alloc, &events, counts)? {
+            return Ok(Some(WrongCase { place, cut, wrong }));
         }
     }
     Ok(None)
 }
 
-/// Tries each device call of the run. In each case one call is to be cut.
-fn try_run(alloc: Global, run: FixedRun) -> Result<Tried, AllocError> {
-    let mut counts = Counts::new();
-    let mut calls = 0u64;
+/// Tries each device call of the run up to the first wrong outcome, and counts them.
+fn try_run(
+    alloc: Global,
+    run: FixedRun,
+    calls: &mut usize,
+    counts: &mut Counts,
+) -> Result<Option<WrongCase>, AllocError> {
     for (place, letter) in run.moves.as_bytes().iter().enumerate() {
         if let Some(side) = side_of(*letter) {
-            calls = calls.saturating_add(1);
-            if let Some(wrong) = try_call(alloc, run, place, side, &mut counts)? {
-                return Ok(Tried::Wrong(wrong));
+            *calls = calls.saturating_add(1);
+            if let Some(wrong) = try_call(alloc, run, place, side, counts)? {
+                return Ok(Some(wrong));
             }
         }
     }
-    let cases = counts.cut_calls();
-    if cases != calls.saturating_mul(CASES) {
-        let name = run.name;
-        let wrong = format!(in alloc; "{name}, {calls} calls, but {cases} cases")?;
-        return Ok(Tried::Wrong(wrong));
-    }
-    Ok(Tried::Right { calls, cases })
+    Ok(None)
 }
 
 /// Tries the runs up to the first wrong outcome, and prints what came of them; whether none was wrong.
+/// In each case one call is to be cut.
 pub(crate) fn try_runs<R: AllocGlobal + Print>(rt: &R) -> io::Result<bool> {
     let alloc = rt.alloc();
     let mut all = 0u64;
     for run in RUNS {
         let name = run.name;
-        match try_run(alloc, run)? {
-            Tried::Right { calls, cases } => {
-                println!(rt; "{name}: {calls} calls, {cases} cases")?;
-                all = all.saturating_add(cases);
-            }
-            Tried::Wrong(wrong) => {
-                println!(rt; "{wrong}")?;
-                return Ok(false);
-            }
+        let mut counts = Counts::new();
+        let mut calls = 0;
+        if let Some(wrong) = try_run(alloc, run, &mut calls, &mut counts)? {
+            println!(rt; "{name}, {wrong:?}")?;
+            return Ok(false);
         }
+        let cases = counts.cut_calls();
+        println!(rt; "{name}: {calls} calls, {cases} cases")?;
+        if cases != calls.saturating_mul(CASES) as u64 {
+            println!(rt; "{name}: not each call was cut")?;
+            return Ok(false);
+        }
+        all = all.saturating_add(cases);
     }
     println!(rt; "{all} cases, 0 wrong")?;
     Ok(true)

@@ -6,7 +6,7 @@ const OPEN: u8 = 0xA5;
 
 /// Whether the gate is open. While its byte is pending, a read may find something else than what the
 /// last sync kept.
-#[derive(Clone, Copy, Debug, PartialEq, Eq)]
+#[derive(Clone, Copy, PartialEq, Eq)]
 pub(crate) enum Gate {
     Shut,
     Open,

@@ -9,7 +9,7 @@ use sim_rules::{Ending, Side};
 use store_layout::{CheckpointPhase, Phase};
 
 /// A checkpoint that is being written.
-#[derive(Clone, Copy, Debug, PartialEq, Eq)]
+#[derive(Clone, Copy, PartialEq, Eq)]
 pub(crate) struct Written {
     pub phase: CheckpointPhase,
     /// How many sections were given.
@@ -19,7 +19,7 @@ pub(crate) struct Written {
 }
 
 /// How the files and their writers stand.
-#[derive(Clone, Copy, Debug, PartialEq, Eq)]
+#[derive(Clone, Copy, PartialEq, Eq)]
 pub(crate) struct Guess {
     /// How many commands are committed.
     pub committed: u64,
@@ -45,7 +45,7 @@ pub(crate) struct Guess {
 }
 
 /// What is wanted of an event, and how the files stand then.
-#[derive(Drop)]
+#[derive(Clone, Copy)]
 pub(crate) struct Step {
     pub wanted: PlainOutcome,
     pub guess: Guess,
@@ -91,7 +91,7 @@ impl Guess {
         next
     }
 
-    fn answers(self, wanted: PlainOutcome) -> Step {
+    pub(crate) fn answers(self, wanted: PlainOutcome) -> Step {
         Step {
             wanted,
             guess: self,

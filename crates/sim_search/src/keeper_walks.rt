@@ -1,6 +1,7 @@
 //! The walks of the keeper: a sweep of all stripes, and the capture of one.
 use crate::life::Life;
 use crate::outcomes::{PlainEnd, PlainOutcome, stepped};
+use crate::past::Past;
 use map_types::Refusal;
 use sim_rules::Made;
 
@@ -21,7 +22,7 @@ pub(crate) enum CaptureWalk {
     Gives { stripe: usize, mark: u64 },
 }
 
-impl<'a> Life<'a> {
+impl Life {
     /// Whether a sweep or a capture is under way.
     pub(crate) fn is_walking(&self) -> bool {
         self.capture.is_some()
@@ -40,9 +41,9 @@ impl<'a> Life<'a> {
         stepped(Made::FoundHeld(stripe), PlainEnd::SweepHeld(stripe))
     }
 
-    fn sweep_give(&mut self, count: u64, stripe: usize) -> PlainOutcome {
+    fn sweep_give(&mut self, past: &mut Past, count: u64, stripe: usize) -> PlainOutcome {
         self.give(stripe);
-        self.take_in_hand(stripe);
+        past.take_in_hand(stripe);
         let next = stripe.saturating_add(1);
         if next < self.stripes {
             self.sweep = SweepWalk::Takes {
@@ -102,14 +103,14 @@ impl<'a> Life<'a> {
         }
     }
 
-    /// The keeper's walk makes its next step, when `tickets` tickets were drawn.
-    pub(crate) fn step_keeper(&mut self, tickets: u64) -> PlainOutcome {
+    /// The keeper's walk makes its next step.
+    pub(crate) fn step_keeper(&mut self, past: &mut Past) -> PlainOutcome {
         if let Some(walk) = self.capture {
-            return self.step_capture(walk, tickets);
+            return self.step_capture(walk, past.count());
         }
         match self.sweep {
             SweepWalk::Takes { count, stripe } => self.sweep_take(count, stripe),
-            SweepWalk::Gives { count, stripe } => self.sweep_give(count, stripe),
+            SweepWalk::Gives { count, stripe } => self.sweep_give(past, count, stripe),
             SweepWalk::Rests | SweepWalk::Waits { .. } => PlainOutcome::Skipped,
         }
     }

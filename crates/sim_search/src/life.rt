@@ -2,29 +2,26 @@
 use crate::keeper_walks::{CaptureWalk, SweepWalk};
 use crate::outcomes::{PlainEnd, PlainOutcome, stepped};
 use crate::past::Past;
-use map_types::{Command, Read, Refusal, Reply};
+use crate::plain_values::{Call, PlainReply};
+use map_types::Refusal;
 use sim_rules::Made;
-use std::alloc::{AllocError, Global};
-use std::mem;
+use std::alloc::AllocError;
 
+/// How many workers a life has.
 const WORKERS: usize = 64;
 
-/// A change or a read.
-#[derive(Clone, Copy)]
-pub(crate) enum Call<'a> {
-    Change(&'a Command),
-    Read(&'a Read),
-}
+/// How many stripes a life of a list has at most.
+const MOST_STRIPES: usize = 16;
 
 /// A reply that is held at its position.
-#[derive(Drop)]
-pub(crate) struct Held {
+#[derive(Clone, Copy)]
+struct Held {
     position: u64,
-    reply: Reply,
+    reply: PlainReply,
 }
 
 /// The step that comes next in a call.
-#[derive(Drop)]
+#[derive(Clone, Copy)]
 enum CallStep {
     Take,
     Alive,
@@ -43,24 +40,32 @@ enum ReleaseStep {
 }
 
 /// What a worker does.
-#[derive(Drop)]
-enum Job<'a> {
+#[derive(Clone, Copy)]
+enum Job {
     Idle,
-    Calling(Call<'a>, CallStep),
+    Calling(Call, CallStep),
     Holding(Held),
     Releasing(Held, ReleaseStep),
 }
 
-/// A command that was made in this life.
+/// A worker, and the greatest position that it has seen.
 #[derive(Clone, Copy)]
-struct Entry {
-    stripe: usize,
-    is_in_hand: bool,
+struct Worker {
+    job: Job,
+    seen: u64,
+}
+
+/// A stripe: whether somebody holds it, and one past its last ticket.
+#[derive(Clone, Copy)]
+struct Stripe {
+    is_held: bool,
+    last: u64,
 }
 
 /// A life of the store.
-#[derive(Drop)]
-pub(crate) struct Life<'a> {
+#[derive(Clone, Copy)]
+pub(crate) struct Life {
+    /// How many stripes it has.
     pub stripes: usize,
     pub durable: u64,
     pub has_failed: bool,
@@ -68,14 +73,8 @@ pub(crate) struct Life<'a> {
     pub is_broken: bool,
     pub sweep: SweepWalk,
     pub capture: Option<CaptureWalk>,
-    first: u64,
-    held: Vec<bool>,
-    jobs: Vec<Job<'a>>,
-    // The greatest position that each worker has seen.
-    seen: Vec<u64>,
-    // One past the last ticket of each stripe.
-    lasts: Vec<u64>,
-    entries: Vec<Entry>,
+    workers: [Worker; WORKERS],
+    held: [Stripe; MOST_STRIPES],
 }
 
 /// The sum of the powers of 31 over the UTF-16 units of the text, in 32 bits, with its upper half
@@ -101,296 +100,238 @@ pub(crate) fn stripe_of(text: &str, stripes: usize) -> usize {
     spread as usize % stripes
 }
 
-impl<'a> Call<'a> {
-    fn stripe(self, stripes: usize) -> usize {
-        match self {
-            Call::Change(command) => stripe_of(command.key.as_str(), stripes),
-            Call::Read(read) => stripe_of(read.key.as_str(), stripes),
+impl Worker {
+    /// The worker does this from now on, and has seen this position.
+    fn does(self, job: Job, position: u64) -> Worker {
+        Worker {
+            job,
+            seen: self.seen.max(position),
         }
     }
 }
 
-impl<'a> Life<'a> {
-    /// The life that begins after `first` commands.
-    pub(crate) fn new(alloc: Global, stripes: usize, first: u64) -> Result<Life<'a>, AllocError> {
-        let mut jobs = Vec::new(alloc);
-        for _worker in 0..WORKERS {
-            jobs.push(Job::Idle)?;
-        }
-        Ok(Life {
+impl Life {
+    /// The life that begins after `first` changes.
+    pub(crate) fn new(stripes: usize, first: u64) -> Life {
+        let worker = Worker {
+            job: Job::Idle,
+            seen: first,
+        };
+        let stripe = Stripe {
+            is_held: false,
+            last: first,
+        };
+        Life {
             stripes,
             durable: first,
             has_failed: false,
             is_broken: false,
             sweep: SweepWalk::Rests,
             capture: None,
-            first,
-            held: vec![in alloc; false; stripes]?,
-            jobs,
-            seen: vec![in alloc; first; WORKERS]?,
-            lasts: vec![in alloc; first; stripes]?,
-            entries: Vec::new(alloc),
-        })
+            workers: [worker; WORKERS],
+            held: [stripe; MOST_STRIPES],
+        }
     }
 
     /// TAKE: whether the stripe was free.
     pub(crate) fn take(&mut self, stripe: usize) -> bool {
-        match self.held.get_mut(stripe) {
-            Some(held) if !*held => {
-                *held = true;
-                true
-            }
-            _ => false,
+        let is_free = self.is_free(stripe);
+        if let Some(stripe) = self.held.get_mut(stripe) {
+            stripe.is_held = true;
         }
+        is_free
     }
 
     /// Whether nobody holds the stripe.
     pub(crate) fn is_free(&self, stripe: usize) -> bool {
-        self.held.get(stripe).copied() == Some(false)
+        match self.held.get(stripe) {
+            Some(found) => stripe < self.stripes && !found.is_held,
+            None => false,
+        }
     }
 
     /// GIVE.
     pub(crate) fn give(&mut self, stripe: usize) {
-        if let Some(held) = self.held.get_mut(stripe) {
-            *held = false;
+        if let Some(stripe) = self.held.get_mut(stripe) {
+            stripe.is_held = false;
         }
     }
 
-    /// The commands that were made on the stripe are in hand.
-    pub(crate) fn take_in_hand(&mut self, stripe: usize) {
-        for entry in self.entries.iter_mut() {
-            if entry.stripe == stripe {
-                entry.is_in_hand = true;
-            }
+    fn set_worker(&mut self, place: usize, worker: Worker) {
+        if let Some(found) = self.workers.get_mut(place) {
+            *found = worker;
         }
-    }
-
-    /// How many commands from this one on are in hand without a gap, up to `most`.
-    pub(crate) fn run_from(&self, committed: u64, most: u32) -> u32 {
-        let before = committed.saturating_sub(self.first);
-        let mut number = 0u64;
-        let mut run = 0u32;
-        for entry in &self.entries {
-            if number >= before && run < most {
-                if !entry.is_in_hand {
-                    return run;
-                }
-                run = run.saturating_add(1);
-            }
-            number = number.saturating_add(1);
-        }
-        run
     }
 
     /// Whether the worker may begin a call.
     pub(crate) fn is_idle(&self, worker: usize) -> bool {
-        matches!(self.jobs.get(worker), Some(Job::Idle))
+        matches!(
+            self.workers.get(worker),
+            Some(Worker { job: Job::Idle, .. })
+        )
     }
 
     /// The worker begins a call.
-    pub(crate) fn start(&mut self, worker: usize, call: Call<'a>) -> PlainOutcome {
-        match self.jobs.get_mut(worker) {
-            Some(job) if matches!(job, Job::Idle) => {
-                *job = Job::Calling(call, CallStep::Take);
+    pub(crate) fn start(&mut self, worker: usize, call: Call) -> PlainOutcome {
+        match self.workers.get_mut(worker) {
+            Some(found) if matches!(found.job, Job::Idle) => {
+                found.job = Job::Calling(call, CallStep::Take);
                 PlainOutcome::Started
             }
             _ => PlainOutcome::Skipped,
         }
     }
 
-    /// The worker has seen this position from now on.
-    fn see(&mut self, worker: usize, position: u64) {
-        if let Some(seen) = self.seen.get_mut(worker) {
-            *seen = (*seen).max(position);
-        }
-    }
-
-    /// One past the greatest ticket that lies in the stripe's outbox, or 0.
-    fn past_outbox(&self, stripe: usize) -> u64 {
-        let mut number = self.first;
-        let mut past = 0;
-        for entry in &self.entries {
-            number = number.saturating_add(1);
-            if entry.stripe == stripe && !entry.is_in_hand {
-                past = number;
-            }
-        }
-        past
-    }
-
-    /// The greater of what the worker has seen and of one past the last ticket of the stripe.
-    fn read_position(&self, worker: usize, stripe: usize) -> u64 {
-        let seen = self.seen.get(worker).copied().unwrap_or(0);
-        let last = self.lasts.get(stripe).copied().unwrap_or(0);
-        seen.max(last)
-    }
-
-    fn take_job(&mut self, worker: usize) -> Job<'a> {
-        match self.jobs.get_mut(worker) {
-            Some(job) => mem::replace(job, Job::Idle),
-            None => Job::Idle,
-        }
-    }
-
-    fn put_job(&mut self, worker: usize, job: Job<'a>) {
-        if let Some(place) = self.jobs.get_mut(worker) {
-            *place = job;
-        }
-    }
-
     /// The worker begins to release its reply.
     pub(crate) fn release(&mut self, worker: usize) -> PlainOutcome {
-        match self.take_job(worker) {
-            Job::Holding(held) => {
-                self.put_job(worker, Job::Releasing(held, ReleaseStep::See));
-                PlainOutcome::Started
-            }
-            job => {
-                self.put_job(worker, job);
-                PlainOutcome::Skipped
-            }
+        match self.workers.get_mut(worker) {
+            Some(found) => match found.job {
+                Job::Holding(held) => {
+                    found.job = Job::Releasing(held, ReleaseStep::See);
+                    PlainOutcome::Started
+                }
+                _ => PlainOutcome::Skipped,
+            },
+            None => PlainOutcome::Skipped,
         }
     }
 
     /// The worker makes a step.
     pub(crate) fn step(
         &mut self,
-        past: &mut Past<'a>,
-        worker: usize,
+        past: &mut Past,
+        place: usize,
     ) -> Result<PlainOutcome, AllocError> {
-        let (job, outcome) = match self.take_job(worker) {
+        let Some(worker) = self.workers.get(place).copied() else {
+            return Ok(PlainOutcome::Skipped);
+        };
+        let (worker, outcome) = match worker.job {
             Job::Calling(call, step) => self.step_call(past, worker, call, step)?,
             Job::Releasing(held, step) => self.step_release(worker, held, step),
-            job => (job, PlainOutcome::Skipped),
+            Job::Idle | Job::Holding(_) => return Ok(PlainOutcome::Skipped),
         };
-        self.put_job(worker, job);
+        self.set_worker(place, worker);
         Ok(outcome)
     }
 
     fn step_call(
         &mut self,
-        past: &mut Past<'a>,
-        worker: usize,
-        call: Call<'a>,
+        past: &mut Past,
+        worker: Worker,
+        call: Call,
         step: CallStep,
-    ) -> Result<(Job<'a>, PlainOutcome), AllocError> {
-        let stripe = call.stripe(self.stripes);
+    ) -> Result<(Worker, PlainOutcome), AllocError> {
+        let stripe = call.stripe;
         match step {
-            CallStep::Take => Ok(self.step_take(worker, call, stripe)),
-            CallStep::Alive => self.step_alive(past, worker, call, stripe),
+            CallStep::Take => Ok(self.step_take(past, worker, call)),
+            CallStep::Alive => self.step_alive(past, worker, call),
             CallStep::Look => {
                 let count = past.count();
-                self.see(worker, count);
-                let outcome = stepped(Made::Looked(count), PlainEnd::Goes);
-                Ok((Job::Calling(call, CallStep::Ticket), outcome))
+                let next = worker.does(Job::Calling(call, CallStep::Ticket), count);
+                Ok((next, stepped(Made::Looked(count), PlainEnd::Goes)))
             }
-            CallStep::Ticket => self.step_ticket(past, worker, call, stripe),
+            CallStep::Ticket => self.step_ticket(past, worker, call),
             CallStep::Give(held) => {
                 self.give(stripe);
-                self.see(worker, held.position);
-                let outcome = stepped(Made::Gave(stripe), PlainEnd::Held(held.position));
-                Ok((Job::Holding(held), outcome))
+                let next = worker.does(Job::Holding(held), held.position);
+                let end = PlainEnd::Held(held.position);
+                Ok((next, stepped(Made::Gave(stripe), end)))
             }
             CallStep::GiveBack => {
                 self.give(stripe);
                 let end = PlainEnd::Refused(Refusal::Failed);
-                Ok((Job::Idle, stepped(Made::Gave(stripe), end)))
+                Ok((worker.does(Job::Idle, 0), stepped(Made::Gave(stripe), end)))
             }
         }
     }
 
-    fn step_take(
-        &mut self,
-        worker: usize,
-        call: Call<'a>,
-        stripe: usize,
-    ) -> (Job<'a>, PlainOutcome) {
+    fn step_take(&mut self, past: &Past, worker: Worker, call: Call) -> (Worker, PlainOutcome) {
+        let stripe = call.stripe;
         if self.take(stripe) {
-            self.see(worker, self.past_outbox(stripe));
-            let outcome = stepped(Made::Took(stripe), PlainEnd::Goes);
-            return (Job::Calling(call, CallStep::Alive), outcome);
+            let next = Job::Calling(call, CallStep::Alive);
+            return (
+                worker.does(next, past.past_outbox(stripe)),
+                stepped(Made::Took(stripe), PlainEnd::Goes),
+            );
         }
         let end = PlainEnd::Refused(Refusal::Busy { stripe });
-        (Job::Idle, stepped(Made::FoundHeld(stripe), end))
+        (
+            worker.does(Job::Idle, 0),
+            stepped(Made::FoundHeld(stripe), end),
+        )
     }
 
     /// ALIVE of a call: a change goes on with its LOOK, and a read with its GIVE. The reply of a read
-    /// is that of the map now, as nobody else changes the stripe.
+    /// is that of the map now, as nobody else changes the stripe. Its position is the greater of what
+    /// the worker has seen and of one past the last ticket of the stripe.
     fn step_alive(
         &self,
-        past: &Past<'a>,
-        worker: usize,
-        call: Call<'a>,
-        stripe: usize,
-    ) -> Result<(Job<'a>, PlainOutcome), AllocError> {
-        let next = match call {
-            _ if self.has_failed => CallStep::GiveBack,
-            Call::Change(_) => CallStep::Look,
-            Call::Read(read) => CallStep::Give(Held {
-                position: self.read_position(worker, stripe),
-                reply: past.answer(read)?,
-            }),
+        past: &mut Past,
+        worker: Worker,
+        call: Call,
+    ) -> Result<(Worker, PlainOutcome), AllocError> {
+        let next = if self.has_failed {
+            CallStep::GiveBack
+        } else if call.asked.is_read() {
+            let last = self.held.get(call.stripe).map_or(0, |stripe| stripe.last);
+            CallStep::Give(Held {
+                position: worker.seen.max(last),
+                reply: past.answer(call)?,
+            })
+        } else {
+            CallStep::Look
         };
         let outcome = stepped(Made::FoundAlive(!self.has_failed), PlainEnd::Goes);
-        Ok((Job::Calling(call, next), outcome))
+        Ok((worker.does(Job::Calling(call, next), 0), outcome))
     }
 
     fn step_ticket(
         &mut self,
-        past: &mut Past<'a>,
-        worker: usize,
-        call: Call<'a>,
-        stripe: usize,
-    ) -> Result<(Job<'a>, PlainOutcome), AllocError> {
-        let Call::Change(command) = call else {
-            return Ok((Job::Idle, PlainOutcome::Skipped));
-        };
+        past: &mut Past,
+        worker: Worker,
+        call: Call,
+    ) -> Result<(Worker, PlainOutcome), AllocError> {
         let ticket = past.count();
-        let reply = past.add(command)?;
-        self.entries.push(Entry {
-            stripe,
-            is_in_hand: false,
-        })?;
+        let reply = past.add(call)?;
         let position = past.count();
-        self.see(worker, position);
-        if let Some(last) = self.lasts.get_mut(stripe) {
-            *last = position;
+        if let Some(stripe) = self.held.get_mut(call.stripe) {
+            stripe.last = position;
         }
-        let held = Held { position, reply };
+        let give = CallStep::Give(Held { position, reply });
         let outcome = stepped(Made::Drew(ticket), PlainEnd::Goes);
-        Ok((Job::Calling(call, CallStep::Give(held)), outcome))
+        Ok((worker.does(Job::Calling(call, give), position), outcome))
     }
 
     fn step_release(
-        &mut self,
-        worker: usize,
+        &self,
+        worker: Worker,
         held: Held,
         step: ReleaseStep,
-    ) -> (Job<'a>, PlainOutcome) {
+    ) -> (Worker, PlainOutcome) {
         let durable = self.durable;
-        if matches!(step, ReleaseStep::Alive) {
-            return self.ask_alive(held);
+        let saw = Made::Saw(durable);
+        let Held { position, reply } = held;
+        match step {
+            ReleaseStep::Alive if self.has_failed => (
+                worker.does(Job::Releasing(held, ReleaseStep::SeeAgain), 0),
+                stepped(Made::FoundAlive(false), PlainEnd::Goes),
+            ),
+            ReleaseStep::Alive => (
+                worker.does(Job::Holding(held), 0),
+                stepped(Made::FoundAlive(true), PlainEnd::NotYet),
+            ),
+            _ if position <= durable => (
+                worker.does(Job::Idle, durable),
+                stepped(saw, PlainEnd::Replied { position, reply }),
+            ),
+            ReleaseStep::See => (
+                worker.does(Job::Releasing(held, ReleaseStep::Alive), durable),
+                stepped(saw, PlainEnd::Goes),
+            ),
+            ReleaseStep::SeeAgain => (
+                worker.does(Job::Idle, durable),
+                stepped(saw, PlainEnd::Failed),
+            ),
         }
-        self.see(worker, durable);
-        if held.position <= durable {
-            let Held { position, reply } = held;
-            let end = PlainEnd::Replied { position, reply };
-            return (Job::Idle, stepped(Made::Saw(durable), end));
-        }
-        if matches!(step, ReleaseStep::SeeAgain) {
-            return (Job::Idle, stepped(Made::Saw(durable), PlainEnd::Failed));
-        }
-        let outcome = stepped(Made::Saw(durable), PlainEnd::Goes);
-        (Job::Releasing(held, ReleaseStep::Alive), outcome)
-    }
-
-    /// ALIVE of a release.
-    fn ask_alive(&self, held: Held) -> (Job<'a>, PlainOutcome) {
-        if self.has_failed {
-            let outcome = stepped(Made::FoundAlive(false), PlainEnd::Goes);
-            return (Job::Releasing(held, ReleaseStep::SeeAgain), outcome);
-        }
-        let outcome = stepped(Made::FoundAlive(true), PlainEnd::NotYet);
-        (Job::Holding(held), outcome)
     }
 }

@@ -18,6 +18,7 @@ mod lists;
 mod outcomes;
 mod past;
 mod plain_map;
+mod plain_values;
 mod random;
 mod reading;
 mod searching;
@@ -76,12 +77,11 @@ fn play_lists<R: AllocGlobal + Print>(rt: &R, search: Search) -> io::Result<bool
     for list in 0..search.lists {
         let wrong = search_list(alloc, search.seed, list, &mut counts)?;
         if let Some(wrong) = wrong {
-            println!(rt; "seed {}, list {list}, {wrong}", search.seed)?;
+            println!(rt; "seed {}, list {list}, {wrong:?}", search.seed)?;
             return Ok(false);
         }
     }
-    let table = counts.table(alloc)?;
-    print!(rt; "{table}")?;
+    print!(rt; "{counts}")?;
     println!(rt; "{} lists, 0 wrong", search.lists)?;
     Ok(true)
 }

@@ -1,16 +1,17 @@
 //! Outcomes without bytes and entries, which can be compared and printed.
 use crate::kinds::PlainCall;
-use map_types::{Refusal, Reply};
+use crate::plain_values::{PlainReply, Texts};
+use map_types::Refusal;
 use sim_rules::{End, Made, Outcome};
 use std::alloc::AllocError;
 use store_layout::{CheckpointPhase, Phase};
 
 /// What a step leaves of its walk.
-#[derive(Debug, Drop, PartialEq, Eq)]
+#[derive(Clone, Copy, Debug, PartialEq, Eq)]
 pub(crate) enum PlainEnd {
     Goes,
     Held(u64),
-    Replied { position: u64, reply: Reply },
+    Replied { position: u64, reply: PlainReply },
     NotYet,
     Failed,
     Swept(u64),
@@ -20,7 +21,7 @@ pub(crate) enum PlainEnd {
 }
 
 /// What came of an event.
-#[derive(Debug, Drop, PartialEq, Eq)]
+#[derive(Clone, Copy, Debug, PartialEq, Eq)]
 pub(crate) enum PlainOutcome {
     Old,
     Skipped,
@@ -61,13 +62,13 @@ pub(crate) fn stepped(made: Made, end: PlainEnd) -> PlainOutcome {
     PlainOutcome::Stepped { made, end }
 }
 
-fn plain_end(end: &End) -> Result<PlainEnd, AllocError> {
+fn plain_end(texts: &mut Texts, end: &End) -> Result<PlainEnd, AllocError> {
     Ok(match end {
         End::Goes => PlainEnd::Goes,
         End::Held(position) => PlainEnd::Held(*position),
         End::Replied { position, reply } => PlainEnd::Replied {
             position: *position,
-            reply: reply.clone()?,
+            reply: texts.reply(reply)?,
         },
         End::NotYet => PlainEnd::NotYet,
         End::Failed => PlainEnd::Failed,
@@ -78,18 +79,9 @@ fn plain_end(end: &End) -> Result<PlainEnd, AllocError> {
     })
 }
 
-fn plain_stop(outcome: &Outcome) -> PlainOutcome {
-    match outcome {
-        Outcome::Stopped { within: Some(call) } => {
-            PlainOutcome::Stopped(Some(PlainCall::of(call)))
-        }
-        _ => PlainOutcome::Stopped(None),
-    }
-}
-
 impl PlainOutcome {
     /// The outcome without bytes and entries.
-    pub(crate) fn of(outcome: &Outcome) -> Result<PlainOutcome, AllocError> {
+    pub(crate) fn of(texts: &mut Texts, outcome: &Outcome) -> Result<PlainOutcome, AllocError> {
         Ok(match outcome {
             Outcome::Old => PlainOutcome::Old,
             Outcome::Skipped => PlainOutcome::Skipped,
@@ -103,7 +95,7 @@ impl PlainOutcome {
                 refusal: *refusal,
             },
             Outcome::Started => PlainOutcome::Started,
-            Outcome::Stepped { made, end } => stepped(*made, plain_end(end)?),
+            Outcome::Stepped { made, end } => stepped(*made, plain_end(texts, end)?),
             Outcome::Staged(count) => PlainOutcome::Staged(*count),
             Outcome::Logged { call, phase } => PlainOutcome::Logged {
                 call: PlainCall::of(call),
@@ -118,7 +110,10 @@ impl PlainOutcome {
             Outcome::FailMade => PlainOutcome::FailMade,
             Outcome::Begun => PlainOutcome::Begun,
             Outcome::Sealing => PlainOutcome::Sealing,
-            Outcome::Stopped { .. } => plain_stop(outcome),
+            Outcome::Stopped { within: Some(call) } => {
+                PlainOutcome::Stopped(Some(PlainCall::of(call)))
+            }
+            Outcome::Stopped { within: None } => PlainOutcome::Stopped(None),
             Outcome::Left => PlainOutcome::Left,
         })
     }

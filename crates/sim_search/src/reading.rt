@@ -1,21 +1,25 @@
 //! The second reading: what is wanted of each event, by the rules read plainly.
-use crate::guesses::{Guess, Step};
-use crate::life::{Call, Life};
+use crate::guesses::Guess;
+use crate::life::{Life, stripe_of};
 use crate::outcomes::{PlainEnd, PlainOutcome};
 use crate::past::Past;
-use crate::steps::{add_left, keeper_step, other_step};
+use crate::plain_values::Call;
+use crate::steps::{add_left, other_step, step_of};
 use disk_model::Fill;
-use map_types::{Command, Refusal};
-use sim_rules::{Event, MapEntry, Outcome, Side};
+use map_types::{Command, Read, Refusal};
+use sim_rules::{Event, MapEntry, Outcome};
 use std::alloc::{AllocError, Global};
 use std::mem;
 
 /// What is known of a schedule so far.
 #[derive(Drop)]
-pub(crate) struct Reading<'a> {
+pub(crate) struct Reading {
     alloc: Global,
-    past: Past<'a>,
-    life: Option<Life<'a>>,
+    past: Past,
+    /// The life that was begun last.
+    life: Life,
+    /// It goes on.
+    is_alive: bool,
     /// How the files may stand: at least one guess is right.
     guesses: Vec<Guess>,
     /// The greatest position of a released reply.
@@ -24,151 +28,149 @@ pub(crate) struct Reading<'a> {
     is_first: bool,
 }
 
-/// Nothing if it was found; else what was wanted.
-fn compared(
-    alloc: Global,
-    wanted: &PlainOutcome,
-    found: &PlainOutcome,
-) -> Result<Option<String>, AllocError> {
-    if wanted == found {
-        return Ok(None);
-    }
-    Ok(Some(format!(in alloc; "{wanted:?}")?))
+/// What was wanted where something else was found.
+#[derive(Clone, Copy, Debug)]
+pub(crate) enum Wanted {
+    Outcome(PlainOutcome),
+    NoReplyAboveCommitted,
+    AnOpening,
+    NoOpeningPastItsFailingCall,
+    PrefixWithin { released: u64, count: u64 },
+    /// The map after so many changes.
+    MapAfter(u64),
 }
 
-impl<'a> Reading<'a> {
+/// Nothing if it was found; else what was wanted.
+fn compared(wanted: PlainOutcome, found: PlainOutcome) -> Option<Wanted> {
+    if wanted == found {
+        return None;
+    }
+    Some(Wanted::Outcome(wanted))
+}
+
+impl Reading {
     /// A new store, without a life.
-    pub(crate) fn new(alloc: Global) -> Result<Reading<'a>, AllocError> {
+    pub(crate) fn new(alloc: Global) -> Result<Reading, AllocError> {
         Ok(Reading {
             alloc,
             past: Past::new(alloc),
-            life: None,
+            life: Life::new(1, 0),
+            is_alive: false,
             guesses: vec![in alloc; Guess::first(); 1]?,
             released: 0,
             is_first: true,
         })
     }
 
+    /// The outcome as plain data.
+    pub(crate) fn plain(&mut self, outcome: &Outcome) -> Result<PlainOutcome, AllocError> {
+        PlainOutcome::of(&mut self.past.texts, outcome)
+    }
+
     /// Reads what came of the event. Gives what was wanted if that is something else.
     pub(crate) fn take(
         &mut self,
-        event: &'a Event,
+        event: &Event,
         outcome: &Outcome,
-        found: &PlainOutcome,
-    ) -> Result<Option<String>, AllocError> {
+        found: PlainOutcome,
+    ) -> Result<Option<Wanted>, AllocError> {
         let is_first = mem::replace(&mut self.is_first, false);
-        match event {
-            Event::Old if is_first => self.begin_old(found),
-            Event::Open { stripes, fails_at } => match outcome {
-                Outcome::Opened { entries, .. } => {
-                    self.open(stripes.get(), *fails_at, entries, found)
-                }
-                _ => self.open(stripes.get(), *fails_at, &[], found),
-            },
-            Event::Stop { within, fill } => self.stop(*within, fill, found),
-            Event::Leave => self.leave(found),
-            _ => self.go_on(event, found),
-        }
+        let wanted = match event {
+            Event::Old if is_first => {
+                self.begin_old();
+                PlainOutcome::Old
+            }
+            Event::Open { stripes, fails_at } if !self.is_alive => {
+                return self.open(stripes.get(), *fails_at, outcome);
+            }
+            Event::Stop { within: None, fill } => {
+                self.stopped(fill)?;
+                PlainOutcome::Stopped(None)
+            }
+            _ if !self.is_alive => PlainOutcome::Skipped,
+            Event::Leave => {
+                self.is_alive = false;
+                PlainOutcome::Left
+            }
+            _ => return self.go_on(event, found),
+        };
+        Ok(compared(wanted, found))
     }
 
     /// The store is a directory of version 01.
-    fn begin_old(&mut self, found: &PlainOutcome) -> Result<Option<String>, AllocError> {
+    fn begin_old(&mut self) {
         for guess in self.guesses.iter_mut() {
             *guess = guess.as_old();
         }
-        compared(self.alloc, &PlainOutcome::Old, found)
     }
 
-    /// An event of a life, or one that needs a life.
-    fn go_on(
-        &mut self,
-        event: &'a Event,
-        found: &PlainOutcome,
-    ) -> Result<Option<String>, AllocError> {
-        match self.life.take() {
-            Some(mut life) => {
-                let wrong = self.happen(&mut life, event, found);
-                self.life = Some(life);
-                wrong
-            }
-            None => compared(self.alloc, &PlainOutcome::Skipped, found),
-        }
-    }
-
-    fn happen(
-        &mut self,
-        life: &mut Life<'a>,
-        event: &'a Event,
-        found: &PlainOutcome,
-    ) -> Result<Option<String>, AllocError> {
+    /// An event of a life.
+    fn go_on(&mut self, event: &Event, found: PlainOutcome) -> Result<Option<Wanted>, AllocError> {
         let wanted = match event {
-            Event::Old => PlainOutcome::Skipped,
-            Event::Change { worker, command } => {
-                return self.change(life, *worker, command, found);
+            Event::Old | Event::Open { .. } => PlainOutcome::Skipped,
+            Event::Change { worker, .. } if self.life.is_idle(*worker) => {
+                return self.choose(event, found);
             }
-            Event::Read { worker, read } => life.start(*worker, Call::Read(read)),
-            Event::Release { worker } => life.release(*worker),
-            Event::Step { worker } => return self.step(life, *worker, found),
-            Event::KeeperStep => return self.step_keeper(life, found),
-            _ => return self.keep(life, event, found),
+            Event::Change { .. } => PlainOutcome::Skipped,
+            Event::Read { worker, read } => {
+                let call = self.read(read)?;
+                self.life.start(*worker, call)
+            }
+            Event::Release { worker } => self.life.release(*worker),
+            Event::Step { worker } => return self.step(*worker, found),
+            Event::KeeperStep => self.step_keeper(),
+            _ if self.life.is_walking() => PlainOutcome::Skipped,
+            Event::Sweep => self.life.begin_sweep(self.past.count()),
+            Event::Publish if self.life.has_failed => PlainOutcome::Skipped,
+            Event::Publish => self.publish(),
+            Event::Fail => {
+                self.life.has_failed = true;
+                PlainOutcome::FailMade
+            }
+            Event::Stop { .. } if self.life.is_broken => PlainOutcome::Skipped,
+            _ if self.life.is_broken => PlainOutcome::Refused(Refusal::Failed),
+            _ => return self.choose(event, found),
         };
-        compared(self.alloc, &wanted, found)
+        Ok(compared(wanted, found))
     }
 
-    /// A worker begins a change, if its key isn't too long. The guesses that are left are those of
-    /// which it is wanted.
-    fn change(
-        &mut self,
-        life: &mut Life<'a>,
-        worker: usize,
-        command: &'a Command,
-        found: &PlainOutcome,
-    ) -> Result<Option<String>, AllocError> {
-        if !life.is_idle(worker) {
-            return compared(self.alloc, &PlainOutcome::Skipped, found);
-        }
-        let length = command.key.as_str().len();
-        let mut steps = Vec::new(self.alloc);
-        for guess in &self.guesses {
-            steps.push(guess.change(length))?;
-        }
-        let wrong = self.choose(steps, found)?;
-        if matches!(found, PlainOutcome::Started) {
-            let _started = life.start(worker, Call::Change(command));
-        }
-        Ok(wrong)
+    fn change(&mut self, command: &Command) -> Result<Call, AllocError> {
+        let key = command.key.as_str();
+        Ok(Call {
+            stripe: stripe_of(key, self.life.stripes),
+            key: self.past.texts.number(key)?,
+            asked: self.past.texts.change(&command.change)?,
+        })
+    }
+
+    fn read(&mut self, read: &Read) -> Result<Call, AllocError> {
+        let key = read.key.as_str();
+        Ok(Call {
+            stripe: stripe_of(key, self.life.stripes),
+            key: self.past.texts.number(key)?,
+            asked: self.past.texts.question(&read.question)?,
+        })
     }
 
     /// A worker makes a step. A reply is released only at a position that is committed.
-    fn step(
-        &mut self,
-        life: &mut Life<'a>,
-        worker: usize,
-        found: &PlainOutcome,
-    ) -> Result<Option<String>, AllocError> {
-        let wanted = life.step(&mut self.past, worker)?;
+    fn step(&mut self, worker: usize, found: PlainOutcome) -> Result<Option<Wanted>, AllocError> {
+        let wanted = self.life.step(&mut self.past, worker)?;
         if let PlainOutcome::Stepped {
             end: PlainEnd::Replied { position, .. },
             ..
         } = found
         {
-            let position = *position;
             if !self.guesses.iter().any(|guess| position <= guess.committed) {
-                let text = format!(in self.alloc; "no reply above what is committed")?;
-                return Ok(Some(text));
+                return Ok(Some(Wanted::NoReplyAboveCommitted));
             }
             self.released = self.released.max(position);
         }
-        compared(self.alloc, &wanted, found)
+        Ok(compared(wanted, found))
     }
 
     /// The keeper's walk makes a step.
-    fn step_keeper(
-        &mut self,
-        life: &mut Life<'a>,
-        found: &PlainOutcome,
-    ) -> Result<Option<String>, AllocError> {
-        let wanted = life.step_keeper(self.past.count());
+    fn step_keeper(&mut self) -> PlainOutcome {
+        let wanted = self.life.step_keeper(&mut self.past);
         if let PlainOutcome::Stepped {
             end: PlainEnd::Captured(mark),
             ..
@@ -178,148 +180,67 @@ impl<'a> Reading<'a> {
                 *guess = guess.captured(mark);
             }
         }
-        compared(self.alloc, &wanted, found)
+        wanted
     }
 
-    /// How many commands are committed in this life, on which all guesses agree.
-    fn committed(&self) -> u64 {
-        match self.guesses.first() {
-            Some(guess) => guess.committed,
-            None => 0,
-        }
+    /// The count of the changes that are committed, on which all guesses agree, is published.
+    fn publish(&mut self) -> PlainOutcome {
+        let committed = self.guesses.first().map_or(0, |guess| guess.committed);
+        self.life.durable = self.life.durable.max(committed);
+        PlainOutcome::Published(committed)
     }
 
-    /// An event of the keeper that is no step of its walk.
-    fn keep(
-        &mut self,
-        life: &mut Life<'a>,
-        event: &Event,
-        found: &PlainOutcome,
-    ) -> Result<Option<String>, AllocError> {
-        if life.is_walking() {
-            return compared(self.alloc, &PlainOutcome::Skipped, found);
-        }
-        let wanted = match event {
-            Event::Sweep => life.begin_sweep(self.past.count()),
-            Event::Publish if life.has_failed => PlainOutcome::Skipped,
-            Event::Publish => {
-                let committed = self.committed();
-                life.durable = life.durable.max(committed);
-                PlainOutcome::Published(committed)
-            }
-            Event::Fail => {
-                life.has_failed = true;
-                PlainOutcome::FailMade
-            }
-            _ if life.is_broken => PlainOutcome::Refused(Refusal::Failed),
-            _ => return self.keep_files(life, event, found),
-        };
-        compared(self.alloc, &wanted, found)
-    }
-
-    /// An event of the keeper that depends on its files. The guesses that are left are those of which
-    /// it is wanted.
-    fn keep_files(
-        &mut self,
-        life: &mut Life<'a>,
-        event: &Event,
-        found: &PlainOutcome,
-    ) -> Result<Option<String>, AllocError> {
-        let mut steps = Vec::new(self.alloc);
-        for guess in &self.guesses {
-            steps.push(keeper_step(*guess, life, event))?;
-            if let Some(step) = other_step(*guess, event) {
-                steps.push(step)?;
-            }
-        }
-        let wrong = self.choose(steps, found)?;
-        match (event, found) {
-            (_, PlainOutcome::CallFailed(_)) => life.is_broken = true,
-            (Event::Capture { stripe }, PlainOutcome::Stepped { .. }) => {
-                life.begin_capture(*stripe);
-            }
-            _ => {}
-        }
-        Ok(wrong)
-    }
-
-    /// Keeps the guesses by which this was to be found, if there are any.
-    fn choose(
-        &mut self,
-        steps: Vec<Step>,
-        found: &PlainOutcome,
-    ) -> Result<Option<String>, AllocError> {
-        let mut wrong = None;
+    /// An event that depends on the files. The guesses that are left are those by which this was to be
+    /// found.
+    fn choose(&mut self, event: &Event, found: PlainOutcome) -> Result<Option<Wanted>, AllocError> {
+        let mut wanted = None;
         let mut kept = Vec::new(self.alloc);
-        for step in steps {
-            match compared(self.alloc, &step.wanted, found)? {
-                None => kept.push(step.guess)?,
-                other => wrong = other,
+        for guess in &self.guesses {
+            let step = step_of(*guess, &self.life, &self.past, event);
+            if step.wanted == found {
+                kept.push(step.guess)?;
+            } else {
+                wanted = Some(Wanted::Outcome(step.wanted));
+            }
+            match other_step(*guess, event) {
+                Some(other) if other.wanted == found => kept.push(other.guess)?,
+                _ => {}
             }
         }
         if kept.is_empty() {
-            return Ok(wrong);
+            return Ok(wanted);
         }
         self.guesses = kept;
+        self.chosen(event, found)?;
         Ok(None)
     }
 
-    /// Whether the machine may stop within a device call, if one is due.
-    fn may_call(&self) -> bool {
-        match &self.life {
-            Some(life) => !life.is_walking() && !life.is_broken,
-            None => false,
-        }
-    }
-
-    /// The machine stops.
-    fn stop(
-        &mut self,
-        within: Option<Side>,
-        fill: &Fill,
-        found: &PlainOutcome,
-    ) -> Result<Option<String>, AllocError> {
-        let may_call = self.may_call();
-        let mut steps = Vec::new(self.alloc);
-        for guess in &self.guesses {
-            let guess = *guess;
-            let step = match within {
-                Some(side) if may_call => guess.stop_within(side),
-                Some(_) => Step {
-                    wanted: PlainOutcome::Skipped,
-                    guess,
-                },
-                None => Step {
-                    wanted: PlainOutcome::Stopped(None),
-                    guess,
-                },
-            };
-            steps.push(step)?;
-        }
-        let wrong = self.choose(steps, found)?;
-        if wrong.is_none() && matches!(found, PlainOutcome::Stopped(_)) {
-            self.stopped(fill)?;
-        }
-        Ok(wrong)
-    }
-
-    /// The machine has stopped, and the fill decides what is left.
-    fn stopped(&mut self, fill: &Fill) -> Result<(), AllocError> {
-        self.life = None;
-        let guesses = mem::replace(&mut self.guesses, Vec::new(self.alloc));
-        for guess in guesses {
-            add_left(&mut self.guesses, guess, fill)?;
+    /// What such an event makes of the life.
+    fn chosen(&mut self, event: &Event, found: PlainOutcome) -> Result<(), AllocError> {
+        match (event, found) {
+            (Event::Change { worker, command }, PlainOutcome::Started) => {
+                let call = self.change(command)?;
+                let _started = self.life.start(*worker, call);
+            }
+            (Event::Stop { fill, .. }, PlainOutcome::Stopped(_)) => self.stopped(fill)?,
+            (Event::Capture { stripe }, PlainOutcome::Stepped { .. }) => {
+                self.life.begin_capture(*stripe);
+            }
+            (_, PlainOutcome::CallFailed(_)) => self.life.is_broken = true,
+            _ => {}
         }
         Ok(())
     }
 
-    /// The life is left.
-    fn leave(&mut self, found: &PlainOutcome) -> Result<Option<String>, AllocError> {
-        let wanted = match self.life.take() {
-            Some(_life) => PlainOutcome::Left,
-            None => PlainOutcome::Skipped,
-        };
-        compared(self.alloc, &wanted, found)
+    /// The machine has stopped, and the fill decides what is left.
+    fn stopped(&mut self, fill: &Fill) -> Result<(), AllocError> {
+        self.is_alive = false;
+        let mut left = Vec::new(self.alloc);
+        for guess in &self.guesses {
+            add_left(&mut left, *guess, fill)?;
+        }
+        self.guesses = left;
+        Ok(())
     }
 
     /// The store is opened.
@@ -327,64 +248,64 @@ impl<'a> Reading<'a> {
         &mut self,
         stripes: usize,
         fails_at: Option<u64>,
-        entries: &[MapEntry],
-        found: &PlainOutcome,
-    ) -> Result<Option<String>, AllocError> {
-        if self.life.is_some() {
-            return compared(self.alloc, &PlainOutcome::Skipped, found);
-        }
-        match found {
-            PlainOutcome::Opened { calls, prefix } => {
-                let wrong = self.opened(*calls, *prefix, fails_at, entries)?;
-                self.life = Some(Life::new(self.alloc, stripes, *prefix)?);
-                Ok(wrong)
+        outcome: &Outcome,
+    ) -> Result<Option<Wanted>, AllocError> {
+        match outcome {
+            Outcome::Opened {
+                calls,
+                prefix,
+                entries,
+            } => {
+                if fails_at.is_some_and(|number| 0 < number && number <= *calls) {
+                    return Ok(Some(Wanted::NoOpeningPastItsFailingCall));
+                }
+                self.life = Life::new(stripes, *prefix);
+                self.is_alive = true;
+                self.opened(*prefix, entries)
             }
-            PlainOutcome::NotOpened {
+            Outcome::NotOpened {
                 calls,
                 refusal: Refusal::Failed,
             } if fails_at == Some(*calls) => {
-                let below = calls.saturating_sub(1);
-                for guess in self.guesses.iter_mut() {
-                    *guess = guess.synced_below(below);
-                }
+                self.sync_below(calls.saturating_sub(1));
                 Ok(None)
             }
-            _ => Ok(Some(format!(in self.alloc; "an opening")?)),
+            _ => Ok(Some(Wanted::AnOpening)),
         }
     }
 
-    /// The store was opened with `calls` calls, after `prefix` commands.
-    fn opened(
-        &mut self,
-        calls: u64,
-        prefix: u64,
-        fails_at: Option<u64>,
-        entries: &[MapEntry],
-    ) -> Result<Option<String>, AllocError> {
-        let alloc = self.alloc;
-        if fails_at.is_some_and(|number| 0 < number && number <= calls) {
-            return Ok(Some(format!(in alloc; "no opening past its failing call")?));
+    /// An opening has synced the files with a number below this one.
+    fn sync_below(&mut self, file: u64) {
+        for guess in self.guesses.iter_mut() {
+            *guess = guess.synced_below(file);
         }
-        if prefix < self.released || self.past.count() < prefix {
-            let released = self.released;
-            let count = self.past.count();
-            return Ok(Some(format!(in alloc; "a prefix from {released} to {count}")?));
+    }
+
+    /// The store was opened after `prefix` changes. The guesses that are left are those that read so.
+    fn opened(&mut self, prefix: u64, entries: &[MapEntry]) -> Result<Option<Wanted>, AllocError> {
+        let released = self.released;
+        let count = self.past.count();
+        if prefix < released || count < prefix {
+            return Ok(Some(Wanted::PrefixWithin { released, count }));
         }
-        let mut steps = Vec::new(alloc);
-        for guess in &self.guesses {
-            let guess = guess.as_read();
-            let prefix = guess.committed;
-            let wanted = PlainOutcome::Opened { calls, prefix };
-            steps.push(Step { wanted, guess })?;
+        for guess in self.guesses.iter_mut() {
+            *guess = guess.as_read();
         }
-        let wrong = self.choose(steps, &PlainOutcome::Opened { calls, prefix })?;
-        if wrong.is_some() {
-            return Ok(wrong);
+        let Some(first) = self.guesses.first().copied() else {
+            return Ok(Some(Wanted::AnOpening));
+        };
+        self.guesses.retain(|guess| guess.committed == prefix);
+        if self.guesses.is_empty() {
+            let count = first.committed;
+            return Ok(Some(Wanted::PrefixWithin {
+                released: count,
+                count,
+            }));
         }
         self.past.cut(prefix)?;
-        if !self.past.map().has_exactly(entries) {
-            return Ok(Some(format!(in alloc; "the map after {prefix} commands")?));
+        if self.past.has_exactly(entries)? {
+            return Ok(None);
         }
-        Ok(None)
+        Ok(Some(Wanted::MapAfter(prefix)))
     }
 }

@@ -1,28 +1,32 @@
-//! What an event of the keeper comes to, and what a stop leaves, for one guess of how the files stand.
+//! What an event comes to that depends on the files, and what a stop leaves, for one guess of how
+//! they stand.
 use crate::guesses::{Guess, Step};
 use crate::life::Life;
 use crate::outcomes::PlainOutcome;
+use crate::past::Past;
 use disk_model::Fill;
 use map_types::Refusal;
 use sim_rules::Event;
 use std::alloc::AllocError;
 
-/// What is wanted of an event of the keeper, when no device call has failed.
-pub(crate) fn keeper_step(guess: Guess, life: &Life<'_>, event: &Event) -> Step {
-    let wanted = match event {
-        Event::Stage { most } => {
-            return guess.stage(life.run_from(guess.committed, *most));
-        }
-        Event::Device { side, ending } => return guess.device(*side, ending),
-        Event::Begin => return guess.begin(),
-        Event::Seal => return guess.seal(life.stripes, life.durable),
+/// What is wanted of an event of a life in which no device call has failed.
+pub(crate) fn step_of(guess: Guess, life: &Life, past: &Past, event: &Event) -> Step {
+    match event {
+        Event::Change { command, .. } => guess.change(command.key.as_str().len()),
+        Event::Stage { most } => guess.stage(past.run_from(guess.committed, *most)),
+        Event::Device { side, ending } => guess.device(*side, ending),
+        Event::Stop {
+            within: Some(side),
+            ..
+        } => guess.stop_within(*side),
+        Event::Begin => guess.begin(),
+        Event::Seal => guess.seal(life.stripes, life.durable),
         Event::Capture { stripe } if guess.is_next(*stripe, life.stripes) => {
-            life.capture_finds(*stripe)
+            guess.answers(life.capture_finds(*stripe))
         }
-        Event::Capture { .. } => PlainOutcome::Refused(Refusal::WrongPhase),
-        _ => PlainOutcome::Skipped,
-    };
-    Step { wanted, guess }
+        Event::Capture { .. } => guess.answers(PlainOutcome::Refused(Refusal::WrongPhase)),
+        _ => guess.answers(PlainOutcome::Skipped),
+    }
 }
 
 /// Another way in which a device call may fail.
