@@ -35,48 +35,42 @@ const FUNCS: [Func; 9] = [
     Func::SumExact,
 ];
 
-/// How long a long text is.
-const LONG: usize = 2500;
+/// The bytes of a long text.
+const LONG: [u8; 2500] = [b'x'; 2500];
 
-/// How long a long key is: too long for a log of version 01.
-const LONG_KEY: usize = 300;
+/// The bytes of a long key, which is too long for a log of version 01.
+const LONG_KEY: [u8; 300] = [b'k'; 300];
 
 /// How many keys there are at most.
 pub(crate) const MOST_KEYS: usize = 12;
 
-fn key_of(alloc: Global, text: &str) -> Result<Key, AllocError> {
+/// One of the first `keys` keys, or now and then a long one.
+fn key(alloc: Global, random: &mut Random, keys: usize) -> Result<Key, AllocError> {
+    let text = if random.one_in(30) {
+        str::from_utf8(&LONG_KEY).unwrap_or("k")
+    } else {
+        KEYS.get(random.place(keys)).copied().unwrap_or("a")
+    };
     match Key::new(alloc, text) {
         Ok(key) => Ok(key),
         Err(_) => Err(AllocError),
     }
 }
 
-fn key(alloc: Global, random: &mut Random, keys: usize) -> Result<Key, AllocError> {
-    if random.one_in(30) {
-        let long = "k".repeat(alloc, LONG_KEY)?;
-        return key_of(alloc, long.as_str());
-    }
-    key_of(alloc, KEYS.get(random.place(keys)).copied().unwrap_or("a"))
-}
-
-fn text(alloc: Global, text: &str) -> Result<Value, AllocError> {
+/// A number, a short text, or now and then a long one.
+fn value(alloc: Global, random: &mut Random) -> Result<Value, AllocError> {
+    let text = if random.one_in(100) {
+        str::from_utf8(&LONG).unwrap_or("x")
+    } else if random.one_in(3) {
+        TEXTS.get(random.place(6)).copied().unwrap_or("t")
+    } else {
+        let number = NUMBERS.get(random.place(10)).copied().unwrap_or(0);
+        return Ok(Value::Int(number));
+    };
     match Value::text(alloc, text) {
         Ok(value) => Ok(value),
         Err(_) => Err(AllocError),
     }
-}
-
-fn value(alloc: Global, random: &mut Random) -> Result<Value, AllocError> {
-    if random.one_in(100) {
-        let long = "x".repeat(alloc, LONG)?;
-        return text(alloc, long.as_str());
-    }
-    if random.one_in(3) {
-        let short = TEXTS.get(random.place(6)).copied().unwrap_or("t");
-        return text(alloc, short);
-    }
-    let number = NUMBERS.get(random.place(10)).copied().unwrap_or(0);
-    Ok(Value::Int(number))
 }
 
 fn argument(alloc: Global, random: &mut Random) -> Result<Option<Value>, AllocError> {
@@ -90,21 +84,40 @@ fn func(random: &mut Random) -> Func {
     FUNCS.get(random.place(9)).copied().unwrap_or(Func::Keep)
 }
 
+/// A change by this method of one value.
+fn change_to_value(alloc: Global, random: &mut Random, method: u64) -> Result<Change, AllocError> {
+    let value = value(alloc, random)?;
+    Ok(match method {
+        0 | 1 => Change::Put(value),
+        2 => Change::PutIfAbsent(value),
+        4 => Change::RemoveIf(value),
+        _ => Change::Replace(value),
+    })
+}
+
+/// A change by this method of a function and its argument.
+fn change_by_func(alloc: Global, random: &mut Random, method: u64) -> Result<Change, AllocError> {
+    let func = func(random);
+    let argument = argument(alloc, random)?;
+    Ok(match method {
+        7 => Change::Compute(func, argument),
+        8 => Change::ComputeIfAbsent(func, argument),
+        _ => Change::ComputeIfPresent(func, argument),
+    })
+}
+
+/// A change by any method.
 fn change(alloc: Global, random: &mut Random) -> Result<Change, AllocError> {
-    match random.below(11) {
-        0 | 1 => Ok(Change::Put(value(alloc, random)?)),
-        2 => Ok(Change::PutIfAbsent(value(alloc, random)?)),
+    let method = random.below(11);
+    match method {
         3 => Ok(Change::Remove),
-        4 => Ok(Change::RemoveIf(value(alloc, random)?)),
-        5 => Ok(Change::Replace(value(alloc, random)?)),
         6 => Ok(Change::ReplaceIf {
             old: value(alloc, random)?,
             new: value(alloc, random)?,
         }),
-        7 => Ok(Change::Compute(func(random), argument(alloc, random)?)),
-        8 => Ok(Change::ComputeIfAbsent(func(random), argument(alloc, random)?)),
-        9 => Ok(Change::ComputeIfPresent(func(random), argument(alloc, random)?)),
-        _ => Ok(Change::Merge(func(random), value(alloc, random)?)),
+        7..=9 => change_by_func(alloc, random, method),
+        10 => Ok(Change::Merge(func(random), value(alloc, random)?)),
+        _ => change_to_value(alloc, random, method),
     }
 }
 

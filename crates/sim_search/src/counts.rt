@@ -74,7 +74,7 @@ struct CallCount {
 }
 
 /// All counts.
-#[derive(Clone, Copy)]
+#[derive(Drop)]
 pub(crate) struct Counts {
     events: [EventCount; 23],
     calls: [CallCount; 12],

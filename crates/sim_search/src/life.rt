@@ -273,7 +273,10 @@ impl Life {
         let next = if self.has_failed {
             CallStep::GiveBack
         } else if call.asked.is_read() {
-            let last = self.held.get(call.stripe).map_or(0, |stripe| stripe.last);
+            let last = match self.held.get(call.stripe) {
+                Some(stripe) => stripe.last,
+                None => 0,
+            };
             CallStep::Give(Held {
                 position: worker.seen.max(last),
                 reply: past.answer(call)?,

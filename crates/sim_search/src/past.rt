@@ -131,7 +131,10 @@ impl Past {
         let mut before: Option<&str> = None;
         for entry in found {
             let key = entry.key.as_str();
-            let rises = before.is_none_or(|before| before.as_bytes() < key.as_bytes());
+            let rises = match before {
+                Some(before) => before.as_bytes() < key.as_bytes(),
+                None => true,
+            };
             let number = self.texts.number(key)?;
             let value = self.texts.value(&entry.value)?;
             if !rises || self.value(number) != Some(value) {

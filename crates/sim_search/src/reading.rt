@@ -185,7 +185,10 @@ impl Reading {
 
     /// The count of the changes that are committed, on which all guesses agree, is published.
     fn publish(&mut self) -> PlainOutcome {
-        let committed = self.guesses.first().map_or(0, |guess| guess.committed);
+        let committed = match self.guesses.first() {
+            Some(guess) => guess.committed,
+            None => 0,
+        };
         self.life.durable = self.life.durable.max(committed);
         PlainOutcome::Published(committed)
     }
@@ -256,7 +259,7 @@ impl Reading {
                 prefix,
                 entries,
             } => {
-                if fails_at.is_some_and(|number| 0 < number && number <= *calls) {
+                if matches!(fails_at, Some(number) if 0 < number && number <= *calls) {
                     return Ok(Some(Wanted::NoOpeningPastItsFailingCall));
                 }
                 self.life = Life::new(stripes, *prefix);

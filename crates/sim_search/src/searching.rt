@@ -4,7 +4,7 @@ use crate::lists::make;
 use crate::outcomes::PlainOutcome;
 use crate::reading::{Reading, Wanted};
 use schedule_sim::run;
-use sim_rules::Event;
+use sim_rules::{Event, Outcome};
 use std::alloc::{AllocError, Global};
 
 /// An outcome that is wrong.
@@ -22,6 +22,27 @@ pub(crate) enum Wrong {
     },
 }
 
+/// Reads what came of each event, up to the first outcome that is wrong.
+fn first_wrong(
+    reading: &mut Reading,
+    events: &[Event],
+    outcomes: &[Outcome],
+    counts: &mut Counts,
+) -> Result<Option<Wrong>, AllocError> {
+    for (number, (event, outcome)) in events.iter().zip(outcomes).enumerate() {
+        let found = reading.plain(outcome)?;
+        counts.note(event, found);
+        if let Some(wanted) = reading.take(event, outcome, found)? {
+            return Ok(Some(Wrong::Outcome {
+                event: number,
+                wanted,
+                found,
+            }));
+        }
+    }
+    Ok(None)
+}
+
 /// Plays the events and reads what came of each. Gives the first outcome that is wrong.
 pub(crate) fn search_events(
     alloc: Global,
@@ -36,18 +57,7 @@ pub(crate) fn search_events(
         }));
     }
     let mut reading = Reading::new(alloc)?;
-    for (number, (event, outcome)) in events.iter().zip(&trace.outcomes).enumerate() {
-        let found = reading.plain(outcome)?;
-        counts.note(event, found);
-        if let Some(wanted) = reading.take(event, outcome, found)? {
-            return Ok(Some(Wrong::Outcome {
-                event: number,
-                wanted,
-                found,
-            }));
-        }
-    }
-    Ok(None)
+    first_wrong(&mut reading, events, &trace.outcomes, counts)
 }
 
 /// Makes the list and plays it. Gives the first outcome that is wrong.
