@@ -1,5 +1,7 @@
 //! What the workers of a list are thought to do.
-use std::alloc::{AllocError, Global};
+
+/// How many workers a list has at most.
+pub(crate) const MOST_HANDS: usize = 8;
 
 /// What a worker is thought to do.
 #[derive(Clone, Copy)]
@@ -19,22 +21,20 @@ const IDLE: Hand = Hand {
 };
 
 /// The workers of a list.
-#[derive(Drop)]
+#[derive(Clone, Copy)]
 pub(crate) struct Hands {
-    hands: Vec<Hand>,
+    /// How many workers there are.
+    pub count: usize,
+    hands: [Hand; MOST_HANDS],
 }
 
 impl Hands {
-    /// `workers` workers, all idle.
-    pub(crate) fn new(alloc: Global, workers: usize) -> Result<Hands, AllocError> {
-        Ok(Hands {
-            hands: vec![in alloc; IDLE; workers]?,
-        })
-    }
-
-    /// How many workers there are.
-    pub(crate) fn count(&self) -> usize {
-        self.hands.len()
+    /// So many workers, all idle.
+    pub(crate) fn new(count: usize) -> Hands {
+        Hands {
+            count,
+            hands: [IDLE; MOST_HANDS],
+        }
     }
 
     /// A worker that is in the middle of a walk.
@@ -58,13 +58,6 @@ impl Hands {
     pub(crate) fn published(&mut self) {
         for hand in self.hands.iter_mut() {
             hand.is_durable = hand.holds && hand.left == 0;
-        }
-    }
-
-    /// All are idle.
-    pub(crate) fn reset(&mut self) {
-        for hand in self.hands.iter_mut() {
-            *hand = IDLE;
         }
     }
 }

@@ -2,17 +2,45 @@
 //! be foreseen, and is now and then any event at all.
 use crate::calls::{MOST_KEYS, command, read};
 use crate::fills::fill;
-use crate::hands::{Hand, Hands};
+use crate::hands::{Hand, Hands, MOST_HANDS};
 use crate::random::Random;
 use crate::stories::{Part, Story};
 use java_hash::StripeCount;
 use sim_rules::{Ending, Event, Side};
 use std::alloc::{AllocError, Global};
 
+/// An event whose change, read or fill is still to be drawn.
+#[derive(Clone, Copy)]
+enum Draft {
+    Old,
+    Open {
+        stripes: StripeCount,
+        fails_at: Option<u64>,
+    },
+    Change(usize),
+    Read(usize),
+    Step(usize),
+    Release(usize),
+    Sweep,
+    KeeperStep,
+    Stage(u32),
+    Device {
+        side: Side,
+        fails: bool,
+    },
+    Publish,
+    Fail,
+    Begin,
+    Capture(usize),
+    Seal,
+    /// A stop, within a device call of this side if one is named.
+    Stop(Option<Side>),
+    Leave,
+}
+
 /// The maker of one list.
-#[derive(Drop)]
+#[derive(Clone, Copy)]
 struct Maker {
-    alloc: Global,
     random: Random,
     keys: usize,
     /// About how many device calls come before one that fails or is stopped within.
@@ -28,27 +56,21 @@ struct Maker {
     tickets: u64,
 }
 
-/// One of the three counts of stripes.
-fn stripe_count(random: &mut Random) -> StripeCount {
-    match random.below(3) {
-        0 => StripeCount { count: 1 },
-        1 => StripeCount { count: 4 },
-        _ => StripeCount { count: 16 },
-    }
-}
-
-fn small(random: &mut Random) -> u32 {
-    (random.draw() & 7) as u32
-}
-
+/// The most changes of a batch: few, some, or all.
 fn most(random: &mut Random) -> u32 {
-    match random.below(4) {
-        0 => small(random),
-        1 => u32::MAX,
-        _ => small(random).saturating_add(8),
+    let kind = random.below(4);
+    if kind == 1 {
+        return u32::MAX;
+    }
+    let small = (random.draw() & 7) as u32;
+    if kind == 0 {
+        small
+    } else {
+        small.saturating_add(8)
     }
 }
 
+/// One of the two sides.
 fn side(random: &mut Random) -> Side {
     if random.one_in(2) {
         Side::Log
@@ -58,9 +80,9 @@ fn side(random: &mut Random) -> Side {
 }
 
 impl Maker {
-    fn new(alloc: Global, seed: u64, list: u64) -> Result<Maker, AllocError> {
+    fn new(seed: u64, list: u64) -> Maker {
         let mut random = Random::new(seed, list);
-        let workers = random.place(8).saturating_add(1);
+        let workers = random.place(MOST_HANDS).saturating_add(1);
         let keys = random.place(MOST_KEYS).saturating_add(1);
         let danger = match random.below(4) {
             0 => 12,
@@ -68,12 +90,11 @@ impl Maker {
             2 => 100,
             _ => 300,
         };
-        Ok(Maker {
-            alloc,
+        Maker {
             random,
             keys,
             danger,
-            hands: Hands::new(alloc, workers)?,
+            hands: Hands::new(workers),
             stripes: 16,
             is_open: false,
             is_broken: false,
@@ -81,299 +102,268 @@ impl Maker {
             at: 0,
             is_calm: false,
             tickets: 0,
-        })
-    }
-
-    fn fill(&mut self) -> Result<disk_model::Fill, AllocError> {
-        fill(self.alloc, &mut self.random, self.tickets)
-    }
-
-    /// A worker, or now and then one that there isn't.
-    fn any_worker(&mut self) -> usize {
-        if self.random.one_in(10) {
-            return self.random.place(70);
         }
-        self.random.place(self.hands.count())
     }
 
-    fn ending(&mut self, times: u64) -> Result<Ending, AllocError> {
-        if self.random.one_in(times) {
-            return Ok(Ending::Fails(self.fill()?));
-        }
-        Ok(Ending::Done)
-    }
-
-    fn open(&mut self) -> Event {
-        let stripes = stripe_count(&mut self.random);
+    fn open(&mut self) -> Draft {
+        let count = match self.random.below(3) {
+            0 => 1,
+            1 => 4,
+            _ => 16,
+        };
         let fails_at = if self.random.one_in(6) {
             Some(self.random.below(50))
         } else {
             None
         };
-        Event::Open { stripes, fails_at }
-    }
-
-    fn stop(&mut self, within: Option<Side>) -> Result<Event, AllocError> {
-        Ok(Event::Stop {
-            within,
-            fill: self.fill()?,
-        })
-    }
-
-    fn change(&mut self, worker: usize) -> Result<Event, AllocError> {
-        Ok(Event::Change {
-            worker,
-            command: command(self.alloc, &mut self.random, self.keys)?,
-        })
-    }
-
-    fn read(&mut self, worker: usize) -> Result<Event, AllocError> {
-        Ok(Event::Read {
-            worker,
-            read: read(self.alloc, &mut self.random, self.keys)?,
-        })
-    }
-
-    fn any_device(&mut self) -> Result<Event, AllocError> {
-        Ok(Event::Device {
-            side: side(&mut self.random),
-            ending: self.ending(12)?,
-        })
-    }
-
-    fn any_stop(&mut self) -> Result<Event, AllocError> {
-        if self.random.one_in(3) {
-            return self.stop(None);
+        Draft::Open {
+            stripes: StripeCount { count },
+            fails_at,
         }
-        let within = side(&mut self.random);
-        self.stop(Some(within))
     }
 
-    /// Any event, whether it fits or not.
-    fn any(&mut self) -> Result<Event, AllocError> {
-        let worker = self.any_worker();
+    /// This event once in `times` times, and else a step of the worker.
+    fn rarely(&mut self, times: u64, draft: Draft, worker: usize) -> Draft {
+        if self.random.one_in(times) {
+            draft
+        } else {
+            Draft::Step(worker)
+        }
+    }
+
+    /// Any event, whether it fits or not, of a worker that now and then there isn't.
+    fn any(&mut self) -> Draft {
+        let worker = if self.random.one_in(10) {
+            self.random.place(70)
+        } else {
+            self.random.place(self.hands.count)
+        };
         match self.random.below(50) {
-            0 => Ok(self.open()),
-            1 => self.any_stop(),
-            2 => Ok(if self.random.one_in(3) {
-                Event::Leave
+            0 => self.open(),
+            1 => Draft::Stop(if self.random.one_in(3) {
+                None
             } else {
-                Event::Step { worker }
+                Some(side(&mut self.random))
             }),
-            3 => Ok(if self.random.one_in(2) {
-                Event::Fail
-            } else {
-                Event::Step { worker }
-            }),
-            4..=9 => self.change(worker),
-            10..=13 => self.read(worker),
-            14..=19 => Ok(Event::Step { worker }),
-            20..=24 => Ok(Event::Release { worker }),
-            25..=28 => Ok(Event::Sweep),
-            29..=30 => Ok(Event::KeeperStep),
-            31..=34 => Ok(Event::Stage {
-                most: most(&mut self.random),
-            }),
-            35..=40 => self.any_device(),
-            41..=42 => Ok(Event::Publish),
-            43..=44 => Ok(Event::Begin),
-            45..=47 => Ok(Event::Capture {
-                stripe: self.random.place(self.stripes.saturating_add(1)),
-            }),
-            48 => Ok(Event::Seal),
-            _ => Ok(if self.random.one_in(3) {
-                Event::Old
-            } else {
-                Event::Step { worker }
-            }),
+            2 => self.rarely(3, Draft::Leave, worker),
+            3 => self.rarely(2, Draft::Fail, worker),
+            4..=9 => Draft::Change(worker),
+            10..=13 => Draft::Read(worker),
+            14..=19 => Draft::Step(worker),
+            20..=24 => Draft::Release(worker),
+            25..=28 => Draft::Sweep,
+            29..=30 => Draft::KeeperStep,
+            31..=34 => Draft::Stage(most(&mut self.random)),
+            35..=40 => Draft::Device {
+                side: side(&mut self.random),
+                fails: self.random.one_in(12),
+            },
+            41..=42 => Draft::Publish,
+            43..=44 => Draft::Begin,
+            45..=47 => Draft::Capture(self.random.place(self.stripes.saturating_add(1))),
+            48 => Draft::Seal,
+            _ => self.rarely(3, Draft::Old, worker),
         }
     }
 
-    /// The worker makes a step.
-    fn step(&mut self, worker: usize) -> Event {
-        let mut hand = self.hands.of(worker);
-        hand.left = hand.left.saturating_sub(1);
-        self.hands.set(worker, hand);
-        Event::Step { worker }
-    }
-
-    /// The worker begins a change, or a read.
-    fn call(&mut self, worker: usize) -> Result<Event, AllocError> {
-        let is_change = !self.random.one_in(3);
-        let left = if is_change { 5 } else { 4 };
-        self.hands.set(
-            worker,
-            Hand {
-                left,
-                holds: true,
-                is_durable: false,
-            },
-        );
-        if is_change {
+    /// What a worker does next; nothing, mostly, if its reply isn't durable yet. A change has five
+    /// steps, a read four, and a release one if the reply is durable.
+    fn work(&mut self, worker: usize) -> Option<Draft> {
+        let Hand {
+            left,
+            holds,
+            is_durable,
+        } = self.hands.of(worker);
+        let (draft, left, holds, is_durable) = if left > 0 {
+            (
+                Draft::Step(worker),
+                left.saturating_sub(1),
+                holds,
+                is_durable,
+            )
+        } else if holds && is_durable {
+            (Draft::Release(worker), 1, false, false)
+        } else if holds {
+            if !self.random.one_in(12) {
+                return None;
+            }
+            (Draft::Release(worker), 2, true, false)
+        } else if self.random.one_in(3) {
+            (Draft::Read(worker), 4, true, false)
+        } else {
             self.tickets = self.tickets.saturating_add(1);
-            return self.change(worker);
-        }
-        self.read(worker)
-    }
-
-    /// The worker begins a release: it takes one step if the reply is durable.
-    fn release(&mut self, worker: usize, hand: Hand) -> Event {
-        self.hands.set(
-            worker,
-            Hand {
-                left: if hand.is_durable { 1 } else { 2 },
-                holds: !hand.is_durable,
-                is_durable: false,
-            },
-        );
-        Event::Release { worker }
-    }
-
-    /// What a worker does next; nothing, mostly, if its reply isn't durable yet.
-    fn work(&mut self, worker: usize) -> Result<Option<Event>, AllocError> {
-        let hand = self.hands.of(worker);
-        if hand.left > 0 {
-            return Ok(Some(self.step(worker)));
-        }
-        if !hand.holds {
-            return Ok(Some(self.call(worker)?));
-        }
-        if hand.is_durable || self.random.one_in(12) {
-            return Ok(Some(self.release(worker, hand)));
-        }
-        Ok(None)
+            (Draft::Change(worker), 5, true, false)
+        };
+        let hand = Hand {
+            left,
+            holds,
+            is_durable,
+        };
+        self.hands.set(worker, hand);
+        Some(draft)
     }
 
     /// The next device call of this side, which may fail or be stopped within.
-    fn device(&mut self, side: Side) -> Result<Event, AllocError> {
+    fn device(&mut self, side: Side) -> Draft {
         if self.random.one_in(self.danger) {
-            return self.stop(Some(side));
+            return Draft::Stop(Some(side));
         }
-        let times = self.danger.saturating_mul(2);
-        let ending = self.ending(times)?;
-        if matches!(ending, Ending::Fails(_)) {
-            self.is_broken = true;
-        }
-        Ok(Event::Device { side, ending })
-    }
-
-    fn event_of(&mut self, part: Part) -> Result<Option<Event>, AllocError> {
-        Ok(Some(match part {
-            Part::Rest => return Ok(None),
-            Part::Sweep => Event::Sweep,
-            Part::Walk => Event::KeeperStep,
-            Part::Stage => Event::Stage {
-                most: most(&mut self.random),
-            },
-            Part::Call(side) => self.device(side)?,
-            Part::Publish => {
-                self.hands.published();
-                Event::Publish
-            }
-            Part::Begin => Event::Begin,
-            Part::Capture(stripe) => Event::Capture { stripe },
-            Part::Seal => Event::Seal,
-        }))
+        let fails = self.random.one_in(self.danger.saturating_mul(2));
+        self.is_broken |= fails;
+        Draft::Device { side, fails }
     }
 
     /// What the keeper does next, if it isn't at rest.
-    fn keep(&mut self) -> Result<Option<Event>, AllocError> {
+    fn keep(&mut self) -> Option<Draft> {
         let Some(part) = self.story.part(self.at, self.stripes) else {
             self.story = Story::random(&mut self.random);
             self.is_calm = !self.random.one_in(3);
             self.at = 0;
-            return Ok(None);
+            return None;
         };
         self.at = self.at.saturating_add(1);
-        self.event_of(part)
+        Some(match part {
+            Part::Rest => return None,
+            Part::Sweep => Draft::Sweep,
+            Part::Walk => Draft::KeeperStep,
+            Part::Stage => Draft::Stage(most(&mut self.random)),
+            Part::Call(side) => self.device(side),
+            Part::Publish => {
+                self.hands.published();
+                Draft::Publish
+            }
+            Part::Begin => Draft::Begin,
+            Part::Capture(stripe) => Draft::Capture(stripe),
+            Part::Seal => Draft::Seal,
+        })
     }
 
     /// The life ends, or the store fails.
-    fn end(&mut self) -> Result<Option<Event>, AllocError> {
+    fn end(&mut self) -> Option<Draft> {
         let times = if self.is_broken {
             10
         } else {
             self.danger.saturating_mul(15)
         };
         if !self.random.one_in(times) {
-            return Ok(None);
+            return None;
         }
-        match self.random.below(8) {
-            0 | 1 => Ok(Some(Event::Leave)),
-            2 | 3 if self.is_broken => Ok(Some(Event::Fail)),
-            2 => Ok(Some(Event::Fail)),
-            _ => Ok(Some(self.stop(None)?)),
-        }
+        Some(match self.random.below(8) {
+            0 | 1 => Draft::Leave,
+            2 => Draft::Fail,
+            3 if self.is_broken => Draft::Fail,
+            _ => Draft::Stop(None),
+        })
     }
 
     /// What the workers and the keeper do next.
-    fn go_on(&mut self) -> Result<Event, AllocError> {
-        if let Some(event) = self.end()? {
-            return Ok(event);
+    fn go_on(&mut self) -> Draft {
+        if let Some(draft) = self.end() {
+            return draft;
         }
         let is_calm = self.is_calm && !matches!(self.story, Story::Rest);
         let worker = match self.hands.walking() {
             Some(worker) if is_calm => worker,
-            _ => self.random.place(self.hands.count()),
+            _ => self.random.place(self.hands.count),
         };
         let is_walking = self.hands.of(worker).left > 0;
         if is_walking || (!is_calm && self.random.one_in(2)) {
-            if let Some(event) = self.work(worker)? {
-                return Ok(event);
+            if let Some(draft) = self.work(worker) {
+                return draft;
             }
         }
-        if let Some(event) = self.keep()? {
-            return Ok(event);
+        if let Some(draft) = self.keep() {
+            return draft;
         }
-        let worker = self.random.place(self.hands.count());
-        match self.work(worker)? {
-            Some(event) => Ok(event),
+        let worker = self.random.place(self.hands.count);
+        match self.work(worker) {
+            Some(draft) => draft,
             None => self.any(),
         }
     }
 
-    /// What is thought of the store after the event.
-    fn note(&mut self, event: &Event) {
-        match event {
-            Event::Open { stripes, fails_at } if !self.is_open && fails_at.is_none() => {
+    /// The next event, and what is thought of the store after it.
+    fn next_draft(&mut self) -> Draft {
+        let draft = if self.random.one_in(40) {
+            self.any()
+        } else if self.is_open {
+            self.go_on()
+        } else if self.random.one_in(10) {
+            Draft::Stop(None)
+        } else {
+            self.open()
+        };
+        match draft {
+            Draft::Open {
+                stripes,
+                fails_at: None,
+            } if !self.is_open => {
                 self.is_open = true;
                 self.is_broken = false;
                 self.stripes = stripes.get();
                 self.story = Story::Rest;
                 self.at = 0;
             }
-            Event::Stop { .. } | Event::Leave => {
+            Draft::Stop(_) | Draft::Leave => {
                 self.is_open = false;
-                self.hands.reset();
+                self.hands = Hands::new(self.hands.count);
             }
             _ => {}
         }
+        draft
     }
 
-    fn next_event(&mut self) -> Result<Event, AllocError> {
-        let event = if self.random.one_in(40) {
-            self.any()?
-        } else if self.is_open {
-            self.go_on()?
-        } else if self.random.one_in(10) {
-            self.stop(None)?
-        } else {
-            self.open()
-        };
-        self.note(&event);
-        Ok(event)
+    /// The event, whose change, read or fill is drawn now.
+    fn event(&mut self, alloc: Global, draft: Draft) -> Result<Event, AllocError> {
+        let random = &mut self.random;
+        Ok(match draft {
+            Draft::Old => Event::Old,
+            Draft::Open { stripes, fails_at } => Event::Open { stripes, fails_at },
+            Draft::Change(worker) => Event::Change {
+                worker,
+                command: command(alloc, random, self.keys)?,
+            },
+            Draft::Read(worker) => Event::Read {
+                worker,
+                read: read(alloc, random, self.keys)?,
+            },
+            Draft::Step(worker) => Event::Step { worker },
+            Draft::Release(worker) => Event::Release { worker },
+            Draft::Sweep => Event::Sweep,
+            Draft::KeeperStep => Event::KeeperStep,
+            Draft::Stage(most) => Event::Stage { most },
+            Draft::Device { side, fails: false } => Event::Device {
+                side,
+                ending: Ending::Done,
+            },
+            Draft::Device { side, fails: true } => Event::Device {
+                side,
+                ending: Ending::Fails(fill(alloc, random, self.tickets)?),
+            },
+            Draft::Publish => Event::Publish,
+            Draft::Fail => Event::Fail,
+            Draft::Begin => Event::Begin,
+            Draft::Capture(stripe) => Event::Capture { stripe },
+            Draft::Seal => Event::Seal,
+            Draft::Stop(within) => Event::Stop {
+                within,
+                fill: fill(alloc, random, self.tickets)?,
+            },
+            Draft::Leave => Event::Leave,
+        })
     }
 }
 
 /// The list with this number: from 200 to 2,000 events, in half of the lists behind an Old.
 pub(crate) fn make(alloc: Global, seed: u64, list: u64) -> Result<Vec<Event>, AllocError> {
-    let mut maker = Maker::new(alloc, seed, list)?;
+    let mut maker = Maker::new(seed, list);
     let mut events = Vec::new(alloc);
     if maker.random.one_in(2) {
         events.push(Event::Old)?;
     }
     for _event in 0..maker.random.below(1801).saturating_add(200) {
-        events.push(maker.next_event()?)?;
+        let draft = maker.next_draft();
+        events.push(maker.event(alloc, draft)?)?;
     }
     Ok(events)
 }
