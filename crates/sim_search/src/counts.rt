@@ -1,5 +1,5 @@
 //! How often each kind of event, device call and outcome came.
-use crate::kinds::{CallKind, PlainCall};
+use crate::kinds::PlainCall;
 use crate::outcomes::{PlainEnd, PlainOutcome};
 use map_types::Refusal;
 use sim_rules::{Ending, Event, Side};
@@ -33,20 +33,20 @@ const EVENTS: [&str; 23] = [
     "old",
 ];
 
-/// The kinds of device calls, with their names.
-const CALLS: [(CallKind, &str); 12] = [
-    (CallKind::LogHeader, "header of a log"),
-    (CallKind::Frame, "frame"),
-    (CallKind::EndFrame, "end frame"),
-    (CallKind::LogGate, "gate of a log"),
-    (CallKind::LogSync, "sync of a log"),
-    (CallKind::GateClose, "closing of a checkpoint's gate"),
-    (CallKind::Zeros, "zeros over a header"),
-    (CallKind::Section, "section"),
-    (CallKind::CheckpointHeader, "header of a checkpoint"),
-    (CallKind::SealGate, "gate of a checkpoint"),
-    (CallKind::CheckpointSync, "sync of a checkpoint"),
-    (CallKind::Unknown, "unknown call"),
+/// The names of the kinds of device calls, in the order of `CallKind`.
+const CALLS: [&str; 12] = [
+    "header of a log",
+    "frame",
+    "end frame",
+    "gate of a log",
+    "sync of a log",
+    "closing of a checkpoint's gate",
+    "zeros over a header",
+    "section",
+    "header of a checkpoint",
+    "gate of a checkpoint",
+    "sync of a checkpoint",
+    "unknown call",
 ];
 
 /// How often a kind of event was made, and how often it wasn't skipped.
@@ -166,10 +166,7 @@ impl Counts {
 
     /// Counts a device call of this kind.
     fn note_call(&mut self, call: PlainCall, way: Way) {
-        let Some(place) = CALLS.iter().position(|(kind, _)| *kind == call.kind) else {
-            return;
-        };
-        if let Some(count) = self.calls.get_mut(place) {
+        if let Some(count) = self.calls.get_mut(call.kind as usize) {
             match way {
                 Way::Done => one_more(&mut count.done),
                 Way::Failed => one_more(&mut count.failed),
@@ -238,7 +235,7 @@ impl Counts {
     }
 
     fn write_calls<W: fmt::Write>(&self, f: &mut fmt::Formatter<W>) -> fmt::Result {
-        for ((_, name), count) in CALLS.iter().zip(&self.calls) {
+        for (name, count) in CALLS.iter().zip(&self.calls) {
             let CallCount {
                 done,
                 failed,

@@ -12,8 +12,16 @@ const RECORD: [u8; 13] = [0x10, 0, 1, b'a', 1, 0, 0, 0, 0, 0, 0, 0, 5];
 /// An open gate.
 const OPEN: u8 = 0xA5;
 
-fn push_number(bytes: &mut Vec<u8>, number: u64) -> Result<(), AllocError> {
-    bytes.extend_from_slice(&number.to_be_bytes())
+fn push_numbers(bytes: &mut Vec<u8>, numbers: &[u64]) -> Result<(), AllocError> {
+    for number in numbers {
+        bytes.extend_from_slice(&number.to_be_bytes())?;
+    }
+    Ok(())
+}
+
+/// The record in a log of version 01, or else of version 02.
+fn record(is_old: bool) -> &'static [u8] {
+    if is_old { &OLD_RECORD } else { &RECORD }
 }
 
 /// A well-formed batch of `count` such records, with this first ticket.
@@ -27,7 +35,7 @@ fn push_frame(
     let length = count.saturating_mul(size).saturating_add(12);
     bytes.push(1)?;
     bytes.extend_from_slice(&length.to_be_bytes())?;
-    push_number(bytes, first)?;
+    push_numbers(bytes, &[first])?;
     bytes.extend_from_slice(&count.to_be_bytes())?;
     for _record in 0..count {
         bytes.extend_from_slice(record)?;
@@ -38,11 +46,7 @@ fn push_frame(
 /// A batch with this first ticket, well-formed in one of the versions, and a gate behind it.
 fn push_batch(bytes: &mut Vec<u8>, random: &mut Random, first: u64) -> Result<(), AllocError> {
     let count: u32 = if random.one_in(2) { 1 } else { 2 };
-    if random.one_in(2) {
-        push_frame(bytes, &OLD_RECORD, first, count)?;
-    } else {
-        push_frame(bytes, &RECORD, first, count)?;
-    }
+    push_frame(bytes, record(random.one_in(2)), first, count)?;
     bytes.push(if random.one_in(2) { OPEN } else { 0 })?;
     Ok(())
 }
@@ -50,7 +54,7 @@ fn push_batch(bytes: &mut Vec<u8>, random: &mut Random, first: u64) -> Result<()
 /// An end frame that names this generation, and a gate.
 fn push_end(bytes: &mut Vec<u8>, next: u64) -> Result<(), AllocError> {
     bytes.extend_from_slice(&[2, 0, 0, 0, 8])?;
-    push_number(bytes, next)?;
+    push_numbers(bytes, &[next])?;
     bytes.push(OPEN)?;
     Ok(())
 }
@@ -58,8 +62,7 @@ fn push_end(bytes: &mut Vec<u8>, next: u64) -> Result<(), AllocError> {
 /// The header of a log of this version, and a gate.
 fn push_log(bytes: &mut Vec<u8>, version: u8, generation: u64, low: u64) -> Result<(), AllocError> {
     bytes.push(version)?;
-    push_number(bytes, generation)?;
-    push_number(bytes, low)?;
+    push_numbers(bytes, &[generation, low])?;
     bytes.push(OPEN)?;
     Ok(())
 }
@@ -71,14 +74,10 @@ fn push_checkpoint(
     generation: u64,
     mark: u64,
 ) -> Result<(), AllocError> {
-    bytes.push(OPEN)?;
-    bytes.push(version)?;
-    push_number(bytes, generation)?;
-    push_number(bytes, mark)?;
-    push_number(bytes, mark)?;
+    bytes.extend_from_slice(&[OPEN, version])?;
+    push_numbers(bytes, &[generation, mark, mark])?;
     bytes.extend_from_slice(&[0, 1])?;
-    push_number(bytes, 12)?;
-    push_number(bytes, mark)?;
+    push_numbers(bytes, &[12, mark])?;
     bytes.extend_from_slice(&[0; 4])
 }
 
@@ -152,11 +151,7 @@ pub(crate) fn spelled_batch(
     if has_gate {
         bytes.push(OPEN)?;
     }
-    if is_old {
-        push_frame(&mut bytes, &OLD_RECORD, first, 1)?;
-    } else {
-        push_frame(&mut bytes, &RECORD, first, 1)?;
-    }
+    push_frame(&mut bytes, record(is_old), first, 1)?;
     bytes.push(OPEN)?;
     Ok(Fill::Chosen {
         bytes,

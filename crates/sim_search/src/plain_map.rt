@@ -10,8 +10,21 @@ pub(crate) struct Effect {
     pub reply: PlainReply,
 }
 
-/// What a function of two numbers gives.
-fn number_of(func: Func, old: i64, new: i64) -> Result<Option<PlainValue>, FuncError> {
+/// What a function of numbers gives.
+fn number_of(
+    func: Func,
+    old: Option<PlainValue>,
+    argument: Option<PlainValue>,
+) -> Result<Option<PlainValue>, FuncError> {
+    let Some(PlainValue::Int(new)) = argument else {
+        return Err(FuncError::WrongKind);
+    };
+    let old = match old {
+        None if func == Func::SumNonzero && new == 0 => return Ok(None),
+        None => return Ok(argument),
+        Some(PlainValue::Text(_)) => return Err(FuncError::WrongKind),
+        Some(PlainValue::Int(old)) => old,
+    };
     let sum = old.wrapping_add(new);
     let number = match func {
         Func::Max => old.max(new),
@@ -26,6 +39,25 @@ fn number_of(func: Func, old: i64, new: i64) -> Result<Option<PlainValue>, FuncE
     Ok(Some(PlainValue::Int(number)))
 }
 
+/// What the function of texts gives.
+fn text_of(
+    texts: &mut Texts,
+    old: Option<PlainValue>,
+    argument: Option<PlainValue>,
+) -> Result<Result<Option<PlainValue>, FuncError>, AllocError> {
+    let Some(PlainValue::Text(tail)) = argument else {
+        return Ok(Err(FuncError::WrongKind));
+    };
+    Ok(match old {
+        None => Ok(argument),
+        Some(PlainValue::Int(_)) => Err(FuncError::WrongKind),
+        Some(PlainValue::Text(old)) => match texts.joined(old, tail)? {
+            Some(both) => Ok(Some(PlainValue::Text(both))),
+            None => Err(FuncError::TooLong),
+        },
+    })
+}
+
 /// What the function gives of the old value and the argument.
 fn applied(
     texts: &mut Texts,
@@ -33,25 +65,15 @@ fn applied(
     old: Option<PlainValue>,
     argument: Option<PlainValue>,
 ) -> Result<Result<Option<PlainValue>, FuncError>, AllocError> {
-    let takes_texts = func == Func::Concat;
-    Ok(match (func, old, argument) {
-        (Func::Const, _, _) => Ok(argument),
-        (Func::Drop, _, _) => Ok(None),
-        (Func::Keep, _, _) => Ok(old),
-        (Func::SumNonzero, None, Some(PlainValue::Int(0))) => Ok(None),
-        (_, None, Some(PlainValue::Text(_))) if takes_texts => Ok(argument),
-        (_, None, Some(PlainValue::Int(_))) if !takes_texts => Ok(argument),
-        (_, Some(PlainValue::Text(old)), Some(PlainValue::Text(tail))) if takes_texts => {
-            match texts.joined(old, tail)? {
-                Some(both) => Ok(Some(PlainValue::Text(both))),
-                None => Err(FuncError::TooLong),
-            }
+    match func {
+        Func::Const => Ok(Ok(argument)),
+        Func::Drop => Ok(Ok(None)),
+        Func::Keep => Ok(Ok(old)),
+        Func::Concat => text_of(texts, old, argument),
+        Func::Sum | Func::Max | Func::Min | Func::SumNonzero | Func::SumExact => {
+            Ok(number_of(func, old, argument))
         }
-        (_, Some(PlainValue::Int(old)), Some(PlainValue::Int(new))) if !takes_texts => {
-            number_of(func, old, new)
-        }
-        _ => Err(FuncError::WrongKind),
-    })
+    }
 }
 
 /// The value becomes `value`, and the reply is the one before.
