@@ -17,7 +17,7 @@ use std::alloc::{AllocError, Global};
 #[derive(Clone, Copy)]
 pub(crate) struct FixedRun {
     pub name: &'static str,
-    stripes: usize,
+    stripes: StripeCount,
     pub moves: &'static str,
 }
 
@@ -25,22 +25,22 @@ pub(crate) struct FixedRun {
 pub(crate) const RUNS: [FixedRun; 4] = [
     FixedRun {
         name: "a batch of one change, with one committed before",
-        stripes: 16,
+        stripes: StripeCount { count: 16 },
         moves: "o a sg llll p r b sg llll",
     },
     FixedRun {
         name: "a rotation, the captures of a checkpoint, and its seal",
-        stripes: 4,
+        stripes: StripeCount { count: 4 },
         moves: "o ab sg llll p n llllll kkk 0k c 1k 2k 3k sg llll p e kkkk",
     },
     FixedRun {
         name: "the second life of a checkpoint",
-        stripes: 1,
+        stripes: StripeCount { count: 1 },
         moves: "o a sg llll p n llllll kkk 0k e k x o n kk 0k e kkkk",
     },
     FixedRun {
         name: "a directory of version 01, up to a batch behind its checkpoint",
-        stripes: 1,
+        stripes: StripeCount { count: 1 },
         moves: "v o a sg llll p n llllll kkk 0k e kkkk b sg llll",
     },
 ];
@@ -83,20 +83,12 @@ pub(crate) struct Cut {
 struct Making {
     alloc: Global,
     events: Vec<Event>,
-    stripes: usize,
+    stripes: StripeCount,
     changes: u64,
     swept: u64,
     committed: u64,
     /// The run has a directory of version 01, and no checkpoint was begun in it.
     is_old: bool,
-}
-
-fn stripe_count(stripes: usize) -> StripeCount {
-    match stripes {
-        1 => StripeCount { count: 1 },
-        4 => StripeCount { count: 4 },
-        _ => StripeCount { count: 16 },
-    }
 }
 
 /// The side whose device call this move is.
@@ -131,9 +123,8 @@ impl Making {
     }
 
     fn open(&mut self) -> Result<(), AllocError> {
-        let stripes = stripe_count(self.stripes);
         self.push(Event::Open {
-            stripes,
+            stripes: self.stripes,
             fails_at: None,
         })
     }
@@ -190,7 +181,7 @@ impl Making {
             b's' => {
                 self.swept = self.changes;
                 self.push(Event::Sweep)?;
-                self.walk(self.stripes.saturating_mul(2))
+                self.walk(self.stripes.get().saturating_mul(2))
             }
             b'g' => self.push(Event::Stage { most: u32::MAX }),
             b'l' => self.call(Side::Log, Ending::Done),
