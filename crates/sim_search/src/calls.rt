@@ -19,10 +19,13 @@ const KEYS: [&str; 12] = [
     "x",
 ];
 
+/// The short texts.
 const TEXTS: [&str; 6] = ["", "t", "uv", "\u{e9}", "word", "\u{1f600}"];
 
+/// The numbers.
 const NUMBERS: [i64; 10] = [0, 1, 2, 3, -1, -2, 7, 100, i64::MAX, i64::MIN];
 
+/// The functions.
 const FUNCS: [Func; 9] = [
     Func::Const,
     Func::Drop,
@@ -73,6 +76,7 @@ fn value(alloc: Global, random: &mut Random) -> Result<Value, AllocError> {
     }
 }
 
+/// The argument of a function, which now and then has none.
 fn argument(alloc: Global, random: &mut Random) -> Result<Option<Value>, AllocError> {
     if random.one_in(6) {
         return Ok(None);
@@ -80,6 +84,7 @@ fn argument(alloc: Global, random: &mut Random) -> Result<Option<Value>, AllocEr
     Ok(Some(value(alloc, random)?))
 }
 
+/// One of the functions.
 fn func(random: &mut Random) -> Func {
     FUNCS.get(random.place(9)).copied().unwrap_or(Func::Keep)
 }

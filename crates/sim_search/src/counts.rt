@@ -91,14 +91,17 @@ pub(crate) struct Counts {
     sealed: u64,
 }
 
+/// No event of a kind was made.
 const NO_EVENT: EventCount = EventCount { made: 0, fitted: 0 };
 
+/// No device call of a kind was made.
 const NO_CALL: CallCount = CallCount {
     done: 0,
     failed: 0,
     stopped: 0,
 };
 
+/// Counts one more.
 fn one_more(count: &mut u64) {
     *count = count.saturating_add(1);
 }
@@ -187,6 +190,7 @@ impl Counts {
         }
     }
 
+    /// Counts what came of an event.
     fn note_outcome(&mut self, found: PlainOutcome) {
         match found {
             PlainOutcome::Refused(refusal) => self.note_refusal(refusal),
@@ -234,6 +238,7 @@ impl Counts {
         cut
     }
 
+    /// Writes the counts of device calls.
     fn write_calls<W: fmt::Write>(&self, f: &mut fmt::Formatter<W>) -> fmt::Result {
         for (name, count) in CALLS.iter().zip(&self.calls) {
             let CallCount {
@@ -249,6 +254,7 @@ impl Counts {
         Ok(())
     }
 
+    /// Writes the counts of outcomes.
     fn write_outcomes<W: fmt::Write>(&self, f: &mut fmt::Formatter<W>) -> fmt::Result {
         let Counts {
             opened,
@@ -282,6 +288,7 @@ impl Counts {
 }
 
 impl fmt::Display for Counts {
+    /// Writes the counts, each kind in a line.
     fn fmt<W: fmt::Write>(&self, f: &mut fmt::Formatter<W>) -> fmt::Result {
         for (name, count) in EVENTS.iter().zip(&self.events) {
             let EventCount { made, fitted } = *count;

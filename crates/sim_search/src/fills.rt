@@ -12,6 +12,7 @@ const RECORD: [u8; 13] = [0x10, 0, 1, b'a', 1, 0, 0, 0, 0, 0, 0, 0, 5];
 /// An open gate.
 const OPEN: u8 = 0xA5;
 
+/// The numbers, each in eight bytes.
 fn push_numbers(bytes: &mut Vec<u8>, numbers: &[u64]) -> Result<(), AllocError> {
     for number in numbers {
         bytes.extend_from_slice(&number.to_be_bytes())?;
@@ -81,6 +82,7 @@ fn push_checkpoint(
     bytes.extend_from_slice(&[0; 4])
 }
 
+/// Up to 39 bytes of any kind.
 fn push_noise(bytes: &mut Vec<u8>, random: &mut Random) -> Result<(), AllocError> {
     for _byte in 0..random.below(40) {
         bytes.push(random.byte())?;
@@ -88,6 +90,7 @@ fn push_noise(bytes: &mut Vec<u8>, random: &mut Random) -> Result<(), AllocError
     Ok(())
 }
 
+/// Something that a store may read.
 fn push_piece(bytes: &mut Vec<u8>, random: &mut Random, tickets: u64) -> Result<(), AllocError> {
     let ticket = random.below(tickets.saturating_add(1));
     let generation = random.below(6);
@@ -103,6 +106,7 @@ fn push_piece(bytes: &mut Vec<u8>, random: &mut Random, tickets: u64) -> Result<
     }
 }
 
+/// A length of a file: nothing, all, or some of it.
 fn length(random: &mut Random) -> usize {
     match random.below(4) {
         0 => 0,
@@ -112,6 +116,7 @@ fn length(random: &mut Random) -> usize {
     }
 }
 
+/// Chosen bytes, and a length for each file.
 fn chosen(alloc: Global, random: &mut Random, tickets: u64) -> Result<Fill, AllocError> {
     let mut bytes = Vec::new(alloc);
     for _piece in 0..random.below(5) {

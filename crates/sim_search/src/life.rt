@@ -157,6 +157,7 @@ impl Life {
         }
     }
 
+    /// The worker in this place is now this one.
     fn set_worker(&mut self, place: usize, worker: Worker) {
         if let Some(found) = self.workers.get_mut(place) {
             *found = worker;
@@ -214,6 +215,7 @@ impl Life {
         Ok(outcome)
     }
 
+    /// The next step of a call.
     fn step_call(
         &mut self,
         past: &mut Past,
@@ -245,6 +247,7 @@ impl Life {
         }
     }
 
+    /// TAKE of a call.
     fn step_take(&mut self, past: &Past, worker: Worker, call: Call) -> (Worker, PlainOutcome) {
         let stripe = call.stripe;
         if self.take(stripe) {
@@ -288,6 +291,7 @@ impl Life {
         Ok((worker.does(Job::Calling(call, next), 0), outcome))
     }
 
+    /// TICKET: the change is made.
     fn step_ticket(
         &mut self,
         past: &mut Past,
@@ -305,6 +309,7 @@ impl Life {
         Ok((worker.does(Job::Calling(call, give), position), outcome))
     }
 
+    /// The next step of a release.
     fn step_release(
         &self,
         worker: Worker,

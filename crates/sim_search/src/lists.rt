@@ -80,6 +80,7 @@ fn side(random: &mut Random) -> Side {
 }
 
 impl Maker {
+    /// The maker of the list with this number.
     fn new(seed: u64, list: u64) -> Maker {
         let mut random = Random::new(seed, list);
         let workers = random.place(MOST_HANDS).saturating_add(1);
@@ -105,6 +106,7 @@ impl Maker {
         }
     }
 
+    /// An opening, whose device call fails now and then.
     fn open(&mut self) -> Draft {
         let count = match self.random.below(3) {
             0 => 1,

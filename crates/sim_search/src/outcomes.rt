@@ -62,6 +62,7 @@ pub(crate) fn stepped(made: Made, end: PlainEnd) -> PlainOutcome {
     PlainOutcome::Stepped { made, end }
 }
 
+/// What a step leaves, as plain data.
 fn plain_end(texts: &mut Texts, end: &End) -> Result<PlainEnd, AllocError> {
     Ok(match end {
         End::Goes => PlainEnd::Goes,

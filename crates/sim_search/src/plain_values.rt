@@ -109,6 +109,7 @@ impl Texts {
         }
     }
 
+    /// The same of a value that may be absent.
     fn optional(&mut self, value: &Option<Value>) -> Result<Option<PlainValue>, AllocError> {
         match value {
             Some(value) => Ok(Some(self.value(value)?)),

@@ -36,6 +36,7 @@ pub(crate) enum Wanted {
     AnOpening,
     NoOpeningPastItsFailingCall,
     PrefixWithin { released: u64, count: u64 },
+    Prefix(u64),
     /// The map after so many changes.
     MapAfter(u64),
 }
@@ -134,6 +135,7 @@ impl Reading {
         Ok(compared(wanted, found))
     }
 
+    /// The change as a call in this life.
     fn change(&mut self, command: &Command) -> Result<Call, AllocError> {
         let key = command.key.as_str();
         Ok(Call {
@@ -143,6 +145,7 @@ impl Reading {
         })
     }
 
+    /// The read as a call in this life.
     fn read(&mut self, read: &Read) -> Result<Call, AllocError> {
         let key = read.key.as_str();
         Ok(Call {
@@ -183,12 +186,17 @@ impl Reading {
         wanted
     }
 
-    /// The count of the changes that are committed, on which all guesses agree, is published.
-    fn publish(&mut self) -> PlainOutcome {
-        let committed = match self.guesses.first() {
+    /// How many changes are committed in this life, on which all guesses agree.
+    fn committed(&self) -> u64 {
+        match self.guesses.first() {
             Some(guess) => guess.committed,
             None => 0,
-        };
+        }
+    }
+
+    /// The count of the committed changes is published.
+    fn publish(&mut self) -> PlainOutcome {
+        let committed = self.committed();
         self.life.durable = self.life.durable.max(committed);
         PlainOutcome::Published(committed)
     }
@@ -294,16 +302,10 @@ impl Reading {
         for guess in self.guesses.iter_mut() {
             *guess = guess.as_read();
         }
-        let Some(first) = self.guesses.first().copied() else {
-            return Ok(Some(Wanted::AnOpening));
-        };
+        let committed = self.committed();
         self.guesses.retain(|guess| guess.committed == prefix);
         if self.guesses.is_empty() {
-            let count = first.committed;
-            return Ok(Some(Wanted::PrefixWithin {
-                released: count,
-                count,
-            }));
+            return Ok(Some(Wanted::Prefix(committed)));
         }
         self.past.cut(prefix)?;
         if self.past.has_exactly(entries)? {
