@@ -21,13 +21,37 @@ use ticket_order::{Entry, Ticket};
 /// How many frames are read, at most.
 const MOST_FRAMES: u32 = 10;
 
+/// How many commands a batch has.
+#[derive(Clone, Copy)]
+enum BatchSize {
+    One,
+    Two,
+}
+
 /// What is written behind the header: batches that are committed, and calls for one more.
 #[derive(Clone, Copy)]
 struct Form {
     batches: u32,
-    /// Whether a batch has two commands; else it has one.
-    are_pairs: bool,
+    size: BatchSize,
     calls: u32,
+}
+
+/// Which word of a form doesn't say what it is to say.
+#[derive(Clone, Copy)]
+enum BadForm {
+    Batches,
+    Size,
+    Calls,
+}
+
+impl BadForm {
+    fn text(self) -> &'static str {
+        match self {
+            BadForm::Batches => "the first word isn't a number of batches",
+            BadForm::Size => "the second word isn't 1 or 2, the number of puts of a batch",
+            BadForm::Calls => "the third word isn't a number of calls",
+        }
+    }
 }
 
 fn put(alloc: Global) -> Result<Command, Refusal> {
@@ -90,7 +114,7 @@ fn stage_two(log: &mut GateLog, one: Command, other: Command) -> Result<(), Refu
 }
 
 /// Stages a batch of puts.
-fn stage(alloc: Global, log: &mut GateLog, is_pair: bool) -> Result<(), Refusal>
+fn stage(alloc: Global, log: &mut GateLog, size: BatchSize) -> Result<(), Refusal>
     ensures stands { (batches : List Batch) (staged : List Batch) (file : File)
         → Stands log.old batches staged file
         → (later : List Batch) × Stands log.new batches later file }
@@ -98,10 +122,10 @@ fn stage(alloc: Global, log: &mut GateLog, is_pair: bool) -> Result<(), Refusal>
     ensures broken { log.new.is_broken ≡ log.old.is_broken }
 {
     let command = put(alloc)?;
-    if is_pair {
-        return stage_two(log, command, put(alloc)?);
+    match size {
+        BatchSize::One => stage_one(log, command),
+        BatchSize::Two => stage_two(log, command, put(alloc)?),
     }
-    stage_one(log, command)
 }
 
 fn advance_times<D: Disk>(log: &mut GateLog, disk: &mut D, times: u32) -> Result<(), Refusal>
@@ -119,7 +143,7 @@ fn write_batch<D: Disk>(
     alloc: Global,
     log: &mut GateLog,
     disk: &mut D,
-    is_pair: bool,
+    size: BatchSize,
     calls: u32,
 ) -> Result<(), Refusal>
     requires { MayAdvance D.states D.honest log.old disk.old }
@@ -128,7 +152,7 @@ fn write_batch<D: Disk>(
     if calls == 0 {
         return Ok(());
     }
-    stage(alloc, log, is_pair)?;
+    stage(alloc, log, size)?;
     advance_times(log, disk, calls)
 }
 
@@ -142,7 +166,7 @@ fn write_batches<D: Disk>(
     ensures { MayAdvance D.states D.honest log.new disk.new }
 {
     for _ in 0..form.batches {
-        write_batch(alloc, log, disk, form.are_pairs, 4)?;
+        write_batch(alloc, log, disk, form.size, 4)?;
     }
     Ok(())
 }
@@ -159,7 +183,7 @@ fn write_log<D: Disk>(
 {
     advance_times(log, disk, 2)?;
     write_batches(alloc, log, disk, form)?;
-    write_batch(alloc, log, disk, form.are_pairs, form.calls)
+    write_batch(alloc, log, disk, form.size, form.calls)
 }
 
 /// How many changes the log holds, as it is read.
@@ -242,25 +266,40 @@ fn written_text(
     Ok(format!(in alloc; "{committed} committed, gate {gate}, {left}")?)
 }
 
-fn form_of(batches: &str, size: &str, calls: &str) -> Result<Form, Refusal> {
-    let (Ok(batches), Ok(calls)) = (batches.parse::<u32>(), calls.parse::<u32>()) else {
-        return Err(Refusal::WrongPhase);
+fn size_of(word: &str) -> Result<BatchSize, BadForm> {
+    match word {
+        "1" => Ok(BatchSize::One),
+        "2" => Ok(BatchSize::Two),
+        _ => Err(BadForm::Size),
+    }
+}
+
+fn form_of(batches: &str, size: &str, calls: &str) -> Result<Form, BadForm> {
+    let Ok(batches) = batches.parse::<u32>() else {
+        return Err(BadForm::Batches);
+    };
+    let size = size_of(size)?;
+    let Ok(calls) = calls.parse::<u32>() else {
+        return Err(BadForm::Calls);
     };
     Ok(Form {
         batches,
-        are_pairs: size == "2",
+        size,
         calls,
     })
 }
 
 /// What comes of a log of `batches` batches of one or two puts, and of `calls` calls for one more.
 /// The fourth word says after how many calls the device fails. The fifth says what one more call
-/// leaves that fails, and the sixth what a stop leaves.
+/// leaves that fails, and the sixth what a stop leaves. If the words aren't so, this is told.
 pub(crate) fn log_written(alloc: Global, words: &[&str]) -> Result<String, Refusal> {
     let [batches, size, calls, after, failing, stopping] = words else {
-        return Err(Refusal::WrongPhase);
+        return Ok(String::from_str(alloc, "the words aren't six")?);
     };
-    let form = form_of(batches, size, calls)?;
+    let form = match form_of(batches, size, calls) {
+        Ok(form) => form,
+        Err(bad) => return Ok(String::from_str(alloc, bad.text())?),
+    };
     let mut disk = MemDisk::new(alloc);
     disk.plan(failure_of(alloc, after, "new")?);
     let mut log = GateLog::new(alloc, 0, 0);
@@ -304,7 +343,7 @@ fn said(alloc: Global, answer: Result<(), Refusal>) -> Result<String, Refusal> {
 /// What a log that has ended says of another end, of a batch, and of its beginning anew.
 fn ended_text(alloc: Global, log: &mut GateLog) -> Result<String, Refusal> {
     let ended = said(alloc, log.end_with(1))?;
-    let staged = said(alloc, stage(alloc, log, false))?;
+    let staged = said(alloc, stage(alloc, log, BatchSize::One))?;
     let begun = said(alloc, log.begin(1, 0))?;
     let generation = log.generation();
     let low = log.low();
@@ -334,5 +373,5 @@ pub(crate) fn log_resumed(alloc: Global, words: &[&str]) -> Result<String, Refus
     if log.phase() != Phase::Idle {
         return Err(Refusal::WrongPhase);
     }
-    said(alloc, stage(alloc, &mut log, false))
+    said(alloc, stage(alloc, &mut log, BatchSize::One))
 }
