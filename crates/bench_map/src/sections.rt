@@ -44,13 +44,12 @@ pub(crate) fn sections<R: Wait>(
     let mut walk = ViewWalk::new(alloc);
     for _step in rt.forever() {
         let stripe = walk.stripe_to_take();
-        match map.view_step(pass, walk) {
-            Ok(Viewed::More(next)) => {
+        match map.view_step(pass, walk)? {
+            Viewed::More(next) => {
                 pause(rt, map, &backoff, stripe, &next);
                 walk = next;
             }
-            Ok(Viewed::Done(captured)) => return Ok(captured),
-            Err(refusal) => return Err(refusal),
+            Viewed::Done(captured) => return Ok(captured),
         }
     }
     unreachable!()

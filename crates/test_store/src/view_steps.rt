@@ -50,10 +50,9 @@ fn ended(
     requires own { IsPassOf map.now pass.old }
     requires fits { (b : Record) × Fits (stripe_count map.now) b walk (recorded pass.old) }
 {
-    match map.view_step(pass, walk) {
-        Ok(Viewed::Done(captured)) => View::new(alloc, captured),
-        Ok(Viewed::More(_)) => Err(Refusal::TooEarly),
-        Err(refusal) => Err(refusal),
+    match map.view_step(pass, walk)? {
+        Viewed::Done(captured) => View::new(alloc, captured),
+        Viewed::More(_) => Err(Refusal::TooEarly),
     }
 }
 
@@ -93,6 +92,9 @@ fn each_stripe_of_a_view_has_a_mark_of_its_own(rt: HostRuntime) -> Result<(), Re
     let alloc = rt.alloc();
     let map = open(alloc, 2)?;
     let view = between_puts(&rt, &map, alloc)?;
-    assert!(rt; is_as_worked(&rt, &view));
+    assert!(rt;
+        is_as_worked(&rt, &view),
+        "the view is not of b: 2 at mark 2 and a: 4 at mark 4"
+    );
     Ok(())
 }

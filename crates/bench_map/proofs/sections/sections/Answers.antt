@@ -6,11 +6,11 @@ use Rattle.bulk_tasks.specs.Laws.{maps_of}
 use Rattle.bulk_tasks.proofs.Walked.{views_are_parts}
 use Rattle.bench_map.proofs.sections.sections.Goals as goal
 
-pub returns-in-Ok-Done-clause-parts : goal.returns-in-Ok-Done-clause-parts
-returns-in-Ok-Done-clause-parts g c =
+pub returns-in-Done-clause-parts : goal.returns-in-Done-clause-parts
+returns-in-Done-clause-parts g c =
     let n = stripe_count c.args.map.now in
     let b = recorded c.args.pass.now in
     let w = recorded c.view_step.new.pass in
-    let zs = c.in-Ok-Done.captured.items in
-    let d : IsDone n b zs w = rw c.in-Ok-Done.field-0-is at (c.in-Ok-Done.ensures.next b c.loop-step.invariant.fit) in
+    let zs = c.in-Done.captured.items in
+    let d : IsDone n b zs w = rw c.in-Done.is at (c.in_ok-next.ensures.next b c.loop-step.invariant.fit) in
     (n, maps_of (history_of w) d.views.sections, views_are_parts n b w zs d.views)
