@@ -1,7 +1,7 @@
 //! One change on a new store, row by row, each as the contract of a function.
 ghost use Rattle.sim_rules.specs.Examples.{BatchIsCommitted, ChangeIsReleased, ChangeIsStaged, CheckpointGoesOn, FailsAmongThem, FailsAsDue, LongKeyIsRefused, NewStoreOpens, NotYetInHand, OldBeginsRun, OldKeyIsRefused, OldStoreOpens, OpeningIsRun, OtherIsRefused, RotationGoesOn, RotationTakesNewVersion, ScheduleIsRun, SecondOldIsSkipped, StoppedBefore, StoppedOpen, StoppedShut, UnwrittenIsNoRun};
 
-use store_layout::laws::{laws_of_new_stores, laws_of_opening};
+use store_layout::laws;
 
 /// The store is opened, a change is made, swept and staged.
 pub fn one_change()
@@ -20,8 +20,8 @@ pub fn one_change()
     ensures not_yet { NotYetInHand }
     ensures staged { ChangeIsStaged }
 {
-    laws_of_new_stores();
-    laws_of_opening();
+    laws::laws_of_new_stores();
+    laws::laws_of_opening();
 }
 
 /// Its frame is written and its reply released; or the machine stops before that; or nothing is written,
@@ -42,8 +42,8 @@ pub fn one_commit()
     ensures within_open { StoppedOpen }
     ensures within_shut { StoppedShut }
 {
-    laws_of_new_stores();
-    laws_of_opening();
+    laws::laws_of_new_stores();
+    laws::laws_of_opening();
 }
 
 /// A directory of version 01.
@@ -56,8 +56,8 @@ pub fn old_directory()
     ensures first { OldBeginsRun }
     ensures second { SecondOldIsSkipped }
 {
-    laws_of_new_stores();
-    laws_of_opening();
+    laws::laws_of_new_stores();
+    laws::laws_of_opening();
 }
 
 /// The phases of a commit, a rotation and a checkpoint.
