@@ -71,7 +71,10 @@ fn long_paths(rt: HostRuntime) -> Result<(), Fail> {
         let name = "x".repeat(rt.alloc(), count)?;
         let path = format!(in rt.alloc(); "long/{name}")?;
         let listener = bind(&rt, rt.alloc(), &path, 0o600)?;
-        assert!(rt; is_reached(&rt, &listener, &path)?);
+        assert!(rt;
+            is_reached(&rt, &listener, &path)?,
+            "no client reaches the listener at {path}"
+        );
         assert_eq!(rt; mode_of(&rt, &path)?, 0o600);
         drop(listener);
     }
@@ -84,7 +87,10 @@ fn long_paths(rt: HostRuntime) -> Result<(), Fail> {
 fn a_stale_file_is_replaced(rt: HostRuntime) -> Result<(), Fail> {
     make_directory(&rt, "stale")?;
     let first = bind(&rt, rt.alloc(), "stale/socket", 0o600)?;
-    assert!(rt; is_reached(&rt, &first, "stale/socket")?);
+    assert!(rt;
+        is_reached(&rt, &first, "stale/socket")?,
+        "no client reaches the first listener"
+    );
     let refused = bind(&rt, rt.alloc(), "stale/socket", 0o600).map(drop);
     assert_eq!(rt;
         refused.map_err(|cause| cause.kind()),
@@ -93,8 +99,14 @@ fn a_stale_file_is_replaced(rt: HostRuntime) -> Result<(), Fail> {
     drop(first);
     let file = fs::symlink_metadata(&rt, "stale/socket")?.ino();
     let second = bind(&rt, rt.alloc(), "stale/socket", 0o600)?;
-    assert!(rt; is_reached(&rt, &second, "stale/socket")?);
-    assert!(rt; fs::symlink_metadata(&rt, "stale/socket")?.ino() != file);
+    assert!(rt;
+        is_reached(&rt, &second, "stale/socket")?,
+        "no client reaches the second listener"
+    );
+    assert!(rt;
+        fs::symlink_metadata(&rt, "stale/socket")?.ino() != file,
+        "the stale file was not replaced"
+    );
     drop(second);
     fs::remove_dir_all(&rt, "stale")?;
     Ok(())
@@ -201,6 +213,8 @@ fn words_and_paths(rt: HostRuntime) -> Result<(), Fail> {
     }
     let longest = "x".repeat(rt.alloc(), 107)?;
     let longer = "x".repeat(rt.alloc(), 108)?;
-    assert!(rt; is_socket_path(&longest) && !is_socket_path(&longer) && !is_socket_path(""));
+    assert!(rt; is_socket_path(&longest), "a path of 107 bytes is refused");
+    assert!(rt; !is_socket_path(&longer), "a path of 108 bytes is taken");
+    assert!(rt; !is_socket_path(""), "the empty path is taken");
     Ok(())
 }

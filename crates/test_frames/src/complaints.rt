@@ -30,7 +30,10 @@ fn what_is_said(rt: HostRuntime) {
     let alloc = rt.alloc();
     let mut output = Vec::new(alloc);
     let mut error = Vec::new(alloc);
-    assert!(rt; is_printed_alone(&rt, &mut output, &mut error));
+    assert!(rt;
+        is_printed_alone(&rt, &mut output, &mut error),
+        "the output or the error has another text"
+    );
     drop(output);
     let are_exits = complaints(alloc, &mut error) == [1; 4];
     assert!(rt; are_exits && error.as_slice() == COMPLAINTS, "{error:?}");

@@ -48,19 +48,34 @@ fn a_directory_keeps_what_was_synced(rt: HostRuntime) -> Result<(), Fail> {
     assert_eq!(rt; bytes.as_slice(), b"first lines and more".as_slice());
     assert_eq!(rt; again.len(0)?, 0);
     // A file stands where the directory is to be.
-    assert!(rt; DirDisk::create(&rt, rt.alloc(), "kept/log-a", Unknown).is_err());
+    assert!(rt;
+        DirDisk::create(&rt, rt.alloc(), "kept/log-a", Unknown).is_err(),
+        "a disk was made where a file stands"
+    );
     fs::remove_dir_all(&rt, "kept")?;
     Ok(())
 }
 
 #[test]
 fn absent_files_have_length_0(rt: HostRuntime) -> Result<(), Fail> {
-    assert!(rt; DirDisk::open(&rt, rt.alloc(), "no_such_directory", Unknown).is_err());
-    assert!(rt; DirDisk::create(&rt, rt.alloc(), "no_such_directory", Unknown).is_err());
-    assert!(rt; fs::metadata(&rt, "no_such_directory").is_err());
+    assert!(rt;
+        DirDisk::open(&rt, rt.alloc(), "no_such_directory", Unknown).is_err(),
+        "a directory that is absent was opened"
+    );
+    assert!(rt;
+        DirDisk::create(&rt, rt.alloc(), "no_such_directory", Unknown).is_err(),
+        "a disk was made in a directory that is absent"
+    );
+    assert!(rt;
+        fs::metadata(&rt, "no_such_directory").is_err(),
+        "the directory was made"
+    );
     make_directory(&rt, "empty")?;
     let mut disk = DirDisk::open(&rt, rt.alloc(), "empty", Unknown)?;
-    assert!(rt; put(&mut disk, 3, 0, b"lost").is_err());
+    assert!(rt;
+        put(&mut disk, 3, 0, b"lost").is_err(),
+        "an absent file was written to"
+    );
     assert_eq!(rt; disk.len(3)?, 0);
     fs::remove_dir_all(&rt, "empty")?;
     Ok(())
@@ -75,10 +90,22 @@ fn open_beside(rt: &HostRuntime, directory: &str) -> Result<bool, Fail> {
 #[test]
 fn a_directory_is_open_once(rt: HostRuntime) -> Result<(), Fail> {
     make_directory(&rt, "locked")?;
-    assert!(rt; !open_beside(&rt, "locked")?);
-    assert!(rt; fs::metadata(&rt, "locked/ckpt-a").is_err());
-    assert!(rt; DirDisk::create(&rt, rt.alloc(), "locked", Unknown).is_ok());
-    assert!(rt; fs::metadata(&rt, "locked/ckpt-a").is_ok());
+    assert!(rt;
+        !open_beside(&rt, "locked")?,
+        "a directory was opened twice"
+    );
+    assert!(rt;
+        fs::metadata(&rt, "locked/ckpt-a").is_err(),
+        "a file was made without the lock"
+    );
+    assert!(rt;
+        DirDisk::create(&rt, rt.alloc(), "locked", Unknown).is_ok(),
+        "the lock was not given back"
+    );
+    assert!(rt;
+        fs::metadata(&rt, "locked/ckpt-a").is_ok(),
+        "the file was not made with the lock"
+    );
     fs::remove_dir_all(&rt, "locked")?;
     Ok(())
 }

@@ -43,11 +43,20 @@ impl FileExt for Failing {
 fn an_interrupted_read_is_tried_again(rt: HostRuntime) {
     let file = Failing::new(io::ErrorKind::Interrupted);
     let mut bytes = [0; 3];
-    assert!(rt; matches!(fill_at(&file, 1, &mut bytes), Ok(3)));
+    assert!(rt;
+        matches!(fill_at(&file, 1, &mut bytes), Ok(3)),
+        "the read of 3 bytes at 1 gave no 3 bytes"
+    );
     assert_eq!(rt; &bytes, b"bcd");
-    assert!(rt; matches!(fill_at(&file, 3, &mut bytes), Ok(2)));
+    assert!(rt;
+        matches!(fill_at(&file, 3, &mut bytes), Ok(2)),
+        "the read of 3 bytes at 3 gave no 2 bytes"
+    );
     assert_eq!(rt; &bytes, b"ded");
-    assert!(rt; matches!(fill_at(&file, 5, &mut bytes), Ok(0)));
+    assert!(rt;
+        matches!(fill_at(&file, 5, &mut bytes), Ok(0)),
+        "the read at the end gave bytes or failed"
+    );
 }
 
 #[test]
@@ -55,5 +64,8 @@ fn another_error_ends_a_read(rt: HostRuntime) {
     let file = Failing::new(io::ErrorKind::Other);
     let mut bytes = [0; 3];
     let answer = fill_at(&file, 0, &mut bytes);
-    assert!(rt; matches!(answer, Err(error) if error.kind() == io::ErrorKind::Other));
+    assert!(rt;
+        matches!(answer, Err(error) if error.kind() == io::ErrorKind::Other),
+        "the read did not end with the error of its file"
+    );
 }

@@ -29,7 +29,7 @@ fn a_disk_is_formatted_and_checked(rt: HostRuntime) -> Result<(), Fail> {
         output.as_slice(),
         b"formatted 8\ngeneration 0\nstripes 8\nprefix 0\nentries 0\n".as_slice()
     );
-    assert!(rt; error.is_empty());
+    assert!(rt; error.is_empty(), "{error:?}");
     Ok(())
 }
 
@@ -54,7 +54,7 @@ fn a_device_that_fails(rt: HostRuntime) -> Result<(), Fail> {
         ),
         1
     );
-    assert!(rt; output.is_empty());
+    assert!(rt; output.is_empty(), "{output:?}");
     assert_eq!(rt; error.as_slice(), b"refused 9 Failed\n".as_slice());
     Ok(())
 }

@@ -96,7 +96,10 @@ fn share_a_batch<R: Wait>(
 fn begun_calls_share_a_batch(rt: HostRuntime) -> Result<(), Refusal> {
     let alloc = rt.alloc();
     let map = open(alloc, 16)?;
-    assert!(rt; share_a_batch(&rt, &map, alloc)?);
+    assert!(rt;
+        share_a_batch(&rt, &map, alloc)?,
+        "the calls may be finished before the commit or not behind it, or have other replies"
+    );
     Ok(())
 }
 
@@ -117,6 +120,9 @@ fn gets_beside_a_put<R: Wait>(
 fn a_read_of_another_stripe_waits_for_no_commit(rt: HostRuntime) -> Result<(), Refusal> {
     let alloc = rt.alloc();
     let map = open(alloc, 16)?;
-    assert!(rt; gets_beside_a_put(&rt, &map, alloc)?);
+    assert!(rt;
+        gets_beside_a_put(&rt, &map, alloc)?,
+        "the read found another value, or the put was committed before"
+    );
     Ok(())
 }

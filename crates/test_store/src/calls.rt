@@ -150,7 +150,10 @@ fn thirteen_calls_answer_once_they_are_durable(rt: HostRuntime) -> Result<(), Re
         || flush_loop(&rt, &map, &flag),
         || call_all(&rt, &map, alloc, &flag),
     );
-    assert!(rt; called?);
+    assert!(rt;
+        called?,
+        "a call has another reply, or the position is not 10"
+    );
     Ok(())
 }
 
@@ -244,6 +247,9 @@ fn try_all<R: Wait>(rt: &R, map: &DurableMap<MemDisk>, alloc: Global) -> Result<
 fn tries_are_held_until_they_are_durable(rt: HostRuntime) -> Result<(), Refusal> {
     let alloc = rt.alloc();
     let map = open(alloc, 16)?;
-    assert!(rt; try_all(&rt, &map, alloc)?);
+    assert!(rt;
+        try_all(&rt, &map, alloc)?,
+        "a try has another reply or another position"
+    );
     Ok(())
 }

@@ -133,7 +133,7 @@ fn a_read_waits_for_its_put_and_a_checkpoint_follows(rt: HostRuntime) -> Result<
     let held = put_and_get(&map, &mut pass, alloc)?;
     let (released, sealed) = run_both(&rt, &map, &mut pass, held, &Flag::new());
     assert_eq!(rt; released, Some((1, Reply::Now(Some(Value::Int(1))))));
-    assert!(rt; sealed);
+    assert!(rt; sealed, "no checkpoint was sealed in time");
     fs::remove_dir_all(&rt, "running")?;
     Ok(())
 }

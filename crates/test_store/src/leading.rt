@@ -75,7 +75,7 @@ fn a_change_that_nobody_finishes_is_committed(rt: HostRuntime) -> Result<(), Ref
         || flush_loop(&rt, &map, &flag),
         || leave_and_end(&rt, &map, alloc, &flag),
     );
-    assert!(rt; called?);
+    assert!(rt; called?, "the change was not committed in time");
     Ok(())
 }
 
@@ -126,6 +126,6 @@ fn a_thread_that_waits_makes_the_turns_of_the_log(rt: HostRuntime) -> Result<(),
         || flush_loop(&rt, &map, &flag),
         || lead_and_end(&rt, &map, alloc, &flag),
     );
-    assert!(rt; called?);
+    assert!(rt; called?, "the turns were never made without the loop");
     Ok(())
 }

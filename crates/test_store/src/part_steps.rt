@@ -50,16 +50,28 @@ fn a_part_is_lent_and_given_back(rt: HostRuntime) -> Result<(), Refusal> {
     put(&map, &mut writer, alloc, "a", Value::Int(1))?;
     let walk = stepped(&map, &mut pass, PartsWalk::new())?;
     let walk = stepped(&map, &mut pass, walk)?;
-    assert!(rt; lent_count(&walk) == Some((1, 0)));
+    assert_eq!(rt; lent_count(&walk), Some((1, 0)));
     let walk = stepped(&map, &mut pass, walk)?;
-    assert!(rt; lent_count(&walk).is_none());
+    assert!(rt;
+        lent_count(&walk).is_none(),
+        "a part is lent behind its GIVE"
+    );
     let walk = stepped(&map, &mut pass, walk)?;
     let walk = stepped(&map, &mut pass, walk)?;
-    assert!(rt; lent_count(&walk) == Some((1, 1)));
-    assert!(rt; put(&map, &mut writer, alloc, "a", Value::Int(2)).is_err());
+    assert_eq!(rt; lent_count(&walk), Some((1, 1)));
+    assert!(rt;
+        put(&map, &mut writer, alloc, "a", Value::Int(2)).is_err(),
+        "a put was made on a stripe that is held"
+    );
     let walk = walk.give_back();
-    assert!(rt; lent_count(&walk).is_none());
+    assert!(rt;
+        lent_count(&walk).is_none(),
+        "a part that was given back is lent"
+    );
     let ended = map.parts_step(&mut pass, walk);
-    assert!(rt; matches!(ended, Err(Refusal::NoMemory)));
+    assert!(rt;
+        matches!(ended, Err(Refusal::NoMemory)),
+        "the walk that gave its part back was not refused for want of memory"
+    );
     put(&map, &mut writer, alloc, "a", Value::Int(2))
 }

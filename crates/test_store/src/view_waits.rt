@@ -49,7 +49,7 @@ fn a_view_waits_until_it_is_durable(rt: HostRuntime) -> Result<(), Refusal> {
         || flush_loop(&rt, &map, &flag),
         || view_at_last(&rt, &map, alloc, &flag),
     );
-    assert!(rt; has?);
+    assert!(rt; has?, "the view has not the entry that was put before it");
     Ok(())
 }
 
@@ -66,6 +66,9 @@ fn a_view_of_a_failed_store(rt: HostRuntime) -> Result<(), Refusal> {
     put(&map, &mut pass, alloc, "a", Value::Int(5))?;
     commit(&rt, &map);
     let viewed = view(&rt, alloc, &map, &mut pass);
-    assert!(rt; matches!(viewed, Err(Refusal::Failed)));
+    assert!(rt;
+        matches!(viewed, Err(Refusal::Failed)),
+        "the view of a failed store was not refused so"
+    );
     Ok(())
 }

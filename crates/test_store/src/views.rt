@@ -127,9 +127,30 @@ fn answers_of_no_entries_of_numbers_and_of_a_text(rt: HostRuntime) -> Result<(),
     put_number(&map, &mut pass, alloc, "a", 1)?;
     commit(&rt, &map);
     let three = view(&rt, alloc, &map, &mut pass)?;
-    assert!(rt; answers_of_none(&rt, &none, 0) && answers_of_none(&rt, &none, u64::MAX));
-    assert!(rt; answers_of_two(&rt, &two, 0) && answers_of_two(&rt, &two, u64::MAX));
-    assert!(rt; answers_of_three(&rt, &three, 0) && answers_of_three(&rt, &three, u64::MAX));
+    assert!(rt;
+        answers_of_none(&rt, &none, 0),
+        "the view of no entries has another answer at threshold 0"
+    );
+    assert!(rt;
+        answers_of_none(&rt, &none, u64::MAX),
+        "the view of no entries has another answer at the greatest threshold"
+    );
+    assert!(rt;
+        answers_of_two(&rt, &two, 0),
+        "the view of two numbers has another answer at threshold 0"
+    );
+    assert!(rt;
+        answers_of_two(&rt, &two, u64::MAX),
+        "the view of two numbers has another answer at the greatest threshold"
+    );
+    assert!(rt;
+        answers_of_three(&rt, &three, 0),
+        "the view of two numbers and a text has another answer at threshold 0"
+    );
+    assert!(rt;
+        answers_of_three(&rt, &three, u64::MAX),
+        "the view of two numbers and a text has another answer at the greatest threshold"
+    );
     Ok(())
 }
 
@@ -172,7 +193,10 @@ fn the_threshold_changes_no_answer(rt: HostRuntime) -> Result<(), Refusal> {
         entries = wanted.entries;
         commit(&rt, &map);
         let view = view(&rt, alloc, &map, &mut pass)?;
-        assert!(rt; answers_so(&rt, &view, wanted));
+        assert!(rt;
+            answers_so(&rt, &view, wanted),
+            "the view of {entries} entries has another answer"
+        );
     }
     Ok(())
 }

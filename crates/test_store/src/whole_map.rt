@@ -49,10 +49,13 @@ fn a_map_of_no_entries(rt: HostRuntime) -> Result<(), Refusal> {
     let alloc = rt.alloc();
     let map = open(alloc, 16)?;
     let mut pass = map.pass()?;
-    assert!(rt; count(&rt, &map, &mut pass) == Ok(0));
+    assert!(rt; count(&rt, &map, &mut pass) == Ok(0), "the count is not 0");
     let sum = reduce(&rt, alloc, &map, &mut pass, Func::Sum);
-    assert!(rt; sum == Ok(Ok(None)));
-    assert!(rt; finds(&rt, alloc, &map, &mut pass, 9, None));
+    assert!(rt; sum == Ok(Ok(None)), "{sum:?}");
+    assert!(rt;
+        finds(&rt, alloc, &map, &mut pass, 9, None),
+        "a key of the value 9 was found"
+    );
     Ok(())
 }
 
@@ -65,14 +68,29 @@ fn a_map_of_numbers(rt: HostRuntime) -> Result<(), Refusal> {
     put(&map, &mut pass, alloc, "b", Value::Int(7))?;
     put(&map, &mut pass, alloc, "a", Value::Int(5))?;
     commit(&rt, &map);
-    assert!(rt; count(&rt, &map, &mut pass) == Ok(3));
-    assert!(rt; gives(&rt, alloc, &map, &mut pass, Func::Sum, 19));
-    assert!(rt; gives(&rt, alloc, &map, &mut pass, Func::Max, 7));
-    assert!(rt; gives(&rt, alloc, &map, &mut pass, Func::Min, 5));
-    assert!(rt; finds(&rt, alloc, &map, &mut pass, 7, Some("b")));
-    assert!(rt; finds(&rt, alloc, &map, &mut pass, 9, None));
+    assert!(rt; count(&rt, &map, &mut pass) == Ok(3), "the count is not 3");
+    assert!(rt;
+        gives(&rt, alloc, &map, &mut pass, Func::Sum, 19),
+        "the sum is not 19"
+    );
+    assert!(rt;
+        gives(&rt, alloc, &map, &mut pass, Func::Max, 7),
+        "the greatest value is not 7"
+    );
+    assert!(rt;
+        gives(&rt, alloc, &map, &mut pass, Func::Min, 5),
+        "the least value is not 5"
+    );
+    assert!(rt;
+        finds(&rt, alloc, &map, &mut pass, 7, Some("b")),
+        "b is not the least key of the value 7"
+    );
+    assert!(rt;
+        finds(&rt, alloc, &map, &mut pass, 9, None),
+        "a key of the value 9 was found"
+    );
     let unknown = reduce(&rt, alloc, &map, &mut pass, Func::Concat);
-    assert!(rt; unknown == Err(Refusal::UnknownFunction));
+    assert!(rt; unknown == Err(Refusal::UnknownFunction), "{unknown:?}");
     Ok(())
 }
 
@@ -86,8 +104,11 @@ fn a_map_with_a_text(rt: HostRuntime) -> Result<(), Refusal> {
     put(&map, &mut pass, alloc, "c", Value::text(alloc, "x")?)?;
     commit(&rt, &map);
     let sum = reduce(&rt, alloc, &map, &mut pass, Func::Sum);
-    assert!(rt; sum == Ok(Err(FuncError::WrongKind)));
-    assert!(rt; count(&rt, &map, &mut pass) == Ok(3));
-    assert!(rt; finds(&rt, alloc, &map, &mut pass, 2, Some("b")));
+    assert!(rt; sum == Ok(Err(FuncError::WrongKind)), "{sum:?}");
+    assert!(rt; count(&rt, &map, &mut pass) == Ok(3), "the count is not 3");
+    assert!(rt;
+        finds(&rt, alloc, &map, &mut pass, 2, Some("b")),
+        "b is not the least key of the value 2"
+    );
     Ok(())
 }
