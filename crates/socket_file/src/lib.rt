@@ -4,8 +4,6 @@
 pub mod binding;
 pub mod calls;
 pub mod names;
-#[cfg(test)]
-mod tests;
 
 pub use binding::bind;
 pub use calls::{Found, SocketFiles};

@@ -1,5 +1,5 @@
-//! Tests of the program's edges: connections and their dialogues, its lines, the calls of a client, and the
-//! directories of a disk.
+//! Tests of the program's edges: connections and their dialogues, its lines, the calls of a client, the
+//! directories of a disk, and the files of sockets.
 #![tactic(auto)]
 
 #[cfg(test)]
@@ -22,6 +22,8 @@ mod numbered;
 mod printed_directories;
 #[cfg(test)]
 mod rows;
+#[cfg(test)]
+mod sockets;
 #[cfg(test)]
 mod steps;
 #[cfg(test)]

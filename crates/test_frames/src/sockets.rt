@@ -1,9 +1,7 @@
 //! Sockets in a directory of their own.
 ghost use Rattle.socket_file.specs.Names.{IsSocketPath};
 
-use crate::binding::bind;
-use crate::calls::{Found, SocketFiles};
-use crate::names::{is_socket_path, mode_named};
+use socket_file::{Found, SocketFiles, bind, is_socket_path, mode_named};
 use std::fs;
 use std::fs::File;
 use std::io::{ErrorKind, Read, Write};
