@@ -84,8 +84,15 @@ fn a_request_that_is_held_holds_up_no_other(rt: HostRuntime) -> Result<(), Fail>
     };
     let sent = served(&rt, rt.alloc(), &map, &observer, &[PUT, PUT], 2);
     drop(map);
-    assert!(rt; observer.was_in_time.load(Ordering::SeqCst));
-    assert!(rt; [ABSENT_AND_5, FIVE_AND_ABSENT].contains(&sent?.as_slice()));
+    assert!(rt;
+        observer.was_in_time.load(Ordering::SeqCst),
+        "the other request was not answered in time"
+    );
+    let sent = sent?;
+    assert!(rt;
+        [ABSENT_AND_5, FIVE_AND_ABSENT].contains(&sent.as_slice()),
+        "{sent:?}"
+    );
     Ok(())
 }
 

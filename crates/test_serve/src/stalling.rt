@@ -77,7 +77,10 @@ fn is_answered_beside<
 
 #[test]
 fn a_client_that_stalls_holds_up_no_other(rt: HostRuntime) -> Result<(), Fail> {
-    assert!(rt; is_answered_beside(&rt, rt.alloc(), &PUT[..9])?);
+    assert!(rt;
+        is_answered_beside(&rt, rt.alloc(), &PUT[..9])?,
+        "the put beside the client that stalls has another reply or none"
+    );
     Ok(())
 }
 
@@ -96,6 +99,9 @@ fn questions_for_long(alloc: Global) -> Result<Vec<u8>, Fail> {
 #[test]
 fn a_client_that_never_reads_holds_up_no_other(rt: HostRuntime) -> Result<(), Fail> {
     let requests = questions_for_long(rt.alloc())?;
-    assert!(rt; is_answered_beside(&rt, rt.alloc(), requests.as_slice())?);
+    assert!(rt;
+        is_answered_beside(&rt, rt.alloc(), requests.as_slice())?,
+        "the put beside the client that never reads has another reply or none"
+    );
     Ok(())
 }
