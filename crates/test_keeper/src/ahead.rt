@@ -1,23 +1,53 @@
 //! Stops of a log that is written ahead.
-ghost use Rattle.flusher.specs.Fitting.{IsKept};
-
-use crate::batches::{longest, make_often};
-use crate::checkpoints::commit_most;
-use crate::stores::{advance_times, join, put_by, sixteen};
-use disk_model::{Disk, Fill, MemDisk};
-use flusher::Keeper;
+use crate::checks::assert_same;
+use crate::directories::Directory;
+use crate::steps::Step;
+use crate::stores::count_of_stripes;
+use disk_model::Fill;
+use log_records::Version;
 use map_types::Refusal;
-use recovery::open_parts;
 use std::alloc::Global;
 use std::process::Abort;
 use std::sync::Wait;
-use ticket_order::Steps;
 
 /// How many zeros are written ahead.
 const AHEAD: usize = 100;
 
 /// The log with eight commands of 12,296 bytes each in one batch, its gate closed.
 const LENGTH: usize = 17 + 1 + 17 + 8 * 12_296 + 1;
+
+/// Commits eight commands, stages the ninth, and makes `times` of its device calls, behind the zeros
+/// that are written ahead of it. The last of four calls commits it.
+fn write_nine<R: Abort + Wait>(
+    rt: &R,
+    alloc: Global,
+    ahead: usize,
+    times: u32,
+) -> Result<Directory, Refusal> {
+    let mut directory = Directory::new(alloc, count_of_stripes(rt, 16), Version::Second)?;
+    let rows = [
+        (Step::ChangeLongest(Version::Second, 8), Ok(8)),
+        (Step::Put("a", 5), Ok(9)),
+        (Step::Sweep, Ok(9)),
+        (Step::Stage(8), Ok(8)),
+        (Step::Advance(4), Ok(8)),
+        (Step::Publish, Ok(8)),
+        (Step::Stage(1), Ok(1)),
+        (Step::SetAhead(ahead), Ok(0)),
+        (Step::WriteAhead, Ok(0)),
+        (Step::Advance(times), Ok(8 + u64::from(times / 4))),
+    ];
+    directory.live(rt, &rows)?;
+    Ok(directory)
+}
+
+const FILLS: [Fill; 5] = [
+    Fill::Old,
+    Fill::New,
+    Fill::Byte(0),
+    Fill::Byte(0xA5),
+    Fill::Byte(0xFF),
+];
 
 /// How many commands are found after n device calls of the ninth one's batch. They are given for
 /// each fill of a stop: the old bytes, the new ones, 0, an open gate, and 255.
@@ -29,89 +59,35 @@ const FOUND: [(u32, [u64; 5]); 5] = [
     (4, [9; 5]),
 ];
 
-/// Commits eight commands, stages the ninth, and makes `times` of its device calls, behind the zeros
-/// that are written ahead of it.
-fn step_ninth<D: Disk, R: Wait, S: Steps>(
-    rt: &R,
-    keeper: &mut Keeper<D>,
-    steps: &mut S,
-    ahead: usize,
-    times: u32,
-) -> Result<(), Refusal>
-    requires { IsKept D.states D.honest (S.stripe_count steps.old) keeper.old
-        (S.recorded steps.old) }
-{
-    let _count = keeper.sweep(rt, steps)?;
-    let _eight = commit_most(keeper, steps, 8)?;
-    let _ninth = keeper.stage_batch(1)?;
-    keeper.set_ahead(ahead)?;
-    keeper.write_ahead()?;
-    advance_times(keeper, times);
-    Ok(())
-}
-
-/// Makes nine commands, and `times` device calls of the ninth one's batch.
-fn write_nine<R: Abort + Wait>(
-    rt: &R,
-    alloc: Global,
-    ahead: usize,
-    times: u32,
-) -> Result<MemDisk, Refusal> {
-    let mut joined = join(alloc, MemDisk::new(alloc), sixteen(rt))?;
-    let command = longest(alloc)?;
-    make_often(&joined.stripes, &mut joined.worker, &command, 8)?;
-    put_by(&joined.stripes, &mut joined.worker, alloc, "a", 5)?;
-    let mut steps = joined.stripes.at(&mut joined.pass);
-    step_ninth(rt, &mut joined.keeper, &mut steps, ahead, times)?;
-    Ok(joined.keeper.into_disk())
-}
-
-/// How many commands are found on the disk after a stop.
-fn found<R: Abort>(rt: &R, alloc: Global, disk: MemDisk, fill: &Fill) -> Result<u64, Refusal> {
-    let mut disk = disk;
-    disk.stop(fill)?;
-    match open_parts(alloc, disk, sixteen(rt)) {
-        Ok((_keeper, _parts, first, _)) => Ok(first),
-        Err((_disk, refusal)) => Err(refusal),
-    }
-}
-
-/// The same for each fill, after `times` device calls.
-fn found_by_fills<R: Abort + Wait>(rt: &R, alloc: Global, times: u32) -> Result<[u64; 5], Refusal> {
-    let fills = [
-        Fill::Old,
-        Fill::New,
-        Fill::Byte(0),
-        Fill::Byte(0xA5),
-        Fill::Byte(0xFF),
-    ];
+/// How many commands are found after `times` device calls and a stop, for each fill.
+fn found<R: Abort + Wait>(rt: &R, alloc: Global, times: u32) -> Result<[u64; 5], Refusal> {
     let mut counts = [0; 5];
-    for (count, fill) in counts.iter_mut().zip(fills.iter()) {
-        let disk = write_nine(rt, alloc, AHEAD, times)?;
-        *count = found(rt, alloc, disk, fill)?;
+    for (count, fill) in counts.iter_mut().zip(FILLS.iter()) {
+        let mut directory = write_nine(rt, alloc, AHEAD, times)?;
+        directory.stop(fill)?;
+        *count = directory.opened()?.commands;
     }
     Ok(counts)
 }
 
 #[test]
 fn stops_of_a_log_written_ahead(rt: HostRuntime) -> Result<(), Refusal> {
-    let alloc = rt.alloc();
     for (times, wanted) in FOUND {
-        assert_eq!(rt; found_by_fills(&rt, alloc, times)?, wanted, "{times}");
+        let counts = found(&rt, rt.alloc(), times)?;
+        assert_same(&rt, &(times, counts), &(times, wanted));
     }
     Ok(())
 }
 
 #[test]
 fn a_batch_does_not_lengthen_a_log_written_ahead(rt: HostRuntime) -> Result<(), Refusal> {
-    let alloc = rt.alloc();
     for (ahead, times, wanted) in [
         (0, 0, LENGTH),
         (AHEAD, 0, LENGTH + AHEAD),
         (AHEAD, 4, LENGTH + AHEAD),
     ] {
-        let mut disk = write_nine(&rt, alloc, ahead, times)?;
-        assert_eq!(rt; disk.len(2).unwrap_or(0), wanted, "{ahead} {times}");
+        let length = write_nine(&rt, rt.alloc(), ahead, times)?.lengths()[1];
+        assert_same(&rt, &(ahead, times, length), &(ahead, times, wanted));
     }
     Ok(())
 }

@@ -1,5 +1,7 @@
 //! A directory with a long log is opened by one thread, and by many.
 
+use crate::checks::assert_same;
+use crate::stores::count_of_stripes;
 use atomic_methods::Part;
 use disk_model::{Disk, MemDisk};
 use flusher::Keeper;
@@ -175,15 +177,11 @@ fn found_in(
 #[test]
 fn a_long_log_is_opened(rt: HostRuntime) -> Result<(), Refusal> {
     let alloc = rt.alloc();
-    let stripes = StripeCount::new(16).ok_or(Refusal::WrongPhase)?;
-    let wanted = (10_000, KEYS);
-    let by_one = open_parts(alloc, disk_of(alloc, stripes)?, stripes);
-    assert_eq!(rt; found_in(alloc, by_one, stripes)?, wanted, "by one thread");
-    let by_many = open_parts_with(&rt, alloc, disk_of(alloc, stripes)?, stripes);
-    assert_eq!(rt;
-        found_in(alloc, by_many, stripes)?,
-        wanted,
-        "by many threads"
-    );
+    let stripes = count_of_stripes(&rt, 16);
+    let opened = open_parts(alloc, disk_of(alloc, stripes)?, stripes);
+    let by_one = found_in(alloc, opened, stripes)?;
+    let opened = open_parts_with(&rt, alloc, disk_of(alloc, stripes)?, stripes);
+    let by_many = found_in(alloc, opened, stripes)?;
+    assert_same(&rt, &[by_one, by_many], &[(10_000, KEYS); 2]);
     Ok(())
 }
