@@ -1,6 +1,6 @@
 //! Random changes and reads.
 use crate::random::Random;
-use map_types::{Change, Command, Func, Key, Question, Read, Value};
+use map_types::{Change, Command, Func, Key, Question, Read, Refusal, Value};
 use std::alloc::{AllocError, Global};
 
 /// The keys, of which a list uses the first few. Some have one hash.
@@ -38,42 +38,45 @@ const FUNCS: [Func; 9] = [
     Func::SumExact,
 ];
 
-/// The bytes of a long text.
-const LONG: [u8; 2500] = [b'x'; 2500];
+/// How many bytes a long text has.
+const LONG_TEXT: usize = 2500;
 
-/// The bytes of a long key, which is too long for a log of version 01.
-const LONG_KEY: [u8; 300] = [b'k'; 300];
+/// How many bytes a long key has, which is too long for a log of version 01.
+const LONG_KEY: usize = 300;
 
 /// How many keys there are at most.
 pub(crate) const MOST_KEYS: usize = 12;
 
-/// One of the first `keys` keys, or now and then a long one.
-fn key(alloc: Global, random: &mut Random, keys: usize) -> Result<Key, AllocError> {
-    let text = if random.one_in(30) {
-        str::from_utf8(&LONG_KEY).unwrap_or("k")
-    } else {
-        KEYS.get(random.place(keys)).copied().unwrap_or("a")
-    };
-    match Key::new(alloc, text) {
-        Ok(key) => Ok(key),
+/// What was made of a text that isn't too long, unless memory ran out.
+pub(crate) fn made<T>(made: Result<T, Refusal>) -> Result<T, AllocError> {
+    match made {
+        Ok(made) => Ok(made),
         Err(_) => Err(AllocError),
     }
 }
 
+/// One of the first `keys` keys, or now and then a long one.
+fn key(alloc: Global, random: &mut Random, keys: usize) -> Result<Key, AllocError> {
+    if random.one_in(30) {
+        let text = "k".repeat(alloc, LONG_KEY)?;
+        return made(Key::new(alloc, text.as_str()));
+    }
+    let text = KEYS.get(random.place(keys)).copied().unwrap_or("a");
+    made(Key::new(alloc, text))
+}
+
 /// A number, a short text, or now and then a long one.
 fn value(alloc: Global, random: &mut Random) -> Result<Value, AllocError> {
-    let text = if random.one_in(100) {
-        str::from_utf8(&LONG).unwrap_or("x")
-    } else if random.one_in(3) {
-        TEXTS.get(random.place(6)).copied().unwrap_or("t")
-    } else {
-        let number = NUMBERS.get(random.place(10)).copied().unwrap_or(0);
-        return Ok(Value::Int(number));
-    };
-    match Value::text(alloc, text) {
-        Ok(value) => Ok(value),
-        Err(_) => Err(AllocError),
+    if random.one_in(100) {
+        let text = "x".repeat(alloc, LONG_TEXT)?;
+        return made(Value::text(alloc, text.as_str()));
     }
+    if random.one_in(3) {
+        let text = TEXTS.get(random.place(6)).copied().unwrap_or("t");
+        return made(Value::text(alloc, text));
+    }
+    let number = NUMBERS.get(random.place(10)).copied().unwrap_or(0);
+    Ok(Value::Int(number))
 }
 
 /// The argument of a function, which now and then has none.
@@ -89,40 +92,24 @@ fn func(random: &mut Random) -> Func {
     FUNCS.get(random.place(9)).copied().unwrap_or(Func::Keep)
 }
 
-/// A change by this method of one value.
-fn change_to_value(alloc: Global, random: &mut Random, method: u64) -> Result<Change, AllocError> {
-    let value = value(alloc, random)?;
-    Ok(match method {
-        0 | 1 => Change::Put(value),
-        2 => Change::PutIfAbsent(value),
-        4 => Change::RemoveIf(value),
-        _ => Change::Replace(value),
-    })
-}
-
-/// A change by this method of a function and its argument.
-fn change_by_func(alloc: Global, random: &mut Random, method: u64) -> Result<Change, AllocError> {
-    let func = func(random);
-    let argument = argument(alloc, random)?;
-    Ok(match method {
-        7 => Change::Compute(func, argument),
-        8 => Change::ComputeIfAbsent(func, argument),
-        _ => Change::ComputeIfPresent(func, argument),
-    })
-}
-
 /// A change by any method.
 fn change(alloc: Global, random: &mut Random) -> Result<Change, AllocError> {
     let method = random.below(11);
     match method {
+        0 | 1 => Ok(Change::Put(value(alloc, random)?)),
+        2 => Ok(Change::PutIfAbsent(value(alloc, random)?)),
         3 => Ok(Change::Remove),
-        6 => Ok(Change::ReplaceIf {
-            old: value(alloc, random)?,
-            new: value(alloc, random)?,
-        }),
-        7..=9 => change_by_func(alloc, random, method),
-        10 => Ok(Change::Merge(func(random), value(alloc, random)?)),
-        _ => change_to_value(alloc, random, method),
+        4 => Ok(Change::RemoveIf(value(alloc, random)?)),
+        5 => Ok(Change::Replace(value(alloc, random)?)),
+        6 => {
+            let old = value(alloc, random)?;
+            let new = value(alloc, random)?;
+            Ok(Change::ReplaceIf { old, new })
+        }
+        7 => Ok(Change::Compute(func(random), argument(alloc, random)?)),
+        8 => Ok(Change::ComputeIfAbsent(func(random), argument(alloc, random)?)),
+        9 => Ok(Change::ComputeIfPresent(func(random), argument(alloc, random)?)),
+        _ => Ok(Change::Merge(func(random), value(alloc, random)?)),
     }
 }
 
@@ -132,10 +119,9 @@ pub(crate) fn command(
     random: &mut Random,
     keys: usize,
 ) -> Result<Command, AllocError> {
-    Ok(Command {
-        key: key(alloc, random, keys)?,
-        change: change(alloc, random)?,
-    })
+    let key = key(alloc, random, keys)?;
+    let change = change(alloc, random)?;
+    Ok(Command { key, change })
 }
 
 /// A read of one of `keys` keys.

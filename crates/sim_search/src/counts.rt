@@ -1,60 +1,73 @@
 //! How often each kind of event, device call and outcome came.
-use crate::kinds::PlainCall;
-use crate::outcomes::{PlainEnd, PlainOutcome};
+use crate::outcomes::{CallEnd, PlainEnd, PlainOutcome};
 use map_types::Refusal;
 use sim_rules::{Ending, Event, Side};
 use std::fmt;
 use store_layout::CheckpointPhase;
 
-/// The names of the kinds of events.
-const EVENTS: [&str; 23] = [
-    "open",
-    "open with a failing call",
-    "change",
-    "read",
-    "step",
-    "release",
-    "sweep",
-    "keeper step",
-    "stage",
-    "log call",
-    "failing log call",
-    "checkpoint call",
-    "failing checkpoint call",
-    "publish",
-    "fail",
-    "begin",
-    "capture",
-    "seal",
-    "stop between calls",
-    "stop within a log call",
-    "stop within a checkpoint call",
-    "leave",
-    "old",
-];
+/// What is counted of a kind of events: how often it was made, and how often it wasn't skipped.
+const EVENT: [&str; 2] = ["events", "of them not skipped"];
 
-/// The names of the kinds of device calls, in the order of `CallKind`.
-const CALLS: [&str; 12] = [
-    "header of a log",
-    "frame",
-    "end frame",
-    "gate of a log",
-    "sync of a log",
-    "closing of a checkpoint's gate",
-    "zeros over a header",
-    "section",
-    "header of a checkpoint",
-    "gate of a checkpoint",
-    "sync of a checkpoint",
-    "unknown call",
-];
+/// What is counted of a kind of device calls, in the order of `Way`.
+const CALL: [&str; 3] = ["made", "failed", "stops within"];
 
-/// How often a kind of event was made, and how often it wasn't skipped.
-#[derive(Clone, Copy)]
-struct EventCount {
-    made: u64,
-    fitted: u64,
-}
+/// The lines of the kinds of device calls stand behind those of the kinds of events.
+const CALLS: usize = 23;
+
+/// The lines of the tallies stand behind those.
+const OPENINGS: usize = 35;
+
+const REPLIES: usize = 36;
+
+const CHECKPOINTS: usize = 37;
+
+const REFUSALS: usize = 38;
+
+/// The lines, each with what is counted there. Those of device calls are in the order of `CallKind`.
+const LINES: [(&str, &[&str]); 39] = [
+    ("open", &EVENT),
+    ("open with a failing call", &EVENT),
+    ("change", &EVENT),
+    ("read", &EVENT),
+    ("step", &EVENT),
+    ("release", &EVENT),
+    ("sweep", &EVENT),
+    ("keeper step", &EVENT),
+    ("stage", &EVENT),
+    ("log call", &EVENT),
+    ("failing log call", &EVENT),
+    ("checkpoint call", &EVENT),
+    ("failing checkpoint call", &EVENT),
+    ("publish", &EVENT),
+    ("fail", &EVENT),
+    ("begin", &EVENT),
+    ("capture", &EVENT),
+    ("seal", &EVENT),
+    ("stop between calls", &EVENT),
+    ("stop within a log call", &EVENT),
+    ("stop within a checkpoint call", &EVENT),
+    ("leave", &EVENT),
+    ("old", &EVENT),
+    ("header of a log", &CALL),
+    ("frame", &CALL),
+    ("end frame", &CALL),
+    ("gate of a log", &CALL),
+    ("sync of a log", &CALL),
+    ("closing of a checkpoint's gate", &CALL),
+    ("zeros over a header", &CALL),
+    ("section", &CALL),
+    ("header of a checkpoint", &CALL),
+    ("gate of a checkpoint", &CALL),
+    ("sync of a checkpoint", &CALL),
+    ("unknown call", &CALL),
+    ("openings", &["gave a map", "met their failing call"]),
+    ("replies", &["released", "not yet", "given up"]),
+    ("checkpoints", &["sealed"]),
+    (
+        "refusals",
+        &["busy", "failed", "wrong phase", "too early", "key too long"],
+    ),
+];
 
 /// How a device call ended.
 #[derive(Clone, Copy)]
@@ -65,49 +78,23 @@ enum Way {
     Stopped,
 }
 
-/// How often the device calls of a kind ended so.
+/// A place among the counts.
 #[derive(Clone, Copy)]
-struct CallCount {
-    done: u64,
-    failed: u64,
-    stopped: u64,
+struct Place {
+    line: usize,
+    column: usize,
 }
 
-/// All counts.
-#[derive(Drop)]
+/// All counts, a row for each line.
+#[derive(Clone, Copy)]
 pub(crate) struct Counts {
-    events: [EventCount; 23],
-    calls: [CallCount; 12],
-    opened: u64,
-    not_opened: u64,
-    replied: u64,
-    not_yet: u64,
-    given_up: u64,
-    busy: u64,
-    failed: u64,
-    wrong_phase: u64,
-    too_early: u64,
-    too_long: u64,
-    sealed: u64,
+    rows: [[u64; 5]; 39],
+    /// How many device calls failed or were stopped within.
+    pub cut_calls: u64,
 }
 
-/// No event of a kind was made.
-const NO_EVENT: EventCount = EventCount { made: 0, fitted: 0 };
-
-/// No device call of a kind was made.
-const NO_CALL: CallCount = CallCount {
-    done: 0,
-    failed: 0,
-    stopped: 0,
-};
-
-/// Counts one more.
-fn one_more(count: &mut u64) {
-    *count = count.saturating_add(1);
-}
-
-/// The place of the event's name.
-fn event_place(event: &Event) -> usize {
+/// The line of the event's kind.
+fn event_line(event: &Event) -> usize {
     match event {
         Event::Open { fails_at: None, .. } => 0,
         Event::Open { .. } => 1,
@@ -147,154 +134,123 @@ fn event_place(event: &Event) -> usize {
     }
 }
 
+/// How the device call ended.
+fn way_of(end: CallEnd) -> Way {
+    match end {
+        CallEnd::Logged(_) | CallEnd::Checkpointed(_) => Way::Done,
+        CallEnd::Failed => Way::Failed,
+        CallEnd::Stopped => Way::Stopped,
+    }
+}
+
+/// Where a refusal of an event, or at the end of a walk, is counted.
+fn refusal_place(refusal: Refusal) -> Option<Place> {
+    let column = match refusal {
+        Refusal::Busy { .. } => 0,
+        Refusal::Failed => 1,
+        Refusal::WrongPhase => 2,
+        Refusal::TooEarly => 3,
+        Refusal::KeyTooLong => 4,
+        _ => return None,
+    };
+    Some(Place {
+        line: REFUSALS,
+        column,
+    })
+}
+
+/// Where the end of a step is counted.
+fn end_place(end: PlainEnd) -> Option<Place> {
+    let column = match end {
+        PlainEnd::Replied(_) => 0,
+        PlainEnd::NotYet => 1,
+        PlainEnd::Failed => 2,
+        PlainEnd::Refused(refusal) => return refusal_place(refusal),
+        _ => return None,
+    };
+    Some(Place {
+        line: REPLIES,
+        column,
+    })
+}
+
+/// Where else an outcome is counted.
+fn outcome_place(found: PlainOutcome) -> Option<Place> {
+    let (line, column) = match found {
+        PlainOutcome::Refused(refusal) => return refusal_place(refusal),
+        PlainOutcome::Stepped { end, .. } => return end_place(end),
+        PlainOutcome::Opening { prefix: Ok(_), .. } => (OPENINGS, 0),
+        PlainOutcome::Opening { prefix: Err(_), .. } => (OPENINGS, 1),
+        PlainOutcome::Called {
+            end: CallEnd::Checkpointed(CheckpointPhase::Sealed),
+            ..
+        } => (CHECKPOINTS, 0),
+        _ => return None,
+    };
+    Some(Place { line, column })
+}
+
+/// Writes a line of counts, each with its words behind it.
+fn write_line<W: fmt::Write>(
+    f: &mut fmt::Formatter<W>,
+    name: &str,
+    words: &[&str],
+    counts: &[u64],
+) -> fmt::Result {
+    f.write_str(name)?;
+    let mut is_first = true;
+    for (words, count) in words.iter().zip(counts) {
+        let between = if is_first { ": " } else { ", " };
+        write!(f, "{between}{count} {words}")?;
+        is_first = false;
+    }
+    f.write_str("\n")
+}
+
 impl Counts {
     /// Nothing was counted.
     pub(crate) fn new() -> Counts {
         Counts {
-            events: [NO_EVENT; 23],
-            calls: [NO_CALL; 12],
-            opened: 0,
-            not_opened: 0,
-            replied: 0,
-            not_yet: 0,
-            given_up: 0,
-            busy: 0,
-            failed: 0,
-            wrong_phase: 0,
-            too_early: 0,
-            too_long: 0,
-            sealed: 0,
+            rows: [[0; 5]; 39],
+            cut_calls: 0,
         }
     }
 
-    /// Counts a device call of this kind.
-    fn note_call(&mut self, call: PlainCall, way: Way) {
-        if let Some(count) = self.calls.get_mut(call.kind as usize) {
-            match way {
-                Way::Done => one_more(&mut count.done),
-                Way::Failed => one_more(&mut count.failed),
-                Way::Stopped => one_more(&mut count.stopped),
+    /// Counts one more in this place.
+    fn add(&mut self, line: usize, column: usize) {
+        if let Some(row) = self.rows.get_mut(line) {
+            if let Some(count) = row.get_mut(column) {
+                *count = count.saturating_add(1);
             }
-        }
-    }
-
-    /// Counts a refusal of an event, or at the end of a walk.
-    fn note_refusal(&mut self, refusal: Refusal) {
-        match refusal {
-            Refusal::Busy { .. } => one_more(&mut self.busy),
-            Refusal::Failed => one_more(&mut self.failed),
-            Refusal::WrongPhase => one_more(&mut self.wrong_phase),
-            Refusal::TooEarly => one_more(&mut self.too_early),
-            Refusal::KeyTooLong => one_more(&mut self.too_long),
-            _ => {}
-        }
-    }
-
-    /// Counts what came of an event.
-    fn note_outcome(&mut self, found: PlainOutcome) {
-        match found {
-            PlainOutcome::Refused(refusal) => self.note_refusal(refusal),
-            PlainOutcome::Opened { .. } => one_more(&mut self.opened),
-            PlainOutcome::NotOpened { .. } => one_more(&mut self.not_opened),
-            PlainOutcome::Stepped { end, .. } => match end {
-                PlainEnd::Replied { .. } => one_more(&mut self.replied),
-                PlainEnd::NotYet => one_more(&mut self.not_yet),
-                PlainEnd::Failed => one_more(&mut self.given_up),
-                PlainEnd::Refused(refusal) => self.note_refusal(refusal),
-                _ => {}
-            },
-            PlainOutcome::Logged { call, .. } => self.note_call(call, Way::Done),
-            PlainOutcome::Checkpointed { call, phase } => {
-                self.note_call(call, Way::Done);
-                if phase == CheckpointPhase::Sealed {
-                    one_more(&mut self.sealed);
-                }
-            }
-            PlainOutcome::CallFailed(call) => self.note_call(call, Way::Failed),
-            PlainOutcome::Stopped(Some(call)) => self.note_call(call, Way::Stopped),
-            _ => {}
         }
     }
 
     /// Counts the event, and what came of it.
     pub(crate) fn note(&mut self, event: &Event, found: PlainOutcome) {
-        if let Some(count) = self.events.get_mut(event_place(event)) {
-            one_more(&mut count.made);
-            if !matches!(found, PlainOutcome::Skipped) {
-                one_more(&mut count.fitted);
+        let line = event_line(event);
+        self.add(line, 0);
+        if !matches!(found, PlainOutcome::Skipped) {
+            self.add(line, 1);
+        }
+        if let PlainOutcome::Called { call, end } = found {
+            let way = way_of(end);
+            self.add(CALLS.saturating_add(call.kind as usize), way as usize);
+            if !matches!(way, Way::Done) {
+                self.cut_calls = self.cut_calls.saturating_add(1);
             }
         }
-        self.note_outcome(found);
-    }
-
-    /// How many device calls failed or were stopped within.
-    pub(crate) fn cut_calls(&self) -> u64 {
-        let mut cut = 0u64;
-        for count in &self.calls {
-            cut = cut
-                .saturating_add(count.failed)
-                .saturating_add(count.stopped);
+        if let Some(place) = outcome_place(found) {
+            self.add(place.line, place.column);
         }
-        cut
-    }
-
-    /// Writes the counts of device calls.
-    fn write_calls<W: fmt::Write>(&self, f: &mut fmt::Formatter<W>) -> fmt::Result {
-        for (name, count) in CALLS.iter().zip(&self.calls) {
-            let CallCount {
-                done,
-                failed,
-                stopped,
-            } = *count;
-            writeln!(
-                f,
-                "{name}: {done} made, {failed} failed, {stopped} stops within"
-            )?;
-        }
-        Ok(())
-    }
-
-    /// Writes the counts of outcomes.
-    fn write_outcomes<W: fmt::Write>(&self, f: &mut fmt::Formatter<W>) -> fmt::Result {
-        let Counts {
-            opened,
-            not_opened,
-            replied,
-            not_yet,
-            given_up,
-            busy,
-            failed,
-            wrong_phase,
-            too_early,
-            too_long,
-            sealed,
-            ..
-        } = *self;
-        writeln!(
-            f,
-            "openings: {opened} gave a map, {not_opened} met their failing call"
-        )?;
-        writeln!(
-            f,
-            "replies: {replied} released, {not_yet} not yet, {given_up} given up"
-        )?;
-        writeln!(f, "checkpoints: {sealed} sealed")?;
-        write!(
-            f,
-            "refusals: {busy} busy, {failed} failed, {wrong_phase} wrong phase, "
-        )?;
-        writeln!(f, "{too_early} too early, {too_long} key too long")
     }
 }
 
 impl fmt::Display for Counts {
     /// Writes the counts, each kind in a line.
     fn fmt<W: fmt::Write>(&self, f: &mut fmt::Formatter<W>) -> fmt::Result {
-        for (name, count) in EVENTS.iter().zip(&self.events) {
-            let EventCount { made, fitted } = *count;
-            writeln!(f, "{name}: {made} events, {fitted} of them not skipped")?;
+        for (line, row) in LINES.iter().zip(&self.rows) {
+            write_line(f, line.0, line.1, row)?;
         }
-        self.write_calls(f)?;
-        self.write_outcomes(f)
+        Ok(())
     }
 }

@@ -73,25 +73,33 @@ fn try_run(
     Ok(None)
 }
 
+/// Tries the run, and prints what came of it. Gives the number of its cases, if none was wrong and each
+/// call was cut.
+fn play_run<R: AllocGlobal + Print>(rt: &R, run: FixedRun) -> io::Result<Option<u64>> {
+    let name = run.name;
+    let mut counts = Counts::new();
+    let mut calls = 0;
+    if let Some(wrong) = try_run(rt.alloc(), run, &mut calls, &mut counts)? {
+        println!(rt; "{name}, {wrong:?}")?;
+        return Ok(None);
+    }
+    let cases = counts.cut_calls;
+    println!(rt; "{name}: {calls} calls, {cases} cases")?;
+    if cases == calls.saturating_mul(CASES) as u64 {
+        return Ok(Some(cases));
+    }
+    println!(rt; "{name}: not each call was cut")?;
+    Ok(None)
+}
+
 /// Tries the runs up to the first wrong outcome, and prints what came of them; whether none was wrong.
 /// In each case one call is to be cut.
 pub(crate) fn try_runs<R: AllocGlobal + Print>(rt: &R) -> io::Result<bool> {
-    let alloc = rt.alloc();
     let mut all = 0u64;
     for run in RUNS {
-        let name = run.name;
-        let mut counts = Counts::new();
-        let mut calls = 0;
-        if let Some(wrong) = try_run(alloc, run, &mut calls, &mut counts)? {
-            println!(rt; "{name}, {wrong:?}")?;
+        let Some(cases) = play_run(rt, run)? else {
             return Ok(false);
-        }
-        let cases = counts.cut_calls();
-        println!(rt; "{name}: {calls} calls, {cases} cases")?;
-        if cases != calls.saturating_mul(CASES) as u64 {
-            println!(rt; "{name}: not each call was cut")?;
-            return Ok(false);
-        }
+        };
         all = all.saturating_add(cases);
     }
     println!(rt; "{all} cases, 0 wrong")?;

@@ -2,6 +2,7 @@
 use crate::gates::Gate;
 use crate::guesses::{Guess, KEY_LIMIT, OLD_KEY_LIMIT, checkpoint_file, log_file};
 use disk_model::Fill;
+use std::alloc::AllocError;
 use store_layout::CheckpointPhase;
 
 impl Guess {
@@ -36,15 +37,17 @@ impl Guess {
         next
     }
 
-    /// The files after a stop, if the two gates may be left so.
-    pub(crate) fn left(self, log_open: bool, other_open: bool, fill: &Fill) -> Option<Guess> {
-        if self.log_gate.may_be_left(log_open, fill)
-            && self.other_gate.may_be_left(other_open, fill)
-        {
-            Some(self.with_gates(log_open, other_open))
-        } else {
-            None
+    /// Adds each way in which a stop with this fill may leave the files, once.
+    pub(crate) fn push_left(self, fill: &Fill, guesses: &mut Vec<Guess>) -> Result<(), AllocError> {
+        for log_open in self.log_gate.left(fill) {
+            for other_open in self.other_gate.left(fill) {
+                let left = self.with_gates(*log_open, *other_open);
+                if !guesses.contains(&left) {
+                    guesses.push(left)?;
+                }
+            }
         }
+        Ok(())
     }
 
     /// The files after those with a number below this one were synced.

@@ -12,74 +12,95 @@ const RECORD: [u8; 13] = [0x10, 0, 1, b'a', 1, 0, 0, 0, 0, 0, 0, 0, 5];
 /// An open gate.
 const OPEN: u8 = 0xA5;
 
-/// The numbers, each in eight bytes.
-fn push_numbers(bytes: &mut Vec<u8>, numbers: &[u64]) -> Result<(), AllocError> {
-    for number in numbers {
-        bytes.extend_from_slice(&number.to_be_bytes())?;
+/// A part of what a store may read. Numbers have their highest byte first.
+#[derive(Clone, Copy)]
+enum Field {
+    Byte(u8),
+    Short(u16),
+    Word(u32),
+    Number(u64),
+}
+
+/// The fields in a row.
+fn push_fields(bytes: &mut Vec<u8>, fields: &[Field]) -> Result<(), AllocError> {
+    for field in fields {
+        match field {
+            Field::Byte(byte) => bytes.push(*byte)?,
+            Field::Short(number) => bytes.extend_from_slice(&number.to_be_bytes())?,
+            Field::Word(number) => bytes.extend_from_slice(&number.to_be_bytes())?,
+            Field::Number(number) => bytes.extend_from_slice(&number.to_be_bytes())?,
+        }
     }
     Ok(())
 }
 
-/// The record in a log of version 01, or else of version 02.
-fn record(is_old: bool) -> &'static [u8] {
-    if is_old { &OLD_RECORD } else { &RECORD }
-}
-
-/// A well-formed batch of `count` such records, with this first ticket.
-fn push_frame(
+/// A batch of `count` records with this first ticket, well-formed in version 01 or 02, and a gate.
+fn push_batch(
     bytes: &mut Vec<u8>,
-    record: &[u8],
+    is_old: bool,
     first: u64,
     count: u32,
+    gate: u8,
 ) -> Result<(), AllocError> {
+    let record: &[u8] = if is_old { &OLD_RECORD } else { &RECORD };
     let size = u32::try_from(record.len()).unwrap_or(0);
     let length = count.saturating_mul(size).saturating_add(12);
-    bytes.push(1)?;
-    bytes.extend_from_slice(&length.to_be_bytes())?;
-    push_numbers(bytes, &[first])?;
-    bytes.extend_from_slice(&count.to_be_bytes())?;
+    push_fields(
+        bytes,
+        &[
+            Field::Byte(1),
+            Field::Word(length),
+            Field::Number(first),
+            Field::Word(count),
+        ],
+    )?;
     for _record in 0..count {
         bytes.extend_from_slice(record)?;
     }
-    Ok(())
+    Ok(bytes.push(gate)?)
 }
 
 /// A batch with this first ticket, well-formed in one of the versions, and a gate behind it.
-fn push_batch(bytes: &mut Vec<u8>, random: &mut Random, first: u64) -> Result<(), AllocError> {
-    let count: u32 = if random.one_in(2) { 1 } else { 2 };
-    push_frame(bytes, record(random.one_in(2)), first, count)?;
-    bytes.push(if random.one_in(2) { OPEN } else { 0 })?;
-    Ok(())
+fn push_any_batch(bytes: &mut Vec<u8>, random: &mut Random, first: u64) -> Result<(), AllocError> {
+    let count = if random.one_in(2) { 1 } else { 2 };
+    let is_old = random.one_in(2);
+    let gate = if random.one_in(2) { OPEN } else { 0 };
+    push_batch(bytes, is_old, first, count, gate)
 }
 
 /// An end frame that names this generation, and a gate.
-fn push_end(bytes: &mut Vec<u8>, next: u64) -> Result<(), AllocError> {
-    bytes.extend_from_slice(&[2, 0, 0, 0, 8])?;
-    push_numbers(bytes, &[next])?;
-    bytes.push(OPEN)?;
-    Ok(())
+fn end_frame(next: u64) -> [Field; 4] {
+    [
+        Field::Byte(2),
+        Field::Word(8),
+        Field::Number(next),
+        Field::Byte(OPEN),
+    ]
 }
 
 /// The header of a log of this version, and a gate.
-fn push_log(bytes: &mut Vec<u8>, version: u8, generation: u64, low: u64) -> Result<(), AllocError> {
-    bytes.push(version)?;
-    push_numbers(bytes, &[generation, low])?;
-    bytes.push(OPEN)?;
-    Ok(())
+fn log_header(version: u8, generation: u64, low: u64) -> [Field; 4] {
+    [
+        Field::Byte(version),
+        Field::Number(generation),
+        Field::Number(low),
+        Field::Byte(OPEN),
+    ]
 }
 
 /// The gate and the header of a checkpoint of this version and of one stripe, and its empty section.
-fn push_checkpoint(
-    bytes: &mut Vec<u8>,
-    version: u8,
-    generation: u64,
-    mark: u64,
-) -> Result<(), AllocError> {
-    bytes.extend_from_slice(&[OPEN, version])?;
-    push_numbers(bytes, &[generation, mark, mark])?;
-    bytes.extend_from_slice(&[0, 1])?;
-    push_numbers(bytes, &[12, mark])?;
-    bytes.extend_from_slice(&[0; 4])
+fn checkpoint(version: u8, generation: u64, mark: u64) -> [Field; 9] {
+    [
+        Field::Byte(OPEN),
+        Field::Byte(version),
+        Field::Number(generation),
+        Field::Number(mark),
+        Field::Number(mark),
+        Field::Short(1),
+        Field::Number(12),
+        Field::Number(mark),
+        Field::Word(0),
+    ]
 }
 
 /// Up to 39 bytes of any kind.
@@ -96,12 +117,12 @@ fn push_piece(bytes: &mut Vec<u8>, random: &mut Random, tickets: u64) -> Result<
     let generation = random.below(6);
     let version = if random.one_in(2) { 1 } else { 2 };
     match random.below(7) {
-        0 => Ok(bytes.push(OPEN)?),
-        1 => Ok(bytes.push(0)?),
-        2 => push_batch(bytes, random, ticket),
-        3 => push_end(bytes, generation),
-        4 => push_log(bytes, version, generation, ticket),
-        5 => push_checkpoint(bytes, version, generation, ticket),
+        0 => push_fields(bytes, &[Field::Byte(OPEN)]),
+        1 => push_fields(bytes, &[Field::Byte(0)]),
+        2 => push_any_batch(bytes, random, ticket),
+        3 => push_fields(bytes, &end_frame(generation)),
+        4 => push_fields(bytes, &log_header(version, generation, ticket)),
+        5 => push_fields(bytes, &checkpoint(version, generation, ticket)),
         _ => push_noise(bytes, random),
     }
 }
@@ -116,19 +137,26 @@ fn length(random: &mut Random) -> usize {
     }
 }
 
+/// A length for each file.
+fn lengths(random: &mut Random) -> [usize; 4] {
+    [
+        length(random),
+        length(random),
+        length(random),
+        length(random),
+    ]
+}
+
 /// Chosen bytes, and a length for each file.
 fn chosen(alloc: Global, random: &mut Random, tickets: u64) -> Result<Fill, AllocError> {
     let mut bytes = Vec::new(alloc);
     for _piece in 0..random.below(5) {
         push_piece(&mut bytes, random, tickets)?;
     }
-    let lens = [
-        length(random),
-        length(random),
-        length(random),
-        length(random),
-    ];
-    Ok(Fill::Chosen { bytes, lens })
+    Ok(Fill::Chosen {
+        bytes,
+        lens: lengths(random),
+    })
 }
 
 /// A fill, when about `tickets` tickets were drawn.
@@ -156,8 +184,7 @@ pub(crate) fn spelled_batch(
     if has_gate {
         bytes.push(OPEN)?;
     }
-    push_frame(&mut bytes, record(is_old), first, 1)?;
-    bytes.push(OPEN)?;
+    push_batch(&mut bytes, is_old, first, 1, OPEN)?;
     Ok(Fill::Chosen {
         bytes,
         lens: [usize::MAX; 4],

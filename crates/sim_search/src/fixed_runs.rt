@@ -1,4 +1,5 @@
 //! Fixed runs, whose device calls can be cut.
+use crate::calls::made;
 use crate::fills::spelled_batch;
 use disk_model::Fill;
 use java_hash::StripeCount;
@@ -107,46 +108,14 @@ fn put(alloc: Global, letter: u8) -> Result<Command, AllocError> {
         b'b' => "b",
         _ => "c",
     };
-    match Key::new(alloc, name) {
-        Ok(key) => Ok(Command {
-            key,
-            change: Change::Put(Value::Int(1)),
-        }),
-        Err(_) => Err(AllocError),
-    }
+    Ok(Command {
+        key: made(Key::new(alloc, name))?,
+        change: Change::Put(Value::Int(1)),
+    })
 }
 
 impl Making {
-    fn push(&mut self, event: Event) -> Result<(), AllocError> {
-        self.events.push(event)?;
-        Ok(())
-    }
-
-    fn open(&mut self) -> Result<(), AllocError> {
-        self.push(Event::Open {
-            stripes: self.stripes,
-            fails_at: None,
-        })
-    }
-
-    fn change(&mut self, letter: u8) -> Result<(), AllocError> {
-        let worker = usize::from(letter.wrapping_sub(b'a'));
-        let command = put(self.alloc, letter)?;
-        self.changes = self.changes.saturating_add(1);
-        self.push(Event::Change { worker, command })?;
-        for _step in 0..PUT_STEPS {
-            self.push(Event::Step { worker })?;
-        }
-        Ok(())
-    }
-
-    fn walk(&mut self, steps: usize) -> Result<(), AllocError> {
-        for _step in 0..steps {
-            self.push(Event::KeeperStep)?;
-        }
-        Ok(())
-    }
-
+    /// The fill that leaves this.
     fn fill(&self, left: Left) -> Result<Fill, AllocError> {
         match left {
             Left::Old => Ok(Fill::Old),
@@ -157,63 +126,101 @@ impl Making {
         }
     }
 
-    fn stop(&mut self, within: Option<Side>, left: Left) -> Result<(), AllocError> {
-        let fill = self.fill(left)?;
-        self.push(Event::Stop { within, fill })
+    fn open(&self) -> Event {
+        Event::Open {
+            stripes: self.stripes,
+            fails_at: None,
+        }
     }
 
-    fn call(&mut self, side: Side, ending: Ending) -> Result<(), AllocError> {
-        self.push(Event::Device { side, ending })
-    }
-
-    fn make(&mut self, letter: u8) -> Result<(), AllocError> {
-        match letter {
-            b'v' => {
-                self.is_old = true;
-                self.push(Event::Old)
-            }
+    /// The move's first event, if it is a move.
+    fn event(&self, letter: u8) -> Result<Option<Event>, AllocError> {
+        Ok(Some(match letter {
+            b'v' => Event::Old,
             b'o' => self.open(),
-            b'a'..=b'c' => self.change(letter),
-            b'r' => {
-                self.push(Event::Release { worker: 0 })?;
-                self.push(Event::Step { worker: 0 })
-            }
-            b's' => {
-                self.swept = self.changes;
-                self.push(Event::Sweep)?;
-                self.walk(self.stripes.get().saturating_mul(2))
-            }
-            b'g' => self.push(Event::Stage { most: u32::MAX }),
-            b'l' => self.call(Side::Log, Ending::Done),
-            b'k' => self.call(Side::Checkpoint, Ending::Done),
-            b'p' => {
-                self.committed = self.swept;
-                self.push(Event::Publish)
-            }
-            b'n' => {
-                self.is_old = false;
-                self.push(Event::Begin)
-            }
-            b'0'..=b'3' => {
-                let stripe = usize::from(letter.wrapping_sub(b'0'));
-                self.push(Event::Capture { stripe })?;
-                self.walk(2)
-            }
-            b'e' => self.push(Event::Seal),
-            b'x' => self.stop(None, Left::Byte(OPEN)),
-            _ => Ok(()),
+            b'a'..=b'c' => Event::Change {
+                worker: usize::from(letter.wrapping_sub(b'a')),
+                command: put(self.alloc, letter)?,
+            },
+            b'r' => Event::Release { worker: 0 },
+            b's' => Event::Sweep,
+            b'g' => Event::Stage { most: u32::MAX },
+            b'l' => Event::Device {
+                side: Side::Log,
+                ending: Ending::Done,
+            },
+            b'k' => Event::Device {
+                side: Side::Checkpoint,
+                ending: Ending::Done,
+            },
+            b'p' => Event::Publish,
+            b'n' => Event::Begin,
+            b'0'..=b'3' => Event::Capture {
+                stripe: usize::from(letter.wrapping_sub(b'0')),
+            },
+            b'e' => Event::Seal,
+            b'x' => Event::Stop {
+                within: None,
+                fill: Fill::Byte(OPEN),
+            },
+            _ => return Ok(None),
+        }))
+    }
+
+    /// The steps that follow the move's first event.
+    fn steps(&self, letter: u8) -> usize {
+        match letter {
+            b'a'..=b'c' => PUT_STEPS,
+            b'r' => 1,
+            b's' => self.stripes.get().saturating_mul(2),
+            b'0'..=b'3' => 2,
+            _ => 0,
         }
     }
 
-    fn cut(&mut self, cut: Cut) -> Result<(), AllocError> {
-        match cut.way {
-            Way::StoppedWithin => self.stop(Some(cut.side), cut.left),
-            Way::FailedBeforeStop => {
-                let fill = self.fill(cut.left)?;
-                self.call(cut.side, Ending::Fails(fill))?;
-                self.stop(None, cut.left)
-            }
+    /// The move counts.
+    fn note(&mut self, letter: u8) {
+        match letter {
+            b'v' => self.is_old = true,
+            b'n' => self.is_old = false,
+            b'a'..=b'c' => self.changes = self.changes.saturating_add(1),
+            b's' => self.swept = self.changes,
+            b'p' => self.committed = self.swept,
+            _ => {}
         }
+    }
+
+    /// Makes the move.
+    fn make(&mut self, letter: u8) -> Result<(), AllocError> {
+        let Some(event) = self.event(letter)? else {
+            return Ok(());
+        };
+        self.events.push(event)?;
+        for _step in 0..self.steps(letter) {
+            self.events.push(match letter {
+                b'a'..=b'c' => Event::Step {
+                    worker: usize::from(letter.wrapping_sub(b'a')),
+                },
+                b'r' => Event::Step { worker: 0 },
+                _ => Event::KeeperStep,
+            })?;
+        }
+        self.note(letter);
+        Ok(())
+    }
+
+    /// Cuts the next device call of a side.
+    fn cut(&mut self, cut: Cut) -> Result<(), AllocError> {
+        let mut within = Some(cut.side);
+        if matches!(cut.way, Way::FailedBeforeStop) {
+            let ending = Ending::Fails(self.fill(cut.left)?);
+            let side = cut.side;
+            self.events.push(Event::Device { side, ending })?;
+            within = None;
+        }
+        let fill = self.fill(cut.left)?;
+        self.events.push(Event::Stop { within, fill })?;
+        Ok(())
     }
 }
 
@@ -237,6 +244,7 @@ pub(crate) fn events_of(
         making.make(*letter)?;
     }
     making.cut(cut)?;
-    making.open()?;
+    let opening = making.open();
+    making.events.push(opening)?;
     Ok(making.events)
 }

@@ -13,6 +13,11 @@ pub(crate) enum Gate {
     Pending { kept_open: bool, reads_open: bool },
 }
 
+/// This state alone.
+fn only(is_open: bool) -> &'static [bool] {
+    if is_open { &[true] } else { &[false] }
+}
+
 impl Gate {
     /// The gate whose byte is on the disk.
     pub(crate) fn at_rest(is_open: bool) -> Gate {
@@ -66,21 +71,21 @@ impl Gate {
         }
     }
 
-    /// Whether a stop with this fill may leave it open, or shut. Of chosen bytes it isn't looked which
-    /// of them is the gate's.
-    pub(crate) fn may_be_left(self, is_open: bool, fill: &Fill) -> bool {
+    /// How a stop with this fill may leave it: open, shut, or either. Of chosen bytes it isn't looked
+    /// which of them is the gate's.
+    pub(crate) fn left(self, fill: &Fill) -> &'static [bool] {
         let Gate::Pending {
             kept_open,
             reads_open,
         } = self
         else {
-            return self.reads_open() == is_open;
+            return only(self.reads_open());
         };
         match fill {
-            Fill::Old => kept_open == is_open,
-            Fill::New => reads_open == is_open,
-            Fill::Byte(byte) => (*byte == OPEN) == is_open,
-            Fill::Chosen { .. } => true,
+            Fill::Old => only(kept_open),
+            Fill::New => only(reads_open),
+            Fill::Byte(byte) => only(*byte == OPEN),
+            Fill::Chosen { .. } => &[false, true],
         }
     }
 }

@@ -2,7 +2,7 @@
 //! guess, and what comes of later events tells which is right.
 use crate::gates::Gate;
 use crate::kinds::{CallKind, PlainCall};
-use crate::outcomes::PlainOutcome;
+use crate::outcomes::{CallEnd, PlainOutcome};
 use disk_model::Fill;
 use map_types::Refusal;
 use sim_rules::{Ending, Side};
@@ -49,6 +49,8 @@ pub(crate) struct Guess {
 pub(crate) struct Step {
     pub wanted: PlainOutcome,
     pub guess: Guess,
+    /// They may also stand so.
+    pub other: Option<Guess>,
 }
 
 /// How many bytes a key may have in a log of version 01, and in one of version 02.
@@ -84,17 +86,11 @@ impl Guess {
         }
     }
 
-    /// The same, if its files are of version 01.
-    pub(crate) fn as_old(self) -> Guess {
-        let mut next = self;
-        next.is_old = true;
-        next
-    }
-
     pub(crate) fn answers(self, wanted: PlainOutcome) -> Step {
         Step {
             wanted,
             guess: self,
+            other: None,
         }
     }
 
@@ -226,8 +222,8 @@ impl Guess {
 
     fn log_done(self, call: PlainCall) -> Step {
         let next = self.log_called();
-        let phase = next.phase;
-        next.answers(PlainOutcome::Logged { call, phase })
+        let end = CallEnd::Logged(next.phase);
+        next.answers(PlainOutcome::Called { call, end })
     }
 
     fn checkpoint_done(self, call: PlainCall) -> Step {
@@ -236,7 +232,8 @@ impl Guess {
             Some(written) => written.phase,
             None => CheckpointPhase::Sealed,
         };
-        next.answers(PlainOutcome::Checkpointed { call, phase })
+        let end = CallEnd::Checkpointed(phase);
+        next.answers(PlainOutcome::Called { call, end })
     }
 
     /// A call of this kind failed with this fill.
@@ -251,9 +248,23 @@ impl Guess {
         next
     }
 
-    /// The machine stops within a call of this kind: a write counts as made, a sync as not made.
-    fn interrupted(self, kind: CallKind) -> Guess {
-        self.failed(kind, &Fill::New)
+    /// The call failed with this fill. If it was to close the gate of a checkpoint and leaves chosen
+    /// bytes, a file that had none may still have none.
+    fn call_failed(self, call: PlainCall, fill: &Fill) -> Step {
+        let guess = self.failed(call.kind, fill);
+        let other = match (call.kind, fill) {
+            (CallKind::GateClose, Fill::Chosen { .. }) => Some(Guess {
+                other_gate: guess.other_gate.written(true),
+                ..guess
+            }),
+            _ => None,
+        };
+        let end = CallEnd::Failed;
+        Step {
+            wanted: PlainOutcome::Called { call, end },
+            guess,
+            other,
+        }
     }
 
     /// A device call of this side, in a life without a failure.
@@ -264,36 +275,18 @@ impl Guess {
         match (side, ending) {
             (Side::Log, Ending::Done) => self.log_done(call),
             (Side::Checkpoint, Ending::Done) => self.checkpoint_done(call),
-            (_, Ending::Fails(fill)) => {
-                let next = self.failed(call.kind, fill);
-                next.answers(PlainOutcome::CallFailed(call))
-            }
+            (_, Ending::Fails(fill)) => self.call_failed(call, fill),
         }
     }
 
-    /// The same, if the write that is to close the gate of a checkpoint fails and leaves chosen
-    /// bytes. A file that had none may still have none.
-    pub(crate) fn device_leaving_none(self, side: Side, ending: &Ending) -> Option<Step> {
-        let call = self.due(side)?;
-        match ending {
-            Ending::Fails(Fill::Chosen { .. }) if call.kind == CallKind::GateClose => {
-                let mut next = self;
-                next.other_gate = self.other_gate.torn(true, &Fill::New);
-                Some(next.answers(PlainOutcome::CallFailed(call)))
-            }
-            _ => None,
-        }
-    }
-
-    /// A stop within the next call of this side.
+    /// A stop within the next call of this side: a write counts as made, a sync as not made.
     pub(crate) fn stop_within(self, side: Side) -> Step {
-        match self.due(side) {
-            Some(call) => {
-                let next = self.interrupted(call.kind);
-                next.answers(PlainOutcome::Stopped(Some(call)))
-            }
-            None => self.answers(PlainOutcome::Skipped),
-        }
+        let Some(call) = self.due(side) else {
+            return self.answers(PlainOutcome::Skipped);
+        };
+        let next = self.failed(call.kind, &Fill::New);
+        let end = CallEnd::Stopped;
+        next.answers(PlainOutcome::Called { call, end })
     }
 
     /// A worker begins a change whose key has `length` bytes.

@@ -39,7 +39,12 @@ impl Hands {
 
     /// A worker that is in the middle of a walk.
     pub(crate) fn walking(&self) -> Option<usize> {
-        self.hands.iter().position(|hand| hand.left > 0)
+        for (worker, hand) in self.hands.iter().enumerate() {
+            if hand.left > 0 {
+                return Some(worker);
+            }
+        }
+        None
     }
 
     /// What this worker is thought to do.

@@ -1,6 +1,6 @@
 //! The walks of the keeper: a sweep of all stripes, and the capture of one.
 use crate::life::Life;
-use crate::outcomes::{PlainEnd, PlainOutcome, stepped};
+use crate::outcomes::{KeeperEnd, PlainEnd, PlainOutcome, stepped};
 use crate::past::Past;
 use map_types::Refusal;
 use sim_rules::Made;
@@ -38,7 +38,10 @@ impl Life {
             return stepped(Made::Took(stripe), PlainEnd::Goes);
         }
         self.sweep = SweepWalk::Waits { count, stripe };
-        stepped(Made::FoundHeld(stripe), PlainEnd::SweepHeld(stripe))
+        stepped(
+            Made::FoundHeld(stripe),
+            PlainEnd::Keeper(KeeperEnd::SweepHeld(stripe)),
+        )
     }
 
     fn sweep_give(&mut self, past: &mut Past, count: u64, stripe: usize) -> PlainOutcome {
@@ -53,7 +56,10 @@ impl Life {
             return stepped(Made::Gave(stripe), PlainEnd::Goes);
         }
         self.sweep = SweepWalk::Rests;
-        stepped(Made::Gave(stripe), PlainEnd::Swept(count))
+        stepped(
+            Made::Gave(stripe),
+            PlainEnd::Keeper(KeeperEnd::Swept(count)),
+        )
     }
 
     /// A sweep is begun, or goes on, when `tickets` tickets were drawn.
@@ -98,7 +104,10 @@ impl Life {
             CaptureWalk::Gives { stripe, mark } => {
                 self.give(stripe);
                 self.capture = None;
-                stepped(Made::Gave(stripe), PlainEnd::Captured(mark))
+                stepped(
+                    Made::Gave(stripe),
+                    PlainEnd::Keeper(KeeperEnd::Captured(mark)),
+                )
             }
         }
     }

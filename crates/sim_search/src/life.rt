@@ -1,8 +1,8 @@
 //! A life: its stripes, its workers, and what its keeper has taken.
 use crate::keeper_walks::{CaptureWalk, SweepWalk};
-use crate::outcomes::{PlainEnd, PlainOutcome, stepped};
+use crate::outcomes::{Held, PlainEnd, PlainOutcome, stepped};
 use crate::past::Past;
-use crate::plain_values::{Call, PlainReply};
+use crate::plain_values::Call;
 use map_types::Refusal;
 use sim_rules::Made;
 use std::alloc::AllocError;
@@ -13,39 +13,29 @@ const WORKERS: usize = 64;
 /// How many stripes a life of a list has at most.
 const MOST_STRIPES: usize = 16;
 
-/// A reply that is held at its position.
-#[derive(Clone, Copy)]
-struct Held {
-    position: u64,
-    reply: PlainReply,
-}
-
-/// The step that comes next in a call.
-#[derive(Clone, Copy)]
-enum CallStep {
-    Take,
-    Alive,
-    Look,
-    Ticket,
-    Give(Held),
-    GiveBack,
-}
-
-/// The step that comes next in a release.
-#[derive(Clone, Copy)]
-enum ReleaseStep {
-    See,
-    Alive,
-    SeeAgain,
-}
-
-/// What a worker does.
+/// What a worker does: nothing, or the step that comes next in a call or in a release.
 #[derive(Clone, Copy)]
 enum Job {
     Idle,
-    Calling(Call, CallStep),
+    Take(Call),
+    Alive(Call),
+    Look(Call),
+    Ticket(Call),
+    Give { stripe: usize, held: Held },
+    GiveBack { stripe: usize },
     Holding(Held),
-    Releasing(Held, ReleaseStep),
+    See(Held),
+    SeeAlive(Held),
+    SeeAgain(Held),
+}
+
+/// A step of a worker: what it makes and leaves, what is to come next, and the position that it sees.
+#[derive(Clone, Copy)]
+struct WorkerStep {
+    made: Made,
+    end: PlainEnd,
+    next: Job,
+    seen: u64,
 }
 
 /// A worker, and the greatest position that it has seen.
@@ -100,12 +90,24 @@ pub(crate) fn stripe_of(text: &str, stripes: usize) -> usize {
     spread as usize % stripes
 }
 
-impl Worker {
-    /// The worker does this from now on, and has seen this position.
-    fn does(self, job: Job, position: u64) -> Worker {
-        Worker {
-            job,
-            seen: self.seen.max(position),
+impl WorkerStep {
+    /// The walk goes on.
+    fn goes(made: Made, next: Job, seen: u64) -> WorkerStep {
+        WorkerStep {
+            made,
+            end: PlainEnd::Goes,
+            next,
+            seen,
+        }
+    }
+
+    /// The walk is over.
+    fn ends(made: Made, end: PlainEnd, next: Job, seen: u64) -> WorkerStep {
+        WorkerStep {
+            made,
+            end,
+            next,
+            seen,
         }
     }
 }
@@ -133,6 +135,12 @@ impl Life {
         }
     }
 
+    /// FAIL.
+    pub(crate) fn fail(&mut self) -> PlainOutcome {
+        self.has_failed = true;
+        PlainOutcome::FailMade
+    }
+
     /// TAKE: whether the stripe was free.
     pub(crate) fn take(&mut self, stripe: usize) -> bool {
         let is_free = self.is_free(stripe);
@@ -157,44 +165,40 @@ impl Life {
         }
     }
 
-    /// The worker in this place is now this one.
-    fn set_worker(&mut self, place: usize, worker: Worker) {
-        if let Some(found) = self.workers.get_mut(place) {
-            *found = worker;
+    /// What the worker does, if there is one in this place.
+    fn job(&self, place: usize) -> Option<Job> {
+        Some(self.workers.get(place)?.job)
+    }
+
+    /// The worker in this place does this from now on, and has seen this position.
+    fn set_job(&mut self, place: usize, job: Job, seen: u64) {
+        if let Some(worker) = self.workers.get_mut(place) {
+            worker.job = job;
+            worker.seen = worker.seen.max(seen);
         }
     }
 
     /// Whether the worker may begin a call.
-    pub(crate) fn is_idle(&self, worker: usize) -> bool {
-        matches!(
-            self.workers.get(worker),
-            Some(Worker { job: Job::Idle, .. })
-        )
+    pub(crate) fn is_idle(&self, place: usize) -> bool {
+        matches!(self.job(place), Some(Job::Idle))
     }
 
     /// The worker begins a call.
-    pub(crate) fn start(&mut self, worker: usize, call: Call) -> PlainOutcome {
-        match self.workers.get_mut(worker) {
-            Some(found) if matches!(found.job, Job::Idle) => {
-                found.job = Job::Calling(call, CallStep::Take);
-                PlainOutcome::Started
-            }
-            _ => PlainOutcome::Skipped,
+    pub(crate) fn start(&mut self, place: usize, call: Call) -> PlainOutcome {
+        if !self.is_idle(place) {
+            return PlainOutcome::Skipped;
         }
+        self.set_job(place, Job::Take(call), 0);
+        PlainOutcome::Started
     }
 
     /// The worker begins to release its reply.
-    pub(crate) fn release(&mut self, worker: usize) -> PlainOutcome {
-        match self.workers.get_mut(worker) {
-            Some(found) => match found.job {
-                Job::Holding(held) => {
-                    found.job = Job::Releasing(held, ReleaseStep::See);
-                    PlainOutcome::Started
-                }
-                _ => PlainOutcome::Skipped,
-            },
-            None => PlainOutcome::Skipped,
-        }
+    pub(crate) fn release(&mut self, place: usize) -> PlainOutcome {
+        let Some(Job::Holding(held)) = self.job(place) else {
+            return PlainOutcome::Skipped;
+        };
+        self.set_job(place, Job::See(held), 0);
+        PlainOutcome::Started
     }
 
     /// The worker makes a step.
@@ -206,140 +210,104 @@ impl Life {
         let Some(worker) = self.workers.get(place).copied() else {
             return Ok(PlainOutcome::Skipped);
         };
-        let (worker, outcome) = match worker.job {
-            Job::Calling(call, step) => self.step_call(past, worker, call, step)?,
-            Job::Releasing(held, step) => self.step_release(worker, held, step),
+        let step = match worker.job {
             Job::Idle | Job::Holding(_) => return Ok(PlainOutcome::Skipped),
-        };
-        self.set_worker(place, worker);
-        Ok(outcome)
-    }
-
-    /// The next step of a call.
-    fn step_call(
-        &mut self,
-        past: &mut Past,
-        worker: Worker,
-        call: Call,
-        step: CallStep,
-    ) -> Result<(Worker, PlainOutcome), AllocError> {
-        let stripe = call.stripe;
-        match step {
-            CallStep::Take => Ok(self.step_take(past, worker, call)),
-            CallStep::Alive => self.step_alive(past, worker, call),
-            CallStep::Look => {
+            Job::Take(call) => self.step_take(past, call),
+            Job::Alive(call) => self.step_alive(past, worker.seen, call)?,
+            Job::Look(call) => {
                 let count = past.count();
-                let next = worker.does(Job::Calling(call, CallStep::Ticket), count);
-                Ok((next, stepped(Made::Looked(count), PlainEnd::Goes)))
+                WorkerStep::goes(Made::Looked(count), Job::Ticket(call), count)
             }
-            CallStep::Ticket => self.step_ticket(past, worker, call),
-            CallStep::Give(held) => {
+            Job::Ticket(call) => self.step_ticket(past, call)?,
+            Job::Give { stripe, held } => {
                 self.give(stripe);
-                let next = worker.does(Job::Holding(held), held.position);
                 let end = PlainEnd::Held(held.position);
-                Ok((next, stepped(Made::Gave(stripe), end)))
+                WorkerStep::ends(Made::Gave(stripe), end, Job::Holding(held), held.position)
             }
-            CallStep::GiveBack => {
+            Job::GiveBack { stripe } => {
                 self.give(stripe);
                 let end = PlainEnd::Refused(Refusal::Failed);
-                Ok((worker.does(Job::Idle, 0), stepped(Made::Gave(stripe), end)))
+                WorkerStep::ends(Made::Gave(stripe), end, Job::Idle, 0)
             }
-        }
+            Job::See(held) => self.step_see(held, true),
+            Job::SeeAlive(held) => self.step_see_alive(held),
+            Job::SeeAgain(held) => self.step_see(held, false),
+        };
+        self.set_job(place, step.next, step.seen);
+        Ok(stepped(step.made, step.end))
     }
 
     /// TAKE of a call.
-    fn step_take(&mut self, past: &Past, worker: Worker, call: Call) -> (Worker, PlainOutcome) {
+    fn step_take(&mut self, past: &Past, call: Call) -> WorkerStep {
         let stripe = call.stripe;
         if self.take(stripe) {
-            let next = Job::Calling(call, CallStep::Alive);
-            return (
-                worker.does(next, past.past_outbox(stripe)),
-                stepped(Made::Took(stripe), PlainEnd::Goes),
-            );
+            let seen = past.past_outbox(stripe);
+            return WorkerStep::goes(Made::Took(stripe), Job::Alive(call), seen);
         }
         let end = PlainEnd::Refused(Refusal::Busy { stripe });
-        (
-            worker.does(Job::Idle, 0),
-            stepped(Made::FoundHeld(stripe), end),
-        )
+        WorkerStep::ends(Made::FoundHeld(stripe), end, Job::Idle, 0)
     }
 
     /// ALIVE of a call: a change goes on with its LOOK, and a read with its GIVE. The reply of a read
     /// is that of the map now, as nobody else changes the stripe. Its position is the greater of what
     /// the worker has seen and of one past the last ticket of the stripe.
-    fn step_alive(
-        &self,
-        past: &mut Past,
-        worker: Worker,
-        call: Call,
-    ) -> Result<(Worker, PlainOutcome), AllocError> {
+    fn step_alive(&self, past: &mut Past, seen: u64, call: Call) -> Result<WorkerStep, AllocError> {
+        let stripe = call.stripe;
         let next = if self.has_failed {
-            CallStep::GiveBack
-        } else if call.asked.is_read() {
-            let last = match self.held.get(call.stripe) {
+            Job::GiveBack { stripe }
+        } else if call.method.is_read() {
+            let last = match self.held.get(stripe) {
                 Some(stripe) => stripe.last,
                 None => 0,
             };
-            CallStep::Give(Held {
-                position: worker.seen.max(last),
+            let held = Held {
+                position: seen.max(last),
                 reply: past.answer(call)?,
-            })
+            };
+            Job::Give { stripe, held }
         } else {
-            CallStep::Look
+            Job::Look(call)
         };
-        let outcome = stepped(Made::FoundAlive(!self.has_failed), PlainEnd::Goes);
-        Ok((worker.does(Job::Calling(call, next), 0), outcome))
+        Ok(WorkerStep::goes(Made::FoundAlive(!self.has_failed), next, 0))
     }
 
     /// TICKET: the change is made.
-    fn step_ticket(
-        &mut self,
-        past: &mut Past,
-        worker: Worker,
-        call: Call,
-    ) -> Result<(Worker, PlainOutcome), AllocError> {
+    fn step_ticket(&mut self, past: &mut Past, call: Call) -> Result<WorkerStep, AllocError> {
         let ticket = past.count();
         let reply = past.add(call)?;
         let position = past.count();
-        if let Some(stripe) = self.held.get_mut(call.stripe) {
+        let stripe = call.stripe;
+        if let Some(stripe) = self.held.get_mut(stripe) {
             stripe.last = position;
         }
-        let give = CallStep::Give(Held { position, reply });
-        let outcome = stepped(Made::Drew(ticket), PlainEnd::Goes);
-        Ok((worker.does(Job::Calling(call, give), position), outcome))
+        let held = Held { position, reply };
+        let next = Job::Give { stripe, held };
+        Ok(WorkerStep::goes(Made::Drew(ticket), next, position))
     }
 
-    /// The next step of a release.
-    fn step_release(
-        &self,
-        worker: Worker,
-        held: Held,
-        step: ReleaseStep,
-    ) -> (Worker, PlainOutcome) {
+    /// SEE of a release, the first or the second one.
+    fn step_see(&self, held: Held, is_first: bool) -> WorkerStep {
         let durable = self.durable;
         let saw = Made::Saw(durable);
-        let Held { position, reply } = held;
-        match step {
-            ReleaseStep::Alive if self.has_failed => (
-                worker.does(Job::Releasing(held, ReleaseStep::SeeAgain), 0),
-                stepped(Made::FoundAlive(false), PlainEnd::Goes),
-            ),
-            ReleaseStep::Alive => (
-                worker.does(Job::Holding(held), 0),
-                stepped(Made::FoundAlive(true), PlainEnd::NotYet),
-            ),
-            _ if position <= durable => (
-                worker.does(Job::Idle, durable),
-                stepped(saw, PlainEnd::Replied { position, reply }),
-            ),
-            ReleaseStep::See => (
-                worker.does(Job::Releasing(held, ReleaseStep::Alive), durable),
-                stepped(saw, PlainEnd::Goes),
-            ),
-            ReleaseStep::SeeAgain => (
-                worker.does(Job::Idle, durable),
-                stepped(saw, PlainEnd::Failed),
-            ),
+        if held.position <= durable {
+            return WorkerStep::ends(saw, PlainEnd::Replied(held), Job::Idle, durable);
         }
+        if is_first {
+            return WorkerStep::goes(saw, Job::SeeAlive(held), durable);
+        }
+        WorkerStep::ends(saw, PlainEnd::Failed, Job::Idle, durable)
+    }
+
+    /// ALIVE of a release.
+    fn step_see_alive(&self, held: Held) -> WorkerStep {
+        if self.has_failed {
+            return WorkerStep::goes(Made::FoundAlive(false), Job::SeeAgain(held), 0);
+        }
+        WorkerStep::ends(
+            Made::FoundAlive(true),
+            PlainEnd::NotYet,
+            Job::Holding(held),
+            0,
+        )
     }
 }

@@ -57,52 +57,43 @@ fn lists_of(seed: &str, lists: &str) -> Option<Task> {
     Some(Task::Lists(Search { seed, lists }))
 }
 
-/// Reads the words.
-fn task_of(rt: &HostRuntime) -> io::Result<Option<Task>> {
-    let mut words = env::args(rt)?.skip(1);
-    let (Some(first), second, None) = (words.next(), words.next(), words.next()) else {
-        return Ok(None);
-    };
-    match second {
-        Some(lists) => Ok(lists_of(first.as_str(), lists.as_str())),
-        None if first.as_str() == "calls" => Ok(Some(Task::Calls)),
-        None => Ok(None),
+/// Reads the words, of which the first is the program's name.
+fn task_of(words: &[String]) -> Option<Task> {
+    match words {
+        [_, word] if word.as_str() == "calls" => Some(Task::Calls),
+        [_, seed, lists] => lists_of(seed.as_str(), lists.as_str()),
+        _ => None,
     }
 }
 
 /// Plays the lists up to the first wrong outcome; whether there was none.
 fn play_lists<R: AllocGlobal + Print>(rt: &R, search: Search) -> io::Result<bool> {
-    let alloc = rt.alloc();
+    let Search { seed, lists } = search;
     let mut counts = Counts::new();
-    for list in 0..search.lists {
-        let wrong = search_list(alloc, search.seed, list, &mut counts)?;
-        if let Some(wrong) = wrong {
-            println!(rt; "seed {}, list {list}, {wrong:?}", search.seed)?;
+    for list in 0..lists {
+        if let Some(wrong) = search_list(rt.alloc(), seed, list, &mut counts)? {
+            println!(rt; "seed {seed}, list {list}, {wrong:?}")?;
             return Ok(false);
         }
     }
-    print!(rt; "{counts}")?;
-    println!(rt; "{} lists, 0 wrong", search.lists)?;
+    println!(rt; "{counts}{lists} lists, 0 wrong")?;
     Ok(true)
 }
 
-/// Does what is to be done; whether nothing was wrong.
-fn play<R: AllocGlobal + Print>(rt: &R, task: Task) -> io::Result<bool> {
-    match task {
-        Task::Calls => try_runs(rt),
-        Task::Lists(search) => Ok(play_lists(rt, search)? && try_runs(rt)?),
-    }
-}
-
 fn main(rt: HostRuntime) -> io::Result<ExitCode> {
-    let Some(task) = task_of(&rt)? else {
+    let words: Vec<String> = env::args(&rt)?.collect(rt.alloc())?;
+    let Some(task) = task_of(&words) else {
         eprintln!(rt; "sim_search SEED COUNT plays random lists, then the fixed runs")?;
         eprintln!(rt; "sim_search calls plays the fixed runs alone")?;
         return Ok(ExitCode::from(2));
     };
-    if play(&rt, task)? {
-        Ok(ExitCode::SUCCESS)
+    let is_right = match task {
+        Task::Calls => try_runs(&rt)?,
+        Task::Lists(search) => play_lists(&rt, search)? && try_runs(&rt)?,
+    };
+    Ok(if is_right {
+        ExitCode::SUCCESS
     } else {
-        Ok(ExitCode::FAILURE)
-    }
+        ExitCode::FAILURE
+    })
 }

@@ -2,22 +2,45 @@
 use crate::kinds::PlainCall;
 use crate::plain_values::{PlainReply, Texts};
 use map_types::Refusal;
-use sim_rules::{End, Made, Outcome};
+use sim_rules::{DeviceCall, End, Made, Outcome};
 use std::alloc::AllocError;
 use store_layout::{CheckpointPhase, Phase};
+
+/// What a step leaves of a walk of the keeper.
+#[derive(Clone, Copy, Debug, PartialEq, Eq)]
+pub(crate) enum KeeperEnd {
+    Swept(u64),
+    SweepHeld(usize),
+    Captured(u64),
+}
+
+/// A reply at its position.
+#[derive(Clone, Copy, Debug, PartialEq, Eq)]
+pub(crate) struct Held {
+    pub position: u64,
+    pub reply: PlainReply,
+}
 
 /// What a step leaves of its walk.
 #[derive(Clone, Copy, Debug, PartialEq, Eq)]
 pub(crate) enum PlainEnd {
     Goes,
     Held(u64),
-    Replied { position: u64, reply: PlainReply },
+    Replied(Held),
     NotYet,
     Failed,
-    Swept(u64),
-    SweepHeld(usize),
-    Captured(u64),
+    Keeper(KeeperEnd),
     Refused(Refusal),
+}
+
+/// How a device call ended; if it was made, with the phase after it.
+#[derive(Clone, Copy, Debug, PartialEq, Eq)]
+pub(crate) enum CallEnd {
+    Logged(Phase),
+    Checkpointed(CheckpointPhase),
+    Failed,
+    /// The machine stopped within it.
+    Stopped,
 }
 
 /// What came of an event.
@@ -26,13 +49,10 @@ pub(crate) enum PlainOutcome {
     Old,
     Skipped,
     Refused(Refusal),
-    Opened {
+    /// An opening, with the prefix that it found.
+    Opening {
         calls: u64,
-        prefix: u64,
-    },
-    NotOpened {
-        calls: u64,
-        refusal: Refusal,
+        prefix: Result<u64, Refusal>,
     },
     Started,
     Stepped {
@@ -40,20 +60,16 @@ pub(crate) enum PlainOutcome {
         end: PlainEnd,
     },
     Staged(u32),
-    Logged {
+    Called {
         call: PlainCall,
-        phase: Phase,
+        end: CallEnd,
     },
-    Checkpointed {
-        call: PlainCall,
-        phase: CheckpointPhase,
-    },
-    CallFailed(PlainCall),
     Published(u64),
     FailMade,
     Begun,
     Sealing,
-    Stopped(Option<PlainCall>),
+    /// The machine stopped between calls.
+    Stopped,
     Left,
 }
 
@@ -67,17 +83,25 @@ fn plain_end(texts: &mut Texts, end: &End) -> Result<PlainEnd, AllocError> {
     Ok(match end {
         End::Goes => PlainEnd::Goes,
         End::Held(position) => PlainEnd::Held(*position),
-        End::Replied { position, reply } => PlainEnd::Replied {
+        End::Replied { position, reply } => PlainEnd::Replied(Held {
             position: *position,
             reply: texts.reply(reply)?,
-        },
+        }),
         End::NotYet => PlainEnd::NotYet,
         End::Failed => PlainEnd::Failed,
-        End::Swept(count) => PlainEnd::Swept(*count),
-        End::SweepHeld(stripe) => PlainEnd::SweepHeld(*stripe),
-        End::Captured(mark) => PlainEnd::Captured(*mark),
+        End::Swept(count) => PlainEnd::Keeper(KeeperEnd::Swept(*count)),
+        End::SweepHeld(stripe) => PlainEnd::Keeper(KeeperEnd::SweepHeld(*stripe)),
+        End::Captured(mark) => PlainEnd::Keeper(KeeperEnd::Captured(*mark)),
         End::Refused(refusal) => PlainEnd::Refused(*refusal),
     })
+}
+
+/// A device call, and how it ended.
+fn called(call: &DeviceCall, end: CallEnd) -> PlainOutcome {
+    PlainOutcome::Called {
+        call: PlainCall::of(call),
+        end,
+    }
 }
 
 impl PlainOutcome {
@@ -87,34 +111,26 @@ impl PlainOutcome {
             Outcome::Old => PlainOutcome::Old,
             Outcome::Skipped => PlainOutcome::Skipped,
             Outcome::Refused(refusal) => PlainOutcome::Refused(*refusal),
-            Outcome::Opened { calls, prefix, .. } => PlainOutcome::Opened {
+            Outcome::Opened { calls, prefix, .. } => PlainOutcome::Opening {
                 calls: *calls,
-                prefix: *prefix,
+                prefix: Ok(*prefix),
             },
-            Outcome::NotOpened { calls, refusal } => PlainOutcome::NotOpened {
+            Outcome::NotOpened { calls, refusal } => PlainOutcome::Opening {
                 calls: *calls,
-                refusal: *refusal,
+                prefix: Err(*refusal),
             },
             Outcome::Started => PlainOutcome::Started,
             Outcome::Stepped { made, end } => stepped(*made, plain_end(texts, end)?),
             Outcome::Staged(count) => PlainOutcome::Staged(*count),
-            Outcome::Logged { call, phase } => PlainOutcome::Logged {
-                call: PlainCall::of(call),
-                phase: *phase,
-            },
-            Outcome::Checkpointed { call, phase } => PlainOutcome::Checkpointed {
-                call: PlainCall::of(call),
-                phase: *phase,
-            },
-            Outcome::CallFailed { call } => PlainOutcome::CallFailed(PlainCall::of(call)),
+            Outcome::Logged { call, phase } => called(call, CallEnd::Logged(*phase)),
+            Outcome::Checkpointed { call, phase } => called(call, CallEnd::Checkpointed(*phase)),
+            Outcome::CallFailed { call } => called(call, CallEnd::Failed),
             Outcome::Published(count) => PlainOutcome::Published(*count),
             Outcome::FailMade => PlainOutcome::FailMade,
             Outcome::Begun => PlainOutcome::Begun,
             Outcome::Sealing => PlainOutcome::Sealing,
-            Outcome::Stopped { within: Some(call) } => {
-                PlainOutcome::Stopped(Some(PlainCall::of(call)))
-            }
-            Outcome::Stopped { within: None } => PlainOutcome::Stopped(None),
+            Outcome::Stopped { within: Some(call) } => called(call, CallEnd::Stopped),
+            Outcome::Stopped { within: None } => PlainOutcome::Stopped,
             Outcome::Left => PlainOutcome::Left,
         })
     }

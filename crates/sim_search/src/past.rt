@@ -11,19 +11,25 @@ struct MadeChange {
     is_in_hand: bool,
 }
 
-/// An entry of the map.
-#[derive(Clone, Copy)]
-struct PlainEntry {
-    key: usize,
-    value: PlainValue,
-}
-
-/// The history, and the map after it, whose entries are in any order.
+/// The history, and the map after it.
 #[derive(Drop)]
 pub(crate) struct Past {
     pub texts: Texts,
     changes: Vec<MadeChange>,
-    entries: Vec<PlainEntry>,
+    /// The value of each key, in the place of the key's number.
+    values: Vec<Option<PlainValue>>,
+}
+
+/// Whether the keys rise in byte order.
+fn rises(entries: &[MapEntry]) -> bool {
+    for pair in entries.windows(2) {
+        if let [entry, next] = pair {
+            if entry.key.as_str().as_bytes() >= next.key.as_str().as_bytes() {
+                return false;
+            }
+        }
+    }
+    true
 }
 
 impl Past {
@@ -32,7 +38,7 @@ impl Past {
         Past {
             texts: Texts::new(alloc),
             changes: Vec::new(alloc),
-            entries: Vec::new(alloc),
+            values: Vec::new(alloc),
         }
     }
 
@@ -43,18 +49,35 @@ impl Past {
 
     /// The value of the key.
     fn value(&self, key: usize) -> Option<PlainValue> {
-        for entry in &self.entries {
-            if entry.key == key {
-                return Some(entry.value);
+        self.values.get(key).copied().flatten()
+    }
+
+    /// How many keys have a value.
+    fn entries(&self) -> usize {
+        let mut entries = 0usize;
+        for value in &self.values {
+            if value.is_some() {
+                entries = entries.saturating_add(1);
             }
         }
-        None
+        entries
+    }
+
+    /// The key has this value from now on.
+    fn set(&mut self, key: usize, value: Option<PlainValue>) -> Result<(), AllocError> {
+        if self.values.len() <= key {
+            self.values.resize(key.saturating_add(1), None)?;
+        }
+        if let Some(place) = self.values.get_mut(key) {
+            *place = value;
+        }
+        Ok(())
     }
 
     /// The reply of a read behind all changes.
     pub(crate) fn answer(&mut self, call: Call) -> Result<PlainReply, AllocError> {
         let old = self.value(call.key);
-        Ok(effect_of(&mut self.texts, old, call.asked)?.reply)
+        Ok(effect_of(&mut self.texts, old, call)?.reply)
     }
 
     /// The change is made behind all others, and has this reply.
@@ -69,19 +92,15 @@ impl Past {
     /// The map after the change, and its reply.
     fn make(&mut self, call: Call) -> Result<PlainReply, AllocError> {
         let old = self.value(call.key);
-        let effect = effect_of(&mut self.texts, old, call.asked)?;
-        let key = call.key;
-        self.entries.retain(|entry| entry.key != key);
-        if let Some(value) = effect.value {
-            self.entries.push(PlainEntry { key, value })?;
-        }
+        let effect = effect_of(&mut self.texts, old, call)?;
+        self.set(call.key, effect.value)?;
         Ok(effect.reply)
     }
 
     /// Only the first `count` changes are left, all of them in hand.
     pub(crate) fn cut(&mut self, count: u64) -> Result<(), AllocError> {
         self.changes.truncate(count as usize);
-        self.entries.clear();
+        self.values.clear();
         for place in 0..self.changes.len() {
             if let Some(change) = self.changes.get_mut(place) {
                 change.is_in_hand = true;
@@ -128,20 +147,13 @@ impl Past {
 
     /// Whether the map has exactly these entries, and their keys rise in byte order.
     pub(crate) fn has_exactly(&mut self, found: &[MapEntry]) -> Result<bool, AllocError> {
-        let mut before: Option<&str> = None;
         for entry in found {
-            let key = entry.key.as_str();
-            let rises = match before {
-                Some(before) => before.as_bytes() < key.as_bytes(),
-                None => true,
-            };
-            let number = self.texts.number(key)?;
+            let number = self.texts.number(entry.key.as_str())?;
             let value = self.texts.value(&entry.value)?;
-            if !rises || self.value(number) != Some(value) {
+            if self.value(number) != Some(value) {
                 return Ok(false);
             }
-            before = Some(key);
         }
-        Ok(found.len() == self.entries.len())
+        Ok(found.len() == self.entries() && rises(found))
     }
 }

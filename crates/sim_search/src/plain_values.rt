@@ -23,19 +23,20 @@ pub(crate) enum PlainReply {
 
 /// What is asked of a key, by a change or by a read.
 #[derive(Clone, Copy)]
-pub(crate) enum Asked {
-    Put(PlainValue),
-    PutIfAbsent(PlainValue),
+pub(crate) enum Method {
+    Put,
+    PutIfAbsent,
     Remove,
-    RemoveIf(PlainValue),
-    Replace(PlainValue),
-    ReplaceIf { old: PlainValue, new: PlainValue },
-    Compute(Func, Option<PlainValue>),
-    ComputeIfAbsent(Func, Option<PlainValue>),
-    ComputeIfPresent(Func, Option<PlainValue>),
-    Merge(Func, PlainValue),
+    RemoveIf,
+    Replace,
+    /// A replacement of this value.
+    ReplaceIf(PlainValue),
+    Compute(Func),
+    ComputeIfAbsent(Func),
+    ComputeIfPresent(Func),
+    Merge(Func),
     Get,
-    GetOrDefault(PlainValue),
+    GetOrDefault,
     ContainsKey,
 }
 
@@ -44,16 +45,43 @@ pub(crate) enum Asked {
 pub(crate) struct Call {
     pub stripe: usize,
     pub key: usize,
-    pub asked: Asked,
+    pub method: Method,
+    /// The new value, the default or the argument, if there is one; or the value that is to be removed.
+    pub value: Option<PlainValue>,
 }
 
-impl Asked {
+impl Method {
     /// Whether it is asked by a read.
     pub(crate) fn is_read(self) -> bool {
         matches!(
             self,
-            Asked::Get | Asked::GetOrDefault(_) | Asked::ContainsKey
+            Method::Get | Method::GetOrDefault | Method::ContainsKey
         )
+    }
+}
+
+/// The value that comes with the change, besides the one that is to be replaced.
+pub(crate) fn value_of_change(change: &Change) -> Option<&Value> {
+    match change {
+        Change::Remove => None,
+        Change::Put(value)
+        | Change::PutIfAbsent(value)
+        | Change::RemoveIf(value)
+        | Change::Replace(value)
+        | Change::ReplaceIf { new: value, .. }
+        | Change::Merge(_, value) => Some(value),
+        Change::Compute(_, value)
+        | Change::ComputeIfAbsent(_, value)
+        | Change::ComputeIfPresent(_, value) => value.as_ref(),
+    }
+}
+
+/// What the question asks, and the value that comes with it.
+pub(crate) fn method_of_question(question: &Question) -> (Method, Option<&Value>) {
+    match question {
+        Question::Get => (Method::Get, None),
+        Question::GetOrDefault(value) => (Method::GetOrDefault, Some(value)),
+        Question::ContainsKey => (Method::ContainsKey, None),
     }
 }
 
@@ -75,12 +103,13 @@ impl Texts {
 
     /// The number of the text.
     pub(crate) fn number(&mut self, text: &str) -> Result<usize, AllocError> {
-        let known = self.texts.iter().position(|known| known.as_str() == text);
-        if let Some(number) = known {
-            return Ok(number);
+        for (number, known) in self.texts.iter().enumerate() {
+            if known.as_str() == text {
+                return Ok(number);
+            }
         }
         let number = self.texts.len();
-        self.texts.push(format!(in self.alloc; "{text}")?)?;
+        self.texts.push(String::from_str(self.alloc, text)?)?;
         Ok(number)
     }
 
@@ -94,7 +123,8 @@ impl Texts {
 
     /// The number of both texts in a row, unless that has too many bytes.
     pub(crate) fn joined(&mut self, old: usize, tail: usize) -> Result<Option<usize>, AllocError> {
-        let both = format!(in self.alloc; "{}{}", self.text(old), self.text(tail))?;
+        let mut both = String::from_str(self.alloc, self.text(old))?;
+        both.push_str(self.text(tail))?;
         if both.len() > LONGEST_TEXT {
             return Ok(None);
         }
@@ -110,50 +140,37 @@ impl Texts {
     }
 
     /// The same of a value that may be absent.
-    fn optional(&mut self, value: &Option<Value>) -> Result<Option<PlainValue>, AllocError> {
+    pub(crate) fn optional(
+        &mut self,
+        value: Option<&Value>,
+    ) -> Result<Option<PlainValue>, AllocError> {
         match value {
             Some(value) => Ok(Some(self.value(value)?)),
             None => Ok(None),
         }
     }
 
-    /// The change as plain data.
-    pub(crate) fn change(&mut self, change: &Change) -> Result<Asked, AllocError> {
+    /// What the change asks.
+    pub(crate) fn method_of_change(&mut self, change: &Change) -> Result<Method, AllocError> {
         Ok(match change {
-            Change::Put(value) => Asked::Put(self.value(value)?),
-            Change::PutIfAbsent(value) => Asked::PutIfAbsent(self.value(value)?),
-            Change::Remove => Asked::Remove,
-            Change::RemoveIf(value) => Asked::RemoveIf(self.value(value)?),
-            Change::Replace(value) => Asked::Replace(self.value(value)?),
-            Change::ReplaceIf { old, new } => Asked::ReplaceIf {
-                old: self.value(old)?,
-                new: self.value(new)?,
-            },
-            Change::Compute(func, value) => Asked::Compute(*func, self.optional(value)?),
-            Change::ComputeIfAbsent(func, value) => {
-                Asked::ComputeIfAbsent(*func, self.optional(value)?)
-            }
-            Change::ComputeIfPresent(func, value) => {
-                Asked::ComputeIfPresent(*func, self.optional(value)?)
-            }
-            Change::Merge(func, value) => Asked::Merge(*func, self.value(value)?),
-        })
-    }
-
-    /// The question as plain data.
-    pub(crate) fn question(&mut self, question: &Question) -> Result<Asked, AllocError> {
-        Ok(match question {
-            Question::Get => Asked::Get,
-            Question::GetOrDefault(value) => Asked::GetOrDefault(self.value(value)?),
-            Question::ContainsKey => Asked::ContainsKey,
+            Change::Put(_) => Method::Put,
+            Change::PutIfAbsent(_) => Method::PutIfAbsent,
+            Change::Remove => Method::Remove,
+            Change::RemoveIf(_) => Method::RemoveIf,
+            Change::Replace(_) => Method::Replace,
+            Change::ReplaceIf { old, .. } => Method::ReplaceIf(self.value(old)?),
+            Change::Compute(func, _) => Method::Compute(*func),
+            Change::ComputeIfAbsent(func, _) => Method::ComputeIfAbsent(*func),
+            Change::ComputeIfPresent(func, _) => Method::ComputeIfPresent(*func),
+            Change::Merge(func, _) => Method::Merge(*func),
         })
     }
 
     /// The reply as plain data.
     pub(crate) fn reply(&mut self, reply: &Reply) -> Result<PlainReply, AllocError> {
         Ok(match reply {
-            Reply::Was(value) => PlainReply::Was(self.optional(value)?),
-            Reply::Now(value) => PlainReply::Now(self.optional(value)?),
+            Reply::Was(value) => PlainReply::Was(self.optional(value.as_ref())?),
+            Reply::Now(value) => PlainReply::Now(self.optional(value.as_ref())?),
             Reply::Did(is_done) => PlainReply::Did(*is_done),
             Reply::Fault(fault) => PlainReply::Fault(*fault),
         })

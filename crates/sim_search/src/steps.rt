@@ -1,54 +1,73 @@
-//! What an event comes to that depends on the files, and what a stop leaves, for one guess of how
-//! they stand.
+//! The events about whose outcome the files decide.
 use crate::guesses::{Guess, Step};
-use crate::life::Life;
 use crate::outcomes::PlainOutcome;
-use crate::past::Past;
+use crate::plain_values::Call;
 use disk_model::Fill;
 use map_types::Refusal;
-use sim_rules::Event;
-use std::alloc::AllocError;
+use sim_rules::{Ending, Side};
 
-/// What is wanted of an event of a life in which no device call has failed.
-pub(crate) fn step_of(guess: Guess, life: &Life, past: &Past, event: &Event) -> Step {
-    match event {
-        Event::Change { command, .. } => guess.change(command.key.as_str().len()),
-        Event::Stage { most } => guess.stage(past.run_from(guess.committed, *most)),
-        Event::Device { side, ending } => guess.device(*side, ending),
-        Event::Stop {
-            within: Some(side),
-            ..
-        } => guess.stop_within(*side),
-        Event::Begin => guess.begin(),
-        Event::Seal => guess.seal(life.stripes, life.durable),
-        Event::Capture { stripe } if guess.is_next(*stripe, life.stripes) => {
-            guess.answers(life.capture_finds(*stripe))
-        }
-        Event::Capture { .. } => guess.answers(PlainOutcome::Refused(Refusal::WrongPhase)),
-        _ => guess.answers(PlainOutcome::Skipped),
-    }
+/// An event of a life in which no device call has failed.
+#[derive(Clone, Copy)]
+pub(crate) enum FileEvent<'a> {
+    /// An idle worker begins a change, whose key has so many bytes.
+    Change {
+        worker: usize,
+        length: usize,
+        call: Call,
+    },
+    /// A batch is to be staged, and the changes in hand allow a run of this length.
+    Stage {
+        run: u32,
+    },
+    Device {
+        side: Side,
+        ending: &'a Ending,
+    },
+    /// A stop within a device call.
+    Stop {
+        side: Side,
+        fill: &'a Fill,
+    },
+    Begin,
+    Seal {
+        stripes: usize,
+        durable: u64,
+    },
+    /// A capture, whose first step comes to this if the files allow it.
+    Capture {
+        stripe: usize,
+        stripes: usize,
+        first_step: PlainOutcome,
+    },
+    Unfit,
 }
 
-/// Another way in which a device call may fail.
-pub(crate) fn other_step(guess: Guess, event: &Event) -> Option<Step> {
-    match event {
-        Event::Device { side, ending } => guess.device_leaving_none(*side, ending),
-        _ => None,
-    }
+/// What decides about the outcome of an event.
+#[derive(Clone, Copy)]
+pub(crate) enum Rule<'a> {
+    /// This outcome is wanted, however the files stand.
+    Wants(PlainOutcome),
+    /// The files decide.
+    Files(FileEvent<'a>),
 }
 
-/// Adds what a stop with this fill may leave of the files.
-pub(crate) fn add_left(
-    guesses: &mut Vec<Guess>,
-    guess: Guess,
-    fill: &Fill,
-) -> Result<(), AllocError> {
-    for (log_open, other_open) in [(false, false), (false, true), (true, false), (true, true)] {
-        if let Some(left) = guess.left(log_open, other_open, fill) {
-            if !guesses.contains(&left) {
-                guesses.push(left)?;
-            }
+impl Guess {
+    /// What is wanted of the event if the files stand so.
+    pub(crate) fn step(self, event: FileEvent<'_>) -> Step {
+        match event {
+            FileEvent::Change { length, .. } => self.change(length),
+            FileEvent::Stage { run } => self.stage(run),
+            FileEvent::Device { side, ending } => self.device(side, ending),
+            FileEvent::Stop { side, .. } => self.stop_within(side),
+            FileEvent::Begin => self.begin(),
+            FileEvent::Seal { stripes, durable } => self.seal(stripes, durable),
+            FileEvent::Capture {
+                stripe,
+                stripes,
+                first_step,
+            } if self.is_next(stripe, stripes) => self.answers(first_step),
+            FileEvent::Capture { .. } => self.answers(PlainOutcome::Refused(Refusal::WrongPhase)),
+            FileEvent::Unfit => self.answers(PlainOutcome::Skipped),
         }
     }
-    Ok(())
 }
