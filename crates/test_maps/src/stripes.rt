@@ -1,16 +1,16 @@
 //! Several passes on the same stripes.
-ghost use Rattle.std.specs.Prelude.{◌≡◌, ◌<◌, None};
-ghost use Rattle.stripe_locks.specs.Passes.{recorded, stripe_count, IsPassOf};
+ghost use Rattle.std.specs.Prelude.{◌≡◌};
 
+use crate::callers::{Caller, Tried};
 use crate::checks::assert_same;
 use java_hash::StripeCount;
-use map_types::{Change, Command, Key, Question, Read, Refusal, Reply, Value};
+use map_types::{Key, Refusal};
 use one_history::empty_parts;
 use std::alloc::Global;
 use std::process::Abort;
 use std::sync::Wait;
-use stripe_locks::{Held, Pass, Released, Stripes};
-use ticket_order::{Position, Steps};
+use stripe_locks::Stripes;
+use ticket_order::Position;
 
 pub(crate) fn sixteen<R: Abort>(rt: &R) -> StripeCount
     ensures { result.count ≡ 16 }
@@ -18,92 +18,25 @@ pub(crate) fn sixteen<R: Abort>(rt: &R) -> StripeCount
     StripeCount::new(16).expect(rt, "16 is a count of stripes")
 }
 
-pub(crate) fn put(alloc: Global, key: &str, number: i64) -> Result<Command, Refusal> {
-    Ok(Command {
-        key: Key::new(alloc, key)?,
-        change: Change::Put(Value::Int(number)),
-    })
-}
-
-pub(crate) fn get(alloc: Global, key: &str) -> Result<Read, Refusal> {
-    Ok(Read {
-        key: Key::new(alloc, key)?,
-        question: Question::Get,
-    })
-}
-
 /// Stripes of an empty map.
-pub(crate) fn sixteen_stripes<R: Abort>(rt: &R, alloc: Global) -> Stripes
-    ensures { stripe_count result ≡ 16 }
-{
+pub(crate) fn sixteen_stripes<R: Abort>(rt: &R, alloc: Global) -> Stripes {
     Stripes::empty(alloc, sixteen(rt)).expect(rt, "16 stripes")
 }
 
-/// What came of a call that was tried: its reply is given up.
-pub(crate) type Tried = Result<(), Refusal>;
-
-pub(crate) fn outcome_of(answer: Result<Held, Refusal>) -> Tried {
-    answer?.give_up();
-    Ok(())
-}
-
-/// What comes of a change of this key.
-pub(crate) fn try_put(stripes: &Stripes, pass: &mut Pass, alloc: Global, key: &str) -> Tried
-    requires own { IsPassOf stripes.now pass.old }
-    requires empty_handed { (recorded pass.old).holding ≡ None }
-    ensures own { IsPassOf stripes.now pass.new }
-    ensures empty_handed { (recorded pass.new).holding ≡ None }
-{
-    let command = put(alloc, key, 1)?;
-    outcome_of(stripes.try_call(pass, command))
-}
-
-/// What comes of a read of this key.
-pub(crate) fn try_get(stripes: &Stripes, pass: &mut Pass, alloc: Global, key: &str) -> Tried
-    requires own { IsPassOf stripes.now pass.old }
-    requires empty_handed { (recorded pass.old).holding ≡ None }
-    ensures own { IsPassOf stripes.now pass.new }
-    ensures empty_handed { (recorded pass.new).holding ≡ None }
-{
-    let read = get(alloc, key)?;
-    outcome_of(stripes.try_read(pass, read))
-}
-
-/// Takes a stripe, and keeps it.
-pub(crate) fn hold(stripes: &Stripes, pass: &mut Pass, stripe: usize) -> bool
-    requires own { IsPassOf stripes.now pass.old }
-    requires empty_handed { (recorded pass.old).holding ≡ None }
-    requires within { stripe < stripe_count stripes.now }
-{
-    stripes.at(pass).take(stripe).is_some()
-}
-
-/// What comes of calls of two keys of stripe 0, and of a key of another.
-fn try_four(stripes: &Stripes, pass: &mut Pass, alloc: Global) -> [Tried; 4]
-    requires own { IsPassOf stripes.now pass.old }
-    requires empty_handed { (recorded pass.old).holding ≡ None }
-{
-    [
-        try_put(stripes, pass, alloc, "BB"),
-        try_get(stripes, pass, alloc, "Aa"),
-        try_put(stripes, pass, alloc, "a"),
-        try_get(stripes, pass, alloc, "a"),
-    ]
-}
-
-/// Whether the first of two passes alone is the keeper and gets stripe 0, and what comes of the
-/// other's calls meanwhile.
-fn try_beside_holder(stripes: &Stripes, alloc: Global) -> Result<(bool, [Tried; 4]), Refusal>
-    requires { 0 < stripe_count stripes.now }
-{
-    let mut holder = stripes.pass()?;
-    let mut caller = stripes.pass()?;
+/// Whether the first of two passes alone is the keeper and gets stripe 0. What comes of the other's
+/// calls meanwhile: of two keys of stripe 0, and of a key of another.
+fn try_beside_holder(stripes: &Stripes, alloc: Global) -> Result<(bool, [Tried; 4]), Refusal> {
+    let holder = Caller::new(stripes, alloc)?;
+    let mut caller = Caller::new(stripes, alloc)?;
     let is_keeper_alone = holder.is_keeper() && !caller.is_keeper();
-    let is_held = hold(stripes, &mut holder, 0);
-    let tried = try_four(stripes, &mut caller, alloc);
-    drop(holder);
-    drop(caller);
-    Ok((is_keeper_alone && is_held, tried))
+    let held = holder.hold(0);
+    let tried = [
+        caller.try_put("BB"),
+        caller.try_get("Aa"),
+        caller.try_put("a"),
+        caller.try_get("a"),
+    ];
+    Ok((is_keeper_alone && held.is_some(), tried))
 }
 
 #[test]
@@ -116,28 +49,22 @@ fn a_held_stripe_is_busy_and_others_are_not(rt: HostRuntime) {
 }
 
 /// Whether the one pass learns of a position once the other has made its change, and not before.
-fn learns(stripes: &Stripes, one: &mut Pass, two: &mut Pass, alloc: Global) -> bool
-    requires own { IsPassOf stripes.now one.old }
-    requires empty_handed { (recorded one.old).holding ≡ None }
-    requires other { IsPassOf stripes.now two.old }
-    ensures other { IsPassOf stripes.now two.new }
-{
-    let count = stripes.look(one);
-    let before = stripes.learn(two, Position::new(1));
-    let tried = try_put(stripes, one, alloc, "a");
-    let after = stripes.learn(two, Position::new(1));
+fn learns(one: &mut Caller<'_>, two: &mut Caller<'_>) -> bool {
+    let count = one.look();
+    let before = two.learn(Position::new(1));
+    let tried = one.try_put("a");
+    let after = two.learn(Position::new(1));
     count == 0 && !before && tried.is_ok() && after
 }
 
 /// Whether the second of two passes learns of the first's change, and how many changes it counts.
 fn learn_of_change(stripes: &Stripes, alloc: Global) -> Result<(bool, u64), Refusal> {
-    let mut one = stripes.pass()?;
-    let mut two = stripes.pass()?;
-    let is_learned = learns(stripes, &mut one, &mut two, alloc);
+    let mut one = Caller::new(stripes, alloc)?;
+    let mut two = Caller::new(stripes, alloc)?;
+    let is_learned = learns(&mut one, &mut two);
     drop(one);
-    let count = stripes.look(&mut two);
-    stripes.stands_in_one_history(&mut two);
-    stripes.have_seen_one_history(two, stripes.pass()?);
+    let count = two.look();
+    two.meets_next()?;
     Ok((is_learned, count))
 }
 
@@ -160,47 +87,6 @@ fn empty_after(
     Stripes::new(alloc, count, parts, first, limit)
 }
 
-fn is_absent_at(released: &Released, number: u64) -> bool {
-    match released {
-        Released::Reply(position, Reply::Now(None)) => position.number() == number,
-        _ => false,
-    }
-}
-
-/// Whether a read of an absent key is held at this position, and is released.
-fn reads_at(stripes: &Stripes, pass: &mut Pass, read: Read, number: u64) -> bool
-    requires own { IsPassOf stripes.now pass.old }
-    requires empty_handed { (recorded pass.old).holding ≡ None }
-{
-    match stripes.try_read(pass, read) {
-        Ok(held) => {
-            let is_there = held.position().number() == number;
-            let released = stripes.release(pass, held);
-            let is_absent = is_absent_at(&released, number);
-            drop(released);
-            is_absent && is_there
-        }
-        Err(_) => false,
-    }
-}
-
-/// What comes of a change of this key, which may wait.
-pub(crate) fn call_put<R: Wait>(
-    rt: &R,
-    stripes: &Stripes,
-    pass: &mut Pass,
-    alloc: Global,
-    key: &str,
-) -> Tried
-    requires own { IsPassOf stripes.now pass.old }
-    requires empty_handed { (recorded pass.old).holding ≡ None }
-    ensures own { IsPassOf stripes.now pass.new }
-    ensures empty_handed { (recorded pass.new).holding ≡ None }
-{
-    let command = put(alloc, key, 1)?;
-    outcome_of(stripes.call(rt, pass, command))
-}
-
 /// What two changes and a read of this key come to, and how many tickets are drawn then.
 fn call_with<R: Wait>(
     rt: &R,
@@ -208,13 +94,13 @@ fn call_with<R: Wait>(
     alloc: Global,
     key: &str,
 ) -> Result<([Tried; 3], u64), Refusal> {
-    let mut pass = stripes.pass()?;
-    let tried = try_put(stripes, &mut pass, alloc, key);
-    let called = call_put(rt, stripes, &mut pass, alloc, key);
-    let read = try_get(stripes, &mut pass, alloc, key);
-    let count = stripes.look(&mut pass);
-    drop(pass);
-    Ok(([tried, called, read], count))
+    let mut caller = Caller::new(stripes, alloc)?;
+    let tried = [
+        caller.try_put(key),
+        caller.put(rt, key),
+        caller.try_get(key),
+    ];
+    Ok((tried, caller.look()))
 }
 
 /// The same for the key of this many bytes.
@@ -225,9 +111,7 @@ fn call_with_bytes<R: Wait>(
     bytes: usize,
 ) -> Result<([Tried; 3], u64), Refusal> {
     let key = "x".repeat(alloc, bytes)?;
-    let called = call_with(rt, stripes, alloc, key.as_str());
-    drop(key);
-    called
+    call_with(rt, stripes, alloc, key.as_str())
 }
 
 /// A change of a longer key is refused before it takes its stripe; a read is served.
@@ -257,15 +141,9 @@ fn try_without_tickets(
     alloc: Global,
     number: u64,
 ) -> Result<([Tried; 2], bool), Refusal> {
-    let mut pass = stripes.pass()?;
-    let tried = [
-        try_put(stripes, &mut pass, alloc, "a"),
-        try_put(stripes, &mut pass, alloc, "b"),
-    ];
-    let read = get(alloc, "a")?;
-    let is_read = reads_at(stripes, &mut pass, read, number);
-    drop(pass);
-    Ok((tried, is_read))
+    let mut caller = Caller::new(stripes, alloc)?;
+    let tried = [caller.try_put("a"), caller.try_put("b")];
+    Ok((tried, caller.reads_at("a", number)?))
 }
 
 #[test]

@@ -1,11 +1,12 @@
 //! Several threads on the same stripes.
-ghost use Rattle.std.specs.Prelude.{◌≡◌, ◌<◌, None, IfOk, false, true};
+ghost use Rattle.std.specs.Prelude.{◌≡◌, None, IfOk, false, true};
 ghost use Rattle.std.specs.List.{All};
 ghost use Rattle.stripe_locks.specs.Holding.{IsHeldOf};
-ghost use Rattle.stripe_locks.specs.Passes.{recorded, stripe_count, IsPassOf};
+ghost use Rattle.stripe_locks.specs.Passes.{recorded, IsPassOf};
 
+use crate::callers::{Caller, Tried};
 use crate::checks::assert_same;
-use crate::stripes::{Tried, call_put, get, hold, outcome_of, put, sixteen_stripes, try_put};
+use crate::stripes::sixteen_stripes;
 use map_types::{Change, Command, Func, Key, Read, Refusal, Reply, Value};
 use std::alloc::Global;
 use std::sync::Wait;
@@ -17,28 +18,10 @@ const CALLS: u64 = 1000;
 
 const ADDITIONS: u64 = 200;
 
-/// The position of a put, unless the key's stripe is held.
-fn put_if_free(stripes: &Stripes, pass: &mut Pass, put: Command) -> Result<Option<u64>, Refusal>
-    requires own { IsPassOf stripes.now pass.old }
-    requires empty_handed { (recorded pass.old).holding ≡ None }
-    ensures own { IsPassOf stripes.now pass.new }
-    ensures empty_handed { (recorded pass.new).holding ≡ None }
-{
-    match stripes.try_call(pass, put) {
-        Ok(held) => Ok(Some(held.position().number())),
-        Err(Refusal::Busy { .. }) => Ok(None),
-        Err(refusal) => Err(refusal),
-    }
-}
-
-fn put_once(stripes: &Stripes, pass: &mut Pass, alloc: Global, key: &str) -> Result<u64, Refusal>
-    requires own { IsPassOf stripes.now pass.old }
-    requires empty_handed { (recorded pass.old).holding ≡ None }
-    ensures own { IsPassOf stripes.now pass.new }
-    ensures empty_handed { (recorded pass.new).holding ≡ None }
-{
+/// The position of a change of this key.
+fn put_once(caller: &mut Caller<'_>, key: &str) -> Result<u64, Refusal> {
     for _try in 0..u64::MAX {
-        if let Some(position) = put_if_free(stripes, pass, put(alloc, key, 1)?)? {
+        if let Some(position) = caller.put_if_free(key)? {
             return Ok(position);
         }
     }
@@ -46,28 +29,22 @@ fn put_once(stripes: &Stripes, pass: &mut Pass, alloc: Global, key: &str) -> Res
 }
 
 fn put_numbered(
-    stripes: &Stripes,
-    pass: &mut Pass,
+    caller: &mut Caller<'_>,
     alloc: Global,
     side: usize,
     number: u64,
-) -> Result<u64, Refusal>
-    requires own { IsPassOf stripes.now pass.old }
-    requires empty_handed { (recorded pass.old).holding ≡ None }
-    ensures own { IsPassOf stripes.now pass.new }
-    ensures empty_handed { (recorded pass.new).holding ≡ None }
-{
+) -> Result<u64, Refusal> {
     let key = format!(in alloc; "{side} {number}")?;
-    let position = put_once(stripes, pass, alloc, key.as_str());
+    let position = put_once(caller, key.as_str());
     drop(key);
     position
 }
 
 fn put_often(stripes: &Stripes, alloc: Global, side: usize) -> Result<Vec<u64>, Refusal> {
-    let mut pass = stripes.pass()?;
+    let mut caller = Caller::new(stripes, alloc)?;
     let mut positions = Vec::new(alloc);
     for n in 0..CALLS {
-        positions.push(put_numbered(stripes, &mut pass, alloc, side, n)?)?;
+        positions.push(put_numbered(&mut caller, alloc, side, n)?)?;
     }
     Ok(positions)
 }
@@ -232,45 +209,38 @@ fn eight_threads_add_to_one_key(rt: HostRuntime) {
 }
 
 /// Takes a stripe and leaves with it.
-fn leave_with(stripes: &Stripes, stripe: usize) -> bool
-    requires { stripe < stripe_count stripes.now }
-{
-    match stripes.pass() {
-        Ok(mut pass) => hold(stripes, &mut pass, stripe),
+fn leave_with(stripes: &Stripes, alloc: Global, stripe: usize) -> bool {
+    match Caller::new(stripes, alloc) {
+        Ok(caller) => caller.hold(stripe).is_some(),
         Err(_) => false,
     }
 }
 
-/// What comes of a change and a read.
-fn call_and_read<R: Wait>(rt: &R, stripes: &Stripes, pass: &mut Pass, alloc: Global) -> Tried
-    requires own { IsPassOf stripes.now pass.old }
-    requires empty_handed { (recorded pass.old).holding ≡ None }
-{
-    call_put(rt, stripes, pass, alloc, "a")?;
-    let read = get(alloc, "a")?;
-    outcome_of(stripes.read(rt, pass, read))
-}
-
 /// What comes of a change in stripe 11, and of a change and a read in another.
-fn work<R: Wait>(rt: &R, stripes: &Stripes, alloc: Global) -> Result<[Tried; 2], Refusal> {
-    let mut pass = stripes.pass()?;
-    let tried = try_put(stripes, &mut pass, alloc, "hello");
-    let called = call_and_read(rt, stripes, &mut pass, alloc);
-    drop(pass);
-    Ok([tried, called])
+fn work<R: Wait>(rt: &R, stripes: &Stripes, alloc: Global) -> Result<[Tried; 3], Refusal> {
+    let mut caller = Caller::new(stripes, alloc)?;
+    Ok([
+        caller.try_put("hello"),
+        caller.put(rt, "a"),
+        caller.get(rt, "a"),
+    ])
 }
 
 #[test]
 fn those_who_leave_let_the_others_work(rt: HostRuntime) {
     let alloc = rt.alloc();
     let stripes = sixteen_stripes(&rt, alloc);
-    let (left, worked) = join(&rt, || leave_with(&stripes, 11), || stripes.pass().is_ok());
+    let (left, worked) = join(
+        &rt,
+        || leave_with(&stripes, alloc, 11),
+        || stripes.pass().is_ok(),
+    );
     let tried = work(&rt, &stripes, alloc);
     drop(stripes);
     let busy = Err(Refusal::Busy { stripe: 11 });
     assert_same(
         &rt,
         &(left, worked, tried),
-        &(true, true, Ok([busy, Ok(())])),
+        &(true, true, Ok([busy, Ok(()), Ok(())])),
     );
 }

@@ -1,8 +1,9 @@
 //! Whole calls over plain words.
 ghost use Rattle.std.specs.Prelude.{◌≡◌, None, false, true};
 
+use crate::callers::{get, put};
 use crate::checks::assert_same;
-use crate::stripes::{get, put, sixteen};
+use crate::stripes::sixteen;
 use java_hash::StripeCount;
 use map_types::{Refusal, Reply, Value};
 use plain_words::{At, PlainWords};
