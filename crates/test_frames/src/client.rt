@@ -1,4 +1,5 @@
 //! Calls of a server, and what is printed of their answers.
+use crate::checks::assert_same;
 use cmd_call::{PlaceWords, Servers, ask, call};
 use log::Log;
 use map_types::{Key, Question, Read, Refusal};
@@ -78,7 +79,7 @@ fn first_misprinted_get<L: Log>(rt: &L, alloc: Global) -> Result<Option<usize>, 
 
 #[test]
 fn answers_as_they_are_printed(rt: HostRuntime) {
-    assert_eq!(rt; first_misprinted_get(&rt, rt.alloc()), Ok(None));
+    assert_same(&rt, &first_misprinted_get(&rt, rt.alloc()), &Ok(None));
 }
 
 /// Whether a call of these words at this place has no answer, and this is said of it.
@@ -219,5 +220,5 @@ fn first_answered<M: Servers + Log>(machine: &M, alloc: Global) -> Option<usize>
 
 #[test]
 fn calls_without_an_answer(rt: HostRuntime) {
-    assert_eq!(rt; first_answered(&rt, rt.alloc()), None);
+    assert_same(&rt, &first_answered(&rt, rt.alloc()), &None);
 }

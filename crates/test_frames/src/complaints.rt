@@ -1,4 +1,5 @@
 //! What is printed, and the numbers that words name.
+use crate::checks::assert_same;
 use call_text::{break_off, cannot_open, port_named, print, refuse, stripes_named};
 use log::Log;
 use map_types::Refusal;
@@ -7,8 +8,10 @@ use std::io;
 use std::io::ErrorKind;
 
 /// Whether a printed line is all that there is.
-fn is_printed_alone<L: Log>(rt: &L, output: &mut Vec<u8>, error: &mut Vec<u8>) -> bool {
-    let status = print(rt, "did yes\n", output, error);
+fn is_printed_alone<L: Log>(rt: &L, alloc: Global) -> bool {
+    let mut output = Vec::new(alloc);
+    let mut error = Vec::new(alloc);
+    let status = print(rt, "did yes\n", &mut output, &mut error);
     status == 0 && output.as_slice() == b"did yes\n".as_slice() && error.is_empty()
 }
 
@@ -28,30 +31,31 @@ const COMPLAINTS: &[u8] = b"refused 9 Failed\nunreadable\nunreadable\nrefused 7 
 #[test]
 fn what_is_said(rt: HostRuntime) {
     let alloc = rt.alloc();
-    let mut output = Vec::new(alloc);
+    assert_same(&rt, &is_printed_alone(&rt, alloc), &true);
     let mut error = Vec::new(alloc);
-    assert!(rt;
-        is_printed_alone(&rt, &mut output, &mut error),
-        "the output or the error has another text"
-    );
-    drop(output);
-    let are_exits = complaints(alloc, &mut error) == [1; 4];
-    assert!(rt; are_exits && error.as_slice() == COMPLAINTS, "{error:?}");
+    let statuses = complaints(alloc, &mut error);
+    assert_same(&rt, &(statuses, error.as_slice()), &([1; 4], COMPLAINTS));
     drop(error);
 }
 
-/// Whether a line that is too long for an output of five bytes is cut short, and this is said.
-fn is_cut_short<L: Log>(rt: &L, error: &mut Vec<u8>) -> bool {
+/// The status of a line that is too long for an output of five bytes, and what comes there.
+fn cut_short<L: Log>(rt: &L, error: &mut Vec<u8>) -> (u8, [u8; 5]) {
     let mut room = [0u8; 5];
     let mut output = room.as_mut_slice();
     let status = print(rt, "formatted 16\n", &mut output, error);
-    status == 1 && room == *b"forma" && error.as_slice() == b"unreadable\n".as_slice()
+    (status, room)
 }
 
 #[test]
 fn an_output_that_fails(rt: HostRuntime) {
     let mut error = Vec::new(rt.alloc());
-    assert!(rt; is_cut_short(&rt, &mut error), "{error:?}");
+    let printed = cut_short(&rt, &mut error);
+    let wanted = (1, *b"forma");
+    assert_same(
+        &rt,
+        &(printed, error.as_slice()),
+        &(wanted, b"unreadable\n".as_slice()),
+    );
     drop(error);
 }
 
@@ -83,9 +87,17 @@ fn names(word: &str, port: Option<u16>, count: Option<usize>) -> bool {
     port_named(word) == port && stripes == count
 }
 
+/// The first word that names something else, if any.
+fn first_misread() -> Option<&'static str> {
+    for (word, port, count) in &WORDS {
+        if !names(word, *port, *count) {
+            return Some(*word);
+        }
+    }
+    None
+}
+
 #[test]
 fn words_that_name_numbers(rt: HostRuntime) {
-    for (word, port, count) in &WORDS {
-        assert!(rt; names(word, *port, *count), "{word}");
-    }
+    assert_same(&rt, &first_misread(), &None);
 }

@@ -1,4 +1,5 @@
 //! The dialogues of connections, over readers and writers that halt.
+use crate::checks::assert_same;
 use crate::numbered::number_put;
 use connections::{Calls, ConnectionError, serve_connection};
 use map_types::{Refusal, Reply, Value};
@@ -284,21 +285,31 @@ fn is_answered_in_three_pieces(alloc: Global, requests: &[u8], replies: &[u8]) -
     true
 }
 
+/// The requests of the first dialogue that goes otherwise in pieces, if any.
+fn first_wrong_dialogue(alloc: Global) -> Option<&'static [u8]> {
+    for (requests, replies) in &DIALOGUES {
+        let is_answered = is_answered_in_equal_pieces(alloc, requests, replies)
+            && is_answered_in_three_pieces(alloc, requests, replies);
+        if !is_answered {
+            return Some(*requests);
+        }
+    }
+    None
+}
+
 #[test]
 fn dialogues_in_pieces(rt: HostRuntime) {
-    for (requests, replies) in &DIALOGUES {
-        let is_answered = is_answered_in_equal_pieces(rt.alloc(), requests, replies)
-            && is_answered_in_three_pieces(rt.alloc(), requests, replies);
-        assert!(rt; is_answered, "{requests:?}");
-    }
+    assert_same(&rt, &first_wrong_dialogue(rt.alloc()), &None);
+}
+
+/// The first cutting of a put that is answered otherwise, if any.
+fn first_wrong_cutting(alloc: Global) -> Option<u64> {
+    (0..1u64 << 14).find(|cuts| !is_answered_if_cut(alloc, PUT, PUT_REPLY, *cuts))
 }
 
 #[test]
 fn a_put_in_every_cutting(rt: HostRuntime) {
-    for cuts in 0..1u64 << 14 {
-        let is_answered = is_answered_if_cut(rt.alloc(), PUT, PUT_REPLY, cuts);
-        assert!(rt; is_answered, "{cuts:b}");
-    }
+    assert_same(&rt, &first_wrong_cutting(rt.alloc()), &None);
 }
 
 /// Whether a reader that fails behind `len` bytes is told, this front of the replies was written,
@@ -315,19 +326,31 @@ fn fails_behind(alloc: Global, len: usize, replies: &[u8]) -> bool {
     matches!(served, (End::ReaderFailed, 0)) && writer.written() == replies
 }
 
+/// How many bytes of the replies answer so many bytes of the requests.
+fn answered_by(len: usize) -> usize {
+    if len < 15 {
+        0
+    } else if len < 21 {
+        4
+    } else {
+        16
+    }
+}
+
+/// The first count of bytes behind which a reader's failure goes otherwise, if any.
+fn first_wrong_failure(alloc: Global) -> Option<usize> {
+    for len in 0..=PUT_GET.len() {
+        let replies = PUT_GET_REPLIES.get(..answered_by(len));
+        if !fails_behind(alloc, len, replies.unwrap_or(PUT_GET_REPLIES)) {
+            return Some(len);
+        }
+    }
+    None
+}
+
 #[test]
 fn a_reader_that_fails(rt: HostRuntime) {
-    for len in 0..=PUT_GET.len() {
-        let answered = if len < 15 {
-            0
-        } else if len < 21 {
-            4
-        } else {
-            16
-        };
-        let replies = &PUT_GET_REPLIES[..answered];
-        assert!(rt; fails_behind(rt.alloc(), len, replies), "{len}");
-    }
+    assert_same(&rt, &first_wrong_failure(rt.alloc()), &None);
 }
 
 /// Whether a writer that has room for this front of the replies alone is told, and has got it, and
@@ -339,12 +362,19 @@ fn fails_with_room_for(alloc: Global, replies: &[u8]) -> bool {
     matches!(served, (End::WriterFailed, 0)) && writer.written() == replies
 }
 
+/// The first room of a writer in which its failure goes otherwise, if any.
+fn first_wrong_room(alloc: Global) -> Option<usize> {
+    for most in 0..PUT_GET_REPLIES.len() {
+        if !fails_with_room_for(alloc, &PUT_GET_REPLIES[..most]) {
+            return Some(most);
+        }
+    }
+    None
+}
+
 #[test]
 fn a_writer_that_fails(rt: HostRuntime) {
-    for most in 0..PUT_GET_REPLIES.len() {
-        let replies = &PUT_GET_REPLIES[..most];
-        assert!(rt; fails_with_room_for(rt.alloc(), replies), "{most}");
-    }
+    assert_same(&rt, &first_wrong_room(rt.alloc()), &None);
 }
 
 /// Whether a connection of a put and a get may end so, if any one allocation is refused.
@@ -367,5 +397,10 @@ fn memory_that_is_refused(rt: HostRuntime) {
     let mut writer = Room::of(64);
     let (end, _held) = serve(rt.alloc(), &mut reader, &mut writer);
     let written = writer.written();
-    assert!(rt; is_allowed(&end, written), "{written:?}");
+    let wrong = if is_allowed(&end, written) {
+        None
+    } else {
+        Some(written)
+    };
+    assert_same(&rt, &wrong, &None);
 }

@@ -1,12 +1,52 @@
 //! A directory as a disk.
 ghost use Rattle.std.specs.Prelude.{◌<◌};
 
+use crate::checks::assert_same;
 use disk_model::{DeviceError, DirDisk, Disk, Unknown};
-use std::alloc::Global;
-use std::fs;
-use std::test::Fail;
+use std::{fs, io};
 
-/// Writes at the end of the file or before it.
+/// What is done with a directory, or asked of it.
+enum Step {
+    /// Makes a directory. One that is there is removed first, with what it has.
+    Make(&'static str),
+    /// Removes a directory with what it has.
+    Remove(&'static str),
+    /// Opens a directory as a disk, which is kept.
+    Open(&'static str),
+    /// The same, and makes the files that are absent.
+    Create(&'static str),
+    /// Closes the disk that is kept.
+    Close,
+    /// Whether something stands at the path.
+    Stands(&'static str),
+    /// Something of a file of the disk.
+    With(usize, Call),
+}
+
+/// A call of a file.
+enum Call {
+    /// Writes at a place, unless the file ends before it.
+    Put(usize, &'static [u8]),
+    Sync,
+    Len,
+    /// Reads from its start.
+    Read,
+}
+
+/// How many bytes are read at most.
+const ROOM: usize = 24;
+
+/// What comes of a step.
+#[derive(Clone, Copy, Debug, PartialEq)]
+enum Seen {
+    Done,
+    Failed,
+    Is(bool),
+    Len(usize),
+    /// So many bytes were read, and zeros stand behind them.
+    Read(usize, [u8; ROOM]),
+}
+
 fn put<D: Disk>(disk: &mut D, file: usize, at: usize, bytes: &[u8]) -> Result<(), DeviceError>
     requires { file < 4 }
 {
@@ -16,96 +56,143 @@ fn put<D: Disk>(disk: &mut D, file: usize, at: usize, bytes: &[u8]) -> Result<()
     disk.write_at(file, at, bytes)
 }
 
-fn content<D: Disk>(disk: &mut D, alloc: Global, file: usize) -> Result<Vec<u8>, Fail>
+fn read<D: Disk>(disk: &mut D, file: usize) -> Result<Seen, DeviceError>
     requires { file < 4 }
 {
-    let mut bytes = vec![in alloc; 0; disk.len(file)?]?;
+    let mut bytes = [0; ROOM];
     let count = disk.read(file, 0, &mut bytes)?;
-    bytes.truncate(count);
-    Ok(bytes)
+    Ok(Seen::Read(count, bytes))
 }
 
-fn make_directory(rt: &HostRuntime, directory: &str) -> Result<(), Fail> {
-    let _ = fs::remove_dir_all(rt, directory);
-    fs::create_dir(rt, directory)?;
-    Ok(())
+fn make_call<D: Disk>(disk: &mut D, file: usize, call: &Call) -> Result<Seen, DeviceError>
+    requires { file < 4 }
+{
+    match call {
+        Call::Put(at, bytes) => put(disk, file, *at, bytes).map(|_| Seen::Done),
+        Call::Sync => disk.sync(file).map(|_| Seen::Done),
+        Call::Len => disk.len(file).map(Seen::Len),
+        Call::Read => read(disk, file),
+    }
 }
 
-fn write_and_close(rt: &HostRuntime, directory: &str) -> Result<(), Fail> {
-    let mut disk = DirDisk::create(rt, rt.alloc(), directory, Unknown)?;
-    put(&mut disk, 2, 0, b"first words")?;
-    put(&mut disk, 2, 6, b"lines and more")?;
-    disk.sync(2)?;
-    Ok(())
+/// What comes of what has no answer.
+fn seen_of(made: io::Result<()>) -> Seen {
+    match made {
+        Ok(()) => Seen::Done,
+        Err(_) => Seen::Failed,
+    }
 }
+
+/// The disk that is kept.
+#[derive(Drop)]
+struct Bench {
+    disk: Option<DirDisk<Unknown>>,
+}
+
+impl Bench {
+    fn keep(&mut self, opened: io::Result<DirDisk<Unknown>>) -> Seen {
+        match opened {
+            Ok(disk) => {
+                self.disk = Some(disk);
+                Seen::Done
+            }
+            Err(_) => Seen::Failed,
+        }
+    }
+
+    fn close(&mut self) -> Seen {
+        self.disk = None;
+        Seen::Done
+    }
+
+    fn with(&mut self, file: usize, call: &Call) -> Seen {
+        match &mut self.disk {
+            Some(disk) if file < 4 => make_call(disk, file, call).unwrap_or(Seen::Failed),
+            _ => Seen::Failed,
+        }
+    }
+
+    fn take(&mut self, rt: &HostRuntime, step: &Step) -> Seen {
+        match step {
+            Step::Make(path) => {
+                let _ = fs::remove_dir_all(rt, path);
+                seen_of(fs::create_dir(rt, path))
+            }
+            Step::Remove(path) => seen_of(fs::remove_dir_all(rt, path)),
+            Step::Open(path) => self.keep(DirDisk::open(rt, rt.alloc(), path, Unknown)),
+            Step::Create(path) => self.keep(DirDisk::create(rt, rt.alloc(), path, Unknown)),
+            Step::Close => self.close(),
+            Step::Stands(path) => Seen::Is(fs::metadata(rt, path).is_ok()),
+            Step::With(file, call) => self.with(*file, call),
+        }
+    }
+}
+
+/// The number of the first step of which something else comes, if any, and what comes of it.
+fn first_wrong(rt: &HostRuntime, steps: &[(Step, Seen)]) -> Option<(usize, Seen)> {
+    let mut bench = Bench { disk: None };
+    for number in 0..steps.len() {
+        let (step, wanted) = &steps[number];
+        let seen = bench.take(rt, step);
+        if seen != *wanted {
+            return Some((number, seen));
+        }
+    }
+    None
+}
+
+/// A file stands where the last directory is to be.
+static KEPT: [(Step, Seen); 11] = [
+    (Step::Make("kept"), Seen::Done),
+    (Step::Create("kept"), Seen::Done),
+    (Step::With(2, Call::Put(0, b"first words")), Seen::Done),
+    (Step::With(2, Call::Put(6, b"lines and more")), Seen::Done),
+    (Step::With(2, Call::Sync), Seen::Done),
+    (Step::Close, Seen::Done),
+    (Step::Open("kept"), Seen::Done),
+    (
+        Step::With(2, Call::Read),
+        Seen::Read(20, *b"first lines and more\0\0\0\0"),
+    ),
+    (Step::With(0, Call::Len), Seen::Len(0)),
+    (Step::Create("kept/log-a"), Seen::Failed),
+    (Step::Remove("kept"), Seen::Done),
+];
 
 #[test]
-fn a_directory_keeps_what_was_synced(rt: HostRuntime) -> Result<(), Fail> {
-    make_directory(&rt, "kept")?;
-    write_and_close(&rt, "kept")?;
-    let mut again = DirDisk::open(&rt, rt.alloc(), "kept", Unknown)?;
-    let bytes = content(&mut again, rt.alloc(), 2)?;
-    assert_eq!(rt; bytes.as_slice(), b"first lines and more".as_slice());
-    assert_eq!(rt; again.len(0)?, 0);
-    // A file stands where the directory is to be.
-    assert!(rt;
-        DirDisk::create(&rt, rt.alloc(), "kept/log-a", Unknown).is_err(),
-        "a disk was made where a file stands"
-    );
-    fs::remove_dir_all(&rt, "kept")?;
-    Ok(())
+fn a_directory_keeps_what_was_synced(rt: HostRuntime) {
+    assert_same(&rt, &first_wrong(&rt, &KEPT), &None);
 }
+
+static ABSENT: [(Step, Seen); 8] = [
+    (Step::Open("no_such_directory"), Seen::Failed),
+    (Step::Create("no_such_directory"), Seen::Failed),
+    (Step::Stands("no_such_directory"), Seen::Is(false)),
+    (Step::Make("empty"), Seen::Done),
+    (Step::Open("empty"), Seen::Done),
+    (Step::With(3, Call::Put(0, b"lost")), Seen::Failed),
+    (Step::With(3, Call::Len), Seen::Len(0)),
+    (Step::Remove("empty"), Seen::Done),
+];
 
 #[test]
-fn absent_files_have_length_0(rt: HostRuntime) -> Result<(), Fail> {
-    assert!(rt;
-        DirDisk::open(&rt, rt.alloc(), "no_such_directory", Unknown).is_err(),
-        "a directory that is absent was opened"
-    );
-    assert!(rt;
-        DirDisk::create(&rt, rt.alloc(), "no_such_directory", Unknown).is_err(),
-        "a disk was made in a directory that is absent"
-    );
-    assert!(rt;
-        fs::metadata(&rt, "no_such_directory").is_err(),
-        "the directory was made"
-    );
-    make_directory(&rt, "empty")?;
-    let mut disk = DirDisk::open(&rt, rt.alloc(), "empty", Unknown)?;
-    assert!(rt;
-        put(&mut disk, 3, 0, b"lost").is_err(),
-        "an absent file was written to"
-    );
-    assert_eq!(rt; disk.len(3)?, 0);
-    fs::remove_dir_all(&rt, "empty")?;
-    Ok(())
+fn absent_files_have_length_0(rt: HostRuntime) {
+    assert_same(&rt, &first_wrong(&rt, &ABSENT), &None);
 }
 
-/// The lock is held as long as the first disk lives.
-fn open_beside(rt: &HostRuntime, directory: &str) -> Result<bool, Fail> {
-    let _first = DirDisk::open(rt, rt.alloc(), directory, Unknown)?;
-    Ok(DirDisk::create(rt, rt.alloc(), directory, Unknown).is_ok())
-}
+/// No file is made without the lock, which is held as long as the first disk is kept.
+static LOCKED: [(Step, Seen); 8] = [
+    (Step::Make("locked"), Seen::Done),
+    (Step::Open("locked"), Seen::Done),
+    (Step::Create("locked"), Seen::Failed),
+    (Step::Close, Seen::Done),
+    (Step::Stands("locked/ckpt-a"), Seen::Is(false)),
+    (Step::Create("locked"), Seen::Done),
+    (Step::Stands("locked/ckpt-a"), Seen::Is(true)),
+    (Step::Remove("locked"), Seen::Done),
+];
 
 #[test]
-fn a_directory_is_open_once(rt: HostRuntime) -> Result<(), Fail> {
-    make_directory(&rt, "locked")?;
-    assert!(rt;
-        !open_beside(&rt, "locked")?,
-        "a directory was opened twice"
-    );
-    assert!(rt;
-        fs::metadata(&rt, "locked/ckpt-a").is_err(),
-        "a file was made without the lock"
-    );
-    assert!(rt;
-        DirDisk::create(&rt, rt.alloc(), "locked", Unknown).is_ok(),
-        "the lock was not given back"
-    );
-    assert!(rt;
-        fs::metadata(&rt, "locked/ckpt-a").is_ok(),
-        "the file was not made with the lock"
-    );
-    fs::remove_dir_all(&rt, "locked")?;
-    Ok(())
+fn a_directory_is_open_once(rt: HostRuntime) {
+    assert_same(&rt, &first_wrong(&rt, &LOCKED), &None);
 }

@@ -1,4 +1,5 @@
 //! Reads that a signal interrupts.
+use crate::checks::assert_same;
 use disk_model::fill_at;
 use std::io;
 use std::os::unix::fs::FileExt;
@@ -39,33 +40,35 @@ impl FileExt for Failing {
     }
 }
 
+/// Reads from these places on into the same three bytes. What each read gives, and the bytes behind
+/// it.
+fn read_at_each<const N: usize>(
+    file: &Failing,
+    places: [usize; N],
+) -> [(Result<usize, io::ErrorKind>, [u8; 3]); N] {
+    let mut bytes = [0; 3];
+    places.map(|at| {
+        let count = fill_at(file, at, &mut bytes).map_err(|error| error.kind());
+        (count, bytes)
+    })
+}
+
 #[test]
 fn an_interrupted_read_is_tried_again(rt: HostRuntime) {
     let file = Failing::new(io::ErrorKind::Interrupted);
-    let mut bytes = [0; 3];
-    assert!(rt;
-        matches!(fill_at(&file, 1, &mut bytes), Ok(3)),
-        "the read of 3 bytes at 1 gave no 3 bytes"
-    );
-    assert_eq!(rt; &bytes, b"bcd");
-    assert!(rt;
-        matches!(fill_at(&file, 3, &mut bytes), Ok(2)),
-        "the read of 3 bytes at 3 gave no 2 bytes"
-    );
-    assert_eq!(rt; &bytes, b"ded");
-    assert!(rt;
-        matches!(fill_at(&file, 5, &mut bytes), Ok(0)),
-        "the read at the end gave bytes or failed"
+    assert_same(
+        &rt,
+        &read_at_each(&file, [1, 3, 5]),
+        &[(Ok(3), *b"bcd"), (Ok(2), *b"ded"), (Ok(0), *b"ded")],
     );
 }
 
 #[test]
 fn another_error_ends_a_read(rt: HostRuntime) {
     let file = Failing::new(io::ErrorKind::Other);
-    let mut bytes = [0; 3];
-    let answer = fill_at(&file, 0, &mut bytes);
-    assert!(rt;
-        matches!(answer, Err(error) if error.kind() == io::ErrorKind::Other),
-        "the read did not end with the error of its file"
+    assert_same(
+        &rt,
+        &fill_at(&file, 0, &mut [0; 3]).map_err(|error| error.kind()),
+        &Err(io::ErrorKind::Other),
     );
 }

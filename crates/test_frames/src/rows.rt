@@ -1,4 +1,5 @@
 //! The order in which the calls of a row are begun and finished, and what is written together.
+use crate::checks::assert_same;
 use crate::steps::{PUT, frames};
 use connections::{Calls, serve_connection};
 use map_types::{Refusal, Reply, Value};
@@ -119,12 +120,19 @@ fn is_served(alloc: Global, bytes: &[u8], done: &str, written: &[usize]) -> bool
         && writer.written.as_slice() == written
 }
 
+/// What was to be done with the first of these calls that are served otherwise, if any.
+fn first_wrong(alloc: Global) -> Option<&'static str> {
+    for (bytes, done, written) in &ROWS {
+        if !is_served(alloc, bytes, done, written) {
+            return Some(*done);
+        }
+    }
+    None
+}
+
 #[test]
 fn calls_in_their_order(rt: HostRuntime) {
-    for (bytes, done, written) in &ROWS {
-        let is_served = is_served(rt.alloc(), bytes, done, written);
-        assert!(rt; is_served, "{done}");
-    }
+    assert_same(&rt, &first_wrong(rt.alloc()), &None);
 }
 
 /// How long the writes are if 64 puts are answered with a text of 4,096 bytes.
@@ -147,12 +155,9 @@ fn written_with_text(alloc: Global) -> Result<Vec<usize>, Refusal> {
 
 /// A reply with a text of 4,096 bytes has 4,102, of which 15 leave no room for another in 65,536.
 #[test]
-fn gathered_replies_stay_within_their_room(rt: HostRuntime) -> Result<(), Refusal> {
-    let written = written_with_text(rt.alloc())?;
-    assert!(rt;
-        written.as_slice() == [61_530, 61_530, 61_530, 61_530, 16_408].as_slice(),
-        "{written:?}"
-    );
+fn gathered_replies_stay_within_their_room(rt: HostRuntime) {
+    let written = written_with_text(rt.alloc()).expect(&rt, "64 puts");
+    let wanted = [61_530, 61_530, 61_530, 61_530, 16_408];
+    assert_same(&rt, &written.as_slice(), &wanted.as_slice());
     drop(written);
-    Ok(())
 }

@@ -1,4 +1,5 @@
 //! Connections over the same calls, and what is done with them step by step.
+use crate::checks::assert_same;
 use crate::numbered::{Begun, Numbered};
 use connections::{Buffer, Connection, Resting, Row};
 use std::alloc::{AllocError, Global};
@@ -321,5 +322,5 @@ fn wrong_step(alloc: Global, steps: &[(Who, Step)]) -> Result<Option<usize>, All
 
 /// Ends the test if a step of new connections comes out otherwise, and prints its number.
 pub(crate) fn assert_steps<R: Abort>(rt: &R, alloc: Global, steps: &[(Who, Step)]) {
-    assert_eq!(rt; wrong_step(alloc, steps), Ok(None));
+    assert_same(rt, &wrong_step(alloc, steps), &Ok(None));
 }
