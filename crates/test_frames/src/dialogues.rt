@@ -328,12 +328,10 @@ fn fails_behind(alloc: Global, len: usize, replies: &[u8]) -> bool {
 
 /// How many bytes of the replies answer so many bytes of the requests.
 fn answered_by(len: usize) -> usize {
-    if len < 15 {
-        0
-    } else if len < 21 {
-        4
-    } else {
-        16
+    match len {
+        0..=14 => 0,
+        15..=20 => 4,
+        _ => 16,
     }
 }
 
@@ -397,10 +395,6 @@ fn memory_that_is_refused(rt: HostRuntime) {
     let mut writer = Room::of(64);
     let (end, _held) = serve(rt.alloc(), &mut reader, &mut writer);
     let written = writer.written();
-    let wrong = if is_allowed(&end, written) {
-        None
-    } else {
-        Some(written)
-    };
+    let wrong = (!is_allowed(&end, written)).then_some(written);
     assert_same(&rt, &wrong, &None);
 }

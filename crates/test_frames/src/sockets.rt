@@ -356,14 +356,10 @@ fn one_at_a_time(rt: HostRuntime) {
     assert_same(&rt, &first_wrong(&rt, &TURNS), &None);
 }
 
-static ABSENT: [(Step, Outcome); 1] = [(
-    Step::Bind("absent/socket", 0o600),
-    Err(ErrorKind::NotFound),
-)];
-
 #[test]
 fn an_absent_directory(rt: HostRuntime) {
-    assert_same(&rt, &first_wrong(&rt, &ABSENT), &None);
+    let steps = [(Step::Bind("absent/socket", 0o600), Err(ErrorKind::NotFound))];
+    assert_same(&rt, &first_wrong(&rt, &steps), &None);
 }
 
 /// Words, and the rights that they name.

@@ -11,8 +11,8 @@ use Rattle.stripe_locks.specs.Passes.{recorded, stripe_count, IsPassOf}
 use Rattle.flusher.specs.declared.keeper.Keeper.{Keeper}
 use Rattle.flusher.specs.Fitting.{IsKept}
 
--- The keeper's invariant holds with its pass, which is of these stripes. So are the worker, who holds no stripe, and the
--- replies.
+-- The keeper's invariant holds with its pass, which is of these stripes. So are the worker, who holds no stripe,
+-- and the replies.
 abbrev pub IsStore : Keeper MemDisk → Stripes → Pass → Pass → List Held → Type 0
 IsStore keeper stripes pass worker held =
     IsPassOf stripes pass
