@@ -356,10 +356,14 @@ fn one_at_a_time(rt: HostRuntime) {
     assert_same(&rt, &first_wrong(&rt, &TURNS), &None);
 }
 
+static ABSENT: [(Step, Outcome); 1] = [(
+    Step::Bind("absent/socket", 0o600),
+    Err(ErrorKind::NotFound),
+)];
+
 #[test]
 fn an_absent_directory(rt: HostRuntime) {
-    let steps = [(Step::Bind("absent/socket", 0o600), Err(ErrorKind::NotFound))];
-    assert_same(&rt, &first_wrong(&rt, &steps), &None);
+    assert_same(&rt, &first_wrong(&rt, &ABSENT), &None);
 }
 
 /// Words, and the rights that they name.
