@@ -1,11 +1,10 @@
 //! Sockets in a directory of their own.
 use crate::checks::assert_same;
 use socket_file::{Found, SocketFiles, bind, is_socket_path, mode_named};
-use std::fs::File;
-use std::io::{ErrorKind, Read, Write};
+use std::fs::{self, File};
+use std::io::{self, ErrorKind, Read, Write};
 use std::os::unix::fs::{MetadataExt, PermissionsExt, symlink};
 use std::os::unix::net::{UnixListener, UnixStream};
-use std::{fs, io};
 
 /// What is done with files and sockets, or asked of them.
 enum Step {
