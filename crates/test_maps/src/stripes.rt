@@ -23,19 +23,24 @@ pub(crate) fn sixteen_stripes<R: Abort>(rt: &R, alloc: Global) -> Stripes {
     Stripes::empty(alloc, sixteen(rt)).expect(rt, "16 stripes")
 }
 
-/// Whether the first of two passes alone is the keeper and gets stripe 0. What comes of the other's
-/// calls meanwhile: of two keys of stripe 0, and of a key of another.
+/// What comes of calls of two keys of stripe 0, and of a key of another.
+fn try_four(caller: &mut Caller<'_>) -> [Tried; 4] {
+    [
+        caller.try_put("BB"),
+        caller.try_get("Aa"),
+        caller.try_put("a"),
+        caller.try_get("a"),
+    ]
+}
+
+/// Whether the first of two passes alone is the keeper and gets stripe 0, and what comes of the
+/// other's calls meanwhile.
 fn try_beside_holder(stripes: &Stripes, alloc: Global) -> Result<(bool, [Tried; 4]), Refusal> {
     let holder = Caller::new(stripes, alloc)?;
     let mut caller = Caller::new(stripes, alloc)?;
     let is_keeper_alone = holder.is_keeper() && !caller.is_keeper();
     let held = holder.hold(0);
-    let tried = [
-        caller.try_put("BB"),
-        caller.try_get("Aa"),
-        caller.try_put("a"),
-        caller.try_get("a"),
-    ];
+    let tried = try_four(&mut caller);
     Ok((is_keeper_alone && held.is_some(), tried))
 }
 

@@ -40,13 +40,17 @@ fn put_numbered(
     position
 }
 
-fn put_often(stripes: &Stripes, alloc: Global, side: usize) -> Result<Vec<u64>, Refusal> {
-    let mut caller = Caller::new(stripes, alloc)?;
+fn put_each(caller: &mut Caller<'_>, alloc: Global, side: usize) -> Result<Vec<u64>, Refusal> {
     let mut positions = Vec::new(alloc);
-    for n in 0..CALLS {
-        positions.push(put_numbered(&mut caller, alloc, side, n)?)?;
+    for number in 0..CALLS {
+        let position = put_numbered(caller, alloc, side, number)?;
+        positions.push(position)?;
     }
     Ok(positions)
+}
+
+fn put_often(stripes: &Stripes, alloc: Global, side: usize) -> Result<Vec<u64>, Refusal> {
+    put_each(&mut Caller::new(stripes, alloc)?, alloc, side)
 }
 
 /// Whether these are the positions from 1 on, each once and in any order.

@@ -3,56 +3,65 @@ use crate::checks::assert_same;
 use map_types::{Func, Key, Refusal, Text, Value};
 use std::alloc::Global;
 
-/// The length of the key of `len` bytes.
-fn key_of(alloc: Global, len: usize) -> Result<usize, Refusal> {
-    let text = "k".repeat(alloc, len)?;
-    let key = Key::new(alloc, text.as_str())?;
+/// The length of a key of these bytes.
+fn key_of(alloc: Global, bytes: &str) -> Result<usize, Refusal> {
+    let key = Key::new(alloc, bytes)?;
     Ok(key.as_str().len())
 }
 
-/// The length of the text of `len` bytes.
-fn text_of(alloc: Global, len: usize) -> Result<usize, Refusal> {
-    let text = "v".repeat(alloc, len)?;
-    let text = Text::new(alloc, text.as_str())?;
+/// The length of a text of these bytes.
+fn text_of(alloc: Global, bytes: &str) -> Result<usize, Refusal> {
+    let text = Text::new(alloc, bytes)?;
     Ok(text.as_str().len())
 }
 
 /// The same of a value; 0 if it's none of a text.
-fn value_of(alloc: Global, len: usize) -> Result<usize, Refusal> {
-    let text = "v".repeat(alloc, len)?;
-    match Value::text(alloc, text.as_str())? {
+fn value_of(alloc: Global, bytes: &str) -> Result<usize, Refusal> {
+    match Value::text(alloc, bytes)? {
         Value::Text(text) => Ok(text.as_str().len()),
         Value::Int(_) => Ok(0),
     }
 }
 
-#[test]
-fn lengths_up_to_their_limit(rt: HostRuntime) {
-    let alloc = rt.alloc();
-    let longest = [
-        key_of(alloc, 4095),
-        text_of(alloc, 4096),
-        value_of(alloc, 4096),
+/// The lengths of a key, a text and a value of so many bytes.
+type Lengths = [Result<usize, Refusal>; 3];
+
+fn lengths_of(alloc: Global, len: usize) -> Result<Lengths, Refusal> {
+    let bytes = "v".repeat(alloc, len)?;
+    let lengths = [
+        key_of(alloc, &bytes),
+        text_of(alloc, &bytes),
+        value_of(alloc, &bytes),
     ];
-    let longer = [
-        key_of(alloc, 4096),
-        text_of(alloc, 4097),
-        value_of(alloc, 4097),
-    ];
-    let too_long = Err(Refusal::ValueTooLong);
-    let wanted = (
-        [Ok(4095), Ok(4096), Ok(4096)],
-        [Err(Refusal::KeyTooLong), too_long, too_long],
-    );
-    assert_same(&rt, &(longest, longer), &wanted);
+    drop(bytes);
+    Ok(lengths)
 }
 
-/// Whether `a` is before `aa`, and is its clone.
-fn compared(alloc: Global) -> Result<(bool, bool), Refusal> {
-    let key = Key::new(alloc, "a")?;
-    let longer = Key::new(alloc, "aa")?;
-    let clone = key.clone()?;
-    Ok((key < longer, key == clone))
+const TOO_LONG: Result<usize, Refusal> = Err(Refusal::ValueTooLong);
+
+const LENGTHS: [(usize, Lengths); 3] = [
+    (4095, [Ok(4095); 3]),
+    (4096, [Err(Refusal::KeyTooLong), Ok(4096), Ok(4096)]),
+    (4097, [Err(Refusal::KeyTooLong), TOO_LONG, TOO_LONG]),
+];
+
+#[test]
+fn lengths_up_to_their_limit(rt: HostRuntime) {
+    for (len, wanted) in LENGTHS {
+        assert_same(&rt, &lengths_of(rt.alloc(), len), &Ok(wanted));
+    }
+}
+
+/// Whether the one key is before the other.
+fn is_before(alloc: Global, one: &str, other: &str) -> Result<bool, Refusal> {
+    let one = Key::new(alloc, one)?;
+    Ok(one < Key::new(alloc, other)?)
+}
+
+/// Whether a key is its clone.
+fn is_its_clone(alloc: Global, key: &str) -> Result<bool, Refusal> {
+    let key = Key::new(alloc, key)?;
+    Ok(key.clone()? == key)
 }
 
 /// Whether `ab`, followed by `c`, is `abc`.
@@ -62,21 +71,32 @@ fn is_joined(alloc: Global) -> Result<bool, Refusal> {
     Ok(both.as_str() == "abc")
 }
 
-/// Whether the text `1` is the same as another `1`, and as the number 1.
-fn are_same(alloc: Global) -> Result<(bool, bool), Refusal> {
-    let text = Value::text(alloc, "1")?;
-    let other = Value::text(alloc, "1")?;
-    Ok((other.is_same(&text), Value::Int(1).is_same(&text)))
+/// Whether the text is the same as the value.
+fn is_same(alloc: Global, text: &str, value: Value) -> Result<bool, Refusal> {
+    let text = Value::text(alloc, text)?;
+    Ok(value.is_same(&text))
+}
+
+/// Whether the text is the same as another of its bytes.
+fn is_same_text(alloc: Global, text: &str) -> Result<bool, Refusal> {
+    let other = Value::text(alloc, text)?;
+    is_same(alloc, text, other)
 }
 
 #[test]
 fn keys_and_values_are_compared(rt: HostRuntime) {
     let alloc = rt.alloc();
-    let found = (compared(alloc), is_joined(alloc), are_same(alloc));
+    let found = [
+        is_before(alloc, "a", "aa"),
+        is_its_clone(alloc, "a"),
+        is_joined(alloc),
+        is_same_text(alloc, "1"),
+        is_same(alloc, "1", Value::Int(1)),
+    ];
     assert_same(
         &rt,
         &found,
-        &(Ok((true, true)), Ok(true), Ok((true, false))),
+        &[Ok(true), Ok(true), Ok(true), Ok(true), Ok(false)],
     );
 }
 
@@ -103,9 +123,12 @@ fn functions_by_number(rt: HostRuntime) {
     assert_same(&rt, &first_wrong(), &None);
 }
 
-fn is_printed(alloc: Global, refusal: Refusal, text: &str) -> Result<bool, Refusal> {
-    let printed = format!(in alloc; "{refusal}")?;
-    Ok(printed.as_str() == text)
+/// Whether the refusal has this number, and is printed so.
+fn is_printed(alloc: Global, refusal: Refusal, number: u8, text: &str) -> bool {
+    match format!(in alloc; "{refusal}") {
+        Ok(printed) => printed.as_str() == text && refusal.number() == number,
+        Err(_) => false,
+    }
 }
 
 /// Refusals, their numbers and how they are printed.
@@ -124,16 +147,16 @@ static REFUSALS: [(Refusal, u8, &str); 4] = [
 ];
 
 /// The text of the first refusal that has another number, or is printed otherwise, if any.
-fn first_misprinted(alloc: Global) -> Result<Option<&'static str>, Refusal> {
+fn first_misprinted(alloc: Global) -> Option<&'static str> {
     for (refusal, number, text) in &REFUSALS {
-        if !is_printed(alloc, *refusal, text)? || refusal.number() != *number {
-            return Ok(Some(*text));
+        if !is_printed(alloc, *refusal, *number, text) {
+            return Some(*text);
         }
     }
-    Ok(None)
+    None
 }
 
 #[test]
 fn printed_refusals(rt: HostRuntime) {
-    assert_same(&rt, &first_misprinted(rt.alloc()), &Ok(None));
+    assert_same(&rt, &first_misprinted(rt.alloc()), &None);
 }

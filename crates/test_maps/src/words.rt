@@ -54,25 +54,6 @@ fn one_pass_puts_and_reads(rt: HostRuntime) {
     assert_same(&rt, &made, &Ok((1, 1, true)));
 }
 
-/// Makes a put, and gives its reply up. Its position.
-fn give_up_put<S: Steps>(steps: &mut S, alloc: Global) -> Result<u64, Refusal>
-    requires { (S.recorded steps.old).holding ≡ None }
-{
-    let held = try_call(steps, alloc, put(alloc, "k", 1)?)?;
-    let position = position_of(&held);
-    held.give_up();
-    Ok(position)
-}
-
-#[test]
-fn a_held_reply_is_given_up(rt: HostRuntime) {
-    let alloc = rt.alloc();
-    let mut words = PlainWords::empty(alloc, sixteen(&rt), 0).expect(&rt, "words");
-    let position = give_up_put(&mut At::new(&mut words, 0), alloc);
-    drop(words);
-    assert_same(&rt, &position, &Ok(1));
-}
-
 /// Makes a put. Whether its reply has to wait.
 fn waits<S: Steps>(steps: &mut S, alloc: Global) -> Result<bool, Refusal>
     requires { (S.recorded steps.old).holding ≡ None }
