@@ -1,11 +1,11 @@
 //! The journal of the map in memory, on a disk that fails.
+use crate::checks::assert_same;
 use cmd_mem::Memory;
 use connections::{Calls, serve_connection};
 use disk_model::{Failure, Fill, MemDisk};
 use map_types::{Change, Command, Key, Question, Read, Refusal, Reply, Value};
 use std::alloc::Global;
 use std::sync::Wait;
-use std::test::Fail;
 use wire_frames::Request;
 
 /// More device calls than are made before the first change.
@@ -36,13 +36,6 @@ pub(crate) fn begun<'a, R: Wait>(
     }
 }
 
-fn put(alloc: Global, number: i64) -> Result<Request, Refusal> {
-    Ok(Request::Change(Command {
-        key: Key::new(alloc, "a")?,
-        change: Change::Put(Value::Int(number)),
-    }))
-}
-
 /// Begins a call and finishes it.
 pub(crate) fn called<R: Wait>(
     memory: &mut Memory<MemDisk, R>,
@@ -52,29 +45,28 @@ pub(crate) fn called<R: Wait>(
     memory.finish(held)
 }
 
-/// The number of the refusal, or 0.
-fn status<T: Drop>(answer: Result<T, Refusal>) -> u8 {
-    match answer {
-        Ok(_) => 0,
-        Err(refusal) => refusal.number(),
-    }
-}
-
-fn put_status<R: Wait>(memory: &mut Memory<MemDisk, R>, alloc: Global, number: i64) -> u8 {
-    match put(alloc, number) {
-        Ok(request) => status(called(memory, request)),
-        Err(refusal) => refusal.number(),
+/// What is replied to these requests.
+pub(crate) fn served<R: Wait>(
+    memory: &mut Memory<MemDisk, R>,
+    alloc: Global,
+    requests: &[u8],
+) -> Result<Vec<u8>, Refusal> {
+    let mut reader = requests;
+    let mut writer = Vec::new(alloc);
+    match serve_connection(alloc, &mut reader, &mut writer, memory) {
+        Ok(()) => Ok(writer),
+        Err(_) => Err(Refusal::Failed),
     }
 }
 
 /// How many device calls are made before the first change. If one of them fails, the map is not
-/// begun, and the refusal is 9: else it returns `MANY`.
+/// begun, and this is refused with `Failed`: else it returns `MANY`.
 pub(crate) fn first_calls<R: Wait>(rt: &R, alloc: Global) -> u64 {
     for after in 0..MANY {
-        match status(begun(rt, alloc, failing_disk(alloc, after))) {
-            0 => return after,
-            9 => {}
-            _ => return MANY,
+        match begun(rt, alloc, failing_disk(alloc, after)) {
+            Ok(_) => return after,
+            Err(Refusal::Failed) => {}
+            Err(_) => return MANY,
         }
     }
     MANY
@@ -84,27 +76,51 @@ pub(crate) fn first_calls<R: Wait>(rt: &R, alloc: Global) -> u64 {
 #[test]
 fn a_failure_before_the_first_change(rt: HostRuntime) {
     let calls = first_calls(&rt, rt.alloc());
-    assert!(rt; calls > 17 && calls < MANY, "{calls}");
+    let wrong = if calls > 17 && calls < MANY {
+        None
+    } else {
+        Some(calls)
+    };
+    assert_same(&rt, &wrong, &None);
 }
 
-/// Whether the first of three changes is made, and the others are refused with 9.
-fn fails_behind_one<R: Wait>(memory: &mut Memory<MemDisk, R>, alloc: Global) -> bool {
-    let first = put_status(memory, alloc, 5);
-    let second = put_status(memory, alloc, 6);
-    let third = put_status(memory, alloc, 7);
-    [first, second, third] == [0, 9, 9]
+fn put(alloc: Global, number: i64) -> Result<Request, Refusal> {
+    Ok(Request::Change(Command {
+        key: Key::new(alloc, "a")?,
+        change: Change::Put(Value::Int(number)),
+    }))
 }
 
+/// What came of a change: its reply is dropped.
+type Tried = Result<(), Refusal>;
+
+/// What comes of a put of `a`.
+fn try_put<R: Wait>(memory: &mut Memory<MemDisk, R>, alloc: Global, number: i64) -> Tried {
+    let request = put(alloc, number)?;
+    called(memory, request).map(drop)
+}
+
+/// What comes of three changes over this disk.
+fn change_thrice<R: Wait>(rt: &R, alloc: Global, disk: MemDisk) -> Result<[Tried; 3], Refusal> {
+    let mut memory = begun(rt, alloc, disk)?;
+    Ok([
+        try_put(&mut memory, alloc, 5),
+        try_put(&mut memory, alloc, 6),
+        try_put(&mut memory, alloc, 7),
+    ])
+}
+
+/// The first change is made. One device call of the second's batch fails.
 #[test]
-fn a_failure_at_each_device_call(rt: HostRuntime) -> Result<(), Refusal> {
+fn a_failure_at_each_device_call(rt: HostRuntime) {
     let alloc = rt.alloc();
     let calls = first_calls(&rt, alloc);
+    let failed = Err(Refusal::Failed);
     for call in 0..BATCH_CALLS {
         let disk = failing_disk(alloc, calls.saturating_add(BATCH_CALLS + call));
-        let mut memory = begun(&rt, alloc, disk)?;
-        assert!(rt; fails_behind_one(&mut memory, alloc), "{call}");
+        let changed = change_thrice(&rt, alloc, disk);
+        assert_same(&rt, &(call, changed), &(call, Ok([Ok(()), failed, failed])));
     }
-    Ok(())
 }
 
 /// Two puts of `a`, which share a batch.
@@ -113,66 +129,74 @@ const PUT_TWICE: &[u8] =
 
 const FAILED: &[u8] = b"\x00\x02\x89\x00";
 
-/// The first put has no reply but this one, and the second is given up.
-#[test]
-fn a_failure_ends_the_connection(rt: HostRuntime) -> Result<(), Fail> {
-    let alloc = rt.alloc();
-    let calls = first_calls(&rt, alloc);
-    let disk = failing_disk(alloc, calls);
-    let mut memory = begun(&rt, alloc, disk)?;
-    let mut reader = PUT_TWICE;
-    let mut writer = Vec::new(alloc);
-    serve_connection(alloc, &mut reader, &mut writer, &mut memory)?;
-    assert_eq!(rt; writer.as_slice(), FAILED);
-    Ok(())
+/// What is replied to two puts if the first device call for them fails.
+fn served_by_failing<R: Wait>(rt: &R, alloc: Global) -> Result<Vec<u8>, Refusal> {
+    let disk = failing_disk(alloc, first_calls(rt, alloc));
+    let mut memory = begun(rt, alloc, disk)?;
+    served(&mut memory, alloc, PUT_TWICE)
 }
 
-/// What `a` is mapped to: -1 for nothing, and below that one less than the negative number of a refusal.
-fn value_of<R: Wait>(memory: &mut Memory<MemDisk, R>, alloc: Global) -> i64 {
-    let key = match Key::new(alloc, "a") {
-        Ok(key) => key,
-        Err(refusal) => return -1 - i64::from(refusal.number()),
-    };
+/// The first put has no reply but this one, and the second is given up.
+#[test]
+fn a_failure_ends_the_connection(rt: HostRuntime) {
+    let replies = served_by_failing(&rt, rt.alloc()).expect(&rt, "replies");
+    assert_same(&rt, &replies.as_slice(), &FAILED);
+    drop(replies);
+}
+
+/// The number that `a` is mapped to.
+fn value_of<R: Wait>(
+    memory: &mut Memory<MemDisk, R>,
+    alloc: Global,
+) -> Result<Option<i64>, Refusal> {
     let request = Request::Read(Read {
-        key,
+        key: Key::new(alloc, "a")?,
         question: Question::Get,
     });
-    match called(memory, request) {
-        Ok(Reply::Now(Some(Value::Int(number)))) => number,
-        Ok(_) => -1,
-        Err(refusal) => -1 - i64::from(refusal.number()),
+    match called(memory, request)? {
+        Reply::Now(Some(Value::Int(number))) => Ok(Some(number)),
+        _ => Ok(None),
     }
 }
 
-/// Two changes and a read: the numbers of the refusals of the changes, and what the read found.
-fn change_twice<R: Wait>(memory: &mut Memory<MemDisk, R>, alloc: Global) -> (u8, u8, i64) {
-    let first = put_status(memory, alloc, 5);
-    let second = put_status(memory, alloc, 6);
-    (first, second, value_of(memory, alloc))
+/// What came of two changes, and what a read found behind them.
+type Seen = ([Tried; 2], Result<Option<i64>, Refusal>);
+
+/// What comes of two changes and a read of an empty map.
+fn change_twice<R: Wait>(rt: &R, alloc: Global) -> Result<Seen, Refusal> {
+    let mut memory = begun(rt, alloc, MemDisk::new(alloc))?;
+    let tried = [
+        try_put(&mut memory, alloc, 5),
+        try_put(&mut memory, alloc, 6),
+    ];
+    Ok((tried, value_of(&mut memory, alloc)))
 }
 
-/// It passes too if any one allocation is refused: a call is refused and changes nothing, or is
+const REFUSED: Tried = Err(Refusal::NoMemory);
+
+const BROKEN: Tried = Err(Refusal::Failed);
+
+/// What may be seen if any one allocation is refused: a call is refused and changes nothing, or is
 /// made; or it is a write of the disk that found no memory, and the map has failed.
+const ALLOWED: [Result<Seen, Refusal>; 8] = [
+    Err(Refusal::NoMemory),
+    Err(Refusal::Failed),
+    Ok(([Ok(()), Ok(())], Ok(Some(6)))),
+    Ok(([REFUSED, Ok(())], Ok(Some(6)))),
+    Ok(([Ok(()), REFUSED], Ok(Some(5)))),
+    Ok(([Ok(()), Ok(())], Err(Refusal::NoMemory))),
+    Ok(([BROKEN, BROKEN], Err(Refusal::Failed))),
+    Ok(([Ok(()), BROKEN], Err(Refusal::Failed))),
+];
+
 #[test]
 fn memory_that_is_refused(rt: HostRuntime) {
-    let alloc = rt.alloc();
-    let seen = match begun(&rt, alloc, MemDisk::new(alloc)) {
-        Ok(mut memory) => change_twice(&mut memory, alloc),
-        Err(refusal) => {
-            assert!(rt;
-                refusal.number() == 7 || refusal.number() == 9,
-                "{refusal:?}"
-            );
-            return;
-        }
+    let seen = change_twice(&rt, rt.alloc());
+    let allowed = ALLOWED;
+    let wrong = if allowed.contains(&seen) {
+        None
+    } else {
+        Some(seen)
     };
-    let allowed = [
-        (0, 0, 6),
-        (7, 0, 6),
-        (0, 7, 5),
-        (0, 0, -8),
-        (9, 9, -10),
-        (0, 9, -10),
-    ];
-    assert!(rt; allowed.contains(&seen), "{seen:?}");
+    assert_same(&rt, &wrong, &None);
 }

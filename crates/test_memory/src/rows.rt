@@ -1,10 +1,10 @@
 //! Rows of calls that share a batch.
-use crate::journal::{BATCH_CALLS, begun, failing_disk, first_calls};
-use connections::serve_connection;
-use disk_model::Disk;
-use std::alloc::Global;
+use crate::checks::assert_same;
+use crate::journal::{BATCH_CALLS, begun, failing_disk, first_calls, served};
+use disk_model::{Disk, MemDisk};
+use map_types::Refusal;
+use std::alloc::{AllocError, Global};
 use std::sync::Wait;
-use std::test::Fail;
 
 /// The first log of a store.
 const LOG_A: usize = 2;
@@ -21,78 +21,117 @@ const WAS_FRONT: &[u8] = b"\x00\x0A\x00\x01\x00\x00\x00\x00\x00\x00\x00";
 /// A reply of a connection that ends, since a device call has failed.
 const FAILED: &[u8] = b"\x00\x02\x89\x00";
 
-/// The frames of puts of 1, 2 and so on.
-fn puts(alloc: Global, count: u8) -> Result<Vec<u8>, Fail> {
-    let mut frames = Vec::new(alloc);
+/// So many pieces of these bytes, each followed by its number.
+fn numbered(alloc: Global, front: &[u8], count: u8) -> Result<Vec<u8>, AllocError> {
+    let mut bytes = Vec::new(alloc);
     for number in 1..=count {
-        frames.extend_from_slice(PUT_FRONT)?;
-        frames.push(number)?;
+        bytes.extend_from_slice(front)?;
+        bytes.push(number)?;
     }
-    Ok(frames)
+    Ok(bytes)
 }
 
-/// The replies to `count` puts.
-fn replies(alloc: Global, count: u8) -> Result<Vec<u8>, Fail> {
+/// Puts in one piece, over a new map whose disk fails behind some batches.
+struct Row {
+    puts: u8,
+    batches: u64,
+    /// How many of the puts are made. The next, if there is one, finds a disk that fails.
+    made: u8,
+}
+
+/// The replies to a row.
+fn replies(alloc: Global, row: &Row) -> Result<Vec<u8>, AllocError> {
     let mut replies = Vec::new(alloc);
     replies.extend_from_slice(WAS_ABSENT)?;
-    for number in 1..count {
-        replies.extend_from_slice(WAS_FRONT)?;
-        replies.push(number)?;
+    let others = numbered(alloc, WAS_FRONT, row.made.saturating_sub(1))?;
+    replies.extend_from_slice(&others)?;
+    if row.made < row.puts {
+        replies.extend_from_slice(FAILED)?;
     }
     Ok(replies)
 }
 
-/// What is replied to `count` puts in one piece, over a new map whose disk fails behind `batches`
-/// batches; and the length of its log then.
-fn answered<R: Wait>(
-    rt: &R,
-    alloc: Global,
-    count: u8,
-    batches: u64,
-) -> Result<(Vec<u8>, usize), Fail> {
-    let calls = first_calls(rt, alloc);
-    let disk = failing_disk(
-        alloc,
-        calls.saturating_add(batches.saturating_mul(BATCH_CALLS)),
-    );
+fn log_length(mut disk: MemDisk) -> Result<usize, Refusal> {
+    match disk.len(LOG_A) {
+        Ok(len) => Ok(len),
+        Err(_) => Err(Refusal::Failed),
+    }
+}
+
+/// What is replied to a row, and the length of the log then.
+fn answered<R: Wait>(rt: &R, alloc: Global, row: &Row) -> Result<(Vec<u8>, usize), Refusal> {
+    let calls = row.batches.saturating_mul(BATCH_CALLS);
+    let disk = failing_disk(alloc, first_calls(rt, alloc).saturating_add(calls));
     let mut memory = begun(rt, alloc, disk)?;
-    let frames = puts(alloc, count)?;
-    let mut reader = frames.as_slice();
-    let mut writer = Vec::new(alloc);
-    serve_connection(alloc, &mut reader, &mut writer, &mut memory)?;
-    let mut disk = memory.into_disk();
-    let len = disk.len(LOG_A)?;
-    Ok((writer, len))
+    let requests = numbered(alloc, PUT_FRONT, row.puts)?;
+    let written = served(&mut memory, alloc, &requests)?;
+    Ok((written, log_length(memory.into_disk())?))
 }
 
+/// What comes of a row.
+#[derive(Clone, Copy, Debug, PartialEq)]
+struct Served {
+    /// Whether the replies are those to the puts that are made.
+    is_answered: bool,
+    /// How many bytes they have.
+    replied: usize,
+    /// The length of the log.
+    logged: usize,
+}
+
+fn serve<R: Wait>(rt: &R, alloc: Global, row: &Row) -> Result<Served, Refusal> {
+    let wanted = replies(alloc, row)?;
+    let (written, logged) = answered(rt, alloc, row)?;
+    Ok(Served {
+        is_answered: written == wanted,
+        replied: written.len(),
+        logged,
+    })
+}
+
+/// Rows, and how many bytes are replied and logged. A row of 64 is one batch, and a longer one is two,
+/// of which the first is committed if the second finds a disk that fails.
+///
 /// A log has a header of 17 bytes and a gate. A batch has 17 bytes, its records, and a gate behind
-/// it. A record of a put has 12 bytes.
-#[test]
-fn a_row_is_one_batch(rt: HostRuntime) -> Result<(), Fail> {
-    let alloc = rt.alloc();
-    let (written, len) = answered(&rt, alloc, 64, 2)?;
-    assert_eq!(rt; written.len(), 760);
-    assert_eq!(rt; written.as_slice(), replies(alloc, 64)?.as_slice());
-    assert_eq!(rt; len, 868);
-    Ok(())
-}
+/// it. A record of a put has 12 bytes. What a write that fails was given is there, a closed gate too.
+static ROWS: [(Row, usize, usize); 3] = [
+    (
+        Row {
+            puts: 64,
+            batches: 2,
+            made: 64,
+        },
+        760,
+        868,
+    ),
+    (
+        Row {
+            puts: 65,
+            batches: 3,
+            made: 65,
+        },
+        772,
+        899,
+    ),
+    (
+        Row {
+            puts: 65,
+            batches: 1,
+            made: 64,
+        },
+        764,
+        899,
+    ),
+];
 
 #[test]
-fn a_longer_row_is_two_batches(rt: HostRuntime) -> Result<(), Fail> {
-    let alloc = rt.alloc();
-    let (written, len) = answered(&rt, alloc, 65, 3)?;
-    assert_eq!(rt; written.as_slice(), replies(alloc, 65)?.as_slice());
-    assert_eq!(rt; len, 899);
-    Ok(())
-}
-
-/// The first 64 puts are committed, and the last finds a disk that fails.
-#[test]
-fn a_failure_between_two_rows(rt: HostRuntime) -> Result<(), Fail> {
-    let alloc = rt.alloc();
-    let mut wanted = replies(alloc, 64)?;
-    wanted.extend_from_slice(FAILED)?;
-    let (written, _len) = answered(&rt, alloc, 65, 1)?;
-    assert_eq!(rt; written.as_slice(), wanted.as_slice());
-    Ok(())
+fn a_row_is_one_batch(rt: HostRuntime) {
+    for (row, replied, logged) in &ROWS {
+        let wanted = Served {
+            is_answered: true,
+            replied: *replied,
+            logged: *logged,
+        };
+        assert_same(&rt, &serve(&rt, rt.alloc(), row), &Ok(wanted));
+    }
 }
