@@ -1,11 +1,11 @@
 //! The line of a case: `CALL STRIPES | CHANGE | CHANGE > CALLED > CALLED`. The changes make the
 //! state; each text behind a `>` is what is called on it, between the marks. Those of a `view` are
 //! reads, which are made behind it.
-use anyhow::{Context, Result, bail};
-use call_text::{Asked, Called, parse_call, parse_words};
+use anyhow::{Result, bail};
+use call_text::{Asked, Called, parse_words, stripes_named};
 use java_hash::StripeCount;
 use map_types::Command;
-use std::alloc::Global;
+use std::alloc::{AllocError, Global};
 
 /// A case.
 #[derive(Drop)]
@@ -20,24 +20,32 @@ pub(crate) struct Case<'a> {
     pub called: Vec<&'a str>,
 }
 
-/// The text before the first sign, and those between the others, without the spaces around them.
-fn texts_behind<'a>(alloc: Global, text: &'a str, sign: char) -> Result<(&'a str, Vec<&'a str>)> {
-    let mut texts = Vec::new(alloc);
-    let Some((front, rest)) = text.split_once(sign) else {
-        return Ok((text.trim(), texts));
-    };
-    for part in rest.split(sign) {
-        texts.push(part.trim())?;
+/// The call and the count of stripes with which a line begins.
+fn head_of(line: &str) -> Option<(&str, StripeCount)> {
+    let mut words = line.split(' ');
+    let word = words.next()?;
+    Some((word, stripes_named(words.next()?)?))
+}
+
+/// The text before the first sign, and those between the others.
+fn texts_behind<'a>(
+    alloc: Global,
+    text: &'a str,
+    sign: &str,
+) -> Result<(&'a str, Vec<&'a str>), AllocError> {
+    match text.split_once(sign) {
+        Some((front, rest)) => Ok((front, rest.split(sign).collect(alloc)?)),
+        None => Ok((text, Vec::new(alloc))),
     }
-    Ok((front.trim(), texts))
 }
 
 /// The case of a line.
 pub(crate) fn case_of<'a>(alloc: Global, line: &'a str) -> Result<Case<'a>> {
-    let (front, called) = texts_behind(alloc, line, '>')?;
-    let (head, state) = texts_behind(alloc, front, '|')?;
-    let (word, count) = head.split_once(' ').context("a call and a count")?;
-    let stripes = StripeCount::new(count.parse::<u16>()?).context("a count of stripes")?;
+    let Some((word, stripes)) = head_of(line) else {
+        bail!("a call and a count of stripes are needed");
+    };
+    let (front, called) = texts_behind(alloc, line, " > ")?;
+    let (_head, state) = texts_behind(alloc, front, " | ")?;
     Ok(Case {
         word,
         stripes,
@@ -46,25 +54,18 @@ pub(crate) fn case_of<'a>(alloc: Global, line: &'a str) -> Result<Case<'a>> {
     })
 }
 
-/// The words of a text.
-fn words_in(alloc: Global, text: &str) -> Result<Vec<&str>> {
-    let mut words = Vec::new(alloc);
-    for word in text.split(' ') {
-        words.push(word)?;
-    }
-    Ok(words)
+/// What a text asks of a key or of the whole map.
+pub(crate) fn called_in(alloc: Global, text: &str) -> Result<Called> {
+    let words: Vec<&str> = text.split(' ').collect(alloc)?;
+    Ok(parse_words(alloc, words.as_slice())?)
 }
 
 /// What a text asks of a key.
 pub(crate) fn asked_in(alloc: Global, text: &str) -> Result<Asked> {
-    let words = words_in(alloc, text)?;
-    Ok(parse_call(alloc, words.as_slice())?)
-}
-
-/// What a text asks of a key or of the whole map.
-pub(crate) fn called_in(alloc: Global, text: &str) -> Result<Called> {
-    let words = words_in(alloc, text)?;
-    Ok(parse_words(alloc, words.as_slice())?)
+    match called_in(alloc, text)? {
+        Called::Keyed(asked) => Ok(asked),
+        _ => bail!("a key is needed"),
+    }
 }
 
 /// The change that a text asks for.

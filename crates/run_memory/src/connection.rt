@@ -3,7 +3,7 @@
 use crate::cases::Case;
 use crate::directory::running;
 use crate::host::Host;
-use crate::marks::{begin, end};
+use crate::marks::Marks;
 use anyhow::{Context, Result, anyhow};
 use cmd_mem::Memory;
 use cmd_serve::{NoObserver, Worker};
@@ -11,7 +11,6 @@ use connections::{Calls, ConnectionError, serve_connection};
 use disk_model::{Disk, MemDisk};
 use durable_map::{DurableMap, Ends, flush_loop};
 use run_cases::{bytes_spelled, hexadecimal};
-use std::alloc::Global;
 use std::sync::Wait;
 use std::sync::atomic::{AtomicBool, Ordering};
 use std::thread::join;
@@ -25,27 +24,10 @@ pub(crate) struct Flag {
     is_up: AtomicBool,
 }
 
-impl Flag {
-    fn new() -> Flag {
-        Flag {
-            is_up: AtomicBool::new(false),
-        }
-    }
-
-    fn raise(&self) {
-        self.is_up.store(true, Ordering::SeqCst);
-    }
-}
-
 impl Ends for Flag {
     fn has_ended(&self) -> bool {
         self.is_up.load(Ordering::SeqCst)
     }
-}
-
-/// The bytes that a connection sends.
-fn frames_of(alloc: Global, text: &str) -> Result<Vec<u8>> {
-    bytes_spelled(alloc, text)?.context("bytes in hexadecimal")
 }
 
 /// Prints the replies, and whether the connection broke off.
@@ -54,33 +36,25 @@ fn show_replies<R: AllocGlobal + Print>(
     replies: &[u8],
     ended: &Result<(), ConnectionError>,
 ) -> Result<()> {
+    let word = if ended.is_ok() { "ended" } else { "broken" };
     let replies = hexadecimal(rt.alloc(), replies)?;
-    match ended {
-        Ok(()) => println!(rt; "ended {replies}")?,
-        Err(_) => println!(rt; "broken {replies}")?,
-    }
+    println!(rt; "{word} {replies}")?;
     Ok(())
 }
 
-/// Serves a connection between the marks.
-fn serve_marked<R: AllocGlobal + Print, C: Calls>(
+/// Serves a connection that sends the bytes of a text.
+fn serve<R: AllocGlobal + Print, C: Calls>(
     rt: &R,
     calls: &mut C,
-    frames: &[u8],
+    text: &str,
+    marks: Marks,
 ) -> Result<()> {
-    let mut reader = frames;
+    let frames = bytes_spelled(rt.alloc(), text)?.context("bytes in hexadecimal")?;
+    let mut reader = frames.as_slice();
     let mut replies = Vec::with_capacity(rt.alloc(), ROOM)?;
-    begin(rt)?;
+    marks.begin(rt);
     let ended = serve_connection(rt.alloc(), &mut reader, &mut replies, calls);
-    end(rt)?;
-    show_replies(rt, replies.as_slice(), &ended)
-}
-
-/// Serves a connection.
-fn serve<R: AllocGlobal + Print, C: Calls>(rt: &R, calls: &mut C, frames: &[u8]) -> Result<()> {
-    let mut reader = frames;
-    let mut replies = Vec::new(rt.alloc());
-    let ended = serve_connection(rt.alloc(), &mut reader, &mut replies, calls);
+    marks.end(rt);
     show_replies(rt, replies.as_slice(), &ended)
 }
 
@@ -91,9 +65,9 @@ fn serve_each<R: AllocGlobal + Print, C: Calls>(
     texts: &[&str],
 ) -> Result<()> {
     let (first, others) = texts.split_first().context("a connection")?;
-    serve_marked(rt, calls, frames_of(rt.alloc(), first)?.as_slice())?;
+    serve(rt, calls, first, Marks::Both)?;
     for text in others {
-        serve(rt, calls, frames_of(rt.alloc(), text)?.as_slice())?;
+        serve(rt, calls, text, Marks::None)?;
     }
     Ok(())
 }
@@ -108,18 +82,20 @@ pub(crate) fn play_memory<R: AllocGlobal + Print + Wait>(rt: &R, case: &Case<'_>
 }
 
 /// Serves the connections of a case by a worker of the running store.
-fn serve_by_worker<D: Disk + Drop, R: Host>(rt: &R, map: &DurableMap<D>, texts: &[&str]) -> bool {
-    match Worker::new(rt, rt.alloc(), map, &NoObserver, 0) {
-        Ok(mut worker) => serve_each(rt, &mut worker, texts).is_ok(),
-        Err(_refusal) => false,
-    }
+fn serve_by_worker<D: Disk + Drop, R: Host>(
+    rt: &R,
+    map: &DurableMap<D>,
+    texts: &[&str],
+) -> Result<()> {
+    let mut worker = Worker::new(rt, rt.alloc(), map, &NoObserver, 0)?;
+    serve_each(rt, &mut worker, texts)
 }
 
-/// Serves the connections of a case, and ends the loop of the store.
+/// Serves the connections of a case, and ends the loop of the store. Says whether they were served.
 fn work<D: Disk + Drop, R: Host>(rt: &R, map: &DurableMap<D>, texts: &[&str], flag: &Flag) -> bool {
-    let is_served = serve_by_worker(rt, map, texts);
-    flag.raise();
-    is_served
+    let served = serve_by_worker(rt, map, texts);
+    flag.is_up.store(true, Ordering::SeqCst);
+    served.is_ok()
 }
 
 /// Serves connections over the running store, beside the loop that commits.
@@ -140,7 +116,10 @@ fn work_beside<D: Disk + Drop + Send, R: Host>(
 /// Serves the connections of a case over the running store of its directory.
 pub(crate) fn play_worker<R: Host>(rt: &R, case: &Case<'_>) -> Result<()> {
     let map = running(rt, case)?;
-    if work_beside(rt, &map, case.called.as_slice(), &Flag::new()) {
+    let flag = Flag {
+        is_up: AtomicBool::new(false),
+    };
+    if work_beside(rt, &map, case.called.as_slice(), &flag) {
         return Ok(());
     }
     Err(anyhow!("not served"))

@@ -3,31 +3,25 @@
 #![tactic(auto)]
 
 mod calls;
-mod captures;
 mod cases;
-mod checkpoints;
 mod connection;
 mod directory;
 mod growing;
 mod host;
-mod keepers;
 mod marks;
 mod showing;
-mod stores;
+mod store;
 mod sweeps;
 mod views;
-mod whole;
 
 use crate::calls::play_calls;
-use crate::captures::play_captures;
 use crate::cases::{Case, case_of};
 use crate::connection::{play_memory, play_worker};
 use crate::directory::{play_formats, play_found, play_leaving, play_opening};
 use crate::growing::play_growing;
 use crate::host::Host;
-use crate::sweeps::play_sweeps;
-use crate::views::{play_questions, play_views};
-use crate::whole::play_whole;
+use crate::sweeps::{play_captures, play_sweeps};
+use crate::views::{play_questions, play_views, play_whole};
 use anyhow::{Result, bail};
 use std::{env, fs};
 

@@ -1,16 +1,32 @@
-//! The lines between which memory may be refused. `tests/faults.c` knows them.
-use std::io;
+//! The lines round a call. `tests/faults.c` knows `begin` and `end`. A line that can't be written is
+//! missed by who reads them.
 
-/// The line before a call: from here on requests for memory are counted.
-const BEGIN: &[u8] = b"begin\n";
-
-/// The line behind a call: no request is counted any more.
-const END: &[u8] = b"end\n";
-
-pub(crate) fn begin<R: Print>(rt: &R) -> io::Result<()> {
-    rt.write_all(BEGIN)
+/// What is printed round a call.
+#[derive(Clone, Copy)]
+pub(crate) enum Marks {
+    /// `begin` and `end`: between them requests for memory are counted, and may be refused.
+    Both,
+    /// `again` before the call, which was refused.
+    Again,
+    /// Nothing.
+    None,
 }
 
-pub(crate) fn end<R: Print>(rt: &R) -> io::Result<()> {
-    rt.write_all(END)
+impl Marks {
+    /// Prints the line before the call.
+    pub(crate) fn begin<R: Print>(self, rt: &R) {
+        match self {
+            Marks::Both => drop(rt.write_all(b"begin\n")),
+            Marks::Again => drop(rt.write_all(b"again\n")),
+            Marks::None => {}
+        }
+    }
+
+    /// Prints the line behind the call.
+    pub(crate) fn end<R: Print>(self, rt: &R) {
+        match self {
+            Marks::Both => drop(rt.write_all(b"end\n")),
+            Marks::Again | Marks::None => {}
+        }
+    }
 }

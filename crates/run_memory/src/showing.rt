@@ -1,6 +1,5 @@
 //! What stands: the tickets, each stripe with its entries, and the keeper.
 ghost use Rattle.std.specs.Prelude.{◌≡◌, ◌<◌, None};
-ghost use Rattle.stripe_locks.specs.Passes.{recorded, IsPassOf};
 ghost use Rattle.ticket_order.specs.StepRules.{IsOfSamePass};
 
 use anyhow::Result;
@@ -10,7 +9,7 @@ use disk_model::Disk;
 use flusher::Keeper;
 use map_types::Refusal;
 use std::io;
-use stripe_locks::{Pass, Released, Stripes};
+use stripe_locks::{Released, Stripes};
 use ticket_order::{Purpose, Steps, Stripe};
 
 /// More than a batch may have.
@@ -20,7 +19,7 @@ pub(crate) const MOST: u32 = 100_000;
 pub(crate) fn show_answer<R: Print>(
     rt: &R,
     word: &str,
-    answer: &Result<u64, Refusal>,
+    answer: Result<u64, Refusal>,
 ) -> io::Result<()> {
     match answer {
         Ok(number) => println!(rt; "{word} {number}"),
@@ -29,11 +28,11 @@ pub(crate) fn show_answer<R: Print>(
 }
 
 /// The reply of a call with its position, if it was given out.
-pub(crate) fn show_released<R: AllocGlobal + Print>(rt: &R, released: Released) -> Result<()> {
+pub(crate) fn show_released<R: AllocGlobal + Print>(rt: &R, released: &Released) -> Result<()> {
     match released {
         Released::Reply(position, reply) => {
             let position = position.number();
-            let text = reply_text(rt.alloc(), &reply)?;
+            let text = reply_text(rt.alloc(), reply)?;
             println!(rt; "reply {position} {text}")?;
         }
         Released::NotYet(_) => println!(rt; "not yet")?,
@@ -77,32 +76,22 @@ fn show_stripe<R: AllocGlobal + Print, S: Steps>(rt: &R, steps: &mut S, stripe: 
     shown
 }
 
-/// What lies in each stripe.
+/// How many tickets are drawn, and what lies in each stripe.
 fn show_all<R: AllocGlobal + Print, S: Steps>(rt: &R, steps: &mut S) -> Result<()>
     requires idle { (S.recorded steps.old).holding ≡ None }
-    ensures idle { (S.recorded steps.new).holding ≡ None }
-    ensures pass { IsOfSamePass S.place S.stripe_count steps.old steps.new }
 {
+    let tickets = steps.look();
+    println!(rt; "  tickets {tickets}")?;
     for stripe in 0..steps.stripes().get() {
         show_stripe(rt, steps, stripe)?;
     }
     Ok(())
 }
 
-/// How many tickets are drawn, and what lies in each stripe.
-pub(crate) fn show_stripes<R: AllocGlobal + Print>(
-    rt: &R,
-    stripes: &Stripes,
-    pass: &mut Pass,
-) -> Result<()>
-    requires own { IsPassOf stripes.now pass.old }
-    requires idle { (recorded pass.old).holding ≡ None }
-    ensures own { IsPassOf stripes.now pass.new }
-    ensures idle { (recorded pass.new).holding ≡ None }
-{
-    let mut board = stripes.at(pass);
-    let tickets = board.look();
-    println!(rt; "  tickets {tickets}")?;
+/// The same, by a new pass.
+pub(crate) fn show_stripes<R: AllocGlobal + Print>(rt: &R, stripes: &Stripes) -> Result<()> {
+    let mut pass = stripes.pass()?;
+    let mut board = stripes.at(&mut pass);
     show_all(rt, &mut board)
 }
 

@@ -1,35 +1,17 @@
-//! Views of a running store, and what is asked of them.
-ghost use Rattle.durable_map.specs.Maps.{IsReady};
-
+//! Views of a running store, and what is asked of a view or of the whole map, of which no copy is made.
 use crate::cases::{Case, asked_in, called_in};
 use crate::directory::running;
 use crate::host::Host;
-use crate::marks::{begin, end};
+use crate::marks::Marks;
 use crate::showing::show_released;
-use anyhow::{Result, anyhow, bail};
-use bulk_tasks::View;
+use anyhow::{Result, bail};
+use bulk_tasks::{View, count, reduce, search};
 use call_text::{Asked, Called, reply_text, value_word};
 use disk_model::Disk;
 use durable_map::DurableMap;
 use java_hash::StripeCount;
 use map_types::{FuncError, Key, Refusal, Reply, Value};
 use std::io;
-use stripe_locks::Pass;
-
-/// Takes a view between the marks.
-fn view_marked<D: Disk + Drop, R: Host>(
-    rt: &R,
-    map: &DurableMap<D>,
-    pass: &mut Pass,
-) -> io::Result<Result<View, Refusal>>
-    requires { IsReady map.now pass.old }
-    ensures { IsReady map.now pass.new }
-{
-    begin(rt)?;
-    let answer = bulk_tasks::view(rt, rt.alloc(), map, pass);
-    end(rt)?;
-    Ok(answer)
-}
 
 /// Prints the mark of each stripe, and how many entries there are.
 fn show_view<R: Print>(rt: &R, view: &View, stripes: StripeCount) -> io::Result<()> {
@@ -51,85 +33,108 @@ fn read_by_another<D: Disk + Drop, R: Host>(rt: &R, map: &DurableMap<D>, text: &
         bail!("a read is needed");
     };
     let mut pass = map.pass()?;
-    match map.try_read(&mut pass, read) {
-        Ok(held) => show_released(rt, map.release(&mut pass, held)),
-        Err(refusal) => Err(anyhow!("refused {refusal}")),
-    }
+    let held = map.try_read(&mut pass, read)?;
+    show_released(rt, &map.release(&mut pass, held))
 }
 
-/// Prints what was answered, and makes the reads of the case.
-fn show<D: Disk + Drop, R: Host>(
+/// Prints what was answered, and says whether it was refused.
+fn show_viewed<R: Print>(
+    rt: &R,
+    answer: &Result<View, Refusal>,
+    stripes: StripeCount,
+) -> io::Result<bool> {
+    match answer {
+        Ok(view) => show_view(rt, view, stripes)?,
+        Err(refusal) => println!(rt; "refused {refusal}")?,
+    }
+    Ok(answer.is_err())
+}
+
+/// Takes a view by a new pass. Says whether it was refused.
+fn take_view<D: Disk + Drop, R: Host>(
+    rt: &R,
+    map: &DurableMap<D>,
+    stripes: StripeCount,
+    marks: Marks,
+) -> Result<bool> {
+    let mut pass = map.pass()?;
+    marks.begin(rt);
+    let answer = bulk_tasks::view(rt, rt.alloc(), map, &mut pass);
+    marks.end(rt);
+    Ok(show_viewed(rt, &answer, stripes)?)
+}
+
+/// Takes a view, and makes the reads of the case behind it: they show that its stripes are free. Says
+/// whether it was refused.
+fn view_and_read<D: Disk + Drop, R: Host>(
     rt: &R,
     map: &DurableMap<D>,
     case: &Case<'_>,
-    answer: &Result<View, Refusal>,
-) -> Result<()> {
-    match answer {
-        Ok(view) => show_view(rt, view, case.stripes)?,
-        Err(refusal) => println!(rt; "refused {refusal}")?,
-    }
+    marks: Marks,
+) -> Result<bool> {
+    let is_refused = take_view(rt, map, case.stripes, marks)?;
     for text in &case.called {
         read_by_another(rt, map, text)?;
     }
-    Ok(())
+    Ok(is_refused)
 }
 
-/// Takes a view of the state of a case between the marks, and again without them if it was refused.
-/// Behind each the reads of the case show that its stripes are free.
+/// Takes a view of the state of a case between the marks, and again if it was refused.
 pub(crate) fn play_views<R: Host>(rt: &R, case: &Case<'_>) -> Result<()> {
     let map = running(rt, case)?;
-    let mut pass = map.pass()?;
-    let answer = view_marked(rt, &map, &mut pass)?;
-    show(rt, &map, case, &answer)?;
-    if answer.is_err() {
-        println!(rt; "again")?;
-        let answer = bulk_tasks::view(rt, rt.alloc(), &map, &mut pass);
-        show(rt, &map, case, &answer)?;
+    if view_and_read(rt, &map, case, Marks::Both)? {
+        view_and_read(rt, &map, case, Marks::Again)?;
     }
     Ok(())
 }
 
-/// What a view returns.
+/// What is answered of all entries.
 #[derive(Drop)]
-pub(crate) enum Answer {
-    /// How many entries it has.
+enum Answer {
+    /// How many there are.
     Counted(usize),
-    /// What its values come to.
+    /// What their values come to.
     Reduced(Result<Option<Value>, FuncError>),
     /// The least key with the value.
     Found(Option<Key>),
 }
 
 /// Asks a view. Of one key it is asked nothing.
-fn ask<R: Host>(rt: &R, view: &View, called: &Called) -> Result<Answer, Refusal> {
+fn ask_view<R: Host>(rt: &R, view: &View, called: &Called) -> Result<Answer, Refusal> {
     match called {
         Called::Keyed(_) => Err(Refusal::UnknownMethod),
         Called::Count => Ok(Answer::Counted(view.count())),
         Called::Reduce(func, threshold) => {
-            let reduced = view.reduce(rt, *func, *threshold)?;
-            Ok(Answer::Reduced(reduced))
+            Ok(Answer::Reduced(view.reduce(rt, *func, *threshold)?))
         }
         Called::Search(threshold, sought) => {
-            let found = view.search(rt, sought, *threshold)?;
-            Ok(Answer::Found(found))
+            Ok(Answer::Found(view.search(rt, sought, *threshold)?))
         }
     }
 }
 
-/// Asks a view between the marks.
-fn ask_marked<R: Host>(
+/// Asks the whole map by a new pass, which waits for ever if a stripe is held.
+fn ask_map<D: Disk + Drop, R: Host>(
     rt: &R,
-    view: &View,
+    map: &DurableMap<D>,
     called: &Called,
-) -> io::Result<Result<Answer, Refusal>> {
-    begin(rt)?;
-    let answer = ask(rt, view, called);
-    end(rt)?;
-    Ok(answer)
+) -> Result<Answer, Refusal> {
+    let alloc = rt.alloc();
+    let mut pass = map.pass()?;
+    match called {
+        Called::Keyed(_) => Err(Refusal::UnknownMethod),
+        Called::Count => Ok(Answer::Counted(count(rt, map, &mut pass)?)),
+        Called::Reduce(func, _threshold) => {
+            Ok(Answer::Reduced(reduce(rt, alloc, map, &mut pass, *func)?))
+        }
+        Called::Search(_threshold, sought) => {
+            Ok(Answer::Found(search(rt, alloc, map, &mut pass, sought)?))
+        }
+    }
 }
 
-/// Prints what a view answered.
-pub(crate) fn show_answer<R: Host>(rt: &R, answer: &Result<Answer, Refusal>) -> Result<()> {
+/// Prints what was answered, and says whether it was refused.
+fn show_answer<R: AllocGlobal + Print>(rt: &R, answer: &Result<Answer, Refusal>) -> Result<bool> {
     match answer {
         Ok(Answer::Counted(count)) => println!(rt; "counted {count}")?,
         Ok(Answer::Reduced(Ok(value))) => {
@@ -147,17 +152,50 @@ pub(crate) fn show_answer<R: Host>(rt: &R, answer: &Result<Answer, Refusal>) -> 
         Ok(Answer::Found(None)) => println!(rt; "found none")?,
         Err(refusal) => println!(rt; "refused {refusal}")?,
     }
+    Ok(answer.is_err())
+}
+
+/// Asks the view, or the whole map if there is none, and prints the answer. Says whether it was
+/// refused.
+fn ask_shown<D: Disk + Drop, R: Host>(
+    rt: &R,
+    map: &DurableMap<D>,
+    view: Option<&View>,
+    called: &Called,
+    marks: Marks,
+) -> Result<bool> {
+    marks.begin(rt);
+    let answer = match view {
+        Some(view) => ask_view(rt, view, called),
+        None => ask_map(rt, map, called),
+    };
+    marks.end(rt);
+    show_answer(rt, &answer)
+}
+
+/// Asks what the text asks between the marks, and again if it was refused.
+fn ask_in_time<D: Disk + Drop, R: Host>(
+    rt: &R,
+    map: &DurableMap<D>,
+    view: Option<&View>,
+    text: &str,
+) -> Result<()> {
+    let called = called_in(rt.alloc(), text)?;
+    if ask_shown(rt, map, view, &called, Marks::Both)? {
+        ask_shown(rt, map, view, &called, Marks::Again)?;
+    }
     Ok(())
 }
 
-/// Asks a view between the marks, and again without them if it was refused.
-fn ask_in_time<R: Host>(rt: &R, view: &View, text: &str) -> Result<()> {
-    let called = called_in(rt.alloc(), text)?;
-    let answer = ask_marked(rt, view, &called)?;
-    show_answer(rt, &answer)?;
-    if answer.is_err() {
-        println!(rt; "again")?;
-        show_answer(rt, &ask(rt, view, &called))?;
+/// Asks each of the questions of a case.
+fn ask_each<D: Disk + Drop, R: Host>(
+    rt: &R,
+    map: &DurableMap<D>,
+    view: Option<&View>,
+    case: &Case<'_>,
+) -> Result<()> {
+    for text in &case.called {
+        ask_in_time(rt, map, view, text)?;
     }
     Ok(())
 }
@@ -167,8 +205,11 @@ pub(crate) fn play_questions<R: Host>(rt: &R, case: &Case<'_>) -> Result<()> {
     let map = running(rt, case)?;
     let mut pass = map.pass()?;
     let view = bulk_tasks::view(rt, rt.alloc(), &map, &mut pass)?;
-    for text in &case.called {
-        ask_in_time(rt, &view, text)?;
-    }
-    Ok(())
+    ask_each(rt, &map, Some(&view), case)
+}
+
+/// Asks the map of the state of a case.
+pub(crate) fn play_whole<R: Host>(rt: &R, case: &Case<'_>) -> Result<()> {
+    let map = running(rt, case)?;
+    ask_each(rt, &map, None, case)
 }

@@ -1,9 +1,8 @@
 use Rattle.std.proofs.Common.{◌≡◌, None}
-use Rattle.ticket_order.specs.StepRules.{IsOfSamePass}
 use Rattle.run_memory.proofs.showing.show_all.Given as goal
 
 abbrev pub invariant-loop-stripe : goal.invariant-loop-stripe
 invariant-loop-stripe g l = record {
   idle : (g.S.Steps.recorded l.steps).holding ≡ None;
-  pass : IsOfSamePass g.S.Steps.place g.S.Steps.stripe_count l.initial.steps l.steps;
+  count : g.S.Steps.stripe_count l.initial.steps ≡ g.S.Steps.stripe_count l.steps;
 }
