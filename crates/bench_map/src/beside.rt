@@ -1,21 +1,18 @@
-//! Views beside threads that make changes, and the loop that commits them.
-ghost use Rattle.durable_map.specs.Maps.{IsReady};
+//! Views beside threads that make changes, and beside the one that commits them.
 
-use crate::flags::Flag;
-use crate::maps::{Filling, filled};
+use crate::maps::{Filling, MapCaller};
 use crate::plain::{Difference, Plain};
 use crate::sections::sections;
-use crate::writers::{Writing, write};
+use crate::writers::Writing;
 use bulk_tasks::View;
 use disk_model::MemDisk;
-use durable_map::{Captured, DurableMap, flush_loop};
+use durable_map::{Captured, DurableMap};
 use map_types::Refusal;
 use std::alloc::Global;
 use std::io::Print;
 use std::sync::Wait;
 use std::thread::Threads;
 use std::{io, thread};
-use stripe_locks::Pass;
 
 /// The values of the entries are few, so that a search has several keys to choose from.
 const VALUES: u32 = 64;
@@ -58,22 +55,16 @@ fn greatest_mark(sections: &[Captured]) -> u64 {
     greatest
 }
 
-/// Takes a view and compares its answers.
-fn compare<R: Threads + Wait + Sync>(
-    rt: &R,
-    alloc: Global,
-    map: &DurableMap<MemDisk>,
-    pass: &mut Pass,
-) -> Result<Compared, Refusal>
-    requires { IsReady map.now pass.old }
-    ensures { IsReady map.now pass.new }
-{
-    let sections = sections(rt, alloc, map, pass)?;
-    let mark = greatest_mark(&sections);
-    let plain = Plain::of(alloc, &sections)?;
-    let view = View::new(alloc, sections)?;
-    let difference = plain.difference(rt, &view);
-    Ok(Compared { mark, difference })
+impl MapCaller<'_> {
+    /// Takes a view and compares its answers.
+    fn compare<R: Threads + Wait + Sync>(&mut self, rt: &R) -> Result<Compared, Refusal> {
+        let sections = sections(rt, self.alloc, self.map, &mut self.pass)?;
+        let mark = greatest_mark(&sections);
+        let plain = Plain::of(self.alloc, &sections)?;
+        let view = View::new(self.alloc, sections)?;
+        let difference = plain.difference(rt, &view);
+        Ok(Compared { mark, difference })
+    }
 }
 
 /// Takes `views` views, each behind changes that the one before hasn't seen.
@@ -83,14 +74,14 @@ fn compare_all<R: Threads + Wait + Sync>(
     map: &DurableMap<MemDisk>,
     views: u32,
 ) -> Result<Outcome, Refusal> {
-    let mut pass = map.pass()?;
+    let mut caller = MapCaller::new(alloc, map)?;
     let mut counted = 0;
     let mut mark = 0;
     for _view in 0..MOST_VIEWS {
         if views <= counted {
             return Ok(Outcome::Agree);
         }
-        let compared = compare(rt, alloc, map, &mut pass)?;
+        let compared = caller.compare(rt)?;
         if let Some(difference) = compared.difference {
             return Ok(Outcome::Differ(counted, difference));
         }
@@ -102,7 +93,7 @@ fn compare_all<R: Threads + Wait + Sync>(
     Ok(Outcome::Quiet)
 }
 
-/// The views beside the writers, which end then.
+/// The views beside the other threads, which end then.
 fn beside_writers<R: Threads + Wait + Sync>(
     rt: &R,
     alloc: Global,
@@ -112,9 +103,11 @@ fn beside_writers<R: Threads + Wait + Sync>(
     let writing = &Writing::new(size.entries);
     let outcome = thread::scope(thread::scope_env(), rt, |scope| {
         let mut are_started = true;
-        for writer in 0..size.writers {
-            let started = scope.spawn(move || write(rt, alloc, map, writing, writer));
-            are_started = are_started && started.is_ok();
+        for thread in 0..size.writers.saturating_add(1) {
+            if are_started {
+                let started = scope.spawn(move || writing.work(rt, alloc, map, thread));
+                are_started = started.is_ok();
+            }
         }
         let outcome = if are_started {
             compare_all(rt, alloc, map, size.views)
@@ -130,26 +123,6 @@ fn beside_writers<R: Threads + Wait + Sync>(
     Ok(outcome)
 }
 
-/// The same beside the loop that commits, which ends then.
-fn beside_loop<R: Threads + Wait + Sync>(
-    rt: &R,
-    alloc: Global,
-    map: &DurableMap<MemDisk>,
-    size: Size,
-) -> Result<Outcome, Refusal> {
-    let ending = &Flag::new();
-    thread::scope(thread::scope_env(), rt, |scope| {
-        let flusher = scope.spawn(move || flush_loop(rt, map, ending));
-        let outcome = if flusher.is_ok() {
-            beside_writers(rt, alloc, map, size)
-        } else {
-            Err(Refusal::NoMemory)
-        };
-        ending.raise();
-        outcome
-    })
-}
-
 /// Compares the answers of views, taken while other threads make changes, with plain ones over the same
 /// sections.
 fn compare_beside<R: Threads + Wait + Sync>(
@@ -161,8 +134,8 @@ fn compare_beside<R: Threads + Wait + Sync>(
         entries: size.entries,
         values: VALUES,
     };
-    let map = filled(rt, alloc, filling)?;
-    beside_loop(rt, alloc, &map, size)
+    let map = filling.filled(rt, alloc)?;
+    beside_writers(rt, alloc, &map, size)
 }
 
 /// A line with what the views came to. Says whether they agree.
@@ -180,12 +153,11 @@ fn print_outcome<R: Print>(rt: &R, size: Size, outcome: Outcome) -> io::Result<b
 }
 
 /// Compares views beside changes, and prints what they came to. Says whether they agree.
-pub(crate) fn print_beside<R: Threads + Wait + Sync + Print>(
+pub(crate) fn print_beside<R: AllocGlobal + Threads + Wait + Sync + Print>(
     rt: &R,
-    alloc: Global,
     size: Size,
 ) -> io::Result<bool> {
-    match compare_beside(rt, alloc, size) {
+    match compare_beside(rt, rt.alloc(), size) {
         Ok(outcome) => print_outcome(rt, size, outcome),
         Err(refusal) => {
             println!(rt; "refused {refusal}")?;

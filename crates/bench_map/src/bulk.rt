@@ -1,11 +1,9 @@
-//! How long a view takes, and the bulk calls over it.
+//! How long a view takes, the bulk calls over it, and those of the whole map, which copy no entries.
 
-use crate::maps::{Filling, filled};
+use crate::answers::{number_in, sum_of_view};
+use crate::maps::{Filling, MapCaller};
 use crate::rates::rate;
-use crate::whole_map::{Wanted, Whole};
-use bulk_tasks::{View, view};
-use disk_model::MemDisk;
-use durable_map::DurableMap;
+use bulk_tasks::{View, count, reduce, search, view};
 use map_types::{Func, Value};
 use std::io;
 use std::io::Print;
@@ -13,52 +11,110 @@ use std::rt::Clock;
 use std::sync::Wait;
 use std::thread::Threads;
 use std::time::{Duration, Instant};
-use stripe_locks::Pass;
 
 /// How many rounds the best is taken of, after one that isn't counted.
 const ROUNDS: u32 = 5;
 
-/// One thread, and then as many as there are processors.
-const THRESHOLDS: [u64; 2] = [u64::MAX, 0];
-
 /// A value that no entry has, so that a search looks at all.
 const ABSENT: i64 = -1;
 
-/// A bulk call that is measured.
+/// What is measured.
 #[derive(Clone, Copy)]
-enum Call {
-    /// By SUM.
+enum Asked {
+    /// How many entries the map has.
+    CountOfMap,
+    /// A reduction of the map by SUM.
+    ReduceOfMap,
+    /// A search of the map for a value that isn't there.
+    SearchOfMap,
+    /// The view of the map over which the calls below are made.
+    View,
+    /// A reduction of the view by SUM.
     Reduce,
-    /// For a value that isn't there.
+    /// A search of the view for a value that isn't there.
     Search,
 }
 
-impl Call {
-    const ALL: [Call; 2] = [Call::Reduce, Call::Search];
+/// A line: what is measured, its name, and its threshold.
+#[derive(Clone, Copy)]
+struct Row {
+    asked: Asked,
+    name: &'static str,
+    threshold: u64,
+}
 
-    fn name(self) -> &'static str {
-        match self {
-            Call::Reduce => "reduce",
-            Call::Search => "search",
-        }
+/// The lines. The greatest threshold asks for one thread, and 0 for as many as there are processors.
+static ROWS: [Row; 8] = [
+    Row {
+        asked: Asked::CountOfMap,
+        name: "whole-count",
+        threshold: u64::MAX,
+    },
+    Row {
+        asked: Asked::ReduceOfMap,
+        name: "whole-reduce",
+        threshold: u64::MAX,
+    },
+    Row {
+        asked: Asked::SearchOfMap,
+        name: "whole-search",
+        threshold: u64::MAX,
+    },
+    Row {
+        asked: Asked::View,
+        name: "view",
+        threshold: 0,
+    },
+    Row {
+        asked: Asked::Reduce,
+        name: "reduce",
+        threshold: u64::MAX,
+    },
+    Row {
+        asked: Asked::Search,
+        name: "search",
+        threshold: u64::MAX,
+    },
+    Row {
+        asked: Asked::Reduce,
+        name: "reduce",
+        threshold: 0,
+    },
+    Row {
+        asked: Asked::Search,
+        name: "search",
+        threshold: 0,
+    },
+];
+
+/// Whether no entry of a view has the absent value.
+fn view_lacks_absent<R: Threads + Sync>(rt: &R, view: &View, threshold: u64) -> bool {
+    matches!(view.search(rt, &Value::Int(ABSENT), threshold), Ok(None))
+}
+
+impl MapCaller<'_> {
+    /// How many entries the map has, if that isn't refused.
+    fn count<R: Wait>(&mut self, rt: &R) -> Option<usize> {
+        count(rt, self.map, &mut self.pass).ok()
     }
 
-    /// Makes the call on a view of the numbers below the count of entries, and says whether it gave
-    /// what it should.
-    fn is_right<R: Threads + Sync>(
-        self,
-        rt: &R,
-        view: &View,
-        entries: u32,
-        threshold: u64,
-    ) -> bool {
-        match self {
-            Call::Reduce => {
-                let sum = sum_below(entries);
-                view.reduce(rt, Func::Sum, threshold) == Ok(Ok(Some(Value::Int(sum))))
-            }
-            Call::Search => { matches!(view.search(rt, &Value::Int(ABSENT), threshold), Ok(None)) }
-        }
+    /// The sum of the values of the map, as `number_in` says it.
+    fn sum<R: Wait>(&mut self, rt: &R) -> Option<Option<i64>> {
+        number_in(&reduce(rt, self.alloc, self.map, &mut self.pass, Func::Sum))
+    }
+
+    /// Whether no entry of the map has the absent value.
+    fn lacks_absent<R: Wait>(&mut self, rt: &R) -> bool {
+        let absent = Value::Int(ABSENT);
+        matches!(
+            search(rt, self.alloc, self.map, &mut self.pass, &absent),
+            Ok(None)
+        )
+    }
+
+    /// A view of the map, if it isn't refused.
+    fn view<R: Wait>(&mut self, rt: &R) -> Option<View> {
+        view(rt, self.alloc, self.map, &mut self.pass).ok()
     }
 }
 
@@ -68,111 +124,84 @@ fn sum_below(entries: u32) -> i64 {
     entries.wrapping_mul(entries.wrapping_sub(1)) / 2
 }
 
-/// How long the call takes, or none if it gave something else than it should.
-fn time_call<R: Clock + Threads + Sync>(
-    rt: &R,
-    view: &View,
-    call: Call,
+/// What asks a map whose entries have the numbers below their count.
+#[derive(Drop)]
+struct Asker<'a> {
+    caller: MapCaller<'a>,
+    view: Option<View>,
     entries: u32,
-    threshold: u64,
-) -> Option<Duration> {
-    let start = Instant::now(rt).ok()?;
-    let is_right = call.is_right(rt, view, entries, threshold);
-    let spent = start.elapsed(rt).ok()?;
-    is_right.then_some(spent)
 }
 
-/// The best time of the call.
-fn best_of_call<R: Clock + Threads + Sync>(
-    rt: &R,
-    view: &View,
-    call: Call,
-    entries: u32,
-    threshold: u64,
-) -> Option<Duration> {
-    time_call(rt, view, call, entries, threshold)?;
-    let mut best = Duration::MAX;
-    for _round in 0..ROUNDS {
-        best = best.min(time_call(rt, view, call, entries, threshold)?);
+impl Asker<'_> {
+    /// Asks the last view what the row says, and says whether the answer is what it should be.
+    fn is_right_of_view<R: Threads + Sync>(&self, rt: &R, row: Row) -> bool {
+        let Some(view) = &self.view else {
+            return false;
+        };
+        match row.asked {
+            Asked::Reduce => {
+                sum_of_view(rt, view, row.threshold) == Some(Some(sum_below(self.entries)))
+            }
+            _ => view_lacks_absent(rt, view, row.threshold),
+        }
     }
-    Some(best)
-}
 
-/// How long a view takes, and the view.
-fn time_view<R: AllocGlobal + Clock + Wait>(
-    rt: &R,
-    map: &DurableMap<MemDisk>,
-) -> Option<(Duration, View)> {
-    let mut pass: Pass = map.pass().ok()?;
-    let start = Instant::now(rt).ok()?;
-    let view = view(rt, rt.alloc(), map, &mut pass).ok()?;
-    let spent = start.elapsed(rt).ok()?;
-    Some((spent, view))
-}
-
-/// The best time of a view, and the last view.
-fn best_of_views<R: AllocGlobal + Clock + Wait>(
-    rt: &R,
-    map: &DurableMap<MemDisk>,
-) -> Option<(Duration, View)> {
-    let (_spent, mut last) = time_view(rt, map)?;
-    let mut best = Duration::MAX;
-    for _round in 0..ROUNDS {
-        let (spent, view) = time_view(rt, map)?;
-        best = best.min(spent);
-        last = view;
+    /// Asks what the row says, and says whether the answer is what it should be.
+    fn is_right<R: Threads + Wait + Sync>(&mut self, rt: &R, row: Row) -> bool {
+        match row.asked {
+            Asked::CountOfMap => self.caller.count(rt) == Some(self.entries as usize),
+            Asked::ReduceOfMap => self.caller.sum(rt) == Some(Some(sum_below(self.entries))),
+            Asked::SearchOfMap => self.caller.lacks_absent(rt),
+            Asked::View => {
+                self.view = self.caller.view(rt);
+                self.view.is_some()
+            }
+            Asked::Reduce | Asked::Search => self.is_right_of_view(rt, row),
+        }
     }
-    Some((best, last))
+
+    /// How long that takes, or none if the answer isn't what it should be.
+    fn time<R: Clock + Threads + Wait + Sync>(&mut self, rt: &R, row: Row) -> Option<Duration> {
+        if matches!(row.asked, Asked::View) {
+            self.view = None;
+        }
+        let start = Instant::now(rt).ok()?;
+        let is_right = self.is_right(rt, row);
+        let spent = start.elapsed(rt).ok()?;
+        is_right.then_some(spent)
+    }
+
+    /// The best time.
+    fn best<R: Clock + Threads + Wait + Sync>(&mut self, rt: &R, row: Row) -> Option<Duration> {
+        self.time(rt, row)?;
+        let mut best = Duration::MAX;
+        for _round in 0..ROUNDS {
+            best = best.min(self.time(rt, row)?);
+        }
+        Some(best)
+    }
+
+    /// Prints the lines. Says whether all were measured.
+    fn print_all<R: Clock + Threads + Wait + Print + Sync>(&mut self, rt: &R) -> io::Result<bool> {
+        for row in &ROWS {
+            let Some(spent) = self.best(rt, *row) else {
+                return Ok(false);
+            };
+            print_row(rt, *row, self.entries, spent)?;
+        }
+        Ok(true)
+    }
 }
 
 /// A line of what was measured, its threshold, its nanoseconds and the entries a second.
-fn print_row<R: Print>(
-    rt: &R,
-    what: &str,
-    threshold: u64,
-    entries: u32,
-    spent: Duration,
-) -> io::Result<()> {
+fn print_row<R: Print>(rt: &R, row: Row, entries: u32, spent: Duration) -> io::Result<()> {
+    let rate = rate(u64::from(entries), spent);
     println!(rt;
-        "{what} {threshold} {} {}",
-        spent.as_nanos(),
-        rate(u64::from(entries), spent)
+        "{} {} {} {rate}",
+        row.name,
+        row.threshold,
+        spent.as_nanos()
     )
-}
-
-/// The lines of the bulk calls with this threshold.
-fn print_calls<R: Clock + Threads + Print + Sync>(
-    rt: &R,
-    view: &View,
-    entries: u32,
-    threshold: u64,
-) -> io::Result<bool> {
-    for call in Call::ALL {
-        let Some(spent) = best_of_call(rt, view, call, entries, threshold) else {
-            return Ok(false);
-        };
-        print_row(rt, call.name(), threshold, entries, spent)?;
-    }
-    Ok(true)
-}
-
-/// The lines of the calls of the whole map, by one thread. Says whether all were measured.
-fn print_whole<R: AllocGlobal + Clock + Wait + Print>(
-    rt: &R,
-    map: &DurableMap<MemDisk>,
-    entries: u32,
-) -> io::Result<bool> {
-    let wanted = Wanted {
-        entries,
-        sum: sum_below(entries),
-    };
-    for call in Whole::ALL {
-        let Some(spent) = call.best(rt, map, wanted) else {
-            return Ok(false);
-        };
-        print_row(rt, call.name(), u64::MAX, entries, spent)?;
-    }
-    Ok(true)
 }
 
 /// The lines of the calls of the whole map, of a view, and of the bulk calls over it. Says whether all
@@ -185,20 +214,16 @@ pub(crate) fn print_bulk<R: AllocGlobal + Clock + Threads + Wait + Print + Sync>
         entries,
         values: entries,
     };
-    let Ok(map) = filled(rt, rt.alloc(), filling) else {
+    let Ok(map) = filling.filled(rt, rt.alloc()) else {
         return Ok(false);
     };
-    if !print_whole(rt, &map, entries)? {
-        return Ok(false);
-    }
-    let Some((spent, view)) = best_of_views(rt, &map) else {
+    let Ok(caller) = MapCaller::new(rt.alloc(), &map) else {
         return Ok(false);
     };
-    print_row(rt, "view", 0, entries, spent)?;
-    for threshold in THRESHOLDS {
-        if !print_calls(rt, &view, entries, threshold)? {
-            return Ok(false);
-        }
-    }
-    Ok(true)
+    let mut asker = Asker {
+        caller,
+        view: None,
+        entries,
+    };
+    asker.print_all(rt)
 }

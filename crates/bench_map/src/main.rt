@@ -2,10 +2,10 @@
 //! changes with plain loops over the same sections.
 #![tactic(auto)]
 
+mod answers;
 mod beside;
 mod bulk;
-mod calls;
-mod flags;
+mod caller;
 mod keys;
 mod kinds;
 mod loops;
@@ -16,13 +16,13 @@ mod rates;
 mod rounds;
 mod sections;
 mod sweeps;
-mod whole_map;
+mod turns;
 mod writers;
 
 use crate::beside::{Size, print_beside};
 use crate::bulk::print_bulk;
 use crate::pairs::print_pairs;
-use crate::rounds::{Sharing, print_keys, print_longest};
+use crate::rounds::{print_keys, print_longest};
 use std::process::ExitCode;
 use std::{env, io};
 
@@ -41,7 +41,7 @@ enum Work {
     /// Pairs of a change and a read.
     Pairs,
     /// Calls by the number of keys.
-    Keys(Sharing),
+    Keys { keys: u32, threads: usize },
     /// The longest single `Put`.
     Longest(u32),
     /// Bulk calls over this many entries.
@@ -56,10 +56,10 @@ fn count_at(words: &[String], place: usize, most: u32) -> Option<u32> {
     (1..=most).contains(&count).then_some(count)
 }
 
-fn sharing_of(words: &[String]) -> Option<Sharing> {
+fn keys_of(words: &[String]) -> Option<Work> {
     let keys = count_at(words, 0, MOST_KEYS)?;
     let threads = count_at(words, 1, MOST_OTHERS)? as usize;
-    Some(Sharing { keys, threads })
+    Some(Work::Keys { keys, threads })
 }
 
 fn size_of(words: &[String]) -> Option<Size> {
@@ -77,7 +77,7 @@ fn size_of(words: &[String]) -> Option<Size> {
 fn work_of(first: &str, others: &[String]) -> Option<Work> {
     match (first, others.len()) {
         ("pairs", 0) => Some(Work::Pairs),
-        ("keys", 2) => Some(Work::Keys(sharing_of(others)?)),
+        ("keys", 2) => keys_of(others),
         ("longest", 1) => Some(Work::Longest(count_at(others, 0, MOST_KEYS)?)),
         ("bulk", 1) => Some(Work::Bulk(count_at(others, 0, MOST_ENTRIES)?)),
         ("beside", 3) => Some(Work::Beside(size_of(others)?)),
@@ -106,10 +106,10 @@ fn main(rt: HostRuntime) -> io::Result<ExitCode> {
     };
     let is_done = match work {
         Work::Pairs => print_pairs(&rt)?,
-        Work::Keys(sharing) => print_keys(&rt, &rt, sharing)?,
+        Work::Keys { keys, threads } => print_keys(&rt, keys, threads)?,
         Work::Longest(keys) => print_longest(&rt, keys)?,
         Work::Bulk(entries) => print_bulk(&rt, entries)?,
-        Work::Beside(size) => print_beside(&rt, rt.alloc(), size)?,
+        Work::Beside(size) => print_beside(&rt, size)?,
     };
     if is_done {
         return Ok(ExitCode::SUCCESS);

@@ -1,8 +1,9 @@
 //! The bulk answers by plain loops over the sections of a view, and what a view says otherwise.
 
+use crate::answers::sum_of_view;
 use bulk_tasks::View;
 use durable_map::Captured;
-use map_types::{Func, Key, Refusal, Value};
+use map_types::{Key, Refusal, Value};
 use std::alloc::Global;
 use std::thread::Threads;
 
@@ -90,32 +91,33 @@ fn first_with(entries: &[&(Key, Value)], number: i64) -> Result<Found, Refusal> 
 impl Found {
     /// Whether a search of the view finds the same key.
     fn is_found<R: Threads + Sync>(&self, rt: &R, view: &View, threshold: u64) -> bool {
-        match (
-            view.search(rt, &Value::Int(self.number), threshold),
-            &self.key,
-        ) {
-            (Ok(Some(found)), Some(key)) => found.as_str() == key.as_str(),
-            (Ok(None), None) => true,
-            _ => false,
-        }
+        let found = view.search(rt, &Value::Int(self.number), threshold);
+        found.as_ref() == Ok(&self.key)
     }
 }
 
 impl Plain {
-    /// The answers for the entries of these sections. The searches are for the number of the middle
-    /// entry, and for one that is likely to be nowhere.
-    pub(crate) fn of(alloc: Global, sections: &[Captured]) -> Result<Plain, Refusal> {
-        let entries = sorted(alloc, sections)?;
-        let middle = match entries.get(entries.len() / 2) {
+    /// The answers for these entries, which are in rising byte order. The searches are for the number of
+    /// the middle entry, and for one that is likely to be nowhere.
+    fn of_sorted(entries: &[&(Key, Value)]) -> Result<Plain, Refusal> {
+        let number = match entries.get(entries.len() / 2) {
             Some(entry) => number_of(entry).unwrap_or(RARE),
             None => RARE,
         };
+        let middle = first_with(entries, number)?;
+        let rare = first_with(entries, RARE)?;
         Ok(Plain {
             count: entries.len(),
-            sum: sum_of(&entries),
-            middle: first_with(&entries, middle)?,
-            rare: first_with(&entries, RARE)?,
+            sum: sum_of(entries),
+            middle,
+            rare,
         })
+    }
+
+    /// The answers for the entries of these sections.
+    pub(crate) fn of(alloc: Global, sections: &[Captured]) -> Result<Plain, Refusal> {
+        let entries = sorted(alloc, sections)?;
+        Plain::of_sorted(&entries)
     }
 
     /// The call that differs with this threshold, if any.
@@ -125,11 +127,10 @@ impl Plain {
         view: &View,
         threshold: u64,
     ) -> Option<&'static str> {
-        let sum = self.sum.map(Value::Int);
         if view.count() != self.count {
             return Some("count");
         }
-        if view.reduce(rt, Func::Sum, threshold) != Ok(Ok(sum)) {
+        if sum_of_view(rt, view, threshold) != Some(self.sum) {
             return Some("reduce");
         }
         let is_found = self.middle.is_found(rt, view, threshold)

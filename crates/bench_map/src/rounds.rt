@@ -1,17 +1,16 @@
-//! Rounds of calls of many keys, on several threads at once.
-ghost use Rattle.std.specs.Prelude.{◌≡◌, None};
-ghost use Rattle.stripe_locks.specs.Passes.{recorded, IsPassOf};
+//! Rounds of calls on the stripes of an empty map, on several threads at once.
 
-use crate::calls::{call, call_each, sweep_as_keeper};
+use crate::caller::Caller;
 use crate::keys::{NumberedKey, Share};
 use crate::kinds::{Kind, Rates, Times};
-use crate::loops::fresh_stripes;
+use crate::loops::pairs_on_stripes;
+use crate::maps::sixteen;
 use std::io::Print;
 use std::rt::Clock;
 use std::thread::Threads;
 use std::time::{Duration, Instant};
 use std::{io, thread};
-use stripe_locks::{Pass, Stripes};
+use stripe_locks::Stripes;
 
 /// How many calls of each kind all threads make together in a round, at least.
 const CALLS: u32 = 1_000_000;
@@ -19,164 +18,122 @@ const CALLS: u32 = 1_000_000;
 /// How many rounds the best is taken of, after one that isn't counted.
 const ROUNDS: u32 = 3;
 
-/// How many keys there are, and how many threads share them.
+/// What the threads of a round do.
 #[derive(Clone, Copy)]
-pub(crate) struct Sharing {
-    pub keys: u32,
+pub(crate) enum Task {
+    /// Pairs of a change and a read, each thread of a key of its own.
+    Pairs,
+    /// Calls of each kind on this many keys, which the threads share.
+    Keys(u32),
+}
+
+/// A round, in which each thread has a pass of its own.
+#[derive(Clone, Copy)]
+pub(crate) struct Round {
+    pub task: Task,
     pub threads: usize,
 }
 
-impl Sharing {
-    /// How often the map is filled and emptied in a round.
-    fn turns(self) -> u32 {
-        (CALLS / self.keys.max(1)).max(1)
-    }
+/// What the threads of a round reached together, and how long they took.
+#[derive(Clone, Copy)]
+pub(crate) struct Reached {
+    pub rates: Rates,
+    pub spent: Duration,
 }
 
-/// How long the thread takes for a call of this kind on each of its keys. The sweep behind them isn't
-/// in it.
-fn time_kind<R: AllocGlobal + Clock>(
-    rt: &R,
-    stripes: &Stripes,
-    pass: &mut Pass,
-    kind: Kind,
-    keys: &Vec<NumberedKey>,
-) -> Option<Duration>
-    requires own { IsPassOf stripes.now pass.old }
-    requires idle { (recorded pass.old).holding ≡ None }
-    ensures own { IsPassOf stripes.now pass.new }
-    ensures idle { (recorded pass.new).holding ≡ None }
-{
-    let start = Instant::now(rt).ok()?;
-    call_each(stripes, pass, rt.alloc(), kind, keys).ok()?;
-    let spent = start.elapsed(rt).ok()?;
-    sweep_as_keeper(stripes, pass, rt.alloc());
-    Some(spent)
+/// How often the keys are put and removed again in a round.
+fn turns(keys: u32) -> u32 {
+    (CALLS / keys.max(1)).max(1)
 }
 
-/// Calls of all kinds, which leave the thread's keys as they were: absent.
-fn take_turn<R: AllocGlobal + Clock>(
-    rt: &R,
-    stripes: &Stripes,
-    pass: &mut Pass,
-    keys: &Vec<NumberedKey>,
-    times: &mut Times,
-) -> Option<()>
-    requires own { IsPassOf stripes.now pass.old }
-    requires idle { (recorded pass.old).holding ≡ None }
-    ensures own { IsPassOf stripes.now pass.new }
-    ensures idle { (recorded pass.new).holding ≡ None }
-{
-    for kind in Kind::ALL {
-        let spent = time_kind(rt, stripes, pass, kind, keys)?;
-        times.add(kind, spent);
-    }
-    Some(())
-}
-
-/// What one thread reaches in a round, or none if it is refused.
-fn rates_of_thread<R: AllocGlobal + Clock>(
-    rt: &R,
-    stripes: &Stripes,
-    sharing: Sharing,
-    thread: usize,
-) -> Option<Rates> {
-    let share = Share {
-        first: u32::try_from(thread).ok()?,
-        step: sharing.threads,
-        end: sharing.keys,
-    };
+/// What a thread reaches that calls on its keys, which stay absent. None if it is refused.
+fn rates_of_keys<R: AllocGlobal + Clock>(rt: &R, stripes: &Stripes, share: Share) -> Option<Rates> {
     let keys = share.keys(rt.alloc()).ok()?;
-    let mut pass = stripes.pass().ok()?;
+    let mut caller = Caller::new(rt.alloc(), stripes).ok()?;
+    let turns = turns(share.end);
     let mut times = Times::NONE;
-    for _turn in 0..sharing.turns() {
-        take_turn(rt, stripes, &mut pass, &keys, &mut times)?;
+    for _turn in 0..turns {
+        caller.take_turn(rt, &keys, &mut times)?;
     }
-    let calls = (keys.len() as u64).saturating_mul(u64::from(sharing.turns()));
-    Some(times.rates(calls))
+    Some(times.rates((keys.len() as u64).saturating_mul(u64::from(turns))))
 }
 
 /// What all threads reach together, or none if one of them was refused.
-fn together(all: Vec<Option<Rates>>) -> Option<Rates> {
+fn together(all: &[Option<Rates>]) -> Option<Rates> {
     let mut sum = Rates::NONE;
     for rates in all {
-        sum = sum.plus(rates?);
+        sum = sum.plus((*rates)?);
     }
     Some(sum)
 }
 
-/// A round on a new map. Its threads each keep a clock of their own.
-fn round<T: Threads + Sync>(
-    threads: &T,
-    rt: &HostRuntime,
-    sharing: Sharing,
-) -> io::Result<Option<Rates>> {
-    let Ok(stripes) = fresh_stripes(rt) else {
-        return Ok(None);
-    };
-    let all = thread::map_indices(
-        threads,
-        rt.alloc(),
-        sharing.threads,
-        &|thread| rates_of_thread(rt, &stripes, sharing, thread),
-    )?;
-    Ok(together(all))
-}
-
-/// The best rates of three rounds, or none if one was refused.
-fn best_rates<T: Threads + Sync>(
-    threads: &T,
-    rt: &HostRuntime,
-    sharing: Sharing,
-) -> io::Result<Option<Rates>> {
-    if round(threads, rt, sharing)?.is_none() {
-        return Ok(None);
+impl Round {
+    /// What the thread of this number reaches, or none if it is refused. Pairs have no rates.
+    fn rates_of_thread<R: AllocGlobal + Clock>(
+        self,
+        rt: &R,
+        stripes: &Stripes,
+        thread: usize,
+    ) -> Option<Rates> {
+        match self.task {
+            Task::Pairs => {
+                pairs_on_stripes(rt.alloc(), stripes, thread).ok()?;
+                Some(Rates::NONE)
+            }
+            Task::Keys(end) => {
+                let share = Share {
+                    first: u32::try_from(thread).ok()?,
+                    step: self.threads,
+                    end,
+                };
+                rates_of_keys(rt, stripes, share)
+            }
+        }
     }
-    let mut best = Rates::NONE;
-    for _round in 0..ROUNDS {
-        let Some(rates) = round(threads, rt, sharing)? else {
-            return Ok(None);
-        };
-        best = best.best(rates);
-    }
-    Ok(Some(best))
-}
 
-fn time_put<R: AllocGlobal + Clock>(
-    rt: &R,
-    stripes: &Stripes,
-    pass: &mut Pass,
-    numbered: &NumberedKey,
-) -> Option<Duration>
-    requires own { IsPassOf stripes.now pass.old }
-    requires idle { (recorded pass.old).holding ≡ None }
-    ensures own { IsPassOf stripes.now pass.new }
-    ensures idle { (recorded pass.new).holding ≡ None }
-{
-    let start = Instant::now(rt).ok()?;
-    call(stripes, pass, rt.alloc(), Kind::PutNew, numbered).ok()?;
-    let spent = start.elapsed(rt).ok()?;
-    sweep_as_keeper(stripes, pass, rt.alloc());
-    Some(spent)
+    /// Plays the round on new stripes. None if a thread was refused.
+    pub(crate) fn play<R: AllocGlobal + Clock + Threads + Sync>(self, rt: &R) -> Option<Reached> {
+        let stripes = Stripes::empty(rt.alloc(), sixteen()).ok()?;
+        let start = Instant::now(rt).ok()?;
+        let all = thread::map_indices(
+            rt,
+            rt.alloc(),
+            self.threads,
+            &|thread| self.rates_of_thread(rt, &stripes, thread),
+        );
+        let spent = start.elapsed(rt).ok()?;
+        let rates = together(&all.ok()?)?;
+        Some(Reached { rates, spent })
+    }
+
+    /// The best rates of three rounds.
+    fn best_rates<R: AllocGlobal + Clock + Threads + Sync>(self, rt: &R) -> Option<Rates> {
+        self.play(rt)?;
+        let mut best = Rates::NONE;
+        for _round in 0..ROUNDS {
+            best = best.best(self.play(rt)?.rates);
+        }
+        Some(best)
+    }
 }
 
 /// The longest single `Put` of these new keys in one thread. The sweep behind each isn't in it.
-fn longest_put<R: AllocGlobal + Clock>(rt: &R, keys: &Vec<NumberedKey>) -> Option<Duration> {
-    let stripes = fresh_stripes(rt).ok()?;
-    let mut pass = stripes.pass().ok()?;
+fn longest_put<R: AllocGlobal + Clock>(rt: &R, keys: &[NumberedKey]) -> Option<Duration> {
+    let stripes = Stripes::empty(rt.alloc(), sixteen()).ok()?;
+    let mut caller = Caller::new(rt.alloc(), &stripes).ok()?;
     let mut longest = Duration::ZERO;
-    for numbered in keys {
-        longest = longest.max(time_put(rt, &stripes, &mut pass, numbered)?);
+    for key in keys.chunks(1) {
+        longest = longest.max(caller.time(rt, Kind::PutNew, key)?);
     }
     Some(longest)
 }
 
 /// The least of the longest single `Put`s of three rounds, or none if one was refused.
-fn least_longest_put<R: AllocGlobal + Clock>(rt: &R, keys: u32) -> Option<Duration> {
+fn least_longest_put<R: AllocGlobal + Clock>(rt: &R, end: u32) -> Option<Duration> {
     let share = Share {
         first: 0,
         step: 1,
-        end: keys,
+        end,
     };
     let keys = share.keys(rt.alloc()).ok()?;
     longest_put(rt, &keys)?;
@@ -188,12 +145,13 @@ fn least_longest_put<R: AllocGlobal + Clock>(rt: &R, keys: u32) -> Option<Durati
 }
 
 /// A line for each kind of call: its name, and how many a second. Says whether all were measured.
-pub(crate) fn print_keys<T: Threads + Sync>(
-    threads: &T,
-    rt: &HostRuntime,
-    sharing: Sharing,
+pub(crate) fn print_keys<R: AllocGlobal + Clock + Threads + Sync + Print>(
+    rt: &R,
+    keys: u32,
+    threads: usize,
 ) -> io::Result<bool> {
-    let Some(rates) = best_rates(threads, rt, sharing)? else {
+    let task = Task::Keys(keys);
+    let Some(rates) = (Round { task, threads }).best_rates(rt) else {
         return Ok(false);
     };
     for kind in Kind::ALL {

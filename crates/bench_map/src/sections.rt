@@ -12,23 +12,8 @@ use std::alloc::Global;
 use std::sync::Wait;
 use stripe_locks::Pass;
 
-/// Waits a moment if the step before found this stripe held, or the greatest mark not durable yet.
-fn pause<R: Wait>(
-    rt: &R,
-    map: &DurableMap<MemDisk>,
-    backoff: &Backoff,
-    stripe: Option<usize>,
-    walk: &ViewWalk,
-) {
-    let was_held = stripe.is_some() && walk.stripe_to_take() == stripe;
-    if was_held || walk.position_awaited().is_some() {
-        map.wait_for_view(rt, backoff, walk);
-    } else {
-        backoff.reset();
-    }
-}
-
-/// The sections of a view of the map, once its greatest mark is durable.
+/// The sections of a view of the map, once its greatest mark is durable. A stripe that is found held is
+/// tried again at once.
 pub(crate) fn sections<R: Wait>(
     rt: &R,
     alloc: Global,
@@ -40,13 +25,13 @@ pub(crate) fn sections<R: Wait>(
         (n : ℕ) × (maps : List Map) × AreParts n 0 captured.items maps) }
     ensures ready { IsReady map.now pass.new }
 {
-    let backoff = Backoff::new();
     let mut walk = ViewWalk::new(alloc);
     for _step in rt.forever() {
-        let stripe = walk.stripe_to_take();
         match map.view_step(pass, walk)? {
             Viewed::More(next) => {
-                pause(rt, map, &backoff, stripe, &next);
+                if next.position_awaited().is_some() {
+                    map.wait_for_view(rt, &Backoff::new(), &next);
+                }
                 walk = next;
             }
             Viewed::Done(captured) => return Ok(captured),

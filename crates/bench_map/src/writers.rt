@@ -1,12 +1,12 @@
-//! Threads that make changes until they are told to end.
+//! Threads that make changes until they are told to end, and one that commits what they change.
 
-use crate::flags::Flag;
-use crate::maps::key_of;
+use crate::maps::MapCaller;
 use disk_model::MemDisk;
-use durable_map::DurableMap;
-use map_types::{Func, Refusal, Value};
+use durable_map::{DurableMap, Ends, flush_loop};
+use map_types::Refusal;
 use std::alloc::Global;
 use std::sync::Wait;
+use std::sync::atomic::{AtomicBool, AtomicU32, Ordering};
 
 /// How many amounts may be added.
 const AMOUNTS: u32 = 8;
@@ -14,12 +14,21 @@ const AMOUNTS: u32 = 8;
 /// For each 16 entries the writers have one key more, which isn't mapped at first.
 const NEW_KEYS: u32 = 16;
 
-/// What the writers share.
+/// What the threads share.
 #[derive(Drop)]
 pub(crate) struct Writing {
     keys: u32,
-    ending: Flag,
-    refused: Flag,
+    is_ending: AtomicBool,
+    was_refused: AtomicBool,
+    /// How many writers have begun and not ended.
+    writers: AtomicU32,
+}
+
+/// The thread that commits ends behind the writers, which wait for it.
+impl Ends for Writing {
+    fn has_ended(&self) -> bool {
+        self.is_ending.load(Ordering::SeqCst) && self.writers.load(Ordering::SeqCst) == 0
+    }
 }
 
 /// Numbers that look random: Knuth's linear congruence, whose upper bits are taken.
@@ -43,54 +52,60 @@ impl Writing {
     pub(crate) fn new(entries: u32) -> Writing {
         Writing {
             keys: entries.saturating_add(entries / NEW_KEYS),
-            ending: Flag::new(),
-            refused: Flag::new(),
+            is_ending: AtomicBool::new(false),
+            was_refused: AtomicBool::new(false),
+            writers: AtomicU32::new(0),
         }
     }
 
-    /// Tells the writers to end.
+    /// Tells the threads to end.
     pub(crate) fn end(&self) {
-        self.ending.raise();
+        self.is_ending.store(true, Ordering::SeqCst);
     }
 
     /// Whether a call of a writer was refused.
     pub(crate) fn was_refused(&self) -> bool {
-        self.refused.is_up()
+        self.was_refused.load(Ordering::SeqCst)
     }
-}
 
-/// Adds to the values of random keys. Each change is durable before the one that follows.
-fn merge_on<R: Wait>(
-    rt: &R,
-    alloc: Global,
-    map: &DurableMap<MemDisk>,
-    writing: &Writing,
-    writer: u32,
-) -> Result<(), Refusal> {
-    let mut pass = map.pass()?;
-    let mut dice = Dice {
-        state: u64::from(writer),
-    };
-    for _change in rt.forever() {
-        if writing.ending.is_up() {
-            return Ok(());
+    /// Adds to the values of random keys. Each change is durable before the one that follows.
+    fn add_on<R: Wait>(
+        &self,
+        rt: &R,
+        alloc: Global,
+        map: &DurableMap<MemDisk>,
+        thread: u32,
+    ) -> Result<(), Refusal> {
+        let mut caller = MapCaller::new(alloc, map)?;
+        let mut dice = Dice {
+            state: u64::from(thread),
+        };
+        for _change in rt.forever() {
+            if self.is_ending.load(Ordering::SeqCst) {
+                return Ok(());
+            }
+            let number = dice.below(self.keys);
+            caller.add(rt, number, dice.below(AMOUNTS))?;
         }
-        let key = key_of(alloc, dice.below(writing.keys))?;
-        let amount = Value::Int(i64::from(dice.below(AMOUNTS)));
-        map.merge(rt, &mut pass, key, Func::Sum, amount)?;
+        unreachable!()
     }
-    unreachable!()
-}
 
-/// The work of one writer.
-pub(crate) fn write<R: Wait>(
-    rt: &R,
-    alloc: Global,
-    map: &DurableMap<MemDisk>,
-    writing: &Writing,
-    writer: u32,
-) {
-    if merge_on(rt, alloc, map, writing, writer).is_err() {
-        writing.refused.raise();
+    /// The work of the thread of this number: the first one commits, and each other is a writer.
+    pub(crate) fn work<R: Wait>(
+        &self,
+        rt: &R,
+        alloc: Global,
+        map: &DurableMap<MemDisk>,
+        thread: u32,
+    ) {
+        if thread == 0 {
+            let _ended = flush_loop(rt, map, self);
+            return;
+        }
+        self.writers.fetch_add(1, Ordering::SeqCst);
+        if self.add_on(rt, alloc, map, thread).is_err() {
+            self.was_refused.store(true, Ordering::SeqCst);
+        }
+        self.writers.fetch_sub(1, Ordering::SeqCst);
     }
 }

@@ -1,7 +1,7 @@
-//! When a loop is to end.
+//! When the loop that commits a batch is to end.
 
 use durable_map::Ends;
-use std::sync::atomic::{AtomicBool, AtomicU32, Ordering};
+use std::sync::atomic::{AtomicU32, Ordering};
 
 /// A batch has four device calls, and a turn before them takes up what was changed.
 const TURNS_OF_A_BATCH: u32 = 5;
@@ -25,33 +25,5 @@ impl Ends for Turns {
         let left = self.left.load(Ordering::SeqCst);
         self.left.store(left.saturating_sub(1), Ordering::SeqCst);
         left == 0
-    }
-}
-
-/// Something that one thread tells the others, once.
-#[derive(Drop)]
-pub(crate) struct Flag {
-    is_up: AtomicBool,
-}
-
-impl Flag {
-    pub(crate) fn new() -> Flag {
-        Flag {
-            is_up: AtomicBool::new(false),
-        }
-    }
-
-    pub(crate) fn raise(&self) {
-        self.is_up.store(true, Ordering::SeqCst);
-    }
-
-    pub(crate) fn is_up(&self) -> bool {
-        self.is_up.load(Ordering::SeqCst)
-    }
-}
-
-impl Ends for Flag {
-    fn has_ended(&self) -> bool {
-        self.is_up()
     }
 }
